@@ -1,0 +1,50 @@
+-- The ranges of the events that operators send.
+use Rattle.std.specs.Prelude.{ℕ, List, ◌<◌, ◌≤◌, length, All}
+use Rattle.orca_base.specs.declared.limits.TheConstants.{BASE, MIN_VELOCITY, MAX_TEXT, MAX_VALUES}
+use Rattle.orca_base.specs.declared.event.Event.{Event}
+use Rattle.orca_base.specs.declared.event.Event.TheVariants as event
+use Rattle.orca_base.specs.Glyphs.{IsGlyph}
+use Rattle.orca_base.specs.Ranges.{AreInRange, IsPlayable, HasFewValues}
+
+-- a note that starts with at least the least velocity, and sounds for 1 to 35 frames
+pub record IsNote (channel key velocity frames : ℕ) : Type 0 where
+  pub numbers : AreInRange channel key velocity
+  pub loud : MIN_VELOCITY ≤ velocity
+  pub some : 1 ≤ frames
+  pub short : frames < BASE
+
+-- a text of glyphs, at least one and no more than fit
+pub record IsText (text : List ℕ) : Type 0 where
+  pub some : 1 ≤ length text
+  pub short : length text ≤ MAX_TEXT
+  pub glyphs : All IsGlyph text
+
+-- an address that is a glyph, and no more values than fit, each of base 36
+pub record IsOsc (path : ℕ) (values : List ℕ) : Type 0 where
+  pub glyph : IsGlyph path
+  pub few : length values ≤ MAX_VALUES
+  pub low : All (λ value. value < BASE) values
+
+-- an event in range
+abbrev pub IsInRange : Event → Type 0
+IsInRange (event.Note channel key velocity frames mono) = IsNote channel key velocity frames
+IsInRange (event.Control channel control value) = AreInRange channel control value
+IsInRange (event.Bend channel lsb msb) = AreInRange channel lsb msb
+IsInRange (event.Udp text) = IsText text
+IsInRange (event.Osc path values) = IsOsc path values
+
+-- an event in range can be played
+pub IsPlayable-in_range : (e : Event) → IsInRange e → IsPlayable e
+IsPlayable-in_range (event.Note channel key velocity frames mono) range = (range.numbers, range.loud)
+IsPlayable-in_range (event.Control channel control value) range = range
+IsPlayable-in_range (event.Bend channel lsb msb) range = range
+IsPlayable-in_range (event.Udp text) range = tt
+IsPlayable-in_range (event.Osc path values) range = tt
+
+-- an event in range has few values
+pub HasFewValues-in_range : (e : Event) → IsInRange e → HasFewValues e
+HasFewValues-in_range (event.Note channel key velocity frames mono) range = tt
+HasFewValues-in_range (event.Control channel control value) range = tt
+HasFewValues-in_range (event.Bend channel lsb msb) range = tt
+HasFewValues-in_range (event.Udp text) range = tt
+HasFewValues-in_range (event.Osc path values) range = range.few

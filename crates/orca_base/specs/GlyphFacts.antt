@@ -1,0 +1,18 @@
+-- What follows from the glyph tables.
+use Rattle.std.specs.Prelude.{ℕ, ◌<◌}
+use Rattle.std.proofs.Common.{arith}
+use Rattle.std.proofs.lemmas.Bool.Decides.{nat_tests}
+use Rattle.orca_base.specs.declared.limits.TheConstants.{BASE}
+use Rattle.orca_base.specs.Glyphs.{IsGlyph, value, from_value, cased}
+
+pub value-below : (g : ℕ) → value g < BASE
+unfolding value
+value-below g = grind (arith, nat_tests)
+
+pub IsGlyph-from_value : (n : ℕ) → n < BASE → IsGlyph (from_value n)
+unfolding from_value
+IsGlyph-from_value n below = (grind (arith, nat_tests), grind (arith, nat_tests))
+
+pub IsGlyph-cased : (n by : ℕ) → n < BASE → IsGlyph (cased n by)
+unfolding cased from_value
+IsGlyph-cased n by below = (grind (arith, nat_tests), grind (arith, nat_tests))

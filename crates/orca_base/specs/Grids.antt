@@ -1,0 +1,53 @@
+-- Sizes, places and spots, and the cells of a grid.
+use Rattle.std.specs.Prelude.{ℕ, ◌+◌, ◌*◌, ◌/◌, ◌%◌, ◌<◌, ◌≤◌, ◌≡◌, ℤ, pos, negsuc, ◌+ℤ◌, ◌&&◌, nat_lt, if◌then◌else◌, Option, Some, None, List, length}
+use Rattle.orca_base.specs.declared.limits.TheConstants.{MAX_ROWS, MAX_COLUMNS}
+use Rattle.orca_base.specs.declared.place.Place.{Place}
+use Rattle.orca_base.specs.declared.place.Spot.{Spot}
+
+-- the number of rows and of columns of a grid
+pub record Size : Type 0 where
+  pub h : ℕ
+  pub w : ℕ
+
+-- the sizes that a grid may have
+pub record IsSize (d : Size) : Type 0 where
+  pub rows : 1 ≤ d.h
+  pub few_rows : d.h ≤ MAX_ROWS
+  pub columns : 1 ≤ d.w
+  pub few_columns : d.w ≤ MAX_COLUMNS
+
+-- the place lies in a grid of this size
+pub record IsInside (d : Size) (at : Place) : Type 0 where
+  pub row : at.y < d.h
+  pub column : at.x < d.w
+
+-- the number of a place in reading order
+abbrev pub index_of : Size → Place → ℕ
+index_of d at = at.y * d.w + at.x
+
+-- the place of a number in reading order
+abbrev pub place_of : Size → ℕ → Place
+place_of d n = record { y = n / d.w; x = n % d.w }
+
+abbrev pub place_at : Size → ℤ → ℤ → Option Place
+place_at d (pos y) (pos x) = if nat_lt y d.h && nat_lt x d.w then Some (record { y = y; x = x }) else None
+place_at d (pos y) (negsuc x) = None
+place_at d (negsuc y) x = None
+
+-- the place of a spot, where it lies in the grid
+abbrev pub place_in : Size → Spot → Option Place
+place_in d spot = place_at d spot.y spot.x
+
+-- the spot dy rows below a place and dx columns to its right
+abbrev pub off : Place → ℤ → ℤ → Spot
+off at dy dx = record { y = pos at.y +ℤ dy; x = pos at.x +ℤ dx }
+
+-- a grid: its size, and its glyphs in reading order
+pub record Sheet : Type 0 where
+  pub dims : Size
+  pub cells : List ℕ
+
+-- a grid of such a size, with a glyph for each place
+pub record IsSheet (g : Sheet) : Type 0 where
+  pub size : IsSize g.dims
+  pub whole : length g.cells ≡ g.dims.h * g.dims.w

@@ -1,0 +1,152 @@
+ghost use Rattle.std.specs.Prelude.{◌≡◌, ◌<◌, ◌≤◌, ◌↔◌, ℕ, IsNone, IfSome, IsTrue};
+ghost use Rattle.orca_base.specs.Glyphs.{IsGlyph, empty, bang, value, from_value, cased, is_operator, needs_bang, note_number, natural_note, is_upper};
+
+use crate::limits::BASE;
+use std::marker::Model;
+
+/// A glyph of the grid: a printable byte of ASCII, 33 (`!`) to 126 (`~`).
+#[derive(Clone, Copy, Debug, PartialEq, Eq)]
+pub struct Glyph {
+    byte: u8,
+}
+
+impl Model for Glyph {
+    ghost use Rattle.std.specs.Prelude.{ℕ, ◌≤◌};
+    ghost use Rattle.orca_base.specs.Glyphs.{IsGlyph};
+
+    ghost Value = { ℕ };
+
+    ghost view = { λ g. g.byte };
+
+    ghost invariant = { λ g. IsGlyph g.byte };
+
+    ghost inverse = { λ n. record { byte = n } };
+}
+
+impl Glyph {
+    /// `.`, the glyph of an empty cell.
+    pub const EMPTY: Glyph = Glyph { byte: b'.' };
+
+    /// `*`, the bang.
+    pub const BANG: Glyph = Glyph { byte: b'*' };
+
+    /// The glyph of a byte; none exactly where the byte is outside 33 to 126.
+    pub fn of(byte: u8) -> Option<Glyph>
+        ensures some { IfSome result (λ g. g ≡ byte) }
+        ensures none { IsNone result ↔ (IsGlyph byte → ⊥) }
+    {
+        if byte < 33 || byte > 126 {
+            return None;
+        }
+        Some(Glyph { byte })
+    }
+
+    /// The byte, 33 to 126.
+    pub fn byte(self) -> u8
+        ensures byte { result ≡ self }
+        ensures range { IsGlyph result }
+    {
+        self.byte
+    }
+
+    /// The value in base 36: 0 to 9 of a digit, 10 to 35 of a letter in either case, 0 of any other
+    /// glyph.
+    #[tactic(auto, unfolding(crate::specs::Glyphs::value))]
+    pub fn value(self) -> u8
+        ensures value { result ≡ value self }
+        ensures range { result < BASE }
+    {
+        match self.byte {
+            b'0'..=b'9' => self.byte - b'0',
+            b'A'..=b'Z' => self.byte - b'A' + 10,
+            b'a'..=b'z' => self.byte - b'a' + 10,
+            _ => 0,
+        }
+    }
+
+    /// The digit or the lower-case letter of a value below the base.
+    #[tactic(auto, unfolding(crate::specs::Glyphs::from_value))]
+    pub fn from_value(n: u8) -> Glyph
+        requires { n < BASE }
+        ensures { result ≡ from_value n }
+    {
+        if n < 10 {
+            Glyph { byte: b'0' + n }
+        } else {
+            Glyph {
+                byte: b'a' + (n - 10),
+            }
+        }
+    }
+
+    /// The glyph of a value below the base. A letter is in upper case exactly where `by` is one of `A` to `Z`;
+    /// a digit has no case.
+    #[tactic(auto, unfolding(crate::specs::Glyphs::from_value, crate::specs::Glyphs::cased))]
+    pub fn cased(n: u8, by: Glyph) -> Glyph
+        requires { n < BASE }
+        ensures { result ≡ cased n by }
+    {
+        if n >= 10 && by.byte.is_ascii_uppercase() {
+            Glyph {
+                byte: b'A' + (n - 10),
+            }
+        } else {
+            Glyph::from_value(n)
+        }
+    }
+
+    /// Whether the glyph is an operator: a letter, or one of `* # : % ! ? ; =`.
+    #[tactic(auto, unfolding(crate::specs::Glyphs::is_operator))]
+    pub fn is_operator(self) -> bool
+        ensures { result ≡ is_operator self }
+    {
+        matches!(
+            self.byte,
+            b'A'..=b'Z' | b'a'..=b'z' | b'*' | b'#' | b':' | b'%' | b'!' | b'?' | b';' | b'='
+        )
+    }
+
+    /// Whether the glyph works only beside a bang: a lower-case letter.
+    #[tactic(auto, unfolding(crate::specs::Glyphs::needs_bang))]
+    pub fn needs_bang(self) -> bool
+        ensures { result ≡ needs_bang self }
+    {
+        matches!(self.byte, b'a'..=b'z')
+    }
+
+    /// The note number of a letter, 0 to 40 for `C` to `Z`, a lower-case letter being a semitone higher;
+    /// none exactly where the glyph is no letter.
+    #[tactic(auto, unfolding(crate::specs::Glyphs::note_number))]
+    pub fn note_number(self) -> Option<u8>
+        ensures { result ≡ note_number self }
+    {
+        match self.byte {
+            b'A'..=b'Z' => Some(natural_note(self.byte)),
+            b'a'..=b'z' => Some(natural_note(self.byte - b'a' + b'A') + 1),
+            _ => None,
+        }
+    }
+}
+
+/// The note number of an upper-case letter.
+fn natural_note(letter: u8) -> u8
+    requires { IsTrue (is_upper letter) }
+    ensures note { result ≡ natural_note letter }
+    ensures range { result ≤ 40 }
+{
+    let degree = if letter < b'C' {
+        letter - 60
+    } else {
+        letter - b'C'
+    };
+    let semitones = match degree % 7 {
+        0 => 0,
+        1 => 2,
+        2 => 4,
+        3 => 5,
+        4 => 7,
+        5 => 9,
+        _ => 11,
+    };
+    12 * (degree / 7) + semitones
+}

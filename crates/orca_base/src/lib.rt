@@ -1,0 +1,37 @@
+//! The plain types that every crate of Orca speaks of: glyphs, sizes, places, marks, events, the
+//! inline lists of bytes and the counter of steps.
+#![tactic(auto)]
+
+mod dims;
+mod errors;
+mod event;
+mod glyph;
+pub mod limits;
+mod look;
+mod marks;
+mod message;
+mod note;
+mod now;
+mod place;
+mod port;
+mod short;
+mod steps;
+mod wire;
+
+pub use dims::Dims;
+pub use errors::{Failed, Memory};
+pub use event::Event;
+pub use glyph::Glyph;
+pub use look::Look;
+pub use marks::{Mark, Marks};
+pub use message::Message;
+pub use note::Note;
+pub use now::Now;
+pub use place::{Place, Spot};
+pub use port::Port;
+pub use short::Short;
+pub use steps::Steps;
+pub use wire::Wire;
+
+#[cfg(test)]
+mod tests;

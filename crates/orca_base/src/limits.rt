@@ -1,0 +1,74 @@
+//! The limits of this profile. Code and definitions name them, so that each can change in one line.
+
+/// The most rows of a grid.
+pub const MAX_ROWS: u16 = 256;
+
+/// The most columns of a grid.
+pub const MAX_COLUMNS: u16 = 256;
+
+/// The most cells of a grid.
+pub const MAX_CELLS: usize = 65_536;
+
+/// How many columns one word of live bits stands for: one for each bit.
+pub const WORD_COLUMNS: u16 = 64;
+
+/// The number of values of a base-36 glyph, and of the variables of a frame.
+pub const BASE: u8 = 36;
+
+/// The most bytes of a [`Short`](crate::Short).
+pub const SHORT_BYTES: usize = 36;
+
+/// The most bytes of a [`Wire`](crate::Wire).
+pub const WIRE_BYTES: usize = 192;
+
+/// The greatest MIDI channel, counted from 0 (MIDI 1.0, channel voice messages).
+pub const MAX_CHANNEL: u8 = 15;
+
+/// The greatest value of a MIDI data byte, which has seven bits (MIDI 1.0, data bytes).
+pub const MAX_DATA: u8 = 127;
+
+/// The most values of an OSC message: the greatest base-36 value.
+pub const MAX_VALUES: usize = 35;
+
+/// The greatest octave of a note, from 0.
+pub const MAX_OCTAVE: u8 = 9;
+
+/// The most bytes of a datagram of plain text.
+pub const MAX_TEXT: u8 = 16;
+
+/// The most bytes of an OSC message: 4 of the address, those of the type tags, a comma and a letter for
+/// each value with up to 4 zero bytes, and 4 for each value.
+pub const MAX_OSC_BYTES: usize = 4 + ((1 + MAX_VALUES) / 4 + 1) * 4 + 4 * MAX_VALUES;
+
+/// How far one deed may reach from its operator, in rows or columns.
+pub const MAX_REACH: i32 = 65_536;
+
+/// How far a comment locks, in columns.
+pub const COMMENT_REACH: u16 = 255;
+
+/// How far a jumper looks for the end of its chain, in rows or columns.
+pub const JUMP_REACH: u16 = 256;
+
+/// The most bytes of a file that is loaded.
+pub const MAX_FILE_BYTES: usize = 16_777_216;
+
+/// The least velocity of a note that starts. A velocity of 0 would end it (MIDI 1.0, note on).
+pub const MIN_VELOCITY: u8 = 7;
+
+/// The most deeds of one visit.
+pub const MAX_DEEDS: usize = 512;
+
+/// The most ticks of one visit.
+pub const MAX_TICKS: u64 = 560;
+
+/// The most notes that sound at once: one for each channel and key.
+pub const MAX_NOTES: usize = (MAX_CHANNEL as usize + 1) * (MAX_DATA as usize + 1);
+
+/// The most events of a frame: one for each cell.
+pub const MAX_EVENTS: usize = MAX_ROWS as usize * MAX_COLUMNS as usize;
+
+/// The most messages of a frame: the end of each note, and two for each event.
+pub const MAX_MESSAGES: usize = MAX_NOTES + 2 * MAX_EVENTS;
+
+/// The seed of a run that is given none.
+pub const DEFAULT_SEED: u32 = 1;

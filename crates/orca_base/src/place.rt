@@ -1,0 +1,36 @@
+ghost use Rattle.std.specs.Prelude.{◌≡◌, pos, negsuc, ◌≤ℤ◌};
+
+use crate::limits::MAX_REACH;
+
+/// A place of a grid, counted from 0.
+#[derive(Clone, Copy, Debug, PartialEq, Eq)]
+pub struct Place {
+    /// The row.
+    pub y: u16,
+    /// The column.
+    pub x: u16,
+}
+
+/// A place in the grid or outside it.
+#[derive(Clone, Copy, Debug, PartialEq, Eq)]
+pub struct Spot {
+    /// The row, counted from the grid's first.
+    pub y: i32,
+    /// The column, counted from the grid's first.
+    pub x: i32,
+}
+
+impl Place {
+    ghost use Rattle.orca_base.specs.Grids.{off};
+
+    /// The spot `dy` rows below and `dx` columns to the right.
+    pub fn off(self, dy: i32, dx: i32) -> Spot
+        requires { ((negsuc 65535 ≤ℤ dy) × (dy ≤ℤ pos 65536)) × ((negsuc 65535 ≤ℤ dx) × (dx ≤ℤ pos 65536)) }
+        ensures { result ≡ off self dy dx }
+    {
+        Spot {
+            y: i32::from(self.y) + dy,
+            x: i32::from(self.x) + dx,
+        }
+    }
+}
