@@ -1,0 +1,147 @@
+-- What the laws of rules come from, and how deeds add up.
+use Rattle.std.specs.Prelude.{ℕ, zero, suc, All, ◌+◌, ◌*◌, ◌<◌, ◌≤◌, ◌≡◌, List, [], ◌∷◌, ◌++◌, length, count_by, Some, None, slice_index, refl, ℤ, pos, negsuc, Bool, nat_lt, ◌&&◌, true, false, if◌then◌else◌}
+use Rattle.std.proofs.Common.{inl, inr, arith, ap, sym, ◌∙◌, subst, add-one, length-append, lit≤}
+use Rattle.std.proofs.Math.ListN.{set}
+use Rattle.std.proofs.Math.Nat.{eq-or-lt_of_le}
+use Rattle.std.proofs.lemmas.Bool.Decides.{nat_tests}
+use Rattle.std.proofs.lemmas.List.Elements.{All-push}
+use Rattle.std.proofs.lemmas.List.Sums.{sum_by-append, sum_by-cons}
+use Rattle.orca_base.specs.declared.limits.TheConstants.{BASE}
+use Rattle.orca_base.specs.declared.place.Spot.{Spot}
+use Rattle.orca_base.specs.EventRanges.{IsInRange}
+use Rattle.orca_base.specs.Glyphs.{IsGlyph}
+use Rattle.orca_base.specs.Grids.{place_at}
+use Rattle.orca_op.specs.State.{State, IsState, peek, var_at, glyph_in}
+use Rattle.orca_op.specs.Deeds.{Deed, Mark, Write, Set, Emit, after, after_all, each}
+use Rattle.orca_op.specs.Desk.{Desk, done, all_done}
+use Rattle.orca_op.specs.Laws.{is_emit, Every, Some_deed, EmitsInRange, AreGlyphs}
+
+-- a number read from a list of glyphs is a glyph, or 0 past the end
+pub IsGlyph-index : (xs : List ℕ) (i : ℕ) → AreGlyphs xs → i < length xs → IsGlyph (slice_index xs i)
+IsGlyph-index [] i all below = absurd (omega arith)
+IsGlyph-index (x ∷ xs) zero all below = all.0
+IsGlyph-index (x ∷ xs) (suc i) all below = let rest : i < length xs = omega arith in IsGlyph-index xs i all.1 rest
+
+-- a glyph put among glyphs
+pub AreGlyphs-set : (xs : List ℕ) (i glyph : ℕ) → AreGlyphs xs → IsGlyph glyph → AreGlyphs (set xs i glyph)
+AreGlyphs-set [] i glyph all is = tt
+AreGlyphs-set (x ∷ xs) zero glyph all is = (is, all.1)
+AreGlyphs-set (x ∷ xs) (suc i) glyph all is = (all.0, AreGlyphs-set xs i glyph all.1 is)
+
+-- a list is of glyphs where each of its elements is one
+pub AreGlyphs-each : (xs : List ℕ) → ((i : ℕ) → i < length xs → IsGlyph (slice_index xs i)) → AreGlyphs xs
+AreGlyphs-each [] each = tt
+AreGlyphs-each (x ∷ xs) each = (each zero (omega arith), AreGlyphs-each xs (λ i below. each (suc i) (omega arith)))
+
+-- the number of a place inside is below the number of places
+pub index-below : (y x h w : ℕ) → y < h → x < w → y * w + x < h * w
+index-below y x h w row column = grind arith
+
+glyph_if : (s : State) (y x : ℕ) (inside : Bool) → IsState s → AreGlyphs s.cells → (inside ≡ true → (y < s.dims.h) × (x < s.dims.w)) → IsGlyph (glyph_in s (if inside then Some (record { y = y; x = x }) else None))
+glyph_if s y x true whole glyphs holds =
+    let places = index-below y x s.dims.h s.dims.w (holds refl).0 (holds refl).1 in
+    IsGlyph-index s.cells (y * s.dims.w + x) glyphs (omega (arith, places, whole.cells))
+glyph_if s y x false whole glyphs holds = (lit≤ tt, lit≤ tt)
+
+glyph_at_spot : (s : State) (y x : ℤ) → IsState s → AreGlyphs s.cells → IsGlyph (glyph_in s (place_at s.dims y x))
+glyph_at_spot s (pos y) (pos x) whole glyphs =
+    glyph_if s y x (nat_lt y s.dims.h && nat_lt x s.dims.w) whole glyphs (λ both. grind (arith, nat_tests))
+glyph_at_spot s (pos y) (negsuc x) whole glyphs = (lit≤ tt, lit≤ tt)
+glyph_at_spot s (negsuc y) x whole glyphs = (lit≤ tt, lit≤ tt)
+
+-- what stands at a spot is a glyph
+pub IsGlyph-peek : (s : State) (spot : Spot) → IsState s → AreGlyphs s.cells → IsGlyph (peek s spot)
+unfolding peek
+IsGlyph-peek s spot whole glyphs = glyph_at_spot s spot.y spot.x whole glyphs
+
+-- what a variable holds is a glyph
+pub IsGlyph-var_at : (s : State) (n : ℕ) → IsState s → AreGlyphs s.vars → n < BASE → IsGlyph (var_at s n)
+unfolding var_at
+IsGlyph-var_at s n whole glyphs below = IsGlyph-index s.vars n glyphs (omega (arith, whole.vars))
+
+-- so many deeds for each number
+pub length-each : (n size : ℕ) (deeds : ℕ → List Deed) → ((i : ℕ) → length (deeds i) ≤ size) → length (each n deeds) ≤ n * size
+length-each zero size deeds bound = omega arith
+length-each (suc n) size deeds bound =
+    rw length-append (let front = length-each n size deeds bound in let last = bound n in grind arith)
+
+pub count_by-append : (p : Deed → Bool) (xs ys : List Deed) → count_by p (xs ++ ys) ≡ count_by p xs + count_by p ys
+count_by-append p xs ys = sum_by-append (λ x. if p x then 1 else 0) xs ys
+
+-- no event for any number
+pub no_event-each : (n : ℕ) (deeds : ℕ → List Deed) → ((i : ℕ) → count_by is_emit (deeds i) ≡ 0) → count_by is_emit (each n deeds) ≡ 0
+no_event-each zero deeds none = refl
+no_event-each (suc n) deeds none = rw (count_by-append is_emit (each n deeds) (deeds n), no_event-each n deeds none, none n) refl
+
+pub Every-append : (P : Deed → Type 0) (xs ys : List Deed) → Every P xs → Every P ys → Every P (xs ++ ys)
+Every-append P [] ys first second = second
+Every-append P (x ∷ xs) ys first second = (first.0, Every-append P xs ys first.1 second)
+
+-- what holds of the deeds of each number holds of all of them
+pub Every-each : (P : Deed → Type 0) (n : ℕ) (deeds : ℕ → List Deed) → ((i : ℕ) → i < n → Every P (deeds i)) → Every P (each n deeds)
+Every-each P zero deeds all = tt
+Every-each P (suc n) deeds all =
+    Every-append P (each n deeds) (deeds n) (Every-each P n deeds (λ i below. all i (omega arith))) (all n (omega arith))
+
+pub Some_deed-left : (P : Deed → Type 0) (xs ys : List Deed) → Some_deed P xs → Some_deed P (xs ++ ys)
+Some_deed-left P [] ys some = absurd some
+Some_deed-left P (x ∷ xs) ys (inl here) = inl here
+Some_deed-left P (x ∷ xs) ys (inr there) = inr (Some_deed-left P xs ys there)
+
+pub Some_deed-right : (P : Deed → Type 0) (xs ys : List Deed) → Some_deed P ys → Some_deed P (xs ++ ys)
+Some_deed-right P [] ys some = some
+Some_deed-right P (x ∷ xs) ys some = inr (Some_deed-right P xs ys some)
+
+-- a deed of some number is among all of them
+pub Some_deed-each : (P : Deed → Type 0) (n i : ℕ) (deeds : ℕ → List Deed) → i < n → Some_deed P (deeds i) → Some_deed P (each n deeds)
+Some_deed-each P zero i deeds below some = absurd (omega arith)
+Some_deed-each P (suc n) i deeds below some =
+    let at_most : i ≤ n = omega arith in
+    elim (eq-or-lt_of_le at_most) [
+      | inl same ↦ Some_deed-right P (each n deeds) (deeds n) (subst (λ (k : ℕ). Some_deed P (deeds k)) same some)
+      | inr less ↦ Some_deed-left P (each n deeds) (deeds n) (Some_deed-each P n i deeds less some)
+    ]
+
+-- deeds one after another
+pub all_done-append : (d : Desk) (xs ys : List Deed) → all_done d (xs ++ ys) ≡ all_done (all_done d xs) ys
+all_done-append d [] ys = refl
+all_done-append d (x ∷ xs) ys = all_done-append (done d x) xs ys
+
+-- deeds one after another add up
+pub ruleset added_up = (all_done-append)
+
+pub after_all-append : (s : State) (xs ys : List Deed) → after_all s (xs ++ ys) ≡ after_all (after_all s xs) ys
+after_all-append s [] ys = refl
+after_all-append s (x ∷ xs) ys = after_all-append (after s x) xs ys
+
+-- the state of a desk after deeds is the state after them
+pub scan-all_done : (d : Desk) (deeds : List Deed) → (all_done d deeds).scan ≡ after_all d.scan deeds
+scan-all_done d [] = refl
+scan-all_done d (deed ∷ deeds) = scan-all_done (done d deed) deeds
+
+-- the deeds of one number more
+pub each-more : (n : ℕ) (deeds : ℕ → List Deed) → each (n + 1) deeds ≡ each n deeds ++ deeds n
+each-more n deeds = rw add-one refl
+
+-- where the deeds of the numbers below n were done, those of n make one number more
+pub all_done-each_more : (start now : Desk) (n : ℕ) (deeds : ℕ → List Deed) → now ≡ all_done start (each n deeds) → all_done now (deeds n) ≡ all_done start (each (n + 1) deeds)
+all_done-each_more start now n deeds so_far =
+    ap (λ (d : Desk). all_done d (deeds n)) so_far ∙ sym (ap (all_done start) (each-more n deeds) ∙ all_done-append start (each n deeds) (deeds n))
+
+-- deeds that send no event send none out of range
+pub quiet : (deeds : List Deed) → count_by is_emit deeds ≡ 0 → Every EmitsInRange deeds
+quiet [] none = tt
+quiet (Mark at marks ∷ deeds) none = (tt, quiet deeds (omega arith))
+quiet (Write at glyph ∷ deeds) none = (tt, quiet deeds (omega arith))
+quiet (Set variable glyph ∷ deeds) none = (tt, quiet deeds (omega arith))
+quiet (Emit event ∷ deeds) none = absurd (omega (arith, none, sum_by-cons (λ (deed : Deed). if is_emit deed then 1 else 0) (Emit event) deeds))
+
+-- events in range stay so after deeds that send events in range
+pub in_range-after_all : (s : State) (deeds : List Deed) → All IsInRange s.events → Every EmitsInRange deeds → All IsInRange (after_all s deeds).events
+unfolding after
+in_range-after_all s [] before all = before
+in_range-after_all s (Mark at marks ∷ deeds) before all = in_range-after_all (after s (Mark at marks)) deeds before all.1
+in_range-after_all s (Write at glyph ∷ deeds) before all = in_range-after_all (after s (Write at glyph)) deeds before all.1
+in_range-after_all s (Set variable glyph ∷ deeds) before all = in_range-after_all (after s (Set variable glyph)) deeds before all.1
+in_range-after_all s (Emit event ∷ deeds) before all =
+    in_range-after_all (after s (Emit event)) deeds (All-push IsInRange s.events event before all.0) all.1

@@ -1,0 +1,16 @@
+pub mod State
+pub mod Deeds
+pub mod Desk
+pub mod Kinds
+pub mod First
+pub mod ValueRules
+pub mod MotionRules
+pub mod GridRules
+pub mod EventRules
+pub mod Rules
+pub mod Scan
+pub mod Live
+pub mod Laws
+pub mod OwnPlace
+pub mod LawFacts
+pub mod FirstFacts

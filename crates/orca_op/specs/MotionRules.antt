@@ -1,0 +1,84 @@
+-- The rules of the movers, the jumpers, the halt, the bang and the comment.
+use Rattle.std.specs.Prelude.{ℕ, ◌+◌, ◌-◌, ◌==◌, ◌&&◌, not, if◌then◌else◌, List, [], ◌∷◌, ◌++◌, Option, Some, None, unwrap_or}
+use Rattle.orca_base.specs.declared.limits.TheConstants.{COMMENT_REACH, JUMP_REACH}
+use Rattle.orca_base.specs.declared.now.Now.{Now}
+use Rattle.orca_base.specs.declared.place.Place.{Place}
+use Rattle.orca_base.specs.declared.place.Spot.{Spot}
+use Rattle.orca_base.specs.Glyphs.{empty, bang}
+use Rattle.orca_op.specs.State.{State, peek, holds, own, left, right, above, below, across, down}
+use Rattle.orca_op.specs.Deeds.{Deed, Write, input_at, param_at, output_at, lock_at, sleep_at, each}
+use Rattle.orca_op.specs.First.{first_where}
+
+-- a mover goes on to the target where that is an empty place of the grid, and becomes a bang elsewhere
+unfoldable pub move_to : ℕ → State → Place → Spot → List Deed
+move_to g s at target =
+    if holds s target && (peek s target == empty)
+    then sleep_at target ∷ Write target g ∷ Write (own at) empty ∷ []
+    else Write (own at) bang ∷ []
+
+-- E: to the right
+abbrev pub east : ℕ → State → Place → Now → List Deed
+east g s at now = move_to g s at (right at)
+
+-- N: upwards
+abbrev pub north : ℕ → State → Place → Now → List Deed
+north g s at now = move_to g s at (above at)
+
+-- S: downwards
+abbrev pub south : ℕ → State → Place → Now → List Deed
+south g s at now = move_to g s at (below at)
+
+-- W: to the left
+abbrev pub west : ℕ → State → Place → Now → List Deed
+west g s at now = move_to g s at (left at)
+
+-- `*`: it is erased
+abbrev pub bang_rule : ℕ → State → Place → Now → List Deed
+bang_rule g s at now = Write (own at) empty ∷ []
+
+-- H: the place below is a parameter, and so is not evaluated
+abbrev pub halt : ℕ → State → Place → Now → List Deed
+halt g s at now = param_at (below at) ∷ []
+
+-- `#`, which begins a comment and ends it
+abbrev pub hash : ℕ
+hash = 35
+
+-- how many places a comment locks: up to and with the next `#`, and at most its reach
+unfoldable pub comment_length : State → Place → ℕ
+comment_length s at = unwrap_or (first_where (λ i. peek s (across at i) == hash) 1 COMMENT_REACH) COMMENT_REACH
+
+-- so many places to the right are locked
+abbrev pub locked : Place → ℕ → List Deed
+locked at n = each n (λ i. lock_at (across at (i + 1)) ∷ [])
+
+-- `#`: locks the places to its right
+abbrev pub comment : ℕ → State → Place → Now → List Deed
+comment g s at now = locked at (comment_length s at)
+
+-- where the chain of a jumper's glyph ends: the number of the first place behind it that holds another
+unfoldable pub chain_end : ℕ → State → (ℕ → Spot) → Option ℕ
+chain_end g s behind = first_where (λ i. not (peek s (behind i) == g)) 1 JUMP_REACH
+
+-- so many places behind a jumper are put to sleep
+abbrev pub asleep : (ℕ → Spot) → ℕ → List Deed
+asleep behind n = each n (λ k. sleep_at (behind (k + 1)) ∷ [])
+
+-- a chain of jumpers hands the glyph at its start on to the place behind its end
+abbrev pub jump_by : ℕ → State → Spot → (ℕ → Spot) → Option ℕ → List Deed
+jump_by g s from behind None = input_at from ∷ []
+jump_by g s from behind (Some i) =
+    input_at from ∷ asleep behind (i - 1) ++ output_at (behind i) ∷ Write (behind i) (peek s from) ∷ []
+
+-- only the first of a chain acts
+unfoldable pub jump : ℕ → State → Spot → (ℕ → Spot) → List Deed
+jump g s from behind =
+    if peek s from == g then [] else jump_by g s from behind (chain_end g s behind)
+
+-- J: from above to below
+abbrev pub jumper : ℕ → State → Place → Now → List Deed
+jumper g s at now = jump g s (above at) (down at)
+
+-- Y: from the left to the right
+abbrev pub jymper : ℕ → State → Place → Now → List Deed
+jymper g s at now = jump g s (left at) (across at)

@@ -1,0 +1,118 @@
+-- The rules of the value operators: each reads the place at its left and the place at its right, and
+-- writes below.
+use Rattle.std.specs.Prelude.{ℕ, ◌+◌, ◌-◌, ◌*◌, ◌/◌, ◌%◌, ◌^◌, ◌==◌, ◌||◌, nat_lt, nat_le, min, max, if◌then◌else◌, List, [], ◌∷◌, ◌++◌}
+use Rattle.orca_base.specs.declared.limits.TheConstants.{BASE}
+use Rattle.orca_base.specs.declared.now.Now.{Now}
+use Rattle.orca_base.specs.declared.place.Place.{Place}
+use Rattle.orca_base.specs.Glyphs.{empty, bang, value, cased}
+use Rattle.orca_base.specs.Grids.{Size, index_of}
+use Rattle.orca_op.specs.State.{State, peek, left, right, below}
+use Rattle.orca_op.specs.Deeds.{Deed, Write, input_at, param_at, output_at}
+use Rattle.rand_pcg.specs.Lcg.{started, increment_of}
+use Rattle.rand_pcg.specs.Pcg.{multiplier_64, pcg32}
+
+-- the value of a glyph, or another where the value is 0
+unfoldable pub value_or : ℕ → ℕ → ℕ
+value_or glyph other = if value glyph == 0 then other else value glyph
+
+-- the value of a rate: 1 where the glyph is `.` or `*`
+unfoldable pub rate_of : ℕ → ℕ
+rate_of glyph = if (glyph == empty) || (glyph == bang) then 1 else value glyph
+
+-- the ports of a value operator
+abbrev pub value_ports : Place → List Deed
+value_ports at = param_at (left at) ∷ input_at (right at) ∷ output_at (below at) ∷ []
+
+-- A: the sum of its inputs
+abbrev pub add : ℕ → State → Place → Now → List Deed
+add g s at now =
+    let a = peek s (left at) in
+    let b = peek s (right at) in
+    value_ports at ++ Write (below at) (cased ((value a + value b) % BASE) b) ∷ []
+
+-- B: the distance of its inputs
+abbrev pub subtract : ℕ → State → Place → Now → List Deed
+subtract g s at now =
+    let a = peek s (left at) in
+    let b = peek s (right at) in
+    value_ports at ++ Write (below at) (cased (max (value a) (value b) - min (value a) (value b)) b) ∷ []
+
+-- C: the frame's number, divided by the rate, modulo the modulus
+abbrev pub clock : ℕ → State → Place → Now → List Deed
+clock g s at now =
+    let rate = peek s (left at) in
+    let modulus = peek s (right at) in
+    value_ports at ++ Write (below at) (cased ((now.tick / value_or rate 1) % value_or modulus 8) modulus) ∷ []
+
+-- D: a bang on each multiple of the rate times the modulus
+abbrev pub delay : ℕ → State → Place → Now → List Deed
+delay g s at now =
+    let rate = peek s (left at) in
+    let modulus = peek s (right at) in
+    value_ports at ++ Write (below at) (if now.tick % (value_or rate 1 * value_or modulus 8) == 0 then bang else empty) ∷ []
+
+-- F: a bang where its inputs are the same glyph
+abbrev pub if_equal : ℕ → State → Place → Now → List Deed
+if_equal g s at now =
+    let a = peek s (left at) in
+    let b = peek s (right at) in
+    value_ports at ++ Write (below at) (if a == b then bang else empty) ∷ []
+
+-- I: what stands below, raised by the step, modulo the modulus
+abbrev pub increment : ℕ → State → Place → Now → List Deed
+increment g s at now =
+    let step = peek s (left at) in
+    let modulus = peek s (right at) in
+    let value_now = peek s (below at) in
+    value_ports at ++ input_at (below at) ∷ Write (below at) (cased ((value value_now + rate_of step) % value_or modulus BASE) modulus) ∷ []
+
+-- L: the smaller of its inputs, and nothing where one is missing
+abbrev pub lesser : ℕ → State → Place → Now → List Deed
+lesser g s at now =
+    let a = peek s (left at) in
+    let b = peek s (right at) in
+    value_ports at ++ Write (below at) (if (a == empty) || (b == empty) then empty else cased (min (value a) (value b)) b) ∷ []
+
+-- M: the product of its inputs
+abbrev pub multiply : ℕ → State → Place → Now → List Deed
+multiply g s at now =
+    let a = peek s (left at) in
+    let b = peek s (right at) in
+    value_ports at ++ Write (below at) (cased ((value a * value b) % BASE) b) ∷ []
+
+-- the random word of a place: the first word of the generator that the seed, the frame and the place name
+unfoldable pub word_in : Size → Place → Now → ℕ
+word_in dims at now = (pcg32 (started 64 multiplier_64 (now.seed * 2 ^ 32 + now.tick) (increment_of 64 (index_of dims at)))).0
+
+-- a value from the smaller of two bounds to below the larger, by a word; the bound where they are equal
+unfoldable pub random_between : ℕ → ℕ → ℕ → ℕ
+random_between a b word = if a == b then a else min a b + word % (max a b - min a b)
+
+-- R: a random value between its inputs
+abbrev pub random : ℕ → State → Place → Now → List Deed
+random g s at now =
+    let least = peek s (left at) in
+    let most = peek s (right at) in
+    value_ports at ++ Write (below at) (cased (random_between (value least) (value_or most BASE) (word_in s.dims at now)) most) ∷ []
+
+-- U: a bang on the beats of an even spread of `steps` over `beats` frames
+abbrev pub uclid : ℕ → State → Place → Now → List Deed
+uclid g s at now =
+    let steps = peek s (left at) in
+    let beats = peek s (right at) in
+    let n = rate_of steps in
+    let m = value_or beats 8 in
+    value_ports at ++ Write (below at) (if nat_le m ((n * (now.tick + m - 1)) % m + n) then bang else empty) ∷ []
+
+-- the value one step nearer to the target
+unfoldable pub lerped : ℕ → ℕ → ℕ → ℕ
+lerped from rate target =
+    if nat_lt from target then min (from + rate) target else (if nat_lt target from then max (from - rate) target else target)
+
+-- Z: what stands below, a step nearer to the target
+abbrev pub lerp : ℕ → State → Place → Now → List Deed
+lerp g s at now =
+    let rate = peek s (left at) in
+    let target = peek s (right at) in
+    let value_now = peek s (below at) in
+    value_ports at ++ input_at (below at) ∷ Write (below at) (cased (lerped (value value_now) (rate_of rate) (value target)) target) ∷ []

@@ -1,0 +1,50 @@
+ghost use Rattle.std.specs.Prelude.{◌≡◌, ℕ, List, ◌+◌, ◌*◌, ◌<◌, ◌≤◌, length, Some};
+ghost use Rattle.orca_base.specs.declared.limits.TheConstants.{MAX_TICKS};
+ghost use Rattle.orca_base.specs.declared.now.Now.{Now};
+ghost use Rattle.orca_base.specs.declared.place.Place.{Place};
+ghost use Rattle.orca_base.specs.Grids.{IsInside};
+ghost use Rattle.orca_op.specs.declared.kind.Kind.{Kind};
+ghost use Rattle.orca_op.specs.Kinds.{kind_of};
+ghost use Rattle.orca_op.specs.State.{State, glyph_at};
+ghost use Rattle.orca_op.specs.Deeds.{Deed};
+ghost use Rattle.orca_op.specs.Desk.{Desk, all_done};
+ghost use Rattle.orca_op.specs.Laws.{IsLawful};
+
+use crate::Bench;
+use orca_base::{Glyph, Now, Place, Steps};
+use std::sync::ledger::Ledger;
+
+/// An operator: a rule of deeds that is lawful, and the code that does them.
+pub trait Operator {
+    /// Which operator it is; the glyphs of this kind are those that it serves.
+    ghost kind: { Kind };
+
+    /// The deeds of a visit: of the glyph, the state, the place, and the frame.
+    ghost rule: { ℕ → State → Place → Now → List Deed };
+
+    /// Does the deeds of its rule, in order, in at most 560 ticks.
+    fn act<B: Bench, L: Ledger>(
+        &self,
+        bench: &mut B,
+        at: Place,
+        glyph: Glyph,
+        now: Now,
+        steps: &mut Steps<L>,
+    )
+        requires inside { IsInside (B.desk bench.old).scan.dims at }
+        requires holds { glyph ≡ glyph_at (B.desk bench.old).scan at }
+        requires served { kind_of glyph ≡ Some kind }
+        requires room { length (B.desk bench.old).scan.events < (B.desk bench.old).scan.dims.h * (B.desk bench.old).scan.dims.w }
+        ensures deeds { B.desk bench.new ≡ all_done (B.desk bench.old) (rule glyph (B.desk bench.old).scan at now) }
+        ensures ticks { steps.new ≤ steps.old + MAX_TICKS }
+        ensures later { steps.old ≤ steps.new };
+
+    /// At most 512 deeds and one event, glyphs alone are written, each write to another place comes with
+    /// Lock or Sleep on it, and each event is in range.
+    ghost laws: { IsLawful rule };
+
+    /// The laws of the operator's rule.
+    final fn lawful(&self)
+        ensures { IsLawful rule }
+    {}
+}
