@@ -1,0 +1,35 @@
+ghost use Rattle.orca_op.specs.declared.kind.Kind.TheVariants.{Add as add_kind};
+ghost use Rattle.orca_op.specs.ValueRules.{add};
+ghost use Rattle.ops_math.specs.ValueLaws.{lawful-add};
+
+use crate::ports;
+use orca_base::limits::BASE;
+use orca_base::{Glyph, Now, Place, Steps};
+use orca_op::{Bench, Operator};
+use std::sync::ledger::Ledger;
+
+/// `A`: outputs the sum of its inputs.
+pub struct Add;
+
+impl Operator for Add {
+    ghost kind = { add_kind };
+
+    ghost rule = { add };
+
+    ghost laws = { lawful-add };
+
+    fn act<B: Bench, L: Ledger>(
+        &self,
+        bench: &mut B,
+        at: Place,
+        _glyph: Glyph,
+        _now: Now,
+        steps: &mut Steps<L>,
+    ) {
+        let a = bench.peek(at.off(0, -1), steps);
+        let b = bench.peek(at.off(0, 1), steps);
+        let sum = (a.value() + b.value()) % BASE;
+        ports::mark(bench, at, steps);
+        bench.write(at.off(1, 0), Glyph::cased(sum, b), steps);
+    }
+}

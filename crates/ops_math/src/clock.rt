@@ -1,0 +1,34 @@
+ghost use Rattle.orca_op.specs.declared.kind.Kind.TheVariants.{Clock as clock_kind};
+ghost use Rattle.orca_op.specs.ValueRules.{clock};
+ghost use Rattle.ops_math.specs.ValueLaws.{lawful-clock};
+
+use crate::ports;
+use orca_base::{Glyph, Now, Place, Steps};
+use orca_op::{Bench, Operator, value_or};
+use std::sync::ledger::Ledger;
+
+/// `C`: outputs the modulo of the frame's number, divided by the rate.
+pub struct Clock;
+
+impl Operator for Clock {
+    ghost kind = { clock_kind };
+
+    ghost rule = { clock };
+
+    ghost laws = { lawful-clock };
+
+    fn act<B: Bench, L: Ledger>(
+        &self,
+        bench: &mut B,
+        at: Place,
+        _glyph: Glyph,
+        now: Now,
+        steps: &mut Steps<L>,
+    ) {
+        let rate = bench.peek(at.off(0, -1), steps);
+        let modulus = bench.peek(at.off(0, 1), steps);
+        let value = now.tick / u32::from(value_or(rate, 1)) % u32::from(value_or(modulus, 8));
+        ports::mark(bench, at, steps);
+        bench.write(at.off(1, 0), Glyph::cased(value as u8, modulus), steps);
+    }
+}

@@ -1,0 +1,39 @@
+ghost use Rattle.orca_op.specs.declared.kind.Kind.TheVariants.{Delay as delay_kind};
+ghost use Rattle.orca_op.specs.ValueRules.{delay};
+ghost use Rattle.ops_math.specs.ValueLaws.{lawful-delay};
+
+use crate::ports;
+use orca_base::{Glyph, Now, Place, Steps};
+use orca_op::{Bench, Operator, value_or};
+use std::sync::ledger::Ledger;
+
+/// `D`: bangs on the modulo of the frame's number.
+pub struct Delay;
+
+impl Operator for Delay {
+    ghost kind = { delay_kind };
+
+    ghost rule = { delay };
+
+    ghost laws = { lawful-delay };
+
+    fn act<B: Bench, L: Ledger>(
+        &self,
+        bench: &mut B,
+        at: Place,
+        _glyph: Glyph,
+        now: Now,
+        steps: &mut Steps<L>,
+    ) {
+        let rate = bench.peek(at.off(0, -1), steps);
+        let modulus = bench.peek(at.off(0, 1), steps);
+        let period = u32::from(value_or(rate, 1)) * u32::from(value_or(modulus, 8));
+        let output = if now.tick % period == 0 {
+            Glyph::BANG
+        } else {
+            Glyph::EMPTY
+        };
+        ports::mark(bench, at, steps);
+        bench.write(at.off(1, 0), output, steps);
+    }
+}

@@ -1,0 +1,34 @@
+ghost use Rattle.orca_op.specs.declared.kind.Kind.TheVariants.{IfEqual as if_equal_kind};
+ghost use Rattle.orca_op.specs.ValueRules.{if_equal};
+ghost use Rattle.ops_math.specs.ValueLaws.{lawful-if_equal};
+
+use crate::ports;
+use orca_base::{Glyph, Now, Place, Steps};
+use orca_op::{Bench, Operator};
+use std::sync::ledger::Ledger;
+
+/// `F`: bangs if its inputs are equal.
+pub struct IfEqual;
+
+impl Operator for IfEqual {
+    ghost kind = { if_equal_kind };
+
+    ghost rule = { if_equal };
+
+    ghost laws = { lawful-if_equal };
+
+    fn act<B: Bench, L: Ledger>(
+        &self,
+        bench: &mut B,
+        at: Place,
+        _glyph: Glyph,
+        _now: Now,
+        steps: &mut Steps<L>,
+    ) {
+        let a = bench.peek(at.off(0, -1), steps);
+        let b = bench.peek(at.off(0, 1), steps);
+        let output = if a == b { Glyph::BANG } else { Glyph::EMPTY };
+        ports::mark(bench, at, steps);
+        bench.write(at.off(1, 0), output, steps);
+    }
+}

@@ -1,0 +1,37 @@
+ghost use Rattle.orca_op.specs.declared.kind.Kind.TheVariants.{Increment as increment_kind};
+ghost use Rattle.orca_op.specs.ValueRules.{increment};
+ghost use Rattle.ops_math.specs.ValueLaws.{lawful-increment};
+
+use crate::ports;
+use orca_base::limits::BASE;
+use orca_base::{Glyph, Now, Place, Steps};
+use orca_op::{Bench, Operator, rate_of, value_or};
+use std::sync::ledger::Ledger;
+
+/// `I`: increments what stands below by the step, modulo the modulus.
+pub struct Increment;
+
+impl Operator for Increment {
+    ghost kind = { increment_kind };
+
+    ghost rule = { increment };
+
+    ghost laws = { lawful-increment };
+
+    fn act<B: Bench, L: Ledger>(
+        &self,
+        bench: &mut B,
+        at: Place,
+        _glyph: Glyph,
+        _now: Now,
+        steps: &mut Steps<L>,
+    ) {
+        let step = bench.peek(at.off(0, -1), steps);
+        let modulus = bench.peek(at.off(0, 1), steps);
+        let current = bench.peek(at.off(1, 0), steps);
+        let value = (current.value() + rate_of(step)) % value_or(modulus, BASE);
+        ports::mark(bench, at, steps);
+        bench.input(at.off(1, 0), steps);
+        bench.write(at.off(1, 0), Glyph::cased(value, modulus), steps);
+    }
+}

@@ -1,0 +1,38 @@
+ghost use Rattle.orca_op.specs.declared.kind.Kind.TheVariants.{Lesser as lesser_kind};
+ghost use Rattle.orca_op.specs.ValueRules.{lesser};
+ghost use Rattle.ops_math.specs.ValueLaws.{lawful-lesser};
+
+use crate::ports;
+use orca_base::{Glyph, Now, Place, Steps};
+use orca_op::{Bench, Operator};
+use std::sync::ledger::Ledger;
+
+/// `L`: outputs the smallest of its inputs, and nothing where one is missing.
+pub struct Lesser;
+
+impl Operator for Lesser {
+    ghost kind = { lesser_kind };
+
+    ghost rule = { lesser };
+
+    ghost laws = { lawful-lesser };
+
+    fn act<B: Bench, L: Ledger>(
+        &self,
+        bench: &mut B,
+        at: Place,
+        _glyph: Glyph,
+        _now: Now,
+        steps: &mut Steps<L>,
+    ) {
+        let a = bench.peek(at.off(0, -1), steps);
+        let b = bench.peek(at.off(0, 1), steps);
+        let output = if a == Glyph::EMPTY || b == Glyph::EMPTY {
+            Glyph::EMPTY
+        } else {
+            Glyph::cased(a.value().min(b.value()), b)
+        };
+        ports::mark(bench, at, steps);
+        bench.write(at.off(1, 0), output, steps);
+    }
+}

@@ -1,0 +1,35 @@
+ghost use Rattle.orca_op.specs.declared.kind.Kind.TheVariants.{Multiply as multiply_kind};
+ghost use Rattle.orca_op.specs.ValueRules.{multiply};
+ghost use Rattle.ops_math.specs.ValueLaws.{lawful-multiply};
+
+use crate::ports;
+use orca_base::limits::BASE;
+use orca_base::{Glyph, Now, Place, Steps};
+use orca_op::{Bench, Operator};
+use std::sync::ledger::Ledger;
+
+/// `M`: outputs the product of its inputs.
+pub struct Multiply;
+
+impl Operator for Multiply {
+    ghost kind = { multiply_kind };
+
+    ghost rule = { multiply };
+
+    ghost laws = { lawful-multiply };
+
+    fn act<B: Bench, L: Ledger>(
+        &self,
+        bench: &mut B,
+        at: Place,
+        _glyph: Glyph,
+        _now: Now,
+        steps: &mut Steps<L>,
+    ) {
+        let a = bench.peek(at.off(0, -1), steps);
+        let b = bench.peek(at.off(0, 1), steps);
+        let product = u16::from(a.value()) * u16::from(b.value()) % u16::from(BASE);
+        ports::mark(bench, at, steps);
+        bench.write(at.off(1, 0), Glyph::cased(product as u8, b), steps);
+    }
+}

@@ -1,0 +1,65 @@
+ghost use Rattle.orca_op.specs.declared.kind.Kind.TheVariants.{Random as random_kind};
+ghost use Rattle.std.specs.Prelude.{◌≡◌, ◌<◌, ◌≤◌};
+ghost use Rattle.orca_base.specs.Grids.{IsInside};
+ghost use Rattle.orca_op.specs.ValueRules.{random, random_between, word_in};
+ghost use Rattle.ops_math.specs.ValueLaws.{lawful-random};
+
+use crate::ports;
+use orca_base::limits::BASE;
+use orca_base::{Dims, Glyph, Now, Place, Steps};
+use orca_op::{Bench, Operator, value_or};
+use rand_core::utils::NextWord;
+use rand_pcg::Pcg32;
+use std::sync::ledger::Ledger;
+
+/// `R`: outputs a random value between its inputs.
+pub struct Random;
+
+impl Operator for Random {
+    ghost kind = { random_kind };
+
+    ghost rule = { random };
+
+    ghost laws = { lawful-random };
+
+    fn act<B: Bench, L: Ledger>(
+        &self,
+        bench: &mut B,
+        at: Place,
+        _glyph: Glyph,
+        now: Now,
+        steps: &mut Steps<L>,
+    ) {
+        let least = bench.peek(at.off(0, -1), steps);
+        let most = bench.peek(at.off(0, 1), steps);
+        let word = word_at(bench.dims(), at, now);
+        let value = random_between(least.value(), value_or(most, BASE), word);
+        ports::mark(bench, at, steps);
+        bench.write(at.off(1, 0), Glyph::cased(value, most), steps);
+    }
+}
+
+/// The random word of a place in a frame: the first of the generator of that seed, frame and place.
+#[tactic(auto, unfolding(orca_op::specs::ValueRules::word_in))]
+fn word_at(dims: Dims, at: Place, now: Now) -> u32
+    requires { IsInside dims at }
+    ensures { result ≡ word_in dims at now }
+{
+    let state = (u64::from(now.seed) << 32) | u64::from(now.tick);
+    let stream = u64::from(at.y) * u64::from(dims.w) + u64::from(at.x);
+    Pcg32::new(state, stream).next_word()
+}
+
+/// A value from the smaller bound to below the larger; the bound where they are equal.
+#[tactic(auto, unfolding(orca_op::specs::ValueRules::random_between))]
+fn random_between(a: u8, b: u8, word: u32) -> u8
+    requires { (a < BASE) × (b ≤ BASE) }
+    ensures value { result ≡ random_between a b word }
+    ensures range { result < BASE }
+{
+    if a == b {
+        return a;
+    }
+    let span = a.abs_diff(b);
+    a.min(b) + (word % u32::from(span)) as u8
+}
