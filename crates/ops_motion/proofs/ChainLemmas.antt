@@ -1,0 +1,41 @@
+-- What a comment and a chain of jumpers come to, once the places were looked at one by one.
+use Rattle.std.specs.Prelude.{ℕ, ◌+◌, ◌-◌, ◌≡◌, ◌<◌, ◌≤◌, ◌==◌, not, true, false, ◌∷◌, [], Option, Some, None, unwrap_or}
+use Rattle.std.proofs.Common.{arith, ap}
+use Rattle.orca_base.specs.declared.limits.TheConstants.{COMMENT_REACH, JUMP_REACH}
+use Rattle.orca_base.specs.declared.place.Place.{Place}
+use Rattle.orca_base.specs.declared.place.Spot.{Spot}
+use Rattle.orca_op.specs.State.{State, peek, across}
+use Rattle.orca_op.specs.Deeds.{Write, input_at, output_at}
+use Rattle.orca_op.specs.Desk.{Desk, done, all_done}
+use Rattle.orca_op.specs.LawFacts.{all_done-append}
+use Rattle.orca_op.specs.FirstFacts.{first_where-found, first_where-missing}
+use Rattle.orca_op.specs.MotionRules.{hash, comment_length, chain_end, asleep, jump}
+
+-- the first `#` ends the comment
+pub comment_length-found : (s : State) (at : Place) (i : ℕ) → 1 ≤ i → i ≤ COMMENT_REACH → ((k : ℕ) → 1 ≤ k → k < i → (peek s (across at k) == hash) ≡ false) → (peek s (across at i) == hash) ≡ true → comment_length s at ≡ i
+unfolding comment_length
+comment_length-found s at i low high before here =
+    ap (λ (first : Option ℕ). unwrap_or first COMMENT_REACH) (first_where-found _ 1 COMMENT_REACH i low (omega arith) before here)
+
+-- with no `#` the comment has its whole reach
+pub comment_length-missing : (s : State) (at : Place) → ((k : ℕ) → 1 ≤ k → k < 1 + COMMENT_REACH → (peek s (across at k) == hash) ≡ false) → comment_length s at ≡ COMMENT_REACH
+unfolding comment_length
+comment_length-missing s at before =
+    ap (λ (first : Option ℕ). unwrap_or first COMMENT_REACH) (first_where-missing _ 1 COMMENT_REACH before)
+
+-- the first other glyph ends the chain
+pub chain_end-found : (g : ℕ) (s : State) (behind : ℕ → Spot) (i : ℕ) → 1 ≤ i → i ≤ JUMP_REACH → ((k : ℕ) → 1 ≤ k → k < i → not (peek s (behind k) == g) ≡ false) → not (peek s (behind i) == g) ≡ true → chain_end g s behind ≡ Some i
+unfolding chain_end
+chain_end-found g s behind i low high before here = first_where-found _ 1 JUMP_REACH i low (omega arith) before here
+
+-- with no other glyph the chain has no end
+pub chain_end-missing : (g : ℕ) (s : State) (behind : ℕ → Spot) → ((k : ℕ) → 1 ≤ k → k < 1 + JUMP_REACH → not (peek s (behind k) == g) ≡ false) → chain_end g s behind ≡ None
+unfolding chain_end
+chain_end-missing g s behind before = first_where-missing _ 1 JUMP_REACH before
+
+-- the deeds of a jumper that acts, one after another
+pub jump-done : (d : Desk) (g : ℕ) (from : Spot) (behind : ℕ → Spot) (i : ℕ) → (peek d.scan from == g) ≡ false → chain_end g d.scan behind ≡ Some i
+    → all_done d (jump g d.scan from behind) ≡ done (done (all_done (done d (input_at from)) (asleep behind (i - 1))) (output_at (behind i))) (Write (behind i) (peek d.scan from))
+unfolding jump
+jump-done d g from behind i first end =
+    rw (first, end) (all_done-append (done d (input_at from)) (asleep behind (i - 1)) (output_at (behind i) ∷ Write (behind i) (peek d.scan from) ∷ []))

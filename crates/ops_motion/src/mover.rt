@@ -1,0 +1,30 @@
+ghost use Rattle.std.specs.Prelude.{◌≡◌, ◌+◌, ◌≤◌};
+ghost use Rattle.orca_op.specs.Desk.{all_done};
+ghost use Rattle.orca_op.specs.MotionRules.{move_to};
+
+use orca_base::{Glyph, Place, Spot, Steps};
+use orca_op::Bench;
+use std::sync::ledger::Ledger;
+
+/// Moves a glyph from a place to an empty target of the grid, where it sleeps, and else leaves a bang.
+#[tactic(auto, unfolding(orca_op::specs::MotionRules::move_to, orca_op::specs::State::holds))]
+pub(crate) fn move_to<B: Bench, L: Ledger>(
+    bench: &mut B,
+    at: Place,
+    glyph: Glyph,
+    target: Spot,
+    steps: &mut Steps<L>,
+)
+    ensures deeds { B.desk bench.new ≡ all_done (B.desk bench.old) (move_to glyph (B.desk bench.old).scan at target) }
+    ensures ticks { steps.new ≤ steps.old + 4 }
+    ensures later { steps.old ≤ steps.new }
+{
+    let ahead = bench.peek(target, steps);
+    if bench.dims().holds(target).is_some() && ahead == Glyph::EMPTY {
+        bench.sleep(target, steps);
+        bench.write(target, glyph, steps);
+        bench.write(at.off(0, 0), Glyph::EMPTY, steps);
+    } else {
+        bench.write(at.off(0, 0), Glyph::BANG, steps);
+    }
+}
