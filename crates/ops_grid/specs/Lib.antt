@@ -1,0 +1,4 @@
+pub mod GridLaws
+pub mod NameDeeds
+pub mod RunFacts
+pub mod RunLaws

@@ -1,0 +1,72 @@
+ghost use Rattle.std.specs.Prelude.{◌≡◌, ◌+◌, ◌*◌, ◌<◌, slice_index, ◌∷◌, []};
+ghost use Rattle.orca_base.specs.declared.limits.TheConstants.{BASE};
+ghost use Rattle.orca_op.specs.declared.kind.Kind.TheVariants.{Generator as generator_kind};
+ghost use Rattle.orca_op.specs.State.{across};
+ghost use Rattle.orca_op.specs.Deeds.{Write, each, input_at, far_at};
+ghost use Rattle.orca_op.specs.Desk.{all_done};
+ghost use Rattle.orca_op.specs.GridRules.{generator, target};
+ghost use Rattle.ops_grid.specs.GridLaws.{lawful-generator};
+
+use crate::span::{self, ROOM};
+use orca_base::{Glyph, Now, Place, Steps};
+use orca_op::{Bench, Operator};
+use std::sync::ledger::Ledger;
+
+/// `G`: writes operands with an offset.
+///
+/// The ports at its left are `x`, `y` and `length`. So many glyphs at its right are written in a row, the
+/// first one `x` columns to the right and `y + 1` rows below, and sleep there until the next frame:
+///
+/// ```text
+/// 002Gab..    002Gab..
+/// ........    ...ab...
+/// ```
+pub struct Generator;
+
+impl Operator for Generator {
+    ghost kind = { generator_kind };
+
+    ghost rule = { generator };
+
+    ghost laws = { lawful-generator };
+
+    fn act<B: Bench, L: Ledger>(
+        &self,
+        bench: &mut B,
+        at: Place,
+        _glyph: Glyph,
+        _now: Now,
+        steps: &mut Steps<L>,
+    ) {
+        let x = bench.peek(at.off(0, -3), steps).value();
+        let y = bench.peek(at.off(0, -2), steps).value();
+        let length = bench.peek(at.off(0, -1), steps).value();
+        let operands = span::read(bench, at, 0, 1, length, steps);
+        bench.param(at.off(0, -3), steps);
+        bench.param(at.off(0, -2), steps);
+        bench.param(at.off(0, -1), steps);
+        generate(bench, at, y, x, length, &operands, steps);
+    }
+}
+
+/// Writes so many operands at the target.
+fn generate<B: Bench, L: Ledger>(
+    bench: &mut B,
+    at: Place,
+    y: u8,
+    x: u8,
+    length: u8,
+    operands: &[Glyph; ROOM],
+    steps: &mut Steps<L>,
+)
+    requires { length < BASE }
+    ensures deeds { B.desk bench.new ≡ all_done (B.desk bench.old) (each length (λ i. input_at (across at (i + 1)) ∷ far_at (target at y (x + i)) ∷ Write (target at y (x + i)) (slice_index operands.now i) ∷ [])) }
+    ensures ticks { steps.new ≡ steps.old + 3 * length }
+{
+    for i in 0..length {
+        let target = at.off(i32::from(y) + 1, i32::from(x) + i32::from(i));
+        bench.input(at.off(0, i32::from(i) + 1), steps);
+        bench.far(target, steps);
+        bench.write(target, operands[usize::from(i)], steps);
+    }
+}

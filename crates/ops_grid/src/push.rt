@@ -1,0 +1,48 @@
+ghost use Rattle.orca_op.specs.declared.kind.Kind.TheVariants.{Push as push_kind};
+ghost use Rattle.orca_op.specs.GridRules.{push};
+ghost use Rattle.ops_grid.specs.GridLaws.{lawful-push};
+
+use crate::span;
+use orca_base::{Glyph, Now, Place, Steps};
+use orca_op::{Bench, Operator, value_or};
+use std::sync::ledger::Ledger;
+
+/// `P`: writes an eastward operand.
+///
+/// The ports at its left are `key` and `length`, which is 1 at least, and the operand is at its right. Of
+/// so many places below, from the column of the operator on, the one that the key chooses, modulo the
+/// length, gets the operand:
+///
+/// ```text
+/// 12P7    12P7
+/// ....    ...7
+/// ```
+pub struct Push;
+
+impl Operator for Push {
+    ghost kind = { push_kind };
+
+    ghost rule = { push };
+
+    ghost laws = { lawful-push };
+
+    fn act<B: Bench, L: Ledger>(
+        &self,
+        bench: &mut B,
+        at: Place,
+        _glyph: Glyph,
+        _now: Now,
+        steps: &mut Steps<L>,
+    ) {
+        let key = bench.peek(at.off(0, -2), steps).value();
+        let length = value_or(bench.peek(at.off(0, -1), steps), 1);
+        let operand = bench.peek(at.off(0, 1), steps);
+        let chosen = at.off(1, i32::from(key % length));
+        bench.param(at.off(0, -2), steps);
+        bench.param(at.off(0, -1), steps);
+        span::lock(bench, at, 1, 0, length, steps);
+        bench.input(at.off(0, 1), steps);
+        bench.output(chosen, steps);
+        bench.write(chosen, operand, steps);
+    }
+}

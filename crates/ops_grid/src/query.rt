@@ -1,0 +1,73 @@
+ghost use Rattle.std.specs.Prelude.{◌≡◌, ◌+◌, ◌*◌, ◌<◌, slice_index, ◌∷◌, []};
+ghost use Rattle.orca_base.specs.declared.limits.TheConstants.{BASE};
+ghost use Rattle.orca_op.specs.declared.kind.Kind.TheVariants.{Query as query_kind};
+ghost use Rattle.orca_op.specs.Deeds.{Write, each, input_at, output_at};
+ghost use Rattle.orca_op.specs.Desk.{all_done};
+ghost use Rattle.orca_op.specs.GridRules.{query, source, below_by};
+ghost use Rattle.ops_grid.specs.GridLaws.{lawful-query};
+
+use crate::span::{self, ROOM};
+use orca_base::{Glyph, Now, Place, Steps};
+use orca_op::{Bench, Operator};
+use std::sync::ledger::Ledger;
+
+/// `Q`: reads operands with an offset.
+///
+/// The ports at its left are `x`, `y` and `length`. So many glyphs, of which the first stands `x + 1`
+/// columns to the right and `y` rows below, are written in the row below, the last one right below the
+/// operator:
+///
+/// ```text
+/// 002Q78    002Q78
+/// ......    ..78..
+/// ```
+pub struct Query;
+
+impl Operator for Query {
+    ghost kind = { query_kind };
+
+    ghost rule = { query };
+
+    ghost laws = { lawful-query };
+
+    fn act<B: Bench, L: Ledger>(
+        &self,
+        bench: &mut B,
+        at: Place,
+        _glyph: Glyph,
+        _now: Now,
+        steps: &mut Steps<L>,
+    ) {
+        let x = bench.peek(at.off(0, -3), steps).value();
+        let y = bench.peek(at.off(0, -2), steps).value();
+        let length = bench.peek(at.off(0, -1), steps).value();
+        let operands = span::read(bench, at, y, x + 1, length, steps);
+        bench.param(at.off(0, -3), steps);
+        bench.param(at.off(0, -2), steps);
+        bench.param(at.off(0, -1), steps);
+        collect(bench, at, y, x, length, &operands, steps);
+    }
+}
+
+/// Writes so many operands of the source below.
+fn collect<B: Bench, L: Ledger>(
+    bench: &mut B,
+    at: Place,
+    y: u8,
+    x: u8,
+    length: u8,
+    operands: &[Glyph; ROOM],
+    steps: &mut Steps<L>,
+)
+    requires { length < BASE }
+    ensures deeds { B.desk bench.new ≡ all_done (B.desk bench.old) (each length (λ i. input_at (source at y (x + i)) ∷ output_at (below_by at length i) ∷ Write (below_by at length i) (slice_index operands.now i) ∷ [])) }
+    ensures ticks { steps.new ≡ steps.old + 3 * length }
+{
+    for i in 0..length {
+        let column = i32::from(i) + 1 - i32::from(length);
+        let source = at.off(i32::from(y), i32::from(x) + i32::from(i) + 1);
+        bench.input(source, steps);
+        bench.output(at.off(1, column), steps);
+        bench.write(at.off(1, column), operands[usize::from(i)], steps);
+    }
+}

@@ -1,0 +1,47 @@
+ghost use Rattle.orca_op.specs.declared.kind.Kind.TheVariants.{Track as track_kind};
+ghost use Rattle.orca_op.specs.GridRules.{track};
+ghost use Rattle.ops_grid.specs.GridLaws.{lawful-track};
+
+use crate::span;
+use orca_base::{Glyph, Now, Place, Steps};
+use orca_op::{Bench, Operator, value_or};
+use std::sync::ledger::Ledger;
+
+/// `T`: reads an eastward operand.
+///
+/// The ports at its left are `key` and `length`, which is 1 at least. Of so many glyphs at its right, the
+/// one that the key chooses, modulo the length, is written below:
+///
+/// ```text
+/// 13Tabc    13Tabc
+/// ......    ..b...
+/// ```
+pub struct Track;
+
+impl Operator for Track {
+    ghost kind = { track_kind };
+
+    ghost rule = { track };
+
+    ghost laws = { lawful-track };
+
+    fn act<B: Bench, L: Ledger>(
+        &self,
+        bench: &mut B,
+        at: Place,
+        _glyph: Glyph,
+        _now: Now,
+        steps: &mut Steps<L>,
+    ) {
+        let key = bench.peek(at.off(0, -2), steps).value();
+        let length = value_or(bench.peek(at.off(0, -1), steps), 1);
+        let chosen = at.off(0, i32::from(key % length) + 1);
+        let operand = bench.peek(chosen, steps);
+        bench.param(at.off(0, -2), steps);
+        bench.param(at.off(0, -1), steps);
+        span::lock(bench, at, 0, 1, length, steps);
+        bench.input(chosen, steps);
+        bench.output(at.off(1, 0), steps);
+        bench.write(at.off(1, 0), operand, steps);
+    }
+}

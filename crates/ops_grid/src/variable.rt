@@ -1,0 +1,47 @@
+ghost use Rattle.orca_op.specs.declared.kind.Kind.TheVariants.{Variable as variable_kind};
+ghost use Rattle.orca_op.specs.GridRules.{variable};
+ghost use Rattle.ops_grid.specs.GridLaws.{lawful-variable};
+
+use orca_base::{Glyph, Now, Place, Steps};
+use orca_op::{Bench, Operator};
+use std::sync::ledger::Ledger;
+
+/// `V`: reads and writes a variable.
+///
+/// The port at its left is the name to `write`, and the one at its right what is written, or else the
+/// name to `read`. A variable is set for the rest of the frame; a variable that is read is written below:
+///
+/// ```text
+/// aV5.Va    aV5.Va
+/// ......    ....5.
+/// ```
+pub struct Variable;
+
+impl Operator for Variable {
+    ghost kind = { variable_kind };
+
+    ghost rule = { variable };
+
+    ghost laws = { lawful-variable };
+
+    fn act<B: Bench, L: Ledger>(
+        &self,
+        bench: &mut B,
+        at: Place,
+        _glyph: Glyph,
+        _now: Now,
+        steps: &mut Steps<L>,
+    ) {
+        let write = bench.peek(at.off(0, -1), steps);
+        let read = bench.peek(at.off(0, 1), steps);
+        let stored = bench.var(read.value(), steps);
+        bench.param(at.off(0, -1), steps);
+        bench.input(at.off(0, 1), steps);
+        if write != Glyph::EMPTY {
+            bench.set_var(write.value(), read, steps);
+        } else if read != Glyph::EMPTY {
+            bench.output(at.off(1, 0), steps);
+            bench.write(at.off(1, 0), stored, steps);
+        }
+    }
+}
