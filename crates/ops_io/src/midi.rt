@@ -1,0 +1,53 @@
+ghost use Rattle.orca_op.specs.declared.kind.Kind.TheVariants.{Midi as midi_kind};
+ghost use Rattle.orca_op.specs.EventRules.{midi};
+ghost use Rattle.ops_io.specs.EventLaws.{lawful-midi};
+
+use crate::note_ports::NotePorts;
+use crate::ports;
+use crate::sending::{beside_bang, send};
+use orca_base::{Glyph, Now, Place, Steps};
+use orca_op::{Bench, Operator};
+use std::sync::ledger::Ledger;
+
+/// `:`: sends a MIDI note.
+///
+/// The ports at its right are `channel`, `octave`, `note`, `velocity` and `length`. They are inputs, bang or
+/// not. Beside a bang it sends the note: on channel 15 at most and in octave 9 at most, with the loudest
+/// velocity where none is given, and for 1 frame at least. It sends none without an octave or a letter, and
+/// none with a velocity of value 0.
+///
+/// ```text
+/// D4......    D4......
+/// .:03Cf2.    *:03Cf2.    channel 0, key 36, velocity 119, for 2 frames
+/// ```
+pub struct Midi;
+
+impl Operator for Midi {
+    ghost kind = { midi_kind };
+
+    ghost rule = { midi };
+
+    ghost laws = { lawful-midi };
+
+    #[tactic(auto, using(orca_op::specs::LawFacts::added_up), unfolding(orca_op::specs::EventRules::note_of))]
+    fn act<B: Bench, L: Ledger>(
+        &self,
+        bench: &mut B,
+        at: Place,
+        _glyph: Glyph,
+        _now: Now,
+        steps: &mut Steps<L>,
+    ) {
+        let note = NotePorts {
+            channel: bench.peek(at.off(0, 1), steps),
+            octave: bench.peek(at.off(0, 2), steps),
+            note: bench.peek(at.off(0, 3), steps),
+            velocity: bench.peek(at.off(0, 4), steps),
+            length: bench.peek(at.off(0, 5), steps),
+            mono: false,
+        };
+        let event = beside_bang(bench, at, note.event(), steps);
+        ports::inputs(bench, at, 1, 5, steps);
+        send(bench, at, event, steps);
+    }
+}

@@ -1,0 +1,59 @@
+ghost use Rattle.std.specs.Prelude.{◌≡◌, ◌+◌};
+ghost use Rattle.orca_op.specs.EventRules.{inputs};
+ghost use Rattle.orca_op.specs.MotionRules.{locked};
+ghost use Rattle.orca_op.specs.State.{across};
+ghost use Rattle.orca_op.specs.Deeds.{input_at, lock_at};
+ghost use Rattle.orca_op.specs.Desk.{done, all_done};
+ghost use Rattle.ops_io.specs.Room.{HasRoom};
+
+use orca_base::{Place, Steps};
+use orca_op::Bench;
+use std::sync::ledger::Ledger;
+
+/// Marks so many inputs, from one port on.
+pub(crate) fn inputs<B: Bench, L: Ledger>(
+    bench: &mut B,
+    at: Place,
+    from: u8,
+    count: u8,
+    steps: &mut Steps<L>,
+)
+    ensures deeds { B.desk bench.new ≡ all_done (B.desk bench.old) (inputs at from count) }
+    ensures room { HasRoom (B.desk bench.old) → HasRoom (B.desk bench.new) }
+    ensures ticks { steps.new ≡ steps.old + count }
+{
+    for i in 0..count {
+        input(bench, at, i, from, steps);
+    }
+}
+
+/// Marks one input.
+#[tactic(auto, unfolding(orca_op::specs::Deeds::after))]
+fn input<B: Bench, L: Ledger>(bench: &mut B, at: Place, i: u8, from: u8, steps: &mut Steps<L>)
+    ensures deed { B.desk bench.new ≡ done (B.desk bench.old) (input_at (across at (i + from))) }
+    ensures room { HasRoom (B.desk bench.old) → HasRoom (B.desk bench.new) }
+    ensures ticks { steps.new ≡ steps.old + 1 }
+{
+    bench.input(at.off(0, i32::from(i) + i32::from(from)), steps);
+}
+
+/// Locks the first ports, so many.
+pub(crate) fn lock<B: Bench, L: Ledger>(bench: &mut B, at: Place, count: u8, steps: &mut Steps<L>)
+    ensures deeds { B.desk bench.new ≡ all_done (B.desk bench.old) (locked at count) }
+    ensures room { HasRoom (B.desk bench.old) → HasRoom (B.desk bench.new) }
+    ensures ticks { steps.new ≡ steps.old + count }
+{
+    for i in 0..count {
+        lock_one(bench, at, i, steps);
+    }
+}
+
+/// Locks one port.
+#[tactic(auto, unfolding(orca_op::specs::Deeds::after))]
+fn lock_one<B: Bench, L: Ledger>(bench: &mut B, at: Place, i: u8, steps: &mut Steps<L>)
+    ensures deed { B.desk bench.new ≡ done (B.desk bench.old) (lock_at (across at (i + 1))) }
+    ensures room { HasRoom (B.desk bench.old) → HasRoom (B.desk bench.new) }
+    ensures ticks { steps.new ≡ steps.old + 1 }
+{
+    bench.lock(at.off(0, i32::from(i) + 1), steps);
+}

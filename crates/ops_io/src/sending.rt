@@ -1,0 +1,44 @@
+ghost use Rattle.std.specs.Prelude.{◌≡◌, ◌+◌, ◌≤◌};
+ghost use Rattle.orca_op.specs.EventRules.{beside_bang, sent};
+ghost use Rattle.orca_op.specs.Desk.{all_done};
+ghost use Rattle.ops_io.specs.Room.{HasRoom};
+
+use orca_base::{Event, Place, Steps};
+use orca_op::{Bench, has_bang};
+use std::sync::ledger::Ledger;
+
+/// The event, where a bang stands next to the place; none where there is no bang.
+pub(crate) fn beside_bang<B: Bench, L: Ledger>(
+    bench: &B,
+    at: Place,
+    event: Option<Event>,
+    steps: &mut Steps<L>,
+) -> Option<Event>
+    ensures event { result ≡ beside_bang (B.desk bench.now).scan at event }
+    ensures ticks { steps.new ≡ steps.old + 4 }
+{
+    if has_bang(bench, at, steps) {
+        event
+    } else {
+        None
+    }
+}
+
+/// Shows that the place sends, and sends the event; does nothing where there is none.
+#[tactic(auto, unfolding(orca_op::specs::Deeds::after))]
+pub(crate) fn send<B: Bench, L: Ledger>(
+    bench: &mut B,
+    at: Place,
+    event: Option<Event>,
+    steps: &mut Steps<L>,
+)
+    requires { HasRoom (B.desk bench.old) }
+    ensures deeds { B.desk bench.new ≡ all_done (B.desk bench.old) (sent at event) }
+    ensures ticks { steps.new ≤ steps.old + 2 }
+    ensures later { steps.old ≤ steps.new }
+{
+    if let Some(event) = event {
+        bench.show(at.off(0, 0), steps);
+        bench.emit(event, steps);
+    }
+}
