@@ -1,0 +1,5 @@
+pub mod Lines
+pub mod Places
+pub mod Printing
+pub mod ReadTo
+pub mod Reading

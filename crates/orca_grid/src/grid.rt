@@ -1,0 +1,79 @@
+//! The grid.
+
+ghost use Rattle.std.specs.Prelude.{◌≡◌, ◌*◌, [], IfOk, replicate, slice_set, vec_len};
+ghost use Rattle.orca_base.specs.Glyphs.{empty};
+ghost use Rattle.orca_base.specs.Grids.{IsInside, index_of};
+
+use orca_base::{Dims, Glyph, Look, Marks, Memory, Place};
+use std::alloc::Global;
+use std::marker::Model;
+
+/// A grid of glyphs. A contract sees its size and its glyphs in reading order.
+#[derive(Debug, Drop)]
+pub struct Grid {
+    dims: Dims,
+    cells: Vec<Glyph>,
+}
+
+impl Model for Grid {
+    ghost use Rattle.orca_base.specs.Grids.{Sheet, IsSheet};
+
+    ghost Value = { Sheet };
+
+    ghost view = { λ g. record { dims = g.dims; cells = g.cells.items } };
+
+    ghost invariant = { λ g. IsSheet (record { dims = g.dims; cells = g.cells.items }) };
+}
+
+impl Grid {
+    /// A grid of this size, each cell of it empty.
+    pub fn blank(alloc: Global, dims: Dims) -> Result<Grid, Memory>
+        ensures { IfOk result (λ g. g ≡ record { dims = dims; cells = replicate (dims.h * dims.w) empty }) }
+    {
+        let mut cells = Vec::new(alloc);
+        cells.resize(usize::from(dims.h) * usize::from(dims.w), Glyph::EMPTY)?;
+        Ok(Grid { dims, cells })
+    }
+
+    /// Puts a glyph at a place in the grid.
+    pub fn set(&mut self, at: Place, glyph: Glyph)
+        requires { IsInside self.old.dims at }
+        ensures { self.new ≡ record self.old { cells = slice_set self.old.cells (index_of self.old.dims at) glyph } }
+    {
+        let index = usize::from(at.y) * usize::from(self.dims.w) + usize::from(at.x);
+        self.cells[index] = glyph;
+    }
+
+    /// The glyphs, in reading order.
+    pub fn cells(&self) -> &[Glyph]
+        ensures { result.now ≡ self.now.cells }
+    {
+        self.cells.as_slice()
+    }
+
+    /// The grid of this size with these glyphs, as many as it has places.
+    pub(crate) fn of(dims: Dims, cells: Vec<Glyph>) -> Grid
+        requires { vec_len cells ≡ dims.h * dims.w }
+        ensures { result ≡ record { dims = dims; cells = cells.items } }
+    {
+        Grid { dims, cells }
+    }
+}
+
+impl Look for Grid {
+    ghost sheet = { λ g. g };
+
+    ghost marks = { λ _. [] };
+
+    fn dims(&self) -> Dims {
+        self.dims
+    }
+
+    fn glyph_at(&self, at: Place) -> Glyph {
+        self.cells[usize::from(at.y) * usize::from(self.dims.w) + usize::from(at.x)]
+    }
+
+    fn marks_at(&self, _at: Place) -> Marks {
+        Marks::none()
+    }
+}
