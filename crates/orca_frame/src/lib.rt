@@ -1,0 +1,11 @@
+//! The frame: every place of the grid is visited in reading order.
+#![tactic(auto)]
+
+mod act;
+mod covering;
+mod laws;
+mod plain;
+mod visit;
+
+pub use covering::covering_law;
+pub use plain::frame_plain;
