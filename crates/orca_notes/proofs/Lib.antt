@@ -1,0 +1,4 @@
+pub mod Voices
+pub mod Chords
+pub mod Turns
+pub mod Follows

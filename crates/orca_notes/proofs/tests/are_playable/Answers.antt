@@ -1,0 +1,13 @@
+use Rattle.std.proofs.Common.{get_or}
+use Rattle.std.proofs.lemmas.List.{take_all}
+use Rattle.std.proofs.lemmas.List.Elements.{All-more}
+use Rattle.orca_base.specs.Ranges.{IsPlayable}
+use Rattle.orca_notes.proofs.tests.are_playable.Goals as goal
+
+pub loop-event-preserved : goal.loop-event-preserved
+loop-event-preserved c =
+    let playable : IsPlayable (get_or c.args.events.now c.loop-event.event-index c.event-item.result) = rw (← c.event-item.is) (c.is_playable.ensures c.if-not-is_playable.false) in
+    All-more IsPlayable c.args.events.now c.loop-event.event-index c.event-item.result c.loop-event-test.true c.loop-event.invariant playable
+
+pub returns : goal.returns
+returns c = λ _. rw (take_all c.loop-event.event-index c.args.events.now c.loop-event-test.false) at c.loop-event.invariant

@@ -1,0 +1,3 @@
+pub mod Device
+pub mod Ending
+pub mod Sound
