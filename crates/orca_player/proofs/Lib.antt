@@ -1,0 +1,5 @@
+pub mod InMemoryLemmas
+pub mod WordLemmas
+pub mod PlayingLemmas
+pub mod FaultLemmas
+pub mod EndingLemmas

@@ -1,0 +1,28 @@
+use Rattle.std.specs.Prelude.{map, string_bytes}
+use Rattle.orca_player.specs.Out.{out}
+use Rattle.orca_player.proofs.EndingLemmas.{some_weaker, ends_later, told_later, unless_later, played_later}
+use Rattle.orca_player.proofs.top.run.Goals as goal
+
+pub returns-clause-ending : goal.returns-clause-ending
+returns-clause-ending g c =
+    some_weaker (g.F.Files.contents c.args.files.now) _ _
+    (λ held ends. ends_later _ _ _ _ _ _ _ _ c.end.ensures.status c.work-status.ensures.count c.end.ensures.count (λ done. (c.end.ensures.done done).1) ends)
+    c.work-status.ensures.ending
+
+pub returns-clause-sends : goal.returns-clause-sends
+returns-clause-sends g c =
+    some_weaker (g.F.Files.contents c.args.files.now) _ _
+    (λ held body. told_later (out (map string_bytes c.args.words.now.items) held) _ _ _ _ _ c.end.ensures.status body c.end.ensures.told)
+    c.work-status.ensures.sends
+
+pub returns-clause-asked : goal.returns-clause-asked
+returns-clause-asked g c =
+    some_weaker (g.F.Files.contents c.args.files.now) _ _
+    (λ held asked. unless_later _ _ c.end.ensures.status asked)
+    c.work-status.ensures.asked
+
+pub returns-clause-device : goal.returns-clause-device
+returns-clause-device g c =
+    some_weaker (g.F.Files.contents c.args.files.now) _ _
+    (λ held played. played_later _ _ c.end.ensures.status played)
+    c.work-status.ensures.device

@@ -1,0 +1,12 @@
+pub mod Asked
+pub mod Handed
+pub mod InMemory
+pub mod Outside
+pub mod Words
+pub mod Sending
+pub mod Lines
+pub mod Playing
+pub mod Statuses
+pub mod Machine
+pub mod Out
+pub mod RequestOf

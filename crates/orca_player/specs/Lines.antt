@@ -1,0 +1,43 @@
+-- The printed lines of messages.
+use Rattle.std.specs.Prelude.{ℕ, ◌+◌, ◌/◌, ◌%◌, nat_lt, if◌then◌else◌, List, [], ◌∷◌, ◌++◌, codes, map}
+use Rattle.std.specs.List.{flat_map}
+use Rattle.std.specs.Fmt.{decimal}
+use Rattle.orca_base.specs.declared.message.Message.{Message}
+use Rattle.orca_base.specs.declared.port.Port.{Port}
+use Rattle.orca_base.specs.declared.port.Port.TheVariants as port
+use Rattle.orca_player.specs.declared.lines.Label.{Label}
+use Rattle.orca_player.specs.declared.lines.Label.TheVariants.{Tick, End}
+use Rattle.orca_player.specs.Outside.{Sent}
+use Rattle.orca_player.specs.Sending.{sent_of}
+
+abbrev pub hex_digit : ℕ → ℕ
+hex_digit n = if nat_lt n 10 then n + 48 else n + 55
+
+-- a space, and two upper-case hexadecimal digits
+abbrev pub hex_byte : ℕ → List ℕ
+hex_byte byte = 32 ∷ hex_digit (byte / 16) ∷ hex_digit (byte % 16) ∷ []
+
+abbrev pub port_name : Port → List ℕ
+port_name port.Midi = codes "midi"
+port_name port.Udp = codes "udp"
+port_name port.Osc = codes "osc"
+port_name port.Text = codes "text"
+port_name port.Fault = codes "fault"
+port_name port.View = codes "view"
+
+-- the tick of the frame, or `end`
+abbrev pub label_of : Label → List ℕ
+label_of (Tick tick) = decimal tick
+label_of End = codes "end"
+
+-- the label, the port and the bytes
+unfoldable pub line_of : Label → Sent → List ℕ
+line_of label sent = label_of label ++ 32 ∷ port_name sent.port ++ flat_map hex_byte sent.bytes ++ 10 ∷ []
+
+-- the line of a message, on the text port
+abbrev pub line_sent : Label → Message → Sent
+line_sent label message = record { port = port.Text; bytes = line_of label (sent_of message) }
+
+-- a line for each message, in order
+abbrev pub lines_of : Label → List Message → List Sent
+lines_of label messages = map (line_sent label) messages

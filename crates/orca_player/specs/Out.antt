@@ -1,0 +1,87 @@
+-- What a run asks of the outside, what it sends, and how it ends.
+use Rattle.std.specs.Prelude.{◌≡◌, ℕ, nat_le, if◌then◌else◌, List, [], ◌∷◌, ◌++◌, length, Option, Some, None, Result, Ok, Err}
+use Rattle.std.specs.FinMap.{get}
+use Rattle.orca_base.specs.declared.limits.TheConstants.{MAX_FILE_BYTES, DEFAULT_SEED}
+use Rattle.orca_base.specs.Grids.{Sheet}
+use Rattle.orca_grid.specs.GridText.{grid_text}
+use Rattle.orca_grid.specs.declared.refusal.GridRefusal.{GridRefusal}
+use Rattle.orca_player.specs.declared.status.Status.{Status}
+use Rattle.orca_player.specs.declared.status.Status.TheVariants.{Done, Usage, GridRefused, OutFault, FileFault, Memory}
+use Rattle.orca_player.specs.Outside.{Contents, Ask, Sent, Rose}
+use Rattle.orca_player.specs.Outside.Ask.{Load}
+use Rattle.orca_player.specs.Playing.{opened, run_sends, HangsNoNote}
+use Rattle.orca_player.specs.Statuses.{status_sends}
+use Rattle.orca_player.specs.Words.{Request, request_of}
+
+-- the calls of the files, all sends but the line of the status, and the status: where nothing of the outside fails
+pub record Out : Type 0 where
+  pub asked : List Ask
+  pub sends : List Sent
+  pub status : Status
+
+-- a run that asked for its grid, sends nothing and ends so
+abbrev pub stopped : Request → Status → Out
+stopped request status = record { asked = Load request.grid ∷ []; sends = []; status = status }
+
+abbrev pub out_of_grid : Request → Result Sheet GridRefusal → Out
+out_of_grid request (Err refusal) = stopped request (GridRefused refusal)
+out_of_grid request (Ok sheet) = record {
+  asked = Load request.grid ∷ [];
+  sends = run_sends request.show DEFAULT_SEED request.frames (opened sheet);
+  status = Done;
+}
+
+-- a file that is missing or too long can't be loaded
+abbrev pub out_of_file : Request → Option (List ℕ) → Out
+out_of_file request None = stopped request FileFault
+out_of_file request (Some text) =
+    if nat_le (length text) MAX_FILE_BYTES then out_of_grid request (grid_text text) else stopped request FileFault
+
+abbrev pub out_of : Option Request → Contents → Out
+out_of None files = record { asked = []; sends = []; status = Usage }
+out_of (Some request) files = out_of_file request (get files request.grid)
+
+-- what a run with these words does with these files
+unfoldable pub out : List (List ℕ) → Contents → Out
+out words files = out_of (request_of words) files
+
+-- how a run ends that would end as planned, by the counts of faults before and now of the files and of the ports: a load
+-- that fails gives FileFault, and a send that fails gives OutFault where all was done
+abbrev pub EndsAs : Status → Status → ℕ → ℕ → ℕ → ℕ → Type 0
+EndsAs planned Done files files' outs outs' = (planned ≡ Done) × (files' ≡ files) × (outs' ≡ outs)
+EndsAs planned Usage files files' outs outs' = (planned ≡ Usage) × (files' ≡ files)
+EndsAs planned (GridRefused refusal) files files' outs outs' = (planned ≡ GridRefused refusal) × (files' ≡ files)
+EndsAs planned OutFault files files' outs outs' = (planned ≡ Done) × (files' ≡ files) × Rose outs outs'
+EndsAs planned FileFault files files' outs outs' = Rose files files'
+EndsAs planned Memory files files' outs outs' = Unit {0}
+
+-- how playing ends: with all done, with a port that failed, or for want of memory
+abbrev pub PlaysAs : Status → ℕ → ℕ → Type 0
+PlaysAs Done outs outs' = outs' ≡ outs
+PlaysAs OutFault outs outs' = Rose outs outs'
+PlaysAs Memory outs outs' = Unit {0}
+PlaysAs Usage outs outs' = ⊥
+PlaysAs (GridRefused refusal) outs outs' = ⊥
+PlaysAs FileFault outs outs' = ⊥
+
+-- the sends before the line of the status: none where a load failed
+abbrev pub body_sends : Out → Status → List Sent
+body_sends planned Done = planned.sends
+body_sends planned Usage = planned.sends
+body_sends planned (GridRefused refusal) = planned.sends
+body_sends planned OutFault = planned.sends
+body_sends planned FileFault = []
+body_sends planned Memory = planned.sends
+
+-- all sends of a run that ends so
+abbrev pub told_sends : Out → Status → List Sent
+told_sends planned status = body_sends planned status ++ status_sends status
+
+-- a run that plays a grid to its end hangs no note
+abbrev pub HangsNoneIn : Request → Contents → Type 0
+HangsNoneIn request files =
+    (text : List ℕ) (sheet : Sheet) → get files request.grid ≡ Some text → grid_text text ≡ Ok sheet
+    → HangsNoNote request.show DEFAULT_SEED request.frames (opened sheet)
+
+abbrev pub HangsNone : List (List ℕ) → Contents → Type 0
+HangsNone words files = (request : Request) → request_of words ≡ Some request → HangsNoneIn request files

@@ -1,0 +1,47 @@
+-- How a run ends, and the line that says so.
+use Rattle.std.specs.Prelude.{ℕ, List, [], ◌∷◌, ◌++◌, codes}
+use Rattle.std.specs.Fmt.{decimal}
+use Rattle.orca_base.specs.declared.port.Port.TheVariants as port
+use Rattle.orca_grid.specs.declared.refusal.GridRefusal.{GridRefusal}
+use Rattle.orca_grid.specs.declared.refusal.GridRefusal.TheVariants as refusal
+use Rattle.orca_player.specs.declared.status.Status.{Status}
+use Rattle.orca_player.specs.declared.status.Status.TheVariants.{Done, Usage, GridRefused, OutFault, FileFault, Memory}
+use Rattle.orca_player.specs.Outside.{Sent}
+
+abbrev pub number_of_status : Status → ℕ
+number_of_status Done = 0
+number_of_status Usage = 1
+number_of_status (GridRefused refusal) = 2
+number_of_status OutFault = 3
+number_of_status FileFault = 4
+number_of_status Memory = 9
+
+-- why a grid text is refused
+unfoldable pub refusal_text : GridRefusal → List ℕ
+refusal_text (refusal.BadByte offset) = codes "bad byte at " ++ decimal offset
+refusal_text refusal.NoCells = codes "no cells"
+refusal_text (refusal.TooWide row) = codes "row " ++ decimal row ++ codes " too wide"
+refusal_text refusal.TooHigh = codes "too many rows"
+refusal_text refusal.Memory = codes "memory was refused"
+
+-- the line of a status that is no success, without its end
+unfoldable pub status_text : Status → List ℕ
+status_text Done = []
+status_text Usage = codes "usage: orca run|events|replay|make|play"
+status_text (GridRefused refusal) = codes "grid refused: " ++ refusal_text refusal
+status_text OutFault = codes "output fault"
+status_text FileFault = codes "file fault"
+status_text Memory = codes "no memory"
+
+-- the line of a status, on the fault port
+abbrev pub fault_sends : Status → List Sent
+fault_sends status = record { port = port.Fault; bytes = status_text status ++ 10 ∷ [] } ∷ []
+
+-- a status other than 0 sends its line, as the last send
+abbrev pub status_sends : Status → List Sent
+status_sends Done = []
+status_sends Usage = fault_sends Usage
+status_sends (GridRefused refusal) = fault_sends (GridRefused refusal)
+status_sends OutFault = fault_sends OutFault
+status_sends FileFault = fault_sends FileFault
+status_sends Memory = fault_sends Memory

@@ -1,0 +1,17 @@
+//! A run of Orca, from the words of the command line to what is sent.
+#![tactic(auto)]
+
+mod ending;
+mod lines;
+mod machine;
+mod message_bytes;
+mod play;
+pub mod rig;
+mod status;
+mod tell;
+mod top;
+mod words;
+
+pub use message_bytes::wire;
+pub use status::Status;
+pub use top::run;

@@ -1,0 +1,37 @@
+ghost use Rattle.std.specs.Prelude.{◌≡◌};
+ghost use Rattle.orca_player.specs.Statuses.{number_of_status};
+
+use orca_grid::GridRefusal;
+
+/// How a run ends.
+#[derive(Clone, Copy, Debug, PartialEq, Eq)]
+pub enum Status {
+    /// All was done.
+    Done,
+    /// The words are faulty.
+    Usage,
+    /// The text of the grid is refused. It is never [`GridRefusal::Memory`].
+    GridRefused(GridRefusal),
+    /// A port failed, and all else was done.
+    OutFault,
+    /// A file could not be loaded.
+    FileFault,
+    /// Memory was refused.
+    Memory,
+}
+
+impl Status {
+    /// The number that the process ends with.
+    pub fn number(self) -> u8
+        ensures { result ≡ number_of_status self }
+    {
+        match self {
+            Status::Done => 0,
+            Status::Usage => 1,
+            Status::GridRefused(_) => 2,
+            Status::OutFault => 3,
+            Status::FileFault => 4,
+            Status::Memory => 9,
+        }
+    }
+}

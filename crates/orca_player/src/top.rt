@@ -1,0 +1,181 @@
+ghost use Rattle.std.specs.Prelude.{◌≡◌, ◌≢◌, ◌⊎◌, ◌≤◌, [], ◌∷◌, ◌++◌, ℕ, None, Some, IfSome, IfOk, length, map, string_bytes};
+ghost use Rattle.std.specs.Option.{option_map};
+ghost use Rattle.orca_base.specs.declared.limits.TheConstants.{MAX_FILE_BYTES, DEFAULT_SEED};
+ghost use Rattle.orca_grid.specs.GridText.{grid_text};
+ghost use Rattle.orca_player.specs.Out.{out, out_of, out_of_grid, EndsAs, PlaysAs, body_sends, told_sends, HangsNone, HangsNoneIn};
+ghost use Rattle.orca_player.specs.Outside.Ask.{Load};
+ghost use Rattle.orca_player.specs.Playing.{opened, run_sends, HangsNoNote};
+ghost use Rattle.orca_player.specs.RequestOf.{request_in};
+ghost use Rattle.orca_player.specs.Sending.{added};
+ghost use Rattle.orca_player.specs.Words.{request_of};
+
+use crate::Status;
+use crate::ending::end;
+use crate::machine::Machine;
+use crate::play::{close, perform};
+use crate::rig::{Files, Outs, StoreFault};
+use crate::tell::Want;
+use crate::words::{Request, read_words};
+use orca_base::Steps;
+use orca_base::limits::DEFAULT_SEED;
+use orca_grid::{Grid, GridRefusal};
+use std::alloc::Global;
+use std::sync::ledger::Ledger;
+
+/// Does what the words ask for, and answers how it ended. The words are those after the program's own
+/// name: `run GRID FRAMES` plays FRAMES frames and sends the grid as text; `events GRID FRAMES` plays
+/// them and sends a line of text for each message. A failed send is counted, nothing is sent again, and
+/// the run goes on. A status other than 0 sends one line on the fault port, as the last send.
+pub fn run<F: Files, O: Outs, L: Ledger>(
+    alloc: Global,
+    words: &Vec<String>,
+    files: &mut F,
+    outs: &mut O,
+    steps: &mut Steps<L>,
+) -> Status
+    // Faulty words, whatever the outside tells.
+    ensures usage { request_of (map string_bytes words.now.items) ≡ None → (result ≡ Status.Usage) ⊎ (result ≡ Status.Memory) }
+    ensures usage_only { result ≡ Status.Usage → request_of (map string_bytes words.now.items) ≡ None }
+
+    // Which status it is, and when: want of memory is the one free answer.
+    ensures ending { IfSome (F.contents files.old) (λ held.
+        EndsAs (out (map string_bytes words.now.items) held).status result (F.faults files.old) (F.faults files.new) (O.faults outs.old) (O.faults outs.new)) }
+
+    // What is sent: every grid is that of a full scan of every cell, folded over the frames, and every
+    // message is of its events.
+    ensures sends { IfSome (F.contents files.old) (λ held. result ≢ Status.Memory →
+        O.handed outs.new ≡ added (O.handed outs.old) (told_sends (out (map string_bytes words.now.items) held) result)) }
+
+    // What is asked of the files, which stay as they are.
+    ensures asked { IfSome (F.contents files.old) (λ held. result ≢ Status.Memory →
+        F.asked files.new ≡ option_map (λ asks. asks ++ (out (map string_bytes words.now.items) held).asked) (F.asked files.old)) }
+    ensures files { F.contents files.new ≡ F.contents files.old }
+
+    // No note hangs.
+    ensures device { IfSome (F.contents files.old) (λ held.
+        (result ≡ Status.Done) ⊎ (result ≡ Status.OutFault) → HangsNone (map string_bytes words.now.items) held) }
+{
+    let status = work(alloc, words, files, outs, steps);
+    end(alloc, outs, status)
+}
+
+/// Does what the words ask for, but for the line of the status.
+#[tactic(auto, unfolding(crate::specs::Out::out))]
+fn work<F: Files, O: Outs, L: Ledger>(
+    alloc: Global,
+    words: &Vec<String>,
+    files: &mut F,
+    outs: &mut O,
+    steps: &mut Steps<L>,
+) -> Status
+    ensures usage { request_of (map string_bytes words.now.items) ≡ None → result ≡ Status.Usage }
+    ensures usage_only { result ≡ Status.Usage → request_of (map string_bytes words.now.items) ≡ None }
+    ensures ending { IfSome (F.contents files.old) (λ held.
+        EndsAs (out (map string_bytes words.now.items) held).status result (F.faults files.old) (F.faults files.new) (O.faults outs.old) (O.faults outs.new)) }
+    ensures sends { IfSome (F.contents files.old) (λ held. result ≢ Status.Memory →
+        O.handed outs.new ≡ added (O.handed outs.old) (body_sends (out (map string_bytes words.now.items) held) result)) }
+    ensures asked { IfSome (F.contents files.old) (λ held. result ≢ Status.Memory →
+        F.asked files.new ≡ option_map (λ asks. asks ++ (out (map string_bytes words.now.items) held).asked) (F.asked files.old)) }
+    ensures files { F.contents files.new ≡ F.contents files.old }
+    ensures count { O.faults outs.old ≤ O.faults outs.new }
+    ensures device { IfSome (F.contents files.old) (λ held.
+        (result ≡ Status.Done) ⊎ (result ≡ Status.OutFault) → HangsNone (map string_bytes words.now.items) held) }
+{
+    match read_words(words) {
+        None => Status::Usage,
+        Some(request) => load(alloc, &request, files, outs, steps),
+    }
+}
+
+/// Loads and reads the grid, and plays it.
+fn load<F: Files, O: Outs, L: Ledger>(
+    alloc: Global,
+    request: &Request<'_>,
+    files: &mut F,
+    outs: &mut O,
+    steps: &mut Steps<L>,
+) -> Status
+    ensures usage { result ≢ Status.Usage }
+    ensures ending { IfSome (F.contents files.old) (λ held.
+        EndsAs (out_of (Some (request_in request.now)) held).status result (F.faults files.old) (F.faults files.new) (O.faults outs.old) (O.faults outs.new)) }
+    ensures sends { IfSome (F.contents files.old) (λ held. result ≢ Status.Memory →
+        O.handed outs.new ≡ added (O.handed outs.old) (body_sends (out_of (Some (request_in request.now)) held) result)) }
+    ensures asked { result ≢ Status.Memory → F.asked files.new ≡ option_map (λ asks. asks ++ Load request.now.grid.now ∷ []) (F.asked files.old) }
+    ensures files { F.contents files.new ≡ F.contents files.old }
+    ensures count { O.faults outs.old ≤ O.faults outs.new }
+    ensures device { IfSome (F.contents files.old) (λ held.
+        (result ≡ Status.Done) ⊎ (result ≡ Status.OutFault) → HangsNoneIn (request_in request.now) held) }
+{
+    let mut text = Vec::new(alloc);
+    match files.load(request.grid, &mut text) {
+        Ok(()) => open(alloc, request, text.as_slice(), outs, steps),
+        Err(StoreFault::Failed) => Status::FileFault,
+        Err(StoreFault::Memory) => Status::Memory,
+    }
+}
+
+/// Reads the grid's text, and plays it.
+fn open<O: Outs, L: Ledger>(
+    alloc: Global,
+    request: &Request<'_>,
+    text: &[u8],
+    outs: &mut O,
+    steps: &mut Steps<L>,
+) -> Status
+    requires { length text.now ≤ MAX_FILE_BYTES }
+    ensures ending { (files : ℕ) → EndsAs (out_of_grid (request_in request.now) (grid_text text.now)).status result files files (O.faults outs.old) (O.faults outs.new) }
+    ensures usage { result ≢ Status.Usage }
+    ensures loaded { result ≢ Status.FileFault }
+    ensures sends { result ≢ Status.Memory →
+        O.handed outs.new ≡ added (O.handed outs.old) (out_of_grid (request_in request.now) (grid_text text.now)).sends }
+    ensures count { O.faults outs.old ≤ O.faults outs.new }
+    ensures device { (result ≡ Status.Done) ⊎ (result ≡ Status.OutFault) → IfOk (grid_text text.now) (λ sheet.
+        HangsNoNote request.now.show DEFAULT_SEED request.now.frames (opened sheet)) }
+{
+    match Grid::read(alloc, text) {
+        Ok(grid) => play(alloc, request, &grid, outs, steps),
+        Err(GridRefusal::Memory) => Status::Memory,
+        Err(refusal) => Status::GridRefused(refusal),
+    }
+}
+
+/// Plays the grid to the end.
+fn play<O: Outs, L: Ledger>(
+    alloc: Global,
+    request: &Request<'_>,
+    grid: &Grid,
+    outs: &mut O,
+    steps: &mut Steps<L>,
+) -> Status
+    ensures ends { PlaysAs result (O.faults outs.old) (O.faults outs.new) }
+    ensures sends { result ≢ Status.Memory →
+        O.handed outs.new ≡ added (O.handed outs.old) (run_sends request.now.show DEFAULT_SEED request.now.frames (opened grid.now)) }
+    ensures count { O.faults outs.old ≤ O.faults outs.new }
+    ensures device { result ≢ Status.Memory → HangsNoNote request.now.show DEFAULT_SEED request.now.frames (opened grid.now) }
+{
+    let Ok(mut machine) = Machine::start(alloc, grid) else {
+        return Status::Memory;
+    };
+    let mut line = Vec::new(alloc);
+    let mut failed = false;
+    let done = perform(
+        &mut machine,
+        request.show,
+        request.frames,
+        DEFAULT_SEED,
+        &mut line,
+        outs,
+        &mut failed,
+        steps,
+    );
+    match done {
+        Ok(()) if failed => Status::OutFault,
+        Ok(()) => Status::Done,
+        Err(Want::Send) => Status::Memory,
+        Err(Want::Work) => {
+            // Memory is refused already, so what else the close would tell is not told.
+            let _ = close(&mut machine, outs, &mut failed);
+            Status::Memory
+        }
+    }
+}
