@@ -1,0 +1,158 @@
+//! A case, and its lines.
+
+use crate::bytes::read_bytes;
+use anyhow::{Context, Result, anyhow, bail, ensure};
+use orca_base::{Now, Port};
+use std::alloc::Global;
+
+/// What is to be done: a whole run, or a frame alone.
+#[derive(Drop)]
+pub(crate) struct Case {
+    pub name: String,
+    /// The tick and the seed of a frame alone; none where the case is a run.
+    pub frame: Option<Now>,
+    /// The words of the command line.
+    pub words: Vec<String>,
+    /// The files that are held at the start, each a name and its bytes.
+    pub files: Vec<(String, Vec<u8>)>,
+    /// The names of the files that are told at the end.
+    pub wanted: Vec<String>,
+    /// The calls of the files that are to fail, counted from 1.
+    pub failing_calls: Vec<u64>,
+    /// The sends that are to fail, counted from 1 at each port.
+    pub failing_sends: Vec<(Port, u64)>,
+}
+
+impl Case {
+    /// A case of that name with nothing in it.
+    fn new(alloc: Global, name: &str) -> Result<Case> {
+        Ok(Case {
+            name: String::from_str(alloc, name)?,
+            frame: None,
+            words: Vec::new(alloc),
+            files: Vec::new(alloc),
+            wanted: Vec::new(alloc),
+            failing_calls: Vec::new(alloc),
+            failing_sends: Vec::new(alloc),
+        })
+    }
+
+    /// Adds what a line says.
+    fn add(&mut self, alloc: Global, key: &str, rest: &str) -> Result<()> {
+        match key {
+            "scan" => self.frame = Some(read_now(rest)?),
+            "word" => self
+                .words
+                .push(String::from_utf8(read_bytes(alloc, rest)?)?)?,
+            "file" => self.files.push(read_file(alloc, rest)?)?,
+            "want" => self.wanted.push(String::from_str(alloc, rest)?)?,
+            "fail" => self.add_failure(rest)?,
+            _ => bail!("these cases have no line {key:?}"),
+        }
+        Ok(())
+    }
+
+    /// Adds a call that is to fail.
+    fn add_failure(&mut self, rest: &str) -> Result<()> {
+        let (who, number) = halves(rest)?;
+        let number = number.parse::<u64>()?;
+        if who == "files" {
+            self.failing_calls.push(number)?;
+        } else {
+            self.failing_sends.push((read_port(who)?, number))?;
+        }
+        Ok(())
+    }
+}
+
+/// Reads a line into the open case, and gives the case that it ends.
+pub(crate) fn take_line(
+    alloc: Global,
+    open: &mut Option<Case>,
+    line: &str,
+) -> Result<Option<Case>> {
+    if line.is_empty() || line.starts_with('#') {
+        return Ok(None);
+    }
+    if line == "end" {
+        let case = open.take().ok_or(anyhow!("an end outside a case"))?;
+        return Ok(Some(case));
+    }
+    let (key, rest) = halves(line)?;
+    match open {
+        Some(case) => case.add(alloc, key, rest)?,
+        None => {
+            ensure!(key == "case", "{line:?} stands outside a case");
+            *open = Some(Case::new(alloc, rest)?);
+        }
+    }
+    Ok(None)
+}
+
+/// What stands before and after the first blank.
+fn halves(text: &str) -> Result<(&str, &str)> {
+    text.split_once(' ')
+        .context(format_args!("{text:?} has no blank"))
+}
+
+/// The tick and the seed of a frame alone.
+fn read_now(rest: &str) -> Result<Now> {
+    let (tick, seed) = halves(rest)?;
+    Ok(Now {
+        tick: tick.parse::<u32>()?,
+        seed: seed.parse::<u32>()?,
+    })
+}
+
+/// The name and the bytes of a file.
+fn read_file(alloc: Global, rest: &str) -> Result<(String, Vec<u8>)> {
+    let (name, bytes) = halves(rest)?;
+    Ok((String::from_str(alloc, name)?, read_bytes(alloc, bytes)?))
+}
+
+/// The port of that name.
+fn read_port(name: &str) -> Result<Port> {
+    match name {
+        "midi" => Ok(Port::Midi),
+        "udp" => Ok(Port::Udp),
+        "osc" => Ok(Port::Osc),
+        "text" => Ok(Port::Text),
+        "fault" => Ok(Port::Fault),
+        "view" => Ok(Port::View),
+        _ => bail!("these cases have no port {name:?}"),
+    }
+}
+
+#[cfg(test)]
+mod tests {
+    use super::take_line;
+    use std::test::Fail;
+
+    #[test]
+    fn faulty_lines_are_refused(rt: HostRuntime) -> Result<(), Fail> {
+        let faulty = [
+            "case again",
+            "end of it",
+            "fail",
+            "fail inbox 1",
+            "fail text x",
+            "file g",
+            "file g 2",
+            "scan 1",
+            "scan 1 4294967296",
+            "sing g",
+            "word ff",
+            "word 0g",
+        ];
+        for line in faulty {
+            let mut open = None;
+            take_line(rt.alloc(), &mut open, "case one")?;
+            assert!(rt; take_line(rt.alloc(), &mut open, line).is_err(), "{line}");
+        }
+        assert!(rt;
+            take_line(rt.alloc(), &mut None, "end").is_err(),
+            "no case is open"
+        );
+        Ok(())
+    }
+}

@@ -1,0 +1,56 @@
+//! Reads cases on the standard input, does each over files and ports in memory, and prints the
+//! answers.
+//!
+//! A case is lines of ASCII, from `case NAME` to `end`. Bytes are lower-case hexadecimal, and `-` where
+//! there are none. An empty line and a line that begins with `#` are comments.
+//!
+//! | line | meaning |
+//! |---|---|
+//! | `word WORD` | one word of the command line, in order |
+//! | `file NAME BYTES` | a file that is held at the start |
+//! | `want NAME` | a file that is told at the end |
+//! | `fail files N` | the Nth call of the files is to fail, counted from 1 |
+//! | `fail PORT N` | the Nth send to a port is to fail: `midi`, `udp`, `osc`, `text`, `fault` or `view` |
+//!
+//! The answer is `case NAME`, then `send PORT BYTES` for each send, `file NAME BYTES` or
+//! `file NAME none` for each file that is told, and `status N`.
+//!
+//! A case with a line `scan TICK SEED` is one frame alone, of the grid text of its one file. Its answer
+//! is `case NAME`, then `cells BYTES`, the glyphs; `marks BYTES`, one byte a place: 1 for Lock, 2 for
+//! Input, 4 for Param, 8 for Output and 16 for Sleep, added; `vars BYTES`, the 36 variables; and for
+//! each event `event note CHANNEL KEY VELOCITY LENGTH MONO`, `event control CHANNEL CONTROL VALUE`,
+//! `event bend CHANNEL LSB MSB`, `event udp BYTES` or `event osc PATH VALUES`.
+#![tactic(auto)]
+
+mod bytes;
+mod case;
+mod runs;
+mod scans;
+
+use anyhow::{Result, ensure};
+use case::{Case, take_line};
+use std::alloc::Global;
+use std::io;
+
+/// The answer to a case.
+fn answer(alloc: Global, case: Case) -> Result<String> {
+    let mut answer = format!(in alloc; "case {}\n", case.name)?;
+    match case.frame {
+        Some(now) => scans::tell(alloc, &case, now, &mut answer)?,
+        None => runs::tell(alloc, case, &mut answer)?,
+    }
+    Ok(answer)
+}
+
+fn main(rt: HostRuntime) -> Result<()> {
+    let alloc = rt.alloc();
+    let text = io::read_to_string(alloc, rt.reader())?;
+    let mut open = None;
+    for line in text.as_str().lines() {
+        if let Some(case) = take_line(alloc, &mut open, line)? {
+            rt.print(answer(alloc, case)?)?;
+        }
+    }
+    ensure!(open.is_none(), "the last case has no end");
+    Ok(())
+}

@@ -1,0 +1,92 @@
+//! A whole run, over files and ports in memory.
+
+ghost use Rattle.std.specs.Prelude.{◌≡◌, ◌<◌};
+
+use crate::bytes::{tell_bytes, write_bytes};
+use crate::case::Case;
+use anyhow::{Result, bail, ensure};
+use orca_base::{Port, Steps};
+use orca_player::Status;
+use orca_player::rig::{MemFiles, MemOuts, names_differ};
+use std::alloc::Global;
+use std::marker::Brand;
+use std::sync::ledger::{Blank, Ledger};
+
+/// Adds the lines of the answer.
+pub(crate) fn tell(alloc: Global, case: Case, into: &mut String) -> Result<()> {
+    let Case {
+        name: _,
+        frame: _,
+        words,
+        files,
+        wanted,
+        failing_calls,
+        failing_sends,
+    } = case;
+    ensure!(names_differ(&files), "two files have one name");
+    let Ok(mut files) = MemFiles::new(files, failing_calls) else {
+        bail!("memory was refused");
+    };
+    let Ok(mut outs) = MemOuts::new(failing_sends) else {
+        bail!("memory was refused");
+    };
+    let status = run::<Brand>(alloc, &words, &mut files, &mut outs, Blank::new(1));
+    tell_sends(alloc, &outs, into)?;
+    for name in &wanted {
+        tell_file(alloc, &files, name.as_str(), into)?;
+    }
+    let line = format!(in alloc; "status {}\n", status.number())?;
+    into.push_str(line.as_str())?;
+    Ok(())
+}
+
+/// Does the run.
+fn run<L: Ledger>(
+    alloc: Global,
+    words: &Vec<String>,
+    files: &mut MemFiles,
+    outs: &mut MemOuts,
+    blank: Blank,
+) -> Status
+    requires name { blank.name ≡ L.name }
+    requires parts { blank.parts ≡ L.parts }
+    requires some { 0 < blank.parts }
+{
+    let mut steps = Steps::<L>::start(blank);
+    orca_player::run(alloc, words, files, outs, &mut steps)
+}
+
+/// Adds a line for each send.
+fn tell_sends(alloc: Global, outs: &MemOuts, into: &mut String) -> Result<()> {
+    for index in 0..u64::MAX {
+        let Some((port, bytes)) = outs.handed_at(index) else {
+            break;
+        };
+        into.push_str("send ")?;
+        tell_bytes(alloc, into, port_name(port), bytes)?;
+    }
+    Ok(())
+}
+
+/// Adds the line of a file.
+fn tell_file(alloc: Global, files: &MemFiles, name: &str, into: &mut String) -> Result<()> {
+    let bytes = match files.file(name) {
+        Some(bytes) => write_bytes(alloc, bytes)?,
+        None => String::from_str(alloc, "none")?,
+    };
+    let line = format!(in alloc; "file {name} {bytes}\n")?;
+    into.push_str(line.as_str())?;
+    Ok(())
+}
+
+/// The name of a port.
+fn port_name(port: Port) -> &'static str {
+    match port {
+        Port::Midi => "midi",
+        Port::Udp => "udp",
+        Port::Osc => "osc",
+        Port::Text => "text",
+        Port::Fault => "fault",
+        Port::View => "view",
+    }
+}

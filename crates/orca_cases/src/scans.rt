@@ -1,0 +1,113 @@
+//! A frame alone, on the plain board.
+
+ghost use Rattle.std.specs.Prelude.{◌≡◌, ◌<◌};
+
+use crate::bytes::{tell_bytes, write_bytes};
+use crate::case::Case;
+use anyhow::{Result, bail, ensure};
+use orca_base::limits::{BASE, MAX_FILE_BYTES};
+use orca_base::{Event, Look, Mark, Marks, Now, Steps};
+use orca_board::PlainBoard;
+use orca_frame::frame_plain;
+use orca_grid::Grid;
+use orca_op::Bench;
+use std::alloc::Global;
+use std::marker::Brand;
+use std::sync::ledger::{Blank, Ledger};
+
+/// Adds the lines of the answer.
+pub(crate) fn tell(alloc: Global, case: &Case, now: Now, into: &mut String) -> Result<()> {
+    let [(_, text)] = case.files.as_slice() else {
+        bail!("a frame alone has one grid");
+    };
+    ensure!(text.len() <= MAX_FILE_BYTES, "the grid is too long");
+    let grid = Grid::read(alloc, text.as_slice())?;
+    let Ok(mut board) = PlainBoard::start(alloc, &grid) else {
+        bail!("memory was refused");
+    };
+    let vars = work::<Brand>(alloc, &mut board, now, Blank::new(1))?;
+    tell_places(alloc, &board, into)?;
+    tell_bytes(alloc, into, "vars", vars.as_slice())?;
+    for event in board.events() {
+        tell_event(alloc, *event, into)?;
+    }
+    Ok(())
+}
+
+/// Works the frame, and gives the variables after it.
+fn work<L: Ledger>(alloc: Global, board: &mut PlainBoard, now: Now, blank: Blank) -> Result<Vec<u8>>
+    requires name { blank.name ≡ L.name }
+    requires parts { blank.parts ≡ L.parts }
+    requires some { 0 < blank.parts }
+{
+    let mut steps = Steps::<L>::start(blank);
+    frame_plain(board, now, &mut steps);
+    let mut vars = Vec::new(alloc);
+    for index in 0..BASE {
+        vars.push(board.var(index, &mut steps).byte())?;
+    }
+    Ok(vars)
+}
+
+/// Adds the lines of the glyphs and the marks.
+fn tell_places<T: Look>(alloc: Global, look: &T, into: &mut String) -> Result<()> {
+    let mut cells = Vec::new(alloc);
+    let mut marks = Vec::new(alloc);
+    let dims = look.dims();
+    for index in 0..dims.cells() {
+        let place = dims.place(index);
+        cells.push(look.glyph_at(place).byte())?;
+        marks.push(mark_byte(look.marks_at(place)))?;
+    }
+    tell_bytes(alloc, into, "cells", cells.as_slice())?;
+    tell_bytes(alloc, into, "marks", marks.as_slice())
+}
+
+/// A set of marks as a byte.
+fn mark_byte(marks: Marks) -> u8 {
+    mark_bit(marks, Mark::Lock, 1)
+        | mark_bit(marks, Mark::Input, 2)
+        | mark_bit(marks, Mark::Param, 4)
+        | mark_bit(marks, Mark::Output, 8)
+        | mark_bit(marks, Mark::Sleep, 16)
+}
+
+/// The bit, where the mark is in the set.
+fn mark_bit(marks: Marks, mark: Mark, bit: u8) -> u8 {
+    if marks.has(mark) { bit } else { 0 }
+}
+
+/// Adds the line of an event.
+fn tell_event(alloc: Global, event: Event, into: &mut String) -> Result<()> {
+    let line = match event {
+        Event::Note {
+            channel,
+            key,
+            velocity,
+            length,
+            mono,
+        } => {
+            let mono = u8::from(mono);
+            format!(in alloc; "event note {channel} {key} {velocity} {length} {mono}\n")?
+        }
+        Event::Control {
+            channel,
+            control,
+            value,
+        } => format!(in alloc; "event control {channel} {control} {value}\n")?,
+        Event::Bend { channel, lsb, msb } => {
+            format!(in alloc; "event bend {channel} {lsb} {msb}\n")?
+        }
+        Event::Udp { text } => {
+            let text = write_bytes(alloc, text.as_slice())?;
+            format!(in alloc; "event udp {text}\n")?
+        }
+        Event::Osc { path, values } => {
+            let path = write_bytes(alloc, &[path.byte()])?;
+            let values = write_bytes(alloc, values.as_slice())?;
+            format!(in alloc; "event osc {path} {values}\n")?
+        }
+    };
+    into.push_str(line.as_str())?;
+    Ok(())
+}
