@@ -1,1 +1,2 @@
 pub mod GridText
+pub mod Packed

@@ -1,9 +1,11 @@
 //! Reading a grid text.
 
-ghost use Rattle.std.specs.Prelude.{◌≡◌, ◌≢◌, ◌+◌, ◌*◌, ◌^◌, ◌<◌, Some, None, Ok, Err, IfOk, IfErr, IfSome, IsOk, OnOk, IsOkUnless, length, vec_len, if◌then◌else◌};
+ghost use Rattle.std.specs.Prelude.{◌≡◌, ◌≢◌, ◌+◌, ◌*◌, ◌^◌, ◌<◌, [], false, Some, None, Ok, Err, IfOk, IfErr, IfSome, IsOk, OnOk, IsOkUnless, length, vec_len, if◌then◌else◌};
 ghost use Rattle.std.specs.Str.Lines.{lines};
-ghost use Rattle.orca_grid.specs.GridText.{row_at, column_at, is_cell as is_cell_byte, is_bad as is_bad_at, offence as offence_at, first_offence, glyph_of, widest, sheet_of, grid_text};
+ghost use Rattle.orca_grid.specs.GridText.{row_at, column_at, is_cell as is_cell_byte, is_bad as is_bad_at, offence as offence_at, glyph_of, widest, sheet_of, grid_text};
+ghost use Rattle.orca_grid.specs.Packed.{Packs};
 
+use crate::rows::Rows;
 use crate::{Grid, GridRefusal};
 use orca_base::limits::{MAX_COLUMNS, MAX_ROWS};
 use orca_base::{Dims, Glyph, Memory};
@@ -22,21 +24,22 @@ impl Grid {
         ensures only_memory { OnOk (grid_text bytes.now) (IsOkUnless result GridRefusal.Memory) }
         ensures memory { result ≡ Err GridRefusal.Memory → IsOk (grid_text bytes.now) }
     {
-        let dims = measure(bytes)?;
-        let cells = cells_of(alloc, bytes, dims)?;
+        let (dims, rows) = rows_of(alloc, bytes)?;
+        let cells = rows.filled(dims)?;
         Ok(Grid::of(dims, cells))
     }
 }
 
-/// The size of a text's grid, or why it is refused.
-fn measure(bytes: &[u8]) -> Result<Dims, GridRefusal>
+/// The rows of a text and the size of its grid, or why it is refused.
+fn rows_of(alloc: Global, bytes: &[u8]) -> Result<(Dims, Rows), GridRefusal>
     requires { length bytes.now < 2 ^ 32 }
-    ensures clean { OnOk result (first_offence bytes.now (length bytes.now) ≡ None) }
     ensures grid { OnOk result (grid_text bytes.now ≡ Ok (sheet_of (lines bytes.now))) }
-    ensures size { IfOk result (λ dims. dims ≡ record { h = length (lines bytes.now); w = widest (lines bytes.now) }) }
+    ensures size { IfOk result (λ r. r.0 ≡ record { h = length (lines bytes.now); w = widest (lines bytes.now) }) }
+    ensures rows { IfOk result (λ r. r.1.lost ≡ false → Packs (lines bytes.now) [] r.1.lengths.items r.1.cells.items) }
     ensures refused { IfErr result (λ refusal. grid_text bytes.now ≡ Err refusal) }
     ensures named { IfErr result (λ refusal. refusal ≢ GridRefusal.Memory) }
 {
+    let mut rows = Rows::new(alloc);
     let mut ended = 0;
     let mut column = 0;
     let mut width = 0;
@@ -45,16 +48,21 @@ fn measure(bytes: &[u8]) -> Result<Dims, GridRefusal>
             return Err(refusal);
         }
         if *byte == b'\n' {
+            rows.end(column);
             width = column.max(width);
             ended += 1;
             column = 0;
-        } else if is_cell(*byte) {
+        } else if let Some(glyph) = cell(*byte) {
+            rows.add(glyph);
             column += 1;
         }
     }
-    let height = if column > 0 { ended + 1 } else { ended };
-    match Dims::of(u32::from(height), u32::from(column.max(width))) {
-        Some(dims) => Ok(dims),
+    if column > 0 {
+        rows.end(column);
+        ended += 1;
+    }
+    match Dims::of(u32::from(ended), u32::from(column.max(width))) {
+        Some(dims) => Ok((dims, rows)),
         None => Err(GridRefusal::NoCells),
     }
 }
@@ -102,28 +110,6 @@ fn is_cell(byte: u8) -> bool
     ensures { result ≡ is_cell_byte byte }
 {
     matches!(byte, b' '..=b'~')
-}
-
-/// The cells of a text in which no byte offends, each row filled to the width of the grid.
-fn cells_of(alloc: Global, bytes: &[u8], dims: Dims) -> Result<Vec<Glyph>, Memory>
-    requires clean { first_offence bytes.now (length bytes.now) ≡ None }
-    requires size { dims ≡ record { h = length (lines bytes.now); w = widest (lines bytes.now) } }
-    ensures cells { IfOk result (λ cells. cells.items ≡ (sheet_of (lines bytes.now)).cells) }
-    ensures whole { IfOk result (λ cells. vec_len cells ≡ dims.h * dims.w) }
-{
-    let width = usize::from(dims.w);
-    let mut cells = Vec::with_capacity(alloc, usize::from(dims.h) * width)?;
-    let mut row_end = width;
-    for byte in bytes {
-        if *byte == b'\n' {
-            cells.resize(row_end, Glyph::EMPTY)?;
-            row_end += width;
-        } else if let Some(glyph) = cell(*byte) {
-            cells.push(glyph)?;
-        }
-    }
-    cells.resize(usize::from(dims.h) * width, Glyph::EMPTY)?;
-    Ok(cells)
 }
 
 /// The glyph that a cell byte is read as.
