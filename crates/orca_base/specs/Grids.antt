@@ -1,6 +1,6 @@
 -- Sizes, places and spots, and the cells of a grid.
-use Rattle.std.specs.Prelude.{ℕ, ◌+◌, ◌*◌, ◌/◌, ◌%◌, ◌<◌, ◌≤◌, ◌≡◌, ℤ, pos, negsuc, ◌+ℤ◌, ◌&&◌, nat_lt, if◌then◌else◌, Option, Some, None, List, length}
-use Rattle.orca_base.specs.declared.limits.TheConstants.{MAX_ROWS, MAX_COLUMNS}
+use Rattle.std.specs.Prelude.{ℕ, ◌+◌, ◌*◌, ◌/◌, ◌%◌, ◌<◌, ◌≤◌, ◌≡◌, ℤ, pos, negsuc, neg_ℤ, ◌+ℤ◌, ◌≤ℤ◌, ◌&&◌, nat_lt, if◌then◌else◌, Option, Some, None, List, length}
+use Rattle.orca_base.specs.declared.limits.TheConstants.{MAX_ROWS, MAX_COLUMNS, MAX_REACH}
 use Rattle.orca_base.specs.declared.place.Place.{Place}
 use Rattle.orca_base.specs.declared.place.Spot.{Spot}
 
@@ -37,6 +37,10 @@ place_at d (negsuc y) x = None
 -- the place of a spot, where it lies in the grid
 abbrev pub place_in : Size → Spot → Option Place
 place_in d spot = place_at d spot.y spot.x
+
+-- how far a deed may reach in rows or columns, to either side
+abbrev pub IsReach : ℤ → Type 0
+IsReach d = (neg_ℤ MAX_REACH ≤ℤ d) × (d ≤ℤ MAX_REACH)
 
 -- the spot dy rows below a place and dx columns to its right
 abbrev pub off : Place → ℤ → ℤ → Spot

@@ -6,6 +6,7 @@ mod dims;
 mod errors;
 mod event;
 mod glyph;
+mod inline;
 pub mod limits;
 mod look;
 mod marks;
@@ -14,14 +15,13 @@ mod note;
 mod now;
 mod place;
 mod port;
-mod short;
 mod steps;
-mod wire;
 
 pub use dims::Dims;
 pub use errors::{Failed, Memory};
 pub use event::Event;
 pub use glyph::Glyph;
+pub use inline::{Inline, Short, Wire};
 pub use look::Look;
 pub use marks::{Mark, Marks};
 pub use message::Message;
@@ -29,9 +29,7 @@ pub use note::Note;
 pub use now::Now;
 pub use place::{Place, Spot};
 pub use port::Port;
-pub use short::Short;
 pub use steps::Steps;
-pub use wire::Wire;
 
 #[cfg(test)]
 mod tests;

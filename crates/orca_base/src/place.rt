@@ -1,6 +1,4 @@
-ghost use Rattle.std.specs.Prelude.{◌≡◌, pos, negsuc, ◌≤ℤ◌};
-
-use crate::limits::MAX_REACH;
+ghost use Rattle.std.specs.Prelude.{◌≡◌};
 
 /// A place of a grid, counted from 0.
 #[derive(Clone, Copy, Debug, PartialEq, Eq)]
@@ -21,11 +19,11 @@ pub struct Spot {
 }
 
 impl Place {
-    ghost use Rattle.orca_base.specs.Grids.{off};
+    ghost use Rattle.orca_base.specs.Grids.{off, IsReach};
 
-    /// The spot `dy` rows below and `dx` columns to the right.
+    /// The spot `dy` rows below and `dx` columns to the right, both from -65,536 to 65,536.
     pub fn off(self, dy: i32, dx: i32) -> Spot
-        requires { ((negsuc 65535 ≤ℤ dy) × (dy ≤ℤ pos 65536)) × ((negsuc 65535 ≤ℤ dx) × (dx ≤ℤ pos 65536)) }
+        requires { IsReach dy × IsReach dx }
         ensures { result ≡ off self dy dx }
     {
         Spot {

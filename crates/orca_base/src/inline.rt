@@ -1,46 +1,51 @@
 ghost use Rattle.std.specs.Prelude.{◌≡◌, ◌<◌, ◌≤◌, [], ◌∷◌, ◌++◌, length};
 
-use crate::limits::SHORT_BYTES;
+use crate::limits::{SHORT_BYTES, WIRE_BYTES};
 use std::marker::Model;
 
-/// Up to 36 bytes, kept inline. A contract sees the list of the bytes.
+/// Up to `ROOM` bytes, kept inline. A contract sees the list of the bytes.
 #[derive(Clone, Copy, Debug, PartialEq, Eq)]
-pub struct Short {
-    bytes: [u8; SHORT_BYTES],
+pub struct Inline<const ROOM: usize> {
+    bytes: [u8; ROOM],
     len: usize,
 }
 
-impl Model for Short {
+/// Up to 36 bytes: what an event carries.
+pub type Short = Inline<SHORT_BYTES>;
+
+/// Up to 192 bytes: what a message is on its port.
+pub type Wire = Inline<WIRE_BYTES>;
+
+impl<const ROOM: usize> Model for Inline<ROOM> {
     ghost use Rattle.std.specs.Prelude.{ℕ, List, length, take};
     ghost use Rattle.std.proofs.Common.{ap};
     ghost use Rattle.orca_base.specs.Inline.{IsInline, filled, both-inline};
-    ghost use Rattle.orca_base.specs.declared.limits.TheConstants.{SHORT_BYTES};
 
     ghost Value = { List ℕ };
 
     ghost view = { λ s. take s.len s.bytes };
 
-    ghost invariant = { λ s. IsInline SHORT_BYTES s.bytes s.len };
+    ghost invariant = { λ s. IsInline ROOM s.bytes s.len };
 
-    ghost inverse = { λ s. record { bytes = filled SHORT_BYTES s; len = length s } };
+    ghost inverse = { λ s. record { bytes = filled ROOM s; len = length s } };
 
-    ghost inverse_ok = { λ s h. ap (λ (p : List ℕ × ℕ). record { bytes = p.0; len = p.1 }) (both-inline SHORT_BYTES s.bytes s.len h) };
+    ghost inverse_ok = { λ s h. ap (λ (p : List ℕ × ℕ). record { bytes = p.0; len = p.1 }) (both-inline ROOM s.bytes s.len h) };
 }
 
-impl Short {
+impl<const ROOM: usize> Inline<ROOM> {
     /// No bytes.
-    pub fn empty() -> Short
+    pub fn empty() -> Self
         ensures { result ≡ [] }
     {
-        Short {
-            bytes: [0; SHORT_BYTES],
+        Inline {
+            bytes: [0; ROOM],
             len: 0,
         }
     }
 
     /// Adds a byte at the end, where one more fits.
     pub fn push(&mut self, byte: u8)
-        requires { length self.old < SHORT_BYTES }
+        requires { length self.old < ROOM }
         ensures { self.new ≡ self.old ++ byte ∷ [] }
     {
         self.bytes[self.len] = byte;
@@ -50,7 +55,7 @@ impl Short {
     /// The bytes.
     pub fn as_slice(&self) -> &[u8]
         ensures bytes { result.now ≡ self.now }
-        ensures short { length result.now ≤ SHORT_BYTES }
+        ensures short { length result.now ≤ ROOM }
     {
         &self.bytes[..self.len]
     }
