@@ -1,1 +1,1 @@
-pub mod MidiBytes
+pub mod VoiceMessage

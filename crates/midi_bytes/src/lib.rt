@@ -3,7 +3,8 @@
 #![tactic(auto)]
 
 ghost use Rattle.std.specs.Prelude.{◌≡◌, ◌≤◌};
-ghost use Rattle.midi_bytes.specs.MidiBytes.{IsVoiceMessage, bend_bytes, control_bytes, note_off_bytes, note_on_bytes};
+ghost use Rattle.midi_bytes.specs.VoiceMessage.{IsVoiceMessage};
+ghost use Rattle.orca_base.specs.MidiBytes.{bend_bytes, control_bytes, note_off_bytes, note_on_bytes};
 
 use orca_base::limits::{MAX_CHANNEL, MAX_DATA};
 

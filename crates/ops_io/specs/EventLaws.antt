@@ -8,11 +8,11 @@ use Rattle.orca_base.specs.declared.event.Event.{Event}
 use Rattle.orca_base.specs.declared.limits.TheConstants.{BASE, MIN_VELOCITY, MAX_CHANNEL, MAX_DATA, MAX_TEXT, MAX_DEEDS}
 use Rattle.orca_base.specs.declared.place.Place.{Place}
 use Rattle.orca_base.specs.EventRanges.{IsInRange}
-use Rattle.orca_base.specs.Glyphs.{IsGlyph, empty, value, note_number}
+use Rattle.orca_base.specs.Glyphs.{IsGlyph, empty, value, note_number, AreGlyphs}
 use Rattle.orca_base.specs.GlyphFacts.{value-below}
 use Rattle.orca_op.specs.State.{State, IsState, across, has_bang}
 use Rattle.orca_op.specs.Deeds.{Deed, Mark, Write, Set, Emit, input_at, param_at, lock_at}
-use Rattle.orca_op.specs.Laws.{IsLawful, Every, WritesGlyph, EmitsInRange, IsCovered, AreGlyphs, is_emit}
+use Rattle.orca_op.specs.Laws.{IsLawful, Every, WritesGlyph, EmitsInRange, IsCovered, is_emit}
 use Rattle.orca_op.specs.LawFacts.{IsGlyph-peek, length-each, Every-append, Every-each, count_by-append}
 use Rattle.orca_op.specs.FirstFacts.{first_where-range}
 use Rattle.orca_op.specs.MotionRules.{locked}

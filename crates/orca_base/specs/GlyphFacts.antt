@@ -9,10 +9,6 @@ pub value-below : (g : ℕ) → value g < BASE
 unfolding value
 value-below g = grind (arith, nat_tests)
 
-pub IsGlyph-from_value : (n : ℕ) → n < BASE → IsGlyph (from_value n)
-unfolding from_value
-IsGlyph-from_value n below = (grind (arith, nat_tests), grind (arith, nat_tests))
-
 pub IsGlyph-cased : (n by : ℕ) → n < BASE → IsGlyph (cased n by)
 unfolding cased from_value
 IsGlyph-cased n by below = (grind (arith, nat_tests), grind (arith, nat_tests))

@@ -1,10 +1,18 @@
 -- The glyph tables: a glyph is its byte. Letters and base 36 are those of the Orca operator reference.
 use Rattle.std.specs.Prelude.{ℕ, ◌+◌, ◌-◌, ◌*◌, ◌/◌, ◌%◌, ◌≤◌, Bool, ◌&&◌, ◌||◌, ◌==◌, nat_lt, nat_le, if◌then◌else◌, List, [], ◌∷◌, Option, Some, None, slice_index}
-use Rattle.std.specs.List.{list_any}
+use Rattle.std.specs.List.{list_any, AllByRecursion}
 
 -- the printable bytes of ASCII, without the space
 abbrev pub IsGlyph : ℕ → Type 0
 IsGlyph g = (33 ≤ g) × (g ≤ 126)
+
+-- the same as a test
+abbrev pub is_glyph : ℕ → Bool
+is_glyph g = nat_le 33 g && nat_le g 126
+
+-- each of a list is a glyph
+abbrev pub AreGlyphs : List ℕ → Type 0
+AreGlyphs glyphs = AllByRecursion IsGlyph glyphs
 
 -- `.`, the glyph of an empty cell
 abbrev pub empty : ℕ

@@ -1,7 +1,9 @@
+pub mod EventRanges
+pub mod GlyphFacts
 pub mod Glyphs
 pub mod Grids
 pub mod Inline
 pub mod MarkSet
+pub mod MidiBytes
+pub mod Ports
 pub mod Ranges
-pub mod EventRanges
-pub mod GlyphFacts

@@ -20,14 +20,31 @@ IsPlayable (event.Bend channel lsb msb) = AreInRange channel lsb msb
 IsPlayable (event.Udp text) = Unit {0}
 IsPlayable (event.Osc path values) = Unit {0}
 
--- a message whose channel and data are in range, an On having at least the least velocity
+-- a message whose channel and data are in range
+abbrev pub HasDataInRange : Message → Type 0
+HasDataInRange (message.On channel key velocity) = AreInRange channel key velocity
+HasDataInRange (message.Off channel key) = AreInRange channel key 0
+HasDataInRange (message.Control channel control value) = AreInRange channel control value
+HasDataInRange (message.Bend channel lsb msb) = AreInRange channel lsb msb
+HasDataInRange (message.Udp text) = Unit {0}
+HasDataInRange (message.Osc path values) = Unit {0}
+
+-- the same, an On having at least the least velocity
 abbrev pub IsSendable : Message → Type 0
-IsSendable (message.On channel key velocity) = AreInRange channel key velocity × (MIN_VELOCITY ≤ velocity)
-IsSendable (message.Off channel key) = AreInRange channel key 0
-IsSendable (message.Control channel control value) = AreInRange channel control value
-IsSendable (message.Bend channel lsb msb) = AreInRange channel lsb msb
+IsSendable (message.On channel key velocity) = HasDataInRange (message.On channel key velocity) × (MIN_VELOCITY ≤ velocity)
+IsSendable (message.Off channel key) = HasDataInRange (message.Off channel key)
+IsSendable (message.Control channel control value) = HasDataInRange (message.Control channel control value)
+IsSendable (message.Bend channel lsb msb) = HasDataInRange (message.Bend channel lsb msb)
 IsSendable (message.Udp text) = Unit {0}
 IsSendable (message.Osc path values) = Unit {0}
+
+pub HasDataInRange-sendable : (m : Message) → IsSendable m → HasDataInRange m
+HasDataInRange-sendable (message.On channel key velocity) range = range.0
+HasDataInRange-sendable (message.Off channel key) range = range
+HasDataInRange-sendable (message.Control channel control value) range = range
+HasDataInRange-sendable (message.Bend channel lsb msb) range = range
+HasDataInRange-sendable (message.Udp text) range = tt
+HasDataInRange-sendable (message.Osc path values) range = tt
 
 -- an event that has no more values than an OSC message
 abbrev pub HasFewValues : Event → Type 0

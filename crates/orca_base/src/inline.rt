@@ -1,4 +1,4 @@
-ghost use Rattle.std.specs.Prelude.{◌≡◌, ◌<◌, ◌≤◌, [], ◌∷◌, ◌++◌, length};
+ghost use Rattle.std.specs.Prelude.{◌≡◌, ◌+◌, ◌<◌, ◌≤◌, [], ◌∷◌, ◌++◌, length};
 
 use crate::limits::{SHORT_BYTES, WIRE_BYTES};
 use std::marker::Model;
@@ -10,10 +10,10 @@ pub struct Inline<const ROOM: usize> {
     len: usize,
 }
 
-/// Up to 36 bytes: what an event carries.
+/// Up to [`SHORT_BYTES`] bytes: a text or values that an event carries.
 pub type Short = Inline<SHORT_BYTES>;
 
-/// Up to 192 bytes: what a message is on its port.
+/// Up to [`WIRE_BYTES`] bytes: the bytes of one message.
 pub type Wire = Inline<WIRE_BYTES>;
 
 impl<const ROOM: usize> Model for Inline<ROOM> {
@@ -50,6 +50,16 @@ impl<const ROOM: usize> Inline<ROOM> {
     {
         self.bytes[self.len] = byte;
         self.len += 1;
+    }
+
+    /// Adds bytes at the end, where they fit.
+    pub fn extend(&mut self, bytes: &[u8])
+        requires { length self.old + length bytes.now ≤ ROOM }
+        ensures { self.new ≡ self.old ++ bytes.now }
+    {
+        for byte in bytes {
+            self.push(*byte);
+        }
     }
 
     /// The bytes.

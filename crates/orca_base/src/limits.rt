@@ -7,16 +7,13 @@ pub const MAX_ROWS: u16 = 256;
 pub const MAX_COLUMNS: u16 = 256;
 
 /// The most cells of a grid.
-pub const MAX_CELLS: usize = 65_536;
+pub const MAX_CELLS: usize = MAX_ROWS as usize * MAX_COLUMNS as usize;
 
 /// How many columns one word of live bits stands for: one for each bit.
 pub const WORD_COLUMNS: u16 = 64;
 
 /// The number of values of a base-36 glyph, and of the variables of a frame.
 pub const BASE: u8 = 36;
-
-/// The most bytes of a [`Short`](crate::Short).
-pub const SHORT_BYTES: usize = 36;
 
 /// The most bytes of a [`Wire`](crate::Wire).
 pub const WIRE_BYTES: usize = 192;
@@ -28,7 +25,10 @@ pub const MAX_CHANNEL: u8 = 15;
 pub const MAX_DATA: u8 = 127;
 
 /// The most values of an OSC message: the greatest base-36 value.
-pub const MAX_VALUES: usize = 35;
+pub const MAX_VALUES: usize = BASE as usize - 1;
+
+/// The most bytes of a [`Short`](crate::Short): a comma and the tag of each value of an OSC message.
+pub const SHORT_BYTES: usize = 1 + MAX_VALUES;
 
 /// The greatest octave of a note, from 0.
 pub const MAX_OCTAVE: u8 = 9;
@@ -52,6 +52,9 @@ pub const JUMP_REACH: u16 = 256;
 /// The most bytes of a file that is loaded.
 pub const MAX_FILE_BYTES: usize = 16_777_216;
 
+/// The most decimal digits of a number, in words and in scripts.
+pub const MAX_DIGITS: usize = 10;
+
 /// The least velocity of a note that starts. A velocity of 0 would end it (MIDI 1.0, note on).
 pub const MIN_VELOCITY: u8 = 7;
 
@@ -65,7 +68,7 @@ pub const MAX_TICKS: u64 = 560;
 pub const MAX_NOTES: usize = (MAX_CHANNEL as usize + 1) * (MAX_DATA as usize + 1);
 
 /// The most events of a frame: one for each cell.
-pub const MAX_EVENTS: usize = MAX_ROWS as usize * MAX_COLUMNS as usize;
+pub const MAX_EVENTS: usize = MAX_CELLS;
 
 /// The most messages of a frame: the end of each note, and two for each event.
 pub const MAX_MESSAGES: usize = MAX_NOTES + 2 * MAX_EVENTS;

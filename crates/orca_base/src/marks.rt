@@ -6,15 +6,16 @@ use std::marker::Model;
 /// What an operator says of a place for the rest of the frame.
 #[derive(Clone, Copy, Debug, PartialEq, Eq)]
 pub enum Mark {
-    /// The place holds a value, and is not evaluated.
+    /// The place is not evaluated in this frame.
     Lock,
     /// An operator reads the place.
     Input,
-    /// An operator reads the place as a parameter, to its left.
+    /// An operator reads the place as a parameter.
     Param,
-    /// An operator writes the place.
+    /// An operator writes the place, or sends from it.
     Output,
-    /// The place was written in this frame, and is not evaluated before the next.
+    /// The place is not evaluated before the next frame: it was written from afar, or lies within a chain
+    /// of jumpers.
     Sleep,
 }
 

@@ -1,4 +1,4 @@
-/// What an operator knows beside the grid.
+/// What an operator knows besides the grid.
 #[derive(Clone, Copy, Debug, PartialEq, Eq)]
 pub struct Now {
     /// The number of the frame, counted from 0.

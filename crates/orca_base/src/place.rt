@@ -21,7 +21,8 @@ pub struct Spot {
 impl Place {
     ghost use Rattle.orca_base.specs.Grids.{off, IsReach};
 
-    /// The spot `dy` rows below and `dx` columns to the right, both from -65,536 to 65,536.
+    /// The spot `dy` rows below and `dx` columns to the right. Neither reaches further than
+    /// [`MAX_REACH`](crate::limits::MAX_REACH), to either side.
     pub fn off(self, dy: i32, dx: i32) -> Spot
         requires { IsReach dy × IsReach dx }
         ensures { result ≡ off self dy dx }

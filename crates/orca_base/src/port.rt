@@ -1,3 +1,6 @@
+ghost use Rattle.std.specs.Prelude.{◌≡◌};
+ghost use Rattle.orca_base.specs.Ports.{port_name};
+
 /// Where the bytes of a run go.
 #[derive(Clone, Copy, Debug, PartialEq, Eq)]
 pub enum Port {
@@ -9,8 +12,24 @@ pub enum Port {
     Osc,
     /// The printed text, on standard output.
     Text,
-    /// The line of a status that is no success, on standard error.
+    /// The line of a status other than success, on standard error.
     Fault,
     /// Paintings of the terminal.
     View,
+}
+
+impl Port {
+    /// The name of the port in printed lines.
+    pub fn name(self) -> &'static str
+        ensures { result.now ≡ port_name self }
+    {
+        match self {
+            Port::Midi => "midi",
+            Port::Udp => "udp",
+            Port::Osc => "osc",
+            Port::Text => "text",
+            Port::Fault => "fault",
+            Port::View => "view",
+        }
+    }
 }

@@ -3,7 +3,7 @@ use Rattle.std.specs.Prelude.{ℕ, ◌≤◌}
 use Rattle.orca_base.specs.declared.limits.TheConstants.{MAX_CELLS}
 use Rattle.orca_board.specs.declared.plain_board.PlainBoard.TheInside.{Inside}
 use Rattle.orca_op.specs.Desk.{Desk}
-use Rattle.orca_op.specs.Laws.{AreGlyphs}
+use Rattle.orca_base.specs.Glyphs.{AreGlyphs}
 use Rattle.orca_op.specs.State.{IsState}
 
 abbrev pub desk_of : Inside → Desk

@@ -7,7 +7,8 @@ use Rattle.orca_base.specs.declared.place.Place.{Place}
 use Rattle.orca_base.specs.EventRanges.{IsInRange}
 use Rattle.orca_base.specs.Grids.{Size, Sheet, IsSheet, IsInside, place_of}
 use Rattle.orca_op.specs.Desk.{Desk, all_done, residue}
-use Rattle.orca_op.specs.Laws.{IsLawful, AreGlyphs}
+use Rattle.orca_base.specs.Glyphs.{AreGlyphs}
+use Rattle.orca_op.specs.Laws.{IsLawful}
 use Rattle.orca_op.specs.State.{State, IsState, sheet_of}
 use Rattle.orca_op.specs.Rules.{rule}
 use Rattle.orca_op.specs.Scan.{deeds_by, scanned_by, scan, written, busy, places}

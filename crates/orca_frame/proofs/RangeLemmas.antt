@@ -8,12 +8,12 @@ use Rattle.orca_base.specs.declared.limits.TheConstants.{BASE}
 use Rattle.orca_base.specs.declared.now.Now.{Now}
 use Rattle.orca_base.specs.declared.place.Place.{Place}
 use Rattle.orca_base.specs.EventRanges.{IsInRange}
-use Rattle.orca_base.specs.Glyphs.{IsGlyph, empty}
+use Rattle.orca_base.specs.Glyphs.{IsGlyph, empty, AreGlyphs}
 use Rattle.orca_base.specs.Grids.{Size, IsSize, Sheet, IsSheet, IsInside, place_of, place_in, index_of}
 use Rattle.orca_base.specs.MarkSet.{MarkSet, no_marks, all_marks}
 use Rattle.orca_op.specs.State.{State, IsState, glyph_at, marks_at, fresh}
 use Rattle.orca_op.specs.Deeds.{Deed, Mark, Write, Set, Emit, after, after_all, marked_at, written_at}
-use Rattle.orca_op.specs.Laws.{IsLawful, Every, WritesGlyph, EmitsInRange, AreGlyphs}
+use Rattle.orca_op.specs.Laws.{IsLawful, Every, WritesGlyph, EmitsInRange}
 use Rattle.orca_op.specs.LawFacts.{AreGlyphs-set, IsGlyph-index, index-below, in_range-after_all}
 use Rattle.orca_op.specs.Scan.{Rules, deeds_by, is_idle, scanned_by}
 use Rattle.orca_frame.proofs.DeskLemmas.{dims_scanned}

@@ -9,12 +9,12 @@ use Rattle.std.proofs.lemmas.List.Sums.{sum_by-append, sum_by-cons}
 use Rattle.orca_base.specs.declared.limits.TheConstants.{BASE}
 use Rattle.orca_base.specs.declared.place.Spot.{Spot}
 use Rattle.orca_base.specs.EventRanges.{IsInRange}
-use Rattle.orca_base.specs.Glyphs.{IsGlyph}
+use Rattle.orca_base.specs.Glyphs.{IsGlyph, AreGlyphs}
 use Rattle.orca_base.specs.Grids.{place_at}
 use Rattle.orca_op.specs.State.{State, IsState, peek, var_at, glyph_in}
 use Rattle.orca_op.specs.Deeds.{Deed, Mark, Write, Set, Emit, after, after_all, each}
 use Rattle.orca_op.specs.Desk.{Desk, done, all_done}
-use Rattle.orca_op.specs.Laws.{is_emit, Every, Some_deed, EmitsInRange, AreGlyphs}
+use Rattle.orca_op.specs.Laws.{is_emit, Every, Some_deed, EmitsInRange}
 
 -- a number read from a list of glyphs is a glyph, or 0 past the end
 pub IsGlyph-index : (xs : List ℕ) (i : ℕ) → AreGlyphs xs → i < length xs → IsGlyph (slice_index xs i)

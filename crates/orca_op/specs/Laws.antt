@@ -5,7 +5,7 @@ use Rattle.orca_base.specs.declared.now.Now.{Now}
 use Rattle.orca_base.specs.declared.place.Place.{Place}
 use Rattle.orca_base.specs.declared.place.Spot.{Spot}
 use Rattle.orca_base.specs.EventRanges.{IsInRange}
-use Rattle.orca_base.specs.Glyphs.{IsGlyph}
+use Rattle.orca_base.specs.Glyphs.{IsGlyph, AreGlyphs}
 use Rattle.orca_op.specs.State.{State, IsState, own}
 use Rattle.orca_op.specs.Deeds.{Deed, Mark, Write, Set, Emit}
 
@@ -52,11 +52,6 @@ IsCovered at deeds (Mark spot marks) = Unit {0}
 IsCovered at deeds (Write spot glyph) = (spot ≡ own at) ⊎ Some_deed (Covers spot) deeds
 IsCovered at deeds (Set variable glyph) = Unit {0}
 IsCovered at deeds (Emit event) = Unit {0}
-
--- all glyphs of a list are glyphs
-abbrev pub AreGlyphs : List ℕ → Type 0
-AreGlyphs [] = Unit {0}
-AreGlyphs (glyph ∷ glyphs) = IsGlyph glyph × AreGlyphs glyphs
 
 -- the laws of a rule
 pub record IsLawful (rule : ℕ → State → Place → Now → List Deed) : Type 0 where

@@ -2,7 +2,7 @@ ghost use Rattle.std.specs.Prelude.{◌≡◌, ◌+◌, ◌*◌, ◌<◌, length
 ghost use Rattle.orca_op.specs.State.{IsState, peek, marked, var_at};
 ghost use Rattle.orca_op.specs.Deeds.{Mark as mark_deed, Write as write_deed, Set as set_deed, Emit as emit_deed, input_at, param_at, output_at, far_at, lock_at, sleep_at, show_at};
 ghost use Rattle.orca_op.specs.Desk.{Desk, done, begun, residue};
-ghost use Rattle.orca_op.specs.Laws.{AreGlyphs};
+ghost use Rattle.orca_base.specs.Glyphs.{AreGlyphs};
 
 use orca_base::limits::BASE;
 use orca_base::{Dims, Event, Glyph, Mark, Marks, Spot, Steps};

@@ -1,4 +1,4 @@
-ghost use Rattle.orca_op.specs.Laws.{AreGlyphs};
+ghost use Rattle.orca_base.specs.Glyphs.{AreGlyphs};
 
 use orca_base::Glyph;
 

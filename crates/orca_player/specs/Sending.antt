@@ -4,7 +4,7 @@ use Rattle.std.specs.Option.{option_map}
 use Rattle.orca_base.specs.declared.message.Message.{Message}
 use Rattle.orca_base.specs.declared.message.Message.TheVariants as message
 use Rattle.orca_base.specs.declared.port.Port.TheVariants as port
-use Rattle.midi_bytes.specs.MidiBytes.{note_on_bytes, note_off_bytes, control_bytes, bend_bytes}
+use Rattle.orca_base.specs.MidiBytes.{note_on_bytes, note_off_bytes, control_bytes, bend_bytes}
 use Rattle.osc_bytes.specs.OscBytes.{message_bytes}
 use Rattle.orca_player.specs.Outside.{Sent, Rose}
 

@@ -49,7 +49,7 @@ fn push_string(text: &[u8], into: &mut Wire)
     ensures string { into.new ≡ into.old ++ osc_string text.now }
     ensures size { length into.new ≡ length into.old + (length text.now / 4 + 1) * 4 }
 {
-    push_bytes(text, into);
+    into.extend(text);
     push_zeros(4 - text.len() % 4, into);
 }
 
@@ -72,16 +72,6 @@ fn push_integers(values: &[u8], into: &mut Wire)
     for value in values {
         let mut bytes = [0; 4];
         BigEndian::write_u32(&mut bytes, u32::from(*value));
-        push_bytes(&bytes, into);
-    }
-}
-
-/// Adds the bytes in order.
-fn push_bytes(bytes: &[u8], into: &mut Wire)
-    requires { length into.old + length bytes.now ≤ WIRE_BYTES }
-    ensures { into.new ≡ into.old ++ bytes.now }
-{
-    for byte in bytes {
-        into.push(*byte);
+        into.extend(&bytes);
     }
 }

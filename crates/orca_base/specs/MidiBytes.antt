@@ -1,8 +1,7 @@
 -- The channel voice messages of MIDI 1.0 (MIDI 1.0 Detailed Specification, "Channel Voice Messages"):
 -- a status byte, whose high four bits are the kind and whose low four bits are the channel, and then two
 -- data bytes of seven bits.
-use Rattle.std.specs.Prelude.{ℕ, ◌+◌, ◌*◌, ◌≡◌, ◌≤◌, ◌<◌, List, [], ◌∷◌, length, slice_index}
-use Rattle.orca_base.specs.declared.limits.TheConstants.{MAX_DATA}
+use Rattle.std.specs.Prelude.{ℕ, ◌+◌, ◌*◌, List, [], ◌∷◌}
 
 -- the status byte of a kind on a channel
 abbrev pub status : ℕ → ℕ → ℕ
@@ -27,12 +26,3 @@ control_bytes channel number value = voice_message 11 channel number value
 -- Pitch Bend Change, kind 14: the low seven bits of the bend, and then the high seven
 abbrev pub bend_bytes : ℕ → ℕ → ℕ → List ℕ
 bend_bytes channel lsb msb = voice_message 14 channel lsb msb
-
--- A receiver tells the bytes apart: the first has its high bit set, and the two behind it have not. A
--- first byte from 240 on would begin a system message.
-pub record IsVoiceMessage (bytes : List ℕ) : Type 0 where
-  pub three : length bytes ≡ 3
-  pub first : MAX_DATA < slice_index bytes 0
-  pub no_system : slice_index bytes 0 < 240
-  pub second : slice_index bytes 1 ≤ MAX_DATA
-  pub third : slice_index bytes 2 ≤ MAX_DATA
