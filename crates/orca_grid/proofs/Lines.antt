@@ -1,8 +1,8 @@
 -- The lines of a text, byte by byte.
-use Rattle.std.proofs.Common.{◌≡◌, ℕ, ◌-◌, ◌≤◌, Bool, true, false, cond, eqb, List, [], ◌∷◌, ◌++◌, length, suc, refl, sym, ap, ◌∙◌, arith}
+use Rattle.std.proofs.Common.{◌≡◌, ℕ, ◌-◌, ◌≤◌, Bool, true, false, cond, eqb, List, [], ◌∷◌, ◌++◌, length, suc, inl, inr, refl, sym, ap, ◌∙◌, arith}
 use Rattle.std.specs.List.{slice_split, onto_first, AllByRecursion}
 use Rattle.std.specs.Str.Lines.{lines, lines_of_parts, strip_carriage_return}
-use Rattle.std.proofs.lemmas.Bool.{ne_eqb, cond-false, and_parts, leb-true}
+use Rattle.std.proofs.lemmas.Bool.{ne_eqb, eqb-true, cond-false, and_parts, or_cases, leb-true}
 use Rattle.std.proofs.lemmas.List.{append-nil}
 use Rattle.orca_grid.specs.GridText.{is_cell}
 
@@ -67,7 +67,11 @@ AllCells row = AllByRecursion (λ b. is_cell b ≡ true) row
 
 -- a cell byte is no part of the end of a row
 pub cell_range : (b : ℕ) → is_cell b ≡ true → (32 ≤ b) × (b ≤ 126)
-cell_range b e = let both = and_parts _ _ e in (leb-true 32 b both.0, leb-true b 126 both.1)
+cell_range b e =
+    elim (or_cases _ _ e) [
+      | inl space ↦ let is : b ≡ 32 = eqb-true b 32 space in (omega (arith, is), omega (arith, is))
+      | inr glyph ↦ let both = and_parts _ _ glyph in let low : 33 ≤ b = leb-true 33 b both.0 in (omega (arith, low), leb-true b 126 both.1)
+    ]
 
 -- the cell bytes stand at the front of the first line
 pub lines-front : (begun bytes : List ℕ) (row : List ℕ) (rows : List (List ℕ)) → AllCells begun → lines bytes ≡ row ∷ rows → lines (begun ++ bytes) ≡ (begun ++ row) ∷ rows

@@ -1,29 +1,19 @@
--- The rows of a text are packed as they are read, and make its grid.
-use Rattle.std.proofs.Common.{◌≡◌, ℕ, ◌+◌, ◌≤◌, ◌<◌, true, false, None, List, [], ◌∷◌, ◌++◌, length, get_or, map, zero, suc, append_assoc, refl, sym, ap, ◌∙◌, arith}
+-- Packed rows: a cell more, a row more, and the grid that they make.
+use Rattle.std.proofs.Common.{◌≡◌, ℕ, ◌+◌, ◌≤◌, ◌<◌, List, [], ◌∷◌, ◌++◌, length, get_or, map, max, false, zero, suc, append_assoc, refl, sym, ap, ◌∙◌, arith}
 use Rattle.std.specs.List.{concat, sum, flat_map}
-use Rattle.std.specs.Str.Lines.{lines}
-use Rattle.std.proofs.lemmas.Bool.{eq-eqb, ne_eqb}
-use Rattle.std.proofs.lemmas.List.{length-append, length-map, map-append, map_push, append-nil, take_at, drop_at, nil_from_length}
+use Rattle.std.proofs.lemmas.List.{length_push, length-append, length-map, map-append, map_push, append-nil, take_at, drop_at}
 use Rattle.std.proofs.lemmas.List.Sums.{sum_by-cons}
 use Rattle.orca_base.specs.Grids.{Size}
-use Rattle.orca_grid.specs.GridText.{is_cell, offence, column_at, filled, glyph_of, widest, sheet_of}
-use Rattle.orca_grid.specs.Packed.{cut, padded, Fits, Packs}
-use Rattle.orca_grid.proofs.Lines.{last_row}
-use Rattle.orca_grid.proofs.Places.{none-offends}
-use Rattle.orca_grid.proofs.ReadTo.{ReadTo, start, at_cell, at_line_feed, at_return, at_end}
-
--- the rows so far, packed
-pub record Kept (text : List ℕ) (i : ℕ) (lengths cells : List ℕ) : Type 0 where
-  pub ended : List (List ℕ)
-  pub begun : List ℕ
-  pub read : ReadTo text i ended begun
-  pub packs : Packs ended begun lengths cells
+use Rattle.orca_grid.specs.GridText.{filled, padded, glyph_of, widest, sheet_of}
+use Rattle.orca_grid.specs.Packed.{cut, Fits, Packs, Holds}
+use Rattle.orca_grid.specs.declared.rows.Rows.{Rows}
+use Rattle.orca_grid.proofs.ReadTo.{widest-push}
 
 concat-push : (rows : List (List ℕ)) (row : List ℕ) → concat (rows ++ row ∷ []) ≡ concat rows ++ row
 concat-push [] row = append-nil row
 concat-push (first ∷ rows) row = ap (λ xs. first ++ xs) (concat-push rows row) ∙ sym (append_assoc first (concat rows) row)
 
-packs-cell : (ended : List (List ℕ)) (begun lengths cells : List ℕ) (byte : ℕ) → Packs ended begun lengths cells → Packs ended (begun ++ byte ∷ []) lengths (cells ++ glyph_of byte ∷ [])
+pub packs-cell : (ended : List (List ℕ)) (begun lengths cells : List ℕ) (byte : ℕ) → Packs ended begun lengths cells → Packs ended (begun ++ byte ∷ []) lengths (cells ++ glyph_of byte ∷ [])
 packs-cell ended begun lengths cells byte packs =
     record {
       lengths_are = packs.lengths_are;
@@ -38,50 +28,15 @@ packs-row ended begun lengths cells packs =
       cells_are = packs.cells_are ∙ ap (map glyph_of) (sym (append-nil (concat (ended ++ begun ∷ [])) ∙ concat-push ended begun));
     }
 
-pub kept-start : (text : List ℕ) → Kept text 0 [] []
-kept-start text = record { ended = []; begun = []; read = start text; packs = record { lengths_are = refl; cells_are = refl } }
-
-pub kept-cell : (text : List ℕ) (i : ℕ) (lengths cells : List ℕ) → Kept text i lengths cells → i < length text → is_cell (get_or text i 0) ≡ true → Kept text (i + 1) lengths (cells ++ glyph_of (get_or text i 0) ∷ [])
-kept-cell text i lengths cells k h cell =
+-- the row that has begun is ended
+pub holds-row : (old new : Rows) (ended : List (List ℕ)) (begun : List ℕ) → new.height ≡ old.height + 1 → new.width ≡ max old.width old.column → new.column ≡ 0 → new.cells.items ≡ old.cells.items → (new.lost ≡ false → (old.lost ≡ false) × (new.lengths.items ≡ old.lengths.items ++ old.column ∷ [])) → Holds old ended begun → Holds new (ended ++ begun ∷ []) []
+holds-row old new ended begun height width column cells kept holds =
     record {
-      ended = k.ended;
-      begun = k.begun ++ get_or text i 0 ∷ [];
-      read = at_cell text i k.ended k.begun k.read h cell;
-      packs = packs-cell k.ended k.begun lengths cells (get_or text i 0) k.packs;
+      height = omega (arith, height, holds.height, length_push ended begun);
+      width = omega (arith, width, holds.width, holds.column, widest-push ended begun);
+      column = column;
+      packs = λ held. let both = kept held in rw (both.1, cells, holds.column) (packs-row ended begun old.lengths.items old.cells.items (holds.packs both.0));
     }
-
-pub kept-return : (text : List ℕ) (i : ℕ) (lengths cells : List ℕ) → Kept text i lengths cells → i < length text → offence text i ≡ None → (get_or text i 0 ≡ 10 → ⊥) → is_cell (get_or text i 0) ≡ false → Kept text (i + 1) lengths cells
-kept-return text i lengths cells k h good byte cell =
-    record {
-      ended = k.ended;
-      begun = k.begun;
-      read = at_return text i k.ended k.begun k.read h (ne_eqb _ 10 byte) cell (none-offends text i good).good;
-      packs = k.packs;
-    }
-
-pub kept-line_feed : (text : List ℕ) (i column : ℕ) (lengths cells : List ℕ) → Kept text i lengths cells → column ≡ column_at text i → i < length text → get_or text i 0 ≡ 10 → Kept text (i + 1) (lengths ++ column ∷ []) cells
-kept-line_feed text i column lengths cells k at h byte =
-    record {
-      ended = k.ended ++ k.begun ∷ [];
-      begun = [];
-      read = at_line_feed text i k.ended k.begun k.read h (eq-eqb _ 10 byte);
-      packs = rw (at, ← k.read.column) (packs-row k.ended k.begun lengths cells k.packs);
-    }
-
--- at the end, what has begun is the last row where it isn't empty
-last_row-some : (begun : List ℕ) → 0 < length begun → last_row begun ≡ begun ∷ []
-last_row-some [] h = absurd (omega arith)
-last_row-some (c ∷ begun) h = refl
-
-pub kept-last : (text : List ℕ) (column : ℕ) (lengths cells : List ℕ) → Kept text (length text) lengths cells → column ≡ column_at text (length text) → 0 < column → Packs (lines text) [] (lengths ++ column ∷ []) cells
-kept-last text column lengths cells k at some =
-    let more : 0 < length k.begun = omega (arith, some, at, k.read.column) in
-    rw (at_end text k.ended k.begun k.read, last_row-some k.begun more, at, ← k.read.column) (packs-row k.ended k.begun lengths cells k.packs)
-
-pub kept-none : (text : List ℕ) (column : ℕ) (lengths cells : List ℕ) → Kept text (length text) lengths cells → column ≡ column_at text (length text) → column ≤ 0 → Packs (lines text) [] lengths cells
-kept-none text column lengths cells k at none =
-    let empty : k.begun ≡ [] = nil_from_length k.begun (omega (arith, none, at, k.read.column)) in
-    rw (at_end text k.ended k.begun k.read, empty, append-nil k.ended) (rw empty at k.packs)
 
 -- the rows of a text fit into its grid
 get_or-widest : (rows : List (List ℕ)) (k d : ℕ) → k < length (map length rows) → get_or (map length rows) k d ≤ widest rows

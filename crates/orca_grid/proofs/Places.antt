@@ -1,8 +1,8 @@
 -- The row and the column of a byte, and the first offence, from one place to the next.
-use Rattle.std.proofs.Common.{◌≡◌, ℕ, ◌+◌, ◌-◌, ◌≤◌, ◌<◌, Bool, true, false, not, cond, List, inl, inr, [], ◌∷◌, ◌++◌, length, take, drop, get_or, zero, suc, Option, Some, None, refl, sym, ap, ◌∙◌, arith, add-one, add-zero, add-suc}
+use Rattle.std.proofs.Common.{◌≡◌, ℕ, ◌+◌, ◌-◌, ◌≤◌, ◌<◌, Bool, true, false, not, cond, List, [], ◌∷◌, ◌++◌, length, take, drop, get_or, zero, suc, Some, None, refl, sym, ap, ◌∙◌, arith, add-one, add-zero, add-suc}
 use Rattle.std.specs.List.{after_last, suffix_len, prefix_len, count_by}
 use Rattle.std.specs.Option.{option_or}
-use Rattle.std.proofs.lemmas.Bool.{cases_lt, le-ltb, and_parts, eqb-true, false_from_ne_true, true≢false, cond-true, cond-false, not_from_true, not_from_false, ltb-false, eq-eqb, and_from}
+use Rattle.std.proofs.lemmas.Bool.{le-ltb, and_parts, eqb-true, false_from_ne_true, true≢false, cond-true, cond-false, not_from_true, not_from_false, ltb-false, eq-eqb, and_from}
 use Rattle.std.proofs.lemmas.List.{reverse-append, take_more, drop_all, drop-append-le, length_push}
 use Rattle.std.proofs.lemmas.List.Sums.{count_by_more_yes, count_by_more_no, sum_by_push}
 use Rattle.orca_base.specs.declared.limits.TheConstants.{MAX_ROWS, MAX_COLUMNS}
@@ -98,20 +98,6 @@ pub first_offence-stays : (text : List ℕ) (i n : ℕ) (r : GridRefusal) → fi
 unfolding first_offence
 first_offence-stays text i zero r e = rw add-zero e
 first_offence-stays text i (suc n) r e = rw (add-suc, first_offence-stays text i n r e)
-
-both-none : {A : Type 0} (o p : Option A) → option_or o p ≡ None → (o ≡ None) × (p ≡ None)
-both-none None p e = (refl, e)
-both-none (Some x) p e = cc
-
-pub first_offence-none_at : (text : List ℕ) (n k : ℕ) → first_offence text n ≡ None → k < n → offence text k ≡ None
-unfolding first_offence
-first_offence-none_at text zero k e h = absurd (omega arith)
-first_offence-none_at text (suc n) k e h =
-    let both = both-none (first_offence text n) (offence text n) e in
-    elim (cases_lt k n) [
-      | inl below ↦ first_offence-none_at text n k both.0 below
-      | inr above ↦ let same : k ≡ n = omega arith in rw same both.1
-    ]
 
 -- where no byte below n offends
 pub first_offence-none : (text : List ℕ) (n : ℕ) → ((k : ℕ) → k < n → offence text k ≡ None) → first_offence text n ≡ None

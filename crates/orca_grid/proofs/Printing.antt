@@ -4,10 +4,10 @@ use Rattle.std.specs.List.{flat_map, AllByRecursion}
 use Rattle.std.specs.Str.Lines.{lines}
 use Rattle.std.proofs.lemmas.Bool.{not_from_true, or_left, or_right, and_from, le-leb, cond-false, ne_eqb}
 use Rattle.std.proofs.lemmas.List.{append-nil, take-append-drop, drop-drop, length-drop, length-take, length-take-le, nil_from_length, length-append, length_push, flat_map_more}
-use Rattle.orca_base.specs.Glyphs.{IsGlyph}
+use Rattle.orca_base.specs.Glyphs.{IsGlyph, AreGlyphs}
 use Rattle.orca_base.specs.Grids.{Sheet, IsSheet}
 use Rattle.orca_base.specs.declared.limits.TheConstants.{MAX_ROWS, MAX_COLUMNS}
-use Rattle.orca_grid.specs.GridText.{is_cell, is_line_feed, is_bad, offence, first_offence, row_at, column_at, filled, glyph_of, widest, accepted, grid_text, rows_of, line, printed, row_of, AllGlyphs, Extends}
+use Rattle.orca_grid.specs.GridText.{is_cell, is_line_feed, is_bad, offence, first_offence, row_at, column_at, filled, glyph_of, widest, accepted, grid_text, rows_of, line, printed, row_of, Extends}
 use Rattle.std.specs.Result.{OnErr}
 use Rattle.orca_grid.proofs.Lines.{AllCells, lines-front, lines-last, lines-ended}
 use Rattle.orca_grid.proofs.Places.{first_offence-none, offence-none}
@@ -22,12 +22,12 @@ rows_of-push w (suc h) cells =
     ap (λ rows. take w cells ∷ rows) (rows_of-push w h (drop w cells) ∙ ap (λ xs. rows_of w h (drop w cells) ++ take w xs ∷ []) (drop-drop (h * w) w cells ∙ ap (λ k. drop k cells) next))
 
 abbrev pub AllRows : List (List ℕ) → Type 0
-AllRows rows = AllByRecursion AllGlyphs rows
+AllRows rows = AllByRecursion AreGlyphs rows
 
 -- the first x cells of a row are appended
 pub record PrintedCells (g : Sheet) (y x : ℕ) (old new : List ℕ) : Type 0 where
   pub appended : new ≡ old ++ take x (drop (y * g.dims.w) g.cells)
-  pub glyphs : AllGlyphs (take x (drop (y * g.dims.w) g.cells))
+  pub glyphs : AreGlyphs (take x (drop (y * g.dims.w) g.cells))
 
 -- the first y rows are appended
 pub record PrintedRows (g : Sheet) (y : ℕ) (old new : List ℕ) : Type 0 where
@@ -42,11 +42,11 @@ on_err (Err e) p = p
 pub extends_more : (old middle new : List ℕ) → Extends old middle → Extends middle new → Extends old new
 extends_more old middle new a b = (a.0 ++ b.0, b.1 ∙ (ap (λ xs. xs ++ b.0) a.1 ∙ append_assoc old a.0 b.0))
 
-AllRows-push : (rows : List (List ℕ)) (row : List ℕ) → AllRows rows → AllGlyphs row → AllRows (rows ++ row ∷ [])
+AllRows-push : (rows : List (List ℕ)) (row : List ℕ) → AllRows rows → AreGlyphs row → AllRows (rows ++ row ∷ [])
 AllRows-push [] row all one = (one, tt)
 AllRows-push (r ∷ rows) row all one = (all.0, AllRows-push rows row all.1 one)
 
-pub printed_row : (g : Sheet) (y : ℕ) (old middle new : List ℕ) → PrintedRows g y old middle → new ≡ middle ++ line (row_of g y) → AllGlyphs (row_of g y) → PrintedRows g (y + 1) old new
+pub printed_row : (g : Sheet) (y : ℕ) (old middle new : List ℕ) → PrintedRows g y old middle → new ≡ middle ++ line (row_of g y) → AreGlyphs (row_of g y) → PrintedRows g (y + 1) old new
 printed_row g y old middle new m e glyphs =
     let w = g.dims.w in
     let next : rows_of w (y + 1) g.cells ≡ rows_of w y g.cells ++ row_of g y ∷ [] = rw add-one (rows_of-push w y g.cells) in
@@ -57,16 +57,16 @@ printed_row g y old middle new m e glyphs =
 
 -- a glyph is a cell byte, and no space
 glyph_is_cell : (b : ℕ) → IsGlyph b → is_cell b ≡ true
-glyph_is_cell b glyph = and_from _ _ (le-leb 32 b (omega (arith, glyph.0))) (le-leb b 126 glyph.1)
+glyph_is_cell b glyph = or_right _ _ (and_from _ _ (le-leb 33 b glyph.0) (le-leb b 126 glyph.1))
 
-glyphs_are_cells : (row : List ℕ) → AllGlyphs row → AllCells row
+glyphs_are_cells : (row : List ℕ) → AreGlyphs row → AllCells row
 glyphs_are_cells [] all = tt
 glyphs_are_cells (b ∷ row) all = (glyph_is_cell b all.0, glyphs_are_cells row all.1)
 
 glyph_of-glyph : (b : ℕ) → IsGlyph b → glyph_of b ≡ b
 glyph_of-glyph b glyph = cond-false _ _ _ (ne_eqb b 32 (λ (h : b ≡ 32). omega (arith, glyph.0)))
 
-map-glyphs : (row : List ℕ) → AllGlyphs row → map glyph_of row ≡ row
+map-glyphs : (row : List ℕ) → AreGlyphs row → map glyph_of row ≡ row
 map-glyphs [] all = refl
 map-glyphs (b ∷ row) all = rw (glyph_of-glyph b all.0, map-glyphs row all.1) refl
 
@@ -141,7 +141,7 @@ plain_clean text plain few narrow = first_offence-none text (length text) (plain
 abbrev AllPlain : List ℕ → Type 0
 AllPlain text = AllByRecursion IsPlainByte text
 
-plain_then : (row rest : List ℕ) → AllGlyphs row → AllPlain rest → AllPlain ((row ++ 10 ∷ []) ++ rest)
+plain_then : (row rest : List ℕ) → AreGlyphs row → AllPlain rest → AllPlain ((row ++ 10 ∷ []) ++ rest)
 plain_then [] rest all plain = (inr refl, plain)
 plain_then (b ∷ row) rest all plain = (inl (glyph_is_cell b all.0), plain_then row rest all.1 plain)
 

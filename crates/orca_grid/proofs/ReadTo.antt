@@ -105,6 +105,3 @@ begun_fits text i ended begun read =
 
 pub ended_fit : (text : List ℕ) (i : ℕ) (ended : List (List ℕ)) (begun : List ℕ) → ReadTo text i ended begun → length ended ≤ length (lines text)
 ended_fit text i ended begun read = omega (arith, ap length read.rows, length-append ended (lines (begun ++ drop i text)))
-
-pub ended_narrow : (text : List ℕ) (i : ℕ) (ended : List (List ℕ)) (begun : List ℕ) → ReadTo text i ended begun → widest ended ≤ widest (lines text)
-ended_narrow text i ended begun read = omega (arith, ap widest read.rows, widest-append ended (lines (begun ++ drop i text)))

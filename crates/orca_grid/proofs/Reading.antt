@@ -1,31 +1,31 @@
--- What the reader keeps: the size so far, and that no byte before offends.
-use Rattle.std.proofs.Common.{◌≡◌, ℕ, ◌+◌, ◌-◌, ◌≤◌, ◌<◌, ◌↔◌, Bool, true, false, cond, List, [], ◌∷◌, ◌++◌, length, get_or, max, Some, None, Ok, Err, inl, inr, refl, sym, ap, ◌∙◌, arith}
+-- What the reader keeps from byte to byte.
+use Rattle.std.proofs.Common.{◌≡◌, ℕ, ◌+◌, ◌-◌, ◌≤◌, ◌<◌, ◌↔◌, Bool, true, false, cond, List, [], ◌∷◌, ◌++◌, length, get_or, Some, None, Ok, Err, inl, inr, refl, sym, ap, ◌∙◌, arith}
 use Rattle.std.specs.Str.Lines.{lines}
 use Rattle.std.specs.Option.{IsNone}
-use Rattle.std.proofs.lemmas.Bool.{true≢false, cases_eq, cases_lt, or_left, or_right, ne_eqb, eq-eqb, cond-true}
+use Rattle.std.proofs.lemmas.Bool.{true≢false, cases_eq, or_left, or_right, ne_eqb, eq-eqb, cond-true}
+use Rattle.std.proofs.lemmas.List.{length_push, append-nil, nil_from_length}
 use Rattle.orca_base.specs.Grids.{Size, IsSize}
 use Rattle.orca_base.specs.declared.limits.TheConstants.{MAX_ROWS, MAX_COLUMNS}
 use Rattle.orca_grid.specs.declared.refusal.GridRefusal.{GridRefusal}
 use Rattle.orca_grid.specs.declared.refusal.GridRefusal.TheVariants.{NoCells}
-use Rattle.orca_grid.specs.GridText.{is_cell, column_at, offence, first_offence, widest, sheet_of, accepted, unless_refused, grid_text}
+use Rattle.orca_grid.specs.declared.rows.Rows.{Rows}
+use Rattle.orca_grid.specs.GridText.{is_cell, glyph_of, offence, first_offence, widest, sheet_of, accepted, unless_refused, grid_text}
+use Rattle.orca_grid.specs.Packed.{Holds}
 use Rattle.orca_grid.proofs.Places.{first_offence-stays, first_offence-none_more, none-offends}
-use Rattle.orca_grid.proofs.ReadTo.{ReadTo, start, at_cell, at_line_feed, at_return, at_end, widest-append, widest-push, widest-last_row}
+use Rattle.orca_grid.proofs.ReadTo.{ReadTo, start, at_cell, at_line_feed, at_return, at_end, widest-push}
 use Rattle.orca_grid.proofs.Lines.{last_row}
-use Rattle.std.proofs.lemmas.List.{length_push, length-append}
 
--- the size so far: no byte before the place offends
-pub record Measured (text : List ℕ) (i rows column width : ℕ) : Type 0 where
+-- a text is read up to a place: no byte before it offends, and these are its rows so far
+pub record Reads (text : List ℕ) (i : ℕ) (rows : Rows) : Type 0 where
   pub ended : List (List ℕ)
   pub begun : List ℕ
   pub read : ReadTo text i ended begun
-  pub rows_is : rows ≡ length ended
-  pub column_is : column ≡ length begun
-  pub width_is : width ≡ widest ended
+  pub holds : Holds rows ended begun
   pub clean : first_offence text i ≡ None
-  pub few : rows ≤ MAX_ROWS
-  pub begins : 0 < column → rows < MAX_ROWS
-  pub narrow : column ≤ MAX_COLUMNS
-  pub wide : width ≤ MAX_COLUMNS
+  pub few : rows.height ≤ MAX_ROWS
+  pub begins : 0 < rows.column → rows.height < MAX_ROWS
+  pub narrow : rows.column ≤ MAX_COLUMNS
+  pub wide : rows.width ≤ MAX_COLUMNS
 
 pub grid_text-clean : (text : List ℕ) → first_offence text (length text) ≡ None → grid_text text ≡ accepted (lines text)
 unfolding grid_text
@@ -50,98 +50,98 @@ accepted-no_cells rows few narrow none =
       ]
     ]
 
--- the size at the start
-pub measured-start : (text : List ℕ) → Measured text 0 0 0 0
+pub reads-start : (text : List ℕ) (rows : Rows) → Holds rows [] [] → Reads text 0 rows
 unfolding first_offence widest
-measured-start text =
+reads-start text rows holds =
     record {
       ended = [];
       begun = [];
       read = start text;
-      rows_is = refl;
-      column_is = refl;
-      width_is = refl;
+      holds = holds;
       clean = refl;
-      few = omega arith;
-      begins = λ h. absurd (omega arith);
-      narrow = omega arith;
-      wide = omega arith;
+      few = omega (arith, holds.height);
+      begins = λ h. absurd (omega (arith, h, holds.column));
+      narrow = omega (arith, holds.column);
+      wide = omega (arith, holds.width);
     }
 
-pub measured-line_feed : (text : List ℕ) (i rows column width : ℕ) → Measured text i rows column width → i < length text → offence text i ≡ None → get_or text i 0 ≡ 10 → Measured text (i + 1) (rows + 1) 0 (max column width)
-measured-line_feed text i rows column width m h good byte =
+-- a row more
+abbrev Ends : Rows → Rows → Type 0
+Ends old new = (ended : List (List ℕ)) (begun : List ℕ) → Holds old ended begun → Holds new (ended ++ begun ∷ []) []
+
+pub reads-line_feed : (text : List ℕ) (i : ℕ) (old new : Rows) → Reads text i old → i < length text → offence text i ≡ None → get_or text i 0 ≡ 10 → Ends old new → Reads text (i + 1) new
+reads-line_feed text i old new r h good byte ends =
     let free = none-offends text i good in
+    let holds = ends r.ended r.begun r.holds in
     record {
-      ended = m.ended ++ m.begun ∷ [];
+      ended = r.ended ++ r.begun ∷ [];
       begun = [];
-      read = at_line_feed text i m.ended m.begun m.read h (eq-eqb _ 10 byte);
-      rows_is = omega (arith, m.rows_is, length_push m.ended m.begun);
-      column_is = refl;
-      width_is = omega (arith, m.width_is, m.column_is, widest-push m.ended m.begun);
-      clean = first_offence-none_more text i m.clean good;
-      few = omega (arith, m.rows_is, m.read.row, free.row);
-      begins = λ h. absurd (omega arith);
-      narrow = omega arith;
-      wide = omega (arith, m.narrow, m.wide);
+      read = at_line_feed text i r.ended r.begun r.read h (eq-eqb _ 10 byte);
+      holds = holds;
+      clean = first_offence-none_more text i r.clean good;
+      few = omega (arith, holds.height, length_push r.ended r.begun, r.read.row, free.row);
+      begins = λ begun. absurd (omega (arith, begun, holds.column));
+      narrow = omega (arith, holds.column);
+      wide = omega (arith, holds.width, widest-push r.ended r.begun, r.holds.width, r.holds.column, r.narrow, r.wide);
     }
 
-pub measured-cell : (text : List ℕ) (i rows column width : ℕ) → Measured text i rows column width → i < length text → offence text i ≡ None → is_cell (get_or text i 0) ≡ true → Measured text (i + 1) rows (column + 1) width
-measured-cell text i rows column width m h good cell =
+-- a cell more
+abbrev Adds : Rows → ℕ → Rows → Type 0
+Adds old glyph new = (ended : List (List ℕ)) (begun : List ℕ) (byte : ℕ) → glyph ≡ glyph_of byte → Holds old ended begun → Holds new ended (begun ++ byte ∷ [])
+
+pub reads-cell : (text : List ℕ) (i : ℕ) (old : Rows) (glyph : ℕ) (new : Rows) → Reads text i old → i < length text → offence text i ≡ None → is_cell (get_or text i 0) ≡ true → glyph ≡ glyph_of (get_or text i 0) → Adds old glyph new → Reads text (i + 1) new
+reads-cell text i old glyph new r h good cell is adds =
     let free = none-offends text i good in
-    let room : column ≡ MAX_COLUMNS → ⊥ = λ full. free.column cell (sym m.read.column ∙ (sym m.column_is ∙ full)) in
+    let holds = adds r.ended r.begun (get_or text i 0) is r.holds in
+    let room : length r.begun ≡ MAX_COLUMNS → ⊥ = λ full. free.column cell (sym r.read.column ∙ full) in
     record {
-      ended = m.ended;
-      begun = m.begun ++ get_or text i 0 ∷ [];
-      read = at_cell text i m.ended m.begun m.read h cell;
-      rows_is = m.rows_is;
-      column_is = omega (arith, m.column_is, length_push m.begun (get_or text i 0));
-      width_is = m.width_is;
-      clean = first_offence-none_more text i m.clean good;
-      few = m.few;
-      begins = λ _. omega (arith, m.rows_is, m.read.row, free.row);
-      narrow = omega (arith, m.narrow, room);
-      wide = m.wide;
+      ended = r.ended;
+      begun = r.begun ++ get_or text i 0 ∷ [];
+      read = at_cell text i r.ended r.begun r.read h cell;
+      holds = holds;
+      clean = first_offence-none_more text i r.clean good;
+      few = omega (arith, holds.height, r.holds.height, r.few);
+      begins = λ _. omega (arith, holds.height, r.read.row, free.row);
+      narrow = omega (arith, holds.column, length_push r.begun (get_or text i 0), r.holds.column, r.narrow, room);
+      wide = omega (arith, holds.width, r.holds.width, r.wide);
     }
 
-pub measured-return : (text : List ℕ) (i rows column width : ℕ) → Measured text i rows column width → i < length text → offence text i ≡ None → (get_or text i 0 ≡ 10 → ⊥) → is_cell (get_or text i 0) ≡ false → Measured text (i + 1) rows column width
-measured-return text i rows column width m h good byte cell =
+-- a carriage return is passed
+pub reads-return : (text : List ℕ) (i : ℕ) (rows : Rows) → Reads text i rows → i < length text → offence text i ≡ None → (get_or text i 0 ≡ 10 → ⊥) → is_cell (get_or text i 0) ≡ false → Reads text (i + 1) rows
+reads-return text i rows r h good byte cell =
     record {
-      ended = m.ended;
-      begun = m.begun;
-      read = at_return text i m.ended m.begun m.read h (ne_eqb _ 10 byte) cell (none-offends text i good).good;
-      rows_is = m.rows_is;
-      column_is = m.column_is;
-      width_is = m.width_is;
-      clean = first_offence-none_more text i m.clean good;
-      few = m.few;
-      begins = m.begins;
-      narrow = m.narrow;
-      wide = m.wide;
+      ended = r.ended;
+      begun = r.begun;
+      read = at_return text i r.ended r.begun r.read h (ne_eqb _ 10 byte) cell (none-offends text i good).good;
+      holds = r.holds;
+      clean = first_offence-none_more text i r.clean good;
+      few = r.few;
+      begins = r.begins;
+      narrow = r.narrow;
+      wide = r.wide;
     }
 
-pub column_is_at : (text : List ℕ) (i rows column width : ℕ) → Measured text i rows column width → column ≡ column_at text i
-column_is_at text i rows column width m = m.column_is ∙ m.read.column
+-- at the end, what has begun is the last row where it isn't empty
+last_row-some : (begun : List ℕ) → 0 < length begun → last_row begun ≡ begun ∷ []
+last_row-some [] h = absurd (omega arith)
+last_row-some (c ∷ begun) h = refl
 
--- the size at the end
-length-last_row_more : (begun : List ℕ) → 0 < length begun → length (last_row begun) ≡ 1
-length-last_row_more [] h = absurd (omega arith)
-length-last_row_more (c ∷ begun) h = refl
+pub reads-last : (text : List ℕ) (old new : Rows) → Reads text (length text) old → 0 < old.column → Ends old new → Holds new (lines text) []
+reads-last text old new r some ends =
+    let more : 0 < length r.begun = omega (arith, some, r.holds.column) in
+    rw (at_end text r.ended r.begun r.read, last_row-some r.begun more) (ends r.ended r.begun r.holds)
 
-length-last_row_none : (begun : List ℕ) → length begun ≤ 0 → length (last_row begun) ≡ 0
-length-last_row_none [] h = refl
-length-last_row_none (c ∷ begun) h = absurd (omega arith)
+pub reads-none : (text : List ℕ) (rows : Rows) → Reads text (length text) rows → rows.column ≤ 0 → Holds rows (lines text) []
+reads-none text rows r none =
+    let empty : r.begun ≡ [] = nil_from_length r.begun (omega (arith, none, r.holds.column)) in
+    rw (at_end text r.ended r.begun r.read, empty, append-nil r.ended) (rw empty at r.holds)
 
-pub measured-height_more : (text : List ℕ) (rows column width : ℕ) → Measured text (length text) rows column width → 0 < column → length (lines text) ≡ rows + 1
-measured-height_more text rows column width m h =
-    omega (arith, ap length (at_end text m.ended m.begun m.read), length-append m.ended (last_row m.begun), length-last_row_more m.begun (omega (arith, m.column_is)), m.rows_is)
-
-pub measured-height_none : (text : List ℕ) (rows column width : ℕ) → Measured text (length text) rows column width → column ≤ 0 → length (lines text) ≡ rows
-measured-height_none text rows column width m h =
-    omega (arith, ap length (at_end text m.ended m.begun m.read), length-append m.ended (last_row m.begun), length-last_row_none m.begun (omega (arith, m.column_is)), m.rows_is)
-
-pub measured-width : (text : List ℕ) (rows column width : ℕ) → Measured text (length text) rows column width → widest (lines text) ≡ max column width
-measured-width text rows column width m =
-    ap widest (at_end text m.ended m.begun m.read) ∙ omega (arith, widest-append m.ended (last_row m.begun), widest-last_row m.begun, m.width_is, m.column_is)
+pub last-few : (text : List ℕ) (old new : Rows) → Reads text (length text) old → 0 < old.column → Ends old new → (new.height ≤ MAX_ROWS) × (new.width ≤ MAX_COLUMNS)
+last-few text old new r some ends =
+    let holds = ends r.ended r.begun r.holds in (
+      omega (arith, holds.height, length_push r.ended r.begun, r.holds.height, r.begins some),
+      omega (arith, holds.width, widest-push r.ended r.begun, r.holds.width, r.holds.column, r.narrow, r.wide),
+    )
 
 -- a size that is read is no empty one
 pub sized-rows : (d : Size) → (IsNone {T = Size} (Some d) ↔ (IsSize d → ⊥)) → d.h ≡ 0 → ⊥
@@ -149,13 +149,6 @@ sized-rows d none flat = true≢false (none.1 (λ size. omega (arith, size.rows,
 
 pub sized-columns : (d : Size) → (IsNone {T = Size} (Some d) ↔ (IsSize d → ⊥)) → d.w ≡ 0 → ⊥
 sized-columns d none thin = true≢false (none.1 (λ size. omega (arith, size.columns, thin)))
-
-pub measured-few : (text : List ℕ) (rows column width : ℕ) → Measured text (length text) rows column width → length (lines text) ≤ MAX_ROWS
-measured-few text rows column width m =
-    elim (cases_lt 0 column) [
-      | inl some ↦ omega (arith, measured-height_more text rows column width m some, m.begins some)
-      | inr none ↦ omega (arith, measured-height_none text rows column width m none, m.few)
-    ]
 
 pub no_cell : (b : Bool) (x : ℕ) → cond b (Some x) None ≡ None → b ≡ false
 no_cell true x e = cc

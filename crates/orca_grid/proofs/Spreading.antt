@@ -5,10 +5,11 @@ use Rattle.std.proofs.Math.Seq.{paste, take-add}
 use Rattle.std.proofs.lemmas.List.Edits.{paste_all}
 use Rattle.std.proofs.lemmas.List.Sums.{sum_by-take-le, sum_by-cons, sum_by_more}
 use Rattle.std.proofs.Math.Nat.{suc-mul}
-use Rattle.std.proofs.lemmas.List.{length-append, length-replicate, length-take-le, length-drop, drop_more, drop_all, take_all, drop-drop, drop-take, take-append-le, drop-append-le, drop_at, take_at, nil_from_length, append-nil, take-take}
+use Rattle.std.proofs.lemmas.List.{length-append, length-replicate, length-take-le, length-drop, drop_more, drop_all, take_all, drop-drop, drop-take, take-append-le, drop-append-le, drop_at, take_at, append-nil, take-take}
 use Rattle.orca_base.specs.Glyphs.{empty}
 use Rattle.orca_base.specs.Grids.{Size}
-use Rattle.orca_grid.specs.Packed.{cut, padded, Fits}
+use Rattle.orca_grid.specs.GridText.{padded}
+use Rattle.orca_grid.specs.Packed.{cut, Fits}
 
 -- the rows from k on stand at their places, and those before it where they were packed
 pub record Spread (width : ℕ) (lengths packed : List ℕ) (k end : ℕ) (cells : List ℕ) : Type 0 where
@@ -86,13 +87,6 @@ spread-row width lengths packed k end count cells s narrow whole h is =
       cells_are = rw (one_more, moved) (paste_all cells (k * width) (padded width row) width (sym full)
           ∙ (rw (head, tail) (append_assoc (take start packed) gap (padded width row ++ placed))));
     }
-
--- at the end all rows stand at their places
-pub spread-end : (width : ℕ) (lengths packed : List ℕ) (end : ℕ) (cells : List ℕ) → Spread width lengths packed 0 end cells → cells ≡ flat_map (padded width) (cut lengths packed)
-spread-end width lengths packed end cells s =
-    let first : end ≡ 0 = s.end_is in
-    let none : s.gap ≡ [] = nil_from_length s.gap (omega (arith, s.place)) in
-    s.cells_are ∙ rw (first, none) refl
 
 -- a write to the whole list
 pub whole-slice : (n : ℕ) (xs ys : List ℕ) → length ys ≡ length xs → n ≡ length xs → take n (ys ++ drop (length ys) xs) ≡ ys

@@ -1,10 +1,10 @@
 -- Grid text: how a byte offends, the grid of a text in which none does, and the text of a grid.
 -- A text's rows are its lines: each ends in a line feed, or in a carriage return and a line feed, and the end of the last may be missing.
-use Rattle.std.specs.Prelude.{ℕ, ◌+◌, ◌-◌, ◌*◌, ◌≡◌, Bool, not, ◌&&◌, ◌||◌, ◌==◌, nat_le, nat_lt, if◌then◌else◌, Option, Some, None, Result, Ok, Err, List, [], ◌∷◌, ◌++◌, length, map, take, drop, replicate, count_by, slice_index, max, zero, suc}
+use Rattle.std.specs.Prelude.{ℕ, ◌+◌, ◌-◌, ◌*◌, ◌≡◌, Bool, not, ◌&&◌, ◌||◌, ◌==◌, nat_lt, if◌then◌else◌, Option, Some, None, Result, Ok, Err, List, [], ◌∷◌, ◌++◌, length, map, take, drop, replicate, count_by, slice_index, max, zero, suc}
 use Rattle.std.specs.Option.{option_or}
-use Rattle.std.specs.List.{after_last, flat_map, AllByRecursion}
+use Rattle.std.specs.List.{after_last, flat_map}
 use Rattle.std.specs.Str.Lines.{lines}
-use Rattle.orca_base.specs.Glyphs.{empty, IsGlyph}
+use Rattle.orca_base.specs.Glyphs.{empty, is_glyph}
 use Rattle.orca_base.specs.Grids.{Sheet}
 use Rattle.orca_base.specs.declared.limits.TheConstants.{MAX_ROWS, MAX_COLUMNS}
 use Rattle.orca_grid.specs.declared.refusal.GridRefusal.{GridRefusal}
@@ -22,7 +22,7 @@ carriage_return = 13
 
 -- a cell byte: a glyph, or a space
 abbrev pub is_cell : ℕ → Bool
-is_cell byte = nat_le space byte && nat_le byte 126
+is_cell byte = (byte == space) || is_glyph byte
 
 -- the byte ends a row
 abbrev pub is_line_feed : ℕ → Bool
@@ -60,9 +60,13 @@ first_offence text (suc n) = option_or (first_offence text n) (offence text n)
 abbrev pub glyph_of : ℕ → ℕ
 glyph_of byte = if byte == space then empty else byte
 
--- the cells of a row, filled with `.` at the right
+-- a row of glyphs, filled with `.` at the right
+abbrev pub padded : ℕ → List ℕ → List ℕ
+padded width glyphs = glyphs ++ replicate (width - length glyphs) empty
+
+-- the cells of a row of the text
 abbrev pub filled : ℕ → List ℕ → List ℕ
-filled width row = map glyph_of row ++ replicate (width - length row) empty
+filled width row = padded width (map glyph_of row)
 
 -- the length of the longest row
 unfoldable pub widest : List (List ℕ) → ℕ
@@ -102,10 +106,6 @@ printed g = flat_map line (rows_of g.dims.w g.dims.h g.cells)
 -- row y of a grid
 abbrev pub row_of : Sheet → ℕ → List ℕ
 row_of g y = take g.dims.w (drop (y * g.dims.w) g.cells)
-
--- each cell is a glyph
-abbrev pub AllGlyphs : List ℕ → Type 0
-AllGlyphs cells = AllByRecursion IsGlyph cells
 
 -- old stands at the front of new
 abbrev pub Extends : List ℕ → List ℕ → Type 0

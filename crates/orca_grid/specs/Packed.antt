@@ -1,20 +1,16 @@
 -- Rows of different lengths, one behind the other.
-use Rattle.std.specs.Prelude.{ℕ, ◌-◌, ◌≡◌, ◌≤◌, List, [], ◌∷◌, ◌++◌, length, map, take, drop, replicate}
+use Rattle.std.specs.Prelude.{ℕ, ◌≡◌, ◌≤◌, false, List, [], ◌∷◌, ◌++◌, length, map, take, drop}
 use Rattle.std.specs.List.{concat, sum, All}
-use Rattle.orca_base.specs.Glyphs.{empty}
 use Rattle.orca_base.specs.Grids.{Size}
-use Rattle.orca_grid.specs.GridText.{glyph_of}
+use Rattle.orca_grid.specs.GridText.{glyph_of, widest}
+use Rattle.orca_grid.specs.declared.rows.Rows.{Rows}
 
--- the rows of these lengths
+-- rows of these lengths
 unfoldable pub cut : List ℕ → List ℕ → List (List ℕ)
 cut [] cells = []
 cut (n ∷ lengths) cells = take n cells ∷ cut lengths (drop n cells)
 
--- a row of glyphs, filled with `.` at the right
-abbrev pub padded : ℕ → List ℕ → List ℕ
-padded width row = row ++ replicate (width - length row) empty
-
--- they are as many as the grid has, all cells belong to them, and each fits into the grid
+-- rows of these lengths are as many as those of the grid, take all the cells, and none is wider than the grid
 pub record Fits (d : Size) (lengths cells : List ℕ) : Type 0 where
   pub rows : length lengths ≡ d.h
   pub whole : sum lengths ≡ length cells
@@ -24,3 +20,10 @@ pub record Fits (d : Size) (lengths cells : List ℕ) : Type 0 where
 pub record Packs (ended : List (List ℕ)) (begun : List ℕ) (lengths cells : List ℕ) : Type 0 where
   pub lengths_are : lengths ≡ map length ended
   pub cells_are : cells ≡ map glyph_of (concat ended ++ begun)
+
+-- what is known of the rows of a text and of the row that has begun: their sizes, and, unless they are lost, their cells
+pub record Holds (rows : Rows) (ended : List (List ℕ)) (begun : List ℕ) : Type 0 where
+  pub height : rows.height ≡ length ended
+  pub width : rows.width ≡ widest ended
+  pub column : rows.column ≡ length begun
+  pub packs : rows.lost ≡ false → Packs ended begun rows.lengths.items rows.cells.items

@@ -26,12 +26,12 @@ impl Model for Grid {
 }
 
 impl Grid {
-    /// A grid of this size, each cell of it empty.
+    /// A grid of this size, each cell of it empty; [`Memory`] where its room is refused.
     pub fn blank(alloc: Global, dims: Dims) -> Result<Grid, Memory>
         ensures { IfOk result (λ g. g ≡ record { dims = dims; cells = replicate (dims.h * dims.w) empty }) }
     {
         let mut cells = Vec::new(alloc);
-        cells.resize(usize::from(dims.h) * usize::from(dims.w), Glyph::EMPTY)?;
+        cells.resize(dims.cells(), Glyph::EMPTY)?;
         Ok(Grid { dims, cells })
     }
 
@@ -40,7 +40,7 @@ impl Grid {
         requires { IsInside self.old.dims at }
         ensures { self.new ≡ record self.old { cells = slice_set self.old.cells (index_of self.old.dims at) glyph } }
     {
-        let index = usize::from(at.y) * usize::from(self.dims.w) + usize::from(at.x);
+        let index = self.dims.index(at);
         self.cells[index] = glyph;
     }
 
@@ -70,7 +70,7 @@ impl Look for Grid {
     }
 
     fn glyph_at(&self, at: Place) -> Glyph {
-        self.cells[usize::from(at.y) * usize::from(self.dims.w) + usize::from(at.x)]
+        self.cells[self.dims.index(at)]
     }
 
     fn marks_at(&self, _at: Place) -> Marks {

@@ -1,7 +1,8 @@
 //! Printing a grid.
 
 ghost use Rattle.std.specs.Prelude.{◌≡◌, ◌<◌, ◌++◌, Ok, OnOk, OnErr};
-ghost use Rattle.orca_grid.specs.GridText.{grid_text, printed, row_of, line, AllGlyphs, Extends};
+ghost use Rattle.orca_base.specs.Glyphs.{AreGlyphs};
+ghost use Rattle.orca_grid.specs.GridText.{grid_text, printed, row_of, line, Extends};
 
 use crate::Grid;
 use orca_base::{Look, Memory, Place};
@@ -44,7 +45,7 @@ fn push_row<T: Look>(look: &T, width: u16, y: u16, into: &mut Vec<u8>) -> Result
     requires row { y < (T.sheet look.now).dims.h }
     requires width { width ≡ (T.sheet look.now).dims.w }
     ensures ok { OnOk result (into.new.items ≡ into.old.items ++ line (row_of (T.sheet look.now) y)) }
-    ensures glyphs { OnOk result (AllGlyphs (row_of (T.sheet look.now) y)) }
+    ensures glyphs { OnOk result (AreGlyphs (row_of (T.sheet look.now) y)) }
     ensures err { OnErr result (Extends into.old.items into.new.items) }
 {
     for x in 0..width {

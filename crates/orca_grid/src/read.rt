@@ -1,9 +1,9 @@
 //! Reading a grid text.
 
-ghost use Rattle.std.specs.Prelude.{◌≡◌, ◌≢◌, ◌+◌, ◌*◌, ◌^◌, ◌<◌, [], false, Some, None, Ok, Err, IfOk, IfErr, IfSome, IsOk, OnOk, IsOkUnless, length, vec_len, if◌then◌else◌};
+ghost use Rattle.std.specs.Prelude.{◌≡◌, ◌≢◌, ◌+◌, ◌*◌, ◌^◌, ◌<◌, ◌≤◌, [], Some, None, Ok, Err, IfOk, IfErr, IfSome, IsOk, OnOk, IsOkUnless, length, if◌then◌else◌};
 ghost use Rattle.std.specs.Str.Lines.{lines};
-ghost use Rattle.orca_grid.specs.GridText.{row_at, column_at, is_cell as is_cell_byte, is_bad as is_bad_at, offence as offence_at, glyph_of, widest, sheet_of, grid_text};
-ghost use Rattle.orca_grid.specs.Packed.{Packs};
+ghost use Rattle.orca_grid.specs.GridText.{row_at, column_at, is_cell as is_cell_byte, is_bad as is_bad_at, offence as offence_at, glyph_of, accepted, grid_text};
+ghost use Rattle.orca_grid.specs.Packed.{Holds};
 
 use crate::rows::Rows;
 use crate::{Grid, GridRefusal};
@@ -12,7 +12,8 @@ use orca_base::{Dims, Glyph, Memory};
 use std::alloc::Global;
 
 impl Grid {
-    /// The grid of a text.
+    /// The grid of a text of fewer than 2^32 bytes, or the [`GridRefusal`] of the first byte that
+    /// offends; [`GridRefusal::Memory`] where memory is refused to the grid of a text.
     ///
     /// A row ends in a line feed, or in a carriage return and a line feed; the end of the last row may
     /// be missing. A space is read as `.`, and a row shorter than the longest is filled with `.` at
@@ -24,61 +25,53 @@ impl Grid {
         ensures only_memory { OnOk (grid_text bytes.now) (IsOkUnless result GridRefusal.Memory) }
         ensures memory { result ≡ Err GridRefusal.Memory → IsOk (grid_text bytes.now) }
     {
-        let (dims, rows) = rows_of(alloc, bytes)?;
-        let cells = rows.filled(dims)?;
+        let rows = read_rows(alloc, bytes)?;
+        let Some(dims) = Dims::of(u32::from(rows.height), u32::from(rows.width)) else {
+            return Err(GridRefusal::NoCells);
+        };
+        let cells = rows.spread(dims)?;
         Ok(Grid::of(dims, cells))
     }
 }
 
-/// The rows of a text and the size of its grid, or why it is refused.
-fn rows_of(alloc: Global, bytes: &[u8]) -> Result<(Dims, Rows), GridRefusal>
+/// The rows of a text, or how its first byte that offends does.
+fn read_rows(alloc: Global, bytes: &[u8]) -> Result<Rows, GridRefusal>
     requires { length bytes.now < 2 ^ 32 }
-    ensures grid { OnOk result (grid_text bytes.now ≡ Ok (sheet_of (lines bytes.now))) }
-    ensures size { IfOk result (λ r. r.0 ≡ record { h = length (lines bytes.now); w = widest (lines bytes.now) }) }
-    ensures rows { IfOk result (λ r. r.1.lost ≡ false → Packs (lines bytes.now) [] r.1.lengths.items r.1.cells.items) }
+    ensures rows { IfOk result (λ rows. Holds rows (lines bytes.now) []) }
+    ensures clean { OnOk result (grid_text bytes.now ≡ accepted (lines bytes.now)) }
+    ensures few { IfOk result (λ rows. (rows.height ≤ MAX_ROWS) × (rows.width ≤ MAX_COLUMNS)) }
     ensures refused { IfErr result (λ refusal. grid_text bytes.now ≡ Err refusal) }
     ensures named { IfErr result (λ refusal. refusal ≢ GridRefusal.Memory) }
 {
     let mut rows = Rows::new(alloc);
-    let mut ended = 0;
-    let mut column = 0;
-    let mut width = 0;
     for (i, byte) in bytes.iter().enumerate() {
-        if let Some(refusal) = offence(bytes, i, ended, column) {
+        if let Some(refusal) = offence(bytes, i, rows.height, rows.column) {
             return Err(refusal);
         }
         if *byte == b'\n' {
-            rows.end(column);
-            width = column.max(width);
-            ended += 1;
-            column = 0;
+            rows.end();
         } else if let Some(glyph) = cell(*byte) {
             rows.add(glyph);
-            column += 1;
         }
     }
-    if column > 0 {
-        rows.end(column);
-        ended += 1;
+    if rows.column > 0 {
+        rows.end();
     }
-    match Dims::of(u32::from(ended), u32::from(column.max(width))) {
-        Some(dims) => Ok((dims, rows)),
-        None => Err(GridRefusal::NoCells),
-    }
+    Ok(rows)
 }
 
-/// How the byte at a place offends, where so many rows have ended before it and so many cells of its
-/// row stand before it.
+/// How the byte at a place offends: `height` rows have ended before it, and `column` cells of its row
+/// stand before it.
 #[tactic(auto, unfolding(crate::specs::GridText::offence))]
-fn offence(bytes: &[u8], i: usize, ended: u16, column: u16) -> Option<GridRefusal>
+fn offence(bytes: &[u8], i: usize, height: u16, column: u16) -> Option<GridRefusal>
     requires place { i < length bytes.now }
     requires short { length bytes.now < 2 ^ 32 }
-    requires row { ended + 1 ≡ row_at bytes.now i }
+    requires row { height + 1 ≡ row_at bytes.now i }
     requires column { column ≡ column_at bytes.now i }
     ensures offence { result ≡ offence_at bytes.now i }
     ensures named { IfSome result (λ refusal. refusal ≢ GridRefusal.Memory) }
 {
-    if ended >= MAX_ROWS {
+    if height >= MAX_ROWS {
         return Some(GridRefusal::TooHigh);
     }
     if is_bad(bytes, i) {
@@ -86,7 +79,7 @@ fn offence(bytes: &[u8], i: usize, ended: u16, column: u16) -> Option<GridRefusa
     }
     if is_cell(bytes[i]) && column == MAX_COLUMNS {
         return Some(GridRefusal::TooWide {
-            row: u32::from(ended) + 1,
+            row: u32::from(height) + 1,
         });
     }
     None
@@ -109,7 +102,7 @@ fn is_bad(bytes: &[u8], i: usize) -> bool
 fn is_cell(byte: u8) -> bool
     ensures { result ≡ is_cell_byte byte }
 {
-    matches!(byte, b' '..=b'~')
+    cell(byte).is_some()
 }
 
 /// The glyph that a cell byte is read as.

@@ -1,62 +1,75 @@
 //! The rows of a text, as they are read.
 
-ghost use Rattle.std.specs.Prelude.{◌≡◌, ◌≤◌, ◌+◌, ◌*◌, [], ◌∷◌, ◌++◌, false, length, take, drop, IfOk, vec_len};
+ghost use Rattle.std.specs.Prelude.{◌≡◌, ◌≤◌, ◌<◌, ◌+◌, ◌*◌, ◌^◌, [], ◌∷◌, ◌++◌, ℕ, List, false, length, take, drop, IfOk, vec_len};
 ghost use Rattle.std.specs.List.{flat_map};
 ghost use Rattle.std.proofs.Math.Seq.{paste};
-ghost use Rattle.orca_grid.specs.Packed.{cut, padded, Fits};
+ghost use Rattle.orca_grid.specs.GridText.{glyph_of, padded};
+ghost use Rattle.orca_grid.specs.Packed.{cut, Fits, Holds};
 
 use orca_base::{Dims, Glyph, Memory};
 use std::alloc::Global;
 
-/// Rows of different lengths, one behind the other.
+/// Rows of different lengths, one behind the other, and a row that has begun.
 ///
-/// They are lost where memory is refused. That is told at the end alone, since a text that is refused is
-/// refused whatever memory there is.
+/// The cells are lost where memory is refused. That is told at the end alone, since a text that is
+/// refused is refused whatever memory there is.
 #[derive(Drop)]
 pub(crate) struct Rows {
     cells: Vec<Glyph>,
-    /// How many cells each row has that has ended. What stands behind these rows is the row that has
-    /// begun.
+    /// The number of cells of each row that has ended.
     lengths: Vec<u16>,
     lost: bool,
+    /// The number of rows that have ended.
+    pub(crate) height: u16,
+    /// The length of the longest of them.
+    pub(crate) width: u16,
+    /// The number of cells of the row that has begun.
+    pub(crate) column: u16,
 }
 
 impl Rows {
     /// No rows.
+    #[tactic(auto, unfolding(crate::specs::GridText::widest))]
     pub(crate) fn new(alloc: Global) -> Rows
-        ensures { (result.cells.items ≡ []) × (result.lengths.items ≡ []) }
+        ensures { Holds result [] [] }
     {
         Rows {
             cells: Vec::new(alloc),
             lengths: Vec::new(alloc),
             lost: false,
+            height: 0,
+            width: 0,
+            column: 0,
         }
     }
 
     /// Adds a cell to the row that has begun.
     pub(crate) fn add(&mut self, glyph: Glyph)
-        ensures lost { self.new.lost ≡ false → self.old.lost ≡ false }
-        ensures cells { self.new.lost ≡ false → self.new.cells.items ≡ self.old.cells.items ++ glyph ∷ [] }
-        ensures lengths { self.new.lengths.items ≡ self.old.lengths.items }
+        requires { self.old.column + 1 < 2 ^ 16 }
+        ensures cell { (ended : List (List ℕ)) (begun : List ℕ) (byte : ℕ) → glyph ≡ glyph_of byte → Holds self.old ended begun → Holds self.new ended (begun ++ byte ∷ []) }
     {
         if !self.lost {
             self.lost = self.cells.push(glyph).is_err();
         }
+        self.column += 1;
     }
 
-    /// Ends the row that has begun, and that has so many cells.
-    pub(crate) fn end(&mut self, length: u16)
-        ensures lost { self.new.lost ≡ false → self.old.lost ≡ false }
-        ensures cells { self.new.cells.items ≡ self.old.cells.items }
-        ensures lengths { self.new.lost ≡ false → self.new.lengths.items ≡ self.old.lengths.items ++ length ∷ [] }
+    /// Ends the row that has begun.
+    pub(crate) fn end(&mut self)
+        requires { self.old.height + 1 < 2 ^ 16 }
+        ensures row { (ended : List (List ℕ)) (begun : List ℕ) → Holds self.old ended begun → Holds self.new (ended ++ begun ∷ []) [] }
     {
         if !self.lost {
-            self.lost = self.lengths.push(length).is_err();
+            self.lost = self.lengths.push(self.column).is_err();
         }
+        self.height += 1;
+        self.width = self.width.max(self.column);
+        self.column = 0;
     }
 
-    /// The cells of the grid of this size: the rows, each filled with `.` at the right.
-    pub(crate) fn filled(self, dims: Dims) -> Result<Vec<Glyph>, Memory>
+    /// The cells of the grid of this size: the rows, each filled with `.` at the right. [`Memory`] where
+    /// they are lost, or their room is refused.
+    pub(crate) fn spread(self, dims: Dims) -> Result<Vec<Glyph>, Memory>
         requires { self.lost ≡ false → Fits dims self.lengths.items self.cells.items }
         ensures cells { IfOk result (λ cells. cells.items ≡ flat_map (padded dims.w) (cut self.lengths.items self.cells.items)) }
         ensures kept { IfOk result (λ _. self.lost ≡ false) }

@@ -3,9 +3,9 @@ use Rattle.std.proofs.Math.Seq.{paste}
 use Rattle.std.proofs.lemmas.List.{get_or_read}
 use Rattle.orca_base.specs.Glyphs.{empty}
 use Rattle.orca_base.specs.Grids.{Size}
-use Rattle.orca_grid.specs.Packed.{padded}
+use Rattle.orca_grid.specs.GridText.{padded}
 use Rattle.orca_grid.proofs.Spreading.{spread-start, spread-row, whole-slice}
-use Rattle.orca_grid.proofs.rows.Rows.filled.Goals as goal
+use Rattle.orca_grid.proofs.rows.Rows.spread.Goals as goal
 
 pub loop-y-init : goal.loop-y-init
 loop-y-init c =
