@@ -5,6 +5,16 @@ use anyhow::{Context, Result, anyhow, bail, ensure};
 use orca_base::{Now, Port};
 use std::alloc::Global;
 
+/// The ports at which sends can fail.
+const PORTS: [Port; 6] = [
+    Port::Midi,
+    Port::Udp,
+    Port::Osc,
+    Port::Text,
+    Port::Fault,
+    Port::View,
+];
+
 /// What is to be done: a whole run, or a frame alone.
 #[derive(Drop)]
 pub(crate) struct Case {
@@ -112,15 +122,12 @@ fn read_file(alloc: Global, rest: &str) -> Result<(String, Vec<u8>)> {
 
 /// The port of that name.
 fn read_port(name: &str) -> Result<Port> {
-    match name {
-        "midi" => Ok(Port::Midi),
-        "udp" => Ok(Port::Udp),
-        "osc" => Ok(Port::Osc),
-        "text" => Ok(Port::Text),
-        "fault" => Ok(Port::Fault),
-        "view" => Ok(Port::View),
-        _ => bail!("these cases have no port {name:?}"),
+    for port in PORTS {
+        if port.name() == name {
+            return Ok(port);
+        }
     }
+    bail!("these cases have no port {name:?}")
 }
 
 #[cfg(test)]

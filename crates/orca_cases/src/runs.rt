@@ -5,7 +5,7 @@ ghost use Rattle.std.specs.Prelude.{◌≡◌, ◌<◌};
 use crate::bytes::{tell_bytes, write_bytes};
 use crate::case::Case;
 use anyhow::{Result, bail, ensure};
-use orca_base::{Port, Steps};
+use orca_base::Steps;
 use orca_player::Status;
 use orca_player::rig::{MemFiles, MemOuts, names_differ};
 use std::alloc::Global;
@@ -63,7 +63,7 @@ fn tell_sends(alloc: Global, outs: &MemOuts, into: &mut String) -> Result<()> {
             break;
         };
         into.push_str("send ")?;
-        tell_bytes(alloc, into, port_name(port), bytes)?;
+        tell_bytes(alloc, into, port.name(), bytes)?;
     }
     Ok(())
 }
@@ -77,16 +77,4 @@ fn tell_file(alloc: Global, files: &MemFiles, name: &str, into: &mut String) -> 
     let line = format!(in alloc; "file {name} {bytes}\n")?;
     into.push_str(line.as_str())?;
     Ok(())
-}
-
-/// The name of a port.
-fn port_name(port: Port) -> &'static str {
-    match port {
-        Port::Midi => "midi",
-        Port::Udp => "udp",
-        Port::Osc => "osc",
-        Port::Text => "text",
-        Port::Fault => "fault",
-        Port::View => "view",
-    }
 }
