@@ -76,9 +76,9 @@ happens-follows on tick s (event.Note channel key velocity length mono) low so_f
     start-follows on (record { channel = channel; key = key; due = tick + length }) velocity (stop (is_cut_by channel key mono) s) low.0 low.1
     (absent-after_cut channel key mono s.notes) (stop-follows on (is_cut_by channel key mono) s so_far)
 happens-follows on tick s (event.Control channel control value) low so_far =
-    say-follows on (message.Control channel control value) s low (Leads-other (voices s.notes) (0xB0 + channel) control value (omega arith)) so_far
+    say-follows on (message.Control channel control value) s low (Leads-other (voices s.notes) 11 channel control value (omega arith)) so_far
 happens-follows on tick s (event.Bend channel lsb msb) low so_far =
-    say-follows on (message.Bend channel lsb msb) s low (Leads-other (voices s.notes) (0xE0 + channel) lsb msb (omega arith)) so_far
+    say-follows on (message.Bend channel lsb msb) s low (Leads-other (voices s.notes) 14 channel lsb msb (omega arith)) so_far
 happens-follows on tick s (event.Udp text) low so_far = say-follows on (message.Udp text) s tt (Leads-nil (voices s.notes)) so_far
 happens-follows on tick s (event.Osc path values) low so_far = say-follows on (message.Osc path values) s tt (Leads-nil (voices s.notes)) so_far
 

@@ -1,33 +1,34 @@
 -- What the bytes of messages do to a device, one message after another.
-use Rattle.std.proofs.Common.{◌≡◌, ℕ, ◌+◌, ◌/◌, ◌%◌, ◌<◌, ◌≤◌, Bool, true, false, cond, not, eqb, List, [], ◌∷◌, ◌++◌, refl, ap, ◌∙◌, arith, append_assoc}
+use Rattle.std.proofs.Common.{◌≡◌, ℕ, ◌/◌, ◌%◌, ◌<◌, ◌≤◌, Bool, true, false, cond, not, eqb, List, [], ◌∷◌, ◌++◌, refl, ap, ◌∙◌, arith, append_assoc}
 use Rattle.std.specs.List.{IsDistinct, AllByRecursion, filter}
 use Rattle.std.proofs.lemmas.Bool.{and_from, and_left, or_from, or_right, not_from_false, cond-true, cond-false, eq-eqb, ne_eqb}
 use Rattle.orca_base.specs.declared.limits.TheConstants.{MAX_CHANNEL, MIN_VELOCITY}
 use Rattle.orca_base.specs.declared.note.Note.{Note}
+use Rattle.orca_base.specs.MidiBytes.{status, voice_message, note_on_bytes, note_off_bytes}
 use Rattle.orca_notes.specs.Device.{Voice, is_same, is_on, voice_of, voices, Turn, Starts, Ends, Neither, turn_of, turned_off, turned, device, Suits, IsFair, midi, device-append, IsFair-append}
 use Rattle.orca_notes.specs.Sound.{ends}
 use Rattle.orca_notes.proofs.Voices.{IsInRange, turned_off-absent, turned_off-middle, distinct-middle, is_on-middle}
 
 -- ---- one message
 
-turn_of-on : (channel key velocity : ℕ) → channel ≤ MAX_CHANNEL → MIN_VELOCITY ≤ velocity → turn_of ((0x90 + channel) ∷ key ∷ velocity ∷ []) ≡ Starts (record { channel = channel; key = key })
+turn_of-on : (channel key velocity : ℕ) → channel ≤ MAX_CHANNEL → MIN_VELOCITY ≤ velocity → turn_of (note_on_bytes channel key velocity) ≡ Starts (record { channel = channel; key = key })
 turn_of-on channel key velocity low loud =
-    let kind : eqb ((0x90 + channel) / 16) 9 ≡ true = eq-eqb _ _ (omega arith) in
+    let kind : eqb (status 9 channel / 16) 9 ≡ true = eq-eqb _ _ (omega arith) in
     let loud : not (eqb velocity 0) ≡ true = not_from_false _ (ne_eqb _ _ (λ e. absurd (omega arith))) in
-    let same : (0x90 + channel) % 16 ≡ channel = omega arith in
+    let same : status 9 channel % 16 ≡ channel = omega arith in
     cond-true _ _ _ (and_from _ _ kind loud) ∙ ap (λ n. Starts (record { channel = n; key = key })) same
 
-turn_of-off : (channel key : ℕ) → channel ≤ MAX_CHANNEL → turn_of ((0x80 + channel) ∷ key ∷ 0 ∷ []) ≡ Ends (record { channel = channel; key = key })
+turn_of-off : (channel key : ℕ) → channel ≤ MAX_CHANNEL → turn_of (note_off_bytes channel key) ≡ Ends (record { channel = channel; key = key })
 turn_of-off channel key low =
-    let not_on : eqb ((0x80 + channel) / 16) 9 ≡ false = ne_eqb _ _ (λ e. absurd (omega arith)) in
-    let kind : eqb ((0x80 + channel) / 16) 8 ≡ true = eq-eqb _ _ (omega arith) in
-    let same : (0x80 + channel) % 16 ≡ channel = omega arith in
+    let not_on : eqb (status 8 channel / 16) 9 ≡ false = ne_eqb _ _ (λ e. absurd (omega arith)) in
+    let kind : eqb (status 8 channel / 16) 8 ≡ true = eq-eqb _ _ (omega arith) in
+    let same : status 8 channel % 16 ≡ channel = omega arith in
     cond-false _ _ _ (and_left _ _ not_on) ∙ (cond-true _ _ _ (or_right _ _ kind) ∙ ap (λ n. Ends (record { channel = n; key = key })) same)
 
-turn_of-other : (status first second : ℕ) → 0x9F < status → turn_of (status ∷ first ∷ second ∷ []) ≡ Neither
-turn_of-other status first second high =
-    let not_on : eqb (status / 16) 9 ≡ false = ne_eqb _ _ (λ e. absurd (omega arith)) in
-    let not_off : eqb (status / 16) 8 ≡ false = ne_eqb _ _ (λ e. absurd (omega arith)) in
+turn_of-other : (kind channel first second : ℕ) → 9 < kind → turn_of (voice_message kind channel first second) ≡ Neither
+turn_of-other kind channel first second other =
+    let not_on : eqb (status kind channel / 16) 9 ≡ false = ne_eqb _ _ (λ e. absurd (omega arith)) in
+    let not_off : eqb (status kind channel / 16) 8 ≡ false = ne_eqb _ _ (λ e. absurd (omega arith)) in
     cond-false _ _ _ (and_left _ _ not_on) ∙ cond-false _ _ _ (or_from _ _ not_on not_off)
 
 -- ---- messages in a row
@@ -56,22 +57,22 @@ Leads-append on mid after xs ys first rest = record {
 Leads-turn : (on after : List Voice) (message : List ℕ) (turn : Turn) (messages : List (List ℕ)) → turn_of message ≡ turn → Suits on turn → Leads (turned on turn) messages after → Leads on (message ∷ messages) after
 Leads-turn on after message turn messages e suits rest = Leads-cons on after message messages (rw e suits) (rw e rest)
 
-pub Leads-off : (on after : List Voice) (voice : Voice) (messages : List (List ℕ)) → voice.channel ≤ MAX_CHANNEL → is_on on voice ≡ true → Leads (turned_off on voice) messages after → Leads on (((0x80 + voice.channel) ∷ voice.key ∷ 0 ∷ []) ∷ messages) after
+pub Leads-off : (on after : List Voice) (voice : Voice) (messages : List (List ℕ)) → voice.channel ≤ MAX_CHANNEL → is_on on voice ≡ true → Leads (turned_off on voice) messages after → Leads on (note_off_bytes voice.channel voice.key ∷ messages) after
 unfolding turned
 Leads-off on after voice messages low suits rest =
     Leads-turn on after _ (Ends voice) messages (turn_of-off voice.channel voice.key low) suits rest
 
-pub Leads-on : (on : List Voice) (voice : Voice) (velocity : ℕ) → voice.channel ≤ MAX_CHANNEL → MIN_VELOCITY ≤ velocity → is_on on voice ≡ false → Leads on (((0x90 + voice.channel) ∷ voice.key ∷ velocity ∷ []) ∷ []) (on ++ voice ∷ [])
+pub Leads-on : (on : List Voice) (voice : Voice) (velocity : ℕ) → voice.channel ≤ MAX_CHANNEL → MIN_VELOCITY ≤ velocity → is_on on voice ≡ false → Leads on (note_on_bytes voice.channel voice.key velocity ∷ []) (on ++ voice ∷ [])
 unfolding turned
 Leads-on on voice velocity low loud absent =
     let kept : turned_off on voice ≡ on = turned_off-absent on voice absent in
     Leads-turn on _ _ (Starts voice) [] (turn_of-on voice.channel voice.key velocity low loud) absent
     (rw kept (Leads-nil (on ++ voice ∷ [])))
 
-pub Leads-other : (on : List Voice) (status first second : ℕ) → 0x9F < status → Leads on ((status ∷ first ∷ second ∷ []) ∷ []) on
+pub Leads-other : (on : List Voice) (kind channel first second : ℕ) → 9 < kind → Leads on (voice_message kind channel first second ∷ []) on
 unfolding turned
-Leads-other on status first second high =
-    Leads-turn on on _ Neither [] (turn_of-other status first second high) tt (Leads-nil on)
+Leads-other on kind channel first second other =
+    Leads-turn on on _ Neither [] (turn_of-other kind channel first second other) tt (Leads-nil on)
 
 -- ---- the ends of some notes of a chord
 

@@ -1,5 +1,5 @@
 -- A device that reads MIDI messages in order: which keys of which channels are on (MIDI 1.0, note on and note off).
-use Rattle.std.specs.Prelude.{◌≡◌, ℕ, ◌+◌, ◌/◌, ◌%◌, ◌≤◌, Bool, true, false, not, ◌&&◌, ◌||◌, ◌==◌, if◌then◌else◌, List, [], ◌∷◌, ◌++◌, map, filter, fold, All}
+use Rattle.std.specs.Prelude.{◌≡◌, ℕ, ◌/◌, ◌%◌, ◌≤◌, Bool, true, false, not, ◌&&◌, ◌||◌, ◌==◌, if◌then◌else◌, List, [], ◌∷◌, ◌++◌, map, filter, fold, All}
 use Rattle.std.specs.List.{list_any, flat_map, IsDistinct}
 use Rattle.std.proofs.lemmas.List.Sums.{fold-append}
 use Rattle.std.proofs.lemmas.Grind.{flat_map-append}
@@ -7,6 +7,7 @@ use Rattle.orca_base.specs.declared.limits.TheConstants.{MAX_CHANNEL, MAX_DATA}
 use Rattle.orca_base.specs.declared.note.Note.{Note}
 use Rattle.orca_base.specs.declared.message.Message.{Message}
 use Rattle.orca_base.specs.declared.message.Message.TheVariants as message
+use Rattle.orca_base.specs.MidiBytes.{note_on_bytes, note_off_bytes, control_bytes, bend_bytes}
 
 -- a key of a channel
 pub record Voice : Type 0 where
@@ -88,12 +89,12 @@ unfolding device IsFair
 IsFair-append on [] ys first rest = rest
 IsFair-append on (x ∷ xs) ys first rest = (first.0, IsFair-append (turned on (turn_of x)) xs ys first.1 rest)
 
--- the MIDI bytes of a message, where it is a MIDI message (MIDI 1.0, channel voice messages)
+-- the bytes of a message, where it is a MIDI message
 abbrev pub midi_of : Message → List (List ℕ)
-midi_of (message.On channel key velocity) = ((0x90 + channel) ∷ key ∷ velocity ∷ []) ∷ []
-midi_of (message.Off channel key) = ((0x80 + channel) ∷ key ∷ 0 ∷ []) ∷ []
-midi_of (message.Control channel control value) = ((0xB0 + channel) ∷ control ∷ value ∷ []) ∷ []
-midi_of (message.Bend channel lsb msb) = ((0xE0 + channel) ∷ lsb ∷ msb ∷ []) ∷ []
+midi_of (message.On channel key velocity) = note_on_bytes channel key velocity ∷ []
+midi_of (message.Off channel key) = note_off_bytes channel key ∷ []
+midi_of (message.Control channel control value) = control_bytes channel control value ∷ []
+midi_of (message.Bend channel lsb msb) = bend_bytes channel lsb msb ∷ []
 midi_of (message.Udp text) = []
 midi_of (message.Osc path values) = []
 
