@@ -6,3 +6,4 @@ pub mod MarkLemmas
 pub mod RangeLemmas
 pub mod ResidueLemmas
 pub mod TableLemmas
+pub mod WrittenLemmas

@@ -1,0 +1,188 @@
+-- The places that a frame lists: those that its deeds write, each once.
+use Rattle.std.proofs.Common.{◌≡◌, ℕ, zero, suc, List, [], ◌∷◌, ◌++◌, refl, sym, ap, ◌∙◌, subst, inl, inr, ◌⊎◌, Bool, true, false, not, ◌&&◌, arith}
+use Rattle.std.specs.Prelude.{◌↔◌, Contains, Option, Some, None, ℤ, pos, negsuc, nat_lt, if◌then◌else◌}
+use Rattle.std.specs.Cmp.{IsEquivalence}
+use Rattle.std.specs.List.{IsDistinct, list_any}
+use Rattle.std.proofs.lemmas.Bool.{and_parts, and_from, eqb-true, eq-eqb, both_ways, cases_Bool, false_from_ne_true}
+use Rattle.std.proofs.lemmas.List.Elements.{Contains-push, Contains-append_left, Contains-append_cases}
+use Rattle.std.proofs.lemmas.Map.Keys.{IsDistinct-push}
+use Rattle.std.proofs.lemmas.Map.Views.{Contains-from_any}
+use Rattle.orca_base.specs.declared.now.Now.{Now}
+use Rattle.orca_base.specs.declared.place.Place.{Place}
+use Rattle.orca_base.specs.Grids.{Size, Sheet, place_in, place_at, place_of}
+use Rattle.orca_op.specs.State.{State, fresh}
+use Rattle.orca_op.specs.Deeds.{Deed, Mark, Write, Set, Emit, after_all}
+use Rattle.orca_op.specs.Desk.{is_place, is_in, listed_with, listed_after, listed_all}
+use Rattle.orca_op.specs.LawFacts.{after_all-append}
+use Rattle.orca_op.specs.Laws.{Some_deed}
+use Rattle.orca_op.specs.Rules.{rule}
+use Rattle.orca_op.specs.Scan.{deeds_by, scanned_by, scan_deeds, scan, places, written}
+use Rattle.orca_frame.specs.Written.{WritesPlace, IsWritten}
+
+-- ---- the test of equal places
+
+same_place : (a b : Place) → is_place a b ≡ true → a ≡ b
+same_place a b is =
+    let parts = and_parts _ _ is in
+    let row : a.y ≡ b.y = eqb-true _ _ parts.0 in
+    let column : a.x ≡ b.x = eqb-true _ _ parts.1 in
+    let with_row : ℕ → Place = λ y. record { y = y; x = a.x } in
+    let with_column : ℕ → Place = λ x. record { y = b.y; x = x } in
+    ap with_row row ∙ ap with_column column
+
+place_itself : (a : Place) → is_place a a ≡ true
+place_itself a = and_from _ _ (eq-eqb a.y a.y refl) (eq-eqb a.x a.x refl)
+
+place_back : (a b : Place) → is_place a b ≡ true → is_place b a ≡ true
+place_back a b is = subst (λ (p : Place). is_place p a ≡ true) (same_place a b is) (place_itself a)
+
+equal_places : IsEquivalence is_place
+equal_places = record {
+  refl = place_itself;
+  symm = λ a b. elim (cases_Bool (is_place a b)) [
+    | inl is ↦ is ∙ sym (place_back a b is)
+    | inr other ↦ other ∙ sym (false_from_ne_true _ (λ is. both_ways _ other (place_back b a is)))
+  ];
+  congr = λ a b c is. ap (λ (p : Place). is_place p c) (same_place a b is);
+}
+
+-- ---- the place of a spot lies in the grid
+
+placed_if : (d : Size) (y x : ℕ) (at : Place) (inside : Bool) → (nat_lt y d.h && nat_lt x d.w) ≡ inside → (if inside then Some (record { y = y; x = x }) else None) ≡ Some at → is_in d at ≡ true
+placed_if d y x at true inside same = cc
+placed_if d y x at false inside same = cc
+
+placed_at : (d : Size) (y x : ℤ) (at : Place) → place_at d y x ≡ Some at → is_in d at ≡ true
+placed_at d (pos y) (pos x) at same = placed_if d y x at (nat_lt y d.h && nat_lt x d.w) refl same
+placed_at d (pos y) (negsuc x) at same = cc
+placed_at d (negsuc y) x at same = cc
+
+-- ---- one write
+
+distinct_if : (listed : List Place) (at : Place) (inside found : Bool) → list_any (is_place at) listed ≡ found → IsDistinct is_place listed → IsDistinct is_place (if inside && not found then listed ++ at ∷ [] else listed)
+distinct_if listed at true false absent distinct = IsDistinct-push equal_places listed at distinct absent
+distinct_if listed at true true present distinct = distinct
+distinct_if listed at false found test distinct = distinct
+
+distinct_with : (d : Size) (listed : List Place) (p : Option Place) → IsDistinct is_place listed → IsDistinct is_place (listed_with d listed p)
+distinct_with d listed None distinct = distinct
+distinct_with d listed (Some at) distinct = distinct_if listed at (is_in d at) (list_any (is_place at) listed) refl distinct
+
+only_one : (at q : Place) → Contains (q ∷ []) at → Some q ≡ Some at
+only_one at q (zero, below, is) = ap (λ (p : Place). Some p) is
+only_one at q (suc k, below, is) = absurd (omega arith)
+
+listed_or : (listed : List Place) (at q : Place) → Contains listed at ⊎ Contains (q ∷ []) at → Contains listed at ⊎ (Some q ≡ Some at)
+listed_or listed at q (inl before) = inl before
+listed_or listed at q (inr itself) = inr (only_one at q itself)
+
+from_if : (listed : List Place) (at q : Place) (adds : Bool) → Contains (if adds then listed ++ q ∷ [] else listed) at → Contains listed at ⊎ (Some q ≡ Some at)
+from_if listed at q true is = listed_or listed at q (Contains-append_cases listed (q ∷ []) at is)
+from_if listed at q false is = inl is
+
+-- a listed place was listed before, or is the one that is written
+from_with : (d : Size) (listed : List Place) (p : Option Place) (at : Place) → Contains (listed_with d listed p) at → Contains listed at ⊎ (p ≡ Some at)
+from_with d listed None at is = inl is
+from_with d listed (Some q) at is = from_if listed at q (is_in d q && not (list_any (is_place q) listed)) is
+
+kept_if : (listed : List Place) (at q : Place) (adds : Bool) → Contains listed at → Contains (if adds then listed ++ q ∷ [] else listed) at
+kept_if listed at q true is = Contains-append_left listed (q ∷ []) at is
+kept_if listed at q false is = is
+
+-- a listed place stays
+kept_with : (d : Size) (listed : List Place) (p : Option Place) (at : Place) → Contains listed at → Contains (listed_with d listed p) at
+kept_with d listed None at is = is
+kept_with d listed (Some q) at is = kept_if listed at q (is_in d q && not (list_any (is_place q) listed)) is
+
+added_if : (listed : List Place) (at : Place) (inside found : Bool) → inside ≡ true → list_any (is_place at) listed ≡ found → Contains (if inside && not found then listed ++ at ∷ [] else listed) at
+added_if listed at true false inside absent = Contains-push listed at
+added_if listed at true true inside present = Contains-from_any same_place at listed present
+added_if listed at false found inside test = cc
+
+-- a place of the grid that is written is listed
+added_with : (d : Size) (listed : List Place) (p : Option Place) (at : Place) → p ≡ Some at → is_in d at ≡ true → Contains (listed_with d listed p) at
+added_with d listed p at is inside =
+    subst (λ (q : Option Place). Contains (listed_with d listed q) at) (sym is)
+    (added_if listed at (is_in d at) (list_any (is_place at) listed) inside refl)
+
+-- ---- deeds in order
+
+distinct_all : (d : Size) (listed : List Place) (deeds : List Deed) → IsDistinct is_place listed → IsDistinct is_place (listed_all d d listed deeds)
+unfolding listed_after
+distinct_all d listed [] distinct = distinct
+distinct_all d listed (Mark spot marks ∷ deeds) distinct = distinct_all d listed deeds distinct
+distinct_all d listed (Write spot glyph ∷ deeds) distinct =
+    distinct_all d (listed_with d listed (place_in d spot)) deeds (distinct_with d listed (place_in d spot) distinct)
+distinct_all d listed (Set variable glyph ∷ deeds) distinct = distinct_all d listed deeds distinct
+distinct_all d listed (Emit event ∷ deeds) distinct = distinct_all d listed deeds distinct
+
+later : (A B C : Type 0) → A ⊎ C → A ⊎ (B ⊎ C)
+later A B C (inl first) = inl first
+later A B C (inr last) = inr (inr last)
+
+either : (A B C : Type 0) (E : Type 0) → (E → A ⊎ B) → E ⊎ C → A ⊎ (B ⊎ C)
+either A B C E cases (inr last) = inr (inr last)
+either A B C E cases (inl here) = elim (cases here) [ inl first ↦ inl first | inr mid ↦ inr (inl mid) ]
+
+-- a listed place was listed before, or a deed writes it
+from_all : (d : Size) (listed : List Place) (deeds : List Deed) (at : Place) → Contains (listed_all d d listed deeds) at → Contains listed at ⊎ Some_deed (WritesPlace d at) deeds
+unfolding listed_after
+from_all d listed [] at is = inl is
+from_all d listed (Mark spot marks ∷ deeds) at is = later _ _ _ (from_all d listed deeds at is)
+from_all d listed (Write spot glyph ∷ deeds) at is =
+    either _ _ _ _ (from_with d listed (place_in d spot) at) (from_all d (listed_with d listed (place_in d spot)) deeds at is)
+from_all d listed (Set variable glyph ∷ deeds) at is = later _ _ _ (from_all d listed deeds at is)
+from_all d listed (Emit event ∷ deeds) at is = later _ _ _ (from_all d listed deeds at is)
+
+kept_all : (d : Size) (listed : List Place) (deeds : List Deed) (at : Place) → Contains listed at → Contains (listed_all d d listed deeds) at
+unfolding listed_after
+kept_all d listed [] at is = is
+kept_all d listed (Mark spot marks ∷ deeds) at is = kept_all d listed deeds at is
+kept_all d listed (Write spot glyph ∷ deeds) at is =
+    kept_all d (listed_with d listed (place_in d spot)) deeds at (kept_with d listed (place_in d spot) at is)
+kept_all d listed (Set variable glyph ∷ deeds) at is = kept_all d listed deeds at is
+kept_all d listed (Emit event ∷ deeds) at is = kept_all d listed deeds at is
+
+-- a place that a deed writes is listed
+added_all : (d : Size) (listed : List Place) (deeds : List Deed) (at : Place) → Some_deed (WritesPlace d at) deeds → Contains (listed_all d d listed deeds) at
+unfolding listed_after
+added_all d listed [] at writes = absurd writes
+added_all d listed (Mark spot marks ∷ deeds) at (inl writes) = absurd writes
+added_all d listed (Mark spot marks ∷ deeds) at (inr more) = added_all d listed deeds at more
+added_all d listed (Write spot glyph ∷ deeds) at (inl writes) =
+    kept_all d (listed_with d listed (place_in d spot)) deeds at (added_with d listed (place_in d spot) at writes (placed_at d spot.y spot.x at writes))
+added_all d listed (Write spot glyph ∷ deeds) at (inr more) = added_all d (listed_with d listed (place_in d spot)) deeds at more
+added_all d listed (Set variable glyph ∷ deeds) at (inl writes) = absurd writes
+added_all d listed (Set variable glyph ∷ deeds) at (inr more) = added_all d listed deeds at more
+added_all d listed (Emit event ∷ deeds) at (inl writes) = absurd writes
+added_all d listed (Emit event ∷ deeds) at (inr more) = added_all d listed deeds at more
+
+-- ---- a frame
+
+nothing : (at : Place) (B : Type 0) → Contains [] at ⊎ B → B
+nothing at B (inl (k, below, is)) = absurd (omega arith)
+nothing at B (inr other) = other
+
+-- the places are distinct
+pub written-once : (g : Sheet) (now : Now) → IsDistinct is_place (written g now)
+unfolding written IsDistinct
+written-once g now = distinct_all g.dims [] (scan_deeds (places g) g now) tt
+
+-- and they are those that some deed writes
+pub written-exactly : (g : Sheet) (now : Now) (at : Place) → Contains (written g now) at ↔ IsWritten g now at
+unfolding written
+written-exactly g now at = (
+  λ is. nothing at _ (from_all g.dims [] (scan_deeds (places g) g now) at is),
+  added_all g.dims [] (scan_deeds (places g) g now) at,
+)
+
+scanned-deeds : (n : ℕ) (g : Sheet) (now : Now) → scanned_by rule n g now ≡ after_all (fresh g) (scan_deeds n g now)
+scanned-deeds zero g now = refl
+scanned-deeds (suc n) g now =
+    let deeds = deeds_by rule (scanned_by rule n g now) (place_of g.dims n) now in
+    ap (λ (s : State). after_all s deeds) (scanned-deeds n g now) ∙ sym (after_all-append (fresh g) (scan_deeds n g now) deeds)
+
+-- the state after a frame is the one after its deeds
+pub scan-deeds : (g : Sheet) (now : Now) → scan g now ≡ after_all (fresh g) (scan_deeds (places g) g now)
+unfolding scan
+scan-deeds g now = scanned-deeds (places g) g now
