@@ -1,18 +1,18 @@
 -- The plain frame: before, during and after the loop over the places.
 use Rattle.std.proofs.Common.{◌≡◌, ℕ, ◌+◌, ◌*◌, ◌<◌, ◌≤◌, arith, ap, sym, ◌∙◌, subst, add-one, length}
-use Rattle.std.specs.Prelude.{All}
-use Rattle.orca_base.specs.declared.limits.TheConstants.{MAX_DEEDS}
+use Rattle.std.specs.Prelude.{All, if◌then◌else◌}
+use Rattle.orca_base.specs.declared.limits.TheConstants.{MAX_DEEDS, MAX_TICKS}
 use Rattle.orca_base.specs.declared.now.Now.{Now}
 use Rattle.orca_base.specs.declared.place.Place.{Place}
 use Rattle.orca_base.specs.EventRanges.{IsInRange}
 use Rattle.orca_base.specs.Grids.{Size, Sheet, IsSheet, IsInside, place_of}
 use Rattle.orca_op.specs.Desk.{Desk, all_done, residue}
-use Rattle.orca_base.specs.Glyphs.{AreGlyphs}
+use Rattle.orca_base.specs.Glyphs.{AreGlyphs, is_operator}
 use Rattle.orca_op.specs.Laws.{IsLawful}
-use Rattle.orca_op.specs.State.{State, IsState, sheet_of}
+use Rattle.orca_op.specs.State.{State, IsState, sheet_of, glyph_at}
 use Rattle.orca_op.specs.Rules.{rule}
-use Rattle.orca_op.specs.Scan.{deeds_by, scanned_by, scan, written, busy, places}
-use Rattle.orca_frame.specs.Frames.{desk_after}
+use Rattle.orca_op.specs.Scan.{deeds_by, scanned_by, scan, written, busy, busy_of, places}
+use Rattle.orca_frame.specs.Frames.{desk_after, looks, most_ticks}
 use Rattle.orca_frame.proofs.DeskLemmas.{dims_scanned, desk_suc}
 use Rattle.orca_frame.proofs.EventLemmas.{events_scanned}
 use Rattle.orca_frame.proofs.RangeLemmas.{played_scanned}
@@ -71,3 +71,29 @@ playable after s now is lawful state glyphs =
     let g = sheet_of s in
     let sheet : IsSheet g = record { size = state.size; whole = state.cells } in
     subst (λ (t : State). All IsInRange t.events) (sym is) (played_scanned rule (places g) g now lawful sheet glyphs (omega arith)).events
+
+-- ---- the ticks
+
+-- one visit more
+pub ticks_more : (d : Desk) (n : ℕ) (g : Sheet) (now : Now) (dims : Size) (at : Place) (first before after : ℕ)
+    → d ≡ desk_after n g now → dims ≡ g.dims → at ≡ place_of dims n
+    → before ≤ first + looks * n + MAX_TICKS * busy_of n g now
+    → after ≤ before + looks + MAX_TICKS * (if is_operator (glyph_at d.scan at) then 1 else 0)
+    → after ≤ first + looks * (n + 1) + MAX_TICKS * busy_of (n + 1) g now
+ticks_more d n g now dims at first before after is same place so_far visited =
+    let here : at ≡ place_of g.dims n = place ∙ ap (λ (s : Size). place_of s n) same in
+    let operator : glyph_at d.scan at ≡ glyph_at (scanned_by rule n g now) (place_of g.dims n) =
+    ap (λ (e : Desk). glyph_at e.scan at) is ∙ ap (λ (p : Place). glyph_at (scanned_by rule n g now) p) here in
+    let looked = rw operator at visited in
+    rw add-one (omega (arith, so_far, looked))
+
+-- every visit
+pub ticks_all : (d : Desk) (n : ℕ) (now : Now) (dims : Size) (first last : ℕ)
+    → dims ≡ d.scan.dims → n ≡ dims.h * dims.w
+    → last ≤ first + 1 + residue d + looks * n + MAX_TICKS * busy_of n (sheet_of d.scan) now
+    → last ≤ first + most_ticks d now
+unfolding busy
+ticks_all d n now dims first last same all so_far =
+    let whole : n ≡ places (sheet_of d.scan) = all ∙ ap (λ (s : Size). s.h * s.w) same in
+    let last_of = rw whole at so_far in
+    omega (arith, last_of)

@@ -30,7 +30,6 @@ pub(crate) fn act<B: Bench, L: Ledger>(
     requires room { length (B.desk bench.old).scan.events < (B.desk bench.old).scan.dims.h * (B.desk bench.old).scan.dims.w }
     ensures deeds { B.desk bench.new ≡ all_done (B.desk bench.old) (rule glyph (B.desk bench.old).scan at now) }
     ensures ticks { steps.new ≤ steps.old + MAX_TICKS }
-    ensures later { steps.old ≤ steps.new }
 {
     let Some(kind) = Kind::of(glyph) else {
         return;

@@ -1,4 +1,4 @@
-ghost use Rattle.std.specs.Prelude.{◌≡◌, ◌*◌, ◌≤◌, ◌↔◌, All, Contains};
+ghost use Rattle.std.specs.Prelude.{◌≡◌, ◌+◌, ◌*◌, ◌≤◌, ◌↔◌, All, Contains};
 ghost use Rattle.std.specs.List.{IsDistinct};
 ghost use Rattle.orca_base.specs.declared.limits.TheConstants.{MAX_DEEDS};
 ghost use Rattle.orca_base.specs.EventRanges.{IsInRange};
@@ -7,6 +7,7 @@ ghost use Rattle.orca_op.specs.Deeds.{after_all};
 ghost use Rattle.orca_op.specs.Desk.{is_place, residue};
 ghost use Rattle.orca_op.specs.Scan.{scan, written, busy};
 ghost use Rattle.orca_op.specs.State.{sheet_of, fresh};
+ghost use Rattle.orca_frame.specs.Frames.{most_ticks};
 ghost use Rattle.orca_frame.specs.Written.{frame_deeds, IsWritten};
 
 use crate::covering::covering_law;
@@ -16,7 +17,12 @@ use orca_base::{Now, Steps};
 use orca_op::Bench;
 use std::sync::ledger::Ledger;
 
-/// Works a frame by visiting all places: the slow form. Each event that it leaves can be played.
+/// Works a frame by visiting all places in reading order: the slow form. `now` is the tick of the frame and
+/// the seed of its random numbers.
+///
+/// Until the next `begin` the bench then holds what the frame left: the glyphs of the grid, the marks, the
+/// variables, and the events in the order in which they were emitted, each of which can be played. Each
+/// place that a deed wrote is listed, once.
 pub fn frame_plain<B: Bench, L: Ledger>(bench: &mut B, now: Now, steps: &mut Steps<L>)
     ensures scan { (B.desk bench.new).scan ≡ scan (sheet_of (B.desk bench.old).scan) now }
     ensures began { (B.desk bench.new).began ≡ (B.desk bench.old).scan.dims }
@@ -26,7 +32,11 @@ pub fn frame_plain<B: Bench, L: Ledger>(bench: &mut B, now: Now, steps: &mut Ste
     ensures exactly { (at : Place) → Contains (B.desk bench.new).listed at ↔ IsWritten (sheet_of (B.desk bench.old).scan) now at }
     ensures playable { All IsInRange (B.desk bench.new).scan.events }
     ensures residue { residue (B.desk bench.new) ≤ MAX_DEEDS * busy (sheet_of (B.desk bench.old).scan) now }
+    ensures ticks { steps.new ≤ steps.old + most_ticks (B.desk bench.old) now }
 {
+    // Neither call does anything when the program runs. The first gives the proof the laws of the operator
+    // table: how many deeds and events a visit has at most, and that its events can be played. The second
+    // is the covering law of the same table, so that no frame is worked where it isn't proved.
     table_laws();
     covering_law();
     let dims = bench.dims();

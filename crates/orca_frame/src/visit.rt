@@ -1,5 +1,8 @@
-ghost use Rattle.std.specs.Prelude.{◌≡◌, ◌+◌, ◌*◌, ◌<◌, ◌≤◌, length};
+ghost use Rattle.std.specs.Prelude.{◌≡◌, ◌+◌, ◌*◌, ◌<◌, ◌≤◌, length, if◌then◌else◌};
+ghost use Rattle.orca_base.specs.declared.limits.TheConstants.{MAX_TICKS};
+ghost use Rattle.orca_base.specs.Glyphs.{is_operator};
 ghost use Rattle.orca_base.specs.Grids.{IsInside};
+ghost use Rattle.orca_frame.specs.Frames.{looks};
 ghost use Rattle.orca_op.specs.Desk.{all_done};
 ghost use Rattle.orca_op.specs.Rules.{rule};
 ghost use Rattle.orca_op.specs.Scan.{deeds_by, is_idle};
@@ -16,8 +19,7 @@ fn is_idle<B: Bench, L: Ledger>(bench: &B, at: Place, glyph: Glyph, steps: &mut 
     requires inside { IsInside (B.desk bench.now).scan.dims at }
     requires holds { glyph ≡ glyph_at (B.desk bench.now).scan at }
     ensures idle { result ≡ is_idle (B.desk bench.now).scan at }
-    ensures ticks { steps.new ≤ steps.old + 5 }
-    ensures later { steps.old ≤ steps.new }
+    ensures ticks { steps.new < steps.old + looks }
 {
     if !glyph.is_operator() {
         return true;
@@ -30,11 +32,12 @@ fn is_idle<B: Bench, L: Ledger>(bench: &B, at: Place, glyph: Glyph, steps: &mut 
 }
 
 /// Visits a place: does nothing where it is idle, and else the deeds of its operator.
-#[tactic(auto, using(orca_op::specs::OwnPlace::peek_own), unfolding(orca_op::specs::Scan::deeds_by))]
+#[tactic(auto, using(orca_op::specs::OwnPlace::peek_own), unfolding(orca_op::specs::Scan::deeds_by, orca_op::specs::Scan::is_idle))]
 pub(crate) fn visit<B: Bench, L: Ledger>(bench: &mut B, at: Place, now: Now, steps: &mut Steps<L>)
     requires inside { IsInside (B.desk bench.old).scan.dims at }
     requires room { length (B.desk bench.old).scan.events < (B.desk bench.old).scan.dims.h * (B.desk bench.old).scan.dims.w }
-    ensures { B.desk bench.new ≡ all_done (B.desk bench.old) (deeds_by rule (B.desk bench.old).scan at now) }
+    ensures deeds { B.desk bench.new ≡ all_done (B.desk bench.old) (deeds_by rule (B.desk bench.old).scan at now) }
+    ensures ticks { steps.new ≤ steps.old + looks + MAX_TICKS * (if is_operator (glyph_at (B.desk bench.old).scan at) then 1 else 0) }
 {
     let glyph = bench.peek(at.off(0, 0), steps);
     if !is_idle(bench, at, glyph, steps) {

@@ -5,26 +5,30 @@ use Rattle.orca_base.specs.declared.place.Place.{Place}
 use Rattle.orca_op.specs.Desk.{is_place}
 use Rattle.orca_op.specs.State.{sheet_of}
 use Rattle.orca_frame.specs.Written.{IsWritten}
-use Rattle.orca_frame.proofs.FrameLemmas.{IsFramed, inside_desk, room_desk, visit_desk, framed, playable}
+use Rattle.orca_frame.proofs.FrameLemmas.{IsFramed, inside_desk, room_desk, visit_desk, framed, playable, ticks_more, ticks_all}
 use Rattle.orca_frame.proofs.WrittenLemmas.{written-once, written-exactly, scan-deeds}
 use Rattle.orca_frame.proofs.plain.frame_plain.Given as given
 use Rattle.orca_frame.proofs.plain.frame_plain.Goals as goal
 use Rattle.orca_frame.proofs.plain.frame_plain.Goals.{After-loop-i}
 
 pub visit-requires-clause-inside : goal.visit-requires-clause-inside
-visit-requires-clause-inside g c = inside_desk _ _ _ _ _ _ c.loop-i.invariant c.dims-dims.ensures.size c.place.ensures.inside
+visit-requires-clause-inside g c = inside_desk _ _ _ _ _ _ c.loop-i.invariant.desk c.dims-dims.ensures.size c.place.ensures.inside
 
 pub visit-requires-clause-room : goal.visit-requires-clause-room
-visit-requires-clause-room g c = room_desk _ c.loop-i.i _ _ c.dims-dims.result c.loop-i.invariant c.dims-dims.ensures.size c.table_laws.ensures (omega (arith, c.loop-i-test.true, c.cells-places.ensures.cells))
+visit-requires-clause-room g c = room_desk _ c.loop-i.i _ _ c.dims-dims.result c.loop-i.invariant.desk c.dims-dims.ensures.size c.table_laws.ensures (omega (arith, c.loop-i-test.true, c.cells-places.ensures.cells))
 
 pub loop-i-preserved : goal.loop-i-preserved
-loop-i-preserved g c = visit_desk _ _ _ _ _ _ _ c.loop-i.invariant c.dims-dims.ensures.size c.place.ensures.place c.visit.ensures
+loop-i-preserved g c = record {
+  desk = visit_desk _ _ _ _ _ _ _ c.loop-i.invariant.desk c.dims-dims.ensures.size c.place.ensures.place c.visit.ensures.deeds;
+  ticks = ticks_more _ _ _ _ _ _ _ _ _ c.loop-i.invariant.desk c.dims-dims.ensures.size c.place.ensures.place c.loop-i.invariant.ticks c.visit.ensures.ticks;
+}
 
 -- every place was visited
+visited : (g : given.Over) (c : After-loop-i g) → c.loop-i.i ≡ c.dims-dims.result.h * c.dims-dims.result.w
+visited g c = omega (arith, c.loop-i.auto.i-end, c.loop-i-test.false, c.cells-places.ensures.cells)
+
 whole : (g : given.Over) (c : After-loop-i g) → IsFramed (g.B.Bench.desk c.loop-i.bench) (sheet_of (g.B.Bench.desk c.args.bench.now).scan) c.args.now
-whole g c =
-    let all : c.loop-i.i ≡ c.dims-dims.result.h * c.dims-dims.result.w = omega (arith, c.loop-i.auto.i-end, c.loop-i-test.false, c.cells-places.ensures.cells) in
-    framed _ _ _ _ _ c.loop-i.invariant c.dims-dims.ensures.size all c.table_laws.ensures
+whole g c = framed _ _ _ _ _ c.loop-i.invariant.desk c.dims-dims.ensures.size (visited g c) c.table_laws.ensures
 
 pub returns-clause-scan : goal.returns-clause-scan
 returns-clause-scan g c = (whole g c).scan
@@ -47,3 +51,6 @@ returns-clause-playable g c = playable _ _ _ (whole g c).scan c.table_laws.ensur
 
 pub returns-clause-residue : goal.returns-clause-residue
 returns-clause-residue g c = (whole g c).residue
+
+pub returns-clause-ticks : goal.returns-clause-ticks
+returns-clause-ticks g c = ticks_all _ _ _ _ _ _ c.dims-dims.ensures.size (visited g c) c.loop-i.invariant.ticks
