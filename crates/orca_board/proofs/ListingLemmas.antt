@@ -1,18 +1,20 @@
--- A place more in a listing.
-use Rattle.std.proofs.Common.{◌≡◌, ℕ, ◌+◌, ◌*◌, ◌<◌, ◌≤◌, Bool, true, false, ◌==◌, ◌&&◌, ◌||◌, cond, List, [], ◌∷◌, ◌++◌, length, get_or, arith, ap, ◌∙◌, sym, refl, inl, inr, ◌/◌, length-append}
+-- A place more in a listing, and none.
+use Rattle.std.proofs.Common.{◌≡◌, ℕ, zero, suc, ◌+◌, ◌*◌, ◌<◌, ◌≤◌, Bool, true, false, not, ◌==◌, ◌&&◌, ◌||◌, cond, List, [], ◌∷◌, ◌++◌, length, get_or, take, drop, arith, ap, ◌∙◌, sym, refl, inl, inr, ◌/◌, length-append}
 use Rattle.std.proofs.Math.ListN.{set}
 use Rattle.std.specs.Prelude.{count_by}
 use Rattle.std.specs.List.{list_any}
-use Rattle.std.proofs.lemmas.List.{get_or-set_other, get_or-set_same, length-set}
+use Rattle.std.proofs.lemmas.List.{append-nil, drop_all, get_or-set_other, get_or-set_same, length-set, take_all}
 use Rattle.std.proofs.lemmas.List.Sums.{sum_by-set, count_by-le-length}
 use Rattle.std.proofs.lemmas.List.Folds.{list_any-append}
+use Rattle.std.proofs.lemmas.List.Elements.{All-nil, All-push}
 use Rattle.std.proofs.lemmas.Nat.{div-mul-add}
 use Rattle.std.proofs.lemmas.Bool.Decides.{eqb_tells}
 use Rattle.std.proofs.lemmas.Bool.{eq-eqb}
+use Rattle.orca_base.specs.declared.limits.TheConstants.{MAX_CELLS}
 use Rattle.orca_base.specs.declared.place.Place.{Place}
 use Rattle.orca_base.specs.Grids.{Size, IsInside, index_of}
 use Rattle.orca_op.specs.Desk.{is_place}
-use Rattle.orca_board.specs.Listing.{IsFlagged}
+use Rattle.orca_board.specs.Listing.{IsFlagged, has_number}
 
 -- a flag more counts one more
 pub count_more : (flags : List Bool) (i : ℕ) → i < length flags → get_or flags i false ≡ false → count_by (λ flag. flag) (set flags i true) ≡ count_by (λ flag. flag) flags + 1
@@ -74,5 +76,44 @@ flagged_more began places flags room room' at inside kept off below grows = reco
       ∙ (ap (λ (b : Bool). b || (index_of began other == index_of began at)) (kept.flagged other other_inside)
       ∙ (ap (λ (b : Bool). list_any (is_place other) places || b) (sym (is_place-index began other at other_inside inside) ∙ or_false (is_place other at))
       ∙ sym (list_any-append (is_place other) places (at ∷ []))));
+  only = λ i.
+      flag_at flags (index_of began at) i below off
+      ∙ (ap (λ (b : Bool). b || (i == index_of began at)) (kept.only i)
+      ∙ (ap (λ (b : Bool). has_number began places i || b) (or_false (i == index_of began at))
+      ∙ sym (list_any-append (λ place. i == index_of began place) places (at ∷ []))));
+  inside = All-push (IsInside began) places at kept.inside inside;
   roomy = omega (arith, kept.roomy);
 }
+
+-- ---- no place any more
+
+no_flag : (flags : List Bool) → ((i : ℕ) → get_or flags i false ≡ false) → count_by (λ flag. flag) flags ≡ 0
+no_flag [] off = refl
+no_flag (flag ∷ flags) off =
+    let first : flag ≡ false = off zero in
+    rw first (no_flag flags (λ i. off (suc i)))
+
+-- no flag is set for no places
+pub flagged_none : (began : Size) (flags : List Bool) (room : ℕ) → length flags ≡ MAX_CELLS → ((i : ℕ) → get_or flags i false ≡ false) → MAX_CELLS ≤ room → IsFlagged began [] flags room
+flagged_none began flags room size off roomy = record {
+  size = size;
+  counted = sym (no_flag flags off);
+  flagged = λ at inside. off (index_of began at);
+  only = off;
+  inside = All-nil (IsInside began);
+  roomy = roomy;
+}
+
+both : (b : Bool) → (b && not b) ≡ false
+both true = refl
+both false = refl
+
+-- a flag that is set only for listed places is off once their flags are
+pub lowered_off : (began : Size) (places : List Place) (old new : List Bool) (i : ℕ) → get_or old i false ≡ has_number began places i → get_or new i false ≡ (get_or old i false && not (has_number began places i)) → get_or new i false ≡ false
+lowered_off began places old new i only lowered =
+    lowered ∙ (ap (λ (b : Bool). b && not (has_number began places i)) only ∙ both (has_number began places i))
+
+-- flags that are put in the place of as many
+pub put_over : (new old : List Bool) (n : ℕ) → length new ≡ length old → length old ≤ n → take n (new ++ drop (length new) old) ≡ new
+put_over new old n size all =
+    rw (drop_all (length new) old (omega (arith, size)), append-nil new) (take_all n new (omega (arith, size, all)))

@@ -1,5 +1,7 @@
-ghost use Rattle.std.specs.Prelude.{◌≡◌, [], IfOk, Some};
+ghost use Rattle.std.specs.Prelude.{◌≡◌, ℕ, ◌&&◌, not, false, [], length, slice_index_or, All, IfOk, Some};
+ghost use Rattle.orca_base.specs.Grids.{IsInside};
 ghost use Rattle.orca_op.specs.Desk.{listed_with};
+ghost use Rattle.orca_board.specs.Listing.{has_number};
 
 use orca_base::limits::MAX_CELLS;
 use orca_base::{Dims, Memory, Place};
@@ -26,7 +28,8 @@ impl Model for Listing {
 }
 
 impl Listing {
-    /// No place, for a grid of this size. It takes the room for each place that a grid may have.
+    /// No place, for a grid of this size. It takes the room for each place that a grid may have. [`Memory`]
+    /// where that room is refused.
     pub fn start(alloc: Global, dims: Dims) -> Result<Listing, Memory>
         ensures { IfOk result (λ listing. listing ≡ record { began = dims; places = [] }) }
     {
@@ -60,12 +63,25 @@ impl Listing {
         }
     }
 
-    /// No place any more, for a grid of this size.
+    /// No place any more, for a grid of this size. It takes down the flags of the listed places alone, so
+    /// it takes no longer for a larger grid.
     pub fn begin(&mut self, dims: Dims)
         ensures { self.new ≡ record { began = dims; places = [] } }
     {
-        self.began = dims;
+        lower(&mut self.flags, self.began, &self.places);
         self.places.clear();
-        self.flags.fill(false);
+        self.began = dims;
+    }
+}
+
+/// Takes down the flags of these places, and of no others.
+fn lower(flags: &mut [bool], dims: Dims, places: &[Place])
+    requires inside { All (IsInside dims) places.now }
+    requires size { length flags.old ≡ MAX_CELLS }
+    ensures size { length flags.new ≡ MAX_CELLS }
+    ensures flags { (i : ℕ) → slice_index_or flags.new i false ≡ (slice_index_or flags.old i false && not (has_number dims places.now i)) }
+{
+    for place in places {
+        flags[dims.index(*place)] = false;
     }
 }

@@ -1,10 +1,9 @@
-ghost use Rattle.orca_base.specs.declared.limits.TheConstants.{MAX_EVENTS};
 ghost use Rattle.std.specs.Prelude.{◌≤◌, ◌≡◌, ◌+◌, [], length, count_by, IfOk};
 ghost use Rattle.orca_base.specs.MarkSet.{is_marked};
 ghost use Rattle.orca_op.specs.State.{fresh, sheet_of};
 
 use crate::listing::Listing;
-use orca_base::limits::{BASE, MAX_CELLS};
+use orca_base::limits::{BASE, MAX_EVENTS};
 use orca_base::{Dims, Event, Glyph, Look, Marks, Memory, Place, Spot, Steps};
 use orca_grid::Grid;
 use orca_op::{Bench, read_glyphs};
@@ -38,7 +37,7 @@ impl Model for PlainBoard {
 
 impl PlainBoard {
     /// A board with the grid's size and glyphs, as after `begin`. It takes at once all the room that it
-    /// will need.
+    /// will need. [`Memory`] where that room is refused.
     pub fn start(alloc: Global, grid: &Grid) -> Result<PlainBoard, Memory>
         ensures { IfOk result (λ board. board ≡ record { scan = fresh grid.now; began = grid.now.dims; listed = [] }) }
     {
@@ -54,7 +53,7 @@ impl PlainBoard {
             cells,
             marks,
             vars,
-            events: Vec::with_capacity(alloc, MAX_CELLS)?,
+            events: Vec::with_capacity(alloc, MAX_EVENTS)?,
             listing: Listing::start(alloc, dims)?,
         })
     }
