@@ -14,8 +14,8 @@ use std::sync::ledger::Ledger;
 
 /// `G`: writes operands with an offset.
 ///
-/// The ports at its left are `x`, `y` and `length`. So many glyphs at its right are written in a row, the
-/// first one `x` columns to the right and `y + 1` rows below, and sleep there until the next frame:
+/// The ports at its left are `x`, `y` and `length`. The `length` glyphs at its right are written in a row,
+/// the first one `x` columns to the right and `y + 1` rows below, and sleep there until the next frame:
 ///
 /// ```text
 /// 002Gab..    002Gab..
@@ -49,7 +49,7 @@ impl Operator for Generator {
     }
 }
 
-/// Writes so many operands at the target.
+/// Writes the first `length` operands at the target.
 fn generate<B: Bench, L: Ledger>(
     bench: &mut B,
     at: Place,

@@ -16,8 +16,8 @@ use std::sync::ledger::Ledger;
 
 /// `K`: reads multiple variables.
 ///
-/// The port at its left is the `length`, which is 1 at least. Below each of so many names at its right
-/// its variable is written, and nothing below a place without a name:
+/// The port at its left is the `length`, which is 1 at least. Below each of the `length` names at
+/// its right its variable is written, and nothing below a place without a name:
 ///
 /// ```text
 /// aV5.1Ka    aV5.1Ka
@@ -48,7 +48,7 @@ impl Operator for Konkat {
     }
 }
 
-/// The variables of so many names.
+/// The variables of the first `length` names.
 fn variables<B: Bench, L: Ledger>(
     bench: &B,
     names: &[Glyph; ROOM],
@@ -66,7 +66,7 @@ fn variables<B: Bench, L: Ledger>(
     stored
 }
 
-/// Writes so many variables below their names.
+/// Writes the first `length` variables below their names.
 fn concatenate<B: Bench, L: Ledger>(
     bench: &mut B,
     at: Place,

@@ -10,8 +10,8 @@ use std::sync::ledger::Ledger;
 /// `P`: writes an eastward operand.
 ///
 /// The ports at its left are `key` and `length`, which is 1 at least, and the operand is at its right. Of
-/// so many places below, from the column of the operator on, the one that the key chooses, modulo the
-/// length, gets the operand:
+/// `length` places in the row below, the first being straight below the operator, the one that the key
+/// chooses, modulo the length, gets the operand:
 ///
 /// ```text
 /// 12P7    12P7

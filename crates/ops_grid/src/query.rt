@@ -13,9 +13,9 @@ use std::sync::ledger::Ledger;
 
 /// `Q`: reads operands with an offset.
 ///
-/// The ports at its left are `x`, `y` and `length`. So many glyphs, of which the first stands `x + 1`
-/// columns to the right and `y` rows below, are written in the row below, the last one right below the
-/// operator:
+/// The ports at its left are `x`, `y` and `length`. Of a row, `length` glyphs are read, the first of them
+/// `x + 1` columns to the right and `y` rows below. They are written in the row below, the last one straight
+/// below the operator:
 ///
 /// ```text
 /// 002Q78    002Q78
@@ -49,7 +49,7 @@ impl Operator for Query {
     }
 }
 
-/// Writes so many operands of the source below.
+/// Writes the first `length` operands of the source below.
 fn collect<B: Bench, L: Ledger>(
     bench: &mut B,
     at: Place,

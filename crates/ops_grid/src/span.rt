@@ -12,7 +12,7 @@ use std::sync::ledger::Ledger;
 /// How many glyphs fit: more than any value of a glyph.
 pub(crate) const ROOM: usize = BASE as usize;
 
-/// The glyphs of so many places of a row, the first being `y` rows below and `x` columns to the right.
+/// The glyphs of `length` places of a row, the first being `y` rows below and `x` columns to the right.
 pub(crate) fn read<B: Bench, L: Ledger>(
     bench: &B,
     at: Place,
@@ -33,7 +33,7 @@ pub(crate) fn read<B: Bench, L: Ledger>(
     glyphs
 }
 
-/// Locks so many places of a row, the first being `y` rows below and `x` columns to the right.
+/// Locks `length` places of a row, the first being `y` rows below and `x` columns to the right.
 pub(crate) fn lock<B: Bench, L: Ledger>(
     bench: &mut B,
     at: Place,

@@ -9,8 +9,8 @@ use std::sync::ledger::Ledger;
 
 /// `T`: reads an eastward operand.
 ///
-/// The ports at its left are `key` and `length`, which is 1 at least. Of so many glyphs at its right, the
-/// one that the key chooses, modulo the length, is written below:
+/// The ports at its left are `key` and `length`, which is 1 at least. Of the `length` glyphs at its
+/// right, the one that the key chooses, modulo the length, is written below:
 ///
 /// ```text
 /// 13Tabc    13Tabc

@@ -8,8 +8,9 @@ use std::sync::ledger::Ledger;
 
 /// `V`: reads and writes a variable.
 ///
-/// The port at its left is the name to `write`, and the one at its right what is written, or else the
-/// name to `read`. A variable is set for the rest of the frame; a variable that is read is written below:
+/// The port at its left is the name to `write`, and the one at its right what is written. Where there is no
+/// name to `write`, the one at its right is the name to `read`. A variable is set for the rest of the frame;
+/// a variable that is read is written below:
 ///
 /// ```text
 /// aV5.Va    aV5.Va

@@ -47,7 +47,7 @@ fn key_of(octave: Glyph, number: u8) -> u8
     key.min(u16::from(MAX_DATA)) as u8
 }
 
-/// The velocity of a glyph: 127 where it is missing, and else 8 for each of its value less 1, 127 at most.
+/// The velocity of a glyph: 127 where it is missing, and otherwise 8 times its value, less 1, 127 at most.
 fn velocity_of(glyph: Glyph) -> u8
     ensures { result ≡ velocity_of glyph }
 {

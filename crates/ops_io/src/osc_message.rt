@@ -13,9 +13,9 @@ use std::sync::ledger::Ledger;
 
 /// `=`: sends an OSC message.
 ///
-/// The ports at its right are `path` and `length`, and so many values behind them. They are inputs, bang or
-/// not. Beside a bang it sends the values to the address of the path, which is a letter or a digit; any other
-/// path sends none.
+/// The ports at its right are `path`, `length`, and `length` values after them. They are inputs, bang or not.
+/// Beside a bang it sends the values to the address of the path, which is a letter or a digit; any other path
+/// sends none.
 ///
 /// ```text
 /// D1......    D1......
@@ -50,7 +50,7 @@ impl Operator for OscMessage {
     }
 }
 
-/// The values of so many ports, from port 3 on.
+/// The values of `count` ports, the first being port 3.
 fn read_values<B: Bench, L: Ledger>(bench: &B, at: Place, count: u8, steps: &mut Steps<L>) -> Short
     requires { count < BASE }
     ensures values { result ≡ map value (ports (B.desk bench.now).scan at 3 count) }

@@ -10,7 +10,7 @@ use orca_base::{Place, Steps};
 use orca_op::Bench;
 use std::sync::ledger::Ledger;
 
-/// Marks so many inputs, from one port on.
+/// Marks `count` ports as inputs, the first being `from`.
 pub(crate) fn inputs<B: Bench, L: Ledger>(
     bench: &mut B,
     at: Place,
@@ -37,7 +37,7 @@ fn input<B: Bench, L: Ledger>(bench: &mut B, at: Place, i: u8, from: u8, steps: 
     bench.input(at.off(0, i32::from(i) + i32::from(from)), steps);
 }
 
-/// Locks the first ports, so many.
+/// Locks the first `count` ports.
 pub(crate) fn lock<B: Bench, L: Ledger>(bench: &mut B, at: Place, count: u8, steps: &mut Steps<L>)
     ensures deeds { B.desk bench.new ≡ all_done (B.desk bench.old) (locked at count) }
     ensures room { HasRoom (B.desk bench.old) → HasRoom (B.desk bench.new) }

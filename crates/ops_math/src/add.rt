@@ -9,6 +9,13 @@ use orca_op::{Bench, Operator};
 use std::sync::ledger::Ledger;
 
 /// `A`: outputs the sum of its inputs.
+///
+/// The ports are `a` at its left and `b` at its right. A sum of 36 or more begins again at 0:
+///
+/// ```text
+/// 3A4.aAB    3A4.aAB
+/// .......    .7...L.
+/// ```
 pub struct Add;
 
 impl Operator for Add {

@@ -7,7 +7,15 @@ use orca_base::{Glyph, Now, Place, Steps};
 use orca_op::{Bench, Operator, value_or};
 use std::sync::ledger::Ledger;
 
-/// `C`: outputs the modulo of the frame's number, divided by the rate.
+/// `C`: outputs the frame's number divided by the rate, modulo the modulus.
+///
+/// The ports are `rate` at its left (1 where its value is 0) and `modulus` at its right (8 where its value
+/// is 0). The division rounds down. In frame 5:
+///
+/// ```text
+/// 2C4    2C4
+/// ...    .2.
+/// ```
 pub struct Clock;
 
 impl Operator for Clock {

@@ -8,6 +8,15 @@ use orca_op::{Bench, Operator, value_or};
 use std::sync::ledger::Ledger;
 
 /// `D`: bangs on the modulo of the frame's number.
+///
+/// The ports are `rate` at its left (1 where its value is 0) and `modulus` at its right (8 where its value
+/// is 0). It bangs in each frame whose number is a multiple of the rate times the modulus, so in frame 0 but
+/// not in frame 1:
+///
+/// ```text
+/// 2D3    2D3    2D3
+/// ...    .*.    ...
+/// ```
 pub struct Delay;
 
 impl Operator for Delay {

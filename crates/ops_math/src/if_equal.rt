@@ -8,6 +8,14 @@ use orca_op::{Bench, Operator};
 use std::sync::ledger::Ledger;
 
 /// `F`: bangs if its inputs are equal.
+///
+/// The ports are `a` at its left and `b` at its right. They are equal where they are the same glyph: the two
+/// cases of a letter are not, and two empty places are:
+///
+/// ```text
+/// 3F3.3F4.bFB..F.    3F3.3F4.bFB..F.
+/// ...............    .*...........*.
+/// ```
 pub struct IfEqual;
 
 impl Operator for IfEqual {

@@ -9,6 +9,14 @@ use orca_op::{Bench, Operator, rate_of, value_or};
 use std::sync::ledger::Ledger;
 
 /// `I`: increments what stands below by the step, modulo the modulus.
+///
+/// The ports are `step` at its left (1 where it is `.` or `*`) and `modulus` at its right (36 where its value
+/// is 0). The place below is read too:
+///
+/// ```text
+/// .I3    .I3
+/// .1.    .2.
+/// ```
 pub struct Increment;
 
 impl Operator for Increment {

@@ -10,6 +10,14 @@ use orca_op::{Bench, Operator, rate_of};
 use std::sync::ledger::Ledger;
 
 /// `Z`: moves what stands below by the rate towards the target.
+///
+/// The ports are `rate` at its left (1 where it is `.` or `*`) and `target` at its right. The place below is
+/// read too, and brought up or down, but not beyond the target:
+///
+/// ```text
+/// 2Z5.2Z1    2Z5.2Z1
+/// .....8.    .2...6.
+/// ```
 pub struct Lerp;
 
 impl Operator for Lerp {

@@ -7,7 +7,14 @@ use orca_base::{Glyph, Now, Place, Steps};
 use orca_op::{Bench, Operator};
 use std::sync::ledger::Ledger;
 
-/// `L`: outputs the smallest of its inputs, and nothing where one is missing.
+/// `L`: outputs the smaller of its inputs.
+///
+/// The ports are `a` at its left and `b` at its right. The place below is emptied where one of them is `.`:
+///
+/// ```text
+/// 4L7.cLB..L5    4L7.cLB..L5
+/// .........8.    .4...B.....
+/// ```
 pub struct Lesser;
 
 impl Operator for Lesser {

@@ -9,6 +9,13 @@ use orca_op::{Bench, Operator};
 use std::sync::ledger::Ledger;
 
 /// `M`: outputs the product of its inputs.
+///
+/// The ports are `a` at its left and `b` at its right. The product is modulo 36:
+///
+/// ```text
+/// 3M4.5MB    3M4.5MB
+/// .......    .c...J.
+/// ```
 pub struct Multiply;
 
 impl Operator for Multiply {

@@ -13,6 +13,15 @@ use rand_pcg::Pcg32;
 use std::sync::ledger::Ledger;
 
 /// `R`: outputs a random value between its inputs.
+///
+/// The ports are `min` at its left and `max` at its right (36 where its value is 0). The value lies from the
+/// smaller of the two to just below the larger, and is that of both where they are equal. It is the same for
+/// the same seed, frame, place and width of the grid. In frame 0 with the seed 1:
+///
+/// ```text
+/// 1R6    1R6
+/// ...    .3.
+/// ```
 pub struct Random;
 
 impl Operator for Random {
@@ -30,12 +39,12 @@ impl Operator for Random {
         now: Now,
         steps: &mut Steps<L>,
     ) {
-        let least = bench.peek(at.off(0, -1), steps);
-        let most = bench.peek(at.off(0, 1), steps);
+        let min = bench.peek(at.off(0, -1), steps);
+        let max = bench.peek(at.off(0, 1), steps);
         let word = word_at(bench.dims(), at, now);
-        let value = random_between(least.value(), value_or(most, BASE), word);
+        let value = random_between(min.value(), value_or(max, BASE), word);
         ports::mark(bench, at, steps);
-        bench.write(at.off(1, 0), Glyph::cased(value, most), steps);
+        bench.write(at.off(1, 0), Glyph::cased(value, max), steps);
     }
 }
 

@@ -8,6 +8,13 @@ use orca_op::{Bench, Operator};
 use std::sync::ledger::Ledger;
 
 /// `B`: outputs the distance of its inputs.
+///
+/// The ports are `a` at its left and `b` at its right, and their order does not matter:
+///
+/// ```text
+/// 7B2.2BF    7B2.2BF
+/// .......    .5...D.
+/// ```
 pub struct Subtract;
 
 impl Operator for Subtract {

@@ -7,7 +7,15 @@ use orca_base::{Glyph, Now, Place, Steps};
 use orca_op::{Bench, Operator, rate_of, value_or};
 use std::sync::ledger::Ledger;
 
-/// `U`: bangs on a Euclidean rhythm of so many steps in so many beats.
+/// `U`: bangs on a Euclidean rhythm.
+///
+/// The ports are `step` at its left (1 where it is `.` or `*`) and `max` at its right (8 where its value is 0).
+/// It spreads `step` bangs evenly over `max` frames; with a step of `0` it never bangs. In frame 0:
+///
+/// ```text
+/// 3U8.0U8    3U8.0U8
+/// .......    .*.....
+/// ```
 pub struct Uclid;
 
 impl Operator for Uclid {
@@ -25,10 +33,10 @@ impl Operator for Uclid {
         now: Now,
         steps: &mut Steps<L>,
     ) {
-        let steps_port = bench.peek(at.off(0, -1), steps);
-        let beats = bench.peek(at.off(0, 1), steps);
-        let n = u64::from(rate_of(steps_port));
-        let m = u64::from(value_or(beats, 8));
+        let step = bench.peek(at.off(0, -1), steps);
+        let max = bench.peek(at.off(0, 1), steps);
+        let n = u64::from(rate_of(step));
+        let m = u64::from(value_or(max, 8));
         let bucket = n * (u64::from(now.tick) + m - 1) % m + n;
         let output = if bucket >= m {
             Glyph::BANG

@@ -55,7 +55,7 @@ fn comment_length<B: Bench, L: Ledger>(bench: &B, at: Place, steps: &mut Steps<L
     COMMENT_REACH
 }
 
-/// Locks so many places at the right.
+/// Locks `length` places at the right.
 fn lock_line<B: Bench, L: Ledger>(bench: &mut B, at: Place, length: u16, steps: &mut Steps<L>)
     ensures deeds { B.desk bench.new ≡ all_done (B.desk bench.old) (locked at length) }
     ensures ticks { steps.new ≡ steps.old + length }

@@ -6,7 +6,7 @@ use orca_base::{Glyph, Place, Spot, Steps};
 use orca_op::Bench;
 use std::sync::ledger::Ledger;
 
-/// Moves a glyph from a place to an empty target of the grid, where it sleeps, and else leaves a bang.
+/// Moves a glyph from a place to an empty target of the grid, where it sleeps; otherwise leaves a bang.
 #[tactic(auto, unfolding(orca_op::specs::MotionRules::move_to, orca_op::specs::State::holds))]
 pub(crate) fn move_to<B: Bench, L: Ledger>(
     bench: &mut B,

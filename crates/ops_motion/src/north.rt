@@ -9,7 +9,7 @@ use std::sync::ledger::Ledger;
 
 /// `N`: moves northward, or bangs.
 ///
-/// It goes one place on where that place is an empty one of the grid, and becomes a bang elsewhere.
+/// It goes one place on where that place is an empty one of the grid, and becomes a bang otherwise.
 ///
 /// ```text
 /// .   N   1   1

@@ -9,7 +9,7 @@ use std::sync::ledger::Ledger;
 
 /// `W`: moves westward, or bangs.
 ///
-/// It goes one place on where that place is an empty one of the grid, and becomes a bang elsewhere.
+/// It goes one place on where that place is an empty one of the grid, and becomes a bang otherwise.
 ///
 /// ```text
 /// ..W   .W.

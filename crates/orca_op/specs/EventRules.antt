@@ -25,11 +25,11 @@ sent at (Some event) = show_at (own at) ∷ Emit event ∷ []
 abbrev pub port : State → Place → ℕ → ℕ
 port s at k = peek s (across at k)
 
--- so many ports are read, from one on
+-- n ports are read, the first being `from`
 abbrev pub inputs : Place → ℕ → ℕ → List Deed
 inputs at from n = each n (λ i. input_at (across at (i + from)) ∷ [])
 
--- the glyphs of so many ports, from one on
+-- the glyphs of n ports, the first being `from`
 abbrev pub ports : State → Place → ℕ → ℕ → List ℕ
 ports s at from zero = []
 ports s at from (suc n) = ports s at from n ++ port s at (n + from) ∷ []
@@ -112,7 +112,7 @@ udp_text g s at now =
 abbrev pub osc_with : ℕ → List ℕ → Option Event
 osc_with path values = if is_digit path || is_upper path || is_lower path then Some (Osc path values) else None
 
--- the OSC message of the ports path and length, and of the values of so many ports behind them
+-- the OSC message of the ports path and length, and of the values of the `length` ports after them
 unfoldable pub osc_of : State → Place → Option Event
 osc_of s at = osc_with (port s at 1) (map value (ports s at 3 (value (port s at 2))))
 

@@ -51,7 +51,7 @@ read_at g s at now =
     param_at (left_2 at) ∷ param_at (left at) ∷ input_at (source at y x)
     ∷ output_at (below at) ∷ Write (below at) (peek s (source at y x)) ∷ []
 
--- the spot below where the i-th of n glyphs is written, the last one right below the operator
+-- the spot below where the i-th of n glyphs is written, the last one straight below the operator
 abbrev pub below_by : Place → ℕ → ℕ → Spot
 below_by at n i = off at (pos 1) (pos (i + 1) -ℤ pos n)
 
@@ -86,7 +86,7 @@ push g s at now =
     ∷ each length (λ i. lock_at (off at (pos 1) (pos i)) ∷ [])
     ++ input_at (right at) ∷ output_at chosen ∷ Write chosen (peek s (right at)) ∷ []
 
--- V: sets the variable at its left, or else writes the one at its right below
+-- V: sets the variable that is named at its left; where none is, writes below it the one that is named at its right
 abbrev pub variable : ℕ → State → Place → Now → List Deed
 variable g s at now =
     let write = peek s (left at) in

@@ -59,7 +59,7 @@ pub IsGlyph-var_at : (s : State) (n : ℕ) → IsState s → AreGlyphs s.vars �
 unfolding var_at
 IsGlyph-var_at s n whole glyphs below = IsGlyph-index s.vars n glyphs (omega (arith, whole.vars))
 
--- so many deeds for each number
+-- at most `size` deeds for each of n numbers
 pub length-each : (n size : ℕ) (deeds : ℕ → List Deed) → ((i : ℕ) → length (deeds i) ≤ size) → length (each n deeds) ≤ n * size
 length-each zero size deeds bound = omega arith
 length-each (suc n) size deeds bound =

@@ -9,7 +9,7 @@ use Rattle.orca_op.specs.State.{State, peek, holds, own, left, right, above, bel
 use Rattle.orca_op.specs.Deeds.{Deed, Write, input_at, param_at, output_at, lock_at, sleep_at, each}
 use Rattle.orca_op.specs.First.{first_where}
 
--- a mover goes on to the target where that is an empty place of the grid, and becomes a bang elsewhere
+-- a mover goes on to the target where that is an empty place of the grid, and becomes a bang otherwise
 unfoldable pub move_to : ℕ → State → Place → Spot → List Deed
 move_to g s at target =
     if holds s target && (peek s target == empty)
@@ -48,7 +48,7 @@ hash = 35
 unfoldable pub comment_length : State → Place → ℕ
 comment_length s at = unwrap_or (first_where (λ i. peek s (across at i) == hash) 1 COMMENT_REACH) COMMENT_REACH
 
--- so many places to the right are locked
+-- n places to the right are locked
 abbrev pub locked : Place → ℕ → List Deed
 locked at n = each n (λ i. lock_at (across at (i + 1)) ∷ [])
 

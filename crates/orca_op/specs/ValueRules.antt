@@ -63,8 +63,8 @@ abbrev pub increment : ℕ → State → Place → Now → List Deed
 increment g s at now =
     let step = peek s (left at) in
     let modulus = peek s (right at) in
-    let value_now = peek s (below at) in
-    value_ports at ++ input_at (below at) ∷ Write (below at) (cased ((value value_now + rate_of step) % value_or modulus BASE) modulus) ∷ []
+    let current = peek s (below at) in
+    value_ports at ++ input_at (below at) ∷ Write (below at) (cased ((value current + rate_of step) % value_or modulus BASE) modulus) ∷ []
 
 -- L: the smaller of its inputs, and nothing where one is missing
 abbrev pub lesser : ℕ → State → Place → Now → List Deed
@@ -91,17 +91,17 @@ random_between a b word = if a == b then a else min a b + word % (max a b - min 
 -- R: a random value between its inputs
 abbrev pub random : ℕ → State → Place → Now → List Deed
 random g s at now =
-    let least = peek s (left at) in
-    let most = peek s (right at) in
-    value_ports at ++ Write (below at) (cased (random_between (value least) (value_or most BASE) (word_in s.dims at now)) most) ∷ []
+    let min = peek s (left at) in
+    let max = peek s (right at) in
+    value_ports at ++ Write (below at) (cased (random_between (value min) (value_or max BASE) (word_in s.dims at now)) max) ∷ []
 
--- U: a bang on the beats of an even spread of `steps` over `beats` frames
+-- U: a bang on the frames of an even spread of `step` bangs over `max` frames
 abbrev pub uclid : ℕ → State → Place → Now → List Deed
 uclid g s at now =
-    let steps = peek s (left at) in
-    let beats = peek s (right at) in
-    let n = rate_of steps in
-    let m = value_or beats 8 in
+    let step = peek s (left at) in
+    let max = peek s (right at) in
+    let n = rate_of step in
+    let m = value_or max 8 in
     value_ports at ++ Write (below at) (if nat_le m ((n * (now.tick + m - 1)) % m + n) then bang else empty) ∷ []
 
 -- the value one step nearer to the target
@@ -114,5 +114,5 @@ abbrev pub lerp : ℕ → State → Place → Now → List Deed
 lerp g s at now =
     let rate = peek s (left at) in
     let target = peek s (right at) in
-    let value_now = peek s (below at) in
-    value_ports at ++ input_at (below at) ∷ Write (below at) (cased (lerped (value value_now) (rate_of rate) (value target)) target) ∷ []
+    let current = peek s (below at) in
+    value_ports at ++ input_at (below at) ∷ Write (below at) (cased (lerped (value current) (rate_of rate) (value target)) target) ∷ []

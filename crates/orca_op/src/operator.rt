@@ -22,7 +22,7 @@ pub trait Operator {
     /// The deeds of a visit: of the glyph, the state, the place, and the frame.
     ghost rule: { ℕ → State → Place → Now → List Deed };
 
-    /// Does the deeds of its rule, in order, in at most 560 ticks.
+    /// Does the deeds of its rule, in order, in at most `MAX_TICKS` ticks.
     fn act<B: Bench, L: Ledger>(
         &self,
         bench: &mut B,
@@ -39,7 +39,7 @@ pub trait Operator {
         ensures ticks { steps.new ≤ steps.old + MAX_TICKS }
         ensures later { steps.old ≤ steps.new };
 
-    /// At most 512 deeds and one event, glyphs alone are written, each write to another place comes with
+    /// At most `MAX_DEEDS` deeds and one event, glyphs alone are written, each write to another place comes with
     /// Lock or Sleep on it, and each event is in range.
     ghost laws: { IsLawful rule };
 

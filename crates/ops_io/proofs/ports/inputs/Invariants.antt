@@ -4,7 +4,7 @@ use Rattle.orca_op.specs.EventRules.{inputs}
 use Rattle.ops_io.specs.Room.{HasRoom}
 use Rattle.ops_io.proofs.ports.inputs.Given as goal
 
--- so many inputs are marked
+-- the ports that were passed are marked
 abbrev pub invariant-loop-i : goal.invariant-loop-i
 invariant-loop-i g l = record {
   deeds : g.B.Bench.desk l.bench ≡ all_done (g.B.Bench.desk l.initial.bench) (inputs l.at l.from l.i);

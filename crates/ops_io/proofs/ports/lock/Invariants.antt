@@ -4,7 +4,7 @@ use Rattle.orca_op.specs.MotionRules.{locked}
 use Rattle.ops_io.specs.Room.{HasRoom}
 use Rattle.ops_io.proofs.ports.lock.Given as goal
 
--- so many ports are locked
+-- the ports that were passed are locked
 abbrev pub invariant-loop-i : goal.invariant-loop-i
 invariant-loop-i g l = record {
   deeds : g.B.Bench.desk l.bench ≡ all_done (g.B.Bench.desk l.initial.bench) (locked l.at l.i);
