@@ -1,6 +1,6 @@
 -- The rules of the operators that read and write across the grid, and of the variables, are lawful.
-use Rattle.std.specs.Prelude.{ℕ, ◌+◌, ◌%◌, ◌<◌, ◌≤◌, ◌≡◌, ◌==◌, List, [], ◌∷◌, length, count_by, pos, refl}
-use Rattle.std.proofs.Common.{inl, inr, arith, lit<}
+use Rattle.std.specs.Prelude.{ℕ, ◌+◌, ◌%◌, ◌<◌, ◌≤◌, ◌≡◌, ◌==◌, Bool, true, false, if◌then◌else◌, List, [], ◌∷◌, length, count_by, pos, refl}
+use Rattle.std.proofs.Common.{inl, inr, arith}
 use Rattle.orca_base.specs.declared.limits.TheConstants.{BASE, MAX_DEEDS}
 use Rattle.orca_base.specs.declared.marks.Mark.TheVariants.{Lock, Output, Sleep}
 use Rattle.orca_base.specs.declared.now.Now.{Now}
@@ -12,11 +12,10 @@ use Rattle.orca_base.specs.Grids.{off}
 use Rattle.orca_base.specs.MarkSet.{no_marks, with_mark}
 use Rattle.orca_op.specs.State.{State, peek, var_at, left, right, below, across}
 use Rattle.orca_op.specs.Deeds.{Deed, Set, Write, input_at, param_at, output_at}
-use Rattle.orca_op.specs.Laws.{EmitsInRange, IsLawful, Every, Some_deed, WritesGlyph, IsCovered, Covers, is_emit}
-use Rattle.orca_op.specs.LawFacts.{IsGlyph-peek, IsGlyph-var_at, length-each, no_event-each, Every-each, Some_deed-each}
+use Rattle.orca_op.specs.Laws.{EmitsInRange, IsLawful, Every, AnyDeed, WritesGlyph, IsCovered, Covers, is_emit}
+use Rattle.orca_op.specs.LawFacts.{IsGlyph-peek, IsGlyph-var_at, length-each, no_event-each, value_or-range, Every-each, AnyDeed-each}
 use Rattle.orca_op.specs.ValueRules.{value_or}
-use Rattle.orca_op.specs.GridRules.{write_at, read_at, variable, track, push, generator, query, konkat, konkat_one, left_2, left_3, target, source, below_by}
-use Rattle.ops_grid.specs.RunFacts.{in_either, value_or-below}
+use Rattle.orca_op.specs.GridRules.{write_at, read_at, variable, track, push, generator, query, konkat, written_below, konkat_one, left_2, left_3, target, source, below_by}
 use Rattle.ops_grid.specs.RunLaws.{lawful-copies, lawful-locks}
 
 pub lawful-write_at : IsLawful write_at
@@ -36,6 +35,11 @@ lawful-read_at = record {
   covered = λ g s at now. (tt, (tt, (tt, (tt, (inr (inr (inr (inr (inl (refl, refl))))), tt)))));
   events = λ g s at now whole cells. (tt, (tt, (tt, (tt, (tt, tt)))));
 }
+
+-- what holds in either case holds by cases
+in_either : (P : List Deed → Type 0) (test : Bool) (xs ys : List Deed) → P xs → P ys → P (if test then xs else ys)
+in_either P true xs ys first second = first
+in_either P false xs ys first second = second
 
 variable_by : (s : State) (at : Place) (P : List Deed → Type 0)
     → P (param_at (left at) ∷ input_at (right at) ∷ [])
@@ -67,7 +71,7 @@ lawful-track = lawful-locks
     (λ s at i. across at (i + 1))
     (λ s at. across at (value (peek s (left_2 at)) % value_or (peek s (left at)) 1 + 1))
     (λ s at. below at)
-    (λ s at. value_or-below (peek s (left at)) 1 (lit< tt))
+    (λ s at. omega (arith, (value_or-range (peek s (left at)) 1).0))
 
 pub lawful-push : IsLawful push
 lawful-push = lawful-locks
@@ -75,7 +79,7 @@ lawful-push = lawful-locks
     (λ s at i. off at (pos 1) (pos i))
     (λ s at. right at)
     (λ s at. off at (pos 1) (pos (value (peek s (left_2 at)) % value_or (peek s (left at)) 1)))
-    (λ s at. value_or-below (peek s (left at)) 1 (lit< tt))
+    (λ s at. omega (arith, (value_or-range (peek s (left at)) 1).0))
 
 pub lawful-generator : IsLawful generator
 lawful-generator = lawful-copies
@@ -97,7 +101,7 @@ lawful-query = lawful-copies
 named : (P : List Deed → Type 0) (s : State) (at : Place) (i : ℕ) → P []
     → P (output_at (off at (pos 1) (pos i)) ∷ Write (off at (pos 1) (pos i)) (var_at s (value (peek s (across at i)))) ∷ [])
     → P (konkat_one s at i)
-unfolding konkat_one
+unfolding written_below
 named P s at i none some = in_either P (peek s (across at i) == empty) _ _ none some
 
 name_deeds : State → Place → ℕ → List Deed
@@ -107,7 +111,7 @@ pub lawful-konkat : IsLawful konkat
 unfolding name_deeds
 lawful-konkat =
     let many : State → Place → ℕ = λ s at. value_or (peek s (left at)) 1 in
-    let few : (s : State) (at : Place) → many s at < BASE = λ s at. value_or-below (peek s (left at)) 1 (lit< tt) in
+    let few : (s : State) (at : Place) → many s at < BASE = λ s at. omega (arith, (value_or-range (peek s (left at)) 1).0) in
     record {
       few_deeds = λ g s at now.
           let run = length-each (many s at) 3 (name_deeds s at)
@@ -130,10 +134,10 @@ lawful-konkat =
             Every-each (IsCovered at all) (many s at) (name_deeds s at)
                 (λ i below. (
                   tt,
-                  named (λ deeds. ((spot : Spot) → Some_deed (Covers spot) deeds → Some_deed (Covers spot) all) → Every (IsCovered at all) deeds) s at (i + 1)
+                  named (λ deeds. ((spot : Spot) → AnyDeed (Covers spot) deeds → AnyDeed (Covers spot) all) → Every (IsCovered at all) deeds) s at (i + 1)
                       (λ within. tt)
                       (λ within. (tt, (inr (within _ (inl (refl, refl))), tt)))
-                      (λ spot some. inr (Some_deed-each (Covers spot) (many s at) i (name_deeds s at) below (inr some))),
+                      (λ spot some. inr (AnyDeed-each (Covers spot) (many s at) i (name_deeds s at) below (inr some))),
                 )),
           );
     }

@@ -1,4 +1,2 @@
 pub mod GridLaws
-pub mod NameDeeds
-pub mod RunFacts
 pub mod RunLaws

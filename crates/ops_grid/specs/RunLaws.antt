@@ -9,7 +9,7 @@ use Rattle.orca_base.specs.MarkSet.{MarkSet}
 use Rattle.orca_op.specs.State.{State, peek, left}
 use Rattle.orca_op.specs.Deeds.{Deed, Mark, Write, each, input_at, param_at, output_at, lock_at}
 use Rattle.orca_op.specs.Laws.{EmitsInRange, IsLawful, WritesGlyph, IsCovered, Covers, is_emit}
-use Rattle.orca_op.specs.LawFacts.{IsGlyph-peek, length-each, no_event-each, count_by-append, Every-each, Every-append, Some_deed-each, Some_deed-right}
+use Rattle.orca_op.specs.LawFacts.{IsGlyph-peek, length-each, no_event-each, count_by-append, Every-each, Every-append, AnyDeed-each, AnyDeed-right}
 use Rattle.orca_op.specs.GridRules.{left_2, left_3}
 
 -- three parameters, and then a run of glyphs, each read at one spot and written at another that is covered
@@ -38,7 +38,7 @@ lawful-copies many from to marks covers few =
           (
             tt,
             Every-each (IsCovered at (copies many from to marks g s at now)) (many s at) (copy s at)
-                (λ i below. (tt, (tt, (inr (inr (inr (inr (Some_deed-each (Covers (to s at i)) (many s at) i (copy s at) below (inr (inl (refl, covers))))))), tt)))),
+                (λ i below. (tt, (tt, (inr (inr (inr (inr (AnyDeed-each (Covers (to s at i)) (many s at) i (copy s at) below (inr (inl (refl, covers))))))), tt)))),
           ),
         ),
       );
@@ -78,7 +78,7 @@ lawful-locks many spot from to few =
               tt,
               Every-append P (each (many s at) (lock s at)) (last s at)
                   (Every-each P (many s at) (lock s at) (λ i below. (tt, tt)))
-                  (tt, (tt, (inr (inr (inr (Some_deed-right (Covers (to s at)) (each (many s at) (lock s at)) (last s at) (inr (inl (refl, refl)))))), tt))),
+                  (tt, (tt, (inr (inr (inr (AnyDeed-right (Covers (to s at)) (each (many s at) (lock s at)) (last s at) (inr (inl (refl, refl)))))), tt))),
             ),
           );
     }

@@ -5,9 +5,8 @@ ghost use Rattle.orca_op.specs.declared.kind.Kind.TheVariants.{Konkat as konkat_
 ghost use Rattle.orca_op.specs.State.{across, var_at};
 ghost use Rattle.orca_op.specs.Deeds.{Write, each, input_at, output_at};
 ghost use Rattle.orca_op.specs.Desk.{all_done};
-ghost use Rattle.orca_op.specs.GridRules.{konkat};
+ghost use Rattle.orca_op.specs.GridRules.{konkat, written_below};
 ghost use Rattle.ops_grid.specs.GridLaws.{lawful-konkat};
-ghost use Rattle.ops_grid.specs.NameDeeds.{written_below};
 
 use crate::span::{self, ROOM};
 use orca_base::{Glyph, Now, Place, Steps};
@@ -87,7 +86,7 @@ fn concatenate<B: Bench, L: Ledger>(
 }
 
 /// Reads a name, and writes its variable below; nothing is written where the name is missing.
-#[tactic(auto, unfolding(crate::specs::NameDeeds::written_below))]
+#[tactic(auto, unfolding(orca_op::specs::GridRules::written_below))]
 fn write_below<B: Bench, L: Ledger>(
     bench: &mut B,
     at: Place,

@@ -13,7 +13,7 @@ use Rattle.orca_base.specs.GlyphFacts.{value-below}
 use Rattle.orca_op.specs.State.{State, IsState, across, has_bang}
 use Rattle.orca_op.specs.Deeds.{Deed, Mark, Write, Set, Emit, input_at, param_at, lock_at}
 use Rattle.orca_op.specs.Laws.{IsLawful, Every, WritesGlyph, EmitsInRange, IsCovered, is_emit}
-use Rattle.orca_op.specs.LawFacts.{IsGlyph-peek, length-each, Every-append, Every-each, count_by-append}
+use Rattle.orca_op.specs.LawFacts.{IsGlyph-peek, value_or-range, length-each, Every-append, Every-each, count_by-append}
 use Rattle.orca_op.specs.FirstFacts.{first_where-range}
 use Rattle.orca_op.specs.MotionRules.{locked}
 use Rattle.orca_op.specs.ValueRules.{value_or}
@@ -141,10 +141,6 @@ velocity_of-loud glyph fit = grind (arith, nat_tests)
 velocity_of-low : (glyph : ℕ) → velocity_of glyph ≤ MAX_DATA
 velocity_of-low glyph = grind (arith, nat_tests)
 
-value_or_1-range : (glyph : ℕ) → (1 ≤ value_or glyph 1) × (value_or glyph 1 < BASE)
-unfolding value_or
-value_or_1-range glyph = let below = value-below glyph in (grind (arith, nat_tests), grind (arith, nat_tests))
-
 -- where neither is so, the second isn't
 neither : (a b : Bool) → (a || b) ≡ false → b ≡ false
 neither true b none = cc
@@ -159,8 +155,8 @@ note_with-in_range mono channel octave velocity frames (Some number) =
     unless _ _ (λ fit. record {
       numbers = record { channel_low = omega arith; first_low = omega arith; second_low = velocity_of-low velocity };
       loud = velocity_of-loud velocity (neither (octave == empty) _ fit);
-      some = (value_or_1-range frames).0;
-      short = (value_or_1-range frames).1;
+      some = (value_or-range frames 1).1 (lit≤ tt);
+      short = omega (arith, (value_or-range frames 1).0);
     })
 
 note_of-in_range : (mono : Bool) (s : State) (at : Place) → IfSome (note_of mono s at) IsInRange

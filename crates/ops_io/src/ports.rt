@@ -3,8 +3,7 @@ ghost use Rattle.orca_op.specs.EventRules.{inputs};
 ghost use Rattle.orca_op.specs.MotionRules.{locked};
 ghost use Rattle.orca_op.specs.State.{across};
 ghost use Rattle.orca_op.specs.Deeds.{input_at, lock_at};
-ghost use Rattle.orca_op.specs.Desk.{done, all_done};
-ghost use Rattle.ops_io.specs.Room.{HasRoom};
+ghost use Rattle.orca_op.specs.Desk.{HasRoom, done, all_done};
 
 use orca_base::{Place, Steps};
 use orca_op::Bench;

@@ -1,7 +1,6 @@
 ghost use Rattle.std.specs.Prelude.{◌≡◌, ◌+◌, ◌≤◌};
 ghost use Rattle.orca_op.specs.EventRules.{beside_bang, sent};
-ghost use Rattle.orca_op.specs.Desk.{all_done};
-ghost use Rattle.ops_io.specs.Room.{HasRoom};
+ghost use Rattle.orca_op.specs.Desk.{HasRoom, all_done};
 
 use orca_base::{Event, Place, Steps};
 use orca_op::{Bench, has_bang};

@@ -7,7 +7,7 @@ use Rattle.orca_base.specs.Glyphs.{IsGlyph, empty, bang, value, cased}
 use Rattle.orca_base.specs.GlyphFacts.{IsGlyph-cased, value-below}
 use Rattle.orca_op.specs.State.{peek, left, right}
 use Rattle.orca_op.specs.Laws.{IsLawful}
-use Rattle.orca_op.specs.LawFacts.{quiet}
+use Rattle.orca_op.specs.LawFacts.{value_or-range, quiet}
 use Rattle.orca_op.specs.ValueRules.{value_or, random_between, lerped, add, subtract, clock, delay, if_equal, increment, lesser, multiply, random, uclid, lerp}
 
 -- the bang or the empty glyph
@@ -15,17 +15,9 @@ IsGlyph-banged : (b : Bool) → IsGlyph (if b then bang else empty)
 IsGlyph-banged true = (lit≤ tt, lit≤ tt)
 IsGlyph-banged false = (lit≤ tt, lit≤ tt)
 
-value_or-some : (g other : ℕ) → 0 < other → 0 < value_or g other
-unfolding value_or
-value_or-some g other some = grind (arith, nat_tests)
-
-value_or-most : (g other : ℕ) → value_or g other ≤ max (BASE - 1) other
-unfolding value_or
-value_or-most g other = let below = value-below g in grind (arith, nat_tests)
-
 -- a remainder by a value is below the base
 mod_value-below : (n g other : ℕ) → 0 < other → other ≤ BASE → n % value_or g other < BASE
-mod_value-below n g other some most = omega (arith, value_or-some g other some, value_or-most g other)
+mod_value-below n g other some most = omega (arith, (value_or-range g other).1 some, (value_or-range g other).0)
 
 random_between-below : (a b word : ℕ) → a < BASE → b ≤ BASE → random_between a b word < BASE
 unfolding random_between
@@ -115,7 +107,7 @@ pub lawful-random : IsLawful random
 lawful-random = record {
   few_deeds = λ g s at now. omega arith;
   one_event = λ g s at now. omega arith;
-  glyphs = λ g s at now whole is_glyph cells vars. (tt, (tt, (tt, (IsGlyph-cased _ _ (random_between-below _ _ _ (value-below _) (value_or-most (peek s (right at)) BASE)), tt))));
+  glyphs = λ g s at now whole is_glyph cells vars. (tt, (tt, (tt, (IsGlyph-cased _ _ (random_between-below _ _ _ (value-below _) (value_or-range (peek s (right at)) BASE).0), tt))));
   covered = λ g s at now. (tt, (tt, (tt, (inr (inr (inr (inl (refl, refl)))), tt))));
   events = λ g s at now whole cells. quiet (random g s at now) refl;
 }

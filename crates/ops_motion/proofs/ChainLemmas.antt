@@ -24,18 +24,18 @@ comment_length-missing s at before =
     ap (λ (first : Option ℕ). unwrap_or first COMMENT_REACH) (first_where-missing _ 1 COMMENT_REACH before)
 
 -- the first other glyph ends the chain
-pub chain_end-found : (g : ℕ) (s : State) (behind : ℕ → Spot) (i : ℕ) → 1 ≤ i → i ≤ JUMP_REACH → ((k : ℕ) → 1 ≤ k → k < i → not (peek s (behind k) == g) ≡ false) → not (peek s (behind i) == g) ≡ true → chain_end g s behind ≡ Some i
+pub chain_end-found : (g : ℕ) (s : State) (beyond : ℕ → Spot) (i : ℕ) → 1 ≤ i → i ≤ JUMP_REACH → ((k : ℕ) → 1 ≤ k → k < i → not (peek s (beyond k) == g) ≡ false) → not (peek s (beyond i) == g) ≡ true → chain_end g s beyond ≡ Some i
 unfolding chain_end
-chain_end-found g s behind i low high before here = first_where-found _ 1 JUMP_REACH i low (omega arith) before here
+chain_end-found g s beyond i low high before here = first_where-found _ 1 JUMP_REACH i low (omega arith) before here
 
 -- with no other glyph the chain has no end
-pub chain_end-missing : (g : ℕ) (s : State) (behind : ℕ → Spot) → ((k : ℕ) → 1 ≤ k → k < 1 + JUMP_REACH → not (peek s (behind k) == g) ≡ false) → chain_end g s behind ≡ None
+pub chain_end-missing : (g : ℕ) (s : State) (beyond : ℕ → Spot) → ((k : ℕ) → 1 ≤ k → k < 1 + JUMP_REACH → not (peek s (beyond k) == g) ≡ false) → chain_end g s beyond ≡ None
 unfolding chain_end
-chain_end-missing g s behind before = first_where-missing _ 1 JUMP_REACH before
+chain_end-missing g s beyond before = first_where-missing _ 1 JUMP_REACH before
 
 -- the deeds of a jumper that acts, one after another
-pub jump-done : (d : Desk) (g : ℕ) (from : Spot) (behind : ℕ → Spot) (i : ℕ) → (peek d.scan from == g) ≡ false → chain_end g d.scan behind ≡ Some i
-    → all_done d (jump g d.scan from behind) ≡ done (done (all_done (done d (input_at from)) (asleep behind (i - 1))) (output_at (behind i))) (Write (behind i) (peek d.scan from))
+pub jump-done : (d : Desk) (g : ℕ) (source : Spot) (beyond : ℕ → Spot) (i : ℕ) → (peek d.scan source == g) ≡ false → chain_end g d.scan beyond ≡ Some i
+    → all_done d (jump g d.scan source beyond) ≡ done (done (all_done (done d (input_at source)) (asleep beyond (i - 1))) (output_at (beyond i))) (Write (beyond i) (peek d.scan source))
 unfolding jump
-jump-done d g from behind i first end =
-    rw (first, end) (all_done-append (done d (input_at from)) (asleep behind (i - 1)) (output_at (behind i) ∷ Write (behind i) (peek d.scan from) ∷ []))
+jump-done d g source beyond i first end =
+    rw (first, end) (all_done-append (done d (input_at source)) (asleep beyond (i - 1)) (output_at (beyond i) ∷ Write (beyond i) (peek d.scan source) ∷ []))

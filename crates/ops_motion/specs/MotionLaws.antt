@@ -8,7 +8,7 @@ use Rattle.orca_base.specs.Glyphs.{IsGlyph}
 use Rattle.orca_op.specs.State.{State, peek, left, right, above, below, across, down}
 use Rattle.orca_op.specs.Deeds.{Deed, Write, output_at, lock_at, sleep_at}
 use Rattle.orca_op.specs.Laws.{EmitsInRange, IsLawful, is_emit, Every, WritesGlyph, IsCovered}
-use Rattle.orca_op.specs.LawFacts.{IsGlyph-peek, length-each, no_event-each, Every-each, Every-append, Some_deed-right, count_by-append}
+use Rattle.orca_op.specs.LawFacts.{IsGlyph-peek, length-each, no_event-each, Every-each, Every-append, AnyDeed-right, count_by-append}
 use Rattle.orca_op.specs.FirstFacts.{first_where-range}
 use Rattle.orca_op.specs.MotionRules.{move_to, east, north, south, west, bang_rule, halt, comment_length, locked, comment, chain_end, asleep, jump_by, jump, jumper, jymper}
 
@@ -58,7 +58,7 @@ abbrev lock_one : Place → ℕ → List Deed
 lock_one at i = lock_at (across at (i + 1)) ∷ []
 
 abbrev sleep_one : (ℕ → Spot) → ℕ → List Deed
-sleep_one behind k = sleep_at (behind (k + 1)) ∷ []
+sleep_one beyond k = sleep_at (beyond (k + 1)) ∷ []
 
 -- a comment locks no more places than it reaches
 comment_few : (first : Option ℕ) → IfSome first (λ i. (1 ≤ i) × (i < 1 + COMMENT_REACH)) → unwrap_or first COMMENT_REACH ≤ COMMENT_REACH
@@ -84,40 +84,40 @@ lawful-comment = record {
 }
 
 -- a chain's end lies no farther than a jumper looks
-chain_end-range : (g : ℕ) (s : State) (behind : ℕ → Spot) → IfSome (chain_end g s behind) (λ i. (1 ≤ i) × (i < 1 + JUMP_REACH))
+chain_end-range : (g : ℕ) (s : State) (beyond : ℕ → Spot) → IfSome (chain_end g s beyond) (λ i. (1 ≤ i) × (i < 1 + JUMP_REACH))
 unfolding chain_end
-chain_end-range g s behind = first_where-range _ 1 JUMP_REACH
+chain_end-range g s beyond = first_where-range _ 1 JUMP_REACH
 
 -- the laws of a jumper that acts, by where its chain ends
-jump_by-few : (g : ℕ) (s : State) (from : Spot) (behind : ℕ → Spot) (end : Option ℕ) → IfSome end (λ i. (1 ≤ i) × (i < 1 + JUMP_REACH)) → length (jump_by g s from behind end) ≤ MAX_DEEDS
-jump_by-few g s from behind None within = lit≤ tt
-jump_by-few g s from behind (Some i) within =
-    let slept : length (asleep behind (i - 1)) ≤ (i - 1) * 1 = length-each (i - 1) 1 (sleep_one behind) (λ k. lit≤ tt) in
-    omega (arith, length-append (asleep behind (i - 1)) (output_at (behind i) ∷ Write (behind i) (peek s from) ∷ []))
+jump_by-few : (g : ℕ) (s : State) (source : Spot) (beyond : ℕ → Spot) (end : Option ℕ) → IfSome end (λ i. (1 ≤ i) × (i < 1 + JUMP_REACH)) → length (jump_by g s source beyond end) ≤ MAX_DEEDS
+jump_by-few g s source beyond None within = lit≤ tt
+jump_by-few g s source beyond (Some i) within =
+    let slept : length (asleep beyond (i - 1)) ≤ (i - 1) * 1 = length-each (i - 1) 1 (sleep_one beyond) (λ k. lit≤ tt) in
+    omega (arith, length-append (asleep beyond (i - 1)) (output_at (beyond i) ∷ Write (beyond i) (peek s source) ∷ []))
 
-jump_by-quiet : (g : ℕ) (s : State) (from : Spot) (behind : ℕ → Spot) (end : Option ℕ) → count_by is_emit (jump_by g s from behind end) ≤ 1
-jump_by-quiet g s from behind None = lit≤ tt
-jump_by-quiet g s from behind (Some i) =
-    let none : count_by is_emit (asleep behind (i - 1)) ≡ 0 = no_event-each (i - 1) (sleep_one behind) (λ k. refl) in
-    omega (arith, count_by-append is_emit (asleep behind (i - 1)) (output_at (behind i) ∷ Write (behind i) (peek s from) ∷ []))
+jump_by-quiet : (g : ℕ) (s : State) (source : Spot) (beyond : ℕ → Spot) (end : Option ℕ) → count_by is_emit (jump_by g s source beyond end) ≤ 1
+jump_by-quiet g s source beyond None = lit≤ tt
+jump_by-quiet g s source beyond (Some i) =
+    let none : count_by is_emit (asleep beyond (i - 1)) ≡ 0 = no_event-each (i - 1) (sleep_one beyond) (λ k. refl) in
+    omega (arith, count_by-append is_emit (asleep beyond (i - 1)) (output_at (beyond i) ∷ Write (beyond i) (peek s source) ∷ []))
 
-jump_by-glyphs : (g : ℕ) (s : State) (from : Spot) (behind : ℕ → Spot) (end : Option ℕ) → IsGlyph (peek s from) → Every WritesGlyph (jump_by g s from behind end)
-jump_by-glyphs g s from behind None glyph = (tt, tt)
-jump_by-glyphs g s from behind (Some i) glyph =
-    (tt, Every-append WritesGlyph (asleep behind (i - 1)) _ (Every-each WritesGlyph (i - 1) (sleep_one behind) (λ k below. (tt, tt))) (tt, (glyph, tt)))
+jump_by-glyphs : (g : ℕ) (s : State) (source : Spot) (beyond : ℕ → Spot) (end : Option ℕ) → IsGlyph (peek s source) → Every WritesGlyph (jump_by g s source beyond end)
+jump_by-glyphs g s source beyond None glyph = (tt, tt)
+jump_by-glyphs g s source beyond (Some i) glyph =
+    (tt, Every-append WritesGlyph (asleep beyond (i - 1)) _ (Every-each WritesGlyph (i - 1) (sleep_one beyond) (λ k below. (tt, tt))) (tt, (glyph, tt)))
 
-jump_by-events : (g : ℕ) (s : State) (from : Spot) (behind : ℕ → Spot) (end : Option ℕ) → Every EmitsInRange (jump_by g s from behind end)
-jump_by-events g s from behind None = (tt, tt)
-jump_by-events g s from behind (Some i) =
-    (tt, Every-append EmitsInRange (asleep behind (i - 1)) _ (Every-each EmitsInRange (i - 1) (sleep_one behind) (λ k below. (tt, tt))) (tt, (tt, tt)))
+jump_by-events : (g : ℕ) (s : State) (source : Spot) (beyond : ℕ → Spot) (end : Option ℕ) → Every EmitsInRange (jump_by g s source beyond end)
+jump_by-events g s source beyond None = (tt, tt)
+jump_by-events g s source beyond (Some i) =
+    (tt, Every-append EmitsInRange (asleep beyond (i - 1)) _ (Every-each EmitsInRange (i - 1) (sleep_one beyond) (λ k below. (tt, tt))) (tt, (tt, tt)))
 
-jump_by-covered : (at : Place) (g : ℕ) (s : State) (from : Spot) (behind : ℕ → Spot) (end : Option ℕ) → Every (IsCovered at (jump_by g s from behind end)) (jump_by g s from behind end)
-jump_by-covered at g s from behind None = (tt, tt)
-jump_by-covered at g s from behind (Some i) =
-    let deeds = jump_by g s from behind (Some i) in (
+jump_by-covered : (at : Place) (g : ℕ) (s : State) (source : Spot) (beyond : ℕ → Spot) (end : Option ℕ) → Every (IsCovered at (jump_by g s source beyond end)) (jump_by g s source beyond end)
+jump_by-covered at g s source beyond None = (tt, tt)
+jump_by-covered at g s source beyond (Some i) =
+    let deeds = jump_by g s source beyond (Some i) in (
       tt,
-      Every-append (IsCovered at deeds) (asleep behind (i - 1)) _ (Every-each (IsCovered at deeds) (i - 1) (sleep_one behind) (λ k below. (tt, tt)))
-          (tt, (inr (inr (Some_deed-right _ (asleep behind (i - 1)) _ (inl (refl, refl)))), tt)),
+      Every-append (IsCovered at deeds) (asleep beyond (i - 1)) _ (Every-each (IsCovered at deeds) (i - 1) (sleep_one beyond) (λ k below. (tt, tt)))
+          (tt, (inr (inr (AnyDeed-right _ (asleep beyond (i - 1)) _ (inl (refl, refl)))), tt)),
     )
 
 -- where a jumper does nothing, nothing has to be covered
@@ -126,15 +126,15 @@ covered_unless at true deeds covered = tt
 covered_unless at false deeds covered = covered
 
 -- a jumper's rule is lawful, whichever way it hands on
-lawful-jump : (from : Place → Spot) (behind : Place → ℕ → Spot) → IsLawful (λ g s at now. jump g s (from at) (behind at))
+lawful-jump : (source : Place → Spot) (beyond : Place → ℕ → Spot) → IsLawful (λ g s at now. jump g s (source at) (beyond at))
 unfolding jump
-lawful-jump from behind = record {
-  few_deeds = λ g s at now. let few = jump_by-few g s (from at) (behind at) _ (chain_end-range g s (behind at)) in search rules;
-  one_event = λ g s at now. let quiet = jump_by-quiet g s (from at) (behind at) (chain_end g s (behind at)) in search rules;
+lawful-jump source beyond = record {
+  few_deeds = λ g s at now. let few = jump_by-few g s (source at) (beyond at) _ (chain_end-range g s (beyond at)) in search rules;
+  one_event = λ g s at now. let quiet = jump_by-quiet g s (source at) (beyond at) (chain_end g s (beyond at)) in search rules;
   glyphs = λ g s at now whole is_glyph cells vars.
-      let glyphs = jump_by-glyphs g s (from at) (behind at) (chain_end g s (behind at)) (IsGlyph-peek s (from at) whole cells) in search rules;
-  covered = λ g s at now. covered_unless at (peek s (from at) == g) _ (jump_by-covered at g s (from at) (behind at) (chain_end g s (behind at)));
-  events = λ g s at now whole cells. let events = jump_by-events g s (from at) (behind at) (chain_end g s (behind at)) in search rules;
+      let glyphs = jump_by-glyphs g s (source at) (beyond at) (chain_end g s (beyond at)) (IsGlyph-peek s (source at) whole cells) in search rules;
+  covered = λ g s at now. covered_unless at (peek s (source at) == g) _ (jump_by-covered at g s (source at) (beyond at) (chain_end g s (beyond at)));
+  events = λ g s at now whole cells. let events = jump_by-events g s (source at) (beyond at) (chain_end g s (beyond at)) in search rules;
 }
 
 pub lawful-jumper : IsLawful jumper

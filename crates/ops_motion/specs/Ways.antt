@@ -6,12 +6,12 @@ use Rattle.orca_op.specs.State.{left, above, across, down}
 use Rattle.ops_motion.specs.declared.way.Way.{Way}
 use Rattle.ops_motion.specs.declared.way.Way.TheVariants.{Down, Right}
 
--- the spot right before a place
-abbrev pub before_on : Way → Place → Spot
-before_on Down at = above at
-before_on Right at = left at
+-- the spot whose glyph is handed on by a chain that begins at a place
+abbrev pub source_on : Way → Place → Spot
+source_on Down at = above at
+source_on Right at = left at
 
--- the spot so many places behind a place
-abbrev pub behind_on : Way → Place → ℕ → Spot
-behind_on Down at n = down at n
-behind_on Right at n = across at n
+-- the spot n places beyond a place
+abbrev pub beyond_on : Way → Place → ℕ → Spot
+beyond_on Down at n = down at n
+beyond_on Right at n = across at n

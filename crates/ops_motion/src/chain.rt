@@ -1,7 +1,7 @@
 ghost use Rattle.std.specs.Prelude.{◌≡◌, ◌+◌, ◌*◌, ◌≤◌, IfSome};
 ghost use Rattle.orca_op.specs.Desk.{all_done};
 ghost use Rattle.orca_op.specs.MotionRules.{chain_end, jump, asleep};
-ghost use Rattle.ops_motion.specs.Ways.{before_on, behind_on};
+ghost use Rattle.ops_motion.specs.Ways.{source_on, beyond_on};
 
 use crate::way::Way;
 use orca_base::limits::JUMP_REACH;
@@ -9,7 +9,7 @@ use orca_base::{Glyph, Place, Steps};
 use orca_op::Bench;
 use std::sync::ledger::Ledger;
 
-/// Does the deeds of a jumper: the first of a chain hands the glyph before it on to the place behind the
+/// Does the deeds of a jumper: the first of a chain hands the glyph of its source on to the place beyond the
 /// chain's end.
 #[tactic(auto, unfolding(orca_op::specs::MotionRules::jump))]
 pub(crate) fn jump<B: Bench, L: Ledger>(
@@ -19,24 +19,24 @@ pub(crate) fn jump<B: Bench, L: Ledger>(
     way: Way,
     steps: &mut Steps<L>,
 )
-    ensures deeds { B.desk bench.new ≡ all_done (B.desk bench.old) (jump glyph (B.desk bench.old).scan (before_on way at) (behind_on way at)) }
+    ensures deeds { B.desk bench.new ≡ all_done (B.desk bench.old) (jump glyph (B.desk bench.old).scan (source_on way at) (beyond_on way at)) }
     ensures ticks { steps.new ≤ steps.old + (2 * JUMP_REACH + 3) }
     ensures later { steps.old ≤ steps.new }
 {
-    let carried = bench.peek(way.before(at), steps);
+    let carried = bench.peek(way.source(at), steps);
     if carried == glyph {
         return;
     }
     let end = chain_end(bench, at, glyph, way, steps);
-    bench.input(way.before(at), steps);
+    bench.input(way.source(at), steps);
     if let Some(places) = end {
         sleep_chain(bench, at, way, places - 1, steps);
-        bench.output(way.behind(at, places), steps);
-        bench.write(way.behind(at, places), carried, steps);
+        bench.output(way.beyond(at, places), steps);
+        bench.write(way.beyond(at, places), carried, steps);
     }
 }
 
-/// How many places behind a jumper the first place is that doesn't hold its glyph.
+/// How many places beyond a jumper the first place is that doesn't hold its glyph.
 fn chain_end<B: Bench, L: Ledger>(
     bench: &B,
     at: Place,
@@ -44,20 +44,20 @@ fn chain_end<B: Bench, L: Ledger>(
     way: Way,
     steps: &mut Steps<L>,
 ) -> Option<u16>
-    ensures end { result ≡ chain_end glyph (B.desk bench.now).scan (behind_on way at) }
+    ensures end { result ≡ chain_end glyph (B.desk bench.now).scan (beyond_on way at) }
     ensures range { IfSome result (λ places. (1 ≤ places) × (places ≤ JUMP_REACH)) }
     ensures ticks { steps.new ≤ steps.old + JUMP_REACH }
     ensures later { steps.old ≤ steps.new }
 {
     for places in 1..JUMP_REACH + 1 {
-        if bench.peek(way.behind(at, places), steps) != glyph {
+        if bench.peek(way.beyond(at, places), steps) != glyph {
             return Some(places);
         }
     }
     None
 }
 
-/// Puts so many places behind a jumper to sleep.
+/// Puts the first `places` places beyond a jumper to sleep.
 fn sleep_chain<B: Bench, L: Ledger>(
     bench: &mut B,
     at: Place,
@@ -65,10 +65,10 @@ fn sleep_chain<B: Bench, L: Ledger>(
     places: u16,
     steps: &mut Steps<L>,
 )
-    ensures deeds { B.desk bench.new ≡ all_done (B.desk bench.old) (asleep (behind_on way at) places) }
+    ensures deeds { B.desk bench.new ≡ all_done (B.desk bench.old) (asleep (beyond_on way at) places) }
     ensures ticks { steps.new ≡ steps.old + places }
 {
     for passed in 0..places {
-        bench.sleep(way.behind(at, passed + 1), steps);
+        bench.sleep(way.beyond(at, passed + 1), steps);
     }
 }

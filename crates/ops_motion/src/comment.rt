@@ -4,7 +4,6 @@ ghost use Rattle.orca_op.specs.declared.kind.Kind.TheVariants.{Comment as commen
 ghost use Rattle.orca_op.specs.MotionRules.{comment, comment_length, locked};
 ghost use Rattle.ops_motion.specs.MotionLaws.{lawful-comment};
 
-use crate::way::Way;
 use orca_base::limits::COMMENT_REACH;
 use orca_base::{Glyph, Now, Place, Steps};
 use orca_op::{Bench, Operator};
@@ -48,7 +47,7 @@ fn comment_length<B: Bench, L: Ledger>(bench: &B, at: Place, steps: &mut Steps<L
     ensures later { steps.old ≤ steps.new }
 {
     for column in 1..COMMENT_REACH + 1 {
-        if bench.peek(Way::Right.behind(at, column), steps).byte() == b'#' {
+        if bench.peek(at.off(0, i32::from(column)), steps).byte() == b'#' {
             return column;
         }
     }
@@ -61,6 +60,6 @@ fn lock_line<B: Bench, L: Ledger>(bench: &mut B, at: Place, length: u16, steps: 
     ensures ticks { steps.new ≡ steps.old + length }
 {
     for column in 0..length {
-        bench.lock(Way::Right.behind(at, column + 1), steps);
+        bench.lock(at.off(0, i32::from(column) + 1), steps);
     }
 }

@@ -1,5 +1,5 @@
 ghost use Rattle.std.specs.Prelude.{◌≡◌};
-ghost use Rattle.ops_motion.specs.Ways.{before_on, behind_on};
+ghost use Rattle.ops_motion.specs.Ways.{source_on, beyond_on};
 
 use orca_base::{Place, Spot};
 
@@ -13,9 +13,9 @@ pub(crate) enum Way {
 }
 
 impl Way {
-    /// The spot right before a place.
-    pub(crate) fn before(self, at: Place) -> Spot
-        ensures { result ≡ before_on self at }
+    /// The spot whose glyph is handed on by a chain that begins at a place.
+    pub(crate) fn source(self, at: Place) -> Spot
+        ensures { result ≡ source_on self at }
     {
         match self {
             Way::Down => at.off(-1, 0),
@@ -23,9 +23,9 @@ impl Way {
         }
     }
 
-    /// The spot so many places behind a place.
-    pub(crate) fn behind(self, at: Place, places: u16) -> Spot
-        ensures { result ≡ behind_on self at places }
+    /// The spot that lies a number of places beyond a place.
+    pub(crate) fn beyond(self, at: Place, places: u16) -> Spot
+        ensures { result ≡ beyond_on self at places }
     {
         match self {
             Way::Down => at.off(i32::from(places), 0),

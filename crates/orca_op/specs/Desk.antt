@@ -1,6 +1,6 @@
 -- A desk is what a contract sees of a bench: the state of the scan, the size at the last `begin`, and
 -- the places that were written since.
-use Rattle.std.specs.Prelude.{ℕ, ◌+◌, ◌==◌, Bool, not, ◌&&◌, nat_lt, if◌then◌else◌, List, [], ◌∷◌, ◌++◌, length, count_by, Option, Some, None}
+use Rattle.std.specs.Prelude.{ℕ, ◌+◌, ◌*◌, ◌<◌, ◌==◌, Bool, not, ◌&&◌, nat_lt, if◌then◌else◌, List, [], ◌∷◌, ◌++◌, length, count_by, Option, Some, None}
 use Rattle.std.specs.List.{list_any}
 use Rattle.orca_base.specs.declared.place.Place.{Place}
 use Rattle.orca_base.specs.Grids.{Size, place_in}
@@ -49,6 +49,10 @@ done d deed = record {
 abbrev pub all_done : Desk → List Deed → Desk
 all_done d [] = d
 all_done d (deed ∷ deeds) = all_done (done d deed) deeds
+
+-- there is room for an event: fewer are listed than the grid has places
+abbrev pub HasRoom : Desk → Type 0
+HasRoom d = length d.scan.events < d.scan.dims.h * d.scan.dims.w
 
 -- how much a `begin` has to clear: the marked places and the listed ones
 unfoldable pub residue : Desk → ℕ

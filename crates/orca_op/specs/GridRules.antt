@@ -96,11 +96,16 @@ variable g s at now =
     then (if read == empty then [] else output_at (below at) ∷ Write (below at) (var_at s (value read)) ∷ [])
     else Set (value write) read ∷ [])
 
--- a name that is a variable: its value is written below
-unfoldable pub konkat_one : State → Place → ℕ → List Deed
+-- the variable is written below its name, the i-th at the right; nothing is written where the name is missing
+unfoldable pub written_below : Place → ℕ → ℕ → ℕ → List Deed
+written_below at i name stored =
+    if name == empty then [] else output_at (off at (pos 1) (pos i)) ∷ Write (off at (pos 1) (pos i)) stored ∷ []
+
+-- the variable that the i-th place at the right names is written below that place
+abbrev pub konkat_one : State → Place → ℕ → List Deed
 konkat_one s at i =
     let name = peek s (across at i) in
-    if name == empty then [] else output_at (off at (pos 1) (pos i)) ∷ Write (off at (pos 1) (pos i)) (var_at s (value name)) ∷ []
+    written_below at i name (var_at s (value name))
 
 -- K: the variables that are named at its right are written below
 abbrev pub konkat : ℕ → State → Place → Now → List Deed

@@ -1,5 +1,5 @@
 -- What the laws of rules come from, and how deeds add up.
-use Rattle.std.specs.Prelude.{ℕ, zero, suc, All, ◌+◌, ◌*◌, ◌<◌, ◌≤◌, ◌≡◌, List, [], ◌∷◌, ◌++◌, length, count_by, Some, None, slice_index, refl, ℤ, pos, negsuc, Bool, nat_lt, ◌&&◌, true, false, if◌then◌else◌}
+use Rattle.std.specs.Prelude.{ℕ, zero, suc, All, ◌+◌, ◌-◌, ◌*◌, max, ◌<◌, ◌≤◌, ◌≡◌, List, [], ◌∷◌, ◌++◌, length, count_by, Some, None, slice_index, refl, ℤ, pos, negsuc, Bool, nat_lt, ◌&&◌, true, false, if◌then◌else◌}
 use Rattle.std.proofs.Common.{inl, inr, arith, ap, sym, ◌∙◌, subst, add-one, length-append, lit≤}
 use Rattle.std.proofs.Math.ListN.{set}
 use Rattle.std.proofs.Math.Nat.{eq-or-lt_of_le}
@@ -10,13 +10,15 @@ use Rattle.orca_base.specs.declared.limits.TheConstants.{BASE}
 use Rattle.orca_base.specs.declared.place.Spot.{Spot}
 use Rattle.orca_base.specs.EventRanges.{IsInRange}
 use Rattle.orca_base.specs.Glyphs.{IsGlyph, AreGlyphs}
+use Rattle.orca_base.specs.GlyphFacts.{value-below}
 use Rattle.orca_base.specs.Grids.{place_at}
 use Rattle.orca_op.specs.State.{State, IsState, peek, var_at, glyph_in}
 use Rattle.orca_op.specs.Deeds.{Deed, Mark, Write, Set, Emit, after, after_all, each}
 use Rattle.orca_op.specs.Desk.{Desk, done, all_done}
-use Rattle.orca_op.specs.Laws.{is_emit, Every, Some_deed, EmitsInRange}
+use Rattle.orca_op.specs.ValueRules.{value_or}
+use Rattle.orca_op.specs.Laws.{is_emit, Every, AnyDeed, EmitsInRange}
 
--- a number read from a list of glyphs is a glyph, or 0 past the end
+-- a number read inside a list of glyphs is a glyph
 pub IsGlyph-index : (xs : List ℕ) (i : ℕ) → AreGlyphs xs → i < length xs → IsGlyph (slice_index xs i)
 IsGlyph-index [] i all below = absurd (omega arith)
 IsGlyph-index (x ∷ xs) zero all below = all.0
@@ -54,6 +56,11 @@ pub IsGlyph-peek : (s : State) (spot : Spot) → IsState s → AreGlyphs s.cells
 unfolding peek
 IsGlyph-peek s spot whole glyphs = glyph_at_spot s spot.y spot.x whole glyphs
 
+-- a value, or another where it is 0, is at most the greater of the last value and the other, and 0 only where the other is
+pub value_or-range : (glyph other : ℕ) → (value_or glyph other ≤ max (BASE - 1) other) × (0 < other → 0 < value_or glyph other)
+unfolding value_or
+value_or-range glyph other = let below = value-below glyph in (grind (arith, nat_tests), λ some. grind (arith, nat_tests))
+
 -- what a variable holds is a glyph
 pub IsGlyph-var_at : (s : State) (n : ℕ) → IsState s → AreGlyphs s.vars → n < BASE → IsGlyph (var_at s n)
 unfolding var_at
@@ -83,23 +90,23 @@ Every-each P zero deeds all = tt
 Every-each P (suc n) deeds all =
     Every-append P (each n deeds) (deeds n) (Every-each P n deeds (λ i below. all i (omega arith))) (all n (omega arith))
 
-pub Some_deed-left : (P : Deed → Type 0) (xs ys : List Deed) → Some_deed P xs → Some_deed P (xs ++ ys)
-Some_deed-left P [] ys some = absurd some
-Some_deed-left P (x ∷ xs) ys (inl here) = inl here
-Some_deed-left P (x ∷ xs) ys (inr there) = inr (Some_deed-left P xs ys there)
+pub AnyDeed-left : (P : Deed → Type 0) (xs ys : List Deed) → AnyDeed P xs → AnyDeed P (xs ++ ys)
+AnyDeed-left P [] ys some = absurd some
+AnyDeed-left P (x ∷ xs) ys (inl here) = inl here
+AnyDeed-left P (x ∷ xs) ys (inr there) = inr (AnyDeed-left P xs ys there)
 
-pub Some_deed-right : (P : Deed → Type 0) (xs ys : List Deed) → Some_deed P ys → Some_deed P (xs ++ ys)
-Some_deed-right P [] ys some = some
-Some_deed-right P (x ∷ xs) ys some = inr (Some_deed-right P xs ys some)
+pub AnyDeed-right : (P : Deed → Type 0) (xs ys : List Deed) → AnyDeed P ys → AnyDeed P (xs ++ ys)
+AnyDeed-right P [] ys some = some
+AnyDeed-right P (x ∷ xs) ys some = inr (AnyDeed-right P xs ys some)
 
 -- a deed of some number is among all of them
-pub Some_deed-each : (P : Deed → Type 0) (n i : ℕ) (deeds : ℕ → List Deed) → i < n → Some_deed P (deeds i) → Some_deed P (each n deeds)
-Some_deed-each P zero i deeds below some = absurd (omega arith)
-Some_deed-each P (suc n) i deeds below some =
+pub AnyDeed-each : (P : Deed → Type 0) (n i : ℕ) (deeds : ℕ → List Deed) → i < n → AnyDeed P (deeds i) → AnyDeed P (each n deeds)
+AnyDeed-each P zero i deeds below some = absurd (omega arith)
+AnyDeed-each P (suc n) i deeds below some =
     let at_most : i ≤ n = omega arith in
     elim (eq-or-lt_of_le at_most) [
-      | inl same ↦ Some_deed-right P (each n deeds) (deeds n) (subst (λ (k : ℕ). Some_deed P (deeds k)) same some)
-      | inr less ↦ Some_deed-left P (each n deeds) (deeds n) (Some_deed-each P n i deeds less some)
+      | inl same ↦ AnyDeed-right P (each n deeds) (deeds n) (subst (λ (k : ℕ). AnyDeed P (deeds k)) same some)
+      | inr less ↦ AnyDeed-left P (each n deeds) (deeds n) (AnyDeed-each P n i deeds less some)
     ]
 
 -- deeds one after another
@@ -110,10 +117,6 @@ all_done-append d (x ∷ xs) ys = all_done-append (done d x) xs ys
 -- deeds one after another add up
 pub ruleset added_up = (all_done-append)
 
-pub after_all-append : (s : State) (xs ys : List Deed) → after_all s (xs ++ ys) ≡ after_all (after_all s xs) ys
-after_all-append s [] ys = refl
-after_all-append s (x ∷ xs) ys = after_all-append (after s x) xs ys
-
 -- the state of a desk after deeds is the state after them
 pub scan-all_done : (d : Desk) (deeds : List Deed) → (all_done d deeds).scan ≡ after_all d.scan deeds
 scan-all_done d [] = refl
@@ -123,10 +126,19 @@ scan-all_done d (deed ∷ deeds) = scan-all_done (done d deed) deeds
 pub each-more : (n : ℕ) (deeds : ℕ → List Deed) → each (n + 1) deeds ≡ each n deeds ++ deeds n
 each-more n deeds = rw add-one refl
 
--- where the deeds of the numbers below n were done, those of n make one number more
-pub all_done-each_more : (start now : Desk) (n : ℕ) (deeds : ℕ → List Deed) → now ≡ all_done start (each n deeds) → all_done now (deeds n) ≡ all_done start (each (n + 1) deeds)
-all_done-each_more start now n deeds so_far =
-    ap (λ (d : Desk). all_done d (deeds n)) so_far ∙ sym (ap (all_done start) (each-more n deeds) ∙ all_done-append start (each n deeds) (deeds n))
+-- the deeds of one number more come after those of the numbers before
+pub all_done-each_more : (d : Desk) (n : ℕ) (deeds : ℕ → List Deed) → all_done d (each (n + 1) deeds) ≡ all_done (all_done d (each n deeds)) (deeds n)
+all_done-each_more d n deeds = rw (each-more n deeds, all_done-append d (each n deeds) (deeds n)) refl
+
+-- the same deeds for each number below n
+pub each-same : (n : ℕ) (deeds others : ℕ → List Deed) → ((i : ℕ) → i < n → deeds i ≡ others i) → each n deeds ≡ each n others
+each-same zero deeds others same = refl
+each-same (suc n) deeds others same =
+    rw (each-same n deeds others (λ i below. same i (omega arith)), same n (omega arith)) refl
+
+-- deeds by a number that is the same for each number below n
+pub each-by : (n : ℕ) (deeds : ℕ → ℕ → List Deed) (f h : ℕ → ℕ) → ((i : ℕ) → i < n → f i ≡ h i) → each n (λ i. deeds i (f i)) ≡ each n (λ i. deeds i (h i))
+each-by n deeds f h same = each-same n (λ i. deeds i (f i)) (λ i. deeds i (h i)) (λ i below. rw (same i below) refl)
 
 -- deeds that send no event send none out of range
 pub quiet : (deeds : List Deed) → count_by is_emit deeds ≡ 0 → Every EmitsInRange deeds

@@ -1,5 +1,6 @@
 -- The laws that the rule of each operator meets.
 use Rattle.std.specs.Prelude.{ℕ, ◌≡◌, ◌≤◌, ◌⊎◌, Bool, true, false, ◌||◌, List, [], ◌∷◌, length, count_by, IsTrue}
+use Rattle.std.specs.List.{AllByRecursion}
 use Rattle.orca_base.specs.declared.limits.TheConstants.{MAX_DEEDS}
 use Rattle.orca_base.specs.declared.now.Now.{Now}
 use Rattle.orca_base.specs.declared.place.Place.{Place}
@@ -17,13 +18,12 @@ is_emit (Emit event) = true
 
 -- every deed of the list
 abbrev pub Every : (Deed → Type 0) → List Deed → Type 0
-Every P [] = Unit {0}
-Every P (deed ∷ deeds) = P deed × Every P deeds
+Every P deeds = AllByRecursion P deeds
 
 -- some deed of the list
-abbrev pub Some_deed : (Deed → Type 0) → List Deed → Type 0
-Some_deed P [] = ⊥
-Some_deed P (deed ∷ deeds) = P deed ⊎ Some_deed P deeds
+abbrev pub AnyDeed : (Deed → Type 0) → List Deed → Type 0
+AnyDeed P [] = ⊥
+AnyDeed P (deed ∷ deeds) = P deed ⊎ AnyDeed P deeds
 
 -- a written glyph is a glyph, also where it goes into a variable
 abbrev pub WritesGlyph : Deed → Type 0
@@ -49,7 +49,7 @@ Covers spot (Emit event) = ⊥
 -- a write to another place comes with Lock or Sleep on that place
 abbrev pub IsCovered : Place → List Deed → Deed → Type 0
 IsCovered at deeds (Mark spot marks) = Unit {0}
-IsCovered at deeds (Write spot glyph) = (spot ≡ own at) ⊎ Some_deed (Covers spot) deeds
+IsCovered at deeds (Write spot glyph) = (spot ≡ own at) ⊎ AnyDeed (Covers spot) deeds
 IsCovered at deeds (Set variable glyph) = Unit {0}
 IsCovered at deeds (Emit event) = Unit {0}
 

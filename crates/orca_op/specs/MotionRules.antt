@@ -56,24 +56,24 @@ locked at n = each n (λ i. lock_at (across at (i + 1)) ∷ [])
 abbrev pub comment : ℕ → State → Place → Now → List Deed
 comment g s at now = locked at (comment_length s at)
 
--- where the chain of a jumper's glyph ends: the number of the first place behind it that holds another
+-- where the chain of a jumper's glyph ends: the number of the first place beyond it that holds another
 unfoldable pub chain_end : ℕ → State → (ℕ → Spot) → Option ℕ
-chain_end g s behind = first_where (λ i. not (peek s (behind i) == g)) 1 JUMP_REACH
+chain_end g s beyond = first_where (λ i. not (peek s (beyond i) == g)) 1 JUMP_REACH
 
--- so many places behind a jumper are put to sleep
+-- the first n places beyond a jumper are put to sleep
 abbrev pub asleep : (ℕ → Spot) → ℕ → List Deed
-asleep behind n = each n (λ k. sleep_at (behind (k + 1)) ∷ [])
+asleep beyond n = each n (λ k. sleep_at (beyond (k + 1)) ∷ [])
 
--- a chain of jumpers hands the glyph at its start on to the place behind its end
+-- a chain of jumpers hands the glyph of its source on to the place beyond its end
 abbrev pub jump_by : ℕ → State → Spot → (ℕ → Spot) → Option ℕ → List Deed
-jump_by g s from behind None = input_at from ∷ []
-jump_by g s from behind (Some i) =
-    input_at from ∷ asleep behind (i - 1) ++ output_at (behind i) ∷ Write (behind i) (peek s from) ∷ []
+jump_by g s source beyond None = input_at source ∷ []
+jump_by g s source beyond (Some i) =
+    input_at source ∷ asleep beyond (i - 1) ++ output_at (beyond i) ∷ Write (beyond i) (peek s source) ∷ []
 
 -- only the first of a chain acts
 unfoldable pub jump : ℕ → State → Spot → (ℕ → Spot) → List Deed
-jump g s from behind =
-    if peek s from == g then [] else jump_by g s from behind (chain_end g s behind)
+jump g s source beyond =
+    if peek s source == g then [] else jump_by g s source beyond (chain_end g s beyond)
 
 -- J: from above to below
 abbrev pub jumper : ℕ → State → Place → Now → List Deed

@@ -1,7 +1,7 @@
-ghost use Rattle.std.specs.Prelude.{◌≡◌, ◌+◌, ◌*◌, ◌<◌, length};
+ghost use Rattle.std.specs.Prelude.{◌≡◌, ◌+◌, ◌<◌};
 ghost use Rattle.orca_op.specs.State.{IsState, peek, marked, var_at};
 ghost use Rattle.orca_op.specs.Deeds.{Mark as mark_deed, Write as write_deed, Set as set_deed, Emit as emit_deed, input_at, param_at, output_at, far_at, lock_at, sleep_at, show_at};
-ghost use Rattle.orca_op.specs.Desk.{Desk, done, begun, residue};
+ghost use Rattle.orca_op.specs.Desk.{Desk, HasRoom, done, begun, residue};
 ghost use Rattle.orca_base.specs.Glyphs.{AreGlyphs};
 
 use orca_base::limits::BASE;
@@ -54,7 +54,7 @@ pub trait Bench {
 
     /// Adds an event, where fewer are listed than the grid has places.
     fn emit<L: Ledger>(&mut self, event: Event, steps: &mut Steps<L>)
-        requires { length (desk self.old).scan.events < (desk self.old).scan.dims.h * (desk self.old).scan.dims.w }
+        requires { HasRoom (desk self.old) }
         ensures deed { desk self.new ≡ done (desk self.old) (emit_deed event) }
         ensures ticks { steps.new ≡ steps.old + 1 };
 

@@ -1,4 +1,4 @@
-ghost use Rattle.std.specs.Prelude.{◌≡◌, ℕ, List, ◌+◌, ◌*◌, ◌<◌, ◌≤◌, length, Some};
+ghost use Rattle.std.specs.Prelude.{◌≡◌, ℕ, List, ◌+◌, ◌≤◌, Some};
 ghost use Rattle.orca_base.specs.declared.limits.TheConstants.{MAX_TICKS};
 ghost use Rattle.orca_base.specs.declared.now.Now.{Now};
 ghost use Rattle.orca_base.specs.declared.place.Place.{Place};
@@ -7,7 +7,7 @@ ghost use Rattle.orca_op.specs.declared.kind.Kind.{Kind};
 ghost use Rattle.orca_op.specs.Kinds.{kind_of};
 ghost use Rattle.orca_op.specs.State.{State, glyph_at};
 ghost use Rattle.orca_op.specs.Deeds.{Deed};
-ghost use Rattle.orca_op.specs.Desk.{Desk, all_done};
+ghost use Rattle.orca_op.specs.Desk.{Desk, HasRoom, all_done};
 ghost use Rattle.orca_op.specs.Laws.{IsLawful};
 
 use crate::Bench;
@@ -34,7 +34,7 @@ pub trait Operator {
         requires inside { IsInside (B.desk bench.old).scan.dims at }
         requires holds { glyph ≡ glyph_at (B.desk bench.old).scan at }
         requires served { kind_of glyph ≡ Some kind }
-        requires room { length (B.desk bench.old).scan.events < (B.desk bench.old).scan.dims.h * (B.desk bench.old).scan.dims.w }
+        requires room { HasRoom (B.desk bench.old) }
         ensures deeds { B.desk bench.new ≡ all_done (B.desk bench.old) (rule glyph (B.desk bench.old).scan at now) }
         ensures ticks { steps.new ≤ steps.old + MAX_TICKS }
         ensures later { steps.old ≤ steps.new };

@@ -2,7 +2,7 @@ use Rattle.std.proofs.Common.{◌≡◌, ◌+◌, ◌*◌, ◌≤◌, ◌∷◌,
 use Rattle.orca_op.specs.State.{across}
 use Rattle.orca_op.specs.Deeds.{each, input_at}
 use Rattle.orca_op.specs.Desk.{all_done}
-use Rattle.ops_grid.specs.NameDeeds.{written_below}
+use Rattle.orca_op.specs.GridRules.{written_below}
 use Rattle.ops_grid.proofs.konkat.concatenate.Given as goal
 
 abbrev pub invariant-loop-i : goal.invariant-loop-i

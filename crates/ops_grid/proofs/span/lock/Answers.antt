@@ -1,9 +1,9 @@
 use Rattle.std.proofs.Common.{arith, rules}
-use Rattle.ops_grid.specs.RunFacts.{all_done-more}
+use Rattle.orca_op.specs.LawFacts.{all_done-each_more}
 use Rattle.ops_grid.proofs.span.lock.Goals as goal
 
 pub loop-i-preserved : goal.loop-i-preserved
 loop-i-preserved g c = record {
-  deeds = rw all_done-more (search rules);
+  deeds = rw all_done-each_more (search rules);
   ticks = omega arith;
 }

@@ -1,7 +1,6 @@
 use Rattle.std.proofs.Common.{◌≡◌, ◌+◌}
-use Rattle.orca_op.specs.Desk.{all_done}
+use Rattle.orca_op.specs.Desk.{HasRoom, all_done}
 use Rattle.orca_op.specs.EventRules.{inputs}
-use Rattle.ops_io.specs.Room.{HasRoom}
 use Rattle.ops_io.proofs.ports.inputs.Given as goal
 
 -- the ports that were passed are marked

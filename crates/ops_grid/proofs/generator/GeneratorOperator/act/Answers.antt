@@ -3,7 +3,7 @@ use Rattle.orca_base.specs.Glyphs.{value}
 use Rattle.orca_op.specs.State.{peek, left, across}
 use Rattle.orca_op.specs.Deeds.{Write, input_at, far_at}
 use Rattle.orca_op.specs.GridRules.{left_2, left_3, target}
-use Rattle.ops_grid.specs.RunFacts.{each-by}
+use Rattle.orca_op.specs.LawFacts.{each-by}
 use Rattle.ops_grid.proofs.generator.GeneratorOperator.act.Goals as goal
 
 pub returns-clause-deeds : goal.returns-clause-deeds

@@ -2,10 +2,9 @@ use Rattle.std.proofs.Common.{◌≡◌, ℕ, ◌+◌, ◌<◌, ◌∷◌, List,
 use Rattle.orca_base.specs.Glyphs.{value}
 use Rattle.orca_op.specs.State.{peek, left, across, var_at}
 use Rattle.orca_op.specs.Deeds.{Deed, input_at}
-use Rattle.orca_op.specs.GridRules.{konkat_one}
+use Rattle.orca_op.specs.GridRules.{written_below, konkat_one}
 use Rattle.orca_op.specs.ValueRules.{value_or}
-use Rattle.ops_grid.specs.NameDeeds.{written_below, konkat_one-is}
-use Rattle.ops_grid.specs.RunFacts.{each-same}
+use Rattle.orca_op.specs.LawFacts.{each-same}
 use Rattle.ops_grid.proofs.konkat.KonkatOperator.act.Goals as goal
 
 pub returns-clause-deeds : goal.returns-clause-deeds
@@ -21,6 +20,6 @@ returns-clause-deeds g c =
     let same : (i : ℕ) → i < length → rule i ≡ code i = λ i below.
     let name : slice_index names i ≡ peek s (across at (i + 1)) = c.read-names.ensures.glyphs i below in
     let held : slice_index stored i ≡ var_at s (value (slice_index names i)) = c.variables-stored.ensures.stored i below in
-    rw (konkat_one-is s at (i + 1), ← name, ← held) refl
+    rw (← name, ← held) refl
     in
     rw (← length_is, each-same length rule code same) (search rules)

@@ -4,7 +4,7 @@ use Rattle.orca_base.specs.Grids.{off}
 use Rattle.orca_op.specs.State.{peek, left}
 use Rattle.orca_op.specs.Deeds.{Write, input_at, output_at}
 use Rattle.orca_op.specs.GridRules.{left_2, left_3, source, below_by}
-use Rattle.ops_grid.specs.RunFacts.{each-by}
+use Rattle.orca_op.specs.LawFacts.{each-by}
 use Rattle.ops_grid.proofs.query.QueryOperator.act.Goals as goal
 
 pub returns-clause-deeds : goal.returns-clause-deeds
