@@ -14,7 +14,7 @@ use Rattle.orca_base.specs.Grids.{Size, Sheet, IsSheet, IsInside, place_of, plac
 use Rattle.orca_base.specs.MarkSet.{MarkSet, no_marks, all_marks}
 use Rattle.orca_op.specs.State.{State, glyph_at, marks_at, has_bang, own}
 use Rattle.orca_op.specs.Deeds.{Deed, Mark as mark_deed, Write, Set, Emit, after, after_all, marked_at, written_at}
-use Rattle.orca_op.specs.Laws.{IsLawful, Every, Some_deed, Covers, IsCovered}
+use Rattle.orca_op.specs.Laws.{IsLawful, Every, AnyDeed, Covers, IsCovered}
 use Rattle.orca_op.specs.OwnPlace.{place_in_own}
 use Rattle.orca_op.specs.Scan.{Rules, deeds_by, is_idle, scanned_by, places}
 use Rattle.orca_frame.specs.Covering.{IsCovering}
@@ -64,7 +64,7 @@ either_write A B C x y z (inl same) (inr writes) = inr (inr writes)
 either_write A B C x y z (inr writes) later = inr (inl writes)
 
 -- a place keeps its glyph, or a deed writes it
-kept_or_written : (s : State) (deeds : List Deed) (j : ℕ) → (slice_index (after_all s deeds).cells j ≡ slice_index s.cells j) ⊎ Some_deed (WritesAt s.dims j) deeds
+kept_or_written : (s : State) (deeds : List Deed) (j : ℕ) → (slice_index (after_all s deeds).cells j ≡ slice_index s.cells j) ⊎ AnyDeed (WritesAt s.dims j) deeds
 unfolding after
 kept_or_written s [] j = inl refl
 kept_or_written s (mark_deed at m ∷ deeds) j = one_more _ ⊥ _ (kept_or_written (after s (mark_deed at m)) deeds j)
@@ -74,7 +74,7 @@ kept_or_written s (Set variable glyph ∷ deeds) j = one_more _ ⊥ _ (kept_or_w
 kept_or_written s (Emit event ∷ deeds) j = one_more _ ⊥ _ (kept_or_written (after s (Emit event)) deeds j)
 
 -- a deed that covers a spot covers its place
-covers_place : (d : Size) (j : ℕ) (spot : Spot) (deeds : List Deed) → IsAt d j (place_in d spot) → Some_deed (Covers spot) deeds → Some_deed (StillsAt d j) deeds
+covers_place : (d : Size) (j : ℕ) (spot : Spot) (deeds : List Deed) → IsAt d j (place_in d spot) → AnyDeed (Covers spot) deeds → AnyDeed (StillsAt d j) deeds
 covers_place d j spot [] here some = absurd some
 covers_place d j spot (mark_deed at m ∷ deeds) here (inl covers) =
     inl (subst (λ (p : Spot). IsAt d j (place_in d p)) (sym covers.0) here, covers.1)
@@ -83,12 +83,12 @@ covers_place d j spot (Set variable glyph ∷ deeds) here (inl covers) = absurd 
 covers_place d j spot (Emit event ∷ deeds) here (inl covers) = absurd covers
 covers_place d j spot (deed ∷ deeds) here (inr later) = inr (covers_place d j spot deeds here later)
 
-covered_write : (d : Size) (j : ℕ) (at : Place) (all : List Deed) (spot : Spot) → (spot ≡ own at) ⊎ Some_deed (Covers spot) all → IsAt d j (place_in d spot) → IsAt d j (place_in d (own at)) ⊎ Some_deed (StillsAt d j) all
+covered_write : (d : Size) (j : ℕ) (at : Place) (all : List Deed) (spot : Spot) → (spot ≡ own at) ⊎ AnyDeed (Covers spot) all → IsAt d j (place_in d spot) → IsAt d j (place_in d (own at)) ⊎ AnyDeed (StillsAt d j) all
 covered_write d j at all spot (inl itself) here = inl (subst (λ (p : Spot). IsAt d j (place_in d p)) itself here)
 covered_write d j at all spot (inr covers) here = inr (covers_place d j spot all here covers)
 
 -- where a deed writes a place, it is the visited one, or a deed locks it or puts it to sleep
-written_covered : (d : Size) (j : ℕ) (at : Place) (all deeds : List Deed) → Every (IsCovered at all) deeds → Some_deed (WritesAt d j) deeds → IsAt d j (place_in d (own at)) ⊎ Some_deed (StillsAt d j) all
+written_covered : (d : Size) (j : ℕ) (at : Place) (all deeds : List Deed) → Every (IsCovered at all) deeds → AnyDeed (WritesAt d j) deeds → IsAt d j (place_in d (own at)) ⊎ AnyDeed (StillsAt d j) all
 written_covered d j at all [] covered some = absurd some
 written_covered d j at all (mark_deed spot m ∷ deeds) covered (inl writes) = absurd writes
 written_covered d j at all (Write spot glyph ∷ deeds) covered (inl writes) = covered_write d j at all spot covered.0 writes
@@ -117,7 +117,7 @@ still_marked s (Some at) m j below here still =
     subst (λ (k : MarkSet). IsTrue (k.lock || k.sleep)) (sym now_there) (all_still (marks_at s at) m still)
 
 -- a place that a deed locks or puts to sleep is still after the deeds
-stilled : (s : State) (deeds : List Deed) (j : ℕ) → j < length s.marks → Some_deed (StillsAt s.dims j) deeds → IsStill (after_all s deeds) j
+stilled : (s : State) (deeds : List Deed) (j : ℕ) → j < length s.marks → AnyDeed (StillsAt s.dims j) deeds → IsStill (after_all s deeds) j
 unfolding after
 stilled s [] j below some = absurd some
 stilled s (mark_deed at m ∷ deeds) j below (inl stills) =
