@@ -16,7 +16,6 @@ use Rattle.orca_op.specs.Laws.{IsLawful, Every, WritesGlyph, EmitsInRange, IsCov
 use Rattle.orca_op.specs.LawFacts.{IsGlyph-peek, value_or-range, length-each, Every-append, Every-each, count_by-append}
 use Rattle.orca_op.specs.FirstFacts.{first_where-range}
 use Rattle.orca_op.specs.MotionRules.{locked}
-use Rattle.orca_op.specs.ValueRules.{value_or}
 use Rattle.orca_op.specs.EventRules.{beside_bang, sent, port, inputs, ports, velocity_of, note_with, note_of, midi, mono, control_of, control_change, bend_of, pitch_bend, text_length, text_at, text_event, udp_text, osc_of, osc_message}
 
 -- the deed marks a spot

@@ -1,5 +1,5 @@
 -- The rules of the value operators are lawful.
-use Rattle.std.specs.Prelude.{ℕ, ◌-◌, ◌%◌, ◌≤◌, ◌<◌, Bool, true, false, max, min, if◌then◌else◌, refl}
+use Rattle.std.specs.Prelude.{ℕ, ◌%◌, ◌≤◌, ◌<◌, Bool, true, false, min, if◌then◌else◌, refl}
 use Rattle.std.proofs.Common.{inl, inr, arith, lit≤}
 use Rattle.std.proofs.lemmas.Bool.Decides.{nat_tests}
 use Rattle.orca_base.specs.declared.limits.TheConstants.{BASE}

@@ -1,6 +1,6 @@
 -- What the laws of rules come from, and how deeds add up.
 use Rattle.std.specs.Prelude.{ℕ, zero, suc, All, ◌+◌, ◌-◌, ◌*◌, max, ◌<◌, ◌≤◌, ◌≡◌, List, [], ◌∷◌, ◌++◌, length, count_by, Some, None, slice_index, refl, ℤ, pos, negsuc, Bool, nat_lt, ◌&&◌, true, false, if◌then◌else◌}
-use Rattle.std.proofs.Common.{inl, inr, arith, ap, sym, ◌∙◌, subst, add-one, length-append, lit≤}
+use Rattle.std.proofs.Common.{inl, inr, arith, subst, add-one, length-append, lit≤}
 use Rattle.std.proofs.Math.ListN.{set}
 use Rattle.std.proofs.Math.Nat.{eq-or-lt_of_le}
 use Rattle.std.proofs.lemmas.Bool.Decides.{nat_tests}
