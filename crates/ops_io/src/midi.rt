@@ -38,14 +38,7 @@ impl Operator for Midi {
         _now: Now,
         steps: &mut Steps<L>,
     ) {
-        let note = NotePorts {
-            channel: bench.peek(at.off(0, 1), steps),
-            octave: bench.peek(at.off(0, 2), steps),
-            note: bench.peek(at.off(0, 3), steps),
-            velocity: bench.peek(at.off(0, 4), steps),
-            length: bench.peek(at.off(0, 5), steps),
-            mono: false,
-        };
+        let note = NotePorts::read(bench, at, steps);
         let event = beside_bang(bench, at, note.event(), steps);
         ports::inputs(bench, at, 1, 5, steps);
         send(bench, at, event, steps);

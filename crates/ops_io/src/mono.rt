@@ -37,12 +37,8 @@ impl Operator for Mono {
         steps: &mut Steps<L>,
     ) {
         let note = NotePorts {
-            channel: bench.peek(at.off(0, 1), steps),
-            octave: bench.peek(at.off(0, 2), steps),
-            note: bench.peek(at.off(0, 3), steps),
-            velocity: bench.peek(at.off(0, 4), steps),
-            length: bench.peek(at.off(0, 5), steps),
             mono: true,
+            ..NotePorts::read(bench, at, steps)
         };
         let event = beside_bang(bench, at, note.event(), steps);
         ports::inputs(bench, at, 1, 5, steps);

@@ -1,10 +1,11 @@
-ghost use Rattle.std.specs.Prelude.{◌≡◌};
+ghost use Rattle.std.specs.Prelude.{◌≡◌, ◌+◌, false};
 ghost use Rattle.orca_base.specs.Glyphs.{note_number};
-ghost use Rattle.orca_op.specs.EventRules.{note_with, key_of, velocity_of};
+ghost use Rattle.orca_op.specs.EventRules.{port, note_with, key_of, velocity_of};
 
 use orca_base::limits::{MAX_CHANNEL, MAX_DATA, MAX_OCTAVE};
-use orca_base::{Event, Glyph};
-use orca_op::value_or;
+use orca_base::{Event, Glyph, Place, Steps};
+use orca_op::{Bench, value_or};
+use std::sync::ledger::Ledger;
 
 /// The glyphs at the ports of a note.
 #[derive(Clone, Copy)]
@@ -19,6 +20,26 @@ pub(crate) struct NotePorts {
 }
 
 impl NotePorts {
+    /// The glyphs at the right of a place, of a note that lets the others of its channel sound.
+    pub(crate) fn read<B: Bench, L: Ledger>(bench: &B, at: Place, steps: &mut Steps<L>) -> NotePorts
+        ensures channel { result.channel ≡ port (B.desk bench.now).scan at 1 }
+        ensures octave { result.octave ≡ port (B.desk bench.now).scan at 2 }
+        ensures note { result.note ≡ port (B.desk bench.now).scan at 3 }
+        ensures velocity { result.velocity ≡ port (B.desk bench.now).scan at 4 }
+        ensures length { result.length ≡ port (B.desk bench.now).scan at 5 }
+        ensures mono { result.mono ≡ false }
+        ensures ticks { steps.new ≡ steps.old + 5 }
+    {
+        NotePorts {
+            channel: bench.peek(at.off(0, 1), steps),
+            octave: bench.peek(at.off(0, 2), steps),
+            note: bench.peek(at.off(0, 3), steps),
+            velocity: bench.peek(at.off(0, 4), steps),
+            length: bench.peek(at.off(0, 5), steps),
+            mono: false,
+        }
+    }
+
     /// The note; none without an octave, where the note is no letter, and where the velocity has value 0
     /// without being missing.
     pub(crate) fn event(&self) -> Option<Event>
