@@ -7,7 +7,7 @@ ghost use Rattle.orca_op.specs.Desk.{all_done};
 ghost use Rattle.orca_op.specs.GridRules.{generator, target};
 ghost use Rattle.ops_grid.specs.GridLaws.{lawful-generator};
 
-use crate::span::{self, ROOM};
+use crate::span::{self, ROOM, Span};
 use orca_base::{Glyph, Now, Place, Steps};
 use orca_op::{Bench, Operator};
 use std::sync::ledger::Ledger;
@@ -41,7 +41,7 @@ impl Operator for Generator {
         let x = bench.peek(at.off(0, -3), steps).value();
         let y = bench.peek(at.off(0, -2), steps).value();
         let length = bench.peek(at.off(0, -1), steps).value();
-        let operands = span::read(bench, at, 0, 1, length, steps);
+        let operands = span::read(bench, at, Span { y: 0, x: 1, length }, steps);
         bench.param(at.off(0, -3), steps);
         bench.param(at.off(0, -2), steps);
         bench.param(at.off(0, -1), steps);

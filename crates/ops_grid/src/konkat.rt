@@ -8,7 +8,7 @@ ghost use Rattle.orca_op.specs.Desk.{all_done};
 ghost use Rattle.orca_op.specs.GridRules.{konkat, written_below};
 ghost use Rattle.ops_grid.specs.GridLaws.{lawful-konkat};
 
-use crate::span::{self, ROOM};
+use crate::span::{self, ROOM, Span};
 use orca_base::{Glyph, Now, Place, Steps};
 use orca_op::{Bench, Operator, value_or};
 use std::sync::ledger::Ledger;
@@ -40,7 +40,7 @@ impl Operator for Konkat {
         steps: &mut Steps<L>,
     ) {
         let length = value_or(bench.peek(at.off(0, -1), steps), 1);
-        let names = span::read(bench, at, 0, 1, length, steps);
+        let names = span::read(bench, at, Span { y: 0, x: 1, length }, steps);
         let stored = variables(bench, &names, length, steps);
         bench.param(at.off(0, -1), steps);
         concatenate(bench, at, length, &names, &stored, steps);

@@ -2,7 +2,7 @@ ghost use Rattle.orca_op.specs.declared.kind.Kind.TheVariants.{Push as push_kind
 ghost use Rattle.orca_op.specs.GridRules.{push};
 ghost use Rattle.ops_grid.specs.GridLaws.{lawful-push};
 
-use crate::span;
+use crate::span::{self, Span};
 use orca_base::{Glyph, Now, Place, Steps};
 use orca_op::{Bench, Operator, value_or};
 use std::sync::ledger::Ledger;
@@ -40,7 +40,7 @@ impl Operator for Push {
         let chosen = at.off(1, i32::from(key % length));
         bench.param(at.off(0, -2), steps);
         bench.param(at.off(0, -1), steps);
-        span::lock(bench, at, 1, 0, length, steps);
+        span::lock(bench, at, Span { y: 1, x: 0, length }, steps);
         bench.input(at.off(0, 1), steps);
         bench.output(chosen, steps);
         bench.write(chosen, operand, steps);

@@ -6,7 +6,7 @@ ghost use Rattle.orca_op.specs.Desk.{all_done};
 ghost use Rattle.orca_op.specs.GridRules.{query, source, below_by};
 ghost use Rattle.ops_grid.specs.GridLaws.{lawful-query};
 
-use crate::span::{self, ROOM};
+use crate::span::{self, ROOM, Span};
 use orca_base::{Glyph, Now, Place, Steps};
 use orca_op::{Bench, Operator};
 use std::sync::ledger::Ledger;
@@ -41,7 +41,16 @@ impl Operator for Query {
         let x = bench.peek(at.off(0, -3), steps).value();
         let y = bench.peek(at.off(0, -2), steps).value();
         let length = bench.peek(at.off(0, -1), steps).value();
-        let operands = span::read(bench, at, y, x + 1, length, steps);
+        let operands = span::read(
+            bench,
+            at,
+            Span {
+                y,
+                x: x + 1,
+                length,
+            },
+            steps,
+        );
         bench.param(at.off(0, -3), steps);
         bench.param(at.off(0, -2), steps);
         bench.param(at.off(0, -1), steps);

@@ -2,7 +2,7 @@ ghost use Rattle.orca_op.specs.declared.kind.Kind.TheVariants.{Track as track_ki
 ghost use Rattle.orca_op.specs.GridRules.{track};
 ghost use Rattle.ops_grid.specs.GridLaws.{lawful-track};
 
-use crate::span;
+use crate::span::{self, Span};
 use orca_base::{Glyph, Now, Place, Steps};
 use orca_op::{Bench, Operator, value_or};
 use std::sync::ledger::Ledger;
@@ -39,7 +39,7 @@ impl Operator for Track {
         let operand = bench.peek(chosen, steps);
         bench.param(at.off(0, -2), steps);
         bench.param(at.off(0, -1), steps);
-        span::lock(bench, at, 0, 1, length, steps);
+        span::lock(bench, at, Span { y: 0, x: 1, length }, steps);
         bench.input(chosen, steps);
         bench.output(at.off(1, 0), steps);
         bench.write(at.off(1, 0), operand, steps);
