@@ -61,7 +61,7 @@ pub const MIN_VELOCITY: u8 = 7;
 /// The most deeds of one visit.
 pub const MAX_DEEDS: usize = 512;
 
-/// The most ticks of one visit.
+/// The most ticks of one operator's deeds, besides the looks that decide whether it works.
 pub const MAX_TICKS: u64 = 560;
 
 /// The most notes that sound at once: one for each channel and key.

@@ -6,7 +6,7 @@ use Rattle.orca_base.specs.declared.now.Now.{Now}
 use Rattle.orca_base.specs.declared.place.Place.{Place}
 use Rattle.orca_base.specs.EventRanges.{IsInRange}
 use Rattle.orca_base.specs.Grids.{Size, Sheet, IsSheet, IsInside, place_of}
-use Rattle.orca_op.specs.Desk.{Desk, all_done, residue}
+use Rattle.orca_op.specs.Desk.{HasRoom, Desk, all_done, residue}
 use Rattle.orca_base.specs.Glyphs.{AreGlyphs, is_operator}
 use Rattle.orca_op.specs.Laws.{IsLawful}
 use Rattle.orca_op.specs.State.{State, IsState, sheet_of, glyph_at}
@@ -28,7 +28,7 @@ inside_desk d n g now dims at is same inside =
     subst (λ (e : Size). IsInside e at) (same ∙ sym (dims_desk d n g now is)) inside
 
 -- there is room for one event more
-pub room_desk : (d : Desk) (n : ℕ) (g : Sheet) (now : Now) (dims : Size) → d ≡ desk_after n g now → dims ≡ g.dims → IsLawful rule → n < dims.h * dims.w → length d.scan.events < d.scan.dims.h * d.scan.dims.w
+pub room_desk : (d : Desk) (n : ℕ) (g : Sheet) (now : Now) (dims : Size) → d ≡ desk_after n g now → dims ≡ g.dims → IsLawful rule → n < dims.h * dims.w → HasRoom d
 room_desk d n g now dims is same lawful below =
     let events : length d.scan.events ≤ n = subst (λ (e : Desk). length e.scan.events ≤ n) (sym is) (events_scanned rule n g now lawful) in
     let room : n < d.scan.dims.h * d.scan.dims.w = subst (λ (e : Size). n < e.h * e.w) (same ∙ sym (dims_desk d n g now is)) below in

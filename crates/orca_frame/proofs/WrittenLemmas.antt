@@ -14,7 +14,7 @@ use Rattle.orca_op.specs.State.{State, fresh}
 use Rattle.orca_op.specs.Deeds.{Deed, Mark, Write, Set, Emit, after_all}
 use Rattle.orca_op.specs.Desk.{is_place, is_in, listed_with, listed_after, listed_all}
 use Rattle.orca_op.specs.LawFacts.{after_all-append}
-use Rattle.orca_op.specs.Laws.{Some_deed}
+use Rattle.orca_op.specs.Laws.{AnyDeed}
 use Rattle.orca_op.specs.Rules.{rule}
 use Rattle.orca_op.specs.Scan.{deeds_by, scanned_by, scan_deeds, scan, places, written}
 use Rattle.orca_frame.specs.Written.{WritesPlace, IsWritten}
@@ -125,7 +125,7 @@ either A B C E cases (inr last) = inr (inr last)
 either A B C E cases (inl here) = elim (cases here) [ inl first ↦ inl first | inr mid ↦ inr (inl mid) ]
 
 -- a listed place was listed before, or a deed writes it
-from_all : (d : Size) (listed : List Place) (deeds : List Deed) (at : Place) → Contains (listed_all d d listed deeds) at → Contains listed at ⊎ Some_deed (WritesPlace d at) deeds
+from_all : (d : Size) (listed : List Place) (deeds : List Deed) (at : Place) → Contains (listed_all d d listed deeds) at → Contains listed at ⊎ AnyDeed (WritesPlace d at) deeds
 unfolding listed_after
 from_all d listed [] at is = inl is
 from_all d listed (Mark spot marks ∷ deeds) at is = later _ _ _ (from_all d listed deeds at is)
@@ -144,7 +144,7 @@ kept_all d listed (Set variable glyph ∷ deeds) at is = kept_all d listed deeds
 kept_all d listed (Emit event ∷ deeds) at is = kept_all d listed deeds at is
 
 -- a place that a deed writes is listed
-added_all : (d : Size) (listed : List Place) (deeds : List Deed) (at : Place) → Some_deed (WritesPlace d at) deeds → Contains (listed_all d d listed deeds) at
+added_all : (d : Size) (listed : List Place) (deeds : List Deed) (at : Place) → AnyDeed (WritesPlace d at) deeds → Contains (listed_all d d listed deeds) at
 unfolding listed_after
 added_all d listed [] at writes = absurd writes
 added_all d listed (Mark spot marks ∷ deeds) at (inl writes) = absurd writes

@@ -4,7 +4,7 @@ use Rattle.orca_base.specs.declared.now.Now.{Now}
 use Rattle.orca_base.specs.declared.place.Place.{Place}
 use Rattle.orca_base.specs.Grids.{Size, Sheet, place_in}
 use Rattle.orca_op.specs.Deeds.{Deed, Mark, Write, Set, Emit}
-use Rattle.orca_op.specs.Laws.{Some_deed}
+use Rattle.orca_op.specs.Laws.{AnyDeed}
 use Rattle.orca_op.specs.Scan.{scan_deeds, places}
 
 -- the deed writes this place of a grid of this size
@@ -20,4 +20,4 @@ frame_deeds g now = scan_deeds (places g) g now
 
 -- some deed of the frame writes the place
 abbrev pub IsWritten : Sheet → Now → Place → Type 0
-IsWritten g now at = Some_deed (WritesPlace g.dims at) (frame_deeds g now)
+IsWritten g now at = AnyDeed (WritesPlace g.dims at) (frame_deeds g now)

@@ -3,7 +3,7 @@ ghost use Rattle.orca_base.specs.declared.limits.TheConstants.{MAX_TICKS};
 ghost use Rattle.orca_base.specs.Glyphs.{is_operator};
 ghost use Rattle.orca_base.specs.Grids.{IsInside};
 ghost use Rattle.orca_frame.specs.Frames.{looks};
-ghost use Rattle.orca_op.specs.Desk.{all_done};
+ghost use Rattle.orca_op.specs.Desk.{HasRoom, all_done};
 ghost use Rattle.orca_op.specs.Rules.{rule};
 ghost use Rattle.orca_op.specs.Scan.{deeds_by, is_idle};
 ghost use Rattle.orca_op.specs.State.{has_bang, glyph_at};
@@ -35,7 +35,7 @@ fn is_idle<B: Bench, L: Ledger>(bench: &B, at: Place, glyph: Glyph, steps: &mut 
 #[tactic(auto, using(orca_op::specs::OwnPlace::peek_own), unfolding(orca_op::specs::Scan::deeds_by, orca_op::specs::Scan::is_idle))]
 pub(crate) fn visit<B: Bench, L: Ledger>(bench: &mut B, at: Place, now: Now, steps: &mut Steps<L>)
     requires inside { IsInside (B.desk bench.old).scan.dims at }
-    requires room { length (B.desk bench.old).scan.events < (B.desk bench.old).scan.dims.h * (B.desk bench.old).scan.dims.w }
+    requires room { HasRoom (B.desk bench.old) }
     ensures deeds { B.desk bench.new ≡ all_done (B.desk bench.old) (deeds_by rule (B.desk bench.old).scan at now) }
     ensures ticks { steps.new ≤ steps.old + looks + MAX_TICKS * (if is_operator (glyph_at (B.desk bench.old).scan at) then 1 else 0) }
 {

@@ -117,6 +117,10 @@ all_done-append d (x ∷ xs) ys = all_done-append (done d x) xs ys
 -- deeds one after another add up
 pub ruleset added_up = (all_done-append)
 
+pub after_all-append : (s : State) (xs ys : List Deed) → after_all s (xs ++ ys) ≡ after_all (after_all s xs) ys
+after_all-append s [] ys = refl
+after_all-append s (x ∷ xs) ys = after_all-append (after s x) xs ys
+
 -- the state of a desk after deeds is the state after them
 pub scan-all_done : (d : Desk) (deeds : List Deed) → (all_done d deeds).scan ≡ after_all d.scan deeds
 scan-all_done d [] = refl
