@@ -9,6 +9,7 @@ use Rattle.std.proofs.lemmas.Bool.Decides.{nat_tests}
 use Rattle.std.proofs.lemmas.Bool.{ltb-true, lt-ltb, le-leb}
 use Rattle.std.proofs.Math.Bool.{and-false}
 use Rattle.orca_base.specs.Glyphs.{is_digit}
+use Rattle.orca_base.specs.declared.limits.TheConstants.{MAX_DIGITS}
 use Rattle.orca_player.specs.Words.{number_of}
 
 digit-below : (c : ℕ) → is_digit c ≡ true → digit_value c < 10
@@ -39,14 +40,14 @@ unfolding number_of
 refused word true test some all none =
     let holds : IsNumeral 10 word × (digits_value 10 word < 2 ^ 32) = ((some, all_digits word all), ltb-true (digits_value 10 word) (2 ^ 32) test) in
     absurd (none (subst (λ (w : List ℕ). IsNumeral 10 w × (digits_value 10 w < 2 ^ 32)) (sym (no_plus word all)) holds))
-refused word false test some all none = rw (test, and-false (nat_le 1 (length word) && nat_le (length word) 10 && list_all is_digit word)) refl
+refused word false test some all none = rw (test, and-false (nat_le 1 (length word) && nat_le (length word) MAX_DIGITS && list_all is_digit word)) refl
 
 -- one to ten digits are a number exactly where `parse` reads one
-pub number_parsed : {E : Type 0} (word : List ℕ) (r : Result ℕ E) → 1 ≤ length word → length word ≤ 10 → list_all is_digit word ≡ true → ParsesUnsigned 32 10 word r → result_ok r ≡ number_of word
+pub number_parsed : {E : Type 0} (word : List ℕ) (r : Result ℕ E) → 1 ≤ length word → length word ≤ MAX_DIGITS → list_all is_digit word ≡ true → ParsesUnsigned 32 10 word r → result_ok r ≡ number_of word
 unfolding number_of
 number_parsed word (Ok n) some few all parsed =
     let same = no_plus word all in
     let value : n ≡ digits_value 10 word = rw same at parsed.1 in
     let below : digits_value 10 word < 2 ^ 32 = rw same at parsed.0.1 in
-    rw (value, lt-ltb (digits_value 10 word) (2 ^ 32) below, all, le-leb 1 (length word) some, le-leb (length word) 10 few) refl
+    rw (value, lt-ltb (digits_value 10 word) (2 ^ 32) below, all, le-leb 1 (length word) some, le-leb (length word) MAX_DIGITS few) refl
 number_parsed word (Err e) some few all parsed = refused word (nat_lt (digits_value 10 word) (2 ^ 32)) refl some all parsed

@@ -4,6 +4,7 @@ use Rattle.std.specs.List.{list_all}
 use Rattle.std.specs.Str.{bytes_eq}
 use Rattle.std.specs.Str.Parse.{digits_value}
 use Rattle.orca_base.specs.Glyphs.{is_digit}
+use Rattle.orca_base.specs.declared.limits.TheConstants.{MAX_DIGITS}
 use Rattle.orca_player.specs.declared.words.Show.{Show}
 use Rattle.orca_player.specs.declared.words.Show.TheVariants.{Grid, Messages}
 
@@ -16,7 +17,7 @@ pub record Request : Type 0 where
 -- the value of 1 to 10 decimal digits, where it is below 2^32
 unfoldable pub number_of : List ℕ → Option ℕ
 number_of word =
-    if nat_le 1 (length word) && nat_le (length word) 10 && list_all is_digit word && nat_lt (digits_value 10 word) (2 ^ 32)
+    if nat_le 1 (length word) && nat_le (length word) MAX_DIGITS && list_all is_digit word && nat_lt (digits_value 10 word) (2 ^ 32)
     then Some (digits_value 10 word) else None
 
 -- the first word names what is told
@@ -24,9 +25,12 @@ unfoldable pub show_of : List ℕ → Option Show
 show_of word =
     if bytes_eq word (codes "run") then Some Grid else (if bytes_eq word (codes "events") then Some Messages else None)
 
--- a name isn't empty and doesn't begin with `-`
+abbrev pub dash : ℕ
+dash = 45
+
+-- a name isn't empty and doesn't begin with a dash
 abbrev pub is_name : List ℕ → Bool
-is_name word = nat_le 1 (length word) && not (slice_index word 0 == 45)
+is_name word = nat_le 1 (length word) && not (slice_index word 0 == dash)
 
 abbrev pub request_from : Option Show → List ℕ → Option ℕ → Option Request
 request_from None grid frames = None

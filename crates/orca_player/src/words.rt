@@ -4,6 +4,8 @@ ghost use Rattle.orca_base.specs.Glyphs.{is_digit};
 ghost use Rattle.orca_player.specs.RequestOf.{request_in};
 ghost use Rattle.orca_player.specs.Words.{number_of, show_of, request_from, request_of};
 
+use orca_base::limits::MAX_DIGITS;
+
 /// What a run tells on the text port.
 #[derive(Clone, Copy, Debug, PartialEq, Eq)]
 pub(crate) enum Show {
@@ -65,7 +67,7 @@ fn show_of(word: &str) -> Option<Show>
 fn number(word: &str) -> Option<u32>
     ensures { result ≡ number_of word.now }
 {
-    if word.is_empty() || word.len() > 10 || !is_digits(word.as_bytes()) {
+    if word.is_empty() || word.len() > MAX_DIGITS || !is_digits(word.as_bytes()) {
         return None;
     }
     word.parse::<u32>().ok()

@@ -2,6 +2,7 @@ use Rattle.std.proofs.Common.{arith, ◌≡◌, ◌≤◌, true, sym, ◌∙◌,
 use Rattle.std.specs.List.{list_all}
 use Rattle.std.proofs.lemmas.Bool.Decides.{nat_tests}
 use Rattle.orca_base.specs.Glyphs.{is_digit}
+use Rattle.orca_base.specs.declared.limits.TheConstants.{MAX_DIGITS}
 use Rattle.orca_player.proofs.WordLemmas.{number_parsed}
 use Rattle.orca_player.proofs.words.number.Goals as goal
 
@@ -9,6 +10,6 @@ use Rattle.orca_player.proofs.words.number.Goals as goal
 pub returns : goal.returns
 returns c =
     let some : 1 ≤ length c.args.word.now = grind (arith, nat_tests, c.is_empty.ensures, c.if-is_empty.false) in
-    let few : length c.args.word.now ≤ 10 = omega arith in
+    let few : length c.args.word.now ≤ MAX_DIGITS = omega arith in
     let all : list_all is_digit c.args.word.now ≡ true = ap (list_all is_digit) (sym c.as_bytes.ensures.value) ∙ (sym c.is_digits.ensures ∙ c.if-not-is_digits.false) in
     c.ok.ensures.value ∙ number_parsed c.args.word.now c.parse.result some few all c.parse.ensures.value.0
