@@ -1,7 +1,7 @@
 ghost use Rattle.std.specs.Prelude.{◌≡◌, ◌<◌, ◌++◌, [], ◌∷◌, OnOk};
 ghost use Rattle.std.specs.Fmt.{decimal};
 ghost use Rattle.std.specs.List.{flat_map};
-ghost use Rattle.orca_player.specs.Lines.{hex_digit, hex_byte, port_name, label_of, line_of};
+ghost use Rattle.orca_player.specs.Lines.{hex_digit, hex_byte, label_of, line_of};
 
 use orca_base::{Memory, Port};
 
@@ -27,7 +27,7 @@ pub(crate) fn write_line(
     line.clear();
     push_label(line, label)?;
     line.push(b' ')?;
-    line.extend_from_slice(port_name(port))?;
+    line.extend_from_slice(port.name().as_bytes())?;
     push_hex(line, bytes)?;
     line.push(b'\n')?;
     Ok(())
@@ -58,20 +58,6 @@ pub(crate) fn push_decimal(line: &mut Vec<u8>, n: u32) -> Result<(), Memory>
     push_decimal(line, n / 10)?;
     line.push(b'0' + (n % 10) as u8)?;
     Ok(())
-}
-
-/// The name of a port in a line.
-fn port_name(port: Port) -> &'static [u8]
-    ensures { result.now ≡ port_name port }
-{
-    match port {
-        Port::Midi => b"midi",
-        Port::Udp => b"udp",
-        Port::Osc => b"osc",
-        Port::Text => b"text",
-        Port::Fault => b"fault",
-        Port::View => b"view",
-    }
 }
 
 /// Appends a space and two hexadecimal digits for each byte.
