@@ -1,6 +1,6 @@
-ghost use Rattle.std.specs.Prelude.{◌≡◌, ◌+◌, min, ◌≤◌, ◌↔◌, ◌<◌, ◌^◌, [], length, slice_get, count_by, IsTrue, IsNone, Some, false, IfOk, OnOk, IsErrOf};
+ghost use Rattle.std.specs.Prelude.{◌≡◌, ◌+◌, min, ◌≤◌, ◌↔◌, ◌<◌, ◌^◌, [], length, slice_get, IsTrue, IsNone, Some, false, IfOk, OnOk, IsErrOf};
 ghost use Rattle.std.specs.Option.{option_map};
-ghost use Rattle.orca_player.specs.Outside.{Rose, last_count, same_port};
+ghost use Rattle.orca_player.specs.Outside.{Rose, last_count};
 ghost use Rattle.orca_player.specs.Handed.{after_send};
 ghost use Rattle.orca_player.specs.InMemory.{sents, sends_to, is_send_to_fail};
 
@@ -50,16 +50,8 @@ impl MemOuts {
 }
 
 /// How many pieces were given to a port.
-fn sends_to(pieces: &[(Port, Vec<u8>)], port: Port) -> u64
+fn sends_to(pieces: &[(Port, Vec<u8>)], port: Port) -> usize
     ensures count { result ≡ sends_to port (sents pieces.now) }
-    ensures fits { result ≤ length pieces.now }
-{
-    count_kept(pieces, port) as u64
-}
-
-/// How many pieces are kept for a port.
-fn count_kept(pieces: &[(Port, Vec<u8>)], port: Port) -> usize
-    ensures count { result ≡ count_by (λ piece. same_port piece.0 port) pieces.now }
     ensures fits { result ≤ length pieces.now }
 {
     pieces.iter().filter(|piece| piece.0 == port).count()
@@ -70,7 +62,7 @@ fn is_to_fail(to_fail: &[(Port, u64)], pieces: &[(Port, Vec<u8>)], port: Port) -
     requires { length pieces.now < 2 ^ 63 }
     ensures { result ≡ is_send_to_fail to_fail.now (sents pieces.now) port }
 {
-    to_fail.iter().any(|call| call.0 == port && call.1 == sends_to(pieces, port) + 1)
+    to_fail.iter().any(|call| call.0 == port && call.1 == sends_to(pieces, port) as u64 + 1)
 }
 
 impl Outs for MemOuts {
