@@ -2,7 +2,7 @@ ghost use Rattle.std.specs.Prelude.{◌≡◌, None, OnOk};
 ghost use Rattle.std.specs.Io.KnownBytes.{Appends};
 
 use super::{Outs, SendFault};
-use orca_base::{Failed, Port};
+use orca_base::Port;
 use std::io::{ErrorKind, Write};
 use std::{io, str};
 
@@ -35,17 +35,20 @@ impl<R: Print + Eprint> Outs for RealOuts<'_, R> {
             Port::Fault => print_fault(self.rt, bytes),
             Port::Midi | Port::Udp | Port::Osc => Ok(()),
         };
-        if done.is_err() {
-            self.failed = self.failed.saturating_add(1);
-            return Err(SendFault::Failed);
+        match done {
+            Ok(()) => Ok(()),
+            Err(SendFault::Failed) => {
+                self.failed = self.failed.saturating_add(1);
+                Err(SendFault::Failed)
+            }
+            Err(SendFault::Memory) => Err(SendFault::Memory),
         }
-        Ok(())
     }
 }
 
 /// Writes all of the bytes. A short write is gone on with, an interrupted one is tried again, and one
 /// that takes nothing is a failure. What prints keeps nothing back, so nothing is flushed.
-fn write_whole<W: Write>(to: &mut W, bytes: &[u8]) -> Result<(), Failed>
+fn write_whole<W: Write>(to: &mut W, bytes: &[u8]) -> Result<(), SendFault>
     ensures { OnOk result (Appends (W.contents to.old) (W.contents to.new) bytes.now) }
 {
     let mut rest = bytes;
@@ -54,29 +57,40 @@ fn write_whole<W: Write>(to: &mut W, bytes: &[u8]) -> Result<(), Failed>
             return Ok(());
         }
         match to.write(rest) {
-            Ok(0) => return Err(Failed),
+            Ok(0) => return Err(SendFault::Failed),
             Ok(count) => rest = &rest[count..],
             Err(error) => {
                 if error.kind() != ErrorKind::Interrupted {
-                    return Err(Failed);
+                    return Err(fault_of(&error));
                 }
             }
         }
     }
-    Err(Failed)
+    Err(SendFault::Failed)
 }
 
 /// Prints a line of text on the standard error, which takes text alone.
-fn print_fault<R: Eprint>(rt: &R, bytes: &[u8]) -> Result<(), Failed> {
+fn print_fault<R: Eprint>(rt: &R, bytes: &[u8]) -> Result<(), SendFault> {
     let Ok(text) = str::from_utf8(bytes) else {
-        return Err(Failed);
+        return Err(SendFault::Failed);
     };
-    rt.eprint(text).map_err(|_| Failed)
+    rt.eprint(text).map_err(|error| fault_of(&error))
+}
+
+/// Want of memory is told apart from what failed.
+fn fault_of(error: &io::Error) -> SendFault {
+    if error.kind() == ErrorKind::OutOfMemory {
+        SendFault::Memory
+    } else {
+        SendFault::Failed
+    }
 }
 
 #[cfg(test)]
 mod tests {
-    use super::write_whole;
+    use super::{print_fault, write_whole};
+    use crate::rig::SendFault;
+    use std::fmt::Display;
     use std::io;
     use std::io::{ErrorKind, Write};
     use std::test::Fail;
@@ -105,16 +119,17 @@ mod tests {
         }
     }
 
-    /// A writer that fails after its first byte.
+    /// A writer that ends in this way after its first byte, and a standard error that ends so at once.
     #[derive(Drop)]
     struct Broken {
         kept: usize,
+        end: ErrorKind,
     }
 
     impl Write for Broken {
         fn write(&mut self, bytes: &[u8]) -> io::Result<usize> {
             if self.kept > 0 {
-                return Err(io::Error::from(ErrorKind::BrokenPipe));
+                return Err(io::Error::from(self.end));
             }
             self.kept = bytes.len().min(1);
             Ok(self.kept)
@@ -124,6 +139,22 @@ mod tests {
             Ok(())
         }
     }
+
+    impl Eprint for Broken {
+        fn eprint<D: Display + Drop>(&self, _: D) -> io::Result<()> {
+            Err(io::Error::from(self.end))
+        }
+
+        fn eprintln<D: Display + Drop>(&self, _: D) -> io::Result<()> {
+            Err(io::Error::from(self.end))
+        }
+    }
+
+    /// How writers break, and how that is told.
+    const ENDS: [(ErrorKind, SendFault); 2] = [
+        (ErrorKind::BrokenPipe, SendFault::Failed),
+        (ErrorKind::OutOfMemory, SendFault::Memory),
+    ];
 
     fn make_slow(rt: &HostRuntime, most: usize) -> Slow {
         Slow {
@@ -144,15 +175,24 @@ mod tests {
     #[test]
     fn a_writer_that_takes_nothing_is_a_failure(rt: HostRuntime) -> Result<(), Fail> {
         let mut to = make_slow(&rt, 0);
-        assert!(rt; write_whole(&mut to, b"three").is_err());
-        assert!(rt; write_whole(&mut to, b"").is_ok(), "an empty piece");
+        assert_eq!(rt; write_whole(&mut to, b"three"), Err(SendFault::Failed));
+        assert_eq!(rt; write_whole(&mut to, b""), Ok(()), "an empty piece");
         Ok(())
     }
 
     #[test]
-    fn a_writer_that_breaks_is_a_failure(rt: HostRuntime) -> Result<(), Fail> {
-        let mut to = Broken { kept: 0 };
-        assert!(rt; write_whole(&mut to, b"three").is_err());
-        Ok(())
+    fn a_writer_that_breaks_fails_or_wants_memory(rt: HostRuntime) {
+        for (end, fault) in ENDS {
+            let mut to = Broken { kept: 0, end };
+            assert_eq!(rt; write_whole(&mut to, b"three"), Err(fault));
+        }
+    }
+
+    #[test]
+    fn a_standard_error_that_breaks_fails_or_wants_memory(rt: HostRuntime) {
+        for (end, fault) in ENDS {
+            let to = Broken { kept: 0, end };
+            assert_eq!(rt; print_fault(&to, b"three"), Err(fault));
+        }
     }
 }

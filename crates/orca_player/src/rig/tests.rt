@@ -1,58 +1,12 @@
-ghost use Rattle.std.specs.Prelude.{◌≡◌, ◌∷◌, ◌++◌, [], ◌<◌, ◌≤◌, OnOk, OnErr, IfSome};
-ghost use Rattle.std.specs.Option.{option_map};
-ghost use Rattle.std.specs.FinMap.{get};
-ghost use Rattle.orca_player.specs.Outside.{Rose};
-ghost use Rattle.orca_player.specs.Outside.Ask.{Load};
-
 use super::{
     Files, MemFiles, MemOuts, Outs, RealFiles, RealOuts, SendFault, StoreFault, names_differ,
 };
+use orca_base::Port;
 use orca_base::limits::MAX_FILE_BYTES;
-use orca_base::{Memory, Port};
 use std::alloc::{AllocError, Global};
 use std::fs;
 use std::process::Abort;
 use std::test::Fail;
-
-fn tell<O: Outs>(outs: &mut O, first: &[u8], second: &[u8]) -> Result<(), Memory>
-    ensures handed { OnOk result (O.handed outs.new
-        ≡ option_map (λ h. h ++ record { port = Port.Text; bytes = first.now } ∷ record { port = Port.Fault; bytes = second.now } ∷ []) (O.handed outs.old)) }
-    ensures count { O.faults outs.old ≤ O.faults outs.new }
-{
-    tell_one(outs, Port::Text, first)?;
-    tell_one(outs, Port::Fault, second)
-}
-
-fn tell_one<O: Outs>(outs: &mut O, port: Port, bytes: &[u8]) -> Result<(), Memory>
-    ensures handed { OnOk result (O.handed outs.new ≡ option_map (λ h. h ++ record { port = port; bytes = bytes.now } ∷ []) (O.handed outs.old)) }
-    ensures memory { OnErr result (O.handed outs.new ≡ O.handed outs.old) }
-    ensures count { O.faults outs.old ≤ O.faults outs.new }
-{
-    match outs.send(port, bytes) {
-        Ok(()) | Err(SendFault::Failed) => Ok(()),
-        Err(SendFault::Memory) => Err(Memory),
-    }
-}
-
-#[derive(Drop)]
-enum Outcome {
-    Held,
-    Fault,
-    Memory,
-}
-
-fn fetch<F: Files>(files: &mut F, name: &str, into: &mut Vec<u8>) -> Outcome
-    ensures held { result ≡ Outcome.Held → IfSome (F.contents files.old) (λ held. get held name.now ≡ Some into.new.items) }
-    ensures asked { result ≡ Outcome.Fault → F.asked files.new ≡ option_map (λ asks. asks ++ Load name.now ∷ []) (F.asked files.old) }
-    ensures cause { result ≡ Outcome.Fault → Rose (F.faults files.old) (F.faults files.new) }
-    ensures contents { F.contents files.new ≡ F.contents files.old }
-{
-    match files.load(name, into) {
-        Ok(()) => Outcome::Held,
-        Err(StoreFault::Failed) => Outcome::Fault,
-        Err(StoreFault::Memory) => Outcome::Memory,
-    }
-}
 
 type Loaded<'a> = (&'a str, Result<(), StoreFault>, &'a [u8]);
 
@@ -185,6 +139,21 @@ fn files_of_the_system_are_loaded_or_fail(rt: HostRuntime) -> Result<(), Fail> {
 }
 
 #[test]
+fn a_long_file_of_the_system_is_refused(rt: HostRuntime) -> Result<(), Fail> {
+    let name = "rig_long.orca";
+    let long = vec![in rt.alloc(); b'.'; MAX_FILE_BYTES + 1]?;
+    fs::write(&rt, name, long.as_slice())?;
+    let mut into = b"before".to_vec(rt.alloc())?;
+    let turns: [Loaded; 1] = [(name, Err(StoreFault::Failed), b"before")];
+    check_loads(&rt, &mut RealFiles::new(&rt), &mut into, &turns);
+    fs::write(&rt, name, &long[1..])?;
+    assert_eq!(rt; RealFiles::new(&rt).load(name, &mut into), Ok(()));
+    assert_eq!(rt; into.len(), MAX_FILE_BYTES);
+    fs::remove_file(&rt, name)?;
+    Ok(())
+}
+
+#[test]
 fn ports_of_the_system_take_bytes(rt: HostRuntime) {
     // The standard error takes text alone, and a port that is not attached drops what it is given.
     let turns: [Given; 8] = [
@@ -198,24 +167,4 @@ fn ports_of_the_system_take_bytes(rt: HostRuntime) {
         (Port::Osc, b"hi", Ok(())),
     ];
     check_sends(&rt, &mut RealOuts::new(&rt), &turns);
-}
-
-#[test]
-fn what_is_told_is_handed(rt: HostRuntime) -> Result<(), Fail> {
-    let mut outs = MemOuts::new(Vec::new(rt.alloc()))?;
-    tell(&mut outs, b"a", b"b")?;
-    assert_eq!(rt; outs.handed_at(1), Some((Port::Fault, b"b".as_slice())));
-    Ok(())
-}
-
-#[test]
-fn a_fault_is_told(rt: HostRuntime) -> Result<(), Fail> {
-    let mut into = Vec::new(rt.alloc());
-    assert!(rt;
-        matches!(
-            fetch(&mut two_files(&rt, rt.alloc())?, "c.orca", &mut into),
-            Outcome::Fault
-        )
-    );
-    Ok(())
 }
