@@ -1,11 +1,21 @@
 -- From what a run does to how it ends.
-use Rattle.std.proofs.Common.{◌≡◌, ◌≢◌, ℕ, ◌≤◌, ◌⊎◌, refl, sym, ◌∙◌, ap, subst, inl, inr, List, [], ◌∷◌}
-use Rattle.std.specs.Prelude.{Option, Some, None, IfSome}
+use Rattle.std.proofs.Common.{◌≡◌, ◌≢◌, ℕ, ◌≤◌, ◌⊎◌, refl, sym, ◌∙◌, ap, subst, inl, inr, Bool, true, false, List, [], ◌∷◌, ◌++◌, append-nil}
+use Rattle.std.specs.Prelude.{Option, Some, None, IfSome, Result, Ok, Err, if◌then◌else◌, length, nat_le}
+use Rattle.std.specs.Option.{option_map}
+use Rattle.std.specs.FinMap.{get}
+use Rattle.orca_base.specs.Grids.{Sheet}
+use Rattle.orca_base.specs.declared.limits.TheConstants.{MAX_FILE_BYTES}
+use Rattle.orca_grid.specs.GridText.{grid_text}
+use Rattle.orca_grid.specs.declared.refusal.GridRefusal.{GridRefusal}
+use Rattle.orca_player.specs.declared.rig.files.StoreFault.{StoreFault}
+use Rattle.orca_player.specs.declared.rig.files.StoreFault.TheVariants as fault
+use Rattle.orca_player.specs.Asked.{after_ask}
 use Rattle.orca_base.specs.declared.port.Port.TheVariants as port
 use Rattle.orca_player.specs.declared.status.Status.{Status}
 use Rattle.orca_player.specs.declared.status.Status.TheVariants.{Done, Usage, GridRefused, OutFault, FileFault, Memory}
-use Rattle.orca_player.specs.Outside.{Contents, Sent}
-use Rattle.orca_player.specs.Out.{Out, EndsAs, body_sends, told_sends, HangsNone, HangsNoneIn}
+use Rattle.orca_player.specs.Outside.{Contents, Ask, Sent}
+use Rattle.orca_player.specs.Outside.Ask.{Load}
+use Rattle.orca_player.specs.Out.{Out, EndsAs, IsCaused, AskedBeginning, stopped, out_of, out_of_file, out_of_grid, body_sends, told_sends, HangsNone, HangsNoneIn}
 use Rattle.orca_player.specs.Sending.{added}
 use Rattle.orca_player.specs.Statuses.{status_sends}
 use Rattle.orca_player.specs.Words.{Request, request_of}
@@ -26,20 +36,24 @@ pub said : (status result : Status) (before after : Option (List Sent)) (line : 
 said status result before after line ends own told other =
     told other ∙ ap (added before) (sym own ∙ ap status_sends (sym (is_given status result ends other)))
 
-ends_same : (planned status : Status) (files files' outs outs' outs'' : ℕ) → outs ≤ outs' → outs' ≤ outs'' → (status ≡ Done → outs'' ≡ outs') → EndsAs planned status files files' outs outs' → EndsAs planned status files files' outs outs''
-ends_same planned Done files files' outs outs' outs'' first second done ends = (ends.0, ends.1, done refl ∙ ends.2)
-ends_same planned Usage files files' outs outs' outs'' first second done ends = ends
-ends_same planned (GridRefused refusal) files files' outs outs' outs'' first second done ends = ends
-ends_same planned OutFault files files' outs outs' outs'' first second done ends = (ends.0, ends.1, rose_later outs outs' outs'' first ends.2 second)
-ends_same planned FileFault files files' outs outs' outs'' first second done ends = ends
-ends_same planned Memory files files' outs outs' outs'' first second done ends = ends
+caused_same : (status : Status) (files files' outs outs' outs'' : ℕ) → outs ≤ outs' → outs' ≤ outs'' → (status ≡ Done → outs'' ≡ outs') → IsCaused status files files' outs outs' → IsCaused status files files' outs outs''
+caused_same Done files files' outs outs' outs'' first second done caused = (caused.0, done refl ∙ caused.1)
+caused_same Usage files files' outs outs' outs'' first second done caused = caused
+caused_same (GridRefused refusal) files files' outs outs' outs'' first second done caused = caused
+caused_same OutFault files files' outs outs' outs'' first second done caused = (caused.0, rose_later outs outs' outs'' first caused.1 second)
+caused_same FileFault files files' outs outs' outs'' first second done caused = caused
+caused_same Memory files files' outs outs' outs'' first second done caused = caused
 
 -- the line of the status comes last, and may fail
-pub ends_later : (planned status result : Status) (files files' outs outs' outs'' : ℕ) → (result ≡ status) ⊎ (result ≡ Memory) → outs ≤ outs' → outs' ≤ outs'' → (status ≡ Done → outs'' ≡ outs') → EndsAs planned status files files' outs outs' → EndsAs planned result files files' outs outs''
-ends_later planned status result files files' outs outs' outs'' (inl same) first second done ends =
-    subst (λ (s : Status). EndsAs planned s files files' outs outs'') (sym same) (ends_same planned status files files' outs outs' outs'' first second done ends)
-ends_later planned status result files files' outs outs' outs'' (inr memory) first second done ends =
-    subst (λ (s : Status). EndsAs planned s files files' outs outs'') (sym memory) tt
+pub caused_later : (status result : Status) (files files' outs outs' outs'' : ℕ) → (result ≡ status) ⊎ (result ≡ Memory) → outs ≤ outs' → outs' ≤ outs'' → (status ≡ Done → outs'' ≡ outs') → IsCaused status files files' outs outs' → IsCaused result files files' outs outs''
+caused_later status result files files' outs outs' outs'' (inl same) first second done caused =
+    subst (λ (s : Status). IsCaused s files files' outs outs'') (sym same) (caused_same status files files' outs outs' outs'' first second done caused)
+caused_later status result files files' outs outs' outs'' (inr memory) first second done caused =
+    subst (λ (s : Status). IsCaused s files files' outs outs'') (sym memory) tt
+
+pub ends_later : (planned status result : Status) → (result ≡ status) ⊎ (result ≡ Memory) → EndsAs planned status → EndsAs planned result
+ends_later planned status result (inl same) ends = subst (EndsAs planned) (sym same) ends
+ends_later planned status result (inr memory) ends = subst (EndsAs planned) (sym memory) tt
 
 pub told_later : (planned : Out) (status result : Status) (start before after : Option (List Sent)) → (result ≡ status) ⊎ (result ≡ Memory) → (status ≢ Memory → before ≡ added start (body_sends planned status)) → (result ≢ Memory → after ≡ added before (status_sends result)) → result ≢ Memory → after ≡ added start (told_sends planned result)
 told_later planned status result start before after ends body line other =
@@ -66,3 +80,36 @@ pub hangs_none : (words : List (List ℕ)) (files : Contents) (request : Request
 hangs_none words files request is hangs other same =
     let one : request ≡ other = cc (is, same) in
     subst (λ (r : Request). HangsNoneIn r files) one hangs
+
+-- no calls yet
+asked_nothing : (before : Option (List Ask)) → before ≡ option_map (λ asks. asks ++ []) before
+asked_nothing None = refl
+asked_nothing (Some asks) = ap Some (sym (append-nil asks))
+
+pub asked_none : (before : Option (List Ask)) → AskedBeginning [] before before
+asked_none before = record { count = 0; made = asked_nothing before }
+
+-- a call that is kept, or that was refused for want of memory
+pub asked_once : {T : Type 0} (r : Result T StoreFault) (ask : Ask) (before now : Option (List Ask)) → now ≡ after_ask r ask before → AskedBeginning (ask ∷ []) before now
+asked_once (Ok done) ask before now made = record { count = 1; made = made }
+asked_once (Err fault.Failed) ask before now made = record { count = 1; made = made }
+asked_once (Err fault.Memory) ask before now made = record { count = 0; made = made ∙ asked_nothing before }
+
+-- a run that has a request asks for its grid, whatever the files hold
+asks_of_grid : (request : Request) (text : Result Sheet GridRefusal) → (out_of_grid request text).asked ≡ Load request.grid ∷ []
+asks_of_grid request (Ok sheet) = refl
+asks_of_grid request (Err refusal) = refl
+
+asks_of_short : (request : Request) (short : Bool) (text : Result Sheet GridRefusal) → (if short then out_of_grid request text else stopped request FileFault).asked ≡ Load request.grid ∷ []
+asks_of_short request true text = asks_of_grid request text
+asks_of_short request false text = refl
+
+asks_of_file : (request : Request) (file : Option (List ℕ)) → (out_of_file request file).asked ≡ Load request.grid ∷ []
+asks_of_file request None = refl
+asks_of_file request (Some text) = asks_of_short request (nat_le (length text) MAX_FILE_BYTES) (grid_text text)
+
+pub asks_of : (request : Request) (files : Contents) → (out_of (Some request) files).asked ≡ Load request.grid ∷ []
+asks_of request files = asks_of_file request (get files request.grid)
+
+pub asked_of : (request : Request) (files : Contents) (before now : Option (List Ask)) → AskedBeginning (Load request.grid ∷ []) before now → AskedBeginning (out_of (Some request) files).asked before now
+asked_of request files before now asked = rw (asks_of request files) asked

@@ -3,7 +3,7 @@ use Rattle.std.proofs.Common.{ℕ, ◌≤◌, refl, sym, ◌∙◌, arith, inl, 
 use Rattle.std.specs.Prelude.{Result, Ok, Err, OnOk}
 use Rattle.std.proofs.Math.Nat.{eq-or-lt_of_le}
 use Rattle.orca_player.specs.Outside.{Rose}
-use Rattle.orca_player.specs.Sending.{NotesFaults}
+use Rattle.orca_player.specs.Sending.{RecordsFaults}
 
 -- what rose stays risen
 pub rose_later : (x y z : ℕ) → x ≤ y → Rose x y → y ≤ z → Rose x z
@@ -15,11 +15,11 @@ pub rose_earlier : (x y z : ℕ) → x ≤ y → Rose y z → Rose x z
 rose_earlier x y z grows (inl less) = inl (omega arith)
 rose_earlier x y z grows (inr last) = inr last
 
-pub noted_none : (noted : Bool) (count : ℕ) → NotesFaults noted noted count count
-noted_none noted count = record { grows = omega arith; sound = λ on. inl on; complete = λ off. (off, refl) }
+pub recorded_none : (recorded : Bool) (count : ℕ) → RecordsFaults recorded recorded count count
+recorded_none recorded count = record { grows = omega arith; sound = λ on. inl on; complete = λ off. (off, refl) }
 
-pub noted_twice : (a b c : Bool) (x y z : ℕ) → NotesFaults a b x y → NotesFaults b c y z → NotesFaults a c x z
-noted_twice a b c x y z first second = record {
+pub recorded_twice : (a b c : Bool) (x y z : ℕ) → RecordsFaults a b x y → RecordsFaults b c y z → RecordsFaults a c x z
+recorded_twice a b c x y z first second = record {
   grows = omega (arith, first.grows, second.grows);
   sound = λ on. elim (second.sound on) [
     | inl earlier ↦ elim (first.sound earlier) [ inl was ↦ inl was | inr rose ↦ inr (rose_later x y z first.grows rose second.grows) ]

@@ -8,6 +8,7 @@ use Rattle.std.proofs.lemmas.List.Concat.{flat_map-cons}
 use Rattle.orca_base.specs.declared.message.Message.{Message}
 use Rattle.orca_base.specs.declared.message.Message.TheVariants as message
 use Rattle.orca_base.specs.declared.port.Port.TheVariants as port
+use Rattle.orca_base.specs.MidiBytes.{note_on_bytes, note_off_bytes, control_bytes, bend_bytes}
 use Rattle.orca_base.specs.declared.note.Note.{Note}
 use Rattle.orca_grid.specs.GridText.{printed}
 use Rattle.orca_notes.specs.Device.{device, device-append, voices, Voice, IsFair, IsFair-append, midi, midi_of}
@@ -38,13 +39,13 @@ midi_sent-sends_of : (messages : List Message) → midi_sent (sends_of messages)
 unfolding midi_sent midi
 midi_sent-sends_of [] = refl
 midi_sent-sends_of (message.On channel key velocity ∷ messages) =
-    ap (λ (xs : List (List ℕ)). ((144 + channel) ∷ key ∷ velocity ∷ []) ∷ xs) (midi_sent-sends_of messages) ∙ sym (flat_map-cons midi_of (message.On channel key velocity) messages)
+    ap (λ (xs : List (List ℕ)). note_on_bytes channel key velocity ∷ xs) (midi_sent-sends_of messages) ∙ sym (flat_map-cons midi_of (message.On channel key velocity) messages)
 midi_sent-sends_of (message.Off channel key ∷ messages) =
-    ap (λ (xs : List (List ℕ)). ((128 + channel) ∷ key ∷ 0 ∷ []) ∷ xs) (midi_sent-sends_of messages) ∙ sym (flat_map-cons midi_of (message.Off channel key) messages)
+    ap (λ (xs : List (List ℕ)). note_off_bytes channel key ∷ xs) (midi_sent-sends_of messages) ∙ sym (flat_map-cons midi_of (message.Off channel key) messages)
 midi_sent-sends_of (message.Control channel control value ∷ messages) =
-    ap (λ (xs : List (List ℕ)). ((176 + channel) ∷ control ∷ value ∷ []) ∷ xs) (midi_sent-sends_of messages) ∙ sym (flat_map-cons midi_of (message.Control channel control value) messages)
+    ap (λ (xs : List (List ℕ)). control_bytes channel control value ∷ xs) (midi_sent-sends_of messages) ∙ sym (flat_map-cons midi_of (message.Control channel control value) messages)
 midi_sent-sends_of (message.Bend channel lsb msb ∷ messages) =
-    ap (λ (xs : List (List ℕ)). ((224 + channel) ∷ lsb ∷ msb ∷ []) ∷ xs) (midi_sent-sends_of messages) ∙ sym (flat_map-cons midi_of (message.Bend channel lsb msb) messages)
+    ap (λ (xs : List (List ℕ)). bend_bytes channel lsb msb ∷ xs) (midi_sent-sends_of messages) ∙ sym (flat_map-cons midi_of (message.Bend channel lsb msb) messages)
 midi_sent-sends_of (message.Udp text ∷ messages) = midi_sent-sends_of messages ∙ sym (flat_map-cons midi_of (message.Udp text) messages)
 midi_sent-sends_of (message.Osc path values ∷ messages) = midi_sent-sends_of messages ∙ sym (flat_map-cons midi_of (message.Osc path values) messages)
 

@@ -1,10 +1,12 @@
 -- What a run asks of the outside, what it sends, and how it ends.
-use Rattle.std.specs.Prelude.{◌≡◌, ℕ, nat_le, if◌then◌else◌, List, [], ◌∷◌, ◌++◌, length, Option, Some, None, Result, Ok, Err}
+use Rattle.std.specs.Prelude.{◌≡◌, ◌≢◌, ℕ, nat_le, if◌then◌else◌, List, [], ◌∷◌, ◌++◌, length, take, Option, Some, None, Result, Ok, Err}
+use Rattle.std.specs.Option.{option_map}
 use Rattle.std.specs.FinMap.{get}
 use Rattle.orca_base.specs.declared.limits.TheConstants.{MAX_FILE_BYTES, DEFAULT_SEED}
 use Rattle.orca_base.specs.Grids.{Sheet}
 use Rattle.orca_grid.specs.GridText.{grid_text}
 use Rattle.orca_grid.specs.declared.refusal.GridRefusal.{GridRefusal}
+use Rattle.orca_grid.specs.declared.refusal.GridRefusal.TheVariants as refused
 use Rattle.orca_player.specs.declared.status.Status.{Status}
 use Rattle.orca_player.specs.declared.status.Status.TheVariants.{Done, Usage, GridRefused, OutFault, FileFault, Memory}
 use Rattle.orca_player.specs.Outside.{Contents, Ask, Sent, Rose}
@@ -45,15 +47,28 @@ out_of (Some request) files = out_of_file request (get files request.grid)
 unfoldable pub out : List (List ℕ) → Contents → Out
 out words files = out_of (request_of words) files
 
--- how a run ends that would end as planned, by the counts of faults before and now of the files and of the ports: a load
--- that fails gives FileFault, and a send that fails gives OutFault where all was done
-abbrev pub EndsAs : Status → Status → ℕ → ℕ → ℕ → ℕ → Type 0
-EndsAs planned Done files files' outs outs' = (planned ≡ Done) × (files' ≡ files) × (outs' ≡ outs)
-EndsAs planned Usage files files' outs outs' = (planned ≡ Usage) × (files' ≡ files)
-EndsAs planned (GridRefused refusal) files files' outs outs' = (planned ≡ GridRefused refusal) × (files' ≡ files)
-EndsAs planned OutFault files files' outs outs' = (planned ≡ Done) × (files' ≡ files) × Rose outs outs'
-EndsAs planned FileFault files files' outs outs' = Rose files files'
-EndsAs planned Memory files files' outs outs' = Unit {0}
+-- how a run ends that would end as planned: a load that fails gives FileFault, and a send that fails gives OutFault where
+-- all was done
+abbrev pub EndsAs : Status → Status → Type 0
+EndsAs planned OutFault = planned ≡ Done
+EndsAs planned FileFault = Unit {0}
+EndsAs planned Memory = Unit {0}
+EndsAs planned status = planned ≡ status
+
+-- the causes of a status, by the counts of faults before and now of the files and of the ports: a fault is told only where
+-- its count rose, and want of memory is never told as a refused grid
+abbrev pub IsCaused : Status → ℕ → ℕ → ℕ → ℕ → Type 0
+IsCaused Done files files' outs outs' = (files' ≡ files) × (outs' ≡ outs)
+IsCaused Usage files files' outs outs' = files' ≡ files
+IsCaused (GridRefused refusal) files files' outs outs' = (files' ≡ files) × (refusal ≢ refused.Memory)
+IsCaused OutFault files files' outs outs' = (files' ≡ files) × Rose outs outs'
+IsCaused FileFault files files' outs outs' = Rose files files'
+IsCaused Memory files files' outs outs' = Unit {0}
+
+-- since then a beginning of these calls was made, where the calls are told
+pub record AskedBeginning (planned : List Ask) (before now : Option (List Ask)) : Type 0 where
+  pub count : ℕ
+  pub made : now ≡ option_map (λ asks. asks ++ take count planned) before
 
 -- how playing ends: with all done, with a port that failed, or for want of memory
 abbrev pub PlaysAs : Status → ℕ → ℕ → Type 0
@@ -66,12 +81,8 @@ PlaysAs FileFault outs outs' = ⊥
 
 -- the sends before the line of the status: none where a load failed
 abbrev pub body_sends : Out → Status → List Sent
-body_sends planned Done = planned.sends
-body_sends planned Usage = planned.sends
-body_sends planned (GridRefused refusal) = planned.sends
-body_sends planned OutFault = planned.sends
 body_sends planned FileFault = []
-body_sends planned Memory = planned.sends
+body_sends planned status = planned.sends
 
 -- all sends of a run that ends so
 abbrev pub told_sends : Out → Status → List Sent

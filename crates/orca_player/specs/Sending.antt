@@ -25,8 +25,8 @@ sends_of = map sent_of
 abbrev pub added : Option (List Sent) → List Sent → Option (List Sent)
 added handed sends = option_map (λ before. before ++ sends) handed
 
--- a note of failures is right: it is made only where the count of faults rose, and where it isn't made the count stands still
-pub record NotesFaults (was is : Bool) (before now : ℕ) : Type 0 where
+-- a record of failures is right: it is made only where the count of faults rose, and where it isn't made the count stands still
+pub record RecordsFaults (was is : Bool) (before now : ℕ) : Type 0 where
   pub grows : before ≤ now
   pub sound : is ≡ true → (was ≡ true) ⊎ Rose before now
   pub complete : is ≡ false → (was ≡ false) × (now ≡ before)

@@ -2,6 +2,7 @@
 use Rattle.std.specs.Prelude.{ℕ, List, [], ◌∷◌, ◌++◌, codes}
 use Rattle.std.specs.Fmt.{decimal}
 use Rattle.orca_base.specs.declared.port.Port.TheVariants as port
+use Rattle.orca_grid.specs.GridText.{line_feed}
 use Rattle.orca_grid.specs.declared.refusal.GridRefusal.{GridRefusal}
 use Rattle.orca_grid.specs.declared.refusal.GridRefusal.TheVariants as refusal
 use Rattle.orca_player.specs.declared.status.Status.{Status}
@@ -16,13 +17,13 @@ number_of_status OutFault = 3
 number_of_status FileFault = 4
 number_of_status Memory = 9
 
--- why a grid text is refused
+-- why a grid text is refused; want of memory is a status of its own
 unfoldable pub refusal_text : GridRefusal → List ℕ
 refusal_text (refusal.BadByte offset) = codes "bad byte at " ++ decimal offset
 refusal_text refusal.NoCells = codes "no cells"
 refusal_text (refusal.TooWide row) = codes "row " ++ decimal row ++ codes " too wide"
 refusal_text refusal.TooHigh = codes "too many rows"
-refusal_text refusal.Memory = codes "memory was refused"
+refusal_text refusal.Memory = []
 
 -- the line of a status that is no success, without its end
 unfoldable pub status_text : Status → List ℕ
@@ -35,13 +36,9 @@ status_text Memory = codes "no memory"
 
 -- the line of a status, on the fault port
 abbrev pub fault_sends : Status → List Sent
-fault_sends status = record { port = port.Fault; bytes = status_text status ++ 10 ∷ [] } ∷ []
+fault_sends status = record { port = port.Fault; bytes = status_text status ++ line_feed ∷ [] } ∷ []
 
 -- a status other than 0 sends its line, as the last send
 abbrev pub status_sends : Status → List Sent
 status_sends Done = []
-status_sends Usage = fault_sends Usage
-status_sends (GridRefused refusal) = fault_sends (GridRefused refusal)
-status_sends OutFault = fault_sends OutFault
-status_sends FileFault = fault_sends FileFault
-status_sends Memory = fault_sends Memory
+status_sends status = fault_sends status

@@ -1,4 +1,5 @@
 ghost use Rattle.std.specs.Prelude.{◌≡◌, ◌≢◌, ◌≤◌, ◌⊎◌, [], ◌∷◌, ◌++◌, IfOk};
+ghost use Rattle.orca_grid.specs.GridText.{line_feed};
 ghost use Rattle.orca_player.specs.Sending.{added};
 ghost use Rattle.orca_player.specs.Statuses.{refusal_text, status_text, status_sends};
 
@@ -31,7 +32,7 @@ pub(crate) fn end<O: Outs>(alloc: Global, outs: &mut O, status: Status) -> Statu
     }
 }
 
-/// Sends the last line of a run. A failure is not told any more.
+/// Sends the last line of a run. A failed send of it changes nothing: the status is decided.
 fn say<O: Outs>(outs: &mut O, status: Status, line: &[u8]) -> Status
     ensures status { (result ≡ status) ⊎ (result ≡ Status.Memory) }
     ensures told { result ≢ Status.Memory → O.handed outs.new ≡ added (O.handed outs.old) (record { port = Port.Fault; bytes = line.now } ∷ []) }
@@ -47,7 +48,7 @@ fn say<O: Outs>(outs: &mut O, status: Status, line: &[u8]) -> Status
 /// The line of a refused grid.
 #[tactic(auto, unfolding(crate::specs::Statuses::status_text, crate::specs::Statuses::refusal_text))]
 fn refusal_line(alloc: Global, refusal: GridRefusal) -> Result<Vec<u8>, Memory>
-    ensures { IfOk result (λ line. line.items ≡ status_text (Status.GridRefused refusal) ++ 10 ∷ []) }
+    ensures { IfOk result (λ line. line.items ≡ status_text (Status.GridRefused refusal) ++ line_feed ∷ []) }
 {
     let mut line = Vec::new(alloc);
     line.extend_from_slice(b"grid refused: ")?;
@@ -63,7 +64,8 @@ fn refusal_line(alloc: Global, refusal: GridRefusal) -> Result<Vec<u8>, Memory>
             line.extend_from_slice(b" too wide")?;
         }
         GridRefusal::TooHigh => line.extend_from_slice(b"too many rows")?,
-        GridRefusal::Memory => line.extend_from_slice(b"memory was refused")?,
+        // Never told: it is a status of its own.
+        GridRefusal::Memory => {}
     }
     line.push(b'\n')?;
     Ok(line)

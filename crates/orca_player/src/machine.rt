@@ -1,5 +1,5 @@
 ghost use Rattle.std.specs.Prelude.{◌≡◌, ◌+◌, [], All, IfOk};
-ghost use Rattle.orca_base.specs.Ranges.{IsSendable, CarriesFewValues};
+ghost use Rattle.orca_base.specs.Ranges.{HasDataInRange, CarriesFewValues};
 ghost use Rattle.orca_notes.specs.Device.{device, voices, IsFair, midi};
 ghost use Rattle.orca_notes.specs.Sound.{ends};
 ghost use Rattle.orca_player.specs.Playing.{opened, next_moment, messages_at};
@@ -43,7 +43,7 @@ impl Machine {
     pub fn frame<L: Ledger>(&mut self, now: Now, steps: &mut Steps<L>)
         ensures moment { moment_of self.new (now.tick + 1) ≡ next_moment now.seed (moment_of self.old now.tick) }
         ensures messages { self.new.messages ≡ messages_at now.seed (moment_of self.old now.tick) }
-        ensures sendable { All IsSendable self.new.messages }
+        ensures in_range { All HasDataInRange self.new.messages }
         ensures few_values { All CarriesFewValues self.new.messages }
         ensures device { device (voices self.old.notes) (midi self.new.messages) ≡ voices self.new.notes }
         ensures fair { IsFair (voices self.old.notes) (midi self.new.messages) }
@@ -57,7 +57,7 @@ impl Machine {
     /// Ends all notes.
     pub fn hush(&mut self)
         ensures messages { self.new.messages ≡ ends self.old.notes }
-        ensures sendable { All IsSendable self.new.messages }
+        ensures in_range { All HasDataInRange self.new.messages }
         ensures few_values { All CarriesFewValues self.new.messages }
         ensures device { device (voices self.old.notes) (midi self.new.messages) ≡ [] }
         ensures fair { IsFair (voices self.old.notes) (midi self.new.messages) }

@@ -1,6 +1,5 @@
-ghost use Rattle.std.specs.Prelude.{◌≡◌, [], ◌++◌, ◌+◌, ◌≤◌, length};
-ghost use Rattle.orca_base.specs.Ranges.{IsSendable, CarriesFewValues};
-ghost use Rattle.orca_base.specs.declared.limits.TheConstants.{WIRE_BYTES};
+ghost use Rattle.std.specs.Prelude.{◌≡◌, []};
+ghost use Rattle.orca_base.specs.Ranges.{HasDataInRange, CarriesFewValues};
 ghost use Rattle.orca_player.specs.Sending.{sent_of};
 
 use orca_base::{Message, Port, Wire};
@@ -8,7 +7,7 @@ use orca_base::{Message, Port, Wire};
 /// Writes the bytes of a message, as MIDI 1.0 and OSC 1.0 have them, and answers the port that they go to.
 pub fn wire(message: &Message, into: &mut Wire) -> Port
     requires empty { into.old ≡ [] }
-    requires sendable { IsSendable message.now }
+    requires in_range { HasDataInRange message.now }
     requires few_values { CarriesFewValues message.now }
     ensures { sent_of message.now ≡ record { port = result; bytes = into.new } }
 {
@@ -28,7 +27,7 @@ pub fn wire(message: &Message, into: &mut Wire) -> Port
             push_midi(midi_bytes::bend(*channel, *lsb, *msb), into)
         }
         Message::Udp { text } => {
-            push_bytes(text.as_slice(), into);
+            into.extend(text.as_slice());
             Port::Udp
         }
         Message::Osc { path, values } => {
@@ -44,16 +43,6 @@ fn push_midi(bytes: [u8; 3], into: &mut Wire) -> Port
     ensures port { result ≡ Port.Midi }
     ensures bytes { into.new ≡ bytes }
 {
-    push_bytes(&bytes, into);
+    into.extend(&bytes);
     Port::Midi
-}
-
-/// Appends bytes, where they fit.
-fn push_bytes(bytes: &[u8], into: &mut Wire)
-    requires { length into.old + length bytes.now ≤ WIRE_BYTES }
-    ensures { into.new ≡ into.old ++ bytes.now }
-{
-    for byte in bytes {
-        into.push(*byte);
-    }
 }

@@ -1,22 +1,22 @@
 ghost use Rattle.std.specs.Prelude.{◌≡◌, ◌+◌, [], ◌∷◌, All, OnOk};
-ghost use Rattle.orca_base.specs.Ranges.{IsSendable, CarriesFewValues};
+ghost use Rattle.orca_base.specs.Ranges.{HasDataInRange, CarriesFewValues};
 ghost use Rattle.orca_notes.specs.Device.{device, voices, IsFair, midi};
 ghost use Rattle.orca_notes.specs.Sound.{ends};
 ghost use Rattle.orca_player.specs.Machine.{moment_of};
 ghost use Rattle.orca_player.specs.Playing.{next_moment, messages_at, moment_after, frame_sends, frames_sends, close_sends, run_sends, HangsNoNote, IsPlayed};
-ghost use Rattle.orca_player.specs.Sending.{sends_of, added, NotesFaults};
+ghost use Rattle.orca_player.specs.Sending.{sends_of, added, RecordsFaults};
 
 use crate::lines::Label;
 use crate::machine::Machine;
 use crate::rig::Outs;
-use crate::tell::{Want, tell, tell_lines, tell_messages};
+use crate::tell::{NoMemory, tell, tell_lines, tell_messages};
 use crate::words::Show;
 use orca_base::{Now, Port, Steps};
 use orca_grid::Grid;
 use std::sync::ledger::Ledger;
 
 /// Plays so many frames from tick 0, hands their messages, and closes.
-pub(crate) fn perform<O: Outs, L: Ledger>(
+pub(crate) fn play_and_close<O: Outs, L: Ledger>(
     machine: &mut Machine,
     show: Show,
     frames: u32,
@@ -25,10 +25,10 @@ pub(crate) fn perform<O: Outs, L: Ledger>(
     outs: &mut O,
     failed: &mut bool,
     steps: &mut Steps<L>,
-) -> Result<(), Want>
+) -> Result<(), NoMemory>
     requires { machine.old.notes ≡ [] }
     ensures told { OnOk result (O.handed outs.new ≡ added (O.handed outs.old) (run_sends show seed frames (moment_of machine.old 0))) }
-    ensures noted { NotesFaults failed.old failed.new (O.faults outs.old) (O.faults outs.new) }
+    ensures recorded { RecordsFaults failed.old failed.new (O.faults outs.old) (O.faults outs.new) }
     ensures device { OnOk result (HangsNoNote show seed frames (moment_of machine.old 0)) }
 {
     play_frames(machine, show, frames, seed, line, outs, failed, steps)?;
@@ -45,10 +45,10 @@ fn play_frames<O: Outs, L: Ledger>(
     outs: &mut O,
     failed: &mut bool,
     steps: &mut Steps<L>,
-) -> Result<(), Want>
+) -> Result<(), NoMemory>
     requires { machine.old.notes ≡ [] }
     ensures told { OnOk result (O.handed outs.new ≡ added (O.handed outs.old) (frames_sends show seed frames (moment_of machine.old 0))) }
-    ensures noted { NotesFaults failed.old failed.new (O.faults outs.old) (O.faults outs.new) }
+    ensures recorded { RecordsFaults failed.old failed.new (O.faults outs.old) (O.faults outs.new) }
     ensures moment { OnOk result (moment_of machine.new frames ≡ moment_after seed frames (moment_of machine.old 0)) }
     ensures played { OnOk result (IsPlayed show seed frames (moment_of machine.old 0)) }
 {
@@ -68,9 +68,9 @@ fn play_frame<O: Outs, L: Ledger>(
     outs: &mut O,
     failed: &mut bool,
     steps: &mut Steps<L>,
-) -> Result<(), Want>
+) -> Result<(), NoMemory>
     ensures told { OnOk result (O.handed outs.new ≡ added (O.handed outs.old) (frame_sends show now.seed (moment_of machine.old now.tick))) }
-    ensures noted { NotesFaults failed.old failed.new (O.faults outs.old) (O.faults outs.new) }
+    ensures recorded { RecordsFaults failed.old failed.new (O.faults outs.old) (O.faults outs.new) }
     ensures moment { moment_of machine.new (now.tick + 1) ≡ next_moment now.seed (moment_of machine.old now.tick) }
     ensures device { device (voices machine.old.notes) (midi (messages_at now.seed (moment_of machine.old now.tick))) ≡ voices machine.new.notes }
     ensures fair { IsFair (voices machine.old.notes) (midi (messages_at now.seed (moment_of machine.old now.tick))) }
@@ -95,9 +95,9 @@ fn finish<O: Outs>(
     outs: &mut O,
     failed: &mut bool,
     tick: u32,
-) -> Result<(), Want>
+) -> Result<(), NoMemory>
     ensures told { OnOk result (O.handed outs.new ≡ added (O.handed outs.old) (close_sends show (moment_of machine.old tick))) }
-    ensures noted { NotesFaults failed.old failed.new (O.faults outs.old) (O.faults outs.new) }
+    ensures recorded { RecordsFaults failed.old failed.new (O.faults outs.old) (O.faults outs.new) }
     ensures device { OnOk result (device (voices machine.old.notes) (midi (ends machine.old.notes)) ≡ []) }
     ensures fair { OnOk result (IsFair (voices machine.old.notes) (midi (ends machine.old.notes))) }
 {
@@ -120,11 +120,11 @@ pub(crate) fn close<O: Outs>(
     machine: &mut Machine,
     outs: &mut O,
     failed: &mut bool,
-) -> Result<(), Want>
+) -> Result<(), NoMemory>
     ensures told { OnOk result (O.handed outs.new ≡ added (O.handed outs.old) (sends_of (ends machine.old.notes))) }
-    ensures noted { NotesFaults failed.old failed.new (O.faults outs.old) (O.faults outs.new) }
+    ensures recorded { RecordsFaults failed.old failed.new (O.faults outs.old) (O.faults outs.new) }
     ensures messages { machine.new.messages ≡ ends machine.old.notes }
-    ensures sendable { All IsSendable machine.new.messages }
+    ensures in_range { All HasDataInRange machine.new.messages }
     ensures few_values { All CarriesFewValues machine.new.messages }
     ensures device { device (voices machine.old.notes) (midi (ends machine.old.notes)) ≡ [] }
     ensures fair { IsFair (voices machine.old.notes) (midi (ends machine.old.notes)) }

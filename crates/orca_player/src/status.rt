@@ -14,7 +14,8 @@ pub enum Status {
     GridRefused(GridRefusal),
     /// A port failed, and all else was done.
     OutFault,
-    /// A file could not be loaded.
+    /// The file of the grid could not be loaded: it is missing, unreadable, or more than
+    /// [`MAX_FILE_BYTES`](orca_base::limits::MAX_FILE_BYTES) bytes.
     FileFault,
     /// Memory was refused.
     Memory,

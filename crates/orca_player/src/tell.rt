@@ -1,7 +1,7 @@
 ghost use Rattle.std.specs.Prelude.{◌≡◌, [], ◌∷◌, All, OnOk, OnErr};
-ghost use Rattle.orca_base.specs.Ranges.{IsSendable, CarriesFewValues};
+ghost use Rattle.orca_base.specs.Ranges.{HasDataInRange, CarriesFewValues};
 ghost use Rattle.orca_player.specs.Lines.{lines_of, line_sent};
-ghost use Rattle.orca_player.specs.Sending.{sent_of, sends_of, added, NotesFaults};
+ghost use Rattle.orca_player.specs.Sending.{sent_of, sends_of, added, RecordsFaults};
 
 use crate::lines::{Label, write_line};
 use crate::rig::{Outs, SendFault};
@@ -10,32 +10,32 @@ use orca_base::{Memory, Message, Port, Wire};
 
 /// Where memory was refused.
 #[derive(Clone, Copy, Debug, PartialEq, Eq)]
-pub(crate) enum Want {
+pub(crate) enum NoMemory {
     /// By a send, which ends the run at once.
-    Send,
+    InSend,
     /// Elsewhere: the notes that sound are still ended.
-    Work,
+    Elsewhere,
 }
 
-impl From<Memory> for Want {
-    ghost use Rattle.orca_player.specs.declared.tell.Want.TheVariants.{Work};
+impl From<Memory> for NoMemory {
+    ghost use Rattle.orca_player.specs.declared.tell.NoMemory.TheVariants.{Elsewhere};
 
-    ghost from_gives = { λ _ want. want ≡ Work };
+    ghost from_gives = { λ _ refused. refused ≡ Elsewhere };
 
-    fn from(_: Memory) -> Want {
-        Want::Work
+    fn from(_: Memory) -> NoMemory {
+        NoMemory::Elsewhere
     }
 }
 
-/// Sends the bytes. A failure is noted, and the run goes on.
+/// Sends the bytes. A failure is recorded, and the run goes on.
 pub(crate) fn tell<O: Outs>(
     outs: &mut O,
     failed: &mut bool,
     port: Port,
     bytes: &[u8],
-) -> Result<(), Want>
+) -> Result<(), NoMemory>
     ensures told { OnOk result (O.handed outs.new ≡ added (O.handed outs.old) (record { port = port; bytes = bytes.now } ∷ [])) }
-    ensures noted { NotesFaults failed.old failed.new (O.faults outs.old) (O.faults outs.new) }
+    ensures recorded { RecordsFaults failed.old failed.new (O.faults outs.old) (O.faults outs.new) }
 {
     match outs.send(port, bytes) {
         Ok(()) => Ok(()),
@@ -43,16 +43,16 @@ pub(crate) fn tell<O: Outs>(
             *failed = true;
             Ok(())
         }
-        Err(SendFault::Memory) => Err(Want::Send),
+        Err(SendFault::Memory) => Err(NoMemory::InSend),
     }
 }
 
 /// Sends a message.
-fn tell_message<O: Outs>(outs: &mut O, failed: &mut bool, message: &Message) -> Result<(), Want>
-    requires sendable { IsSendable message.now }
+fn tell_message<O: Outs>(outs: &mut O, failed: &mut bool, message: &Message) -> Result<(), NoMemory>
+    requires in_range { HasDataInRange message.now }
     requires few_values { CarriesFewValues message.now }
     ensures told { OnOk result (O.handed outs.new ≡ added (O.handed outs.old) (sent_of message.now ∷ [])) }
-    ensures noted { NotesFaults failed.old failed.new (O.faults outs.old) (O.faults outs.new) }
+    ensures recorded { RecordsFaults failed.old failed.new (O.faults outs.old) (O.faults outs.new) }
 {
     let mut bytes = Wire::empty();
     let port = wire(message, &mut bytes);
@@ -64,11 +64,11 @@ pub(crate) fn tell_messages<O: Outs>(
     outs: &mut O,
     failed: &mut bool,
     messages: &[Message],
-) -> Result<(), Want>
-    requires sendable { All IsSendable messages.now }
+) -> Result<(), NoMemory>
+    requires in_range { All HasDataInRange messages.now }
     requires few_values { All CarriesFewValues messages.now }
     ensures told { OnOk result (O.handed outs.new ≡ added (O.handed outs.old) (sends_of messages.now)) }
-    ensures noted { NotesFaults failed.old failed.new (O.faults outs.old) (O.faults outs.new) }
+    ensures recorded { RecordsFaults failed.old failed.new (O.faults outs.old) (O.faults outs.new) }
 {
     for message in messages {
         tell_message(outs, failed, message)?;
@@ -83,11 +83,11 @@ fn tell_line<O: Outs>(
     line: &mut Vec<u8>,
     label: Label,
     message: &Message,
-) -> Result<(), Want>
-    requires sendable { IsSendable message.now }
+) -> Result<(), NoMemory>
+    requires in_range { HasDataInRange message.now }
     requires few_values { CarriesFewValues message.now }
     ensures told { OnOk result (O.handed outs.new ≡ added (O.handed outs.old) (line_sent label message.now ∷ [])) }
-    ensures noted { NotesFaults failed.old failed.new (O.faults outs.old) (O.faults outs.new) }
+    ensures recorded { RecordsFaults failed.old failed.new (O.faults outs.old) (O.faults outs.new) }
 {
     let mut bytes = Wire::empty();
     let port = wire(message, &mut bytes);
@@ -102,11 +102,11 @@ pub(crate) fn tell_lines<O: Outs>(
     line: &mut Vec<u8>,
     label: Label,
     messages: &[Message],
-) -> Result<(), Want>
-    requires sendable { All IsSendable messages.now }
+) -> Result<(), NoMemory>
+    requires in_range { All HasDataInRange messages.now }
     requires few_values { All CarriesFewValues messages.now }
     ensures told { OnOk result (O.handed outs.new ≡ added (O.handed outs.old) (lines_of label messages.now)) }
-    ensures noted { NotesFaults failed.old failed.new (O.faults outs.old) (O.faults outs.new) }
+    ensures recorded { RecordsFaults failed.old failed.new (O.faults outs.old) (O.faults outs.new) }
 {
     for message in messages {
         tell_line(outs, failed, line, label, message)?;

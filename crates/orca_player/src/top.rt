@@ -2,7 +2,7 @@ ghost use Rattle.std.specs.Prelude.{◌≡◌, ◌≢◌, ◌⊎◌, ◌≤◌, 
 ghost use Rattle.std.specs.Option.{option_map};
 ghost use Rattle.orca_base.specs.declared.limits.TheConstants.{MAX_FILE_BYTES, DEFAULT_SEED};
 ghost use Rattle.orca_grid.specs.GridText.{grid_text};
-ghost use Rattle.orca_player.specs.Out.{out, out_of, out_of_grid, EndsAs, PlaysAs, body_sends, told_sends, HangsNone, HangsNoneIn};
+ghost use Rattle.orca_player.specs.Out.{out, out_of, out_of_grid, EndsAs, IsCaused, AskedBeginning, PlaysAs, body_sends, told_sends, HangsNone, HangsNoneIn};
 ghost use Rattle.orca_player.specs.Outside.Ask.{Load};
 ghost use Rattle.orca_player.specs.Playing.{opened, run_sends, HangsNoNote};
 ghost use Rattle.orca_player.specs.RequestOf.{request_in};
@@ -12,9 +12,9 @@ ghost use Rattle.orca_player.specs.Words.{request_of};
 use crate::Status;
 use crate::ending::end;
 use crate::machine::Machine;
-use crate::play::{close, perform};
+use crate::play::{close, play_and_close};
 use crate::rig::{Files, Outs, StoreFault};
-use crate::tell::Want;
+use crate::tell::NoMemory;
 use crate::words::{Request, read_words};
 use orca_base::Steps;
 use orca_base::limits::DEFAULT_SEED;
@@ -24,8 +24,16 @@ use std::sync::ledger::Ledger;
 
 /// Does what the words ask for, and answers how it ended. The words are those after the program's own
 /// name: `run GRID FRAMES` plays FRAMES frames and sends the grid as text; `events GRID FRAMES` plays
-/// them and sends a line of text for each message. A failed send is counted, nothing is sent again, and
-/// the run goes on. A status other than 0 sends one line on the fault port, as the last send.
+/// them and sends a line of text for each message. `steps` counts the deeds and looks of the frames.
+///
+/// A failed send is counted, nothing is sent again, and the run goes on: where all else was done, the
+/// status is [`Status::OutFault`]. A load that fails is [`Status::FileFault`], and a text that is no grid
+/// is [`Status::GridRefused`]; both end the run before anything is played. A status other than 0 sends
+/// one line on the fault port, as the last send.
+///
+/// Want of memory is [`Status::Memory`]. No file was changed then, and a beginning of the calls of the
+/// files was made. Where a send wanted memory, only the line of the status follows it; where memory was
+/// wanted elsewhere while the grid was played, the notes that sound are ended first.
 pub fn run<F: Files, O: Outs, L: Ledger>(
     alloc: Global,
     words: &Vec<String>,
@@ -38,17 +46,19 @@ pub fn run<F: Files, O: Outs, L: Ledger>(
     ensures usage_only { result ≡ Status.Usage → request_of (map string_bytes words.now.items) ≡ None }
 
     // Which status it is, and when: want of memory is the one free answer.
-    ensures ending { IfSome (F.contents files.old) (λ held.
-        EndsAs (out (map string_bytes words.now.items) held).status result (F.faults files.old) (F.faults files.new) (O.faults outs.old) (O.faults outs.new)) }
+    ensures ending { IfSome (F.contents files.old) (λ held. EndsAs (out (map string_bytes words.now.items) held).status result) }
+    ensures causes { IsCaused result (F.faults files.old) (F.faults files.new) (O.faults outs.old) (O.faults outs.new) }
 
     // What is sent: every grid is that of a full scan of every cell, folded over the frames, and every
     // message is of its events.
     ensures sends { IfSome (F.contents files.old) (λ held. result ≢ Status.Memory →
         O.handed outs.new ≡ added (O.handed outs.old) (told_sends (out (map string_bytes words.now.items) held) result)) }
 
-    // What is asked of the files, which stay as they are.
+    // What is asked of the files, which stay as they are: all that is planned, or a beginning of it at want of memory.
     ensures asked { IfSome (F.contents files.old) (λ held. result ≢ Status.Memory →
         F.asked files.new ≡ option_map (λ asks. asks ++ (out (map string_bytes words.now.items) held).asked) (F.asked files.old)) }
+    ensures asked_beginning { IfSome (F.contents files.old) (λ held.
+        AskedBeginning (out (map string_bytes words.now.items) held).asked (F.asked files.old) (F.asked files.new)) }
     ensures files { F.contents files.new ≡ F.contents files.old }
 
     // No note hangs.
@@ -70,12 +80,14 @@ fn work<F: Files, O: Outs, L: Ledger>(
 ) -> Status
     ensures usage { request_of (map string_bytes words.now.items) ≡ None → result ≡ Status.Usage }
     ensures usage_only { result ≡ Status.Usage → request_of (map string_bytes words.now.items) ≡ None }
-    ensures ending { IfSome (F.contents files.old) (λ held.
-        EndsAs (out (map string_bytes words.now.items) held).status result (F.faults files.old) (F.faults files.new) (O.faults outs.old) (O.faults outs.new)) }
+    ensures ending { IfSome (F.contents files.old) (λ held. EndsAs (out (map string_bytes words.now.items) held).status result) }
+    ensures causes { IsCaused result (F.faults files.old) (F.faults files.new) (O.faults outs.old) (O.faults outs.new) }
     ensures sends { IfSome (F.contents files.old) (λ held. result ≢ Status.Memory →
         O.handed outs.new ≡ added (O.handed outs.old) (body_sends (out (map string_bytes words.now.items) held) result)) }
     ensures asked { IfSome (F.contents files.old) (λ held. result ≢ Status.Memory →
         F.asked files.new ≡ option_map (λ asks. asks ++ (out (map string_bytes words.now.items) held).asked) (F.asked files.old)) }
+    ensures asked_beginning { IfSome (F.contents files.old) (λ held.
+        AskedBeginning (out (map string_bytes words.now.items) held).asked (F.asked files.old) (F.asked files.new)) }
     ensures files { F.contents files.new ≡ F.contents files.old }
     ensures count { O.faults outs.old ≤ O.faults outs.new }
     ensures device { IfSome (F.contents files.old) (λ held.
@@ -96,11 +108,12 @@ fn load<F: Files, O: Outs, L: Ledger>(
     steps: &mut Steps<L>,
 ) -> Status
     ensures usage { result ≢ Status.Usage }
-    ensures ending { IfSome (F.contents files.old) (λ held.
-        EndsAs (out_of (Some (request_in request.now)) held).status result (F.faults files.old) (F.faults files.new) (O.faults outs.old) (O.faults outs.new)) }
+    ensures ending { IfSome (F.contents files.old) (λ held. EndsAs (out_of (Some (request_in request.now)) held).status result) }
+    ensures causes { IsCaused result (F.faults files.old) (F.faults files.new) (O.faults outs.old) (O.faults outs.new) }
     ensures sends { IfSome (F.contents files.old) (λ held. result ≢ Status.Memory →
         O.handed outs.new ≡ added (O.handed outs.old) (body_sends (out_of (Some (request_in request.now)) held) result)) }
     ensures asked { result ≢ Status.Memory → F.asked files.new ≡ option_map (λ asks. asks ++ Load request.now.grid.now ∷ []) (F.asked files.old) }
+    ensures asked_beginning { AskedBeginning (Load request.now.grid.now ∷ []) (F.asked files.old) (F.asked files.new) }
     ensures files { F.contents files.new ≡ F.contents files.old }
     ensures count { O.faults outs.old ≤ O.faults outs.new }
     ensures device { IfSome (F.contents files.old) (λ held.
@@ -123,7 +136,8 @@ fn open<O: Outs, L: Ledger>(
     steps: &mut Steps<L>,
 ) -> Status
     requires { length text.now ≤ MAX_FILE_BYTES }
-    ensures ending { (files : ℕ) → EndsAs (out_of_grid (request_in request.now) (grid_text text.now)).status result files files (O.faults outs.old) (O.faults outs.new) }
+    ensures ending { EndsAs (out_of_grid (request_in request.now) (grid_text text.now)).status result }
+    ensures causes { (files : ℕ) → IsCaused result files files (O.faults outs.old) (O.faults outs.new) }
     ensures usage { result ≢ Status.Usage }
     ensures loaded { result ≢ Status.FileFault }
     ensures sends { result ≢ Status.Memory →
@@ -133,14 +147,14 @@ fn open<O: Outs, L: Ledger>(
         HangsNoNote request.now.show DEFAULT_SEED request.now.frames (opened sheet)) }
 {
     match Grid::read(alloc, text) {
-        Ok(grid) => play(alloc, request, &grid, outs, steps),
+        Ok(grid) => play_grid(alloc, request, &grid, outs, steps),
         Err(GridRefusal::Memory) => Status::Memory,
         Err(refusal) => Status::GridRefused(refusal),
     }
 }
 
 /// Plays the grid to the end.
-fn play<O: Outs, L: Ledger>(
+fn play_grid<O: Outs, L: Ledger>(
     alloc: Global,
     request: &Request<'_>,
     grid: &Grid,
@@ -158,7 +172,7 @@ fn play<O: Outs, L: Ledger>(
     };
     let mut line = Vec::new(alloc);
     let mut failed = false;
-    let done = perform(
+    let done = play_and_close(
         &mut machine,
         request.show,
         request.frames,
@@ -171,9 +185,9 @@ fn play<O: Outs, L: Ledger>(
     match done {
         Ok(()) if failed => Status::OutFault,
         Ok(()) => Status::Done,
-        Err(Want::Send) => Status::Memory,
-        Err(Want::Work) => {
-            // Memory is refused already, so what else the close would tell is not told.
+        Err(NoMemory::InSend) => Status::Memory,
+        Err(NoMemory::Elsewhere) => {
+            // The status is want of memory already, so a second refusal changes nothing.
             let _ = close(&mut machine, outs, &mut failed);
             Status::Memory
         }

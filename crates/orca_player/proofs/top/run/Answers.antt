@@ -1,13 +1,17 @@
 use Rattle.std.specs.Prelude.{map, string_bytes}
 use Rattle.orca_player.specs.Out.{out}
-use Rattle.orca_player.proofs.EndingLemmas.{some_weaker, ends_later, told_later, unless_later, played_later}
+use Rattle.orca_player.proofs.EndingLemmas.{some_weaker, ends_later, caused_later, told_later, unless_later, played_later}
 use Rattle.orca_player.proofs.top.run.Goals as goal
 
 pub returns-clause-ending : goal.returns-clause-ending
 returns-clause-ending g c =
     some_weaker (g.F.Files.contents c.args.files.now) _ _
-    (λ held ends. ends_later _ _ _ _ _ _ _ _ c.end.ensures.status c.work-status.ensures.count c.end.ensures.count (λ done. (c.end.ensures.done done).1) ends)
+    (λ held ends. ends_later _ _ _ c.end.ensures.status ends)
     c.work-status.ensures.ending
+
+pub returns-clause-causes : goal.returns-clause-causes
+returns-clause-causes g c =
+    caused_later _ _ _ _ _ _ _ c.end.ensures.status c.work-status.ensures.count c.end.ensures.count (λ done. (c.end.ensures.done done).1) c.work-status.ensures.causes
 
 pub returns-clause-sends : goal.returns-clause-sends
 returns-clause-sends g c =

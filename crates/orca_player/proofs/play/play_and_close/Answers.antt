@@ -1,6 +1,6 @@
 use Rattle.orca_player.proofs.FaultLemmas.{on_ok_both}
 use Rattle.orca_player.proofs.PlayingLemmas.{closed}
-use Rattle.orca_player.proofs.play.perform.Goals as goal
+use Rattle.orca_player.proofs.play.play_and_close.Goals as goal
 
 pub returns-clause-device : goal.returns-clause-device
 returns-clause-device g c =
