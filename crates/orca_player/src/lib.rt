@@ -9,6 +9,8 @@ mod play;
 pub mod rig;
 mod status;
 mod tell;
+#[cfg(test)]
+mod tests;
 mod top;
 mod words;
 

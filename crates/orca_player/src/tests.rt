@@ -1,0 +1,84 @@
+//! Whole runs at want of memory.
+
+ghost use Rattle.std.specs.Prelude.{◌≡◌, ◌<◌, Some};
+
+use crate::Status;
+use crate::rig::{MemFiles, MemOuts, Outs, SendFault, names_differ};
+use orca_base::{Port, Steps};
+use std::alloc::Global;
+use std::marker::Brand;
+use std::process::Abort;
+use std::sync::ledger::{Blank, Ledger};
+use std::test::Fail;
+
+/// Ports in memory that want memory at their second send, and keep the others.
+#[derive(Drop)]
+struct Tight {
+    kept: MemOuts,
+    sends: u64,
+}
+
+impl Outs for Tight {
+    ghost handed = { λ o. Some o.kept.handed };
+
+    ghost faults = { λ o. o.kept.faults };
+
+    fn send(&mut self, port: Port, bytes: &[u8]) -> Result<(), SendFault> {
+        self.sends = self.sends.saturating_add(1);
+        if self.sends == 2 {
+            return Err(SendFault::Memory);
+        }
+        self.kept.send(port, bytes)
+    }
+}
+
+/// Does the run.
+fn run<L: Ledger>(
+    alloc: Global,
+    words: &Vec<String>,
+    files: &mut MemFiles,
+    outs: &mut Tight,
+    blank: Blank,
+) -> Status
+    requires name { blank.name ≡ L.name }
+    requires parts { blank.parts ≡ L.parts }
+    requires some { 0 < blank.parts }
+{
+    let mut steps = Steps::<L>::start(blank);
+    crate::run(alloc, words, files, outs, &mut steps)
+}
+
+/// A store of one file: a banged text operator, whose message is sent at the first frame.
+fn greeting(rt: &impl Abort, alloc: Global) -> Result<MemFiles, Fail> {
+    let mut contents = Vec::new(alloc);
+    contents.push((
+        String::from_str(alloc, "hi.orca")?,
+        b";hi\n*..\n".to_vec(alloc)?,
+    ))?;
+    assert!(rt; names_differ(&contents));
+    Ok(MemFiles::new(contents, Vec::new(alloc))?)
+}
+
+#[test]
+fn a_send_that_wants_memory_ends_the_run(rt: HostRuntime) -> Result<(), Fail> {
+    let alloc = rt.alloc();
+    let mut words = Vec::new(alloc);
+    for word in ["events", "hi.orca", "2"] {
+        words.push(String::from_str(alloc, word)?)?;
+    }
+    let mut files = greeting(&rt, alloc)?;
+    let mut outs = Tight {
+        kept: MemOuts::new(Vec::new(alloc))?,
+        sends: 0,
+    };
+    // The line of the message wants memory, so that only the line of the status follows.
+    let status = run::<Brand>(alloc, &words, &mut files, &mut outs, Blank::new(1));
+    assert_eq!(rt; status, Status::Memory);
+    assert_eq!(rt; outs.kept.handed_at(0), Some((Port::Udp, b"hi".as_slice())));
+    assert_eq!(rt;
+        outs.kept.handed_at(1),
+        Some((Port::Fault, b"no memory\n".as_slice()))
+    );
+    assert_eq!(rt; outs.kept.handed_at(2), None);
+    Ok(())
+}
