@@ -1,5 +1,6 @@
 -- From what a run does to how it ends.
-use Rattle.std.proofs.Common.{◌≡◌, ◌≢◌, ℕ, ◌≤◌, ◌⊎◌, refl, sym, ◌∙◌, ap, subst, inl, inr, Bool, true, false, List, [], ◌∷◌, ◌++◌, append-nil}
+use Rattle.std.proofs.Common.{◌≡◌, ◌≢◌, ℕ, ◌≤◌, ◌⊎◌, refl, sym, ◌∙◌, ap, subst, inl, inr, Bool, true, false, List, [], ◌∷◌, ◌++◌, append-nil, drop}
+use Rattle.std.proofs.lemmas.List.{drop_at}
 use Rattle.std.specs.Prelude.{Option, Some, None, IfSome, Result, Ok, Err, if◌then◌else◌, length, nat_le}
 use Rattle.std.specs.Option.{option_map}
 use Rattle.std.specs.FinMap.{get}
@@ -14,13 +15,14 @@ use Rattle.orca_base.specs.declared.port.Port.TheVariants as port
 use Rattle.orca_player.specs.declared.status.Status.{Status}
 use Rattle.orca_player.specs.declared.status.Status.TheVariants.{Done, Usage, GridRefused, OutFault, FileFault, Memory}
 use Rattle.orca_player.specs.Outside.{Contents, Ask, Sent}
-use Rattle.orca_player.specs.Outside.Ask.{Load}
-use Rattle.orca_player.specs.Out.{Out, EndsAs, IsCaused, AskedBeginning, stopped, out_of, out_of_file, out_of_grid, body_sends, told_sends, HangsNone, HangsNoneIn}
+use Rattle.orca_player.specs.Out.{Out, out, EndsAs, IsCaused, AskedBeginning, stopped, out_of, out_of_file, out_of_grid, body_sends, told_sends, HangsNone, HangsNoneIn}
+use Rattle.orca_notes.specs.Device.{device, IsFair}
+use Rattle.orca_player.specs.Playing.{LeavesNoNote, HandedLeavesNoNote, midi_sent}
 use Rattle.orca_player.specs.Sending.{added}
 use Rattle.orca_player.specs.Statuses.{status_sends}
 use Rattle.orca_player.specs.Words.{Request, request_of}
 use Rattle.orca_player.proofs.FaultLemmas.{rose_later}
-use Rattle.orca_player.proofs.PlayingLemmas.{added_twice}
+use Rattle.orca_player.proofs.PlayingLemmas.{added_twice, midi_sent-append}
 
 pub some_weaker : {X : Type 0} (o : Option X) (A B : X → Type 0) → ((x : X) → A x → B x) → IfSome o A → IfSome o B
 some_weaker None A B weaker held = tt
@@ -86,30 +88,69 @@ asked_nothing : (before : Option (List Ask)) → before ≡ option_map (λ asks.
 asked_nothing None = refl
 asked_nothing (Some asks) = ap Some (sym (append-nil asks))
 
-pub asked_none : (before : Option (List Ask)) → AskedBeginning [] before before
-asked_none before = record { count = 0; made = asked_nothing before }
-
 -- a call that is kept, or that was refused for want of memory
 pub asked_once : {T : Type 0} (r : Result T StoreFault) (ask : Ask) (before now : Option (List Ask)) → now ≡ after_ask r ask before → AskedBeginning (ask ∷ []) before now
 asked_once (Ok done) ask before now made = record { count = 1; made = made }
 asked_once (Err fault.Failed) ask before now made = record { count = 1; made = made }
 asked_once (Err fault.Memory) ask before now made = record { count = 0; made = made ∙ asked_nothing before }
 
--- a run that has a request asks for its grid, whatever the files hold
-asks_of_grid : (request : Request) (text : Result Sheet GridRefusal) → (out_of_grid request text).asked ≡ Load request.grid ∷ []
-asks_of_grid request (Ok sheet) = refl
-asks_of_grid request (Err refusal) = refl
+-- a run that was planned to play to its end leaves no note
+leaves_of_grid : (request : Request) (files : Contents) (text : List ℕ) (r : Result Sheet GridRefusal) → get files request.grid ≡ Some text → grid_text text ≡ r → HangsNoneIn request files → (out_of_grid request r).status ≡ Done → LeavesNoNote (out_of_grid request r).sends
+leaves_of_grid request files text (Ok sheet) is reads hangs planned =
+    let none = hangs text sheet is reads in
+    record { close = none.close; fair = none.fair }
+leaves_of_grid request files text (Err refusal) is reads hangs planned = absurd (cc planned)
 
-asks_of_short : (request : Request) (short : Bool) (text : Result Sheet GridRefusal) → (if short then out_of_grid request text else stopped request FileFault).asked ≡ Load request.grid ∷ []
-asks_of_short request true text = asks_of_grid request text
-asks_of_short request false text = refl
+leaves_of_short : (request : Request) (files : Contents) (text : List ℕ) (short : Bool) → get files request.grid ≡ Some text → HangsNoneIn request files
+    → (if short then out_of_grid request (grid_text text) else stopped request FileFault).status ≡ Done → LeavesNoNote (if short then out_of_grid request (grid_text text) else stopped request FileFault).sends
+leaves_of_short request files text true is hangs planned = leaves_of_grid request files text (grid_text text) is refl hangs planned
+leaves_of_short request files text false is hangs planned = absurd (cc planned)
 
-asks_of_file : (request : Request) (file : Option (List ℕ)) → (out_of_file request file).asked ≡ Load request.grid ∷ []
-asks_of_file request None = refl
-asks_of_file request (Some text) = asks_of_short request (nat_le (length text) MAX_FILE_BYTES) (grid_text text)
+leaves_of_file : (request : Request) (files : Contents) (file : Option (List ℕ)) → get files request.grid ≡ file → HangsNoneIn request files → (out_of_file request file).status ≡ Done → LeavesNoNote (out_of_file request file).sends
+leaves_of_file request files None is hangs planned = absurd (cc planned)
+leaves_of_file request files (Some text) is hangs planned = leaves_of_short request files text (nat_le (length text) MAX_FILE_BYTES) is hangs planned
 
-pub asks_of : (request : Request) (files : Contents) → (out_of (Some request) files).asked ≡ Load request.grid ∷ []
-asks_of request files = asks_of_file request (get files request.grid)
+leaves_of : (words : List (List ℕ)) (files : Contents) (asked : Option Request) → request_of words ≡ asked → HangsNone words files → (out_of asked files).status ≡ Done → LeavesNoNote (out_of asked files).sends
+leaves_of words files None is hangs planned = absurd (cc planned)
+leaves_of words files (Some request) is hangs planned = leaves_of_file request files (get files request.grid) refl (hangs request is) planned
 
-pub asked_of : (request : Request) (files : Contents) (before now : Option (List Ask)) → AskedBeginning (Load request.grid ∷ []) before now → AskedBeginning (out_of (Some request) files).asked before now
-asked_of request files before now asked = rw (asks_of request files) asked
+planned_leaves : (words : List (List ℕ)) (files : Contents) → HangsNone words files → (out words files).status ≡ Done → LeavesNoNote (out words files).sends
+unfolding out
+planned_leaves words files hangs planned = leaves_of words files (request_of words) refl hangs planned
+
+-- the line of the status is no MIDI message
+told_leaves : (planned : Out) (status : Status) → (status ≡ Done) ⊎ (status ≡ OutFault) → EndsAs planned.status status → (planned.status ≡ Done → LeavesNoNote planned.sends) → LeavesNoNote (told_sends planned status)
+unfolding midi_sent
+told_leaves planned Done ended ends leaves = rw (append-nil planned.sends) (leaves ends)
+told_leaves planned OutFault ended ends leaves =
+    let same : midi_sent (told_sends planned OutFault) ≡ midi_sent planned.sends = midi_sent-append planned.sends (status_sends OutFault) ∙ append-nil (midi_sent planned.sends) in
+    let none = leaves ends in
+    record { close = ap (device []) same ∙ none.close; fair = subst (IsFair []) (sym same) none.fair }
+told_leaves planned Usage ended ends leaves = elim ended [ inl done ↦ absurd (cc done) | inr failed ↦ absurd (cc failed) ]
+told_leaves planned (GridRefused refusal) ended ends leaves = elim ended [ inl done ↦ absurd (cc done) | inr failed ↦ absurd (cc failed) ]
+told_leaves planned FileFault ended ends leaves = elim ended [ inl done ↦ absurd (cc done) | inr failed ↦ absurd (cc failed) ]
+told_leaves planned Memory ended ends leaves = elim ended [ inl done ↦ absurd (cc done) | inr failed ↦ absurd (cc failed) ]
+
+handed_leaves : (sends : List Sent) (before after : Option (List Sent)) → after ≡ added before sends → LeavesNoNote sends → HandedLeavesNoNote before after
+handed_leaves sends before after told leaves old new was is =
+    let same : new ≡ old ++ sends = cc (sym is ∙ (told ∙ ap (λ (handed : Option (List Sent)). added handed sends) was)) in
+    let rest : drop (length old) new ≡ sends = ap (drop (length old)) same ∙ drop_at old sends (length old) refl in
+    subst LeavesNoNote (sym rest) leaves
+
+is_no_memory : (status : Status) → (status ≡ Done) ⊎ (status ≡ OutFault) → status ≢ Memory
+is_no_memory status (inl done) memory = cc (done, memory)
+is_no_memory status (inr failed) memory = cc (failed, memory)
+
+-- what a run that played to its end handed leaves no note
+pub run_leaves : (words : List (List ℕ)) (status : Status) (before after : Option (List Sent)) (files : Contents)
+    → EndsAs (out words files).status status
+    → (status ≢ Memory → after ≡ added before (told_sends (out words files) status))
+    → ((status ≡ Done) ⊎ (status ≡ OutFault) → HangsNone words files)
+    → (status ≡ Done) ⊎ (status ≡ OutFault) → HandedLeavesNoNote before after
+run_leaves words status before after files ends told hangs played =
+    handed_leaves (told_sends (out words files) status) before after (told (is_no_memory status played))
+    (told_leaves (out words files) status played ends (planned_leaves words files (hangs played)))
+
+pub some_all : {X : Type 0} (o : Option X) (A B C D : X → Type 0) → ((x : X) → A x → B x → C x → D x) → IfSome o A → IfSome o B → IfSome o C → IfSome o D
+some_all None A B C D gives first second third = tt
+some_all (Some x) A B C D gives first second third = gives x first second third

@@ -27,7 +27,7 @@ pub added_twice : (handed : Option (List Sent)) (xs ys : List Sent) → added (a
 added_twice None xs ys = refl
 added_twice (Some before) xs ys = ap Some (append_assoc before xs ys)
 
-midi_sent-append : (xs ys : List Sent) → midi_sent (xs ++ ys) ≡ midi_sent xs ++ midi_sent ys
+pub midi_sent-append : (xs ys : List Sent) → midi_sent (xs ++ ys) ≡ midi_sent xs ++ midi_sent ys
 unfolding midi_sent
 midi_sent-append xs ys =
     let is_midi : Sent → Bool = λ (sent : Sent). same_port sent.port port.Midi in

@@ -1,5 +1,5 @@
 -- A run: frames, each with its messages, and the close.
-use Rattle.std.specs.Prelude.{◌≡◌, ℕ, zero, suc, ◌+◌, ◌≤◌, List, [], ◌∷◌, ◌++◌, filter, map}
+use Rattle.std.specs.Prelude.{◌≡◌, ℕ, zero, suc, ◌+◌, ◌≤◌, List, [], ◌∷◌, ◌++◌, length, drop, filter, map, Option, Some}
 use Rattle.orca_base.specs.declared.message.Message.{Message}
 use Rattle.orca_base.specs.declared.note.Note.{Note}
 use Rattle.orca_base.specs.declared.now.Now.{Now}
@@ -88,3 +88,12 @@ pub record HangsNoNote (show : Show) (seed n : ℕ) (m : Moment) : Type 0 where
 pub record IsPlayed (show : Show) (seed n : ℕ) (m : Moment) : Type 0 where
   pub frames : (k : ℕ) → k ≤ n → device [] (midi_sent (frames_sends show seed k m)) ≡ voices (moment_after seed k m).notes
   pub fair : IsFair [] (midi_sent (frames_sends show seed n m))
+
+-- the MIDI messages of these sends leave no key on; no key starts that is on, and none ends that is off
+pub record LeavesNoNote (sends : List Sent) : Type 0 where
+  pub close : device [] (midi_sent sends) ≡ []
+  pub fair : IsFair [] (midi_sent sends)
+
+-- what was handed since then leaves no note, where it is told
+abbrev pub HandedLeavesNoNote : Option (List Sent) → Option (List Sent) → Type 0
+HandedLeavesNoNote before now = (old new : List Sent) → before ≡ Some old → now ≡ Some new → LeavesNoNote (drop (length old) new)

@@ -4,7 +4,7 @@ ghost use Rattle.orca_base.specs.declared.limits.TheConstants.{MAX_FILE_BYTES, D
 ghost use Rattle.orca_grid.specs.GridText.{grid_text};
 ghost use Rattle.orca_player.specs.Out.{out, out_of, out_of_grid, EndsAs, IsCaused, AskedBeginning, PlaysAs, body_sends, told_sends, HangsNone, HangsNoneIn};
 ghost use Rattle.orca_player.specs.Outside.Ask.{Load};
-ghost use Rattle.orca_player.specs.Playing.{opened, run_sends, HangsNoNote};
+ghost use Rattle.orca_player.specs.Playing.{opened, run_sends, HangsNoNote, HandedLeavesNoNote};
 ghost use Rattle.orca_player.specs.RequestOf.{request_in};
 ghost use Rattle.orca_player.specs.Sending.{added};
 ghost use Rattle.orca_player.specs.Words.{request_of};
@@ -61,9 +61,12 @@ pub fn run<F: Files, O: Outs, L: Ledger>(
         AskedBeginning (out (map string_bytes words.now.items) held).asked (F.asked files.old) (F.asked files.new)) }
     ensures files { F.contents files.new ≡ F.contents files.old }
 
-    // No note hangs.
+    // No note hangs: after each frame the keys that are on are those of the notes that sound, and after
+    // all that was handed none is.
     ensures device { IfSome (F.contents files.old) (λ held.
         (result ≡ Status.Done) ⊎ (result ≡ Status.OutFault) → HangsNone (map string_bytes words.now.items) held) }
+    ensures device_handed { IfSome (F.contents files.old) (λ _.
+        (result ≡ Status.Done) ⊎ (result ≡ Status.OutFault) → HandedLeavesNoNote (O.handed outs.old) (O.handed outs.new)) }
 {
     let status = work(alloc, words, files, outs, steps);
     end(alloc, outs, status)

@@ -1,6 +1,6 @@
 use Rattle.std.specs.Prelude.{map, string_bytes}
 use Rattle.orca_player.specs.Out.{out}
-use Rattle.orca_player.proofs.EndingLemmas.{some_weaker, ends_later, caused_later, told_later, unless_later, played_later}
+use Rattle.orca_player.proofs.EndingLemmas.{some_weaker, ends_later, caused_later, told_later, unless_later, played_later, run_leaves, some_all}
 use Rattle.orca_player.proofs.top.run.Goals as goal
 
 pub returns-clause-ending : goal.returns-clause-ending
@@ -30,3 +30,9 @@ returns-clause-device g c =
     some_weaker (g.F.Files.contents c.args.files.now) _ _
     (λ held played. played_later _ _ c.end.ensures.status played)
     c.work-status.ensures.device
+
+pub returns-clause-device_handed : goal.returns-clause-device_handed
+returns-clause-device_handed g c =
+    some_all (g.F.Files.contents c.args.files.now) _ _ _ _
+    (run_leaves (map string_bytes c.args.words.now.items) _ _ _)
+    (returns-clause-ending g c) (returns-clause-sends g c) (returns-clause-device g c)
