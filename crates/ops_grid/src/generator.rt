@@ -4,7 +4,7 @@ ghost use Rattle.orca_op.specs.declared.kind.Kind.TheVariants.{Generator as gene
 ghost use Rattle.orca_op.specs.State.{across};
 ghost use Rattle.orca_op.specs.Deeds.{Write, each, input_at, far_at};
 ghost use Rattle.orca_op.specs.Desk.{all_done};
-ghost use Rattle.orca_op.specs.GridRules.{generator, target};
+ghost use Rattle.orca_op.specs.GridRules.{target};
 ghost use Rattle.ops_grid.specs.GridLaws.{lawful-generator};
 
 use crate::span::{self, ROOM, Span};
@@ -25,8 +25,6 @@ pub struct Generator;
 
 impl Operator for Generator {
     ghost kind = { generator_kind };
-
-    ghost rule = { generator };
 
     ghost laws = { lawful-generator };
 

@@ -5,7 +5,7 @@ ghost use Rattle.orca_op.specs.declared.kind.Kind.TheVariants.{Konkat as konkat_
 ghost use Rattle.orca_op.specs.State.{across, var_at};
 ghost use Rattle.orca_op.specs.Deeds.{Write, each, input_at, output_at};
 ghost use Rattle.orca_op.specs.Desk.{all_done};
-ghost use Rattle.orca_op.specs.GridRules.{konkat, written_below};
+ghost use Rattle.orca_op.specs.GridRules.{written_below};
 ghost use Rattle.ops_grid.specs.GridLaws.{lawful-konkat};
 
 use crate::span::{self, ROOM, Span};
@@ -26,8 +26,6 @@ pub struct Konkat;
 
 impl Operator for Konkat {
     ghost kind = { konkat_kind };
-
-    ghost rule = { konkat };
 
     ghost laws = { lawful-konkat };
 

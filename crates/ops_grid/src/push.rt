@@ -1,5 +1,4 @@
 ghost use Rattle.orca_op.specs.declared.kind.Kind.TheVariants.{Push as push_kind};
-ghost use Rattle.orca_op.specs.GridRules.{push};
 ghost use Rattle.ops_grid.specs.GridLaws.{lawful-push};
 
 use crate::span::{self, Span};
@@ -21,8 +20,6 @@ pub struct Push;
 
 impl Operator for Push {
     ghost kind = { push_kind };
-
-    ghost rule = { push };
 
     ghost laws = { lawful-push };
 

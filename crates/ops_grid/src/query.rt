@@ -3,7 +3,7 @@ ghost use Rattle.orca_base.specs.declared.limits.TheConstants.{BASE};
 ghost use Rattle.orca_op.specs.declared.kind.Kind.TheVariants.{Query as query_kind};
 ghost use Rattle.orca_op.specs.Deeds.{Write, each, input_at, output_at};
 ghost use Rattle.orca_op.specs.Desk.{all_done};
-ghost use Rattle.orca_op.specs.GridRules.{query, source, below_by};
+ghost use Rattle.orca_op.specs.GridRules.{source, below_by};
 ghost use Rattle.ops_grid.specs.GridLaws.{lawful-query};
 
 use crate::span::{self, ROOM, Span};
@@ -25,8 +25,6 @@ pub struct Query;
 
 impl Operator for Query {
     ghost kind = { query_kind };
-
-    ghost rule = { query };
 
     ghost laws = { lawful-query };
 

@@ -1,5 +1,4 @@
 ghost use Rattle.orca_op.specs.declared.kind.Kind.TheVariants.{ReadAt as read_at_kind};
-ghost use Rattle.orca_op.specs.GridRules.{read_at};
 ghost use Rattle.ops_grid.specs.GridLaws.{lawful-read_at};
 
 use orca_base::{Glyph, Now, Place, Steps};
@@ -19,8 +18,6 @@ pub struct ReadAt;
 
 impl Operator for ReadAt {
     ghost kind = { read_at_kind };
-
-    ghost rule = { read_at };
 
     ghost laws = { lawful-read_at };
 

@@ -1,5 +1,4 @@
 ghost use Rattle.orca_op.specs.declared.kind.Kind.TheVariants.{Track as track_kind};
-ghost use Rattle.orca_op.specs.GridRules.{track};
 ghost use Rattle.ops_grid.specs.GridLaws.{lawful-track};
 
 use crate::span::{self, Span};
@@ -20,8 +19,6 @@ pub struct Track;
 
 impl Operator for Track {
     ghost kind = { track_kind };
-
-    ghost rule = { track };
 
     ghost laws = { lawful-track };
 

@@ -1,5 +1,4 @@
 ghost use Rattle.orca_op.specs.declared.kind.Kind.TheVariants.{Variable as variable_kind};
-ghost use Rattle.orca_op.specs.GridRules.{variable};
 ghost use Rattle.ops_grid.specs.GridLaws.{lawful-variable};
 
 use orca_base::{Glyph, Now, Place, Steps};
@@ -20,8 +19,6 @@ pub struct Variable;
 
 impl Operator for Variable {
     ghost kind = { variable_kind };
-
-    ghost rule = { variable };
 
     ghost laws = { lawful-variable };
 

@@ -1,5 +1,4 @@
 ghost use Rattle.orca_op.specs.declared.kind.Kind.TheVariants.{WriteAt as write_at_kind};
-ghost use Rattle.orca_op.specs.GridRules.{write_at};
 ghost use Rattle.ops_grid.specs.GridLaws.{lawful-write_at};
 
 use orca_base::{Glyph, Now, Place, Steps};
@@ -19,8 +18,6 @@ pub struct WriteAt;
 
 impl Operator for WriteAt {
     ghost kind = { write_at_kind };
-
-    ghost rule = { write_at };
 
     ghost laws = { lawful-write_at };
 

@@ -1,6 +1,6 @@
 ghost use Rattle.std.specs.Prelude.{◌≡◌};
 ghost use Rattle.orca_op.specs.declared.kind.Kind.TheVariants.{ControlChange as control_change_kind};
-ghost use Rattle.orca_op.specs.EventRules.{control_change, control_with};
+ghost use Rattle.orca_op.specs.EventRules.{control_with};
 ghost use Rattle.ops_io.specs.EventLaws.{lawful-control_change};
 
 use crate::ports;
@@ -25,8 +25,6 @@ pub struct ControlChange;
 
 impl Operator for ControlChange {
     ghost kind = { control_change_kind };
-
-    ghost rule = { control_change };
 
     ghost laws = { lawful-control_change };
 

@@ -1,5 +1,4 @@
 ghost use Rattle.orca_op.specs.declared.kind.Kind.TheVariants.{Midi as midi_kind};
-ghost use Rattle.orca_op.specs.EventRules.{midi};
 ghost use Rattle.ops_io.specs.EventLaws.{lawful-midi};
 
 use crate::note_ports::NotePorts;
@@ -24,8 +23,6 @@ pub struct Midi;
 
 impl Operator for Midi {
     ghost kind = { midi_kind };
-
-    ghost rule = { midi };
 
     ghost laws = { lawful-midi };
 

@@ -1,5 +1,4 @@
 ghost use Rattle.orca_op.specs.declared.kind.Kind.TheVariants.{Mono as mono_kind};
-ghost use Rattle.orca_op.specs.EventRules.{mono};
 ghost use Rattle.ops_io.specs.EventLaws.{lawful-mono};
 
 use crate::note_ports::NotePorts;
@@ -22,8 +21,6 @@ pub struct Mono;
 
 impl Operator for Mono {
     ghost kind = { mono_kind };
-
-    ghost rule = { mono };
 
     ghost laws = { lawful-mono };
 

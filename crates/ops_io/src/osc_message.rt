@@ -2,7 +2,7 @@ ghost use Rattle.std.specs.Prelude.{◌≡◌, ◌+◌, ◌<◌, length, map};
 ghost use Rattle.orca_base.specs.declared.limits.TheConstants.{BASE};
 ghost use Rattle.orca_base.specs.Glyphs.{value};
 ghost use Rattle.orca_op.specs.declared.kind.Kind.TheVariants.{OscMessage as osc_message_kind};
-ghost use Rattle.orca_op.specs.EventRules.{osc_message, osc_with, ports};
+ghost use Rattle.orca_op.specs.EventRules.{osc_with, ports};
 ghost use Rattle.ops_io.specs.EventLaws.{lawful-osc_message};
 
 use crate::ports;
@@ -25,8 +25,6 @@ pub struct OscMessage;
 
 impl Operator for OscMessage {
     ghost kind = { osc_message_kind };
-
-    ghost rule = { osc_message };
 
     ghost laws = { lawful-osc_message };
 

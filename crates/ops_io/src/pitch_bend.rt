@@ -1,6 +1,6 @@
 ghost use Rattle.std.specs.Prelude.{◌≡◌};
 ghost use Rattle.orca_op.specs.declared.kind.Kind.TheVariants.{PitchBend as pitch_bend_kind};
-ghost use Rattle.orca_op.specs.EventRules.{pitch_bend, bend_with};
+ghost use Rattle.orca_op.specs.EventRules.{bend_with};
 ghost use Rattle.ops_io.specs.EventLaws.{lawful-pitch_bend};
 
 use crate::ports;
@@ -25,8 +25,6 @@ pub struct PitchBend;
 
 impl Operator for PitchBend {
     ghost kind = { pitch_bend_kind };
-
-    ghost rule = { pitch_bend };
 
     ghost laws = { lawful-pitch_bend };
 

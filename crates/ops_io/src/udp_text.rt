@@ -1,7 +1,7 @@
 ghost use Rattle.std.specs.Prelude.{◌≡◌, ◌+◌, ◌≤◌, length};
 ghost use Rattle.orca_base.specs.declared.limits.TheConstants.{MAX_TEXT};
 ghost use Rattle.orca_op.specs.declared.kind.Kind.TheVariants.{UdpText as udp_text_kind};
-ghost use Rattle.orca_op.specs.EventRules.{udp_text, text_at, text_event};
+ghost use Rattle.orca_op.specs.EventRules.{text_at, text_event};
 ghost use Rattle.ops_io.specs.EventLaws.{lawful-udp_text};
 
 use crate::ports;
@@ -24,8 +24,6 @@ pub struct UdpText;
 
 impl Operator for UdpText {
     ghost kind = { udp_text_kind };
-
-    ghost rule = { udp_text };
 
     ghost laws = { lawful-udp_text };
 

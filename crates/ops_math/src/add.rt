@@ -1,5 +1,4 @@
 ghost use Rattle.orca_op.specs.declared.kind.Kind.TheVariants.{Add as add_kind};
-ghost use Rattle.orca_op.specs.ValueRules.{add};
 ghost use Rattle.ops_math.specs.ValueLaws.{lawful-add};
 
 use crate::ports;
@@ -20,8 +19,6 @@ pub struct Add;
 
 impl Operator for Add {
     ghost kind = { add_kind };
-
-    ghost rule = { add };
 
     ghost laws = { lawful-add };
 

@@ -1,5 +1,4 @@
 ghost use Rattle.orca_op.specs.declared.kind.Kind.TheVariants.{Clock as clock_kind};
-ghost use Rattle.orca_op.specs.ValueRules.{clock};
 ghost use Rattle.ops_math.specs.ValueLaws.{lawful-clock};
 
 use crate::ports;
@@ -20,8 +19,6 @@ pub struct Clock;
 
 impl Operator for Clock {
     ghost kind = { clock_kind };
-
-    ghost rule = { clock };
 
     ghost laws = { lawful-clock };
 

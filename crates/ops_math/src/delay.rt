@@ -1,5 +1,4 @@
 ghost use Rattle.orca_op.specs.declared.kind.Kind.TheVariants.{Delay as delay_kind};
-ghost use Rattle.orca_op.specs.ValueRules.{delay};
 ghost use Rattle.ops_math.specs.ValueLaws.{lawful-delay};
 
 use crate::ports;
@@ -21,8 +20,6 @@ pub struct Delay;
 
 impl Operator for Delay {
     ghost kind = { delay_kind };
-
-    ghost rule = { delay };
 
     ghost laws = { lawful-delay };
 

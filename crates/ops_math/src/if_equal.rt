@@ -1,5 +1,4 @@
 ghost use Rattle.orca_op.specs.declared.kind.Kind.TheVariants.{IfEqual as if_equal_kind};
-ghost use Rattle.orca_op.specs.ValueRules.{if_equal};
 ghost use Rattle.ops_math.specs.ValueLaws.{lawful-if_equal};
 
 use crate::ports;
@@ -20,8 +19,6 @@ pub struct IfEqual;
 
 impl Operator for IfEqual {
     ghost kind = { if_equal_kind };
-
-    ghost rule = { if_equal };
 
     ghost laws = { lawful-if_equal };
 

@@ -1,5 +1,4 @@
 ghost use Rattle.orca_op.specs.declared.kind.Kind.TheVariants.{Increment as increment_kind};
-ghost use Rattle.orca_op.specs.ValueRules.{increment};
 ghost use Rattle.ops_math.specs.ValueLaws.{lawful-increment};
 
 use crate::ports;
@@ -21,8 +20,6 @@ pub struct Increment;
 
 impl Operator for Increment {
     ghost kind = { increment_kind };
-
-    ghost rule = { increment };
 
     ghost laws = { lawful-increment };
 

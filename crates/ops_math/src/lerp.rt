@@ -1,6 +1,6 @@
 ghost use Rattle.orca_op.specs.declared.kind.Kind.TheVariants.{Lerp as lerp_kind};
 ghost use Rattle.std.specs.Prelude.{◌≡◌, ◌<◌};
-ghost use Rattle.orca_op.specs.ValueRules.{lerp, lerped};
+ghost use Rattle.orca_op.specs.ValueRules.{lerped};
 ghost use Rattle.ops_math.specs.ValueLaws.{lawful-lerp};
 
 use crate::ports;
@@ -22,8 +22,6 @@ pub struct Lerp;
 
 impl Operator for Lerp {
     ghost kind = { lerp_kind };
-
-    ghost rule = { lerp };
 
     ghost laws = { lawful-lerp };
 

@@ -1,5 +1,4 @@
 ghost use Rattle.orca_op.specs.declared.kind.Kind.TheVariants.{Lesser as lesser_kind};
-ghost use Rattle.orca_op.specs.ValueRules.{lesser};
 ghost use Rattle.ops_math.specs.ValueLaws.{lawful-lesser};
 
 use crate::ports;
@@ -19,8 +18,6 @@ pub struct Lesser;
 
 impl Operator for Lesser {
     ghost kind = { lesser_kind };
-
-    ghost rule = { lesser };
 
     ghost laws = { lawful-lesser };
 

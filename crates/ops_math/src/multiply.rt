@@ -1,5 +1,4 @@
 ghost use Rattle.orca_op.specs.declared.kind.Kind.TheVariants.{Multiply as multiply_kind};
-ghost use Rattle.orca_op.specs.ValueRules.{multiply};
 ghost use Rattle.ops_math.specs.ValueLaws.{lawful-multiply};
 
 use crate::ports;
@@ -20,8 +19,6 @@ pub struct Multiply;
 
 impl Operator for Multiply {
     ghost kind = { multiply_kind };
-
-    ghost rule = { multiply };
 
     ghost laws = { lawful-multiply };
 

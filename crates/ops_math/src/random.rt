@@ -1,7 +1,7 @@
 ghost use Rattle.orca_op.specs.declared.kind.Kind.TheVariants.{Random as random_kind};
 ghost use Rattle.std.specs.Prelude.{◌≡◌, ◌<◌, ◌≤◌};
 ghost use Rattle.orca_base.specs.Grids.{IsInside};
-ghost use Rattle.orca_op.specs.ValueRules.{random, random_between, word_in};
+ghost use Rattle.orca_op.specs.ValueRules.{random_between, word_in};
 ghost use Rattle.ops_math.specs.ValueLaws.{lawful-random};
 
 use crate::ports;
@@ -26,8 +26,6 @@ pub struct Random;
 
 impl Operator for Random {
     ghost kind = { random_kind };
-
-    ghost rule = { random };
 
     ghost laws = { lawful-random };
 

@@ -1,5 +1,4 @@
 ghost use Rattle.orca_op.specs.declared.kind.Kind.TheVariants.{Subtract as subtract_kind};
-ghost use Rattle.orca_op.specs.ValueRules.{subtract};
 ghost use Rattle.ops_math.specs.ValueLaws.{lawful-subtract};
 
 use crate::ports;
@@ -19,8 +18,6 @@ pub struct Subtract;
 
 impl Operator for Subtract {
     ghost kind = { subtract_kind };
-
-    ghost rule = { subtract };
 
     ghost laws = { lawful-subtract };
 

@@ -1,5 +1,4 @@
 ghost use Rattle.orca_op.specs.declared.kind.Kind.TheVariants.{Uclid as uclid_kind};
-ghost use Rattle.orca_op.specs.ValueRules.{uclid};
 ghost use Rattle.ops_math.specs.ValueLaws.{lawful-uclid};
 
 use crate::ports;
@@ -20,8 +19,6 @@ pub struct Uclid;
 
 impl Operator for Uclid {
     ghost kind = { uclid_kind };
-
-    ghost rule = { uclid };
 
     ghost laws = { lawful-uclid };
 

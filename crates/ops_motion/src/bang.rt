@@ -1,5 +1,4 @@
 ghost use Rattle.orca_op.specs.declared.kind.Kind.TheVariants.{Bang as bang_kind};
-ghost use Rattle.orca_op.specs.MotionRules.{bang_rule};
 ghost use Rattle.ops_motion.specs.MotionLaws.{lawful-bang};
 
 use orca_base::{Glyph, Now, Place, Steps};
@@ -22,8 +21,6 @@ pub struct Bang;
 
 impl Operator for Bang {
     ghost kind = { bang_kind };
-
-    ghost rule = { bang_rule };
 
     ghost laws = { lawful-bang };
 

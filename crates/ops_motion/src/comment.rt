@@ -1,7 +1,7 @@
 ghost use Rattle.std.specs.Prelude.{◌≡◌, ◌+◌, ◌≤◌};
 ghost use Rattle.orca_op.specs.Desk.{all_done};
 ghost use Rattle.orca_op.specs.declared.kind.Kind.TheVariants.{Comment as comment_kind};
-ghost use Rattle.orca_op.specs.MotionRules.{comment, comment_length, locked};
+ghost use Rattle.orca_op.specs.MotionRules.{comment_length, locked};
 ghost use Rattle.ops_motion.specs.MotionLaws.{lawful-comment};
 
 use orca_base::limits::COMMENT_REACH;
@@ -21,8 +21,6 @@ pub struct Comment;
 
 impl Operator for Comment {
     ghost kind = { comment_kind };
-
-    ghost rule = { comment };
 
     ghost laws = { lawful-comment };
 

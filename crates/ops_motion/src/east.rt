@@ -1,5 +1,4 @@
 ghost use Rattle.orca_op.specs.declared.kind.Kind.TheVariants.{East as east_kind};
-ghost use Rattle.orca_op.specs.MotionRules.{east};
 ghost use Rattle.ops_motion.specs.MotionLaws.{lawful-east};
 
 use crate::mover::move_to;
@@ -20,8 +19,6 @@ pub struct East;
 
 impl Operator for East {
     ghost kind = { east_kind };
-
-    ghost rule = { east };
 
     ghost laws = { lawful-east };
 

@@ -1,5 +1,4 @@
 ghost use Rattle.orca_op.specs.declared.kind.Kind.TheVariants.{Halt as halt_kind};
-ghost use Rattle.orca_op.specs.MotionRules.{halt};
 ghost use Rattle.ops_motion.specs.MotionLaws.{lawful-halt};
 
 use orca_base::{Glyph, Now, Place, Steps};
@@ -18,8 +17,6 @@ pub struct Halt;
 
 impl Operator for Halt {
     ghost kind = { halt_kind };
-
-    ghost rule = { halt };
 
     ghost laws = { lawful-halt };
 

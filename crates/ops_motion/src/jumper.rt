@@ -1,5 +1,4 @@
 ghost use Rattle.orca_op.specs.declared.kind.Kind.TheVariants.{Jumper as jumper_kind};
-ghost use Rattle.orca_op.specs.MotionRules.{jumper};
 ghost use Rattle.ops_motion.specs.MotionLaws.{lawful-jumper};
 
 use crate::chain::jump;
@@ -22,8 +21,6 @@ pub struct Jumper;
 
 impl Operator for Jumper {
     ghost kind = { jumper_kind };
-
-    ghost rule = { jumper };
 
     ghost laws = { lawful-jumper };
 

@@ -1,5 +1,4 @@
 ghost use Rattle.orca_op.specs.declared.kind.Kind.TheVariants.{Jymper as jymper_kind};
-ghost use Rattle.orca_op.specs.MotionRules.{jymper};
 ghost use Rattle.ops_motion.specs.MotionLaws.{lawful-jymper};
 
 use crate::chain::jump;
@@ -20,8 +19,6 @@ pub struct Jymper;
 
 impl Operator for Jymper {
     ghost kind = { jymper_kind };
-
-    ghost rule = { jymper };
 
     ghost laws = { lawful-jymper };
 

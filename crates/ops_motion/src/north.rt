@@ -1,5 +1,4 @@
 ghost use Rattle.orca_op.specs.declared.kind.Kind.TheVariants.{North as north_kind};
-ghost use Rattle.orca_op.specs.MotionRules.{north};
 ghost use Rattle.ops_motion.specs.MotionLaws.{lawful-north};
 
 use crate::mover::move_to;
@@ -19,8 +18,6 @@ pub struct North;
 
 impl Operator for North {
     ghost kind = { north_kind };
-
-    ghost rule = { north };
 
     ghost laws = { lawful-north };
 

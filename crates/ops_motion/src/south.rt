@@ -1,5 +1,4 @@
 ghost use Rattle.orca_op.specs.declared.kind.Kind.TheVariants.{South as south_kind};
-ghost use Rattle.orca_op.specs.MotionRules.{south};
 ghost use Rattle.ops_motion.specs.MotionLaws.{lawful-south};
 
 use crate::mover::move_to;
@@ -19,8 +18,6 @@ pub struct South;
 
 impl Operator for South {
     ghost kind = { south_kind };
-
-    ghost rule = { south };
 
     ghost laws = { lawful-south };
 

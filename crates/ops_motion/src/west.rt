@@ -1,5 +1,4 @@
 ghost use Rattle.orca_op.specs.declared.kind.Kind.TheVariants.{West as west_kind};
-ghost use Rattle.orca_op.specs.MotionRules.{west};
 ghost use Rattle.ops_motion.specs.MotionLaws.{lawful-west};
 
 use crate::mover::move_to;
@@ -20,8 +19,6 @@ pub struct West;
 
 impl Operator for West {
     ghost kind = { west_kind };
-
-    ghost rule = { west };
 
     ghost laws = { lawful-west };
 

@@ -9,6 +9,7 @@ ghost use Rattle.orca_op.specs.State.{State, glyph_at};
 ghost use Rattle.orca_op.specs.Deeds.{Deed};
 ghost use Rattle.orca_op.specs.Desk.{Desk, HasRoom, all_done};
 ghost use Rattle.orca_op.specs.Laws.{IsLawful};
+ghost use Rattle.orca_op.specs.Rules.{rule_of};
 
 use crate::Bench;
 use orca_base::{Glyph, Now, Place, Steps};
@@ -16,13 +17,10 @@ use std::sync::ledger::Ledger;
 
 /// An operator: a rule of deeds that is lawful, and the code that does them.
 pub trait Operator {
-    /// Which operator it is; the glyphs of this kind are those that it serves.
+    /// Which operator it is: it serves the glyphs of this kind, and follows their rule in the operator table.
     ghost kind: { Kind };
 
-    /// The deeds of a visit: of the glyph, the state, the place, and the frame.
-    ghost rule: { ℕ → State → Place → Now → List Deed };
-
-    /// Does the deeds of its rule, in order, in at most `MAX_TICKS` ticks.
+    /// Does the deeds of its rule in the operator table, in order, in at most `MAX_TICKS` ticks.
     fn act<B: Bench, L: Ledger>(
         &self,
         bench: &mut B,
@@ -35,16 +33,16 @@ pub trait Operator {
         requires holds { glyph ≡ glyph_at (B.desk bench.old).scan at }
         requires served { kind_of glyph ≡ Some kind }
         requires room { HasRoom (B.desk bench.old) }
-        ensures deeds { B.desk bench.new ≡ all_done (B.desk bench.old) (rule glyph (B.desk bench.old).scan at now) }
+        ensures deeds { B.desk bench.new ≡ all_done (B.desk bench.old) (rule_of kind glyph (B.desk bench.old).scan at now) }
         ensures ticks { steps.new ≤ steps.old + MAX_TICKS }
         ensures later { steps.old ≤ steps.new };
 
     /// At most `MAX_DEEDS` deeds and one event, glyphs alone are written, each write to another place comes with
     /// Lock or Sleep on it, and each event is in range.
-    ghost laws: { IsLawful rule };
+    ghost laws: { IsLawful (rule_of kind) };
 
     /// The laws of the operator's rule.
     final fn lawful(&self)
-        ensures { IsLawful rule }
+        ensures { IsLawful (rule_of kind) }
     {}
 }
