@@ -5,10 +5,10 @@ ghost use Rattle.ops_io.specs.EventLaws.{lawful-control_change};
 
 use crate::ports;
 use crate::scaled::scaled;
-use crate::sending::{beside_bang, send};
+use crate::sending::send;
 use orca_base::limits::MAX_CHANNEL;
 use orca_base::{Event, Glyph, Now, Place, Steps};
-use orca_op::{Bench, Operator};
+use orca_op::{Bench, Operator, has_bang};
 use std::sync::ledger::Ledger;
 
 /// `!`: sends a MIDI control change.
@@ -37,12 +37,15 @@ impl Operator for ControlChange {
         _now: Now,
         steps: &mut Steps<L>,
     ) {
+        if !has_bang(bench, at, steps) {
+            ports::inputs(bench, at, 1, 3, steps);
+            return;
+        }
         let channel = bench.peek(at.off(0, 1), steps);
         let control = bench.peek(at.off(0, 2), steps);
         let value = bench.peek(at.off(0, 3), steps);
-        let event = beside_bang(bench, at, control_event(channel, control, value), steps);
         ports::inputs(bench, at, 1, 3, steps);
-        send(bench, at, event, steps);
+        send(bench, at, control_event(channel, control, value), steps);
     }
 }
 

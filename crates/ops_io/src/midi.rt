@@ -3,9 +3,9 @@ ghost use Rattle.ops_io.specs.EventLaws.{lawful-midi};
 
 use crate::note_ports::NotePorts;
 use crate::ports;
-use crate::sending::{beside_bang, send};
+use crate::sending::send;
 use orca_base::{Glyph, Now, Place, Steps};
-use orca_op::{Bench, Operator};
+use orca_op::{Bench, Operator, has_bang};
 use std::sync::ledger::Ledger;
 
 /// `:`: sends a MIDI note.
@@ -35,9 +35,12 @@ impl Operator for Midi {
         _now: Now,
         steps: &mut Steps<L>,
     ) {
+        if !has_bang(bench, at, steps) {
+            ports::inputs(bench, at, 1, 5, steps);
+            return;
+        }
         let note = NotePorts::read(bench, at, steps);
-        let event = beside_bang(bench, at, note.event(), steps);
         ports::inputs(bench, at, 1, 5, steps);
-        send(bench, at, event, steps);
+        send(bench, at, note.event(), steps);
     }
 }

@@ -3,9 +3,9 @@ ghost use Rattle.ops_io.specs.EventLaws.{lawful-mono};
 
 use crate::note_ports::NotePorts;
 use crate::ports;
-use crate::sending::{beside_bang, send};
+use crate::sending::send;
 use orca_base::{Glyph, Now, Place, Steps};
-use orca_op::{Bench, Operator};
+use orca_op::{Bench, Operator, has_bang};
 use std::sync::ledger::Ledger;
 
 /// `%`: sends a monophonic MIDI note.
@@ -33,12 +33,15 @@ impl Operator for Mono {
         _now: Now,
         steps: &mut Steps<L>,
     ) {
+        if !has_bang(bench, at, steps) {
+            ports::inputs(bench, at, 1, 5, steps);
+            return;
+        }
         let note = NotePorts {
             mono: true,
             ..NotePorts::read(bench, at, steps)
         };
-        let event = beside_bang(bench, at, note.event(), steps);
         ports::inputs(bench, at, 1, 5, steps);
-        send(bench, at, event, steps);
+        send(bench, at, note.event(), steps);
     }
 }

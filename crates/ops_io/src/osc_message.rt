@@ -6,9 +6,9 @@ ghost use Rattle.orca_op.specs.EventRules.{osc_with, ports};
 ghost use Rattle.ops_io.specs.EventLaws.{lawful-osc_message};
 
 use crate::ports;
-use crate::sending::{beside_bang, send};
+use crate::sending::send;
 use orca_base::{Event, Glyph, Now, Place, Short, Steps};
-use orca_op::{Bench, Operator};
+use orca_op::{Bench, Operator, has_bang};
 use std::sync::ledger::Ledger;
 
 /// `=`: sends an OSC message.
@@ -39,12 +39,18 @@ impl Operator for OscMessage {
     ) {
         let path = bench.peek(at.off(0, 1), steps);
         let length = bench.peek(at.off(0, 2), steps).value();
-        let values = read_values(bench, at, length, steps);
-        let event = beside_bang(bench, at, osc_event(path, values), steps);
+        let bang = has_bang(bench, at, steps);
+        let values = if bang {
+            read_values(bench, at, length, steps)
+        } else {
+            Short::empty()
+        };
         bench.param(at.off(0, 1), steps);
         bench.param(at.off(0, 2), steps);
         ports::inputs(bench, at, 3, length, steps);
-        send(bench, at, event, steps);
+        if bang {
+            send(bench, at, osc_event(path, values), steps);
+        }
     }
 }
 

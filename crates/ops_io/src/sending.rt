@@ -1,27 +1,10 @@
 ghost use Rattle.std.specs.Prelude.{◌≡◌, ◌+◌, ◌≤◌};
-ghost use Rattle.orca_op.specs.EventRules.{beside_bang, sent};
+ghost use Rattle.orca_op.specs.EventRules.{sent};
 ghost use Rattle.orca_op.specs.Desk.{HasRoom, all_done};
 
 use orca_base::{Event, Place, Steps};
-use orca_op::{Bench, has_bang};
+use orca_op::Bench;
 use std::sync::ledger::Ledger;
-
-/// The event, where a bang stands next to the place; none where there is no bang.
-pub(crate) fn beside_bang<B: Bench, L: Ledger>(
-    bench: &B,
-    at: Place,
-    event: Option<Event>,
-    steps: &mut Steps<L>,
-) -> Option<Event>
-    ensures event { result ≡ beside_bang (B.desk bench.now).scan at event }
-    ensures ticks { steps.new ≡ steps.old + 4 }
-{
-    if has_bang(bench, at, steps) {
-        event
-    } else {
-        None
-    }
-}
 
 /// Shows that the place sends, and sends the event; does nothing where there is none.
 #[tactic(auto, unfolding(orca_op::specs::Deeds::after))]

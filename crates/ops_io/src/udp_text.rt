@@ -5,10 +5,10 @@ ghost use Rattle.orca_op.specs.EventRules.{text_at, text_event};
 ghost use Rattle.ops_io.specs.EventLaws.{lawful-udp_text};
 
 use crate::ports;
-use crate::sending::{beside_bang, send};
+use crate::sending::send;
 use orca_base::limits::MAX_TEXT;
 use orca_base::{Event, Glyph, Now, Place, Short, Steps};
-use orca_op::{Bench, Operator};
+use orca_op::{Bench, Operator, has_bang};
 use std::sync::ledger::Ledger;
 
 /// `;`: sends a datagram of plain text.
@@ -38,9 +38,11 @@ impl Operator for UdpText {
     ) {
         let text = read_text(bench, at, steps);
         let length = text.as_slice().len() as u8;
-        let event = beside_bang(bench, at, text_event(text), steps);
+        let bang = has_bang(bench, at, steps);
         ports::lock(bench, at, length, steps);
-        send(bench, at, event, steps);
+        if bang {
+            send(bench, at, text_event(text), steps);
+        }
     }
 }
 

@@ -44,7 +44,9 @@ fn comment_length<B: Bench, L: Ledger>(bench: &B, at: Place, steps: &mut Steps<L
     ensures ticks { steps.new ≤ steps.old + COMMENT_REACH }
     ensures later { steps.old ≤ steps.new }
 {
-    for column in 1..COMMENT_REACH + 1 {
+    // Beyond the edge stands no `#`.
+    let room = bench.dims().w.saturating_sub(at.x);
+    for column in 1..room.min(COMMENT_REACH + 1) {
         if bench.peek(at.off(0, i32::from(column)), steps).byte() == b'#' {
             return column;
         }
@@ -55,9 +57,12 @@ fn comment_length<B: Bench, L: Ledger>(bench: &B, at: Place, steps: &mut Steps<L
 /// Locks `length` places at the right.
 fn lock_line<B: Bench, L: Ledger>(bench: &mut B, at: Place, length: u16, steps: &mut Steps<L>)
     ensures deeds { B.desk bench.new ≡ all_done (B.desk bench.old) (locked at length) }
-    ensures ticks { steps.new ≡ steps.old + length }
+    ensures ticks { steps.new ≤ steps.old + length }
+    ensures later { steps.old ≤ steps.new }
 {
-    for column in 0..length {
+    // Locks beyond the edge do nothing.
+    let room = bench.dims().w.saturating_sub(at.x).saturating_sub(1);
+    for column in 0..length.min(room) {
         bench.lock(at.off(0, i32::from(column) + 1), steps);
     }
 }

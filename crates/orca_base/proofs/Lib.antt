@@ -1,1 +1,6 @@
+pub mod GlyphLemmas
 pub mod InlineLemmas
+pub mod MarkLemmas
+pub mod NumberLemmas
+pub mod PlaceFacts
+pub mod SheetFacts

@@ -1,5 +1,7 @@
--- Sizes, places and spots, and the cells of a grid.
-use Rattle.std.specs.Prelude.{ℕ, ◌+◌, ◌*◌, ◌/◌, ◌%◌, ◌<◌, ◌≤◌, ◌≡◌, ℤ, pos, negsuc, neg_ℤ, ◌+ℤ◌, ◌≤ℤ◌, ◌&&◌, nat_lt, if◌then◌else◌, Option, Some, None, List, length}
+-- Sizes, places and spots, and grids of glyphs.
+use Rattle.std.specs.Prelude.{ℕ, ◌+◌, ◌*◌, ◌/◌, ◌%◌, ◌<◌, ◌≤◌, ◌≡◌, ◌==◌, ℤ, pos, negsuc, neg_ℤ, ◌+ℤ◌, ◌≤ℤ◌, Bool, ◌&&◌, nat_lt, if◌then◌else◌, Option, Some, None, List, length, map, slice_index}
+use Rattle.std.specs.List.{range_with_len}
+use Rattle.orca_base.specs.Glyphs.{AreGlyphs}
 use Rattle.orca_base.specs.declared.limits.TheConstants.{MAX_ROWS, MAX_COLUMNS, MAX_REACH}
 use Rattle.orca_base.specs.declared.place.Place.{Place}
 use Rattle.orca_base.specs.declared.place.Spot.{Spot}
@@ -20,6 +22,18 @@ pub record IsSize (d : Size) : Type 0 where
 pub record IsInside (d : Size) (at : Place) : Type 0 where
   pub row : at.y < d.h
   pub column : at.x < d.w
+
+-- the same as a test
+abbrev pub is_inside : Size → Place → Bool
+is_inside d at = nat_lt at.y d.h && nat_lt at.x d.w
+
+-- whether two places are one
+abbrev pub is_place : Place → Place → Bool
+is_place a b = (a.y == b.y) && (a.x == b.x)
+
+-- the number of places
+abbrev pub cells_of : Size → ℕ
+cells_of d = d.h * d.w
 
 -- the number of a place in reading order
 abbrev pub index_of : Size → Place → ℕ
@@ -46,6 +60,22 @@ IsReach d = (neg_ℤ MAX_REACH ≤ℤ d) × (d ≤ℤ MAX_REACH)
 abbrev pub off : Place → ℤ → ℤ → Spot
 off at dy dx = record { y = pos at.y +ℤ dy; x = pos at.x +ℤ dx }
 
+-- a place as a spot, the spots above and below it, and those n columns to the left and to the right
+abbrev pub here : Place → Spot
+here at = off at (pos 0) (pos 0)
+
+abbrev pub above : Place → Spot
+above at = off at (negsuc 0) (pos 0)
+
+abbrev pub below : Place → Spot
+below at = off at (pos 1) (pos 0)
+
+abbrev pub left : Place → ℕ → Spot
+left at n = off at (pos 0) (neg_ℤ (pos n))
+
+abbrev pub right : Place → ℕ → Spot
+right at n = off at (pos 0) (pos n)
+
 -- a grid: its size, and its glyphs in reading order
 pub record Sheet : Type 0 where
   pub dims : Size
@@ -54,4 +84,17 @@ pub record Sheet : Type 0 where
 -- a grid of such a size, with a glyph for each place
 pub record IsSheet (g : Sheet) : Type 0 where
   pub size : IsSize g.dims
-  pub whole : length g.cells ≡ g.dims.h * g.dims.w
+  pub whole : length g.cells ≡ cells_of g.dims
+  pub glyphs : AreGlyphs g.cells
+
+-- the glyph of a place
+abbrev pub glyph_at : Sheet → Place → ℕ
+glyph_at g at = slice_index g.cells (index_of g.dims at)
+
+-- the glyphs that a function gives to the places, in reading order
+unfoldable pub cells_by : Size → (Place → ℕ) → List ℕ
+cells_by d glyph = map (λ n. glyph (place_of d n)) (range_with_len 0 (cells_of d))
+
+-- the grid of a size in which each place has the glyph that the function gives to it
+abbrev pub sheet_by : Size → (Place → ℕ) → Sheet
+sheet_by d glyph = record { dims = d; cells = cells_by d glyph }

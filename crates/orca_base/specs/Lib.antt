@@ -1,9 +1,14 @@
+pub mod Areas
+pub mod Ascii
+pub mod Edits
 pub mod EventRanges
 pub mod GlyphFacts
 pub mod Glyphs
 pub mod Grids
 pub mod Inline
+pub mod MarkBits
 pub mod MarkSet
 pub mod MidiBytes
+pub mod Numbers
 pub mod Ports
 pub mod Ranges

@@ -1,8 +1,31 @@
-ghost use Rattle.std.specs.Prelude.{◌≡◌, ◌<◌, ◌≤◌, ◌↔◌, ℕ, IsNone, IfSome, IsTrue};
-ghost use Rattle.orca_base.specs.Glyphs.{IsGlyph, empty, bang, value, from_value, cased, is_operator, needs_bang, note_number, natural_note, is_upper};
+ghost use Rattle.std.specs.Prelude.{◌≡◌, ◌<◌, ◌≤◌, ◌↔◌, ℕ, IsNone, IfSome, IsTrue, length, slice_set};
+ghost use Rattle.orca_base.specs.Glyphs.{IsGlyph, AreGlyphs, empty, bang, value, from_value, cased, is_operator, needs_bang, note_number, natural_note, is_upper};
 
 use crate::limits::BASE;
 use std::marker::Model;
+
+/// The value of each byte below 128 as a glyph.
+static VALUES: [u8; 128] = [
+    0, 0, 0, 0, 0, 0, 0, 0, 0, 0, 0, 0, 0, 0, 0, 0, 0, 0, 0, 0, 0, 0, 0, 0, 0, 0, 0, 0, 0, 0, 0, 0,
+    0, 0, 0, 0, 0, 0, 0, 0, 0, 0, 0, 0, 0, 0, 0, 0, 0, 1, 2, 3, 4, 5, 6, 7, 8, 9, 0, 0, 0, 0, 0, 0,
+    0, 10, 11, 12, 13, 14, 15, 16, 17, 18, 19, 20, 21, 22, 23, 24, 25, 26, 27, 28, 29, 30, 31, 32,
+    33, 34, 35, 0, 0, 0, 0, 0, 0, 10, 11, 12, 13, 14, 15, 16, 17, 18, 19, 20, 21, 22, 23, 24, 25,
+    26, 27, 28, 29, 30, 31, 32, 33, 34, 35, 0, 0, 0, 0, 0,
+];
+
+/// Which bytes below 128 are operators.
+static OPERATORS: [u8; 128] = [
+    0, 0, 0, 0, 0, 0, 0, 0, 0, 0, 0, 0, 0, 0, 0, 0, 0, 0, 0, 0, 0, 0, 0, 0, 0, 0, 0, 0, 0, 0, 0, 0,
+    0, 1, 0, 1, 0, 1, 0, 0, 0, 0, 1, 0, 0, 0, 0, 0, 0, 0, 0, 0, 0, 0, 0, 0, 0, 0, 1, 1, 0, 1, 0, 1,
+    0, 1, 1, 1, 1, 1, 1, 1, 1, 1, 1, 1, 1, 1, 1, 1, 1, 1, 1, 1, 1, 1, 1, 1, 1, 1, 1, 0, 0, 0, 0, 0,
+    0, 1, 1, 1, 1, 1, 1, 1, 1, 1, 1, 1, 1, 1, 1, 1, 1, 1, 1, 1, 1, 1, 1, 1, 1, 1, 1, 0, 0, 0, 0, 0,
+];
+
+/// The digits and lower-case letters, by their values.
+static LOWER: [u8; 36] = *b"0123456789abcdefghijklmnopqrstuvwxyz";
+
+/// The digits and upper-case letters, by their values.
+static UPPER: [u8; 36] = *b"0123456789ABCDEFGHIJKLMNOPQRSTUVWXYZ";
 
 /// A glyph of the grid: a printable byte of ASCII, 33 (`!`) to 126 (`~`).
 #[derive(Clone, Copy, Debug, PartialEq, Eq)]
@@ -21,6 +44,13 @@ impl Model for Glyph {
     ghost invariant = { λ g. IsGlyph g.byte };
 
     ghost inverse = { λ n. record { byte = n } };
+}
+
+impl Default for Glyph {
+    /// `.`
+    fn default() -> Glyph {
+        Glyph::EMPTY
+    }
 }
 
 impl Glyph {
@@ -49,61 +79,59 @@ impl Glyph {
         self.byte
     }
 
+    /// Puts the glyph into a list of glyphs.
+    pub fn put(self, into: &mut [Glyph], index: usize)
+        requires { index < length into.old }
+        ensures put { into.new ≡ slice_set into.old index self }
+        ensures glyphs { AreGlyphs into.old → AreGlyphs into.new }
+    {
+        into[index] = Glyph { byte: self.byte };
+    }
+
     /// The value in base 36: 0 to 9 of a digit, 10 to 35 of a letter in either case, 0 of any other
     /// glyph.
-    #[tactic(auto, unfolding(crate::specs::Glyphs::value))]
+    #[tactic(auto, using(crate::proofs::GlyphLemmas::value_table, crate::proofs::GlyphLemmas::value_table_below))]
     pub fn value(self) -> u8
         ensures value { result ≡ value self }
         ensures range { result < BASE }
     {
-        match self.byte {
-            b'0'..=b'9' => self.byte - b'0',
-            b'A'..=b'Z' => self.byte - b'A' + 10,
-            b'a'..=b'z' => self.byte - b'a' + 10,
-            _ => 0,
-        }
+        VALUES[usize::from(self.byte)]
     }
 
     /// The digit or the lower-case letter of a value below the base.
-    #[tactic(auto, unfolding(crate::specs::Glyphs::from_value))]
+    #[tactic(auto, using(crate::proofs::GlyphLemmas::lower_table, crate::proofs::GlyphLemmas::lower_low, crate::proofs::GlyphLemmas::lower_high))]
     pub fn from_value(n: u8) -> Glyph
         requires { n < BASE }
         ensures { result ≡ from_value n }
     {
-        if n < 10 {
-            Glyph { byte: b'0' + n }
-        } else {
-            Glyph {
-                byte: b'a' + (n - 10),
-            }
+        Glyph {
+            byte: LOWER[usize::from(n)],
         }
     }
 
     /// The glyph of a value below the base. A letter is in upper case exactly where `by` is one of `A` to `Z`;
     /// a digit has no case.
-    #[tactic(auto, unfolding(crate::specs::Glyphs::from_value, crate::specs::Glyphs::cased))]
+    #[tactic(auto, using(crate::proofs::GlyphLemmas::lower_table, crate::proofs::GlyphLemmas::upper_table, crate::proofs::GlyphLemmas::lower_low, crate::proofs::GlyphLemmas::lower_high, crate::proofs::GlyphLemmas::upper_low, crate::proofs::GlyphLemmas::upper_high), unfolding(crate::specs::Glyphs::cased))]
     pub fn cased(n: u8, by: Glyph) -> Glyph
         requires { n < BASE }
         ensures { result ≡ cased n by }
     {
-        if n >= 10 && by.byte.is_ascii_uppercase() {
-            Glyph {
-                byte: b'A' + (n - 10),
-            }
+        let digits = if by.byte.is_ascii_uppercase() {
+            &UPPER
         } else {
-            Glyph::from_value(n)
+            &LOWER
+        };
+        Glyph {
+            byte: digits[usize::from(n)],
         }
     }
 
     /// Whether the glyph is an operator: a letter, or one of `* # : % ! ? ; =`.
-    #[tactic(auto, unfolding(crate::specs::Glyphs::is_operator))]
+    #[tactic(auto, using(crate::proofs::GlyphLemmas::operator_table))]
     pub fn is_operator(self) -> bool
         ensures { result ≡ is_operator self }
     {
-        matches!(
-            self.byte,
-            b'A'..=b'Z' | b'a'..=b'z' | b'*' | b'#' | b':' | b'%' | b'!' | b'?' | b';' | b'='
-        )
+        OPERATORS[usize::from(self.byte)] != 0
     }
 
     /// Whether the glyph works only beside a bang: a lower-case letter.

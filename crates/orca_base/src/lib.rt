@@ -2,6 +2,11 @@
 //! inline lists of bytes and the counter of steps.
 #![tactic(auto)]
 
+mod area;
+mod block;
+mod change;
+mod command;
+mod decimal;
 mod dims;
 mod errors;
 mod event;
@@ -17,6 +22,11 @@ mod place;
 mod port;
 mod steps;
 
+pub use area::{Area, Rect};
+pub use block::Block;
+pub use change::Change;
+pub use command::{Command, Entry, Fault, Reply, Rule};
+pub use decimal::number;
 pub use dims::Dims;
 pub use errors::{Failed, Memory};
 pub use event::Event;

@@ -75,3 +75,54 @@ pub const MAX_MESSAGES: usize = MAX_NOTES + 2 * MAX_EVENTS;
 
 /// The seed of a run that is given none.
 pub const DEFAULT_SEED: u32 = 1;
+
+/// The most ticks of one visit: its looks, and those of its operator's deeds.
+pub const MAX_VISIT_TICKS: u64 = 600;
+
+/// The most entries of a history.
+pub const MAX_HISTORY: u32 = 4_000_000;
+
+/// The most entries of the history of a session that is given no limit.
+pub const DEFAULT_HISTORY: u32 = 1_000_000;
+
+/// How many of the newest entries of a history keep a patch, by which they can be undone.
+pub const KEPT_PATCHES: u32 = 1_024;
+
+/// How many changes a patch keeps without memory of its own.
+pub const INLINE_CHANGES: usize = 8;
+
+/// The most bytes of one arrival.
+pub const ARRIVAL_BYTES: usize = 64;
+
+/// The most bytes that a sequence of a key may hold between its beginning and its end.
+pub const SEQUENCE_BYTES: u8 = 8;
+
+/// How many moments the key of going back takes.
+pub const BACK_MOMENTS: u32 = 16;
+
+/// The fewest rows of a screen: one of the grid, and the status line.
+pub const MIN_SCREEN_ROWS: u16 = 2;
+
+/// The most rows of a screen.
+pub const MAX_SCREEN_ROWS: u16 = 100;
+
+/// The fewest columns of a screen.
+pub const MIN_SCREEN_COLUMNS: u16 = 8;
+
+/// The most columns of a screen.
+pub const MAX_SCREEN_COLUMNS: u16 = 256;
+
+/// The greatest tempo, in beats a minute.
+pub const MAX_BPM: u16 = 999;
+
+/// The tempo of a performance that is given none, in beats a minute.
+pub const DEFAULT_BPM: u16 = 120;
+
+/// How many frames a beat has.
+pub const BEAT_FRAMES: u64 = 4;
+
+/// The microseconds of a minute.
+pub const MINUTE_MICROSECONDS: u64 = 60_000_000;
+
+/// The most polls of one performance.
+pub const MAX_POLLS: u64 = 1 << 40;

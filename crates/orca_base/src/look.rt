@@ -1,5 +1,5 @@
-ghost use Rattle.std.specs.Prelude.{◌≡◌, List, slice_index, slice_index_or};
-ghost use Rattle.orca_base.specs.Grids.{Sheet, IsSheet, IsInside, index_of};
+ghost use Rattle.std.specs.Prelude.{◌≡◌, List, slice_index_or};
+ghost use Rattle.orca_base.specs.Grids.{Sheet, IsSheet, IsInside, glyph_at as glyph_of, index_of};
 ghost use Rattle.orca_base.specs.MarkSet.{MarkSet, no_marks};
 
 use crate::{Dims, Glyph, Marks, Place};
@@ -20,7 +20,7 @@ pub trait Look {
     /// The glyph of a place in the grid.
     fn glyph_at(&self, at: Place) -> Glyph
         requires { IsInside (sheet self.now).dims at }
-        ensures { result ≡ slice_index (sheet self.now).cells (index_of (sheet self.now).dims at) };
+        ensures { result ≡ glyph_of (sheet self.now) at };
 
     /// The marks of a place in the grid.
     fn marks_at(&self, at: Place) -> Marks

@@ -1,5 +1,6 @@
-ghost use Rattle.std.specs.Prelude.{◌≡◌, not};
+ghost use Rattle.std.specs.Prelude.{◌≡◌, ◌<◌, not};
 ghost use Rattle.orca_base.specs.MarkSet.{no_marks, with_mark, has_mark, all_marks, is_marked};
+ghost use Rattle.orca_base.specs.MarkBits.{bit_of};
 
 use std::marker::Model;
 
@@ -19,24 +20,41 @@ pub enum Mark {
     Sleep,
 }
 
-/// A set of marks.
+/// A set of marks, each a bit of one byte.
 #[derive(Clone, Copy, Debug, PartialEq, Eq)]
 pub struct Marks {
-    lock: bool,
-    input: bool,
-    param: bool,
-    output: bool,
-    sleep: bool,
+    bits: u8,
 }
 
 impl Model for Marks {
+    ghost use Rattle.std.specs.Prelude.{◌<◌};
+    ghost use Rattle.std.proofs.Common.{ap};
     ghost use Rattle.orca_base.specs.MarkSet.{MarkSet};
+    ghost use Rattle.orca_base.specs.MarkBits.{marks_of, bits_of, bits-back};
 
     ghost Value = { MarkSet };
 
-    ghost view = { λ m. record { lock = m.lock; input = m.input; param = m.param; output = m.output; sleep = m.sleep } };
+    ghost view = { λ m. marks_of m.bits };
 
-    ghost inverse = { λ m. record { lock = m.lock; input = m.input; param = m.param; output = m.output; sleep = m.sleep } };
+    ghost invariant = { λ m. m.bits < 32 };
+
+    ghost inverse = { λ s. record { bits = bits_of s } };
+
+    ghost inverse_ok = { λ m h. ap (λ n. record { bits = n }) (bits-back m.bits h) };
+}
+
+/// The bit of a mark.
+fn bit_of(mark: Mark) -> u8
+    ensures bit { result ≡ bit_of mark }
+    ensures range { result < 32 }
+{
+    match mark {
+        Mark::Lock => 1,
+        Mark::Input => 2,
+        Mark::Param => 4,
+        Mark::Output => 8,
+        Mark::Sleep => 16,
+    }
 }
 
 impl Marks {
@@ -44,70 +62,42 @@ impl Marks {
     pub fn none() -> Marks
         ensures { result ≡ no_marks }
     {
-        Marks {
-            lock: false,
-            input: false,
-            param: false,
-            output: false,
-            sleep: false,
-        }
+        Marks { bits: 0 }
     }
 
     /// The set with one mark more.
+    #[tactic(auto, using(crate::proofs::MarkLemmas::marks_with))]
     pub fn with(self, mark: Mark) -> Marks
         ensures { result ≡ with_mark self mark }
     {
-        match mark {
-            Mark::Lock => Marks { lock: true, ..self },
-            Mark::Input => Marks {
-                input: true,
-                ..self
-            },
-            Mark::Param => Marks {
-                param: true,
-                ..self
-            },
-            Mark::Output => Marks {
-                output: true,
-                ..self
-            },
-            Mark::Sleep => Marks {
-                sleep: true,
-                ..self
-            },
+        Marks {
+            bits: self.bits | bit_of(mark),
         }
     }
 
     /// Whether the mark is in the set.
+    #[tactic(auto, using(crate::proofs::MarkLemmas::marks_has))]
     pub fn has(self, mark: Mark) -> bool
         ensures { result ≡ has_mark self mark }
     {
-        match mark {
-            Mark::Lock => self.lock,
-            Mark::Input => self.input,
-            Mark::Param => self.param,
-            Mark::Output => self.output,
-            Mark::Sleep => self.sleep,
-        }
+        self.bits & bit_of(mark) != 0
     }
 
     /// Whether no mark is in the set.
+    #[tactic(auto, using(crate::proofs::MarkLemmas::marks_empty))]
     pub fn is_empty(self) -> bool
         ensures { result ≡ not (is_marked self) }
     {
-        !(self.lock || self.input || self.param || self.output || self.sleep)
+        self.bits == 0
     }
 
     /// The marks of both sets.
+    #[tactic(auto, using(crate::proofs::MarkLemmas::marks_or))]
     pub fn and(self, other: Marks) -> Marks
         ensures { result ≡ all_marks self other }
     {
         Marks {
-            lock: self.lock || other.lock,
-            input: self.input || other.input,
-            param: self.param || other.param,
-            output: self.output || other.output,
-            sleep: self.sleep || other.sleep,
+            bits: self.bits | other.bits,
         }
     }
 }

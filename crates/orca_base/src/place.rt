@@ -1,7 +1,7 @@
 ghost use Rattle.std.specs.Prelude.{◌≡◌};
 
 /// A place of a grid, counted from 0.
-#[derive(Clone, Copy, Debug, PartialEq, Eq)]
+#[derive(Clone, Copy, Debug, Default, PartialEq, Eq)]
 pub struct Place {
     /// The row.
     pub y: u16,
@@ -19,7 +19,7 @@ pub struct Spot {
 }
 
 impl Place {
-    ghost use Rattle.orca_base.specs.Grids.{off, IsReach};
+    ghost use Rattle.orca_base.specs.Grids.{off, here, above, below, left, right, IsReach};
 
     /// The spot `dy` rows below and `dx` columns to the right. Neither reaches further than
     /// [`MAX_REACH`](crate::limits::MAX_REACH), to either side.
@@ -31,5 +31,40 @@ impl Place {
             y: i32::from(self.y) + dy,
             x: i32::from(self.x) + dx,
         }
+    }
+
+    /// The place itself, as a spot.
+    pub fn here(self) -> Spot
+        ensures { result ≡ here self }
+    {
+        self.off(0, 0)
+    }
+
+    /// The spot above.
+    pub fn above(self) -> Spot
+        ensures { result ≡ above self }
+    {
+        self.off(-1, 0)
+    }
+
+    /// The spot below.
+    pub fn below(self) -> Spot
+        ensures { result ≡ below self }
+    {
+        self.off(1, 0)
+    }
+
+    /// The spot `columns` to the left.
+    pub fn left(self, columns: u16) -> Spot
+        ensures { result ≡ left self columns }
+    {
+        self.off(0, -i32::from(columns))
+    }
+
+    /// The spot `columns` to the right.
+    pub fn right(self, columns: u16) -> Spot
+        ensures { result ≡ right self columns }
+    {
+        self.off(0, i32::from(columns))
     }
 }

@@ -1,0 +1,159 @@
+use crate::{Area, Block, Dims, Glyph, Place, Rect};
+
+/// What a musician asks of a session.
+#[derive(Clone, Copy, Debug, PartialEq, Eq)]
+pub enum Command {
+    /// Plays a frame.
+    Frame,
+    /// Writes a glyph at a place.
+    Write {
+        /// The row.
+        y: u32,
+        /// The column.
+        x: u32,
+        /// The glyph.
+        glyph: Glyph,
+    },
+    /// Writes a glyph at each place of a block.
+    Fill {
+        /// The block.
+        rect: Rect,
+        /// The glyph.
+        glyph: Glyph,
+    },
+    /// Empties each place of a block.
+    Erase {
+        /// The block.
+        rect: Rect,
+    },
+    /// Keeps a block as the clip.
+    Copy {
+        /// The block.
+        rect: Rect,
+    },
+    /// Keeps a block as the clip, and empties its places.
+    Cut {
+        /// The block.
+        rect: Rect,
+    },
+    /// Writes the clip, its first cell at a place.
+    Paste {
+        /// The row.
+        y: u32,
+        /// The column.
+        x: u32,
+    },
+    /// Moves a block, its first cell to a place.
+    Move {
+        /// The block.
+        rect: Rect,
+        /// The row.
+        to_y: u32,
+        /// The column.
+        to_x: u32,
+    },
+    /// Gives the grid another size.
+    Resize {
+        /// The number of rows.
+        h: u32,
+        /// The number of columns.
+        w: u32,
+    },
+    /// Begins again at tick 0, and ends every note.
+    Reset,
+    /// Goes back to before the last edit.
+    Undo,
+    /// Goes back to a moment of the history.
+    Rewind {
+        /// How many entries of the history stay.
+        moment: u32,
+    },
+}
+
+/// What a history keeps of a command. All but `Frame` and `Hush` are edits.
+#[derive(Debug, Drop)]
+pub enum Entry {
+    /// Each place of the area holds the glyph.
+    Fill {
+        /// The area.
+        area: Area,
+        /// The glyph.
+        glyph: Glyph,
+    },
+    /// The block stands at the place; what lies outside the grid is cut off.
+    Put {
+        /// Where the block's first cell stands.
+        at: Place,
+        /// The block.
+        block: Block,
+    },
+    /// What the area held stands at the place, and the rest of the area is empty.
+    Move {
+        /// The area.
+        area: Area,
+        /// Where its first cell stands.
+        to: Place,
+    },
+    /// The grid has this size.
+    Resize {
+        /// The size.
+        dims: Dims,
+    },
+    /// The tick is 0, and every note ends.
+    Reset,
+    /// A frame is played.
+    Frame,
+    /// Every note ends: the last entry of a jump.
+    Hush,
+}
+
+/// Why a session refuses a command. The first rule that stands, in this order, is the one that is told.
+#[derive(Clone, Copy, Debug, PartialEq, Eq)]
+pub enum Rule {
+    /// The place of Write or Paste, the first place of the block of Fill, Erase, Copy, Cut or Move, or the
+    /// target of Move isn't in the grid.
+    OutOfGrid,
+    /// The block of Fill, Erase, Copy, Cut or Move has no row or no column.
+    EmptyBlock,
+    /// A side of Resize is 0 or too long for a grid.
+    BadSize,
+    /// There is nothing to paste.
+    EmptyClip,
+    /// There is no edit to undo.
+    NothingToUndo,
+    /// The history has no such moment.
+    NoSuchMoment {
+        /// How many entries the history has.
+        kept: u32,
+    },
+    /// The history has as many entries as it may have.
+    HistoryFull,
+}
+
+/// What a session did.
+#[derive(Clone, Copy, Debug, PartialEq, Eq)]
+pub enum Reply {
+    /// The grid was edited, or the session begins again at tick 0.
+    Edited,
+    /// The clip was taken.
+    Copied,
+    /// A frame was played.
+    Framed {
+        /// Its tick.
+        tick: u32,
+    },
+    /// The session went back.
+    Jumped {
+        /// How many entries of the history stayed.
+        moment: u32,
+    },
+}
+
+/// Why a session did nothing.
+#[derive(Clone, Copy, Debug, PartialEq, Eq)]
+pub enum Fault {
+    /// A rule stands against the command.
+    Refused(Rule),
+    /// Memory was refused.
+    Memory,
+}
