@@ -6,16 +6,16 @@ use Rattle.orca_base.specs.declared.now.Now.{Now}
 use Rattle.orca_base.specs.declared.place.Place.{Place}
 use Rattle.orca_base.specs.declared.place.Spot.{Spot}
 use Rattle.orca_base.specs.MarkSet.{MarkSet}
-use Rattle.orca_op.specs.State.{State, peek, left}
+use Rattle.orca_op.specs.State.{State, peek}
+use Rattle.orca_base.specs.Grids.{left}
 use Rattle.orca_op.specs.Deeds.{Deed, Mark, Write, each, input_at, param_at, output_at, lock_at}
 use Rattle.orca_op.specs.Laws.{EmitsInRange, IsLawful, WritesGlyph, IsCovered, Covers, is_emit}
 use Rattle.orca_op.specs.LawFacts.{IsGlyph-peek, length-each, no_event-each, count_by-append, Every-each, Every-append, AnyDeed-each, AnyDeed-right}
-use Rattle.orca_op.specs.GridRules.{left_2, left_3}
 
 -- three parameters, and then a run of glyphs, each read at one spot and written at another that is covered
 abbrev pub copies : (State → Place → ℕ) → (State → Place → ℕ → Spot) → (State → Place → ℕ → Spot) → MarkSet → ℕ → State → Place → Now → List Deed
 copies many from to marks g s at now =
-    param_at (left_3 at) ∷ param_at (left_2 at) ∷ param_at (left at)
+    param_at (left at 3) ∷ param_at (left at 2) ∷ param_at (left at 1)
     ∷ each (many s at) (λ i. input_at (from s at i) ∷ Mark (to s at i) marks ∷ Write (to s at i) (peek s (from s at i)) ∷ [])
 
 pub lawful-copies : (many : State → Place → ℕ) (from to : State → Place → ℕ → Spot) (marks : MarkSet) → IsTrue (marks.lock || marks.sleep) → ((s : State) (at : Place) → many s at < BASE) → IsLawful (copies many from to marks)
@@ -28,9 +28,9 @@ lawful-copies many from to marks covers few =
       one_event = λ g s at now.
           let run : count_by is_emit (each (many s at) (copy s at)) ≡ 0 = no_event-each (many s at) (copy s at) (λ i. refl) in
           omega (arith, run);
-      glyphs = λ g s at now whole is_glyph cells vars.
-          (tt, (tt, (tt, Every-each WritesGlyph (many s at) (copy s at) (λ i below. (tt, (tt, (IsGlyph-peek s _ whole cells, tt)))))));
-      events = λ g s at now whole cells. (tt, (tt, (tt, Every-each EmitsInRange (many s at) (copy s at) (λ i below. (tt, (tt, (tt, tt)))))));
+      glyphs = λ g s at now whole is_glyph.
+          (tt, (tt, (tt, Every-each WritesGlyph (many s at) (copy s at) (λ i below. (tt, (tt, (IsGlyph-peek s _ whole, tt)))))));
+      events = λ g s at now whole. (tt, (tt, (tt, Every-each EmitsInRange (many s at) (copy s at) (λ i below. (tt, (tt, (tt, tt)))))));
       covered = λ g s at now. (
         tt,
         (
@@ -47,7 +47,7 @@ lawful-copies many from to marks covers few =
 -- two parameters, a run of locks, and then one glyph that is read at one spot and written at another
 abbrev pub locks : (State → Place → ℕ) → (State → Place → ℕ → Spot) → (State → Place → Spot) → (State → Place → Spot) → ℕ → State → Place → Now → List Deed
 locks many spot from to g s at now =
-    param_at (left_2 at) ∷ param_at (left at) ∷ each (many s at) (λ i. lock_at (spot s at i) ∷ [])
+    param_at (left at 2) ∷ param_at (left at 1) ∷ each (many s at) (λ i. lock_at (spot s at i) ∷ [])
     ++ input_at (from s at) ∷ output_at (to s at) ∷ Write (to s at) (peek s (from s at)) ∷ []
 
 pub lawful-locks : (many : State → Place → ℕ) (spot : State → Place → ℕ → Spot) (from to : State → Place → Spot) → ((s : State) (at : Place) → many s at < BASE) → IsLawful (locks many spot from to)
@@ -61,16 +61,16 @@ lawful-locks many spot from to few =
       one_event = λ g s at now.
           let run : count_by is_emit (each (many s at) (lock s at)) ≡ 0 = no_event-each (many s at) (lock s at) (λ i. refl) in
           omega (arith, run, count_by-append is_emit (each (many s at) (lock s at)) (last s at));
-      glyphs = λ g s at now whole is_glyph cells vars. (
+      glyphs = λ g s at now whole is_glyph. (
         tt,
         (
           tt,
           Every-append WritesGlyph (each (many s at) (lock s at)) (last s at)
               (Every-each WritesGlyph (many s at) (lock s at) (λ i below. (tt, tt)))
-              (tt, (tt, (IsGlyph-peek s _ whole cells, tt))),
+              (tt, (tt, (IsGlyph-peek s _ whole, tt))),
         ),
       );
-      events = λ g s at now whole cells. (tt, (tt, Every-append EmitsInRange (each (many s at) (lock s at)) (last s at) (Every-each EmitsInRange (many s at) (lock s at) (λ i below. (tt, tt))) (tt, (tt, (tt, tt)))));
+      events = λ g s at now whole. (tt, (tt, Every-append EmitsInRange (each (many s at) (lock s at)) (last s at) (Every-each EmitsInRange (many s at) (lock s at) (λ i below. (tt, tt))) (tt, (tt, (tt, tt)))));
       covered = λ g s at now.
           let P : Deed → Type 0 = IsCovered at (locks many spot from to g s at now) in (
             tt,

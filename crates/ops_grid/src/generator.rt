@@ -1,10 +1,9 @@
-ghost use Rattle.std.specs.Prelude.{◌≡◌, ◌+◌, ◌*◌, ◌<◌, slice_index, ◌∷◌, []};
+ghost use Rattle.std.specs.Prelude.{◌≡◌, ◌+◌, ◌*◌, ◌<◌, slice_index};
 ghost use Rattle.orca_base.specs.declared.limits.TheConstants.{BASE};
 ghost use Rattle.orca_op.specs.declared.kind.Kind.TheVariants.{Generator as generator_kind};
-ghost use Rattle.orca_op.specs.State.{across};
-ghost use Rattle.orca_op.specs.Deeds.{Write, each, input_at, far_at};
-ghost use Rattle.orca_op.specs.Desk.{all_done};
-ghost use Rattle.orca_op.specs.GridRules.{target};
+ghost use Rattle.orca_op.specs.Deeds.{each};
+ghost use Rattle.orca_op.specs.Desk.{desk_after_all};
+ghost use Rattle.orca_op.specs.GridRules.{generate_one};
 ghost use Rattle.ops_grid.specs.GridLaws.{lawful-generator};
 
 use crate::span::{self, ROOM, Span};
@@ -36,13 +35,13 @@ impl Operator for Generator {
         _now: Now,
         steps: &mut Steps<L>,
     ) {
-        let x = bench.peek(at.off(0, -3), steps).value();
-        let y = bench.peek(at.off(0, -2), steps).value();
-        let length = bench.peek(at.off(0, -1), steps).value();
+        let x = bench.peek(at.left(3), steps).value();
+        let y = bench.peek(at.left(2), steps).value();
+        let length = bench.peek(at.left(1), steps).value();
         let operands = span::read(bench, at, Span { y: 0, x: 1, length }, steps);
-        bench.param(at.off(0, -3), steps);
-        bench.param(at.off(0, -2), steps);
-        bench.param(at.off(0, -1), steps);
+        bench.param(at.left(3), steps);
+        bench.param(at.left(2), steps);
+        bench.param(at.left(1), steps);
         generate(bench, at, y, x, length, &operands, steps);
     }
 }
@@ -58,12 +57,13 @@ fn generate<B: Bench, L: Ledger>(
     steps: &mut Steps<L>,
 )
     requires { length < BASE }
-    ensures deeds { B.desk bench.new ≡ all_done (B.desk bench.old) (each length (λ i. input_at (across at (i + 1)) ∷ far_at (target at y (x + i)) ∷ Write (target at y (x + i)) (slice_index operands.now i) ∷ [])) }
+    ensures deeds { B.desk bench.new ≡ desk_after_all (B.desk bench.old)
+        (each length (λ i. generate_one at y x i (slice_index operands.now i))) }
     ensures ticks { steps.new ≡ steps.old + 3 * length }
 {
     for i in 0..length {
         let target = at.off(i32::from(y) + 1, i32::from(x) + i32::from(i));
-        bench.input(at.off(0, i32::from(i) + 1), steps);
+        bench.input(at.right(u16::from(i) + 1), steps);
         bench.far(target, steps);
         bench.write(target, operands[usize::from(i)], steps);
     }

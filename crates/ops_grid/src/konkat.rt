@@ -1,11 +1,11 @@
-ghost use Rattle.std.specs.Prelude.{◌≡◌, ◌+◌, ◌*◌, ◌<◌, ◌≤◌, ◌==◌, ℕ, slice_index, ◌∷◌, [], if◌then◌else◌};
+ghost use Rattle.std.specs.Prelude.{◌≡◌, ◌+◌, ◌*◌, ◌<◌, ◌≤◌, ℕ, slice_index};
 ghost use Rattle.orca_base.specs.declared.limits.TheConstants.{BASE};
 ghost use Rattle.orca_base.specs.Glyphs.{value};
 ghost use Rattle.orca_op.specs.declared.kind.Kind.TheVariants.{Konkat as konkat_kind};
-ghost use Rattle.orca_op.specs.State.{across, var_at};
-ghost use Rattle.orca_op.specs.Deeds.{Write, each, input_at, output_at};
-ghost use Rattle.orca_op.specs.Desk.{all_done};
-ghost use Rattle.orca_op.specs.GridRules.{written_below};
+ghost use Rattle.orca_op.specs.State.{var_at};
+ghost use Rattle.orca_op.specs.Deeds.{each};
+ghost use Rattle.orca_op.specs.Desk.{desk_after_all};
+ghost use Rattle.orca_op.specs.GridRules.{konkat_one};
 ghost use Rattle.ops_grid.specs.GridLaws.{lawful-konkat};
 
 use crate::span::{self, ROOM, Span};
@@ -37,10 +37,10 @@ impl Operator for Konkat {
         _now: Now,
         steps: &mut Steps<L>,
     ) {
-        let length = value_or(bench.peek(at.off(0, -1), steps), 1);
+        let length = value_or(bench.peek(at.left(1), steps), 1);
         let names = span::read(bench, at, Span { y: 0, x: 1, length }, steps);
         let stored = variables(bench, &names, length, steps);
-        bench.param(at.off(0, -1), steps);
+        bench.param(at.left(1), steps);
         concatenate(bench, at, length, &names, &stored, steps);
     }
 }
@@ -73,32 +73,34 @@ fn concatenate<B: Bench, L: Ledger>(
     steps: &mut Steps<L>,
 )
     requires { length < BASE }
-    ensures deeds { B.desk bench.new ≡ all_done (B.desk bench.old) (each length (λ i. input_at (across at (i + 1)) ∷ written_below at (i + 1) (slice_index names.now i) (slice_index stored.now i))) }
+    ensures deeds { B.desk bench.new ≡ desk_after_all (B.desk bench.old)
+        (each length (λ i. konkat_one at i (slice_index names.now i) (slice_index stored.now i))) }
     ensures ticks { steps.new ≤ steps.old + 3 * length }
     ensures later { steps.old ≤ steps.new }
 {
     for i in 0..length {
         let index = usize::from(i);
-        write_below(bench, at, i + 1, names[index], stored[index], steps);
+        write_below(bench, at, i, names[index], stored[index], steps);
     }
 }
 
-/// Reads a name, and writes its variable below; nothing is written where the name is missing.
-#[tactic(auto, unfolding(orca_op::specs::GridRules::written_below))]
+/// Reads the name in a column, and writes its variable below; nothing is written where the name is missing.
+#[tactic(auto, unfolding(orca_op::specs::GridRules::store_deeds))]
 fn write_below<B: Bench, L: Ledger>(
     bench: &mut B,
     at: Place,
-    column: u8,
+    i: u8,
     name: Glyph,
     stored: Glyph,
     steps: &mut Steps<L>,
 )
-    ensures deeds { B.desk bench.new ≡ all_done (B.desk bench.old) (input_at (across at column) ∷ written_below at column name stored) }
+    ensures deeds { B.desk bench.new ≡ desk_after_all (B.desk bench.old) (konkat_one at i name stored) }
     ensures ticks { steps.new ≤ steps.old + 3 }
     ensures later { steps.old ≤ steps.new }
 {
+    let column = u16::from(i) + 1;
     let below = at.off(1, i32::from(column));
-    bench.input(at.off(0, i32::from(column)), steps);
+    bench.input(at.right(column), steps);
     if name != Glyph::EMPTY {
         bench.output(below, steps);
         bench.write(below, stored, steps);

@@ -31,14 +31,14 @@ impl Operator for Push {
         _now: Now,
         steps: &mut Steps<L>,
     ) {
-        let key = bench.peek(at.off(0, -2), steps).value();
-        let length = value_or(bench.peek(at.off(0, -1), steps), 1);
-        let operand = bench.peek(at.off(0, 1), steps);
+        let key = bench.peek(at.left(2), steps).value();
+        let length = value_or(bench.peek(at.left(1), steps), 1);
+        let operand = bench.peek(at.right(1), steps);
         let chosen = at.off(1, i32::from(key % length));
-        bench.param(at.off(0, -2), steps);
-        bench.param(at.off(0, -1), steps);
+        bench.param(at.left(2), steps);
+        bench.param(at.left(1), steps);
         span::lock(bench, at, Span { y: 1, x: 0, length }, steps);
-        bench.input(at.off(0, 1), steps);
+        bench.input(at.right(1), steps);
         bench.output(chosen, steps);
         bench.write(chosen, operand, steps);
     }

@@ -1,9 +1,9 @@
-ghost use Rattle.std.specs.Prelude.{◌≡◌, ◌+◌, ◌*◌, ◌<◌, slice_index, ◌∷◌, []};
+ghost use Rattle.std.specs.Prelude.{◌≡◌, ◌+◌, ◌*◌, ◌<◌, slice_index};
 ghost use Rattle.orca_base.specs.declared.limits.TheConstants.{BASE};
 ghost use Rattle.orca_op.specs.declared.kind.Kind.TheVariants.{Query as query_kind};
-ghost use Rattle.orca_op.specs.Deeds.{Write, each, input_at, output_at};
-ghost use Rattle.orca_op.specs.Desk.{all_done};
-ghost use Rattle.orca_op.specs.GridRules.{source, below_by};
+ghost use Rattle.orca_op.specs.Deeds.{each};
+ghost use Rattle.orca_op.specs.Desk.{desk_after_all};
+ghost use Rattle.orca_op.specs.GridRules.{query_one};
 ghost use Rattle.ops_grid.specs.GridLaws.{lawful-query};
 
 use crate::span::{self, ROOM, Span};
@@ -36,9 +36,9 @@ impl Operator for Query {
         _now: Now,
         steps: &mut Steps<L>,
     ) {
-        let x = bench.peek(at.off(0, -3), steps).value();
-        let y = bench.peek(at.off(0, -2), steps).value();
-        let length = bench.peek(at.off(0, -1), steps).value();
+        let x = bench.peek(at.left(3), steps).value();
+        let y = bench.peek(at.left(2), steps).value();
+        let length = bench.peek(at.left(1), steps).value();
         let operands = span::read(
             bench,
             at,
@@ -49,9 +49,9 @@ impl Operator for Query {
             },
             steps,
         );
-        bench.param(at.off(0, -3), steps);
-        bench.param(at.off(0, -2), steps);
-        bench.param(at.off(0, -1), steps);
+        bench.param(at.left(3), steps);
+        bench.param(at.left(2), steps);
+        bench.param(at.left(1), steps);
         collect(bench, at, y, x, length, &operands, steps);
     }
 }
@@ -67,7 +67,8 @@ fn collect<B: Bench, L: Ledger>(
     steps: &mut Steps<L>,
 )
     requires { length < BASE }
-    ensures deeds { B.desk bench.new ≡ all_done (B.desk bench.old) (each length (λ i. input_at (source at y (x + i)) ∷ output_at (below_by at length i) ∷ Write (below_by at length i) (slice_index operands.now i) ∷ [])) }
+    ensures deeds { B.desk bench.new ≡ desk_after_all (B.desk bench.old)
+        (each length (λ i. query_one at y x length i (slice_index operands.now i))) }
     ensures ticks { steps.new ≡ steps.old + 3 * length }
 {
     for i in 0..length {

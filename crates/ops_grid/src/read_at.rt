@@ -29,14 +29,14 @@ impl Operator for ReadAt {
         _now: Now,
         steps: &mut Steps<L>,
     ) {
-        let x = i32::from(bench.peek(at.off(0, -2), steps).value());
-        let y = i32::from(bench.peek(at.off(0, -1), steps).value());
+        let x = i32::from(bench.peek(at.left(2), steps).value());
+        let y = i32::from(bench.peek(at.left(1), steps).value());
         let source = at.off(y, x + 1);
         let operand = bench.peek(source, steps);
-        bench.param(at.off(0, -2), steps);
-        bench.param(at.off(0, -1), steps);
+        bench.param(at.left(2), steps);
+        bench.param(at.left(1), steps);
         bench.input(source, steps);
-        bench.output(at.off(1, 0), steps);
-        bench.write(at.off(1, 0), operand, steps);
+        bench.output(at.below(), steps);
+        bench.write(at.below(), operand, steps);
     }
 }

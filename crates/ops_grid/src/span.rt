@@ -2,7 +2,7 @@ ghost use Rattle.std.specs.Prelude.{◌≡◌, ◌+◌, ◌<◌, ◌≤◌, ℕ,
 ghost use Rattle.orca_base.specs.Grids.{off};
 ghost use Rattle.orca_op.specs.State.{peek};
 ghost use Rattle.orca_op.specs.Deeds.{each, lock_at};
-ghost use Rattle.orca_op.specs.Desk.{all_done};
+ghost use Rattle.orca_op.specs.Desk.{desk_after_all};
 
 use orca_base::limits::BASE;
 use orca_base::{Glyph, Place, Steps};
@@ -44,7 +44,7 @@ pub(crate) fn read<B: Bench, L: Ledger>(
 
 /// Locks a span.
 pub(crate) fn lock<B: Bench, L: Ledger>(bench: &mut B, at: Place, span: Span, steps: &mut Steps<L>)
-    ensures deeds { B.desk bench.new ≡ all_done (B.desk bench.old) (each span.length (λ i. lock_at (off at (pos span.y) (pos (i + span.x))) ∷ [])) }
+    ensures deeds { B.desk bench.new ≡ desk_after_all (B.desk bench.old) (each span.length (λ i. lock_at (off at (pos span.y) (pos (i + span.x))) ∷ [])) }
     ensures ticks { steps.new ≡ steps.old + span.length }
 {
     for i in 0..span.length {

@@ -30,15 +30,15 @@ impl Operator for Track {
         _now: Now,
         steps: &mut Steps<L>,
     ) {
-        let key = bench.peek(at.off(0, -2), steps).value();
-        let length = value_or(bench.peek(at.off(0, -1), steps), 1);
-        let chosen = at.off(0, i32::from(key % length) + 1);
+        let key = bench.peek(at.left(2), steps).value();
+        let length = value_or(bench.peek(at.left(1), steps), 1);
+        let chosen = at.right(u16::from(key % length) + 1);
         let operand = bench.peek(chosen, steps);
-        bench.param(at.off(0, -2), steps);
-        bench.param(at.off(0, -1), steps);
+        bench.param(at.left(2), steps);
+        bench.param(at.left(1), steps);
         span::lock(bench, at, Span { y: 0, x: 1, length }, steps);
         bench.input(chosen, steps);
-        bench.output(at.off(1, 0), steps);
-        bench.write(at.off(1, 0), operand, steps);
+        bench.output(at.below(), steps);
+        bench.write(at.below(), operand, steps);
     }
 }

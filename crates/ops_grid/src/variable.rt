@@ -30,16 +30,16 @@ impl Operator for Variable {
         _now: Now,
         steps: &mut Steps<L>,
     ) {
-        let write = bench.peek(at.off(0, -1), steps);
-        let read = bench.peek(at.off(0, 1), steps);
+        let write = bench.peek(at.left(1), steps);
+        let read = bench.peek(at.right(1), steps);
         let stored = bench.var(read.value(), steps);
-        bench.param(at.off(0, -1), steps);
-        bench.input(at.off(0, 1), steps);
+        bench.param(at.left(1), steps);
+        bench.input(at.right(1), steps);
         if write != Glyph::EMPTY {
             bench.set_var(write.value(), read, steps);
         } else if read != Glyph::EMPTY {
-            bench.output(at.off(1, 0), steps);
-            bench.write(at.off(1, 0), stored, steps);
+            bench.output(at.below(), steps);
+            bench.write(at.below(), stored, steps);
         }
     }
 }

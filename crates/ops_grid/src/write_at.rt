@@ -29,13 +29,13 @@ impl Operator for WriteAt {
         _now: Now,
         steps: &mut Steps<L>,
     ) {
-        let x = i32::from(bench.peek(at.off(0, -2), steps).value());
-        let y = i32::from(bench.peek(at.off(0, -1), steps).value());
-        let operand = bench.peek(at.off(0, 1), steps);
+        let x = i32::from(bench.peek(at.left(2), steps).value());
+        let y = i32::from(bench.peek(at.left(1), steps).value());
+        let operand = bench.peek(at.right(1), steps);
         let target = at.off(y + 1, x);
-        bench.param(at.off(0, -2), steps);
-        bench.param(at.off(0, -1), steps);
-        bench.input(at.off(0, 1), steps);
+        bench.param(at.left(2), steps);
+        bench.param(at.left(1), steps);
+        bench.input(at.right(1), steps);
         bench.far(target, steps);
         bench.write(target, operand, steps);
     }

@@ -5,7 +5,8 @@ use Rattle.orca_base.specs.declared.now.Now.{Now}
 use Rattle.orca_base.specs.declared.place.Place.{Place}
 use Rattle.orca_base.specs.Glyphs.{empty, value, note_number}
 use Rattle.orca_base.specs.MarkSet.{no_marks}
-use Rattle.orca_op.specs.State.{State, peek, has_bang, own, across}
+use Rattle.orca_op.specs.State.{State, peek, has_bang}
+use Rattle.orca_base.specs.Grids.{here, right}
 use Rattle.orca_op.specs.Deeds.{Deed, Emit, input_at, param_at, lock_at, show_at}
 use Rattle.orca_op.specs.ValueRules.{value_or}
 use Rattle.orca_op.specs.First.{first_where}
@@ -15,29 +16,29 @@ use Rattle.orca_op.specs.EventRules.{note_with, note_of, midi, mono, control_wit
 row : List ℕ → State
 row cells = record { dims = record { h = 1; w = 8 }; cells = cells; marks = replicate 8 no_marks; vars = replicate 36 empty; events = [] }
 
-here : Place
-here = record { y = 0; x = 1 }
+place : Place
+place = record { y = 0; x = 1 }
 
 now : Now
 now = record { seed = 0; tick = 0 }
 
 five_inputs : List Deed
 five_inputs =
-    input_at (across here 1) ∷ input_at (across here 2) ∷ input_at (across here 3) ∷ input_at (across here 4) ∷ input_at (across here 5) ∷ []
+    input_at (right place 1) ∷ input_at (right place 2) ∷ input_at (right place 3) ∷ input_at (right place 4) ∷ input_at (right place 5) ∷ []
 
 -- `*:03Cf2.`
-midi-row : midi 58 (row (42 ∷ 58 ∷ 48 ∷ 51 ∷ 67 ∷ 102 ∷ 50 ∷ 46 ∷ [])) here now ≡ five_inputs ++ show_at (own here) ∷ Emit (Note 0 36 119 2 false) ∷ []
-unfolding row here now five_inputs peek has_bang value note_number value_or note_of
+midi-row : midi 58 (row (42 ∷ 58 ∷ 48 ∷ 51 ∷ 67 ∷ 102 ∷ 50 ∷ 46 ∷ [])) place now ≡ five_inputs ++ show_at (here place) ∷ Emit (Note 0 36 119 2 false) ∷ []
+unfolding row place now five_inputs peek has_bang value note_number value_or note_of
 midi-row = refl
 
 -- `.:03Cf2.`: without a bang the ports alone are marked
-midi-still : midi 58 (row (46 ∷ 58 ∷ 48 ∷ 51 ∷ 67 ∷ 102 ∷ 50 ∷ 46 ∷ [])) here now ≡ five_inputs
-unfolding row here now five_inputs peek has_bang value note_number value_or note_of
+midi-still : midi 58 (row (46 ∷ 58 ∷ 48 ∷ 51 ∷ 67 ∷ 102 ∷ 50 ∷ 46 ∷ [])) place now ≡ five_inputs
+unfolding row place now five_inputs peek has_bang value note_number value_or note_of
 midi-still = refl
 
 -- `*%03E...`
-mono-row : mono 37 (row (42 ∷ 37 ∷ 48 ∷ 51 ∷ 69 ∷ 46 ∷ 46 ∷ 46 ∷ [])) here now ≡ five_inputs ++ show_at (own here) ∷ Emit (Note 0 40 127 1 true) ∷ []
-unfolding row here now five_inputs peek has_bang value note_number value_or note_of
+mono-row : mono 37 (row (42 ∷ 37 ∷ 48 ∷ 51 ∷ 69 ∷ 46 ∷ 46 ∷ 46 ∷ [])) place now ≡ five_inputs ++ show_at (here place) ∷ Emit (Note 0 40 127 1 true) ∷ []
+unfolding row place now five_inputs peek has_bang value note_number value_or note_of
 mono-row = refl
 
 -- `zzZ01`: the channel, the octave and the key are cut; a velocity of value 0 is none, and one of value 1 is the least
@@ -58,9 +59,9 @@ unfolding note_number
 note-missing = refl
 
 -- `*!07z...`
-control-row : control_change 33 (row (42 ∷ 33 ∷ 48 ∷ 55 ∷ 122 ∷ 46 ∷ 46 ∷ 46 ∷ [])) here now
-    ≡ input_at (across here 1) ∷ input_at (across here 2) ∷ input_at (across here 3) ∷ show_at (own here) ∷ Emit (Control 0 7 127) ∷ []
-unfolding row here now peek has_bang value control_of
+control-row : control_change 33 (row (42 ∷ 33 ∷ 48 ∷ 55 ∷ 122 ∷ 46 ∷ 46 ∷ 46 ∷ [])) place now
+    ≡ input_at (right place 1) ∷ input_at (right place 2) ∷ input_at (right place 3) ∷ show_at (here place) ∷ Emit (Control 0 7 127) ∷ []
+unfolding row place now peek has_bang value control_of
 control-row = refl
 
 -- a channel above the last sends nothing, and half of the greatest value is rounded down
@@ -73,21 +74,21 @@ unfolding value
 control-half = refl
 
 -- `*?0z0...`
-bend-row : pitch_bend 63 (row (42 ∷ 63 ∷ 48 ∷ 122 ∷ 48 ∷ 46 ∷ 46 ∷ 46 ∷ [])) here now
-    ≡ input_at (across here 1) ∷ input_at (across here 2) ∷ input_at (across here 3) ∷ show_at (own here) ∷ Emit (Bend 0 0 127) ∷ []
-unfolding row here now peek has_bang value bend_of
+bend-row : pitch_bend 63 (row (42 ∷ 63 ∷ 48 ∷ 122 ∷ 48 ∷ 46 ∷ 46 ∷ 46 ∷ [])) place now
+    ≡ input_at (right place 1) ∷ input_at (right place 2) ∷ input_at (right place 3) ∷ show_at (here place) ∷ Emit (Bend 0 0 127) ∷ []
+unfolding row place now peek has_bang value bend_of
 bend-row = refl
 
 -- `*;hi....`
-text-row : udp_text 59 (row (42 ∷ 59 ∷ 104 ∷ 105 ∷ 46 ∷ 46 ∷ 46 ∷ 46 ∷ [])) here now
-    ≡ lock_at (across here 1) ∷ lock_at (across here 2) ∷ show_at (own here) ∷ Emit (Udp (104 ∷ 105 ∷ [])) ∷ []
-unfolding row here now peek has_bang text_at first_where
+text-row : udp_text 59 (row (42 ∷ 59 ∷ 104 ∷ 105 ∷ 46 ∷ 46 ∷ 46 ∷ 46 ∷ [])) place now
+    ≡ lock_at (right place 1) ∷ lock_at (right place 2) ∷ show_at (here place) ∷ Emit (Udp (104 ∷ 105 ∷ [])) ∷ []
+unfolding row place now peek has_bang text_at first_where
 text-row = refl
 
 -- `*=a212..`
-osc-row : osc_message 61 (row (42 ∷ 61 ∷ 97 ∷ 50 ∷ 49 ∷ 50 ∷ 46 ∷ 46 ∷ [])) here now
-    ≡ param_at (across here 1) ∷ param_at (across here 2) ∷ input_at (across here 3) ∷ input_at (across here 4) ∷ show_at (own here) ∷ Emit (Osc 97 (1 ∷ 2 ∷ [])) ∷ []
-unfolding row here now peek has_bang value osc_of
+osc-row : osc_message 61 (row (42 ∷ 61 ∷ 97 ∷ 50 ∷ 49 ∷ 50 ∷ 46 ∷ 46 ∷ [])) place now
+    ≡ param_at (right place 1) ∷ param_at (right place 2) ∷ input_at (right place 3) ∷ input_at (right place 4) ∷ show_at (here place) ∷ Emit (Osc 97 (1 ∷ 2 ∷ [])) ∷ []
+unfolding row place now peek has_bang value osc_of
 osc-row = refl
 
 -- a sign is no address, and without values the message has none

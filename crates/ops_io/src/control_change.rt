@@ -41,9 +41,9 @@ impl Operator for ControlChange {
             ports::inputs(bench, at, 1, 3, steps);
             return;
         }
-        let channel = bench.peek(at.off(0, 1), steps);
-        let control = bench.peek(at.off(0, 2), steps);
-        let value = bench.peek(at.off(0, 3), steps);
+        let channel = bench.peek(at.right(1), steps);
+        let control = bench.peek(at.right(2), steps);
+        let value = bench.peek(at.right(3), steps);
         ports::inputs(bench, at, 1, 3, steps);
         send(bench, at, control_event(channel, control, value), steps);
     }

@@ -31,11 +31,11 @@ impl NotePorts {
         ensures ticks { steps.new ≡ steps.old + 5 }
     {
         NotePorts {
-            channel: bench.peek(at.off(0, 1), steps),
-            octave: bench.peek(at.off(0, 2), steps),
-            note: bench.peek(at.off(0, 3), steps),
-            velocity: bench.peek(at.off(0, 4), steps),
-            length: bench.peek(at.off(0, 5), steps),
+            channel: bench.peek(at.right(1), steps),
+            octave: bench.peek(at.right(2), steps),
+            note: bench.peek(at.right(3), steps),
+            velocity: bench.peek(at.right(4), steps),
+            length: bench.peek(at.right(5), steps),
             mono: false,
         }
     }

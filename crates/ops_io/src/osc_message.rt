@@ -37,16 +37,16 @@ impl Operator for OscMessage {
         _now: Now,
         steps: &mut Steps<L>,
     ) {
-        let path = bench.peek(at.off(0, 1), steps);
-        let length = bench.peek(at.off(0, 2), steps).value();
+        let path = bench.peek(at.right(1), steps);
+        let length = bench.peek(at.right(2), steps).value();
         let bang = has_bang(bench, at, steps);
         let values = if bang {
             read_values(bench, at, length, steps)
         } else {
             Short::empty()
         };
-        bench.param(at.off(0, 1), steps);
-        bench.param(at.off(0, 2), steps);
+        bench.param(at.right(1), steps);
+        bench.param(at.right(2), steps);
         ports::inputs(bench, at, 3, length, steps);
         if bang {
             send(bench, at, osc_event(path, values), steps);
@@ -62,7 +62,7 @@ fn read_values<B: Bench, L: Ledger>(bench: &B, at: Place, count: u8, steps: &mut
 {
     let mut values = Short::empty();
     for i in 0..count {
-        let glyph = bench.peek(at.off(0, i32::from(i) + 3), steps);
+        let glyph = bench.peek(at.right(u16::from(i) + 3), steps);
         values.push(glyph.value());
     }
     values

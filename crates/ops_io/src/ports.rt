@@ -1,9 +1,9 @@
 ghost use Rattle.std.specs.Prelude.{◌≡◌, ◌+◌};
 ghost use Rattle.orca_op.specs.EventRules.{inputs};
-ghost use Rattle.orca_op.specs.MotionRules.{locked};
-ghost use Rattle.orca_op.specs.State.{across};
+ghost use Rattle.orca_op.specs.MotionRules.{lock_deeds};
+ghost use Rattle.orca_base.specs.Grids.{right};
 ghost use Rattle.orca_op.specs.Deeds.{input_at, lock_at};
-ghost use Rattle.orca_op.specs.Desk.{HasRoom, done, all_done};
+ghost use Rattle.orca_op.specs.Desk.{HasRoom, desk_after, desk_after_all};
 
 use orca_base::{Place, Steps};
 use orca_op::Bench;
@@ -17,7 +17,7 @@ pub(crate) fn inputs<B: Bench, L: Ledger>(
     count: u8,
     steps: &mut Steps<L>,
 )
-    ensures deeds { B.desk bench.new ≡ all_done (B.desk bench.old) (inputs at from count) }
+    ensures deeds { B.desk bench.new ≡ desk_after_all (B.desk bench.old) (inputs at from count) }
     ensures room { HasRoom (B.desk bench.old) → HasRoom (B.desk bench.new) }
     ensures ticks { steps.new ≡ steps.old + count }
 {
@@ -29,16 +29,16 @@ pub(crate) fn inputs<B: Bench, L: Ledger>(
 /// Marks one input.
 #[tactic(auto, unfolding(orca_op::specs::Deeds::after))]
 fn input<B: Bench, L: Ledger>(bench: &mut B, at: Place, i: u8, from: u8, steps: &mut Steps<L>)
-    ensures deed { B.desk bench.new ≡ done (B.desk bench.old) (input_at (across at (i + from))) }
+    ensures deed { B.desk bench.new ≡ desk_after (B.desk bench.old) (input_at (right at (i + from))) }
     ensures room { HasRoom (B.desk bench.old) → HasRoom (B.desk bench.new) }
     ensures ticks { steps.new ≡ steps.old + 1 }
 {
-    bench.input(at.off(0, i32::from(i) + i32::from(from)), steps);
+    bench.input(at.right(u16::from(i) + u16::from(from)), steps);
 }
 
 /// Locks the first `count` ports.
 pub(crate) fn lock<B: Bench, L: Ledger>(bench: &mut B, at: Place, count: u8, steps: &mut Steps<L>)
-    ensures deeds { B.desk bench.new ≡ all_done (B.desk bench.old) (locked at count) }
+    ensures deeds { B.desk bench.new ≡ desk_after_all (B.desk bench.old) (lock_deeds at count) }
     ensures room { HasRoom (B.desk bench.old) → HasRoom (B.desk bench.new) }
     ensures ticks { steps.new ≡ steps.old + count }
 {
@@ -50,9 +50,9 @@ pub(crate) fn lock<B: Bench, L: Ledger>(bench: &mut B, at: Place, count: u8, ste
 /// Locks one port.
 #[tactic(auto, unfolding(orca_op::specs::Deeds::after))]
 fn lock_one<B: Bench, L: Ledger>(bench: &mut B, at: Place, i: u8, steps: &mut Steps<L>)
-    ensures deed { B.desk bench.new ≡ done (B.desk bench.old) (lock_at (across at (i + 1))) }
+    ensures deed { B.desk bench.new ≡ desk_after (B.desk bench.old) (lock_at (right at (i + 1))) }
     ensures room { HasRoom (B.desk bench.old) → HasRoom (B.desk bench.new) }
     ensures ticks { steps.new ≡ steps.old + 1 }
 {
-    bench.lock(at.off(0, i32::from(i) + 1), steps);
+    bench.lock(at.right(u16::from(i) + 1), steps);
 }

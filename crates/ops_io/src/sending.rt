@@ -1,6 +1,6 @@
 ghost use Rattle.std.specs.Prelude.{◌≡◌, ◌+◌, ◌≤◌};
-ghost use Rattle.orca_op.specs.EventRules.{sent};
-ghost use Rattle.orca_op.specs.Desk.{HasRoom, all_done};
+ghost use Rattle.orca_op.specs.EventRules.{send_deeds};
+ghost use Rattle.orca_op.specs.Desk.{HasRoom, desk_after_all};
 
 use orca_base::{Event, Place, Steps};
 use orca_op::Bench;
@@ -15,12 +15,12 @@ pub(crate) fn send<B: Bench, L: Ledger>(
     steps: &mut Steps<L>,
 )
     requires { HasRoom (B.desk bench.old) }
-    ensures deeds { B.desk bench.new ≡ all_done (B.desk bench.old) (sent at event) }
+    ensures deeds { B.desk bench.new ≡ desk_after_all (B.desk bench.old) (send_deeds at event) }
     ensures ticks { steps.new ≤ steps.old + 2 }
     ensures later { steps.old ≤ steps.new }
 {
     if let Some(event) = event {
-        bench.show(at.off(0, 0), steps);
+        bench.show(at.here(), steps);
         bench.emit(event, steps);
     }
 }

@@ -55,7 +55,7 @@ fn read_text<B: Bench, L: Ledger>(bench: &B, at: Place, steps: &mut Steps<L>) ->
 {
     let mut text = Short::empty();
     for i in 0..MAX_TEXT {
-        let glyph = bench.peek(at.off(0, i32::from(i) + 1), steps);
+        let glyph = bench.peek(at.right(u16::from(i) + 1), steps);
         if glyph == Glyph::EMPTY {
             return text;
         }

@@ -5,7 +5,8 @@ use Rattle.std.proofs.lemmas.Bool.Decides.{nat_tests}
 use Rattle.orca_base.specs.declared.limits.TheConstants.{BASE}
 use Rattle.orca_base.specs.Glyphs.{IsGlyph, empty, bang, value, cased}
 use Rattle.orca_base.specs.GlyphFacts.{IsGlyph-cased, value-below}
-use Rattle.orca_op.specs.State.{peek, left, right}
+use Rattle.orca_op.specs.State.{peek}
+use Rattle.orca_base.specs.Grids.{left, right}
 use Rattle.orca_op.specs.Laws.{IsLawful}
 use Rattle.orca_op.specs.LawFacts.{value_or-range, quiet}
 use Rattle.orca_op.specs.ValueRules.{value_or, random_between, lerped, add, subtract, clock, delay, if_equal, increment, lesser, multiply, random, uclid, lerp}
@@ -31,54 +32,54 @@ pub lawful-add : IsLawful add
 lawful-add = record {
   few_deeds = λ g s at now. omega arith;
   one_event = λ g s at now. omega arith;
-  glyphs = λ g s at now whole is_glyph cells vars. (tt, (tt, (tt, (IsGlyph-cased _ _ (omega arith), tt))));
+  glyphs = λ g s at now whole is_glyph. (tt, (tt, (tt, (IsGlyph-cased _ _ (omega arith), tt))));
   covered = λ g s at now. (tt, (tt, (tt, (inr (inr (inr (inl (refl, refl)))), tt))));
-  events = λ g s at now whole cells. quiet (add g s at now) refl;
+  events = λ g s at now whole. quiet (add g s at now) refl;
 }
 
 pub lawful-subtract : IsLawful subtract
 lawful-subtract = record {
   few_deeds = λ g s at now. omega arith;
   one_event = λ g s at now. omega arith;
-  glyphs = λ g s at now whole is_glyph cells vars. (tt, (tt, (tt, (IsGlyph-cased _ _ (omega (arith, value-below (peek s (left at)), value-below (peek s (right at)))), tt))));
+  glyphs = λ g s at now whole is_glyph. (tt, (tt, (tt, (IsGlyph-cased _ _ (omega (arith, value-below (peek s (left at 1)), value-below (peek s (right at 1)))), tt))));
   covered = λ g s at now. (tt, (tt, (tt, (inr (inr (inr (inl (refl, refl)))), tt))));
-  events = λ g s at now whole cells. quiet (subtract g s at now) refl;
+  events = λ g s at now whole. quiet (subtract g s at now) refl;
 }
 
 pub lawful-clock : IsLawful clock
 lawful-clock = record {
   few_deeds = λ g s at now. omega arith;
   one_event = λ g s at now. omega arith;
-  glyphs = λ g s at now whole is_glyph cells vars. (tt, (tt, (tt, (IsGlyph-cased _ _ (mod_value-below _ _ 8 (omega arith) (omega arith)), tt))));
+  glyphs = λ g s at now whole is_glyph. (tt, (tt, (tt, (IsGlyph-cased _ _ (mod_value-below _ _ 8 (omega arith) (omega arith)), tt))));
   covered = λ g s at now. (tt, (tt, (tt, (inr (inr (inr (inl (refl, refl)))), tt))));
-  events = λ g s at now whole cells. quiet (clock g s at now) refl;
+  events = λ g s at now whole. quiet (clock g s at now) refl;
 }
 
 pub lawful-delay : IsLawful delay
 lawful-delay = record {
   few_deeds = λ g s at now. omega arith;
   one_event = λ g s at now. omega arith;
-  glyphs = λ g s at now whole is_glyph cells vars. (tt, (tt, (tt, (IsGlyph-banged _, tt))));
+  glyphs = λ g s at now whole is_glyph. (tt, (tt, (tt, (IsGlyph-banged _, tt))));
   covered = λ g s at now. (tt, (tt, (tt, (inr (inr (inr (inl (refl, refl)))), tt))));
-  events = λ g s at now whole cells. quiet (delay g s at now) refl;
+  events = λ g s at now whole. quiet (delay g s at now) refl;
 }
 
 pub lawful-if_equal : IsLawful if_equal
 lawful-if_equal = record {
   few_deeds = λ g s at now. omega arith;
   one_event = λ g s at now. omega arith;
-  glyphs = λ g s at now whole is_glyph cells vars. (tt, (tt, (tt, (IsGlyph-banged _, tt))));
+  glyphs = λ g s at now whole is_glyph. (tt, (tt, (tt, (IsGlyph-banged _, tt))));
   covered = λ g s at now. (tt, (tt, (tt, (inr (inr (inr (inl (refl, refl)))), tt))));
-  events = λ g s at now whole cells. quiet (if_equal g s at now) refl;
+  events = λ g s at now whole. quiet (if_equal g s at now) refl;
 }
 
 pub lawful-increment : IsLawful increment
 lawful-increment = record {
   few_deeds = λ g s at now. omega arith;
   one_event = λ g s at now. omega arith;
-  glyphs = λ g s at now whole is_glyph cells vars. (tt, (tt, (tt, (tt, (IsGlyph-cased _ _ (mod_value-below _ _ BASE (omega arith) (omega arith)), tt)))));
+  glyphs = λ g s at now whole is_glyph. (tt, (tt, (tt, (tt, (IsGlyph-cased _ _ (mod_value-below _ _ BASE (omega arith) (omega arith)), tt)))));
   covered = λ g s at now. (tt, (tt, (tt, (tt, (inr (inr (inr (inl (refl, refl)))), tt)))));
-  events = λ g s at now whole cells. quiet (increment g s at now) refl;
+  events = λ g s at now whole. quiet (increment g s at now) refl;
 }
 
 IsGlyph-least : (missing : Bool) (by a b : ℕ) → IsGlyph (if missing then empty else cased (min (value a) (value b)) by)
@@ -89,43 +90,43 @@ pub lawful-lesser : IsLawful lesser
 lawful-lesser = record {
   few_deeds = λ g s at now. omega arith;
   one_event = λ g s at now. omega arith;
-  glyphs = λ g s at now whole is_glyph cells vars. (tt, (tt, (tt, (IsGlyph-least _ _ (peek s (left at)) (peek s (right at)), tt))));
+  glyphs = λ g s at now whole is_glyph. (tt, (tt, (tt, (IsGlyph-least _ _ (peek s (left at 1)) (peek s (right at 1)), tt))));
   covered = λ g s at now. (tt, (tt, (tt, (inr (inr (inr (inl (refl, refl)))), tt))));
-  events = λ g s at now whole cells. quiet (lesser g s at now) refl;
+  events = λ g s at now whole. quiet (lesser g s at now) refl;
 }
 
 pub lawful-multiply : IsLawful multiply
 lawful-multiply = record {
   few_deeds = λ g s at now. omega arith;
   one_event = λ g s at now. omega arith;
-  glyphs = λ g s at now whole is_glyph cells vars. (tt, (tt, (tt, (IsGlyph-cased _ _ (omega arith), tt))));
+  glyphs = λ g s at now whole is_glyph. (tt, (tt, (tt, (IsGlyph-cased _ _ (omega arith), tt))));
   covered = λ g s at now. (tt, (tt, (tt, (inr (inr (inr (inl (refl, refl)))), tt))));
-  events = λ g s at now whole cells. quiet (multiply g s at now) refl;
+  events = λ g s at now whole. quiet (multiply g s at now) refl;
 }
 
 pub lawful-random : IsLawful random
 lawful-random = record {
   few_deeds = λ g s at now. omega arith;
   one_event = λ g s at now. omega arith;
-  glyphs = λ g s at now whole is_glyph cells vars. (tt, (tt, (tt, (IsGlyph-cased _ _ (random_between-below _ _ _ (value-below _) (value_or-range (peek s (right at)) BASE).0), tt))));
+  glyphs = λ g s at now whole is_glyph. (tt, (tt, (tt, (IsGlyph-cased _ _ (random_between-below _ _ _ (value-below _) (value_or-range (peek s (right at 1)) BASE).0), tt))));
   covered = λ g s at now. (tt, (tt, (tt, (inr (inr (inr (inl (refl, refl)))), tt))));
-  events = λ g s at now whole cells. quiet (random g s at now) refl;
+  events = λ g s at now whole. quiet (random g s at now) refl;
 }
 
 pub lawful-uclid : IsLawful uclid
 lawful-uclid = record {
   few_deeds = λ g s at now. omega arith;
   one_event = λ g s at now. omega arith;
-  glyphs = λ g s at now whole is_glyph cells vars. (tt, (tt, (tt, (IsGlyph-banged _, tt))));
+  glyphs = λ g s at now whole is_glyph. (tt, (tt, (tt, (IsGlyph-banged _, tt))));
   covered = λ g s at now. (tt, (tt, (tt, (inr (inr (inr (inl (refl, refl)))), tt))));
-  events = λ g s at now whole cells. quiet (uclid g s at now) refl;
+  events = λ g s at now whole. quiet (uclid g s at now) refl;
 }
 
 pub lawful-lerp : IsLawful lerp
 lawful-lerp = record {
   few_deeds = λ g s at now. omega arith;
   one_event = λ g s at now. omega arith;
-  glyphs = λ g s at now whole is_glyph cells vars. (tt, (tt, (tt, (tt, (IsGlyph-cased _ _ (lerped-below _ _ _ (value-below _) (value-below _)), tt)))));
+  glyphs = λ g s at now whole is_glyph. (tt, (tt, (tt, (tt, (IsGlyph-cased _ _ (lerped-below _ _ _ (value-below _) (value-below _)), tt)))));
   covered = λ g s at now. (tt, (tt, (tt, (tt, (inr (inr (inr (inl (refl, refl)))), tt)))));
-  events = λ g s at now whole cells. quiet (lerp g s at now) refl;
+  events = λ g s at now whole. quiet (lerp g s at now) refl;
 }

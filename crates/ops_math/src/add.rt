@@ -30,10 +30,10 @@ impl Operator for Add {
         _now: Now,
         steps: &mut Steps<L>,
     ) {
-        let a = bench.peek(at.off(0, -1), steps);
-        let b = bench.peek(at.off(0, 1), steps);
+        let a = bench.peek(at.left(1), steps);
+        let b = bench.peek(at.right(1), steps);
         let sum = (a.value() + b.value()) % BASE;
         ports::mark(bench, at, steps);
-        bench.write(at.off(1, 0), Glyph::cased(sum, b), steps);
+        bench.write(at.below(), Glyph::cased(sum, b), steps);
     }
 }

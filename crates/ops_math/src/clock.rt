@@ -30,10 +30,10 @@ impl Operator for Clock {
         now: Now,
         steps: &mut Steps<L>,
     ) {
-        let rate = bench.peek(at.off(0, -1), steps);
-        let modulus = bench.peek(at.off(0, 1), steps);
+        let rate = bench.peek(at.left(1), steps);
+        let modulus = bench.peek(at.right(1), steps);
         let value = now.tick / u32::from(value_or(rate, 1)) % u32::from(value_or(modulus, 8));
         ports::mark(bench, at, steps);
-        bench.write(at.off(1, 0), Glyph::cased(value as u8, modulus), steps);
+        bench.write(at.below(), Glyph::cased(value as u8, modulus), steps);
     }
 }

@@ -31,8 +31,8 @@ impl Operator for Delay {
         now: Now,
         steps: &mut Steps<L>,
     ) {
-        let rate = bench.peek(at.off(0, -1), steps);
-        let modulus = bench.peek(at.off(0, 1), steps);
+        let rate = bench.peek(at.left(1), steps);
+        let modulus = bench.peek(at.right(1), steps);
         let period = u32::from(value_or(rate, 1)) * u32::from(value_or(modulus, 8));
         let output = if now.tick % period == 0 {
             Glyph::BANG
@@ -40,6 +40,6 @@ impl Operator for Delay {
             Glyph::EMPTY
         };
         ports::mark(bench, at, steps);
-        bench.write(at.off(1, 0), output, steps);
+        bench.write(at.below(), output, steps);
     }
 }

@@ -30,10 +30,10 @@ impl Operator for IfEqual {
         _now: Now,
         steps: &mut Steps<L>,
     ) {
-        let a = bench.peek(at.off(0, -1), steps);
-        let b = bench.peek(at.off(0, 1), steps);
+        let a = bench.peek(at.left(1), steps);
+        let b = bench.peek(at.right(1), steps);
         let output = if a == b { Glyph::BANG } else { Glyph::EMPTY };
         ports::mark(bench, at, steps);
-        bench.write(at.off(1, 0), output, steps);
+        bench.write(at.below(), output, steps);
     }
 }

@@ -31,12 +31,12 @@ impl Operator for Increment {
         _now: Now,
         steps: &mut Steps<L>,
     ) {
-        let step = bench.peek(at.off(0, -1), steps);
-        let modulus = bench.peek(at.off(0, 1), steps);
-        let current = bench.peek(at.off(1, 0), steps);
+        let step = bench.peek(at.left(1), steps);
+        let modulus = bench.peek(at.right(1), steps);
+        let current = bench.peek(at.below(), steps);
         let value = (current.value() + rate_of(step)) % value_or(modulus, BASE);
         ports::mark(bench, at, steps);
-        bench.input(at.off(1, 0), steps);
-        bench.write(at.off(1, 0), Glyph::cased(value, modulus), steps);
+        bench.input(at.below(), steps);
+        bench.write(at.below(), Glyph::cased(value, modulus), steps);
     }
 }

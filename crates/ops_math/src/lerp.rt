@@ -33,13 +33,13 @@ impl Operator for Lerp {
         _now: Now,
         steps: &mut Steps<L>,
     ) {
-        let rate = bench.peek(at.off(0, -1), steps);
-        let target = bench.peek(at.off(0, 1), steps);
-        let current = bench.peek(at.off(1, 0), steps);
+        let rate = bench.peek(at.left(1), steps);
+        let target = bench.peek(at.right(1), steps);
+        let current = bench.peek(at.below(), steps);
         let value = lerped(current.value(), rate_of(rate), target.value());
         ports::mark(bench, at, steps);
-        bench.input(at.off(1, 0), steps);
-        bench.write(at.off(1, 0), Glyph::cased(value, target), steps);
+        bench.input(at.below(), steps);
+        bench.write(at.below(), Glyph::cased(value, target), steps);
     }
 }
 

@@ -30,10 +30,10 @@ impl Operator for Multiply {
         _now: Now,
         steps: &mut Steps<L>,
     ) {
-        let a = bench.peek(at.off(0, -1), steps);
-        let b = bench.peek(at.off(0, 1), steps);
+        let a = bench.peek(at.left(1), steps);
+        let b = bench.peek(at.right(1), steps);
         let product = u16::from(a.value()) * u16::from(b.value()) % u16::from(BASE);
         ports::mark(bench, at, steps);
-        bench.write(at.off(1, 0), Glyph::cased(product as u8, b), steps);
+        bench.write(at.below(), Glyph::cased(product as u8, b), steps);
     }
 }

@@ -37,12 +37,12 @@ impl Operator for Random {
         now: Now,
         steps: &mut Steps<L>,
     ) {
-        let min = bench.peek(at.off(0, -1), steps);
-        let max = bench.peek(at.off(0, 1), steps);
+        let min = bench.peek(at.left(1), steps);
+        let max = bench.peek(at.right(1), steps);
         let word = word_at(bench.dims(), at, now);
         let value = random_between(min.value(), value_or(max, BASE), word);
         ports::mark(bench, at, steps);
-        bench.write(at.off(1, 0), Glyph::cased(value, max), steps);
+        bench.write(at.below(), Glyph::cased(value, max), steps);
     }
 }
 

@@ -29,10 +29,10 @@ impl Operator for Subtract {
         _now: Now,
         steps: &mut Steps<L>,
     ) {
-        let a = bench.peek(at.off(0, -1), steps);
-        let b = bench.peek(at.off(0, 1), steps);
+        let a = bench.peek(at.left(1), steps);
+        let b = bench.peek(at.right(1), steps);
         let distance = a.value().abs_diff(b.value());
         ports::mark(bench, at, steps);
-        bench.write(at.off(1, 0), Glyph::cased(distance, b), steps);
+        bench.write(at.below(), Glyph::cased(distance, b), steps);
     }
 }

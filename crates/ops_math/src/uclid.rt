@@ -30,8 +30,8 @@ impl Operator for Uclid {
         now: Now,
         steps: &mut Steps<L>,
     ) {
-        let step = bench.peek(at.off(0, -1), steps);
-        let max = bench.peek(at.off(0, 1), steps);
+        let step = bench.peek(at.left(1), steps);
+        let max = bench.peek(at.right(1), steps);
         let n = u64::from(rate_of(step));
         let m = u64::from(value_or(max, 8));
         let bucket = n * (u64::from(now.tick) + m - 1) % m + n;
@@ -41,6 +41,6 @@ impl Operator for Uclid {
             Glyph::EMPTY
         };
         ports::mark(bench, at, steps);
-        bench.write(at.off(1, 0), output, steps);
+        bench.write(at.below(), output, steps);
     }
 }

@@ -4,21 +4,22 @@ use Rattle.std.proofs.Common.{arith, ap}
 use Rattle.orca_base.specs.declared.limits.TheConstants.{COMMENT_REACH, JUMP_REACH}
 use Rattle.orca_base.specs.declared.place.Place.{Place}
 use Rattle.orca_base.specs.declared.place.Spot.{Spot}
-use Rattle.orca_op.specs.State.{State, peek, across}
+use Rattle.orca_op.specs.State.{State, peek}
+use Rattle.orca_base.specs.Grids.{right}
 use Rattle.orca_op.specs.Deeds.{Write, input_at, output_at}
-use Rattle.orca_op.specs.Desk.{Desk, done, all_done}
-use Rattle.orca_op.specs.LawFacts.{all_done-append}
+use Rattle.orca_op.specs.Desk.{Desk, desk_after, desk_after_all}
+use Rattle.orca_op.specs.LawFacts.{desk_after_all-append}
 use Rattle.orca_op.specs.FirstFacts.{first_where-found, first_where-missing}
-use Rattle.orca_op.specs.MotionRules.{hash, comment_length, chain_end, asleep, jump}
+use Rattle.orca_op.specs.MotionRules.{hash, comment_length, chain_end, sleep_deeds, jump}
 
 -- the first `#` ends the comment
-pub comment_length-found : (s : State) (at : Place) (i : ℕ) → 1 ≤ i → i ≤ COMMENT_REACH → ((k : ℕ) → 1 ≤ k → k < i → (peek s (across at k) == hash) ≡ false) → (peek s (across at i) == hash) ≡ true → comment_length s at ≡ i
+pub comment_length-found : (s : State) (at : Place) (i : ℕ) → 1 ≤ i → i ≤ COMMENT_REACH → ((k : ℕ) → 1 ≤ k → k < i → (peek s (right at k) == hash) ≡ false) → (peek s (right at i) == hash) ≡ true → comment_length s at ≡ i
 unfolding comment_length
 comment_length-found s at i low high before here =
     ap (λ (first : Option ℕ). unwrap_or first COMMENT_REACH) (first_where-found _ 1 COMMENT_REACH i low (omega arith) before here)
 
 -- with no `#` the comment has its whole reach
-pub comment_length-missing : (s : State) (at : Place) → ((k : ℕ) → 1 ≤ k → k < 1 + COMMENT_REACH → (peek s (across at k) == hash) ≡ false) → comment_length s at ≡ COMMENT_REACH
+pub comment_length-missing : (s : State) (at : Place) → ((k : ℕ) → 1 ≤ k → k < 1 + COMMENT_REACH → (peek s (right at k) == hash) ≡ false) → comment_length s at ≡ COMMENT_REACH
 unfolding comment_length
 comment_length-missing s at before =
     ap (λ (first : Option ℕ). unwrap_or first COMMENT_REACH) (first_where-missing _ 1 COMMENT_REACH before)
@@ -34,8 +35,8 @@ unfolding chain_end
 chain_end-missing g s beyond before = first_where-missing _ 1 JUMP_REACH before
 
 -- the deeds of a jumper that acts, one after another
-pub jump-done : (d : Desk) (g : ℕ) (source : Spot) (beyond : ℕ → Spot) (i : ℕ) → (peek d.scan source == g) ≡ false → chain_end g d.scan beyond ≡ Some i
-    → all_done d (jump g d.scan source beyond) ≡ done (done (all_done (done d (input_at source)) (asleep beyond (i - 1))) (output_at (beyond i))) (Write (beyond i) (peek d.scan source))
+pub jump-desk_after : (d : Desk) (g : ℕ) (source : Spot) (beyond : ℕ → Spot) (i : ℕ) → (peek d.scan source == g) ≡ false → chain_end g d.scan beyond ≡ Some i
+    → desk_after_all d (jump g d.scan source beyond) ≡ desk_after (desk_after (desk_after_all (desk_after d (input_at source)) (sleep_deeds beyond (i - 1))) (output_at (beyond i))) (Write (beyond i) (peek d.scan source))
 unfolding jump
-jump-done d g source beyond i first end =
-    rw (first, end) (all_done-append (done d (input_at source)) (asleep beyond (i - 1)) (output_at (beyond i) ∷ Write (beyond i) (peek d.scan source) ∷ []))
+jump-desk_after d g source beyond i first end =
+    rw (first, end) (desk_after_all-append (desk_after d (input_at source)) (sleep_deeds beyond (i - 1)) (output_at (beyond i) ∷ Write (beyond i) (peek d.scan source) ∷ []))

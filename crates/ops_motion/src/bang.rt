@@ -32,6 +32,6 @@ impl Operator for Bang {
         _now: Now,
         steps: &mut Steps<L>,
     ) {
-        bench.write(at.off(0, 0), Glyph::EMPTY, steps);
+        bench.write(at.here(), Glyph::EMPTY, steps);
     }
 }

@@ -1,6 +1,6 @@
 ghost use Rattle.std.specs.Prelude.{◌≡◌, ◌+◌, ◌*◌, ◌≤◌, IfSome};
-ghost use Rattle.orca_op.specs.Desk.{all_done};
-ghost use Rattle.orca_op.specs.MotionRules.{chain_end, jump, asleep};
+ghost use Rattle.orca_op.specs.Desk.{desk_after_all};
+ghost use Rattle.orca_op.specs.MotionRules.{chain_end, jump, sleep_deeds};
 ghost use Rattle.ops_motion.specs.Ways.{source_on, beyond_on};
 
 use crate::way::Way;
@@ -19,7 +19,7 @@ pub(crate) fn jump<B: Bench, L: Ledger>(
     way: Way,
     steps: &mut Steps<L>,
 )
-    ensures deeds { B.desk bench.new ≡ all_done (B.desk bench.old) (jump glyph (B.desk bench.old).scan (source_on way at) (beyond_on way at)) }
+    ensures deeds { B.desk bench.new ≡ desk_after_all (B.desk bench.old) (jump glyph (B.desk bench.old).scan (source_on way at) (beyond_on way at)) }
     ensures ticks { steps.new ≤ steps.old + (2 * JUMP_REACH + 3) }
     ensures later { steps.old ≤ steps.new }
 {
@@ -65,7 +65,7 @@ fn sleep_chain<B: Bench, L: Ledger>(
     places: u16,
     steps: &mut Steps<L>,
 )
-    ensures deeds { B.desk bench.new ≡ all_done (B.desk bench.old) (asleep (beyond_on way at) places) }
+    ensures deeds { B.desk bench.new ≡ desk_after_all (B.desk bench.old) (sleep_deeds (beyond_on way at) places) }
     ensures ticks { steps.new ≡ steps.old + places }
 {
     for passed in 0..places {

@@ -1,7 +1,7 @@
 ghost use Rattle.std.specs.Prelude.{◌≡◌, ◌+◌, ◌≤◌};
-ghost use Rattle.orca_op.specs.Desk.{all_done};
+ghost use Rattle.orca_op.specs.Desk.{desk_after_all};
 ghost use Rattle.orca_op.specs.declared.kind.Kind.TheVariants.{Comment as comment_kind};
-ghost use Rattle.orca_op.specs.MotionRules.{comment_length, locked};
+ghost use Rattle.orca_op.specs.MotionRules.{comment_length, lock_deeds};
 ghost use Rattle.ops_motion.specs.MotionLaws.{lawful-comment};
 
 use orca_base::limits::COMMENT_REACH;
@@ -47,7 +47,7 @@ fn comment_length<B: Bench, L: Ledger>(bench: &B, at: Place, steps: &mut Steps<L
     // Beyond the edge stands no `#`.
     let room = bench.dims().w.saturating_sub(at.x);
     for column in 1..room.min(COMMENT_REACH + 1) {
-        if bench.peek(at.off(0, i32::from(column)), steps).byte() == b'#' {
+        if bench.peek(at.right(column), steps).byte() == b'#' {
             return column;
         }
     }
@@ -56,13 +56,13 @@ fn comment_length<B: Bench, L: Ledger>(bench: &B, at: Place, steps: &mut Steps<L
 
 /// Locks `length` places at the right.
 fn lock_line<B: Bench, L: Ledger>(bench: &mut B, at: Place, length: u16, steps: &mut Steps<L>)
-    ensures deeds { B.desk bench.new ≡ all_done (B.desk bench.old) (locked at length) }
+    ensures deeds { B.desk bench.new ≡ desk_after_all (B.desk bench.old) (lock_deeds at length) }
     ensures ticks { steps.new ≤ steps.old + length }
     ensures later { steps.old ≤ steps.new }
 {
     // Locks beyond the edge do nothing.
     let room = bench.dims().w.saturating_sub(at.x).saturating_sub(1);
     for column in 0..length.min(room) {
-        bench.lock(at.off(0, i32::from(column) + 1), steps);
+        bench.lock(at.right(column + 1), steps);
     }
 }

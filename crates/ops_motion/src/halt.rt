@@ -28,6 +28,6 @@ impl Operator for Halt {
         _now: Now,
         steps: &mut Steps<L>,
     ) {
-        bench.param(at.off(1, 0), steps);
+        bench.param(at.below(), steps);
     }
 }

@@ -1,5 +1,5 @@
 ghost use Rattle.std.specs.Prelude.{◌≡◌, ◌+◌, ◌≤◌};
-ghost use Rattle.orca_op.specs.Desk.{all_done};
+ghost use Rattle.orca_op.specs.Desk.{desk_after_all};
 ghost use Rattle.orca_op.specs.MotionRules.{move_to};
 
 use orca_base::{Glyph, Place, Spot, Steps};
@@ -15,7 +15,7 @@ pub(crate) fn move_to<B: Bench, L: Ledger>(
     target: Spot,
     steps: &mut Steps<L>,
 )
-    ensures deeds { B.desk bench.new ≡ all_done (B.desk bench.old) (move_to glyph (B.desk bench.old).scan at target) }
+    ensures deeds { B.desk bench.new ≡ desk_after_all (B.desk bench.old) (move_to glyph (B.desk bench.old).scan at target) }
     ensures ticks { steps.new ≤ steps.old + 4 }
     ensures later { steps.old ≤ steps.new }
 {
@@ -23,8 +23,8 @@ pub(crate) fn move_to<B: Bench, L: Ledger>(
     if bench.dims().holds(target).is_some() && ahead == Glyph::EMPTY {
         bench.sleep(target, steps);
         bench.write(target, glyph, steps);
-        bench.write(at.off(0, 0), Glyph::EMPTY, steps);
+        bench.write(at.here(), Glyph::EMPTY, steps);
     } else {
-        bench.write(at.off(0, 0), Glyph::BANG, steps);
+        bench.write(at.here(), Glyph::BANG, steps);
     }
 }

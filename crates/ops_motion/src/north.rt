@@ -29,6 +29,6 @@ impl Operator for North {
         _now: Now,
         steps: &mut Steps<L>,
     ) {
-        move_to(bench, at, glyph, at.off(-1, 0), steps);
+        move_to(bench, at, glyph, at.above(), steps);
     }
 }

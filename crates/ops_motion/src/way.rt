@@ -18,8 +18,8 @@ impl Way {
         ensures { result ≡ source_on self at }
     {
         match self {
-            Way::Down => at.off(-1, 0),
-            Way::Right => at.off(0, -1),
+            Way::Down => at.above(),
+            Way::Right => at.left(1),
         }
     }
 
@@ -28,8 +28,8 @@ impl Way {
         ensures { result ≡ beyond_on self at places }
     {
         match self {
-            Way::Down => at.off(i32::from(places), 0),
-            Way::Right => at.off(0, i32::from(places)),
+            Way::Down => at.down(places),
+            Way::Right => at.right(places),
         }
     }
 }

@@ -30,6 +30,6 @@ impl Operator for West {
         _now: Now,
         steps: &mut Steps<L>,
     ) {
-        move_to(bench, at, glyph, at.off(0, -1), steps);
+        move_to(bench, at, glyph, at.left(1), steps);
     }
 }

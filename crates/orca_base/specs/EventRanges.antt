@@ -1,9 +1,9 @@
 -- The ranges of the events that operators send.
-use Rattle.std.specs.Prelude.{ℕ, List, ◌<◌, ◌≤◌, length, All}
+use Rattle.std.specs.Prelude.{ℕ, List, ◌<◌, ◌≤◌, ◌||◌, length, All, IsTrue}
 use Rattle.orca_base.specs.declared.limits.TheConstants.{BASE, MIN_VELOCITY, MAX_TEXT, MAX_VALUES}
 use Rattle.orca_base.specs.declared.event.Event.{Event}
 use Rattle.orca_base.specs.declared.event.Event.TheVariants as event
-use Rattle.orca_base.specs.Glyphs.{IsGlyph}
+use Rattle.orca_base.specs.Glyphs.{IsGlyph, is_digit, is_upper, is_lower}
 use Rattle.orca_base.specs.Ranges.{AreInRange, IsPlayable, HasFewValues}
 
 -- a note that starts with at least the least velocity, and sounds for 1 to 35 frames
@@ -19,16 +19,21 @@ pub record IsText (text : List ℕ) : Type 0 where
   pub short : length text ≤ MAX_TEXT
   pub glyphs : All IsGlyph text
 
--- an address that is a glyph, and no more values than fit, each of base 36
+-- a channel, the number of a controller, which is a value of base 36, and its value
+pub record IsControl (channel control amount : ℕ) : Type 0 where
+  pub numbers : AreInRange channel control amount
+  pub low : control < BASE
+
+-- an address that is a letter or a digit, and no more values than fit, each of base 36
 pub record IsOsc (path : ℕ) (values : List ℕ) : Type 0 where
-  pub glyph : IsGlyph path
+  pub named : IsTrue (is_digit path || is_upper path || is_lower path)
   pub few : length values ≤ MAX_VALUES
   pub low : All (λ value. value < BASE) values
 
 -- an event in range
 abbrev pub IsInRange : Event → Type 0
 IsInRange (event.Note channel key velocity frames mono) = IsNote channel key velocity frames
-IsInRange (event.Control channel control value) = AreInRange channel control value
+IsInRange (event.Control channel control value) = IsControl channel control value
 IsInRange (event.Bend channel lsb msb) = AreInRange channel lsb msb
 IsInRange (event.Udp text) = IsText text
 IsInRange (event.Osc path values) = IsOsc path values
@@ -36,7 +41,7 @@ IsInRange (event.Osc path values) = IsOsc path values
 -- an event in range can be played
 pub IsPlayable-in_range : (e : Event) → IsInRange e → IsPlayable e
 IsPlayable-in_range (event.Note channel key velocity frames mono) range = (range.numbers, range.loud)
-IsPlayable-in_range (event.Control channel control value) range = range
+IsPlayable-in_range (event.Control channel control value) range = range.numbers
 IsPlayable-in_range (event.Bend channel lsb msb) range = range
 IsPlayable-in_range (event.Udp text) range = tt
 IsPlayable-in_range (event.Osc path values) range = tt

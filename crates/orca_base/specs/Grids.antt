@@ -60,15 +60,18 @@ IsReach d = (neg_ℤ MAX_REACH ≤ℤ d) × (d ≤ℤ MAX_REACH)
 abbrev pub off : Place → ℤ → ℤ → Spot
 off at dy dx = record { y = pos at.y +ℤ dy; x = pos at.x +ℤ dx }
 
--- a place as a spot, the spots above and below it, and those n columns to the left and to the right
+-- a place as a spot, the spot above it, those n rows below, and those n columns to the left and to the right
 abbrev pub here : Place → Spot
 here at = off at (pos 0) (pos 0)
 
 abbrev pub above : Place → Spot
 above at = off at (negsuc 0) (pos 0)
 
+abbrev pub down : Place → ℕ → Spot
+down at n = off at (pos n) (pos 0)
+
 abbrev pub below : Place → Spot
-below at = off at (pos 1) (pos 0)
+below at = down at 1
 
 abbrev pub left : Place → ℕ → Spot
 left at n = off at (pos 0) (neg_ℤ (pos n))

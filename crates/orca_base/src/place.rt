@@ -19,7 +19,7 @@ pub struct Spot {
 }
 
 impl Place {
-    ghost use Rattle.orca_base.specs.Grids.{off, here, above, below, left, right, IsReach};
+    ghost use Rattle.orca_base.specs.Grids.{off, here, above, down, below, left, right, IsReach};
 
     /// The spot `dy` rows below and `dx` columns to the right. Neither reaches further than
     /// [`MAX_REACH`](crate::limits::MAX_REACH), to either side.
@@ -45,6 +45,13 @@ impl Place {
         ensures { result ≡ above self }
     {
         self.off(-1, 0)
+    }
+
+    /// The spot `rows` below.
+    pub fn down(self, rows: u16) -> Spot
+        ensures { result ≡ down self rows }
+    {
+        self.off(i32::from(rows), 0)
     }
 
     /// The spot below.

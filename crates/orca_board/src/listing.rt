@@ -1,6 +1,6 @@
 ghost use Rattle.std.specs.Prelude.{◌≡◌, ℕ, ◌&&◌, not, false, [], length, slice_index_or, All, IfOk, Some};
 ghost use Rattle.orca_base.specs.Grids.{IsInside};
-ghost use Rattle.orca_op.specs.Desk.{listed_with};
+ghost use Rattle.orca_op.specs.Desk.{list_with};
 ghost use Rattle.orca_board.specs.Listing.{has_number};
 
 use orca_base::limits::MAX_CELLS;
@@ -51,7 +51,7 @@ impl Listing {
 
     /// Lists a place, where it lay in the grid at the last `begin` and isn't listed yet.
     pub fn add(&mut self, at: Place)
-        ensures { self.new ≡ record self.old { places = listed_with self.old.began self.old.places (Some at) } }
+        ensures { self.new ≡ record self.old { places = list_with self.old.began self.old.places (Some at) } }
     {
         if at.y >= self.began.h || at.x >= self.began.w {
             return;

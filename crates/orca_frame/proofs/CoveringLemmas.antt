@@ -12,11 +12,12 @@ use Rattle.orca_base.specs.declared.place.Spot.{Spot}
 use Rattle.orca_base.specs.Glyphs.{is_operator, needs_bang}
 use Rattle.orca_base.specs.Grids.{Size, Sheet, IsSheet, IsInside, place_of, place_in, index_of}
 use Rattle.orca_base.specs.MarkSet.{MarkSet, no_marks, all_marks}
-use Rattle.orca_op.specs.State.{State, glyph_at, marks_at, has_bang, own}
-use Rattle.orca_op.specs.Deeds.{Deed, Mark as mark_deed, Write, Set, Emit, after, after_all, marked_at, written_at}
+use Rattle.orca_op.specs.State.{State, glyph_at, marks_at, has_bang}
+use Rattle.orca_base.specs.Grids.{here}
+use Rattle.orca_op.specs.Deeds.{Deed, Mark as mark_deed, Write, Set, Emit, after, after_all, marks_after, cells_after}
 use Rattle.orca_op.specs.Laws.{IsLawful, Every, AnyDeed, Covers, IsCovered}
 use Rattle.orca_op.specs.OwnPlace.{place_in_own}
-use Rattle.orca_op.specs.Scan.{Rules, deeds_by, is_idle, scanned_by, places}
+use Rattle.orca_op.specs.Scan.{Rules, visit_deeds, is_idle, state_after_places, places}
 use Rattle.orca_frame.specs.Covering.{IsCovering}
 use Rattle.orca_frame.proofs.DeskLemmas.{dims_scanned}
 use Rattle.orca_frame.proofs.MarkLemmas.{marks_of, or_left, or_right, marks_of-after_all}
@@ -46,7 +47,7 @@ StillsAt d j (Set variable glyph) = ⊥
 StillsAt d j (Emit event) = ⊥
 
 -- a place of another number keeps its glyph
-written_other : (s : State) (at : Option Place) (glyph j : ℕ) → (slice_index (written_at s at glyph) j ≡ slice_index s.cells j) ⊎ IsAt s.dims j at
+written_other : (s : State) (at : Option Place) (glyph j : ℕ) → (slice_index (cells_after s at glyph) j ≡ slice_index s.cells j) ⊎ IsAt s.dims j at
 written_other s None glyph j = inl refl
 written_other s (Some at) glyph j =
     elim (eqb_tells j (index_of s.dims at)) [
@@ -83,12 +84,12 @@ covers_place d j spot (Set variable glyph ∷ deeds) here (inl covers) = absurd 
 covers_place d j spot (Emit event ∷ deeds) here (inl covers) = absurd covers
 covers_place d j spot (deed ∷ deeds) here (inr later) = inr (covers_place d j spot deeds here later)
 
-covered_write : (d : Size) (j : ℕ) (at : Place) (all : List Deed) (spot : Spot) → (spot ≡ own at) ⊎ AnyDeed (Covers spot) all → IsAt d j (place_in d spot) → IsAt d j (place_in d (own at)) ⊎ AnyDeed (StillsAt d j) all
+covered_write : (d : Size) (j : ℕ) (at : Place) (all : List Deed) (spot : Spot) → (spot ≡ here at) ⊎ AnyDeed (Covers spot) all → IsAt d j (place_in d spot) → IsAt d j (place_in d (here at)) ⊎ AnyDeed (StillsAt d j) all
 covered_write d j at all spot (inl itself) here = inl (subst (λ (p : Spot). IsAt d j (place_in d p)) itself here)
 covered_write d j at all spot (inr covers) here = inr (covers_place d j spot all here covers)
 
 -- where a deed writes a place, it is the visited one, or a deed locks it or puts it to sleep
-written_covered : (d : Size) (j : ℕ) (at : Place) (all deeds : List Deed) → Every (IsCovered at all) deeds → AnyDeed (WritesAt d j) deeds → IsAt d j (place_in d (own at)) ⊎ AnyDeed (StillsAt d j) all
+written_covered : (d : Size) (j : ℕ) (at : Place) (all deeds : List Deed) → Every (IsCovered at all) deeds → AnyDeed (WritesAt d j) deeds → IsAt d j (place_in d (here at)) ⊎ AnyDeed (StillsAt d j) all
 written_covered d j at all [] covered some = absurd some
 written_covered d j at all (mark_deed spot m ∷ deeds) covered (inl writes) = absurd writes
 written_covered d j at all (Write spot glyph ∷ deeds) covered (inl writes) = covered_write d j at all spot covered.0 writes
@@ -108,10 +109,10 @@ still_after_all s deeds j still =
 all_still : (m k : MarkSet) → IsTrue (k.lock || k.sleep) → IsTrue ((all_marks m k).lock || (all_marks m k).sleep)
 all_still m k still = either_grows k.lock k.sleep _ _ (or_right m.lock k.lock) (or_right m.sleep k.sleep) still
 
-still_marked : (s : State) (at : Option Place) (m : MarkSet) (j : ℕ) → j < length s.marks → IsAt s.dims j at → IsTrue (m.lock || m.sleep) → IsTrue ((marks_of (marked_at s at m) j).lock || (marks_of (marked_at s at m) j).sleep)
+still_marked : (s : State) (at : Option Place) (m : MarkSet) (j : ℕ) → j < length s.marks → IsAt s.dims j at → IsTrue (m.lock || m.sleep) → IsTrue ((marks_of (marks_after s at m) j).lock || (marks_of (marks_after s at m) j).sleep)
 still_marked s None m j below here still = absurd here
 still_marked s (Some at) m j below here still =
-    let now_there : marks_of (marked_at s (Some at) m) j ≡ all_marks (marks_at s at) m =
+    let now_there : marks_of (marks_after s (Some at) m) j ≡ all_marks (marks_at s at) m =
     subst (λ (i : ℕ). marks_of (set s.marks (index_of s.dims at) (all_marks (marks_at s at) m)) i ≡ all_marks (marks_at s at) m) here
     (get_or-set_same s.marks (index_of s.dims at) (all_marks (marks_at s at) m) no_marks (rw here below)) in
     subst (λ (k : MarkSet). IsTrue (k.lock || k.sleep)) (sym now_there) (all_still (marks_at s at) m still)
@@ -139,18 +140,18 @@ length_marks-after_all s (Write at glyph ∷ deeds) = length_marks-after_all (af
 length_marks-after_all s (Set variable glyph ∷ deeds) = length_marks-after_all (after s (Set variable glyph)) deeds
 length_marks-after_all s (Emit event ∷ deeds) = length_marks-after_all (after s (Emit event)) deeds
 
-length_marks-scanned : (rules : Rules) (n : ℕ) (g : Sheet) (now : Now) → length (scanned_by rules n g now).marks ≡ places g
+length_marks-scanned : (rules : Rules) (n : ℕ) (g : Sheet) (now : Now) → length (state_after_places rules n g now).marks ≡ places g
 length_marks-scanned rules zero g now = length-replicate (places g) no_marks
 length_marks-scanned rules (suc n) g now =
-    length_marks-after_all (scanned_by rules n g now) (deeds_by rules (scanned_by rules n g now) (place_of g.dims n) now) ∙ length_marks-scanned rules n g now
+    length_marks-after_all (state_after_places rules n g now) (visit_deeds rules (state_after_places rules n g now) (place_of g.dims n) now) ∙ length_marks-scanned rules n g now
 
 -- each write of a visit is covered by the same visit
 covered_if : (at : Place) (idle : Bool) (deeds : List Deed) → Every (IsCovered at deeds) deeds → Every (IsCovered at (if idle then [] else deeds)) (if idle then [] else deeds)
 covered_if at true deeds all = tt
 covered_if at false deeds all = all
 
-covered_deeds : (rules : Rules) (s : State) (at : Place) (now : Now) → IsLawful rules → Every (IsCovered at (deeds_by rules s at now)) (deeds_by rules s at now)
-unfolding deeds_by
+covered_deeds : (rules : Rules) (s : State) (at : Place) (now : Now) → IsLawful rules → Every (IsCovered at (visit_deeds rules s at now)) (visit_deeds rules s at now)
+unfolding visit_deeds
 covered_deeds rules s at now lawful =
     covered_if at (is_idle s at) (rules (glyph_at s at) s at now) (lawful.covered (glyph_at s at) s at now)
 
@@ -169,23 +170,23 @@ kept_after g s deeds at j inside other below covered (inl still) = inl (still_af
 kept_after g s deeds at j inside other below covered (inr same) =
     elim (kept_or_written s deeds j) [
       | inl kept ↦ inr (kept ∙ same)
-      | inr written ↦ elim (written_covered s.dims j at deeds deeds covered written) [
+      | inr written_places ↦ elim (written_covered s.dims j at deeds deeds covered written_places) [
         | inl itself ↦ absurd (other (rw (place_in_own s.dims at inside) at itself))
         | inr stills ↦ inl (stilled s deeds j below stills)
       ]
     ]
 
 -- each place that the scan has not reached is kept
-kept_scanned : (rules : Rules) (n : ℕ) (g : Sheet) (now : Now) → IsLawful rules → IsSheet g → (j : ℕ) → n ≤ j → j < places g → IsKept g (scanned_by rules n g now) j
+kept_scanned : (rules : Rules) (n : ℕ) (g : Sheet) (now : Now) → IsLawful rules → IsSheet g → (j : ℕ) → n ≤ j → j < places g → IsKept g (state_after_places rules n g now) j
 unfolding IsKept
 kept_scanned rules zero g now lawful sheet j reached below = inr refl
 kept_scanned rules (suc n) g now lawful sheet j reached below =
-    let s = scanned_by rules n g now in
+    let s = state_after_places rules n g now in
     let at = place_of g.dims n in
     let same : s.dims ≡ g.dims = dims_scanned rules n g now in
     let inside : IsInside s.dims at = subst (λ (d : Size). IsInside d at) (sym same) (inside_place g.dims n sheet.size (omega arith)) in
     let number : index_of s.dims at ≡ n = subst (λ (d : Size). index_of d at ≡ n) (sym same) (index-place_of g.dims n) in
-    kept_after g s (deeds_by rules s at now) at j inside (λ itself. omega (arith, itself, number)) (omega (arith, length_marks-scanned rules n g now)) (covered_deeds rules s at now lawful)
+    kept_after g s (visit_deeds rules s at now) at j inside (λ itself. omega (arith, itself, number)) (omega (arith, length_marks-scanned rules n g now)) (covered_deeds rules s at now lawful)
     (kept_scanned rules n g now lawful sheet j (omega arith) below)
 
 free : (operator lock sleep waits : Bool) → (not operator || lock || sleep || waits) ≡ false → IsTrue (lock || sleep) → ⊥
@@ -207,7 +208,7 @@ kept_glyph g s at idle (inr same) = same
 
 pub covering : (rules : Rules) → IsLawful rules → IsCovering rules
 covering rules lawful g now n sheet below idle =
-    let s = scanned_by rules n g now in
+    let s = state_after_places rules n g now in
     let at = place_of g.dims n in
     let number : index_of s.dims at ≡ n = subst (λ (d : Size). index_of d at ≡ n) (sym (dims_scanned rules n g now)) (index-place_of g.dims n) in
     let kept : IsKept g s n = kept_scanned rules n g now lawful sheet n (omega arith) below in

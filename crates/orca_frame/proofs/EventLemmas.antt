@@ -8,7 +8,7 @@ use Rattle.orca_op.specs.State.{State, glyph_at}
 use Rattle.orca_op.specs.Deeds.{Deed, Mark, Write, Set, Emit, after, after_all}
 use Rattle.orca_op.specs.Laws.{IsLawful, is_emit}
 use Rattle.orca_op.specs.LawFacts.{count_by-append}
-use Rattle.orca_op.specs.Scan.{Rules, deeds_by, is_idle, scanned_by}
+use Rattle.orca_op.specs.Scan.{Rules, visit_deeds, is_idle, state_after_places}
 
 events_after : (s : State) (deed : Deed) → length (after s deed).events ≡ length s.events + count_by is_emit (deed ∷ [])
 unfolding after
@@ -26,17 +26,17 @@ events_if : (idle : Bool) (deeds : List Deed) → count_by is_emit deeds ≤ 1 �
 events_if true deeds one = omega arith
 events_if false deeds one = one
 
-events_deeds : (rules : Rules) (s : State) (at : Place) (now : Now) → IsLawful rules → count_by is_emit (deeds_by rules s at now) ≤ 1
-unfolding deeds_by
+events_deeds : (rules : Rules) (s : State) (at : Place) (now : Now) → IsLawful rules → count_by is_emit (visit_deeds rules s at now) ≤ 1
+unfolding visit_deeds
 events_deeds rules s at now lawful = events_if (is_idle s at) (rules (glyph_at s at) s at now) (lawful.one_event (glyph_at s at) s at now)
 
 -- at most one event for each place that was visited
-pub events_scanned : (rules : Rules) (n : ℕ) (g : Sheet) (now : Now) → IsLawful rules → length (scanned_by rules n g now).events ≤ n
+pub events_scanned : (rules : Rules) (n : ℕ) (g : Sheet) (now : Now) → IsLawful rules → length (state_after_places rules n g now).events ≤ n
 events_scanned rules zero g now lawful = omega arith
 events_scanned rules (suc n) g now lawful =
     omega (
       arith,
-      events_after_all (scanned_by rules n g now) (deeds_by rules (scanned_by rules n g now) (place_of g.dims n) now),
+      events_after_all (state_after_places rules n g now) (visit_deeds rules (state_after_places rules n g now) (place_of g.dims n) now),
       events_scanned rules n g now lawful,
-      events_deeds rules (scanned_by rules n g now) (place_of g.dims n) now lawful,
+      events_deeds rules (state_after_places rules n g now) (place_of g.dims n) now lawful,
     )

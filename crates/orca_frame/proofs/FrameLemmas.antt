@@ -6,12 +6,12 @@ use Rattle.orca_base.specs.declared.now.Now.{Now}
 use Rattle.orca_base.specs.declared.place.Place.{Place}
 use Rattle.orca_base.specs.EventRanges.{IsInRange}
 use Rattle.orca_base.specs.Grids.{Size, Sheet, IsSheet, IsInside, place_of}
-use Rattle.orca_op.specs.Desk.{HasRoom, Desk, all_done, residue}
+use Rattle.orca_op.specs.Desk.{HasRoom, Desk, desk_after_all, residue}
 use Rattle.orca_base.specs.Glyphs.{AreGlyphs, is_operator}
 use Rattle.orca_op.specs.Laws.{IsLawful}
 use Rattle.orca_op.specs.State.{State, IsState, sheet_of, glyph_at}
 use Rattle.orca_op.specs.Rules.{rule}
-use Rattle.orca_op.specs.Scan.{deeds_by, scanned_by, scan, written, busy, busy_of, places}
+use Rattle.orca_op.specs.Scan.{visit_deeds, state_after_places, scan, written_places, busy, busy_of, places}
 use Rattle.orca_frame.specs.Frames.{desk_after, looks, most_ticks}
 use Rattle.orca_frame.proofs.DeskLemmas.{dims_scanned, desk_suc}
 use Rattle.orca_frame.proofs.EventLemmas.{events_scanned}
@@ -35,23 +35,23 @@ room_desk d n g now dims is same lawful below =
     omega arith
 
 -- one visit more
-pub visit_desk : (d e : Desk) (n : ℕ) (g : Sheet) (now : Now) (dims : Size) (at : Place) → d ≡ desk_after n g now → dims ≡ g.dims → at ≡ place_of dims n → e ≡ all_done d (deeds_by rule d.scan at now) → e ≡ desk_after (n + 1) g now
+pub visit_desk : (d e : Desk) (n : ℕ) (g : Sheet) (now : Now) (dims : Size) (at : Place) → d ≡ desk_after n g now → dims ≡ g.dims → at ≡ place_of dims n → e ≡ desk_after_all d (visit_deeds rule d.scan at now) → e ≡ desk_after (n + 1) g now
 visit_desk d e n g now dims at is same place visited =
     let here : at ≡ place_of g.dims n = place ∙ ap (λ (s : Size). place_of s n) same in
     rw add-one (visited
-    ∙ (ap (λ (x : Desk). all_done x (deeds_by rule x.scan at now)) is
-    ∙ (ap (λ (p : Place). all_done (desk_after n g now) (deeds_by rule (scanned_by rule n g now) p now)) here
+    ∙ (ap (λ (x : Desk). desk_after_all x (visit_deeds rule x.scan at now)) is
+    ∙ (ap (λ (p : Place). desk_after_all (desk_after n g now) (visit_deeds rule (state_after_places rule n g now) p now)) here
     ∙ desk_suc n g now)))
 
 -- what a whole frame leaves
 pub record IsFramed (d : Desk) (g : Sheet) (now : Now) : Type 0 where
   pub scan : d.scan ≡ scan g now
   pub began : d.began ≡ g.dims
-  pub listed : d.listed ≡ written g now
+  pub listed : d.listed ≡ written_places g now
   pub residue : residue d ≤ MAX_DEEDS * busy g now
 
 framed_desk : (d : Desk) (g : Sheet) (now : Now) → d ≡ desk_after (places g) g now → IsLawful rule → IsFramed d g now
-unfolding scan written busy
+unfolding scan written_places busy
 framed_desk d g now is lawful = record {
   scan = ap (λ (e : Desk). e.scan) is;
   began = ap (λ (e : Desk). e.began) is;
@@ -82,8 +82,8 @@ pub ticks_more : (d : Desk) (n : ℕ) (g : Sheet) (now : Now) (dims : Size) (at 
     → after ≤ first + looks * (n + 1) + MAX_TICKS * busy_of (n + 1) g now
 ticks_more d n g now dims at first before after is same place so_far visited =
     let here : at ≡ place_of g.dims n = place ∙ ap (λ (s : Size). place_of s n) same in
-    let operator : glyph_at d.scan at ≡ glyph_at (scanned_by rule n g now) (place_of g.dims n) =
-    ap (λ (e : Desk). glyph_at e.scan at) is ∙ ap (λ (p : Place). glyph_at (scanned_by rule n g now) p) here in
+    let operator : glyph_at d.scan at ≡ glyph_at (state_after_places rule n g now) (place_of g.dims n) =
+    ap (λ (e : Desk). glyph_at e.scan at) is ∙ ap (λ (p : Place). glyph_at (state_after_places rule n g now) p) here in
     let looked = rw operator at visited in
     rw add-one (omega (arith, so_far, looked))
 

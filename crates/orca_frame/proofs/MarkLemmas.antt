@@ -9,8 +9,8 @@ use Rattle.orca_base.specs.declared.place.Place.{Place}
 use Rattle.orca_base.specs.Grids.{Size, Sheet, place_of, place_in, index_of}
 use Rattle.orca_base.specs.MarkSet.{MarkSet, no_marks, has_mark, all_marks}
 use Rattle.orca_op.specs.State.{State, marks_at}
-use Rattle.orca_op.specs.Deeds.{Deed, Mark as mark_deed, Write, Set, Emit, after, after_all, marked_at}
-use Rattle.orca_op.specs.Scan.{Rules, deeds_by, scanned_by}
+use Rattle.orca_op.specs.Deeds.{Deed, Mark as mark_deed, Write, Set, Emit, after, after_all, marks_after}
+use Rattle.orca_op.specs.Scan.{Rules, visit_deeds, state_after_places}
 use Rattle.orca_frame.specs.Covering.{KeepsMarks}
 use Rattle.orca_frame.proofs.DeskLemmas.{dims_after_all}
 
@@ -42,7 +42,7 @@ marks_of-set (x ∷ marks) zero (suc j) m mark grows has = has
 marks_of-set (x ∷ marks) (suc i) zero m mark grows has = has
 marks_of-set (x ∷ marks) (suc i) (suc j) m mark grows has = marks_of-set marks i j m mark grows has
 
-marks_of-marked : (s : State) (at : Option Place) (m : MarkSet) (j : ℕ) (mark : Mark) → IsTrue (has_mark (marks_of s.marks j) mark) → IsTrue (has_mark (marks_of (marked_at s at m) j) mark)
+marks_of-marked : (s : State) (at : Option Place) (m : MarkSet) (j : ℕ) (mark : Mark) → IsTrue (has_mark (marks_of s.marks j) mark) → IsTrue (has_mark (marks_of (marks_after s at m) j) mark)
 marks_of-marked s None m j mark has = has
 marks_of-marked s (Some at) m j mark has =
     marks_of-set s.marks (index_of s.dims at) j (all_marks (marks_at s at) m) mark (all_marks-left (marks_at s at) m mark) has
@@ -62,10 +62,10 @@ keeps-after_all s deeds at mark has =
     subst (λ (d : Size). IsTrue (has_mark (marks_of (after_all s deeds).marks (index_of d at)) mark)) (sym (dims_after_all s deeds))
     (marks_of-after_all s deeds (index_of s.dims at) mark has)
 
-pub keeps-scanned : (rules : Rules) (n more : ℕ) (g : Sheet) (now : Now) → KeepsMarks (scanned_by rules n g now) (scanned_by rules (n + more) g now)
+pub keeps-scanned : (rules : Rules) (n more : ℕ) (g : Sheet) (now : Now) → KeepsMarks (state_after_places rules n g now) (state_after_places rules (n + more) g now)
 keeps-scanned rules n zero g now at mark has = rw add-zero has
 keeps-scanned rules n (suc more) g now at mark has =
     let next : suc (n + more) ≡ n + suc more = omega arith in
-    let s = scanned_by rules (n + more) g now in
-    subst (λ (k : ℕ). IsTrue (has_mark (marks_at (scanned_by rules k g now) at) mark)) next
-    (keeps-after_all s (deeds_by rules s (place_of g.dims (n + more)) now) at mark (keeps-scanned rules n more g now at mark has))
+    let s = state_after_places rules (n + more) g now in
+    subst (λ (k : ℕ). IsTrue (has_mark (marks_at (state_after_places rules k g now) at) mark)) next
+    (keeps-after_all s (visit_deeds rules s (place_of g.dims (n + more)) now) at mark (keeps-scanned rules n more g now at mark has))

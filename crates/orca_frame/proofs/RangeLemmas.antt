@@ -12,10 +12,10 @@ use Rattle.orca_base.specs.Glyphs.{IsGlyph, empty, AreGlyphs}
 use Rattle.orca_base.specs.Grids.{Size, IsSize, Sheet, IsSheet, IsInside, place_of, place_in, index_of}
 use Rattle.orca_base.specs.MarkSet.{MarkSet, no_marks, all_marks}
 use Rattle.orca_op.specs.State.{State, IsState, glyph_at, marks_at, fresh}
-use Rattle.orca_op.specs.Deeds.{Deed, Mark, Write, Set, Emit, after, after_all, marked_at, written_at}
+use Rattle.orca_op.specs.Deeds.{Deed, Mark, Write, Set, Emit, after, after_all, marks_after, cells_after}
 use Rattle.orca_op.specs.Laws.{IsLawful, Every, WritesGlyph, EmitsInRange}
 use Rattle.orca_op.specs.LawFacts.{AreGlyphs-set, IsGlyph-index, index-below, in_range-after_all}
-use Rattle.orca_op.specs.Scan.{Rules, deeds_by, is_idle, scanned_by}
+use Rattle.orca_op.specs.Scan.{Rules, visit_deeds, is_idle, state_after_places}
 use Rattle.orca_frame.proofs.DeskLemmas.{dims_scanned}
 use Rattle.orca_frame.proofs.EventLemmas.{events_scanned}
 
@@ -29,15 +29,15 @@ pub record IsWhole (s : State) : Type 0 where
   pub held : AreGlyphs s.vars
 
 -- marks and glyphs are put where others stood
-pub length_marked : (s : State) (at : Option Place) (marks : MarkSet) → length (marked_at s at marks) ≡ length s.marks
+pub length_marked : (s : State) (at : Option Place) (marks : MarkSet) → length (marks_after s at marks) ≡ length s.marks
 length_marked s None marks = refl
 length_marked s (Some at) marks = length-set s.marks (index_of s.dims at) (all_marks (marks_at s at) marks)
 
-length_written : (s : State) (at : Option Place) (glyph : ℕ) → length (written_at s at glyph) ≡ length s.cells
+length_written : (s : State) (at : Option Place) (glyph : ℕ) → length (cells_after s at glyph) ≡ length s.cells
 length_written s None glyph = refl
 length_written s (Some at) glyph = length-set s.cells (index_of s.dims at) glyph
 
-glyphs_written : (s : State) (at : Option Place) (glyph : ℕ) → AreGlyphs s.cells → IsGlyph glyph → AreGlyphs (written_at s at glyph)
+glyphs_written : (s : State) (at : Option Place) (glyph : ℕ) → AreGlyphs s.cells → IsGlyph glyph → AreGlyphs (cells_after s at glyph)
 glyphs_written s None glyph all is = all
 glyphs_written s (Some at) glyph all is = AreGlyphs-set s.cells (index_of s.dims at) glyph all is
 
@@ -109,15 +109,15 @@ state_whole : (s : State) → IsWhole s → length s.events ≤ s.dims.h * s.dim
 state_whole s whole room = record { size = whole.size; cells = whole.cells; marks = whole.marks; vars = whole.vars; events = room }
 
 -- a visit writes glyphs, and sends events in range
-writes_deeds : (rules : Rules) (s : State) (at : Place) (now : Now) → IsLawful rules → IsWhole s → IsState s → IsInside s.dims at → Every WritesGlyph (deeds_by rules s at now)
-unfolding deeds_by
+writes_deeds : (rules : Rules) (s : State) (at : Place) (now : Now) → IsLawful rules → IsWhole s → IsState s → IsInside s.dims at → Every WritesGlyph (visit_deeds rules s at now)
+unfolding visit_deeds
 writes_deeds rules s at now lawful whole state inside =
     let below = index-below at.y at.x s.dims.h s.dims.w inside.row inside.column in
     let is : IsGlyph (glyph_at s at) = IsGlyph-index s.cells (index_of s.dims at) whole.glyphs (omega (arith, below, whole.cells)) in
     every_if WritesGlyph (is_idle s at) (rules (glyph_at s at) s at now) (lawful.glyphs (glyph_at s at) s at now state is whole.glyphs whole.held)
 
-sends_deeds : (rules : Rules) (s : State) (at : Place) (now : Now) → IsLawful rules → IsWhole s → IsState s → Every EmitsInRange (deeds_by rules s at now)
-unfolding deeds_by
+sends_deeds : (rules : Rules) (s : State) (at : Place) (now : Now) → IsLawful rules → IsWhole s → IsState s → Every EmitsInRange (visit_deeds rules s at now)
+unfolding visit_deeds
 sends_deeds rules s at now lawful whole state =
     every_if EmitsInRange (is_idle s at) (rules (glyph_at s at) s at now) (lawful.events (glyph_at s at) s at now state whole.glyphs)
 
@@ -126,10 +126,10 @@ pub record IsPlayed (s : State) : Type 0 where
   pub whole : IsWhole s
   pub events : All IsInRange s.events
 
-pub played_scanned : (rules : Rules) (n : ℕ) (g : Sheet) (now : Now) → IsLawful rules → IsSheet g → AreGlyphs g.cells → n ≤ g.dims.h * g.dims.w → IsPlayed (scanned_by rules n g now)
+pub played_scanned : (rules : Rules) (n : ℕ) (g : Sheet) (now : Now) → IsLawful rules → IsSheet g → AreGlyphs g.cells → n ≤ g.dims.h * g.dims.w → IsPlayed (state_after_places rules n g now)
 played_scanned rules zero g now lawful sheet glyphs few = record { whole = whole_fresh g sheet glyphs; events = All-nil IsInRange }
 played_scanned rules (suc n) g now lawful sheet glyphs few =
-    let s = scanned_by rules n g now in
+    let s = state_after_places rules n g now in
     let at = place_of g.dims n in
     let before : IsPlayed s = played_scanned rules n g now lawful sheet glyphs (omega arith) in
     let same : s.dims ≡ g.dims = dims_scanned rules n g now in
@@ -138,6 +138,6 @@ played_scanned rules (suc n) g now lawful sheet glyphs few =
     let state : IsState s = state_whole s before.whole room in
     let inside : IsInside s.dims at = subst (λ (d : Size). IsInside d at) (sym same) (inside_place g.dims n sheet.size (omega arith)) in
     record {
-      whole = whole_after_all s (deeds_by rules s at now) before.whole (writes_deeds rules s at now lawful before.whole state inside);
-      events = in_range-after_all s (deeds_by rules s at now) before.events (sends_deeds rules s at now lawful before.whole state);
+      whole = whole_after_all s (visit_deeds rules s at now) before.whole (writes_deeds rules s at now lawful before.whole state inside);
+      events = in_range-after_all s (visit_deeds rules s at now) before.events (sends_deeds rules s at now lawful before.whole state);
     }

@@ -11,11 +11,11 @@ use Rattle.orca_base.specs.Glyphs.{is_operator, needs_bang}
 use Rattle.orca_base.specs.Grids.{Size, Sheet, place_of, place_in, index_of}
 use Rattle.orca_base.specs.MarkSet.{MarkSet, is_marked, no_marks, all_marks}
 use Rattle.orca_op.specs.State.{State, glyph_at, marks_at, has_bang}
-use Rattle.orca_op.specs.Deeds.{Deed, Mark, Write, Set, Emit, after, marked_at}
-use Rattle.orca_op.specs.Desk.{Desk, done, all_done, listed_after, listed_with, residue, is_in, is_place}
+use Rattle.orca_op.specs.Deeds.{Deed, Mark, Write, Set, Emit, after, marks_after}
+use Rattle.orca_op.specs.Desk.{Desk, desk_after, desk_after_all, list_after, list_with, residue, is_in, is_place}
 use Rattle.orca_op.specs.Laws.{IsLawful}
 use Rattle.orca_op.specs.Rules.{rule}
-use Rattle.orca_op.specs.Scan.{Rules, deeds_by, is_idle, scanned_by, busy_of}
+use Rattle.orca_op.specs.Scan.{Rules, visit_deeds, is_idle, state_after_places, busy_of}
 use Rattle.orca_frame.specs.Frames.{desk_after}
 use Rattle.orca_frame.proofs.DeskLemmas.{desk_suc}
 
@@ -32,7 +32,7 @@ count_set [] i m = omega arith
 count_set (n ∷ marks) zero m = omega (arith, count_cons m marks, count_cons n marks, count_one (is_marked m))
 count_set (n ∷ marks) (suc i) m = omega (arith, count_cons n (set marks i m), count_cons n marks, count_set marks i m)
 
-marked_more : (s : State) (at : Option Place) (m : MarkSet) → count_by is_marked (marked_at s at m) ≤ count_by is_marked s.marks + 1
+marked_more : (s : State) (at : Option Place) (m : MarkSet) → count_by is_marked (marks_after s at m) ≤ count_by is_marked s.marks + 1
 marked_more s None m = omega arith
 marked_more s (Some at) m = count_set s.marks (index_of s.dims at) (all_marks (marks_at s at) m)
 
@@ -40,21 +40,21 @@ listed_if : (lists : Bool) (listed : List Place) (at : Place) → length (if lis
 listed_if true listed at = omega (arith, length-append listed (at ∷ []))
 listed_if false listed at = omega arith
 
-listed_more : (began : Size) (listed : List Place) (at : Option Place) → length (listed_with began listed at) ≤ length listed + 1
+listed_more : (began : Size) (listed : List Place) (at : Option Place) → length (list_with began listed at) ≤ length listed + 1
 listed_more began listed None = omega arith
 listed_more began listed (Some at) = listed_if (is_in began at && not (list_any (is_place at) listed)) listed at
 
 -- a deed raises the residue by at most one
-residue_done : (d : Desk) (deed : Deed) → residue (done d deed) ≤ residue d + 1
-unfolding residue after listed_after
+residue_done : (d : Desk) (deed : Deed) → residue (desk_after d deed) ≤ residue d + 1
+unfolding residue after list_after
 residue_done d (Mark at m) = omega (arith, marked_more d.scan (place_in d.scan.dims at) m)
 residue_done d (Write at glyph) = omega (arith, listed_more d.began d.listed (place_in d.scan.dims at))
 residue_done d (Set variable glyph) = omega arith
 residue_done d (Emit event) = omega arith
 
-pub residue_all_done : (d : Desk) (deeds : List Deed) → residue (all_done d deeds) ≤ residue d + length deeds
+pub residue_all_done : (d : Desk) (deeds : List Deed) → residue (desk_after_all d deeds) ≤ residue d + length deeds
 residue_all_done d [] = omega arith
-residue_all_done d (deed ∷ deeds) = omega (arith, residue_all_done (done d deed) deeds, residue_done d deed)
+residue_all_done d (deed ∷ deeds) = omega (arith, residue_all_done (desk_after d deed) deeds, residue_done d deed)
 
 few_if : (idle : Bool) (deeds : List Deed) → length deeds ≤ MAX_DEEDS → length (if idle then [] else deeds) ≤ MAX_DEEDS
 few_if true deeds few = omega arith
@@ -65,8 +65,8 @@ few_busy true lock sleep waits deeds few = few_if (lock || sleep || waits) deeds
 few_busy false lock sleep waits deeds few = omega arith
 
 -- a visit has deeds only where the place holds an operator
-few_deeds : (rules : Rules) (s : State) (at : Place) (now : Now) → IsLawful rules → length (deeds_by rules s at now) ≤ MAX_DEEDS * (if is_operator (glyph_at s at) then 1 else 0)
-unfolding deeds_by is_idle
+few_deeds : (rules : Rules) (s : State) (at : Place) (now : Now) → IsLawful rules → length (visit_deeds rules s at now) ≤ MAX_DEEDS * (if is_operator (glyph_at s at) then 1 else 0)
+unfolding visit_deeds is_idle
 few_deeds rules s at now lawful =
     few_busy (is_operator (glyph_at s at)) (marks_at s at).lock (marks_at s at).sleep (needs_bang (glyph_at s at) && not (has_bang s at))
     (rules (glyph_at s at) s at now) (lawful.few_deeds (glyph_at s at) s at now)
@@ -80,7 +80,7 @@ pub residue_desk : (n : ℕ) (g : Sheet) (now : Now) → IsLawful rule → resid
 unfolding residue
 residue_desk zero g now lawful = omega (arith, none_marked (g.dims.h * g.dims.w))
 residue_desk (suc n) g now lawful =
-    let deeds = deeds_by rule (scanned_by rule n g now) (place_of g.dims n) now in
+    let deeds = visit_deeds rule (state_after_places rule n g now) (place_of g.dims n) now in
     let more : residue (desk_after (suc n) g now) ≤ residue (desk_after n g now) + length deeds =
     subst (λ (d : Desk). residue d ≤ residue (desk_after n g now) + length deeds) (desk_suc n g now) (residue_all_done (desk_after n g now) deeds) in
-    omega (arith, more, residue_desk n g now lawful, few_deeds rule (scanned_by rule n g now) (place_of g.dims n) now lawful)
+    omega (arith, more, residue_desk n g now lawful, few_deeds rule (state_after_places rule n g now) (place_of g.dims n) now lawful)

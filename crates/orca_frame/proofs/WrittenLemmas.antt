@@ -12,11 +12,11 @@ use Rattle.orca_base.specs.declared.place.Place.{Place}
 use Rattle.orca_base.specs.Grids.{Size, Sheet, place_in, place_at, place_of}
 use Rattle.orca_op.specs.State.{State, fresh}
 use Rattle.orca_op.specs.Deeds.{Deed, Mark, Write, Set, Emit, after_all}
-use Rattle.orca_op.specs.Desk.{is_place, is_in, listed_with, listed_after, listed_all}
+use Rattle.orca_op.specs.Desk.{is_place, is_in, list_with, list_after, list_after_all}
 use Rattle.orca_op.specs.LawFacts.{after_all-append}
 use Rattle.orca_op.specs.Laws.{AnyDeed}
 use Rattle.orca_op.specs.Rules.{rule}
-use Rattle.orca_op.specs.Scan.{deeds_by, scanned_by, scan_deeds, scan, places, written}
+use Rattle.orca_op.specs.Scan.{visit_deeds, state_after_places, scan_deeds, scan, places, written_places}
 use Rattle.orca_frame.specs.Written.{WritesPlace, IsWritten}
 
 -- ---- the test of equal places
@@ -64,7 +64,7 @@ distinct_if listed at true false absent distinct = IsDistinct-push equal_places 
 distinct_if listed at true true present distinct = distinct
 distinct_if listed at false found test distinct = distinct
 
-distinct_with : (d : Size) (listed : List Place) (p : Option Place) → IsDistinct is_place listed → IsDistinct is_place (listed_with d listed p)
+distinct_with : (d : Size) (listed : List Place) (p : Option Place) → IsDistinct is_place listed → IsDistinct is_place (list_with d listed p)
 distinct_with d listed None distinct = distinct
 distinct_with d listed (Some at) distinct = distinct_if listed at (is_in d at) (list_any (is_place at) listed) refl distinct
 
@@ -81,7 +81,7 @@ from_if listed at q true is = listed_or listed at q (Contains-append_cases liste
 from_if listed at q false is = inl is
 
 -- a listed place was listed before, or is the one that is written
-from_with : (d : Size) (listed : List Place) (p : Option Place) (at : Place) → Contains (listed_with d listed p) at → Contains listed at ⊎ (p ≡ Some at)
+from_with : (d : Size) (listed : List Place) (p : Option Place) (at : Place) → Contains (list_with d listed p) at → Contains listed at ⊎ (p ≡ Some at)
 from_with d listed None at is = inl is
 from_with d listed (Some q) at is = from_if listed at q (is_in d q && not (list_any (is_place q) listed)) is
 
@@ -90,7 +90,7 @@ kept_if listed at q true is = Contains-append_left listed (q ∷ []) at is
 kept_if listed at q false is = is
 
 -- a listed place stays
-kept_with : (d : Size) (listed : List Place) (p : Option Place) (at : Place) → Contains listed at → Contains (listed_with d listed p) at
+kept_with : (d : Size) (listed : List Place) (p : Option Place) (at : Place) → Contains listed at → Contains (list_with d listed p) at
 kept_with d listed None at is = is
 kept_with d listed (Some q) at is = kept_if listed at q (is_in d q && not (list_any (is_place q) listed)) is
 
@@ -100,19 +100,19 @@ added_if listed at true true inside present = Contains-from_any same_place at li
 added_if listed at false found inside test = cc
 
 -- a place of the grid that is written is listed
-added_with : (d : Size) (listed : List Place) (p : Option Place) (at : Place) → p ≡ Some at → is_in d at ≡ true → Contains (listed_with d listed p) at
+added_with : (d : Size) (listed : List Place) (p : Option Place) (at : Place) → p ≡ Some at → is_in d at ≡ true → Contains (list_with d listed p) at
 added_with d listed p at is inside =
-    subst (λ (q : Option Place). Contains (listed_with d listed q) at) (sym is)
+    subst (λ (q : Option Place). Contains (list_with d listed q) at) (sym is)
     (added_if listed at (is_in d at) (list_any (is_place at) listed) inside refl)
 
 -- ---- deeds in order
 
-distinct_all : (d : Size) (listed : List Place) (deeds : List Deed) → IsDistinct is_place listed → IsDistinct is_place (listed_all d d listed deeds)
-unfolding listed_after
+distinct_all : (d : Size) (listed : List Place) (deeds : List Deed) → IsDistinct is_place listed → IsDistinct is_place (list_after_all d d listed deeds)
+unfolding list_after
 distinct_all d listed [] distinct = distinct
 distinct_all d listed (Mark spot marks ∷ deeds) distinct = distinct_all d listed deeds distinct
 distinct_all d listed (Write spot glyph ∷ deeds) distinct =
-    distinct_all d (listed_with d listed (place_in d spot)) deeds (distinct_with d listed (place_in d spot) distinct)
+    distinct_all d (list_with d listed (place_in d spot)) deeds (distinct_with d listed (place_in d spot) distinct)
 distinct_all d listed (Set variable glyph ∷ deeds) distinct = distinct_all d listed deeds distinct
 distinct_all d listed (Emit event ∷ deeds) distinct = distinct_all d listed deeds distinct
 
@@ -125,33 +125,33 @@ either A B C E cases (inr last) = inr (inr last)
 either A B C E cases (inl here) = elim (cases here) [ inl first ↦ inl first | inr mid ↦ inr (inl mid) ]
 
 -- a listed place was listed before, or a deed writes it
-from_all : (d : Size) (listed : List Place) (deeds : List Deed) (at : Place) → Contains (listed_all d d listed deeds) at → Contains listed at ⊎ AnyDeed (WritesPlace d at) deeds
-unfolding listed_after
+from_all : (d : Size) (listed : List Place) (deeds : List Deed) (at : Place) → Contains (list_after_all d d listed deeds) at → Contains listed at ⊎ AnyDeed (WritesPlace d at) deeds
+unfolding list_after
 from_all d listed [] at is = inl is
 from_all d listed (Mark spot marks ∷ deeds) at is = later _ _ _ (from_all d listed deeds at is)
 from_all d listed (Write spot glyph ∷ deeds) at is =
-    either _ _ _ _ (from_with d listed (place_in d spot) at) (from_all d (listed_with d listed (place_in d spot)) deeds at is)
+    either _ _ _ _ (from_with d listed (place_in d spot) at) (from_all d (list_with d listed (place_in d spot)) deeds at is)
 from_all d listed (Set variable glyph ∷ deeds) at is = later _ _ _ (from_all d listed deeds at is)
 from_all d listed (Emit event ∷ deeds) at is = later _ _ _ (from_all d listed deeds at is)
 
-kept_all : (d : Size) (listed : List Place) (deeds : List Deed) (at : Place) → Contains listed at → Contains (listed_all d d listed deeds) at
-unfolding listed_after
+kept_all : (d : Size) (listed : List Place) (deeds : List Deed) (at : Place) → Contains listed at → Contains (list_after_all d d listed deeds) at
+unfolding list_after
 kept_all d listed [] at is = is
 kept_all d listed (Mark spot marks ∷ deeds) at is = kept_all d listed deeds at is
 kept_all d listed (Write spot glyph ∷ deeds) at is =
-    kept_all d (listed_with d listed (place_in d spot)) deeds at (kept_with d listed (place_in d spot) at is)
+    kept_all d (list_with d listed (place_in d spot)) deeds at (kept_with d listed (place_in d spot) at is)
 kept_all d listed (Set variable glyph ∷ deeds) at is = kept_all d listed deeds at is
 kept_all d listed (Emit event ∷ deeds) at is = kept_all d listed deeds at is
 
 -- a place that a deed writes is listed
-added_all : (d : Size) (listed : List Place) (deeds : List Deed) (at : Place) → AnyDeed (WritesPlace d at) deeds → Contains (listed_all d d listed deeds) at
-unfolding listed_after
+added_all : (d : Size) (listed : List Place) (deeds : List Deed) (at : Place) → AnyDeed (WritesPlace d at) deeds → Contains (list_after_all d d listed deeds) at
+unfolding list_after
 added_all d listed [] at writes = absurd writes
 added_all d listed (Mark spot marks ∷ deeds) at (inl writes) = absurd writes
 added_all d listed (Mark spot marks ∷ deeds) at (inr more) = added_all d listed deeds at more
 added_all d listed (Write spot glyph ∷ deeds) at (inl writes) =
-    kept_all d (listed_with d listed (place_in d spot)) deeds at (added_with d listed (place_in d spot) at writes (placed_at d spot.y spot.x at writes))
-added_all d listed (Write spot glyph ∷ deeds) at (inr more) = added_all d (listed_with d listed (place_in d spot)) deeds at more
+    kept_all d (list_with d listed (place_in d spot)) deeds at (added_with d listed (place_in d spot) at writes (placed_at d spot.y spot.x at writes))
+added_all d listed (Write spot glyph ∷ deeds) at (inr more) = added_all d (list_with d listed (place_in d spot)) deeds at more
 added_all d listed (Set variable glyph ∷ deeds) at (inl writes) = absurd writes
 added_all d listed (Set variable glyph ∷ deeds) at (inr more) = added_all d listed deeds at more
 added_all d listed (Emit event ∷ deeds) at (inl writes) = absurd writes
@@ -164,22 +164,22 @@ nothing at B (inl (k, below, is)) = absurd (omega arith)
 nothing at B (inr other) = other
 
 -- the places are distinct
-pub written-once : (g : Sheet) (now : Now) → IsDistinct is_place (written g now)
-unfolding written IsDistinct
-written-once g now = distinct_all g.dims [] (scan_deeds (places g) g now) tt
+pub written_places-once : (g : Sheet) (now : Now) → IsDistinct is_place (written_places g now)
+unfolding written_places IsDistinct
+written_places-once g now = distinct_all g.dims [] (scan_deeds (places g) g now) tt
 
 -- and they are those that some deed writes
-pub written-exactly : (g : Sheet) (now : Now) (at : Place) → Contains (written g now) at ↔ IsWritten g now at
-unfolding written
-written-exactly g now at = (
+pub written_places-exactly : (g : Sheet) (now : Now) (at : Place) → Contains (written_places g now) at ↔ IsWritten g now at
+unfolding written_places
+written_places-exactly g now at = (
   λ is. nothing at _ (from_all g.dims [] (scan_deeds (places g) g now) at is),
   added_all g.dims [] (scan_deeds (places g) g now) at,
 )
 
-scanned-deeds : (n : ℕ) (g : Sheet) (now : Now) → scanned_by rule n g now ≡ after_all (fresh g) (scan_deeds n g now)
+scanned-deeds : (n : ℕ) (g : Sheet) (now : Now) → state_after_places rule n g now ≡ after_all (fresh g) (scan_deeds n g now)
 scanned-deeds zero g now = refl
 scanned-deeds (suc n) g now =
-    let deeds = deeds_by rule (scanned_by rule n g now) (place_of g.dims n) now in
+    let deeds = visit_deeds rule (state_after_places rule n g now) (place_of g.dims n) now in
     ap (λ (s : State). after_all s deeds) (scanned-deeds n g now) ∙ sym (after_all-append (fresh g) (scan_deeds n g now) deeds)
 
 -- the state after a frame is the one after its deeds

@@ -3,17 +3,17 @@ use Rattle.std.specs.Prelude.{ℕ, ◌+◌, ◌*◌, []}
 use Rattle.orca_base.specs.declared.limits.TheConstants.{MAX_TICKS}
 use Rattle.orca_base.specs.declared.now.Now.{Now}
 use Rattle.orca_base.specs.Grids.{Sheet}
-use Rattle.orca_op.specs.Desk.{Desk, listed_all, residue}
+use Rattle.orca_op.specs.Desk.{Desk, list_after_all, residue}
 use Rattle.orca_op.specs.Rules.{rule}
-use Rattle.orca_op.specs.Scan.{scanned_by, scan_deeds, busy, places}
+use Rattle.orca_op.specs.Scan.{state_after_places, scan_deeds, busy, places}
 use Rattle.orca_op.specs.State.{sheet_of}
 
 -- the desk after the first n places were visited
 abbrev pub desk_after : ℕ → Sheet → Now → Desk
 desk_after n g now = record {
-  scan = scanned_by rule n g now;
+  scan = state_after_places rule n g now;
   began = g.dims;
-  listed = listed_all g.dims g.dims [] (scan_deeds n g now);
+  listed = list_after_all g.dims g.dims [] (scan_deeds n g now);
 }
 
 -- a visit looks at the glyph of its place, at the marks, and at the four neighbours

@@ -1,7 +1,7 @@
 ghost use Rattle.std.specs.Prelude.{◌≡◌, ◌+◌, ◌*◌, ◌<◌, ◌≤◌, length, Some};
 ghost use Rattle.orca_base.specs.declared.limits.TheConstants.{MAX_TICKS};
 ghost use Rattle.orca_base.specs.Grids.{IsInside};
-ghost use Rattle.orca_op.specs.Desk.{HasRoom, all_done};
+ghost use Rattle.orca_op.specs.Desk.{HasRoom, desk_after_all};
 ghost use Rattle.orca_op.specs.Kinds.{kind_of};
 ghost use Rattle.orca_op.specs.Rules.{rule};
 ghost use Rattle.orca_op.specs.State.{glyph_at};
@@ -28,7 +28,7 @@ pub(crate) fn act<B: Bench, L: Ledger>(
     requires inside { IsInside (B.desk bench.old).scan.dims at }
     requires holds { glyph ≡ glyph_at (B.desk bench.old).scan at }
     requires room { HasRoom (B.desk bench.old) }
-    ensures deeds { B.desk bench.new ≡ all_done (B.desk bench.old) (rule glyph (B.desk bench.old).scan at now) }
+    ensures deeds { B.desk bench.new ≡ desk_after_all (B.desk bench.old) (rule glyph (B.desk bench.old).scan at now) }
     ensures ticks { steps.new ≤ steps.old + MAX_TICKS }
 {
     let Some(kind) = Kind::of(glyph) else {

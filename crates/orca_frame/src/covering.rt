@@ -5,7 +5,7 @@ ghost use Rattle.orca_frame.specs.Covering.{IsCovering, KeepsMarks};
 ghost use Rattle.orca_op.specs.Deeds.{Deed, after_all};
 ghost use Rattle.orca_op.specs.Laws.{IsLawful};
 ghost use Rattle.orca_op.specs.Rules.{rule};
-ghost use Rattle.orca_op.specs.Scan.{Rules, scanned_by};
+ghost use Rattle.orca_op.specs.Scan.{Rules, state_after_places};
 ghost use Rattle.orca_op.specs.State.{State};
 
 use crate::laws::table_laws;
@@ -18,7 +18,7 @@ pub fn covering_law()
     ensures table { IsCovering rule }
     ensures deeds { (s : State) (deeds : List Deed) → KeepsMarks s (after_all s deeds) }
     ensures marks { (rules : Rules) (n more : ℕ) (g : Sheet) (now : Now)
-        → KeepsMarks (scanned_by rules n g now) (scanned_by rules (n + more) g now) }
+        → KeepsMarks (state_after_places rules n g now) (state_after_places rules (n + more) g now) }
 {
     table_laws();
 }

@@ -5,7 +5,7 @@ ghost use Rattle.orca_base.specs.EventRanges.{IsInRange};
 ghost use Rattle.orca_base.specs.declared.place.Place.{Place};
 ghost use Rattle.orca_op.specs.Deeds.{after_all};
 ghost use Rattle.orca_op.specs.Desk.{is_place, residue};
-ghost use Rattle.orca_op.specs.Scan.{scan, written, busy};
+ghost use Rattle.orca_op.specs.Scan.{scan, written_places, busy};
 ghost use Rattle.orca_op.specs.State.{sheet_of, fresh};
 ghost use Rattle.orca_frame.specs.Frames.{most_ticks};
 ghost use Rattle.orca_frame.specs.Written.{frame_deeds, IsWritten};
@@ -27,7 +27,7 @@ pub fn frame_plain<B: Bench, L: Ledger>(bench: &mut B, now: Now, steps: &mut Ste
     ensures scan { (B.desk bench.new).scan ≡ scan (sheet_of (B.desk bench.old).scan) now }
     ensures began { (B.desk bench.new).began ≡ (B.desk bench.old).scan.dims }
     ensures deeds { (B.desk bench.new).scan ≡ after_all (fresh (sheet_of (B.desk bench.old).scan)) (frame_deeds (sheet_of (B.desk bench.old).scan) now) }
-    ensures listed { (B.desk bench.new).listed ≡ written (sheet_of (B.desk bench.old).scan) now }
+    ensures listed { (B.desk bench.new).listed ≡ written_places (sheet_of (B.desk bench.old).scan) now }
     ensures once { IsDistinct is_place (B.desk bench.new).listed }
     ensures exactly { (at : Place) → Contains (B.desk bench.new).listed at ↔ IsWritten (sheet_of (B.desk bench.old).scan) now at }
     ensures playable { All IsInRange (B.desk bench.new).scan.events }

@@ -3,9 +3,9 @@ ghost use Rattle.orca_base.specs.declared.limits.TheConstants.{MAX_TICKS};
 ghost use Rattle.orca_base.specs.Glyphs.{is_operator};
 ghost use Rattle.orca_base.specs.Grids.{IsInside};
 ghost use Rattle.orca_frame.specs.Frames.{looks};
-ghost use Rattle.orca_op.specs.Desk.{HasRoom, all_done};
+ghost use Rattle.orca_op.specs.Desk.{HasRoom, desk_after_all};
 ghost use Rattle.orca_op.specs.Rules.{rule};
-ghost use Rattle.orca_op.specs.Scan.{deeds_by, is_idle};
+ghost use Rattle.orca_op.specs.Scan.{visit_deeds, is_idle};
 ghost use Rattle.orca_op.specs.State.{has_bang, glyph_at};
 
 use crate::act::act;
@@ -24,7 +24,7 @@ fn is_idle<B: Bench, L: Ledger>(bench: &B, at: Place, glyph: Glyph, steps: &mut 
     if !glyph.is_operator() {
         return true;
     }
-    let marks = bench.marked(at.off(0, 0), steps);
+    let marks = bench.marked(at.here(), steps);
     if marks.has(Mark::Lock) || marks.has(Mark::Sleep) {
         return true;
     }
@@ -36,10 +36,10 @@ fn is_idle<B: Bench, L: Ledger>(bench: &B, at: Place, glyph: Glyph, steps: &mut 
 pub(crate) fn visit<B: Bench, L: Ledger>(bench: &mut B, at: Place, now: Now, steps: &mut Steps<L>)
     requires inside { IsInside (B.desk bench.old).scan.dims at }
     requires room { HasRoom (B.desk bench.old) }
-    ensures deeds { B.desk bench.new ≡ all_done (B.desk bench.old) (deeds_by rule (B.desk bench.old).scan at now) }
+    ensures deeds { B.desk bench.new ≡ desk_after_all (B.desk bench.old) (visit_deeds rule (B.desk bench.old).scan at now) }
     ensures ticks { steps.new ≤ steps.old + looks + MAX_TICKS * (if is_operator (glyph_at (B.desk bench.old).scan at) then 1 else 0) }
 {
-    let glyph = bench.peek(at.off(0, 0), steps);
+    let glyph = bench.peek(at.here(), steps);
     if !is_idle(bench, at, glyph, steps) {
         act(bench, at, glyph, now, steps);
     }

@@ -15,19 +15,19 @@ pub data Deed : Type 0 where
   Emit : (event : Event) → Deed
 
 -- marks are added; outside the grid nothing changes
-abbrev pub marked_at : State → Option Place → MarkSet → List MarkSet
-marked_at s None marks = s.marks
-marked_at s (Some at) marks = slice_set s.marks (index_of s.dims at) (all_marks (marks_at s at) marks)
+abbrev pub marks_after : State → Option Place → MarkSet → List MarkSet
+marks_after s None marks = s.marks
+marks_after s (Some at) marks = slice_set s.marks (index_of s.dims at) (all_marks (marks_at s at) marks)
 
 -- the glyph is written; outside the grid nothing changes
-abbrev pub written_at : State → Option Place → ℕ → List ℕ
-written_at s None glyph = s.cells
-written_at s (Some at) glyph = slice_set s.cells (index_of s.dims at) glyph
+abbrev pub cells_after : State → Option Place → ℕ → List ℕ
+cells_after s None glyph = s.cells
+cells_after s (Some at) glyph = slice_set s.cells (index_of s.dims at) glyph
 
 -- the state after a deed
 unfoldable pub after : State → Deed → State
-after s (Mark at marks) = record s { marks = marked_at s (place_in s.dims at) marks }
-after s (Write at glyph) = record s { cells = written_at s (place_in s.dims at) glyph }
+after s (Mark at marks) = record s { marks = marks_after s (place_in s.dims at) marks }
+after s (Write at glyph) = record s { cells = cells_after s (place_in s.dims at) glyph }
 after s (Set variable glyph) = record s { vars = slice_set s.vars variable glyph }
 after s (Emit event) = record s { events = s.events ++ event ∷ [] }
 

@@ -6,28 +6,29 @@ use Rattle.orca_base.specs.declared.limits.TheConstants.{BASE, MAX_CHANNEL, MAX_
 use Rattle.orca_base.specs.declared.now.Now.{Now}
 use Rattle.orca_base.specs.declared.place.Place.{Place}
 use Rattle.orca_base.specs.Glyphs.{empty, is_digit, is_upper, is_lower, value, note_number}
-use Rattle.orca_op.specs.State.{State, peek, has_bang, own, across}
+use Rattle.orca_op.specs.State.{State, peek, has_bang}
+use Rattle.orca_base.specs.Grids.{here, right}
 use Rattle.orca_op.specs.Deeds.{Deed, Emit, input_at, param_at, show_at, each}
 use Rattle.orca_op.specs.ValueRules.{value_or}
 use Rattle.orca_op.specs.First.{first_where}
-use Rattle.orca_op.specs.MotionRules.{locked}
+use Rattle.orca_op.specs.MotionRules.{lock_deeds}
 
 -- an event is sent beside a bang alone
 abbrev pub beside_bang : State → Place → Option Event → Option Event
 beside_bang s at event = if has_bang s at then event else None
 
 -- the operator is shown, and its event is sent
-abbrev pub sent : Place → Option Event → List Deed
-sent at None = []
-sent at (Some event) = show_at (own at) ∷ Emit event ∷ []
+abbrev pub send_deeds : Place → Option Event → List Deed
+send_deeds at None = []
+send_deeds at (Some event) = show_at (here at) ∷ Emit event ∷ []
 
 -- the glyph of a port
 abbrev pub port : State → Place → ℕ → ℕ
-port s at k = peek s (across at k)
+port s at k = peek s (right at k)
 
 -- n ports are read, the first being `from`
 abbrev pub inputs : Place → ℕ → ℕ → List Deed
-inputs at from n = each n (λ i. input_at (across at (i + from)) ∷ [])
+inputs at from n = each n (λ i. input_at (right at (i + from)) ∷ [])
 
 -- the glyphs of n ports, the first being `from`
 abbrev pub ports : State → Place → ℕ → ℕ → List ℕ
@@ -55,11 +56,11 @@ note_of mono s at = note_with mono (port s at 1) (port s at 2) (port s at 4) (po
 
 -- `:`: a note
 abbrev pub midi : ℕ → State → Place → Now → List Deed
-midi g s at now = inputs at 1 5 ++ sent at (beside_bang s at (note_of false s at))
+midi g s at now = inputs at 1 5 ++ send_deeds at (beside_bang s at (note_of false s at))
 
 -- `%`: a note that first ends every note of its channel
 abbrev pub mono : ℕ → State → Place → Now → List Deed
-mono g s at now = inputs at 1 5 ++ sent at (beside_bang s at (note_of true s at))
+mono g s at now = inputs at 1 5 ++ send_deeds at (beside_bang s at (note_of true s at))
 
 -- the value of a glyph, spread over the data bytes: the greatest value gives the greatest byte
 abbrev pub scaled : ℕ → ℕ
@@ -76,7 +77,7 @@ control_of s at = control_with (port s at 1) (port s at 2) (port s at 3)
 
 -- `!`: a control change
 abbrev pub control_change : ℕ → State → Place → Now → List Deed
-control_change g s at now = inputs at 1 3 ++ sent at (beside_bang s at (control_of s at))
+control_change g s at now = inputs at 1 3 ++ send_deeds at (beside_bang s at (control_of s at))
 
 abbrev pub bend_with : ℕ → ℕ → ℕ → Option Event
 bend_with channel msb lsb =
@@ -89,7 +90,7 @@ bend_of s at = bend_with (port s at 1) (port s at 2) (port s at 3)
 
 -- `?`: a pitch bend
 abbrev pub pitch_bend : ℕ → State → Place → Now → List Deed
-pitch_bend g s at now = inputs at 1 3 ++ sent at (beside_bang s at (bend_of s at))
+pitch_bend g s at now = inputs at 1 3 ++ send_deeds at (beside_bang s at (bend_of s at))
 
 -- how many glyphs the text has: those before the first empty port, and no more than fit
 abbrev pub text_length : State → Place → ℕ
@@ -107,7 +108,7 @@ text_event text = if length text == 0 then None else Some (Udp text)
 abbrev pub udp_text : ℕ → State → Place → Now → List Deed
 udp_text g s at now =
     let text = text_at s at in
-    locked at (length text) ++ sent at (beside_bang s at (text_event text))
+    lock_deeds at (length text) ++ send_deeds at (beside_bang s at (text_event text))
 
 abbrev pub osc_with : ℕ → List ℕ → Option Event
 osc_with path values = if is_digit path || is_upper path || is_lower path then Some (Osc path values) else None
@@ -119,5 +120,5 @@ osc_of s at = osc_with (port s at 1) (map value (ports s at 3 (value (port s at 
 -- `=`: an OSC message
 abbrev pub osc_message : ℕ → State → Place → Now → List Deed
 osc_message g s at now =
-    param_at (across at 1) ∷ param_at (across at 2)
-    ∷ inputs at 3 (value (port s at 2)) ++ sent at (beside_bang s at (osc_of s at))
+    param_at (right at 1) ∷ param_at (right at 2)
+    ∷ inputs at 3 (value (port s at 2)) ++ send_deeds at (beside_bang s at (osc_of s at))

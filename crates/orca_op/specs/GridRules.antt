@@ -4,17 +4,10 @@ use Rattle.orca_base.specs.declared.now.Now.{Now}
 use Rattle.orca_base.specs.declared.place.Place.{Place}
 use Rattle.orca_base.specs.declared.place.Spot.{Spot}
 use Rattle.orca_base.specs.Glyphs.{empty, value}
-use Rattle.orca_base.specs.Grids.{off}
-use Rattle.orca_op.specs.State.{State, peek, var_at, left, right, below, across}
+use Rattle.orca_op.specs.State.{State, peek, var_at}
+use Rattle.orca_base.specs.Grids.{off, below, left, right}
 use Rattle.orca_op.specs.Deeds.{Deed, Write, Set, input_at, param_at, output_at, far_at, lock_at, each}
 use Rattle.orca_op.specs.ValueRules.{value_or}
-
--- the second and third places to the left
-abbrev pub left_2 : Place → Spot
-left_2 at = off at (pos 0) (negsuc 1)
-
-abbrev pub left_3 : Place → Spot
-left_3 at = off at (pos 0) (negsuc 2)
 
 -- the spot x to the right and y + 1 rows below
 abbrev pub target : Place → ℕ → ℕ → Spot
@@ -24,91 +17,95 @@ target at y x = off at (pos (y + 1)) (pos x)
 abbrev pub source : Place → ℕ → ℕ → Spot
 source at y x = off at (pos y) (pos (x + 1))
 
+-- the i-th place at the right is read, and its glyph is written at the i-th place of the target
+abbrev pub generate_one : Place → ℕ → ℕ → ℕ → ℕ → List Deed
+generate_one at y x i glyph = input_at (right at (i + 1)) ∷ far_at (target at y (x + i)) ∷ Write (target at y (x + i)) glyph ∷ []
+
 -- G: the glyphs at its right are written at the target
 abbrev pub generator : ℕ → State → Place → Now → List Deed
 generator g s at now =
-    let x = value (peek s (left_3 at)) in
-    let y = value (peek s (left_2 at)) in
-    let length = value (peek s (left at)) in
-    param_at (left_3 at) ∷ param_at (left_2 at) ∷ param_at (left at)
-    ∷ each length (λ i.
-    input_at (across at (i + 1)) ∷ far_at (target at y (x + i))
-    ∷ Write (target at y (x + i)) (peek s (across at (i + 1))) ∷ [])
+    let x = value (peek s (left at 3)) in
+    let y = value (peek s (left at 2)) in
+    let length = value (peek s (left at 1)) in
+    param_at (left at 3) ∷ param_at (left at 2) ∷ param_at (left at 1)
+    ∷ each length (λ i. generate_one at y x i (peek s (right at (i + 1))))
 
 -- X: the glyph at its right is written at the target
 abbrev pub write_at : ℕ → State → Place → Now → List Deed
 write_at g s at now =
-    let x = value (peek s (left_2 at)) in
-    let y = value (peek s (left at)) in
-    param_at (left_2 at) ∷ param_at (left at) ∷ input_at (right at)
-    ∷ far_at (target at y x) ∷ Write (target at y x) (peek s (right at)) ∷ []
+    let x = value (peek s (left at 2)) in
+    let y = value (peek s (left at 1)) in
+    param_at (left at 2) ∷ param_at (left at 1) ∷ input_at (right at 1)
+    ∷ far_at (target at y x) ∷ Write (target at y x) (peek s (right at 1)) ∷ []
 
 -- O: the glyph at the source is written below
 abbrev pub read_at : ℕ → State → Place → Now → List Deed
 read_at g s at now =
-    let x = value (peek s (left_2 at)) in
-    let y = value (peek s (left at)) in
-    param_at (left_2 at) ∷ param_at (left at) ∷ input_at (source at y x)
+    let x = value (peek s (left at 2)) in
+    let y = value (peek s (left at 1)) in
+    param_at (left at 2) ∷ param_at (left at 1) ∷ input_at (source at y x)
     ∷ output_at (below at) ∷ Write (below at) (peek s (source at y x)) ∷ []
 
 -- the spot below where the i-th of n glyphs is written, the last one straight below the operator
 abbrev pub below_by : Place → ℕ → ℕ → Spot
 below_by at n i = off at (pos 1) (pos (i + 1) -ℤ pos n)
 
+-- the i-th place of the source is read, and its glyph is written below
+abbrev pub query_one : Place → ℕ → ℕ → ℕ → ℕ → ℕ → List Deed
+query_one at y x length i glyph =
+    input_at (source at y (x + i)) ∷ output_at (below_by at length i) ∷ Write (below_by at length i) glyph ∷ []
+
 -- Q: the glyphs at the source are written below
 abbrev pub query : ℕ → State → Place → Now → List Deed
 query g s at now =
-    let x = value (peek s (left_3 at)) in
-    let y = value (peek s (left_2 at)) in
-    let length = value (peek s (left at)) in
-    param_at (left_3 at) ∷ param_at (left_2 at) ∷ param_at (left at)
-    ∷ each length (λ i.
-    input_at (source at y (x + i)) ∷ output_at (below_by at length i)
-    ∷ Write (below_by at length i) (peek s (source at y (x + i))) ∷ [])
+    let x = value (peek s (left at 3)) in
+    let y = value (peek s (left at 2)) in
+    let length = value (peek s (left at 1)) in
+    param_at (left at 3) ∷ param_at (left at 2) ∷ param_at (left at 1)
+    ∷ each length (λ i. query_one at y x length i (peek s (source at y (x + i))))
 
 -- T: the glyph that the key chooses of those at its right is written below
 abbrev pub track : ℕ → State → Place → Now → List Deed
 track g s at now =
-    let key = value (peek s (left_2 at)) in
-    let length = value_or (peek s (left at)) 1 in
-    let chosen = across at (key % length + 1) in
-    param_at (left_2 at) ∷ param_at (left at)
-    ∷ each length (λ i. lock_at (across at (i + 1)) ∷ [])
+    let key = value (peek s (left at 2)) in
+    let length = value_or (peek s (left at 1)) 1 in
+    let chosen = right at (key % length + 1) in
+    param_at (left at 2) ∷ param_at (left at 1)
+    ∷ each length (λ i. lock_at (right at (i + 1)) ∷ [])
     ++ input_at chosen ∷ output_at (below at) ∷ Write (below at) (peek s chosen) ∷ []
 
 -- P: the glyph at its right is written at the place below that the key chooses
 abbrev pub push : ℕ → State → Place → Now → List Deed
 push g s at now =
-    let key = value (peek s (left_2 at)) in
-    let length = value_or (peek s (left at)) 1 in
+    let key = value (peek s (left at 2)) in
+    let length = value_or (peek s (left at 1)) 1 in
     let chosen = off at (pos 1) (pos (key % length)) in
-    param_at (left_2 at) ∷ param_at (left at)
+    param_at (left at 2) ∷ param_at (left at 1)
     ∷ each length (λ i. lock_at (off at (pos 1) (pos i)) ∷ [])
-    ++ input_at (right at) ∷ output_at chosen ∷ Write chosen (peek s (right at)) ∷ []
+    ++ input_at (right at 1) ∷ output_at chosen ∷ Write chosen (peek s (right at 1)) ∷ []
 
 -- V: sets the variable that is named at its left; where none is, writes below it the one that is named at its right
 abbrev pub variable : ℕ → State → Place → Now → List Deed
 variable g s at now =
-    let write = peek s (left at) in
-    let read = peek s (right at) in
-    param_at (left at) ∷ input_at (right at)
+    let write = peek s (left at 1) in
+    let read = peek s (right at 1) in
+    param_at (left at 1) ∷ input_at (right at 1)
     ∷ (if write == empty
     then (if read == empty then [] else output_at (below at) ∷ Write (below at) (var_at s (value read)) ∷ [])
     else Set (value write) read ∷ [])
 
 -- the variable is written below its name, the i-th at the right; nothing is written where the name is missing
-unfoldable pub written_below : Place → ℕ → ℕ → ℕ → List Deed
-written_below at i name stored =
+unfoldable pub store_deeds : Place → ℕ → ℕ → ℕ → List Deed
+store_deeds at i name stored =
     if name == empty then [] else output_at (off at (pos 1) (pos i)) ∷ Write (off at (pos 1) (pos i)) stored ∷ []
 
--- the variable that the i-th place at the right names is written below that place
-abbrev pub konkat_one : State → Place → ℕ → List Deed
-konkat_one s at i =
-    let name = peek s (across at i) in
-    written_below at i name (var_at s (value name))
+-- the i-th place at the right is read, and the variable that it names is written below it
+abbrev pub konkat_one : Place → ℕ → ℕ → ℕ → List Deed
+konkat_one at i name stored = input_at (right at (i + 1)) ∷ store_deeds at (i + 1) name stored
 
 -- K: the variables that are named at its right are written below
 abbrev pub konkat : ℕ → State → Place → Now → List Deed
 konkat g s at now =
-    param_at (left at)
-    ∷ each (value_or (peek s (left at)) 1) (λ i. input_at (across at (i + 1)) ∷ konkat_one s at (i + 1))
+    let name : ℕ → ℕ = λ i. peek s (right at (i + 1)) in
+    param_at (left at 1)
+    ∷ each (value_or (peek s (left at 1)) 1) (λ i. konkat_one at i (name i) (var_at s (value (name i))))

@@ -1,5 +1,5 @@
 -- What the laws of rules come from, and how deeds add up.
-use Rattle.std.specs.Prelude.{ℕ, zero, suc, All, ◌+◌, ◌-◌, ◌*◌, max, ◌<◌, ◌≤◌, ◌≡◌, List, [], ◌∷◌, ◌++◌, length, count_by, Some, None, slice_index, refl, ℤ, pos, negsuc, Bool, nat_lt, ◌&&◌, true, false, if◌then◌else◌}
+use Rattle.std.specs.Prelude.{ℕ, zero, suc, All, ◌+◌, ◌-◌, ◌*◌, max, ◌<◌, ◌≤◌, ◌≡◌, List, [], ◌∷◌, ◌++◌, length, count_by, Option, Some, None, IfSome, Bool, refl, if◌then◌else◌}
 use Rattle.std.proofs.Common.{inl, inr, arith, subst, add-one, length-append, lit≤}
 use Rattle.std.proofs.Math.ListN.{set}
 use Rattle.std.proofs.Math.Nat.{eq-or-lt_of_le}
@@ -9,52 +9,26 @@ use Rattle.std.proofs.lemmas.List.Sums.{sum_by-append, sum_by-cons}
 use Rattle.orca_base.specs.declared.limits.TheConstants.{BASE}
 use Rattle.orca_base.specs.declared.place.Spot.{Spot}
 use Rattle.orca_base.specs.EventRanges.{IsInRange}
-use Rattle.orca_base.specs.Glyphs.{IsGlyph, AreGlyphs}
+use Rattle.orca_base.specs.Glyphs.{IsGlyph}
 use Rattle.orca_base.specs.GlyphFacts.{value-below}
-use Rattle.orca_base.specs.Grids.{place_at}
-use Rattle.orca_op.specs.State.{State, IsState, peek, var_at, glyph_in}
+use Rattle.orca_base.specs.declared.place.Place.{Place}
+use Rattle.orca_base.specs.Grids.{IsInside, place_in}
+use Rattle.orca_base.proofs.PlaceFacts.{inside-place_in}
+use Rattle.orca_base.proofs.SheetFacts.{IsGlyph-index, IsGlyph-glyph_at}
+use Rattle.orca_op.specs.State.{State, IsState, sheet_of, peek, var_at, glyph_in}
 use Rattle.orca_op.specs.Deeds.{Deed, Mark, Write, Set, Emit, after, after_all, each}
-use Rattle.orca_op.specs.Desk.{Desk, done, all_done}
+use Rattle.orca_op.specs.Desk.{Desk, desk_after, desk_after_all}
 use Rattle.orca_op.specs.ValueRules.{value_or}
 use Rattle.orca_op.specs.Laws.{is_emit, Every, AnyDeed, EmitsInRange}
 
--- a number read inside a list of glyphs is a glyph
-pub IsGlyph-index : (xs : List ℕ) (i : ℕ) → AreGlyphs xs → i < length xs → IsGlyph (slice_index xs i)
-IsGlyph-index [] i all below = absurd (omega arith)
-IsGlyph-index (x ∷ xs) zero all below = all.0
-IsGlyph-index (x ∷ xs) (suc i) all below = let rest : i < length xs = omega arith in IsGlyph-index xs i all.1 rest
-
--- a glyph put among glyphs
-pub AreGlyphs-set : (xs : List ℕ) (i glyph : ℕ) → AreGlyphs xs → IsGlyph glyph → AreGlyphs (set xs i glyph)
-AreGlyphs-set [] i glyph all is = tt
-AreGlyphs-set (x ∷ xs) zero glyph all is = (is, all.1)
-AreGlyphs-set (x ∷ xs) (suc i) glyph all is = (all.0, AreGlyphs-set xs i glyph all.1 is)
-
--- a list is of glyphs where each of its elements is one
-pub AreGlyphs-each : (xs : List ℕ) → ((i : ℕ) → i < length xs → IsGlyph (slice_index xs i)) → AreGlyphs xs
-AreGlyphs-each [] each = tt
-AreGlyphs-each (x ∷ xs) each = (each zero (omega arith), AreGlyphs-each xs (λ i below. each (suc i) (omega arith)))
-
--- the number of a place inside is below the number of places
-pub index-below : (y x h w : ℕ) → y < h → x < w → y * w + x < h * w
-index-below y x h w row column = grind arith
-
-glyph_if : (s : State) (y x : ℕ) (inside : Bool) → IsState s → AreGlyphs s.cells → (inside ≡ true → (y < s.dims.h) × (x < s.dims.w)) → IsGlyph (glyph_in s (if inside then Some (record { y = y; x = x }) else None))
-glyph_if s y x true whole glyphs holds =
-    let places = index-below y x s.dims.h s.dims.w (holds refl).0 (holds refl).1 in
-    IsGlyph-index s.cells (y * s.dims.w + x) glyphs (omega (arith, places, whole.cells))
-glyph_if s y x false whole glyphs holds = (lit≤ tt, lit≤ tt)
-
-glyph_at_spot : (s : State) (y x : ℤ) → IsState s → AreGlyphs s.cells → IsGlyph (glyph_in s (place_at s.dims y x))
-glyph_at_spot s (pos y) (pos x) whole glyphs =
-    glyph_if s y x (nat_lt y s.dims.h && nat_lt x s.dims.w) whole glyphs (λ both. grind (arith, nat_tests))
-glyph_at_spot s (pos y) (negsuc x) whole glyphs = (lit≤ tt, lit≤ tt)
-glyph_at_spot s (negsuc y) x whole glyphs = (lit≤ tt, lit≤ tt)
+glyph_if : (s : State) (at : Option Place) → IsState s → IfSome at (IsInside s.dims) → IsGlyph (glyph_in s at)
+glyph_if s None whole inside = (lit≤ tt, lit≤ tt)
+glyph_if s (Some at) whole inside = IsGlyph-glyph_at (sheet_of s) at whole.sheet inside
 
 -- what stands at a spot is a glyph
-pub IsGlyph-peek : (s : State) (spot : Spot) → IsState s → AreGlyphs s.cells → IsGlyph (peek s spot)
+pub IsGlyph-peek : (s : State) (spot : Spot) → IsState s → IsGlyph (peek s spot)
 unfolding peek
-IsGlyph-peek s spot whole glyphs = glyph_at_spot s spot.y spot.x whole glyphs
+IsGlyph-peek s spot whole = glyph_if s (place_in s.dims spot) whole (inside-place_in s.dims spot)
 
 -- a value, or another where it is 0, is at most the greater of the last value and the other, and 0 only where the other is
 pub value_or-range : (glyph other : ℕ) → (value_or glyph other ≤ max (BASE - 1) other) × (0 < other → 0 < value_or glyph other)
@@ -62,9 +36,9 @@ unfolding value_or
 value_or-range glyph other = let below = value-below glyph in (grind (arith, nat_tests), λ some. grind (arith, nat_tests))
 
 -- what a variable holds is a glyph
-pub IsGlyph-var_at : (s : State) (n : ℕ) → IsState s → AreGlyphs s.vars → n < BASE → IsGlyph (var_at s n)
+pub IsGlyph-var_at : (s : State) (n : ℕ) → IsState s → n < BASE → IsGlyph (var_at s n)
 unfolding var_at
-IsGlyph-var_at s n whole glyphs below = IsGlyph-index s.vars n glyphs (omega (arith, whole.vars))
+IsGlyph-var_at s n whole below = IsGlyph-index s.vars n whole.glyphs (omega (arith, whole.vars))
 
 -- at most `size` deeds for each of n numbers
 pub length-each : (n size : ℕ) (deeds : ℕ → List Deed) → ((i : ℕ) → length (deeds i) ≤ size) → length (each n deeds) ≤ n * size
@@ -110,29 +84,29 @@ AnyDeed-each P (suc n) i deeds below some =
     ]
 
 -- deeds one after another
-pub all_done-append : (d : Desk) (xs ys : List Deed) → all_done d (xs ++ ys) ≡ all_done (all_done d xs) ys
-all_done-append d [] ys = refl
-all_done-append d (x ∷ xs) ys = all_done-append (done d x) xs ys
+pub desk_after_all-append : (d : Desk) (xs ys : List Deed) → desk_after_all d (xs ++ ys) ≡ desk_after_all (desk_after_all d xs) ys
+desk_after_all-append d [] ys = refl
+desk_after_all-append d (x ∷ xs) ys = desk_after_all-append (desk_after d x) xs ys
 
 -- deeds one after another add up
-pub ruleset added_up = (all_done-append)
+pub ruleset added_up = (desk_after_all-append)
 
 pub after_all-append : (s : State) (xs ys : List Deed) → after_all s (xs ++ ys) ≡ after_all (after_all s xs) ys
 after_all-append s [] ys = refl
 after_all-append s (x ∷ xs) ys = after_all-append (after s x) xs ys
 
 -- the state of a desk after deeds is the state after them
-pub scan-all_done : (d : Desk) (deeds : List Deed) → (all_done d deeds).scan ≡ after_all d.scan deeds
-scan-all_done d [] = refl
-scan-all_done d (deed ∷ deeds) = scan-all_done (done d deed) deeds
+pub scan-desk_after_all : (d : Desk) (deeds : List Deed) → (desk_after_all d deeds).scan ≡ after_all d.scan deeds
+scan-desk_after_all d [] = refl
+scan-desk_after_all d (deed ∷ deeds) = scan-desk_after_all (desk_after d deed) deeds
 
 -- the deeds of one number more
 pub each-more : (n : ℕ) (deeds : ℕ → List Deed) → each (n + 1) deeds ≡ each n deeds ++ deeds n
 each-more n deeds = rw add-one refl
 
 -- the deeds of one number more come after those of the numbers before
-pub all_done-each_more : (d : Desk) (n : ℕ) (deeds : ℕ → List Deed) → all_done d (each (n + 1) deeds) ≡ all_done (all_done d (each n deeds)) (deeds n)
-all_done-each_more d n deeds = rw (each-more n deeds, all_done-append d (each n deeds) (deeds n)) refl
+pub desk_after_all-each_more : (d : Desk) (n : ℕ) (deeds : ℕ → List Deed) → desk_after_all d (each (n + 1) deeds) ≡ desk_after_all (desk_after_all d (each n deeds)) (deeds n)
+desk_after_all-each_more d n deeds = rw (each-more n deeds, desk_after_all-append d (each n deeds) (deeds n)) refl
 
 -- the same deeds for each number below n
 pub each-same : (n : ℕ) (deeds others : ℕ → List Deed) → ((i : ℕ) → i < n → deeds i ≡ others i) → each n deeds ≡ each n others

@@ -6,8 +6,9 @@ use Rattle.orca_base.specs.declared.now.Now.{Now}
 use Rattle.orca_base.specs.declared.place.Place.{Place}
 use Rattle.orca_base.specs.declared.place.Spot.{Spot}
 use Rattle.orca_base.specs.EventRanges.{IsInRange}
-use Rattle.orca_base.specs.Glyphs.{IsGlyph, AreGlyphs}
-use Rattle.orca_op.specs.State.{State, IsState, own}
+use Rattle.orca_base.specs.Glyphs.{IsGlyph}
+use Rattle.orca_op.specs.State.{State, IsState}
+use Rattle.orca_base.specs.Grids.{here}
 use Rattle.orca_op.specs.Deeds.{Deed, Mark, Write, Set, Emit}
 
 abbrev pub is_emit : Deed → Bool
@@ -49,7 +50,7 @@ Covers spot (Emit event) = ⊥
 -- a write to another place comes with Lock or Sleep on that place
 abbrev pub IsCovered : Place → List Deed → Deed → Type 0
 IsCovered at deeds (Mark spot marks) = Unit {0}
-IsCovered at deeds (Write spot glyph) = (spot ≡ own at) ⊎ AnyDeed (Covers spot) deeds
+IsCovered at deeds (Write spot glyph) = (spot ≡ here at) ⊎ AnyDeed (Covers spot) deeds
 IsCovered at deeds (Set variable glyph) = Unit {0}
 IsCovered at deeds (Emit event) = Unit {0}
 
@@ -57,6 +58,6 @@ IsCovered at deeds (Emit event) = Unit {0}
 pub record IsLawful (rule : ℕ → State → Place → Now → List Deed) : Type 0 where
   pub few_deeds : (g : ℕ) (s : State) (at : Place) (now : Now) → length (rule g s at now) ≤ MAX_DEEDS
   pub one_event : (g : ℕ) (s : State) (at : Place) (now : Now) → count_by is_emit (rule g s at now) ≤ 1
-  pub glyphs : (g : ℕ) (s : State) (at : Place) (now : Now) → IsState s → IsGlyph g → AreGlyphs s.cells → AreGlyphs s.vars → Every WritesGlyph (rule g s at now)
+  pub glyphs : (g : ℕ) (s : State) (at : Place) (now : Now) → IsState s → IsGlyph g → Every WritesGlyph (rule g s at now)
   pub covered : (g : ℕ) (s : State) (at : Place) (now : Now) → Every (IsCovered at (rule g s at now)) (rule g s at now)
-  pub events : (g : ℕ) (s : State) (at : Place) (now : Now) → IsState s → AreGlyphs s.cells → Every EmitsInRange (rule g s at now)
+  pub events : (g : ℕ) (s : State) (at : Place) (now : Now) → IsState s → Every EmitsInRange (rule g s at now)

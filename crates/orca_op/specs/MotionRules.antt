@@ -5,7 +5,8 @@ use Rattle.orca_base.specs.declared.now.Now.{Now}
 use Rattle.orca_base.specs.declared.place.Place.{Place}
 use Rattle.orca_base.specs.declared.place.Spot.{Spot}
 use Rattle.orca_base.specs.Glyphs.{empty, bang}
-use Rattle.orca_op.specs.State.{State, peek, holds, own, left, right, above, below, across, down}
+use Rattle.orca_op.specs.State.{State, peek, holds}
+use Rattle.orca_base.specs.Grids.{above, below, down, here, left, right}
 use Rattle.orca_op.specs.Deeds.{Deed, Write, input_at, param_at, output_at, lock_at, sleep_at, each}
 use Rattle.orca_op.specs.First.{first_where}
 
@@ -13,12 +14,12 @@ use Rattle.orca_op.specs.First.{first_where}
 unfoldable pub move_to : ℕ → State → Place → Spot → List Deed
 move_to g s at target =
     if holds s target && (peek s target == empty)
-    then sleep_at target ∷ Write target g ∷ Write (own at) empty ∷ []
-    else Write (own at) bang ∷ []
+    then sleep_at target ∷ Write target g ∷ Write (here at) empty ∷ []
+    else Write (here at) bang ∷ []
 
 -- E: to the right
 abbrev pub east : ℕ → State → Place → Now → List Deed
-east g s at now = move_to g s at (right at)
+east g s at now = move_to g s at (right at 1)
 
 -- N: upwards
 abbrev pub north : ℕ → State → Place → Now → List Deed
@@ -30,11 +31,11 @@ south g s at now = move_to g s at (below at)
 
 -- W: to the left
 abbrev pub west : ℕ → State → Place → Now → List Deed
-west g s at now = move_to g s at (left at)
+west g s at now = move_to g s at (left at 1)
 
 -- `*`: it is erased
 abbrev pub bang_rule : ℕ → State → Place → Now → List Deed
-bang_rule g s at now = Write (own at) empty ∷ []
+bang_rule g s at now = Write (here at) empty ∷ []
 
 -- H: the place below is a parameter, and so is not evaluated
 abbrev pub halt : ℕ → State → Place → Now → List Deed
@@ -46,29 +47,29 @@ hash = 35
 
 -- how many places a comment locks: up to and with the next `#`, and at most its reach
 unfoldable pub comment_length : State → Place → ℕ
-comment_length s at = unwrap_or (first_where (λ i. peek s (across at i) == hash) 1 COMMENT_REACH) COMMENT_REACH
+comment_length s at = unwrap_or (first_where (λ i. peek s (right at i) == hash) 1 COMMENT_REACH) COMMENT_REACH
 
 -- n places to the right are locked
-abbrev pub locked : Place → ℕ → List Deed
-locked at n = each n (λ i. lock_at (across at (i + 1)) ∷ [])
+abbrev pub lock_deeds : Place → ℕ → List Deed
+lock_deeds at n = each n (λ i. lock_at (right at (i + 1)) ∷ [])
 
 -- `#`: locks the places to its right
 abbrev pub comment : ℕ → State → Place → Now → List Deed
-comment g s at now = locked at (comment_length s at)
+comment g s at now = lock_deeds at (comment_length s at)
 
 -- where the chain of a jumper's glyph ends: the number of the first place beyond it that holds another
 unfoldable pub chain_end : ℕ → State → (ℕ → Spot) → Option ℕ
 chain_end g s beyond = first_where (λ i. not (peek s (beyond i) == g)) 1 JUMP_REACH
 
 -- the first n places beyond a jumper are put to sleep
-abbrev pub asleep : (ℕ → Spot) → ℕ → List Deed
-asleep beyond n = each n (λ k. sleep_at (beyond (k + 1)) ∷ [])
+abbrev pub sleep_deeds : (ℕ → Spot) → ℕ → List Deed
+sleep_deeds beyond n = each n (λ k. sleep_at (beyond (k + 1)) ∷ [])
 
 -- a chain of jumpers hands the glyph of its source on to the place beyond its end
 abbrev pub jump_by : ℕ → State → Spot → (ℕ → Spot) → Option ℕ → List Deed
 jump_by g s source beyond None = input_at source ∷ []
 jump_by g s source beyond (Some i) =
-    input_at source ∷ asleep beyond (i - 1) ++ output_at (beyond i) ∷ Write (beyond i) (peek s source) ∷ []
+    input_at source ∷ sleep_deeds beyond (i - 1) ++ output_at (beyond i) ∷ Write (beyond i) (peek s source) ∷ []
 
 -- only the first of a chain acts
 unfoldable pub jump : ℕ → State → Spot → (ℕ → Spot) → List Deed
@@ -81,4 +82,4 @@ jumper g s at now = jump g s (above at) (down at)
 
 -- Y: from the left to the right
 abbrev pub jymper : ℕ → State → Place → Now → List Deed
-jymper g s at now = jump g s (left at) (across at)
+jymper g s at now = jump g s (left at 1) (right at)

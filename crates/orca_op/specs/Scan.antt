@@ -3,10 +3,10 @@ use Rattle.std.specs.Prelude.{ℕ, zero, suc, ◌+◌, ◌*◌, Bool, not, ◌&&
 use Rattle.orca_base.specs.declared.now.Now.{Now}
 use Rattle.orca_base.specs.declared.place.Place.{Place}
 use Rattle.orca_base.specs.Glyphs.{is_operator, needs_bang}
-use Rattle.orca_base.specs.Grids.{Sheet, place_of}
+use Rattle.orca_base.specs.Grids.{Sheet, cells_of, place_of}
 use Rattle.orca_op.specs.State.{State, fresh, glyph_at, marks_at, has_bang}
 use Rattle.orca_op.specs.Deeds.{Deed, after_all}
-use Rattle.orca_op.specs.Desk.{listed_all}
+use Rattle.orca_op.specs.Desk.{list_after_all}
 use Rattle.orca_op.specs.Rules.{rule}
 
 -- a place is idle where it holds no operator, is locked or asleep, or holds a lower-case letter without a bang
@@ -20,36 +20,39 @@ abbrev pub Rules : Type 0
 Rules = ℕ → State → Place → Now → List Deed
 
 -- the deeds of a visit: none where the place is idle, else those of the rule of its glyph
-unfoldable pub deeds_by : Rules → State → Place → Now → List Deed
-deeds_by rules s at now = if is_idle s at then [] else rules (glyph_at s at) s at now
+unfoldable pub visit_deeds : Rules → State → Place → Now → List Deed
+visit_deeds rules s at now = if is_idle s at then [] else rules (glyph_at s at) s at now
+
+-- the state after a visit
+abbrev pub state_after_visit : Rules → State → Place → Now → State
+state_after_visit rules s at now = after_all s (visit_deeds rules s at now)
 
 -- the state after the first n places were visited
-abbrev pub scanned_by : Rules → ℕ → Sheet → Now → State
-scanned_by rules zero g now = fresh g
-scanned_by rules (suc n) g now =
-    after_all (scanned_by rules n g now) (deeds_by rules (scanned_by rules n g now) (place_of g.dims n) now)
+abbrev pub state_after_places : Rules → ℕ → Sheet → Now → State
+state_after_places rules zero g now = fresh g
+state_after_places rules (suc n) g now = state_after_visit rules (state_after_places rules n g now) (place_of g.dims n) now
 
 -- the deeds of the first n visits
 abbrev pub scan_deeds : ℕ → Sheet → Now → List Deed
 scan_deeds zero g now = []
-scan_deeds (suc n) g now = scan_deeds n g now ++ deeds_by rule (scanned_by rule n g now) (place_of g.dims n) now
+scan_deeds (suc n) g now = scan_deeds n g now ++ visit_deeds rule (state_after_places rule n g now) (place_of g.dims n) now
 
 -- how many of the first n places hold an operator when the scan reaches them
 abbrev pub busy_of : ℕ → Sheet → Now → ℕ
 busy_of zero g now = 0
 busy_of (suc n) g now =
-    busy_of n g now + (if is_operator (glyph_at (scanned_by rule n g now) (place_of g.dims n)) then 1 else 0)
+    busy_of n g now + (if is_operator (glyph_at (state_after_places rule n g now) (place_of g.dims n)) then 1 else 0)
 
 abbrev pub places : Sheet → ℕ
-places g = g.dims.h * g.dims.w
+places g = cells_of g.dims
 
 -- the state after a frame
 unfoldable pub scan : Sheet → Now → State
-scan g now = scanned_by rule (places g) g now
+scan g now = state_after_places rule (places g) g now
 
 -- the places of the grid that the deeds of a frame write, each once
-unfoldable pub written : Sheet → Now → List Place
-written g now = listed_all g.dims g.dims [] (scan_deeds (places g) g now)
+unfoldable pub written_places : Sheet → Now → List Place
+written_places g now = list_after_all g.dims g.dims [] (scan_deeds (places g) g now)
 
 -- how many places hold an operator when the scan of a frame reaches them
 unfoldable pub busy : Sheet → Now → ℕ

@@ -1,11 +1,11 @@
 -- The state of a scan, and what can be read in it.
-use Rattle.std.specs.Prelude.{ℕ, ◌*◌, ◌≡◌, ◌≤◌, ◌==◌, Bool, ◌||◌, List, [], length, replicate, Option, Some, None, slice_index, slice_index_or, pos, negsuc, is_some}
+use Rattle.std.specs.Prelude.{ℕ, ◌*◌, ◌≡◌, ◌≤◌, ◌==◌, Bool, ◌||◌, List, [], length, replicate, Option, Some, None, slice_index, slice_index_or, is_some}
 use Rattle.orca_base.specs.declared.event.Event.{Event}
 use Rattle.orca_base.specs.declared.limits.TheConstants.{BASE}
 use Rattle.orca_base.specs.declared.place.Place.{Place}
 use Rattle.orca_base.specs.declared.place.Spot.{Spot}
-use Rattle.orca_base.specs.Glyphs.{empty, bang}
-use Rattle.orca_base.specs.Grids.{Size, IsSize, Sheet, index_of, place_in, off}
+use Rattle.orca_base.specs.Glyphs.{AreGlyphs, empty, bang}
+use Rattle.orca_base.specs.Grids.{Size, Sheet, IsSheet, cells_of, glyph_at as glyph_on, index_of, place_in, above, below, left, right}
 use Rattle.orca_base.specs.MarkSet.{MarkSet, no_marks}
 
 -- the size, the glyphs and the marks in reading order, the variables, and the events so far
@@ -16,30 +16,34 @@ pub record State : Type 0 where
   pub vars : List ℕ
   pub events : List Event
 
--- the lists have an element for each place, and for each variable
-pub record IsState (s : State) : Type 0 where
-  pub size : IsSize s.dims
-  pub cells : length s.cells ≡ s.dims.h * s.dims.w
-  pub marks : length s.marks ≡ s.dims.h * s.dims.w
-  pub vars : length s.vars ≡ BASE
-  pub events : length s.events ≤ s.dims.h * s.dims.w
-
 abbrev pub sheet_of : State → Sheet
 sheet_of s = record { dims = s.dims; cells = s.cells }
+
+-- a grid, a set of marks for each place, a glyph for each variable, and no more events than places
+pub record IsState (s : State) : Type 0 where
+  pub sheet : IsSheet (sheet_of s)
+  pub marks : length s.marks ≡ cells_of s.dims
+  pub vars : length s.vars ≡ BASE
+  pub glyphs : AreGlyphs s.vars
+  pub events : length s.events ≤ cells_of s.dims
+
+-- nothing is marked
+abbrev pub blank_marks : Size → List MarkSet
+blank_marks d = replicate (cells_of d) no_marks
 
 -- nothing is marked, the variables are empty, and there is no event
 abbrev pub fresh : Sheet → State
 fresh g = record {
   dims = g.dims;
   cells = g.cells;
-  marks = replicate (g.dims.h * g.dims.w) no_marks;
+  marks = blank_marks g.dims;
   vars = replicate BASE empty;
   events = [];
 }
 
 -- the glyph of a place
 abbrev pub glyph_at : State → Place → ℕ
-glyph_at s at = slice_index s.cells (index_of s.dims at)
+glyph_at s at = glyph_on (sheet_of s) at
 
 -- the marks of a place
 abbrev pub marks_at : State → Place → MarkSet
@@ -69,29 +73,7 @@ var_at s n = slice_index s.vars n
 unfoldable pub holds : State → Spot → Bool
 holds s spot = is_some (place_in s.dims spot)
 
--- the spots next to a place, and the place as a spot
-abbrev pub own : Place → Spot
-own at = off at (pos 0) (pos 0)
-
-abbrev pub left : Place → Spot
-left at = off at (pos 0) (negsuc 0)
-
-abbrev pub right : Place → Spot
-right at = off at (pos 0) (pos 1)
-
-abbrev pub above : Place → Spot
-above at = off at (negsuc 0) (pos 0)
-
-abbrev pub below : Place → Spot
-below at = off at (pos 1) (pos 0)
-
--- the spot n columns to the right, and n rows below
-abbrev pub across : Place → ℕ → Spot
-across at n = off at (pos 0) (pos n)
-
-abbrev pub down : Place → ℕ → Spot
-down at n = off at (pos n) (pos 0)
-
 -- a bang stands at one of the four neighbours
 unfoldable pub has_bang : State → Place → Bool
-has_bang s at = (peek s (above at) == bang) || (peek s (left at) == bang) || (peek s (right at) == bang) || (peek s (below at) == bang)
+has_bang s at =
+    (peek s (above at) == bang) || (peek s (left at 1) == bang) || (peek s (right at 1) == bang) || (peek s (below at) == bang)

@@ -6,7 +6,8 @@ use Rattle.orca_base.specs.declared.now.Now.{Now}
 use Rattle.orca_base.specs.declared.place.Place.{Place}
 use Rattle.orca_base.specs.Glyphs.{empty, bang, value, cased}
 use Rattle.orca_base.specs.Grids.{Size, index_of}
-use Rattle.orca_op.specs.State.{State, peek, left, right, below}
+use Rattle.orca_op.specs.State.{State, peek}
+use Rattle.orca_base.specs.Grids.{below, left, right}
 use Rattle.orca_op.specs.Deeds.{Deed, Write, input_at, param_at, output_at}
 use Rattle.rand_pcg.specs.Lcg.{started, increment_of}
 use Rattle.rand_pcg.specs.Pcg.{multiplier_64, pcg32}
@@ -21,63 +22,63 @@ rate_of glyph = if (glyph == empty) || (glyph == bang) then 1 else value glyph
 
 -- the ports of a value operator
 abbrev pub value_ports : Place → List Deed
-value_ports at = param_at (left at) ∷ input_at (right at) ∷ output_at (below at) ∷ []
+value_ports at = param_at (left at 1) ∷ input_at (right at 1) ∷ output_at (below at) ∷ []
 
 -- A: the sum of its inputs
 abbrev pub add : ℕ → State → Place → Now → List Deed
 add g s at now =
-    let a = peek s (left at) in
-    let b = peek s (right at) in
+    let a = peek s (left at 1) in
+    let b = peek s (right at 1) in
     value_ports at ++ Write (below at) (cased ((value a + value b) % BASE) b) ∷ []
 
 -- B: the distance of its inputs
 abbrev pub subtract : ℕ → State → Place → Now → List Deed
 subtract g s at now =
-    let a = peek s (left at) in
-    let b = peek s (right at) in
+    let a = peek s (left at 1) in
+    let b = peek s (right at 1) in
     value_ports at ++ Write (below at) (cased (max (value a) (value b) - min (value a) (value b)) b) ∷ []
 
 -- C: the frame's number, divided by the rate, modulo the modulus
 abbrev pub clock : ℕ → State → Place → Now → List Deed
 clock g s at now =
-    let rate = peek s (left at) in
-    let modulus = peek s (right at) in
+    let rate = peek s (left at 1) in
+    let modulus = peek s (right at 1) in
     value_ports at ++ Write (below at) (cased ((now.tick / value_or rate 1) % value_or modulus 8) modulus) ∷ []
 
 -- D: a bang on each multiple of the rate times the modulus
 abbrev pub delay : ℕ → State → Place → Now → List Deed
 delay g s at now =
-    let rate = peek s (left at) in
-    let modulus = peek s (right at) in
+    let rate = peek s (left at 1) in
+    let modulus = peek s (right at 1) in
     value_ports at ++ Write (below at) (if now.tick % (value_or rate 1 * value_or modulus 8) == 0 then bang else empty) ∷ []
 
 -- F: a bang where its inputs are the same glyph
 abbrev pub if_equal : ℕ → State → Place → Now → List Deed
 if_equal g s at now =
-    let a = peek s (left at) in
-    let b = peek s (right at) in
+    let a = peek s (left at 1) in
+    let b = peek s (right at 1) in
     value_ports at ++ Write (below at) (if a == b then bang else empty) ∷ []
 
 -- I: what stands below, raised by the step, modulo the modulus
 abbrev pub increment : ℕ → State → Place → Now → List Deed
 increment g s at now =
-    let step = peek s (left at) in
-    let modulus = peek s (right at) in
+    let step = peek s (left at 1) in
+    let modulus = peek s (right at 1) in
     let current = peek s (below at) in
     value_ports at ++ input_at (below at) ∷ Write (below at) (cased ((value current + rate_of step) % value_or modulus BASE) modulus) ∷ []
 
 -- L: the smaller of its inputs, and nothing where one is missing
 abbrev pub lesser : ℕ → State → Place → Now → List Deed
 lesser g s at now =
-    let a = peek s (left at) in
-    let b = peek s (right at) in
+    let a = peek s (left at 1) in
+    let b = peek s (right at 1) in
     value_ports at ++ Write (below at) (if (a == empty) || (b == empty) then empty else cased (min (value a) (value b)) b) ∷ []
 
 -- M: the product of its inputs
 abbrev pub multiply : ℕ → State → Place → Now → List Deed
 multiply g s at now =
-    let a = peek s (left at) in
-    let b = peek s (right at) in
+    let a = peek s (left at 1) in
+    let b = peek s (right at 1) in
     value_ports at ++ Write (below at) (cased ((value a * value b) % BASE) b) ∷ []
 
 -- the random word of a place: the first word of the generator that the seed, the frame and the place name
@@ -91,15 +92,15 @@ random_between a b word = if a == b then a else min a b + word % (max a b - min 
 -- R: a random value between its inputs
 abbrev pub random : ℕ → State → Place → Now → List Deed
 random g s at now =
-    let min = peek s (left at) in
-    let max = peek s (right at) in
+    let min = peek s (left at 1) in
+    let max = peek s (right at 1) in
     value_ports at ++ Write (below at) (cased (random_between (value min) (value_or max BASE) (word_in s.dims at now)) max) ∷ []
 
 -- U: a bang on the frames of an even spread of `step` bangs over `max` frames
 abbrev pub uclid : ℕ → State → Place → Now → List Deed
 uclid g s at now =
-    let step = peek s (left at) in
-    let max = peek s (right at) in
+    let step = peek s (left at 1) in
+    let max = peek s (right at 1) in
     let n = rate_of step in
     let m = value_or max 8 in
     value_ports at ++ Write (below at) (if nat_le m ((n * (now.tick + m - 1)) % m + n) then bang else empty) ∷ []
@@ -112,7 +113,7 @@ lerped from rate target =
 -- Z: what stands below, a step nearer to the target
 abbrev pub lerp : ℕ → State → Place → Now → List Deed
 lerp g s at now =
-    let rate = peek s (left at) in
-    let target = peek s (right at) in
+    let rate = peek s (left at 1) in
+    let target = peek s (right at 1) in
     let current = peek s (below at) in
     value_ports at ++ input_at (below at) ∷ Write (below at) (cased (lerped (value current) (rate_of rate) (value target)) target) ∷ []

@@ -11,9 +11,9 @@ pub fn has_bang<B: Bench, L: Ledger>(bench: &B, at: Place, steps: &mut Steps<L>)
     ensures bang { result ≡ has_bang (B.desk bench.now).scan at }
     ensures ticks { steps.new ≡ steps.old + 4 }
 {
-    let above = bench.peek(at.off(-1, 0), steps);
-    let left = bench.peek(at.off(0, -1), steps);
-    let right = bench.peek(at.off(0, 1), steps);
-    let below = bench.peek(at.off(1, 0), steps);
+    let above = bench.peek(at.above(), steps);
+    let left = bench.peek(at.left(1), steps);
+    let right = bench.peek(at.right(1), steps);
+    let below = bench.peek(at.below(), steps);
     above == Glyph::BANG || left == Glyph::BANG || right == Glyph::BANG || below == Glyph::BANG
 }

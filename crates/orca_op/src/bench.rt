@@ -1,8 +1,7 @@
 ghost use Rattle.std.specs.Prelude.{◌≡◌, ◌+◌, ◌<◌};
-ghost use Rattle.orca_op.specs.State.{IsState, peek, marked, var_at};
+ghost use Rattle.orca_op.specs.State.{peek, marked, var_at};
 ghost use Rattle.orca_op.specs.Deeds.{Mark as mark_deed, Write as write_deed, Set as set_deed, Emit as emit_deed, input_at, param_at, output_at, far_at, lock_at, sleep_at, show_at};
-ghost use Rattle.orca_op.specs.Desk.{Desk, HasRoom, done, begun, residue};
-ghost use Rattle.orca_base.specs.Glyphs.{AreGlyphs};
+ghost use Rattle.orca_op.specs.Desk.{Desk, IsDesk, HasRoom, desk_after, desk_at_begin, residue};
 
 use orca_base::limits::BASE;
 use orca_base::{Dims, Event, Glyph, Mark, Marks, Spot, Steps};
@@ -11,14 +10,13 @@ use std::sync::ledger::Ledger;
 /// Where a frame is worked: the grid with its marks, variables and events. Each call but `dims` ticks
 /// once, and `begin` once more for each marked place and for each listed one. No call takes memory.
 pub trait Bench {
-    /// The state of the scan, the size at the last `begin`, and the places that were written since.
+    /// The state of the scan, the grid at the last `begin`, and the places that were written since.
     ghost desk: { Self → Desk };
 
     /// The size.
     fn dims(&self) -> Dims
         ensures size { result ≡ (desk self.now).scan.dims }
-        ensures whole { IsState (desk self.now).scan }
-        ensures glyphs { AreGlyphs (desk self.now).scan.cells };
+        ensures desk { IsDesk (desk self.now) };
 
     /// The glyph of a spot, `.` outside the grid.
     fn peek<L: Ledger>(&self, at: Spot, steps: &mut Steps<L>) -> Glyph
@@ -27,12 +25,12 @@ pub trait Bench {
 
     /// Writes the glyph. Outside the grid nothing changes.
     fn write<L: Ledger>(&mut self, at: Spot, glyph: Glyph, steps: &mut Steps<L>)
-        ensures deed { desk self.new ≡ done (desk self.old) (write_deed at glyph) }
+        ensures deed { desk self.new ≡ desk_after (desk self.old) (write_deed at glyph) }
         ensures ticks { steps.new ≡ steps.old + 1 };
 
     /// Adds the marks. Outside the grid nothing changes.
     fn mark<L: Ledger>(&mut self, at: Spot, marks: Marks, steps: &mut Steps<L>)
-        ensures deed { desk self.new ≡ done (desk self.old) (mark_deed at marks) }
+        ensures deed { desk self.new ≡ desk_after (desk self.old) (mark_deed at marks) }
         ensures ticks { steps.new ≡ steps.old + 1 };
 
     /// The marks of a spot, none outside the grid.
@@ -49,23 +47,23 @@ pub trait Bench {
     /// Sets a variable, by its name's value below the base.
     fn set_var<L: Ledger>(&mut self, index: u8, glyph: Glyph, steps: &mut Steps<L>)
         requires { index < BASE }
-        ensures deed { desk self.new ≡ done (desk self.old) (set_deed index glyph) }
+        ensures deed { desk self.new ≡ desk_after (desk self.old) (set_deed index glyph) }
         ensures ticks { steps.new ≡ steps.old + 1 };
 
     /// Adds an event, where fewer are listed than the grid has places.
     fn emit<L: Ledger>(&mut self, event: Event, steps: &mut Steps<L>)
         requires { HasRoom (desk self.old) }
-        ensures deed { desk self.new ≡ done (desk self.old) (emit_deed event) }
+        ensures deed { desk self.new ≡ desk_after (desk self.old) (emit_deed event) }
         ensures ticks { steps.new ≡ steps.old + 1 };
 
     /// Begins a frame: nothing is marked or listed, the variables are empty, and there is no event.
     fn begin<L: Ledger>(&mut self, steps: &mut Steps<L>)
-        ensures desk { desk self.new ≡ begun (desk self.old) }
+        ensures desk { desk self.new ≡ desk_at_begin (desk self.old) }
         ensures ticks { steps.new ≡ steps.old + 1 + residue (desk self.old) };
 
     /// Marks an input: the place is read, and is not evaluated.
     final fn input<L: Ledger>(&mut self, at: Spot, steps: &mut Steps<L>)
-        ensures deed { desk self.new ≡ done (desk self.old) (input_at at) }
+        ensures deed { desk self.new ≡ desk_after (desk self.old) (input_at at) }
         ensures ticks { steps.new ≡ steps.old + 1 }
     {
         self.mark(at, Marks::none().with(Mark::Input).with(Mark::Lock), steps);
@@ -73,7 +71,7 @@ pub trait Bench {
 
     /// Marks a parameter: the place is read, and is not evaluated.
     final fn param<L: Ledger>(&mut self, at: Spot, steps: &mut Steps<L>)
-        ensures deed { desk self.new ≡ done (desk self.old) (param_at at) }
+        ensures deed { desk self.new ≡ desk_after (desk self.old) (param_at at) }
         ensures ticks { steps.new ≡ steps.old + 1 }
     {
         self.mark(
@@ -88,7 +86,7 @@ pub trait Bench {
 
     /// Marks an output: the place is written, and is not evaluated.
     final fn output<L: Ledger>(&mut self, at: Spot, steps: &mut Steps<L>)
-        ensures deed { desk self.new ≡ done (desk self.old) (output_at at) }
+        ensures deed { desk self.new ≡ desk_after (desk self.old) (output_at at) }
         ensures ticks { steps.new ≡ steps.old + 1 }
     {
         self.mark(at, Marks::none().with(Mark::Output).with(Mark::Lock), steps);
@@ -96,7 +94,7 @@ pub trait Bench {
 
     /// Marks a far output: the place is written, and sleeps until the next frame.
     final fn far<L: Ledger>(&mut self, at: Spot, steps: &mut Steps<L>)
-        ensures deed { desk self.new ≡ done (desk self.old) (far_at at) }
+        ensures deed { desk self.new ≡ desk_after (desk self.old) (far_at at) }
         ensures ticks { steps.new ≡ steps.old + 1 }
     {
         self.mark(
@@ -108,7 +106,7 @@ pub trait Bench {
 
     /// Locks a place: it is not evaluated.
     final fn lock<L: Ledger>(&mut self, at: Spot, steps: &mut Steps<L>)
-        ensures deed { desk self.new ≡ done (desk self.old) (lock_at at) }
+        ensures deed { desk self.new ≡ desk_after (desk self.old) (lock_at at) }
         ensures ticks { steps.new ≡ steps.old + 1 }
     {
         self.mark(at, Marks::none().with(Mark::Lock), steps);
@@ -116,7 +114,7 @@ pub trait Bench {
 
     /// Puts a place to sleep: it is not evaluated before the next frame.
     final fn sleep<L: Ledger>(&mut self, at: Spot, steps: &mut Steps<L>)
-        ensures deed { desk self.new ≡ done (desk self.old) (sleep_at at) }
+        ensures deed { desk self.new ≡ desk_after (desk self.old) (sleep_at at) }
         ensures ticks { steps.new ≡ steps.old + 1 }
     {
         self.mark(at, Marks::none().with(Mark::Sleep), steps);
@@ -124,7 +122,7 @@ pub trait Bench {
 
     /// Shows that a place sends.
     final fn show<L: Ledger>(&mut self, at: Spot, steps: &mut Steps<L>)
-        ensures deed { desk self.new ≡ done (desk self.old) (show_at at) }
+        ensures deed { desk self.new ≡ desk_after (desk self.old) (show_at at) }
         ensures ticks { steps.new ≡ steps.old + 1 }
     {
         self.mark(at, Marks::none().with(Mark::Output), steps);

@@ -1,4 +1,5 @@
-ghost use Rattle.std.specs.Prelude.{◌≡◌};
+ghost use Rattle.std.specs.Prelude.{◌≡◌, ◌↔◌, IsTrue, IsSome};
+ghost use Rattle.orca_base.specs.Glyphs.{is_operator};
 
 use orca_base::Glyph;
 
@@ -79,9 +80,10 @@ impl Kind {
     ghost use Rattle.orca_op.specs.Kinds.{kind_of};
 
     /// The kind of an operator glyph, a letter being of one kind in either case; none of any other glyph.
-    #[tactic(auto, unfolding(crate::specs::Kinds::kind_of))]
+    #[tactic(auto, unfolding(crate::specs::Kinds::kind_of, orca_base::specs::Glyphs::is_operator))]
     pub fn of(glyph: Glyph) -> Option<Kind>
-        ensures { result ≡ kind_of glyph }
+        ensures kind { result ≡ kind_of glyph }
+        ensures operator { IsSome result ↔ IsTrue (is_operator glyph) }
     {
         let byte = glyph.byte();
         let upper = if byte.is_ascii_lowercase() {

@@ -3,7 +3,6 @@
 
 mod bangs;
 mod bench;
-mod glyphs;
 mod kind;
 mod live;
 mod operator;
@@ -12,7 +11,6 @@ mod walk;
 
 pub use bangs::has_bang;
 pub use bench::Bench;
-pub use glyphs::read_glyphs;
 pub use kind::Kind;
 pub use live::next_live;
 pub use operator::Operator;

@@ -50,6 +50,3 @@ fn bit_from(word: u64, from: u16) -> Option<u16>
     }
     Some(rest.trailing_zeros() as u16)
 }
-
-#[cfg(test)]
-mod tests;

@@ -7,7 +7,7 @@ ghost use Rattle.orca_op.specs.declared.kind.Kind.{Kind};
 ghost use Rattle.orca_op.specs.Kinds.{kind_of};
 ghost use Rattle.orca_op.specs.State.{State, glyph_at};
 ghost use Rattle.orca_op.specs.Deeds.{Deed};
-ghost use Rattle.orca_op.specs.Desk.{Desk, HasRoom, all_done};
+ghost use Rattle.orca_op.specs.Desk.{Desk, HasRoom, desk_after_all};
 ghost use Rattle.orca_op.specs.Laws.{IsLawful};
 ghost use Rattle.orca_op.specs.Rules.{rule_of};
 
@@ -33,7 +33,7 @@ pub trait Operator {
         requires holds { glyph ≡ glyph_at (B.desk bench.old).scan at }
         requires served { kind_of glyph ≡ Some kind }
         requires room { HasRoom (B.desk bench.old) }
-        ensures deeds { B.desk bench.new ≡ all_done (B.desk bench.old) (rule_of kind glyph (B.desk bench.old).scan at now) }
+        ensures deeds { B.desk bench.new ≡ desk_after_all (B.desk bench.old) (rule_of kind glyph (B.desk bench.old).scan at now) }
         ensures ticks { steps.new ≤ steps.old + MAX_TICKS }
         ensures later { steps.old ≤ steps.new };
 

@@ -1,5 +1,5 @@
 ghost use Rattle.std.specs.Prelude.{◌≡◌, ◌+◌, ◌<◌};
-ghost use Rattle.orca_op.specs.State.{IsState};
+ghost use Rattle.orca_op.specs.Desk.{IsDesk};
 ghost use Rattle.orca_op.specs.Live.{IsLiveRow};
 
 use crate::Bench;
@@ -14,6 +14,6 @@ pub trait Walk: Bench {
     fn live_words<L: Ledger>(&self, row: u16, steps: &mut Steps<L>) -> &[u64]
         requires { row < (Self.desk self.now).scan.dims.h }
         ensures live { IsLiveRow (Self.desk self.now).scan row result.now }
-        ensures whole { IsState (Self.desk self.now).scan }
+        ensures desk { IsDesk (Self.desk self.now) }
         ensures ticks { steps.new ≡ steps.old + 1 };
 }

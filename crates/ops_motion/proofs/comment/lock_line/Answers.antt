@@ -1,11 +1,11 @@
 use Rattle.std.proofs.Common.{arith, rules, ◌∙◌, sym, ap}
-use Rattle.orca_op.specs.LawFacts.{all_done-each_more}
+use Rattle.orca_op.specs.LawFacts.{desk_after_all-each_more}
 use Rattle.orca_base.specs.Grids.{Size}
 use Rattle.ops_motion.proofs.EdgeLemmas.{locked_edge}
 use Rattle.ops_motion.proofs.comment.lock_line.Goals as goal
 
 pub loop-column-preserved : goal.loop-column-preserved
-loop-column-preserved g c = record { deeds = rw all_done-each_more (search rules); ticks = omega arith }
+loop-column-preserved g c = record { deeds = rw desk_after_all-each_more (search rules); ticks = omega arith }
 
 pub returns-clause-deeds : goal.returns-clause-deeds
 returns-clause-deeds g c =

@@ -6,7 +6,7 @@ use Rattle.orca_op.specs.Desk.{is_place}
 use Rattle.orca_op.specs.State.{sheet_of}
 use Rattle.orca_frame.specs.Written.{IsWritten}
 use Rattle.orca_frame.proofs.FrameLemmas.{IsFramed, inside_desk, room_desk, visit_desk, framed, playable, ticks_more, ticks_all}
-use Rattle.orca_frame.proofs.WrittenLemmas.{written-once, written-exactly, scan-deeds}
+use Rattle.orca_frame.proofs.WrittenLemmas.{written_places-once, written_places-exactly, scan-deeds}
 use Rattle.orca_frame.proofs.plain.frame_plain.Given as given
 use Rattle.orca_frame.proofs.plain.frame_plain.Goals as goal
 use Rattle.orca_frame.proofs.plain.frame_plain.Goals.{After-loop-i}
@@ -40,11 +40,11 @@ pub returns-clause-listed : goal.returns-clause-listed
 returns-clause-listed g c = (whole g c).listed
 
 pub returns-clause-once : goal.returns-clause-once
-returns-clause-once g c = subst (λ (listed : List Place). IsDistinct is_place listed) (sym (whole g c).listed) (written-once _ _)
+returns-clause-once g c = subst (λ (listed : List Place). IsDistinct is_place listed) (sym (whole g c).listed) (written_places-once _ _)
 
 pub returns-clause-exactly : goal.returns-clause-exactly
 returns-clause-exactly g c = λ at.
-    subst (λ (listed : List Place). Contains listed at ↔ IsWritten (sheet_of (g.B.Bench.desk c.args.bench.now).scan) c.args.now at) (sym (whole g c).listed) (written-exactly _ _ at)
+    subst (λ (listed : List Place). Contains listed at ↔ IsWritten (sheet_of (g.B.Bench.desk c.args.bench.now).scan) c.args.now at) (sym (whole g c).listed) (written_places-exactly _ _ at)
 
 pub returns-clause-playable : goal.returns-clause-playable
 returns-clause-playable g c = playable _ _ _ (whole g c).scan c.table_laws.ensures c.dims-dims.ensures.whole c.dims-dims.ensures.glyphs

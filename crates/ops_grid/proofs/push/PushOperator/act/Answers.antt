@@ -1,6 +1,6 @@
 use Rattle.std.proofs.Common.{rules}
-use Rattle.orca_op.specs.LawFacts.{all_done-append}
+use Rattle.orca_op.specs.LawFacts.{desk_after_all-append}
 use Rattle.ops_grid.proofs.push.PushOperator.act.Goals as goal
 
 pub returns-clause-deeds : goal.returns-clause-deeds
-returns-clause-deeds g c = rw all_done-append (search rules)
+returns-clause-deeds g c = rw desk_after_all-append (search rules)
