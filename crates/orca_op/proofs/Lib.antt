@@ -1,1 +1,3 @@
+pub mod DeskFacts
 pub mod LiveLemmas
+pub mod StateFacts
