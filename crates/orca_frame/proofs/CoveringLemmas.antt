@@ -16,12 +16,12 @@ use Rattle.orca_op.specs.State.{State, glyph_at, marks_at, has_bang}
 use Rattle.orca_base.specs.Grids.{here}
 use Rattle.orca_op.specs.Deeds.{Deed, Mark as mark_deed, Write, Set, Emit, after, after_all, marks_after, cells_after}
 use Rattle.orca_op.specs.Laws.{IsLawful, Every, AnyDeed, Covers, IsCovered}
-use Rattle.orca_op.specs.OwnPlace.{place_in_own}
+use Rattle.orca_base.proofs.PlaceFacts.{place_in-here, inside-place_of}
+use Rattle.orca_op.proofs.StateFacts.{length-marks_after}
 use Rattle.orca_op.specs.Scan.{Rules, visit_deeds, is_idle, state_after_places, places}
 use Rattle.orca_frame.specs.Covering.{IsCovering}
-use Rattle.orca_frame.proofs.DeskLemmas.{dims_scanned}
+use Rattle.orca_frame.proofs.DeskLemmas.{dims_after_places}
 use Rattle.orca_frame.proofs.MarkLemmas.{marks_of, or_left, or_right, marks_of-after_all}
-use Rattle.orca_frame.proofs.RangeLemmas.{inside_place, length_marked}
 
 -- the place of a spot has this number
 abbrev IsAt : Size → ℕ → Option Place → Type 0
@@ -124,7 +124,7 @@ stilled s [] j below some = absurd some
 stilled s (mark_deed at m ∷ deeds) j below (inl stills) =
     still_after_all (after s (mark_deed at m)) deeds j (still_marked s (place_in s.dims at) m j below stills.0 stills.1)
 stilled s (mark_deed at m ∷ deeds) j below (inr later) =
-    stilled (after s (mark_deed at m)) deeds j (omega (arith, below, length_marked s (place_in s.dims at) m)) later
+    stilled (after s (mark_deed at m)) deeds j (omega (arith, below, length-marks_after s (place_in s.dims at) m)) later
 stilled s (Write at glyph ∷ deeds) j below (inl stills) = absurd stills
 stilled s (Write at glyph ∷ deeds) j below (inr later) = stilled (after s (Write at glyph)) deeds j below later
 stilled s (Set variable glyph ∷ deeds) j below (inl stills) = absurd stills
@@ -135,7 +135,7 @@ stilled s (Emit event ∷ deeds) j below (inr later) = stilled (after s (Emit ev
 length_marks-after_all : (s : State) (deeds : List Deed) → length (after_all s deeds).marks ≡ length s.marks
 unfolding after
 length_marks-after_all s [] = refl
-length_marks-after_all s (mark_deed at m ∷ deeds) = length_marks-after_all (after s (mark_deed at m)) deeds ∙ length_marked s (place_in s.dims at) m
+length_marks-after_all s (mark_deed at m ∷ deeds) = length_marks-after_all (after s (mark_deed at m)) deeds ∙ length-marks_after s (place_in s.dims at) m
 length_marks-after_all s (Write at glyph ∷ deeds) = length_marks-after_all (after s (Write at glyph)) deeds
 length_marks-after_all s (Set variable glyph ∷ deeds) = length_marks-after_all (after s (Set variable glyph)) deeds
 length_marks-after_all s (Emit event ∷ deeds) = length_marks-after_all (after s (Emit event)) deeds
@@ -170,8 +170,8 @@ kept_after g s deeds at j inside other below covered (inl still) = inl (still_af
 kept_after g s deeds at j inside other below covered (inr same) =
     elim (kept_or_written s deeds j) [
       | inl kept ↦ inr (kept ∙ same)
-      | inr written_places ↦ elim (written_covered s.dims j at deeds deeds covered written_places) [
-        | inl itself ↦ absurd (other (rw (place_in_own s.dims at inside) at itself))
+      | inr writes ↦ elim (written_covered s.dims j at deeds deeds covered writes) [
+        | inl itself ↦ absurd (other (rw (place_in-here s.dims at inside) at itself))
         | inr stills ↦ inl (stilled s deeds j below stills)
       ]
     ]
@@ -183,8 +183,8 @@ kept_scanned rules zero g now lawful sheet j reached below = inr refl
 kept_scanned rules (suc n) g now lawful sheet j reached below =
     let s = state_after_places rules n g now in
     let at = place_of g.dims n in
-    let same : s.dims ≡ g.dims = dims_scanned rules n g now in
-    let inside : IsInside s.dims at = subst (λ (d : Size). IsInside d at) (sym same) (inside_place g.dims n sheet.size (omega arith)) in
+    let same : s.dims ≡ g.dims = dims_after_places rules n g now in
+    let inside : IsInside s.dims at = subst (λ (d : Size). IsInside d at) (sym same) (inside-place_of g.dims n sheet.size (omega arith)) in
     let number : index_of s.dims at ≡ n = subst (λ (d : Size). index_of d at ≡ n) (sym same) (index-place_of g.dims n) in
     kept_after g s (visit_deeds rules s at now) at j inside (λ itself. omega (arith, itself, number)) (omega (arith, length_marks-scanned rules n g now)) (covered_deeds rules s at now lawful)
     (kept_scanned rules n g now lawful sheet j (omega arith) below)
@@ -210,6 +210,6 @@ pub covering : (rules : Rules) → IsLawful rules → IsCovering rules
 covering rules lawful g now n sheet below idle =
     let s = state_after_places rules n g now in
     let at = place_of g.dims n in
-    let number : index_of s.dims at ≡ n = subst (λ (d : Size). index_of d at ≡ n) (sym (dims_scanned rules n g now)) (index-place_of g.dims n) in
+    let number : index_of s.dims at ≡ n = subst (λ (d : Size). index_of d at ≡ n) (sym (dims_after_places rules n g now)) (index-place_of g.dims n) in
     let kept : IsKept g s n = kept_scanned rules n g now lawful sheet n (omega arith) below in
     subst (λ (i : ℕ). glyph_at s at ≡ slice_index g.cells i) number (kept_glyph g s at idle (rw number kept))

@@ -12,7 +12,7 @@ use Rattle.orca_op.specs.State.{State, marks_at}
 use Rattle.orca_op.specs.Deeds.{Deed, Mark as mark_deed, Write, Set, Emit, after, after_all, marks_after}
 use Rattle.orca_op.specs.Scan.{Rules, visit_deeds, state_after_places}
 use Rattle.orca_frame.specs.Covering.{KeepsMarks}
-use Rattle.orca_frame.proofs.DeskLemmas.{dims_after_all}
+use Rattle.orca_op.proofs.StateFacts.{dims_after_all}
 
 -- the marks of the place with this number
 abbrev pub marks_of : List MarkSet → ℕ → MarkSet

@@ -1,22 +1,21 @@
 -- What a frame leaves to be cleared.
 use Rattle.std.proofs.Common.{◌≡◌, ℕ, zero, suc, ◌+◌, ◌*◌, ◌≤◌, List, [], ◌∷◌, ◌++◌, length, refl, arith, length-append, Bool, true, false, not, ◌&&◌, ◌||◌, replicate, subst}
 use Rattle.std.specs.Prelude.{count_by, Option, Some, None, if◌then◌else◌}
-use Rattle.std.specs.List.{list_any}
 use Rattle.std.proofs.lemmas.List.Sums.{sum_by-append}
 use Rattle.std.proofs.Math.ListN.{set}
 use Rattle.orca_base.specs.declared.limits.TheConstants.{MAX_DEEDS}
 use Rattle.orca_base.specs.declared.now.Now.{Now}
 use Rattle.orca_base.specs.declared.place.Place.{Place}
 use Rattle.orca_base.specs.Glyphs.{is_operator, needs_bang}
-use Rattle.orca_base.specs.Grids.{Size, Sheet, place_of, place_in, index_of}
+use Rattle.orca_base.specs.Grids.{Size, Sheet, place_of, place_in, index_of, is_inside}
 use Rattle.orca_base.specs.MarkSet.{MarkSet, is_marked, no_marks, all_marks}
 use Rattle.orca_op.specs.State.{State, glyph_at, marks_at, has_bang}
 use Rattle.orca_op.specs.Deeds.{Deed, Mark, Write, Set, Emit, after, marks_after}
-use Rattle.orca_op.specs.Desk.{Desk, desk_after, desk_after_all, list_after, list_with, residue, is_in, is_place}
+use Rattle.orca_op.specs.Desk.{Desk, desk_after, desk_after_all, list_after, list_with, residue, is_listed}
 use Rattle.orca_op.specs.Laws.{IsLawful}
 use Rattle.orca_op.specs.Rules.{rule}
 use Rattle.orca_op.specs.Scan.{Rules, visit_deeds, is_idle, state_after_places, busy_of}
-use Rattle.orca_frame.specs.Frames.{desk_after}
+use Rattle.orca_frame.specs.Frames.{desk_after_places}
 use Rattle.orca_frame.proofs.DeskLemmas.{desk_suc}
 
 count_one : (b : Bool) → 0 + (if b then 1 else 0) ≤ 1
@@ -42,13 +41,13 @@ listed_if false listed at = omega arith
 
 listed_more : (began : Size) (listed : List Place) (at : Option Place) → length (list_with began listed at) ≤ length listed + 1
 listed_more began listed None = omega arith
-listed_more began listed (Some at) = listed_if (is_in began at && not (list_any (is_place at) listed)) listed at
+listed_more began listed (Some at) = listed_if (is_inside began at && not (is_listed listed at)) listed at
 
 -- a deed raises the residue by at most one
 residue_done : (d : Desk) (deed : Deed) → residue (desk_after d deed) ≤ residue d + 1
 unfolding residue after list_after
 residue_done d (Mark at m) = omega (arith, marked_more d.scan (place_in d.scan.dims at) m)
-residue_done d (Write at glyph) = omega (arith, listed_more d.began d.listed (place_in d.scan.dims at))
+residue_done d (Write at glyph) = omega (arith, listed_more d.began.dims d.listed (place_in d.scan.dims at))
 residue_done d (Set variable glyph) = omega arith
 residue_done d (Emit event) = omega arith
 
@@ -76,11 +75,11 @@ none_marked zero = refl
 none_marked (suc n) = omega (arith, count_cons no_marks (replicate n no_marks), none_marked n)
 
 -- the residue is at most the deeds of the busy places
-pub residue_desk : (n : ℕ) (g : Sheet) (now : Now) → IsLawful rule → residue (desk_after n g now) ≤ MAX_DEEDS * busy_of n g now
+pub residue_desk : (n : ℕ) (g : Sheet) (now : Now) → IsLawful rule → residue (desk_after_places n g now) ≤ MAX_DEEDS * busy_of n g now
 unfolding residue
 residue_desk zero g now lawful = omega (arith, none_marked (g.dims.h * g.dims.w))
 residue_desk (suc n) g now lawful =
     let deeds = visit_deeds rule (state_after_places rule n g now) (place_of g.dims n) now in
-    let more : residue (desk_after (suc n) g now) ≤ residue (desk_after n g now) + length deeds =
-    subst (λ (d : Desk). residue d ≤ residue (desk_after n g now) + length deeds) (desk_suc n g now) (residue_all_done (desk_after n g now) deeds) in
+    let more : residue (desk_after_places (suc n) g now) ≤ residue (desk_after_places n g now) + length deeds =
+    subst (λ (d : Desk). residue d ≤ residue (desk_after_places n g now) + length deeds) (desk_suc n g now) (residue_all_done (desk_after_places n g now) deeds) in
     omega (arith, more, residue_desk n g now lawful, few_deeds rule (state_after_places rule n g now) (place_of g.dims n) now lawful)

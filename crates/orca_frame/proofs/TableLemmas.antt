@@ -9,9 +9,9 @@ lawful_if : ((kind : Kind) → IsLawful (rule_of kind)) → (kind : Option Kind)
 lawful_if each None = record {
   few_deeds = λ g s at now. omega arith;
   one_event = λ g s at now. omega arith;
-  glyphs = λ g s at now whole glyph cells vars. tt;
+  glyphs = λ g s at now whole glyph. tt;
   covered = λ g s at now. tt;
-  events = λ g s at now whole cells. tt;
+  events = λ g s at now whole. tt;
 }
 lawful_if each (Some kind) = each kind
 
@@ -20,7 +20,7 @@ unfolding rule
 lawful_table each = record {
   few_deeds = λ g s at now. (lawful_if each (kind_of g)).few_deeds g s at now;
   one_event = λ g s at now. (lawful_if each (kind_of g)).one_event g s at now;
-  glyphs = λ g s at now whole glyph cells vars. (lawful_if each (kind_of g)).glyphs g s at now whole glyph cells vars;
+  glyphs = λ g s at now whole glyph. (lawful_if each (kind_of g)).glyphs g s at now whole glyph;
   covered = λ g s at now. (lawful_if each (kind_of g)).covered g s at now;
-  events = λ g s at now whole cells. (lawful_if each (kind_of g)).events g s at now whole cells;
+  events = λ g s at now whole. (lawful_if each (kind_of g)).events g s at now whole;
 }

@@ -1,72 +1,37 @@
 -- The places that a frame lists: those that its deeds write, each once.
 use Rattle.std.proofs.Common.{◌≡◌, ℕ, zero, suc, List, [], ◌∷◌, ◌++◌, refl, sym, ap, ◌∙◌, subst, inl, inr, ◌⊎◌, Bool, true, false, not, ◌&&◌, arith}
 use Rattle.std.specs.Prelude.{◌↔◌, Contains, Option, Some, None, ℤ, pos, negsuc, nat_lt, if◌then◌else◌}
-use Rattle.std.specs.Cmp.{IsEquivalence}
 use Rattle.std.specs.List.{IsDistinct, list_any}
 use Rattle.std.proofs.lemmas.Bool.{and_parts, and_from, eqb-true, eq-eqb, both_ways, cases_Bool, false_from_ne_true}
 use Rattle.std.proofs.lemmas.List.Elements.{Contains-push, Contains-append_left, Contains-append_cases}
-use Rattle.std.proofs.lemmas.Map.Keys.{IsDistinct-push}
 use Rattle.std.proofs.lemmas.Map.Views.{Contains-from_any}
 use Rattle.orca_base.specs.declared.now.Now.{Now}
 use Rattle.orca_base.specs.declared.place.Place.{Place}
 use Rattle.orca_base.specs.Grids.{Size, Sheet, place_in, place_at, place_of}
 use Rattle.orca_op.specs.State.{State, fresh}
 use Rattle.orca_op.specs.Deeds.{Deed, Mark, Write, Set, Emit, after_all}
-use Rattle.orca_op.specs.Desk.{is_place, is_in, list_with, list_after, list_after_all}
+use Rattle.orca_base.specs.Grids.{is_inside, is_place}
+use Rattle.orca_base.proofs.PlaceFacts.{is_place-same}
+use Rattle.orca_op.proofs.DeskFacts.{IsDistinct-list_with}
+use Rattle.orca_op.specs.Desk.{list_with, list_after, list_after_all}
 use Rattle.orca_op.specs.LawFacts.{after_all-append}
 use Rattle.orca_op.specs.Laws.{AnyDeed}
 use Rattle.orca_op.specs.Rules.{rule}
 use Rattle.orca_op.specs.Scan.{visit_deeds, state_after_places, scan_deeds, scan, places, written_places}
 use Rattle.orca_frame.specs.Written.{WritesPlace, IsWritten}
 
--- ---- the test of equal places
-
-same_place : (a b : Place) → is_place a b ≡ true → a ≡ b
-same_place a b is =
-    let parts = and_parts _ _ is in
-    let row : a.y ≡ b.y = eqb-true _ _ parts.0 in
-    let column : a.x ≡ b.x = eqb-true _ _ parts.1 in
-    let with_row : ℕ → Place = λ y. record { y = y; x = a.x } in
-    let with_column : ℕ → Place = λ x. record { y = b.y; x = x } in
-    ap with_row row ∙ ap with_column column
-
-place_itself : (a : Place) → is_place a a ≡ true
-place_itself a = and_from _ _ (eq-eqb a.y a.y refl) (eq-eqb a.x a.x refl)
-
-place_back : (a b : Place) → is_place a b ≡ true → is_place b a ≡ true
-place_back a b is = subst (λ (p : Place). is_place p a ≡ true) (same_place a b is) (place_itself a)
-
-equal_places : IsEquivalence is_place
-equal_places = record {
-  refl = place_itself;
-  symm = λ a b. elim (cases_Bool (is_place a b)) [
-    | inl is ↦ is ∙ sym (place_back a b is)
-    | inr other ↦ other ∙ sym (false_from_ne_true _ (λ is. both_ways _ other (place_back b a is)))
-  ];
-  congr = λ a b c is. ap (λ (p : Place). is_place p c) (same_place a b is);
-}
-
 -- ---- the place of a spot lies in the grid
 
-placed_if : (d : Size) (y x : ℕ) (at : Place) (inside : Bool) → (nat_lt y d.h && nat_lt x d.w) ≡ inside → (if inside then Some (record { y = y; x = x }) else None) ≡ Some at → is_in d at ≡ true
+placed_if : (d : Size) (y x : ℕ) (at : Place) (inside : Bool) → (nat_lt y d.h && nat_lt x d.w) ≡ inside → (if inside then Some (record { y = y; x = x }) else None) ≡ Some at → is_inside d at ≡ true
 placed_if d y x at true inside same = cc
 placed_if d y x at false inside same = cc
 
-placed_at : (d : Size) (y x : ℤ) (at : Place) → place_at d y x ≡ Some at → is_in d at ≡ true
+placed_at : (d : Size) (y x : ℤ) (at : Place) → place_at d y x ≡ Some at → is_inside d at ≡ true
 placed_at d (pos y) (pos x) at same = placed_if d y x at (nat_lt y d.h && nat_lt x d.w) refl same
 placed_at d (pos y) (negsuc x) at same = cc
 placed_at d (negsuc y) x at same = cc
 
 -- ---- one write
-
-distinct_if : (listed : List Place) (at : Place) (inside found : Bool) → list_any (is_place at) listed ≡ found → IsDistinct is_place listed → IsDistinct is_place (if inside && not found then listed ++ at ∷ [] else listed)
-distinct_if listed at true false absent distinct = IsDistinct-push equal_places listed at distinct absent
-distinct_if listed at true true present distinct = distinct
-distinct_if listed at false found test distinct = distinct
-
-distinct_with : (d : Size) (listed : List Place) (p : Option Place) → IsDistinct is_place listed → IsDistinct is_place (list_with d listed p)
-distinct_with d listed None distinct = distinct
-distinct_with d listed (Some at) distinct = distinct_if listed at (is_in d at) (list_any (is_place at) listed) refl distinct
 
 only_one : (at q : Place) → Contains (q ∷ []) at → Some q ≡ Some at
 only_one at q (zero, below, is) = ap (λ (p : Place). Some p) is
@@ -83,7 +48,7 @@ from_if listed at q false is = inl is
 -- a listed place was listed before, or is the one that is written
 from_with : (d : Size) (listed : List Place) (p : Option Place) (at : Place) → Contains (list_with d listed p) at → Contains listed at ⊎ (p ≡ Some at)
 from_with d listed None at is = inl is
-from_with d listed (Some q) at is = from_if listed at q (is_in d q && not (list_any (is_place q) listed)) is
+from_with d listed (Some q) at is = from_if listed at q (is_inside d q && not (list_any (is_place q) listed)) is
 
 kept_if : (listed : List Place) (at q : Place) (adds : Bool) → Contains listed at → Contains (if adds then listed ++ q ∷ [] else listed) at
 kept_if listed at q true is = Contains-append_left listed (q ∷ []) at is
@@ -92,18 +57,18 @@ kept_if listed at q false is = is
 -- a listed place stays
 kept_with : (d : Size) (listed : List Place) (p : Option Place) (at : Place) → Contains listed at → Contains (list_with d listed p) at
 kept_with d listed None at is = is
-kept_with d listed (Some q) at is = kept_if listed at q (is_in d q && not (list_any (is_place q) listed)) is
+kept_with d listed (Some q) at is = kept_if listed at q (is_inside d q && not (list_any (is_place q) listed)) is
 
 added_if : (listed : List Place) (at : Place) (inside found : Bool) → inside ≡ true → list_any (is_place at) listed ≡ found → Contains (if inside && not found then listed ++ at ∷ [] else listed) at
 added_if listed at true false inside absent = Contains-push listed at
-added_if listed at true true inside present = Contains-from_any same_place at listed present
+added_if listed at true true inside present = Contains-from_any is_place-same at listed present
 added_if listed at false found inside test = cc
 
 -- a place of the grid that is written is listed
-added_with : (d : Size) (listed : List Place) (p : Option Place) (at : Place) → p ≡ Some at → is_in d at ≡ true → Contains (list_with d listed p) at
+added_with : (d : Size) (listed : List Place) (p : Option Place) (at : Place) → p ≡ Some at → is_inside d at ≡ true → Contains (list_with d listed p) at
 added_with d listed p at is inside =
     subst (λ (q : Option Place). Contains (list_with d listed q) at) (sym is)
-    (added_if listed at (is_in d at) (list_any (is_place at) listed) inside refl)
+    (added_if listed at (is_inside d at) (list_any (is_place at) listed) inside refl)
 
 -- ---- deeds in order
 
@@ -112,7 +77,7 @@ unfolding list_after
 distinct_all d listed [] distinct = distinct
 distinct_all d listed (Mark spot marks ∷ deeds) distinct = distinct_all d listed deeds distinct
 distinct_all d listed (Write spot glyph ∷ deeds) distinct =
-    distinct_all d (list_with d listed (place_in d spot)) deeds (distinct_with d listed (place_in d spot) distinct)
+    distinct_all d (list_with d listed (place_in d spot)) deeds (IsDistinct-list_with d listed (place_in d spot) distinct)
 distinct_all d listed (Set variable glyph ∷ deeds) distinct = distinct_all d listed deeds distinct
 distinct_all d listed (Emit event ∷ deeds) distinct = distinct_all d listed deeds distinct
 

@@ -1,3 +1,4 @@
 pub mod Covering
 pub mod Frames
+pub mod Skips
 pub mod Written

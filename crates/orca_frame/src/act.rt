@@ -30,6 +30,7 @@ pub(crate) fn act<B: Bench, L: Ledger>(
     requires room { HasRoom (B.desk bench.old) }
     ensures deeds { B.desk bench.new ≡ desk_after_all (B.desk bench.old) (rule glyph (B.desk bench.old).scan at now) }
     ensures ticks { steps.new ≤ steps.old + MAX_TICKS }
+    ensures later { steps.old ≤ steps.new }
 {
     let Some(kind) = Kind::of(glyph) else {
         return;

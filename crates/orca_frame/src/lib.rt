@@ -5,7 +5,11 @@ mod act;
 mod covering;
 mod laws;
 mod plain;
+mod skipping;
+mod sparse;
 mod visit;
 
 pub use covering::covering_law;
 pub use plain::frame_plain;
+pub use skipping::skipping_law;
+pub use sparse::frame;

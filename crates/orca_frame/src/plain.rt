@@ -1,14 +1,8 @@
-ghost use Rattle.std.specs.Prelude.{◌≡◌, ◌+◌, ◌*◌, ◌≤◌, ◌↔◌, All, Contains};
-ghost use Rattle.std.specs.List.{IsDistinct};
-ghost use Rattle.orca_base.specs.declared.limits.TheConstants.{MAX_DEEDS};
-ghost use Rattle.orca_base.specs.EventRanges.{IsInRange};
-ghost use Rattle.orca_base.specs.declared.place.Place.{Place};
-ghost use Rattle.orca_op.specs.Deeds.{after_all};
-ghost use Rattle.orca_op.specs.Desk.{is_place, residue};
-ghost use Rattle.orca_op.specs.Scan.{scan, written_places, busy};
-ghost use Rattle.orca_op.specs.State.{sheet_of, fresh};
-ghost use Rattle.orca_frame.specs.Frames.{most_ticks};
-ghost use Rattle.orca_frame.specs.Written.{frame_deeds, IsWritten};
+ghost use Rattle.std.specs.Prelude.{◌+◌, ◌≤◌};
+ghost use Rattle.orca_op.specs.Desk.{residue};
+ghost use Rattle.orca_op.specs.Scan.{places};
+ghost use Rattle.orca_op.specs.State.{sheet_of};
+ghost use Rattle.orca_frame.specs.Frames.{IsFramed, most_plain_ticks};
 
 use crate::covering::covering_law;
 use crate::laws::table_laws;
@@ -24,15 +18,10 @@ use std::sync::ledger::Ledger;
 /// variables, and the events in the order in which they were emitted, each of which can be played. Each
 /// place that a deed wrote is listed, once.
 pub fn frame_plain<B: Bench, L: Ledger>(bench: &mut B, now: Now, steps: &mut Steps<L>)
-    ensures scan { (B.desk bench.new).scan ≡ scan (sheet_of (B.desk bench.old).scan) now }
-    ensures began { (B.desk bench.new).began ≡ (B.desk bench.old).scan.dims }
-    ensures deeds { (B.desk bench.new).scan ≡ after_all (fresh (sheet_of (B.desk bench.old).scan)) (frame_deeds (sheet_of (B.desk bench.old).scan) now) }
-    ensures listed { (B.desk bench.new).listed ≡ written_places (sheet_of (B.desk bench.old).scan) now }
-    ensures once { IsDistinct is_place (B.desk bench.new).listed }
-    ensures exactly { (at : Place) → Contains (B.desk bench.new).listed at ↔ IsWritten (sheet_of (B.desk bench.old).scan) now at }
-    ensures playable { All IsInRange (B.desk bench.new).scan.events }
-    ensures residue { residue (B.desk bench.new) ≤ MAX_DEEDS * busy (sheet_of (B.desk bench.old).scan) now }
-    ensures ticks { steps.new ≤ steps.old + most_ticks (B.desk bench.old) now }
+    ensures framed { IsFramed (B.desk bench.old) (B.desk bench.new) now }
+    ensures most { steps.new ≤ steps.old + most_plain_ticks (B.desk bench.old) now }
+    ensures least { steps.old + 1 + residue (B.desk bench.old)
+        + places (sheet_of (B.desk bench.old).scan) ≤ steps.new }
 {
     // Neither call does anything when the program runs. The first gives the proof the laws of the operator
     // table: how many deeds and events a visit has at most, and that its events can be played. The second

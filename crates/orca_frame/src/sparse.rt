@@ -1,0 +1,53 @@
+ghost use Rattle.std.specs.Prelude.{◌≡◌, ◌+◌, ◌*◌, ◌<◌, ◌≤◌};
+ghost use Rattle.orca_base.specs.declared.limits.TheConstants.{MAX_VISIT_TICKS};
+ghost use Rattle.orca_base.specs.Grids.{IsSheet};
+ghost use Rattle.orca_op.specs.Scan.{busy_of};
+ghost use Rattle.orca_frame.specs.Frames.{IsFramed, desk_after_places, most_ticks};
+
+use crate::laws::table_laws;
+use crate::visit::visit_operator;
+use orca_base::{Now, Place, Steps};
+use orca_op::{Walk, next_live};
+use std::sync::ledger::Ledger;
+
+/// Works a frame by going from one operator to the next, as the grid stands at each moment. It leaves what a
+/// scan of every place leaves, whatever operators write behind the walk, ahead of it and below it. `now` is
+/// the tick of the frame and the seed of its random numbers.
+///
+/// It ticks at least once for each row and once more, and at most that often, once for each place that the
+/// last frame marked or wrote, and [`MAX_VISIT_TICKS`](orca_base::limits::MAX_VISIT_TICKS) times for each
+/// operator that the scan reaches.
+pub fn frame<B: Walk, L: Ledger>(board: &mut B, now: Now, steps: &mut Steps<L>)
+    ensures framed { IsFramed (B.desk board.old) (B.desk board.new) now }
+    ensures most { steps.new ≤ steps.old + most_ticks (B.desk board.old) now }
+    ensures least { steps.old + (B.desk board.old).scan.dims.h + 1 ≤ steps.new }
+{
+    table_laws();
+    let dims = board.dims();
+    board.begin(steps);
+    for row in 0..dims.h {
+        walk_row(board, row, now, steps);
+    }
+}
+
+/// Visits the operators of a row, each where the walk finds it. The grid of the last `begin` is the one that
+/// the frame began with.
+fn walk_row<B: Walk, L: Ledger>(board: &mut B, row: u16, now: Now, steps: &mut Steps<L>)
+    requires sheet { IsSheet (B.desk board.old).began }
+    requires row { row < (B.desk board.old).began.dims.h }
+    requires reached { let g = (B.desk board.old).began in
+        B.desk board.old ≡ desk_after_places (row * g.dims.w) g now }
+    ensures reached { let g = (B.desk board.old).began in
+        B.desk board.new ≡ desk_after_places ((row + 1) * g.dims.w) g now }
+    ensures most { let g = (B.desk board.old).began in
+        steps.new + MAX_VISIT_TICKS * busy_of (row * g.dims.w) g now
+        ≤ steps.old + 1 + MAX_VISIT_TICKS * busy_of ((row + 1) * g.dims.w) g now }
+    ensures least { steps.old + 1 ≤ steps.new }
+{
+    table_laws();
+    let mut from = 0;
+    while let Some(x) = next_live(board, row, from, steps) {
+        visit_operator(board, Place { y: row, x }, now, steps);
+        from = x + 1;
+    }
+}
