@@ -1,5 +1,6 @@
 pub mod GlyphLemmas
 pub mod InlineLemmas
+pub mod ListFacts
 pub mod MarkLemmas
 pub mod NumberLemmas
 pub mod PlaceFacts

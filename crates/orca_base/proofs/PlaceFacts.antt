@@ -98,3 +98,10 @@ inside_at d (negsuc y) x = tt
 -- the place of a spot lies in the grid
 pub inside-place_in : (d : Size) (spot : Spot) → IfSome (place_in d spot) (IsInside d)
 inside-place_in d spot = inside_at d spot.y spot.x
+
+-- two places of the grid that differ have different numbers
+pub index-apart : (d : Size) (a b : Place) → IsInside d a → IsInside d b → is_place a b ≡ false → index_of d a ≡ index_of d b → ⊥
+index-apart d a b inside_a inside_b apart same =
+    let parts = index-injective d.w a.y a.x b.y b.x inside_a.column inside_b.column same in
+    let test : is_place a b ≡ true = rw (eq-eqb a.y b.y parts.0, eq-eqb a.x b.x parts.1) refl in
+    cc

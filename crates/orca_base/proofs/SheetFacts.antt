@@ -1,14 +1,15 @@
 -- Grids of glyphs, by their places.
-use Rattle.std.proofs.Common.{◌≡◌, ℕ, zero, suc, ◌+◌, ◌*◌, ◌<◌, ◌≤◌, List, [], ◌∷◌, length, get_or, arith, ap, ◌∙◌, sym, refl, subst, zero-add}
+use Rattle.std.proofs.Common.{◌≡◌, ℕ, zero, suc, ◌+◌, ◌*◌, ◌<◌, ◌≤◌, List, [], ◌∷◌, length, get_or, arith, ap, ◌∙◌, sym, refl, subst, zero-add, inl, inr, Bool, true, false}
 use Rattle.std.proofs.Math.ListN.{set}
 use Rattle.std.specs.Prelude.{map, slice_index}
 use Rattle.std.specs.List.{range_with_len}
-use Rattle.std.proofs.lemmas.List.{ext_get_or}
+use Rattle.std.proofs.lemmas.List.{ext_get_or, get_or-set_same, get_or-set_other, length-set}
+use Rattle.std.proofs.lemmas.Bool.{cases_Bool}
 use Rattle.std.proofs.lemmas.List.FromFn.{length-map-range_with_len, get_or-map-range_with_len}
 use Rattle.orca_base.specs.declared.place.Place.{Place}
 use Rattle.orca_base.specs.Glyphs.{IsGlyph, AreGlyphs}
-use Rattle.orca_base.specs.Grids.{Size, IsSize, IsInside, Sheet, IsSheet, cells_of, cells_by, sheet_by, glyph_at, index_of, place_of}
-use Rattle.orca_base.proofs.PlaceFacts.{index_of-below, inside-place_of, index_of-place_of, place_of-index_of}
+use Rattle.orca_base.specs.Grids.{Size, IsSize, IsInside, Sheet, IsSheet, cells_of, by_place, sheet_by, glyph_at, index_of, place_of, is_place}
+use Rattle.orca_base.proofs.PlaceFacts.{index_of-below, inside-place_of, index_of-place_of, place_of-index_of, is_place-same, index-apart}
 
 -- a number read inside a list of glyphs is a glyph
 pub IsGlyph-index : (xs : List ℕ) (i : ℕ) → AreGlyphs xs → i < length xs → IsGlyph (slice_index xs i)
@@ -32,42 +33,65 @@ pub IsGlyph-glyph_at : (g : Sheet) (at : Place) → IsSheet g → IsInside g.dim
 IsGlyph-glyph_at g at sheet inside =
     IsGlyph-index g.cells (index_of g.dims at) sheet.glyphs (omega (arith, index_of-below g.dims at inside, sheet.whole))
 
--- ---- the grid of a function from places to glyphs
+-- ---- what a function gives to the places, in reading order
 
-pub length-cells_by : (d : Size) (glyph : Place → ℕ) → length (cells_by d glyph) ≡ cells_of d
-unfolding cells_by
-length-cells_by d glyph = length-map-range_with_len (λ n. glyph (place_of d n)) 0 (cells_of d)
+pub length-by_place : {A : Type 0} (d : Size) (f : Place → A) → length (by_place d f) ≡ cells_of d
+unfolding by_place
+length-by_place d f = length-map-range_with_len (λ n. f (place_of d n)) 0 (cells_of d)
 
--- the glyph of a number
-pub index-cells_by : (d : Size) (glyph : Place → ℕ) (n : ℕ) → n < cells_of d → slice_index (cells_by d glyph) n ≡ glyph (place_of d n)
-unfolding cells_by
-index-cells_by d glyph n below = get_or-map-range_with_len (λ n. glyph (place_of d n)) 0 (cells_of d) n n 0 below (zero-add n)
+-- at a number
+pub number-by_place : {A : Type 0} (d : Size) (f : Place → A) (n : ℕ) (x : A) → n < cells_of d → get_or (by_place d f) n x ≡ f (place_of d n)
+unfolding by_place
+number-by_place d f n x below = get_or-map-range_with_len (λ n. f (place_of d n)) 0 (cells_of d) n n x below (zero-add n)
 
--- the glyph of a place
-pub glyph_at-sheet_by : (d : Size) (glyph : Place → ℕ) (at : Place) → IsInside d at → glyph_at (sheet_by d glyph) at ≡ glyph at
-glyph_at-sheet_by d glyph at inside =
-    index-cells_by d glyph (index_of d at) (index_of-below d at inside) ∙ ap glyph (place_of-index_of d at inside)
+-- at a place
+pub index-by_place : {A : Type 0} (d : Size) (f : Place → A) (at : Place) (x : A) → IsInside d at → get_or (by_place d f) (index_of d at) x ≡ f at
+index-by_place d f at x inside =
+    number-by_place d f (index_of d at) x (index_of-below d at inside) ∙ ap f (place_of-index_of d at inside)
 
-pub AreGlyphs-cells_by : (d : Size) (glyph : Place → ℕ) → IsSize d → ((at : Place) → IsInside d at → IsGlyph (glyph at)) → AreGlyphs (cells_by d glyph)
-AreGlyphs-cells_by d glyph size each =
-    AreGlyphs-each (cells_by d glyph) (λ i below.
-    let few : i < cells_of d = omega (arith, below, length-cells_by d glyph) in
-    subst IsGlyph (sym (index-cells_by d glyph i few)) (each (place_of d i) (inside-place_of d i size few)))
-
-pub IsSheet-sheet_by : (d : Size) (glyph : Place → ℕ) → IsSize d → ((at : Place) → IsInside d at → IsGlyph (glyph at)) → IsSheet (sheet_by d glyph)
-IsSheet-sheet_by d glyph size each = record { size = size; whole = length-cells_by d glyph; glyphs = AreGlyphs-cells_by d glyph size each }
-
--- as many cells as places that hold the glyphs of a function are its cells
-pub cells-same : (d : Size) (cells : List ℕ) (glyph : Place → ℕ) → IsSize d → length cells ≡ cells_of d → ((at : Place) → IsInside d at → slice_index cells (index_of d at) ≡ glyph at) → cells ≡ cells_by d glyph
-cells-same d cells glyph size whole each =
-    ext_get_or 0 cells (cells_by d glyph) (whole ∙ sym (length-cells_by d glyph)) (λ i below.
+-- as many things as places, each of which is what the function gives to its place
+pub list-by_place : {A : Type 0} (d : Size) (xs : List A) (f : Place → A) (x : A) → IsSize d → length xs ≡ cells_of d → ((at : Place) → IsInside d at → get_or xs (index_of d at) x ≡ f at) → xs ≡ by_place d f
+list-by_place d xs f x size whole each =
+    ext_get_or x xs (by_place d f) (whole ∙ sym (length-by_place d f)) (λ i below.
     let few : i < cells_of d = omega (arith, below, whole) in
     let at : Place = place_of d i in
-    ap (slice_index cells) (sym (index_of-place_of d i size))
-    ∙ (each at (inside-place_of d i size few) ∙ sym (index-cells_by d glyph i few)))
+    ap (λ (n : ℕ). get_or xs n x) (sym (index_of-place_of d i size))
+    ∙ (each at (inside-place_of d i size few) ∙ sym (number-by_place d f i x few)))
 
--- grids of one size with the same glyph at each place are one
+-- functions that agree give the same
+pub same-by_place : {A : Type 0} (d : Size) (f h : Place → A) (x : A) → IsSize d → ((at : Place) → IsInside d at → f at ≡ h at) → by_place d f ≡ by_place d h
+same-by_place d f h x size agree =
+    list-by_place d (by_place d f) h x size (length-by_place d f) (λ at inside. index-by_place d f at x inside ∙ agree at inside)
+
+-- one place changed
+pub set-by_place : {A : Type 0} (d : Size) (f h : Place → A) (at : Place) (y x : A) → IsSize d → IsInside d at → h at ≡ y → ((q : Place) → IsInside d q → is_place q at ≡ false → h q ≡ f q)
+    → set (by_place d f) (index_of d at) y ≡ by_place d h
+set-by_place d f h at y x size inside here other =
+    list-by_place d (set (by_place d f) (index_of d at) y) h x size (length-set (by_place d f) (index_of d at) y ∙ length-by_place d f) (λ q inside_q.
+    elim (cases_Bool (is_place q at)) [
+      | inl same ↦
+          let one : q ≡ at = is_place-same q at same in
+          rw one (get_or-set_same (by_place d f) (index_of d at) y x (omega (arith, index_of-below d at inside, length-by_place d f)) ∙ sym here)
+      | inr apart ↦
+          get_or-set_other (by_place d f) (index_of d at) (index_of d q) y x (index-apart d q at inside_q inside apart)
+          ∙ (index-by_place d f q x inside_q ∙ sym (other q inside_q apart))
+    ])
+
+-- ---- the grid of a function from places to glyphs
+
+pub glyph_at-sheet_by : (d : Size) (glyph : Place → ℕ) (at : Place) → IsInside d at → glyph_at (sheet_by d glyph) at ≡ glyph at
+glyph_at-sheet_by d glyph at inside = index-by_place d glyph at 0 inside
+
+pub AreGlyphs-by_place : (d : Size) (glyph : Place → ℕ) → IsSize d → ((at : Place) → IsInside d at → IsGlyph (glyph at)) → AreGlyphs (by_place d glyph)
+AreGlyphs-by_place d glyph size each =
+    AreGlyphs-each (by_place d glyph) (λ i below.
+    let few : i < cells_of d = omega (arith, below, length-by_place d glyph) in
+    subst IsGlyph (sym (number-by_place d glyph i 0 few)) (each (place_of d i) (inside-place_of d i size few)))
+
+pub IsSheet-sheet_by : (d : Size) (glyph : Place → ℕ) → IsSize d → ((at : Place) → IsInside d at → IsGlyph (glyph at)) → IsSheet (sheet_by d glyph)
+IsSheet-sheet_by d glyph size each = record { size = size; whole = length-by_place d glyph; glyphs = AreGlyphs-by_place d glyph size each }
+
+-- a grid that holds the glyphs of a function is the grid of that function
 pub sheet-same : (g : Sheet) (glyph : Place → ℕ) → IsSize g.dims → length g.cells ≡ cells_of g.dims → ((at : Place) → IsInside g.dims at → glyph_at g at ≡ glyph at) → g ≡ sheet_by g.dims glyph
 sheet-same g glyph size whole each =
-    let cells : g.cells ≡ cells_by g.dims glyph = cells-same g.dims g.cells glyph size whole each in
-    ap (λ (c : List ℕ). record { dims = g.dims; cells = c }) cells
+    ap (λ (c : List ℕ). record { dims = g.dims; cells = c }) (list-by_place g.dims g.cells glyph 0 size whole each)

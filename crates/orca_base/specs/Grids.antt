@@ -18,6 +18,10 @@ pub record IsSize (d : Size) : Type 0 where
   pub columns : 1 ≤ d.w
   pub few_columns : d.w ≤ MAX_COLUMNS
 
+-- the size of the largest grid
+abbrev pub largest : Size
+largest = record { h = MAX_ROWS; w = MAX_COLUMNS }
+
 -- the place lies in a grid of this size
 pub record IsInside (d : Size) (at : Place) : Type 0 where
   pub row : at.y < d.h
@@ -94,10 +98,10 @@ pub record IsSheet (g : Sheet) : Type 0 where
 abbrev pub glyph_at : Sheet → Place → ℕ
 glyph_at g at = slice_index g.cells (index_of g.dims at)
 
--- the glyphs that a function gives to the places, in reading order
-unfoldable pub cells_by : Size → (Place → ℕ) → List ℕ
-cells_by d glyph = map (λ n. glyph (place_of d n)) (range_with_len 0 (cells_of d))
+-- what a function gives to the places of a size, in reading order
+unfoldable pub by_place : {A : Type 0} → Size → (Place → A) → List A
+by_place d f = map (λ n. f (place_of d n)) (range_with_len 0 (cells_of d))
 
 -- the grid of a size in which each place has the glyph that the function gives to it
 abbrev pub sheet_by : Size → (Place → ℕ) → Sheet
-sheet_by d glyph = record { dims = d; cells = cells_by d glyph }
+sheet_by d glyph = record { dims = d; cells = by_place d glyph }

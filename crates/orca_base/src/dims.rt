@@ -1,5 +1,5 @@
 ghost use Rattle.std.specs.Prelude.{◌≡◌, ◌+◌, ◌*◌, ◌<◌, ◌≤◌, ◌↔◌, ℕ, pos, IsNone, IfSome};
-ghost use Rattle.orca_base.specs.Grids.{Size, IsSize, IsInside, index_of, place_in, place_of};
+ghost use Rattle.orca_base.specs.Grids.{Size, IsSize, IsInside, largest, index_of, place_in, place_of};
 
 use crate::limits::{MAX_CELLS, MAX_COLUMNS, MAX_ROWS};
 use crate::{Place, Spot};
@@ -39,6 +39,16 @@ impl Dims {
             h: h as u16,
             w: w as u16,
         })
+    }
+
+    /// The size of the largest grid.
+    pub fn largest() -> Dims
+        ensures { result ≡ largest }
+    {
+        Dims {
+            h: MAX_ROWS,
+            w: MAX_COLUMNS,
+        }
     }
 
     /// The place of a spot; none exactly where the spot lies outside the grid.

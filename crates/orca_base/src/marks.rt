@@ -93,7 +93,7 @@ impl Marks {
 
     /// The marks of both sets.
     #[tactic(auto, using(crate::proofs::MarkLemmas::marks_or))]
-    pub fn and(self, other: Marks) -> Marks
+    pub fn union(self, other: Marks) -> Marks
         ensures { result ≡ all_marks self other }
     {
         Marks {

@@ -138,7 +138,7 @@ impl Bench for PlainBoard {
         steps.tick();
         if let Some(place) = self.dims.holds(at) {
             let i = self.dims.index(place);
-            self.marks[i] = self.marks[i].and(marks);
+            self.marks[i] = self.marks[i].union(marks);
         }
     }
 
