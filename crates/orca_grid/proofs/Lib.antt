@@ -1,7 +1,6 @@
+pub mod Counting
+pub mod Filling
 pub mod Lines
-pub mod Packing
 pub mod Places
 pub mod Printing
-pub mod ReadTo
 pub mod Reading
-pub mod Spreading

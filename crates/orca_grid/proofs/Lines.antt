@@ -3,8 +3,7 @@ use Rattle.std.proofs.Common.{◌≡◌, ℕ, ◌-◌, ◌≤◌, Bool, true, fa
 use Rattle.std.specs.List.{slice_split, onto_first, AllByRecursion}
 use Rattle.std.specs.Str.Lines.{lines, lines_of_parts, strip_carriage_return}
 use Rattle.std.proofs.lemmas.Bool.{ne_eqb, eqb-true, cond-false, and_parts, or_cases, leb-true}
-use Rattle.std.proofs.lemmas.List.{append-nil}
-use Rattle.orca_grid.specs.GridText.{is_cell}
+use Rattle.orca_grid.specs.GridText.{is_cell, is_line_feed}
 
 abbrev pub parts : List ℕ → List (List ℕ)
 parts bytes = slice_split (λ b. eqb b 10) bytes
@@ -73,19 +72,27 @@ cell_range b e =
       | inr glyph ↦ let both = and_parts _ _ glyph in let low : 33 ≤ b = leb-true 33 b both.0 in (omega (arith, low), leb-true b 126 both.1)
     ]
 
--- the cell bytes stand at the front of the first line
-pub lines-front : (begun bytes : List ℕ) (row : List ℕ) (rows : List (List ℕ)) → AllCells begun → lines bytes ≡ row ∷ rows → lines (begun ++ bytes) ≡ (begun ++ row) ∷ rows
-lines-front [] bytes row rows cells e = e
-lines-front (c ∷ begun) bytes row rows cells e =
-    let range = cell_range c cells.0 in
-    lines-cons c (begun ++ bytes) (λ (h : c ≡ 10). omega (arith, range.0)) (λ (h : c ≡ 13). omega (arith, range.0))
-    ∙ ap (onto_first c) (lines-front begun bytes row rows cells.1 e)
+pub cell_is_no_end : (b : ℕ) → is_cell b ≡ true → is_line_feed b ≡ false
+cell_is_no_end b cell = ne_eqb b 10 (λ (h : b ≡ 10). omega (arith, (cell_range b cell).0))
+
+-- a cell byte belongs to the first line
+pub lines-cell : (c : ℕ) (bytes : List ℕ) → is_cell c ≡ true → lines (c ∷ bytes) ≡ onto_first c (lines bytes)
+lines-cell c bytes cell =
+    let range = cell_range c cell in
+    lines-cons c bytes (λ (h : c ≡ 10). omega (arith, range.0)) (λ (h : c ≡ 13). omega (arith, range.0))
+
+-- before the end of a row, cell bytes are that row
+pub lines-front : (begun bytes : List ℕ) (rows : List (List ℕ)) → AllCells begun → lines bytes ≡ [] ∷ rows
+    → lines (begun ++ bytes) ≡ begun ∷ rows
+lines-front [] bytes rows cells e = e
+lines-front (c ∷ begun) bytes rows cells e =
+    lines-cell c (begun ++ bytes) cells.0 ∙ ap (onto_first c) (lines-front begun bytes rows cells.1 e)
 
 pub lines-ended : (begun bytes : List ℕ) → AllCells begun → lines (begun ++ 10 ∷ bytes) ≡ begun ∷ lines bytes
-lines-ended begun bytes cells = lines-front begun (10 ∷ bytes) [] (lines bytes) cells (lines-line_feed bytes) ∙ ap (λ row. row ∷ lines bytes) (append-nil begun)
+lines-ended begun bytes cells = lines-front begun (10 ∷ bytes) (lines bytes) cells (lines-line_feed bytes)
 
 pub lines-returned : (begun bytes : List ℕ) → AllCells begun → lines (begun ++ 13 ∷ 10 ∷ bytes) ≡ begun ∷ lines bytes
-lines-returned begun bytes cells = lines-front begun (13 ∷ 10 ∷ bytes) [] (lines bytes) cells (lines-return bytes) ∙ ap (λ row. row ∷ lines bytes) (append-nil begun)
+lines-returned begun bytes cells = lines-front begun (13 ∷ 10 ∷ bytes) (lines bytes) cells (lines-return bytes)
 
 -- what stands after the last end of a row is a row where it isn't empty
 abbrev pub last_row : List ℕ → List (List ℕ)
@@ -96,10 +103,7 @@ onto-last : (c : ℕ) (begun : List ℕ) → onto_first c (last_row begun) ≡ (
 onto-last c [] = refl
 onto-last c (d ∷ begun) = refl
 
--- where no line follows, the cell bytes are the last
-pub lines-last : (begun bytes : List ℕ) → AllCells begun → lines bytes ≡ [] → lines (begun ++ bytes) ≡ last_row begun
-lines-last [] bytes cells e = e
-lines-last (c ∷ begun) bytes cells e =
-    let range = cell_range c cells.0 in
-    lines-cons c (begun ++ bytes) (λ (h : c ≡ 10). omega (arith, range.0)) (λ (h : c ≡ 13). omega (arith, range.0))
-    ∙ (ap (onto_first c) (lines-last begun bytes cells.1 e) ∙ onto-last c begun)
+pub lines-last : (begun : List ℕ) → AllCells begun → lines begun ≡ last_row begun
+lines-last [] cells = refl
+lines-last (c ∷ begun) cells =
+    lines-cell c begun cells.0 ∙ (ap (onto_first c) (lines-last begun cells.1) ∙ onto-last c begun)

@@ -1,8 +1,9 @@
 -- The row and the column of a byte, and the first offence, from one place to the next.
-use Rattle.std.proofs.Common.{◌≡◌, ℕ, ◌+◌, ◌-◌, ◌≤◌, ◌<◌, Bool, true, false, not, cond, List, [], ◌∷◌, ◌++◌, length, take, drop, get_or, zero, suc, Some, None, refl, sym, ap, ◌∙◌, arith, add-one, add-zero, add-suc}
+use Rattle.std.proofs.Common.{◌≡◌, ℕ, ◌+◌, ◌-◌, ◌≤◌, ◌<◌, Bool, true, false, not, cond, List, [], ◌∷◌, ◌++◌, length, take, drop, get_or, zero, suc, Some, None, inl, inr, refl, sym, ap, ◌∙◌, arith, add-one, add-zero, add-suc}
 use Rattle.std.specs.List.{after_last, suffix_len, prefix_len, count_by}
+use Rattle.std.specs.Prelude.{Option}
 use Rattle.std.specs.Option.{option_or}
-use Rattle.std.proofs.lemmas.Bool.{le-ltb, and_parts, eqb-true, false_from_ne_true, true≢false, cond-true, cond-false, not_from_true, not_from_false, ltb-false, eq-eqb, and_from}
+use Rattle.std.proofs.lemmas.Bool.{le-ltb, and_parts, eqb-true, false_from_ne_true, true≢false, cond-true, cond-false, not_from_true, not_from_false, ltb-false, eq-eqb, and_from, cases_eq}
 use Rattle.std.proofs.lemmas.List.{reverse-append, take_more, drop_all, drop-append-le, length_push}
 use Rattle.std.proofs.lemmas.List.Sums.{count_by_more_yes, count_by_more_no, sum_by_push}
 use Rattle.orca_base.specs.declared.limits.TheConstants.{MAX_ROWS, MAX_COLUMNS}
@@ -107,3 +108,15 @@ first_offence-none text (suc n) none =
     let before : first_offence text n ≡ None = first_offence-none text n (λ k h. none k (omega arith)) in
     let here : offence text n ≡ None = none n (omega arith) in
     rw (before, here) refl
+
+none-both : (o p : Option GridRefusal) → option_or o p ≡ None → (o ≡ None) × (p ≡ None)
+none-both None p e = (refl, e)
+none-both (Some r) p e = cc
+
+-- where none offends, no byte does
+pub first_offence-each : (text : List ℕ) (n k : ℕ) → first_offence text n ≡ None → k < n → offence text k ≡ None
+unfolding first_offence
+first_offence-each text zero k none h = absurd (omega (arith, h))
+first_offence-each text (suc n) k none h =
+    let both = none-both (first_offence text n) (offence text n) none in
+    elim (cases_eq k n) [ inl same ↦ ap (offence text) same ∙ both.1 | inr other ↦ first_offence-each text n k both.0 (omega (arith, h, other)) ]

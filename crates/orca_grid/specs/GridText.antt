@@ -1,24 +1,16 @@
 -- Grid text: how a byte offends, the grid of a text in which none does, and the text of a grid.
 -- A text's rows are its lines: each ends in a line feed, or in a carriage return and a line feed, and the end of the last may be missing.
-use Rattle.std.specs.Prelude.{ℕ, ◌+◌, ◌-◌, ◌*◌, ◌≡◌, Bool, not, ◌&&◌, ◌||◌, ◌==◌, nat_lt, if◌then◌else◌, Option, Some, None, Result, Ok, Err, List, [], ◌∷◌, ◌++◌, length, map, take, drop, replicate, count_by, slice_index, max, zero, suc}
+use Rattle.std.specs.Prelude.{ℕ, ◌+◌, ◌≡◌, Bool, not, ◌&&◌, ◌||◌, ◌==◌, nat_lt, if◌then◌else◌, Option, Some, None, Result, Ok, Err, List, [], ◌∷◌, ◌++◌, length, map, take, count_by, slice_index, slice_index_or, max, zero, suc}
 use Rattle.std.specs.Option.{option_or}
-use Rattle.std.specs.List.{after_last, flat_map}
+use Rattle.std.specs.List.{after_last, flat_map, range_with_len}
 use Rattle.std.specs.Str.Lines.{lines}
+use Rattle.orca_base.specs.Ascii.{space, line_feed, carriage_return}
 use Rattle.orca_base.specs.Glyphs.{empty, is_glyph}
-use Rattle.orca_base.specs.Grids.{Sheet}
+use Rattle.orca_base.specs.Grids.{Size, Sheet, sheet_by, glyph_at}
 use Rattle.orca_base.specs.declared.limits.TheConstants.{MAX_ROWS, MAX_COLUMNS}
+use Rattle.orca_base.specs.declared.place.Place.{Place}
 use Rattle.orca_grid.specs.declared.refusal.GridRefusal.{GridRefusal}
 use Rattle.orca_grid.specs.declared.refusal.GridRefusal.TheVariants.{BadByte, NoCells, TooWide, TooHigh}
-
--- the bytes of ASCII that a text may hold beside the glyphs
-abbrev pub space : ℕ
-space = 32
-
-abbrev pub line_feed : ℕ
-line_feed = 10
-
-abbrev pub carriage_return : ℕ
-carriage_return = 13
 
 -- a cell byte: a glyph, or a space
 abbrev pub is_cell : ℕ → Bool
@@ -60,52 +52,51 @@ first_offence text (suc n) = option_or (first_offence text n) (offence text n)
 abbrev pub glyph_of : ℕ → ℕ
 glyph_of byte = if byte == space then empty else byte
 
--- a row of glyphs, filled with `.` at the right
-abbrev pub padded : ℕ → List ℕ → List ℕ
-padded width glyphs = glyphs ++ replicate (width - length glyphs) empty
-
--- the cells of a row of the text
-abbrev pub filled : ℕ → List ℕ → List ℕ
-filled width row = padded width (map glyph_of row)
-
 -- the length of the longest row
 unfoldable pub widest : List (List ℕ) → ℕ
 widest [] = 0
 widest (row ∷ rows) = max (length row) (widest rows)
 
--- the grid of some rows
-abbrev pub sheet_of : List (List ℕ) → Sheet
-sheet_of rows = record { dims = record { h = length rows; w = widest rows }; cells = flat_map (filled (widest rows)) rows }
+-- the size of the grid of some rows
+abbrev pub size_of_rows : List (List ℕ) → Size
+size_of_rows rows = record { h = length rows; w = widest rows }
 
--- the grid of rows in which no byte offends; without a cell there is none
-abbrev pub accepted : List (List ℕ) → Result Sheet GridRefusal
-accepted rows = if (length rows == 0) || (widest rows == 0) then Err NoCells else Ok (sheet_of rows)
+-- the glyph that some rows give to a place: each row is filled with `.` at the right
+unfoldable pub glyph_of_rows : List (List ℕ) → Place → ℕ
+glyph_of_rows rows at = slice_index_or (map glyph_of (slice_index_or rows at.y [])) at.x empty
+
+-- the grid of some rows
+abbrev pub sheet_of_rows : List (List ℕ) → Sheet
+sheet_of_rows rows = sheet_by (size_of_rows rows) (glyph_of_rows rows)
+
+-- what rows in which no byte offends are read as: without a cell they are no grid
+abbrev pub grid_of_rows : List (List ℕ) → Result Sheet GridRefusal
+grid_of_rows rows = if (length rows == 0) || (widest rows == 0) then Err NoCells else Ok (sheet_of_rows rows)
 
 -- the first offence decides
 abbrev pub unless_refused : Option GridRefusal → List (List ℕ) → Result Sheet GridRefusal
 unless_refused (Some refusal) rows = Err refusal
-unless_refused None rows = accepted rows
+unless_refused None rows = grid_of_rows rows
 
 -- what a text is read as: the first offending byte decides, and where none offends, the grid is that of its lines
 unfoldable pub grid_text : List ℕ → Result Sheet GridRefusal
 grid_text text = unless_refused (first_offence text (length text)) (lines text)
 
--- the first h rows of w cells
-abbrev pub rows_of : ℕ → ℕ → List ℕ → List (List ℕ)
-rows_of w zero cells = []
-rows_of w (suc h) cells = take w cells ∷ rows_of w h (drop w cells)
+-- row y of a grid
+abbrev pub row_of : Sheet → ℕ → List ℕ
+row_of g y = map (λ x. glyph_at g (record { y = y; x = x })) (range_with_len 0 g.dims.w)
+
+-- the rows of a grid
+abbrev pub rows_of : Sheet → List (List ℕ)
+rows_of g = map (row_of g) (range_with_len 0 g.dims.h)
 
 -- a row and its line feed
 abbrev pub line : List ℕ → List ℕ
 line row = row ++ line_feed ∷ []
 
 -- the text of a grid: each row, with a line feed
-unfoldable pub printed : Sheet → List ℕ
-printed g = flat_map line (rows_of g.dims.w g.dims.h g.cells)
-
--- row y of a grid
-abbrev pub row_of : Sheet → ℕ → List ℕ
-row_of g y = take g.dims.w (drop (y * g.dims.w) g.cells)
+unfoldable pub text_of : Sheet → List ℕ
+text_of g = flat_map line (rows_of g)
 
 -- old stands at the front of new
 abbrev pub Extends : List ℕ → List ℕ → Type 0

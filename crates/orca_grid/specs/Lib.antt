@@ -1,2 +1,1 @@
 pub mod GridText
-pub mod Packed

@@ -1,6 +1,6 @@
 //! The grid.
 
-ghost use Rattle.std.specs.Prelude.{◌≡◌, ◌*◌, [], IfOk, replicate, slice_set, vec_len};
+ghost use Rattle.std.specs.Prelude.{◌≡◌, ◌*◌, [], IfOk, replicate, slice_set};
 ghost use Rattle.orca_base.specs.Glyphs.{empty};
 ghost use Rattle.orca_base.specs.Grids.{IsInside, index_of};
 
@@ -51,12 +51,15 @@ impl Grid {
         self.cells.as_slice()
     }
 
-    /// The grid of this size with these glyphs, as many as it has places.
-    pub(crate) fn of(dims: Dims, cells: Vec<Glyph>) -> Grid
-        requires { vec_len cells ≡ dims.h * dims.w }
-        ensures { result ≡ record { dims = dims; cells = cells.items } }
+    /// An equal grid; [`Memory`] where its room is refused.
+    pub fn copy(&self) -> Result<Grid, Memory>
+        ensures { IfOk result (λ grid. grid ≡ self.now) }
     {
-        Grid { dims, cells }
+        let cells = self.cells.to_vec(*self.cells.allocator())?;
+        Ok(Grid {
+            dims: self.dims,
+            cells,
+        })
     }
 }
 

@@ -5,7 +5,6 @@ mod grid;
 mod print;
 mod read;
 mod refusal;
-mod rows;
 
 pub use grid::Grid;
 pub use refusal::GridRefusal;

@@ -1,8 +1,7 @@
 //! Printing a grid.
 
 ghost use Rattle.std.specs.Prelude.{◌≡◌, ◌<◌, ◌++◌, Ok, OnOk, OnErr};
-ghost use Rattle.orca_base.specs.Glyphs.{AreGlyphs};
-ghost use Rattle.orca_grid.specs.GridText.{grid_text, printed, row_of, line, Extends};
+ghost use Rattle.orca_grid.specs.GridText.{grid_text, text_of, row_of, line, Extends};
 
 use crate::Grid;
 use orca_base::{Look, Memory, Place};
@@ -11,8 +10,8 @@ impl Grid {
     /// Appends the text of a grid: each row, with a line feed. Where memory is refused, `into` is as
     /// before.
     pub fn print<T: Look>(look: &T, into: &mut Vec<u8>) -> Result<(), Memory>
-        ensures ok { OnOk result (into.new.items ≡ into.old.items ++ printed (T.sheet look.now)) }
-        ensures reads_back { OnOk result (grid_text (printed (T.sheet look.now)) ≡ Ok (T.sheet look.now)) }
+        ensures ok { OnOk result (into.new.items ≡ into.old.items ++ text_of (T.sheet look.now)) }
+        ensures reads_back { OnOk result (grid_text (text_of (T.sheet look.now)) ≡ Ok (T.sheet look.now)) }
         ensures err { OnErr result (into.new.items ≡ into.old.items) }
     {
         let before = into.len();
@@ -27,10 +26,10 @@ impl Grid {
 }
 
 /// Appends the rows. Where memory is refused, some of them stand behind what was there.
-#[tactic(auto, unfolding(crate::specs::GridText::printed))]
+#[tactic(auto, unfolding(crate::specs::GridText::text_of))]
 fn push_rows<T: Look>(look: &T, into: &mut Vec<u8>) -> Result<(), Memory>
-    ensures ok { OnOk result (into.new.items ≡ into.old.items ++ printed (T.sheet look.now)) }
-    ensures reads_back { OnOk result (grid_text (printed (T.sheet look.now)) ≡ Ok (T.sheet look.now)) }
+    ensures ok { OnOk result (into.new.items ≡ into.old.items ++ text_of (T.sheet look.now)) }
+    ensures reads_back { OnOk result (grid_text (text_of (T.sheet look.now)) ≡ Ok (T.sheet look.now)) }
     ensures err { OnErr result (Extends into.old.items into.new.items) }
 {
     let dims = look.dims();
@@ -45,7 +44,6 @@ fn push_row<T: Look>(look: &T, width: u16, y: u16, into: &mut Vec<u8>) -> Result
     requires row { y < (T.sheet look.now).dims.h }
     requires width { width ≡ (T.sheet look.now).dims.w }
     ensures ok { OnOk result (into.new.items ≡ into.old.items ++ line (row_of (T.sheet look.now) y)) }
-    ensures glyphs { OnOk result (AreGlyphs (row_of (T.sheet look.now) y)) }
     ensures err { OnErr result (Extends into.old.items into.new.items) }
 {
     for x in 0..width {

@@ -1,14 +1,14 @@
 //! Reading a grid text.
 
-ghost use Rattle.std.specs.Prelude.{◌≡◌, ◌≢◌, ◌+◌, ◌*◌, ◌^◌, ◌<◌, ◌≤◌, [], Some, None, Ok, Err, IfOk, IfErr, IfSome, IsOk, OnOk, IsOkUnless, length, if◌then◌else◌};
+ghost use Rattle.std.specs.Prelude.{◌≡◌, ◌≢◌, ◌+◌, ◌^◌, ◌<◌, Some, None, Ok, Err, IfOk, IfErr, IfSome, IsOk, OnOk, IsOkUnless, length, replicate, if◌then◌else◌};
 ghost use Rattle.std.specs.Str.Lines.{lines};
-ghost use Rattle.orca_grid.specs.GridText.{row_at, column_at, is_cell as is_cell_byte, is_bad as is_bad_at, offence as offence_at, glyph_of, accepted, grid_text};
-ghost use Rattle.orca_grid.specs.Packed.{Holds};
+ghost use Rattle.orca_base.specs.Glyphs.{empty};
+ghost use Rattle.orca_base.specs.Grids.{IsSize, cells_of};
+ghost use Rattle.orca_grid.specs.GridText.{row_at, column_at, is_cell as is_cell_byte, is_bad as is_bad_at, offence as offence_at, first_offence, glyph_of, size_of_rows, sheet_of_rows, grid_text};
 
-use crate::rows::Rows;
 use crate::{Grid, GridRefusal};
 use orca_base::limits::{MAX_COLUMNS, MAX_ROWS};
-use orca_base::{Dims, Glyph, Memory};
+use orca_base::{Dims, Glyph, Place};
 use std::alloc::Global;
 
 impl Grid {
@@ -25,39 +25,63 @@ impl Grid {
         ensures only_memory { OnOk (grid_text bytes.now) (IsOkUnless result GridRefusal.Memory) }
         ensures memory { result ≡ Err GridRefusal.Memory → IsOk (grid_text bytes.now) }
     {
-        let rows = read_rows(alloc, bytes)?;
-        let Some(dims) = Dims::of(u32::from(rows.height), u32::from(rows.width)) else {
-            return Err(GridRefusal::NoCells);
-        };
-        let cells = rows.spread(dims)?;
-        Ok(Grid::of(dims, cells))
+        let dims = size_of(bytes)?;
+        let mut grid = Grid::blank(alloc, dims)?;
+        fill(&mut grid, bytes);
+        Ok(grid)
     }
 }
 
-/// The rows of a text, or how its first byte that offends does.
-fn read_rows(alloc: Global, bytes: &[u8]) -> Result<Rows, GridRefusal>
+/// The size of the grid of a text, or how the text is refused.
+fn size_of(bytes: &[u8]) -> Result<Dims, GridRefusal>
     requires { length bytes.now < 2 ^ 32 }
-    ensures rows { IfOk result (λ rows. Holds rows (lines bytes.now) []) }
-    ensures clean { OnOk result (grid_text bytes.now ≡ accepted (lines bytes.now)) }
-    ensures few { IfOk result (λ rows. (rows.height ≤ MAX_ROWS) × (rows.width ≤ MAX_COLUMNS)) }
+    ensures size { IfOk result (λ dims. dims ≡ size_of_rows (lines bytes.now)) }
+    ensures whole { IfOk result IsSize }
+    ensures clean { OnOk result (first_offence bytes.now (length bytes.now) ≡ None) }
+    ensures found { OnOk result (grid_text bytes.now ≡ Ok (sheet_of_rows (lines bytes.now))) }
     ensures refused { IfErr result (λ refusal. grid_text bytes.now ≡ Err refusal) }
     ensures named { IfErr result (λ refusal. refusal ≢ GridRefusal.Memory) }
 {
-    let mut rows = Rows::new(alloc);
+    let mut height: u16 = 0;
+    let mut width: u16 = 0;
+    let mut column: u16 = 0;
     for (i, byte) in bytes.iter().enumerate() {
-        if let Some(refusal) = offence(bytes, i, rows.height, rows.column) {
+        if let Some(refusal) = offence(bytes, i, height, column) {
             return Err(refusal);
         }
         if *byte == b'\n' {
-            rows.end();
-        } else if let Some(glyph) = cell(*byte) {
-            rows.add(glyph);
+            height += 1;
+            width = width.max(column);
+            column = 0;
+        } else if is_cell(*byte) {
+            column += 1;
         }
     }
-    if rows.column > 0 {
-        rows.end();
+    let h = height + u16::from(column > 0);
+    let w = width.max(column);
+    if h == 0 || w == 0 {
+        return Err(GridRefusal::NoCells);
     }
-    Ok(rows)
+    Ok(Dims { h, w })
+}
+
+/// Writes the cells of a text in which no byte offends into a blank grid of its size.
+fn fill(grid: &mut Grid, bytes: &[u8])
+    requires clean { first_offence bytes.now (length bytes.now) ≡ None }
+    requires size { grid.old.dims ≡ size_of_rows (lines bytes.now) }
+    requires whole { IsSize grid.old.dims }
+    requires blank { grid.old.cells ≡ replicate (cells_of grid.old.dims) empty }
+    ensures { grid.new ≡ sheet_of_rows (lines bytes.now) }
+{
+    let mut at = Place { y: 0, x: 0 };
+    for byte in bytes {
+        if *byte == b'\n' {
+            at = Place { y: at.y + 1, x: 0 };
+        } else if let Some(glyph) = cell(*byte) {
+            grid.set(at, glyph);
+            at.x += 1;
+        }
+    }
 }
 
 /// How the byte at a place offends: `height` rows have ended before it, and `column` cells of its row

@@ -202,3 +202,17 @@ fn a_blank_grid_and_a_glyph(rt: HostRuntime) -> Result<(), Fail> {
     assert!(rt; grid.cells()[3] == Glyph::BANG);
     Ok(())
 }
+
+#[test]
+fn a_copy_stays_when_the_grid_is_changed(rt: HostRuntime) -> Result<(), Fail> {
+    let mut grid = Grid::read(rt.alloc(), b"AB\nC")?;
+    let copy = grid.copy()?;
+    let dims = grid.dims();
+    assert!(rt; dims.h == 2 && dims.w == 2);
+    grid.set(Place { y: 1, x: 1 }, Glyph::BANG);
+    let mut text = Vec::new(rt.alloc());
+    Grid::print(&copy, &mut text)?;
+    Grid::print(&grid, &mut text)?;
+    assert!(rt; text.as_slice() == b"AB\nC.\nAB\nC*\n".as_slice());
+    Ok(())
+}

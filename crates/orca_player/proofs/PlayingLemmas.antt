@@ -10,7 +10,7 @@ use Rattle.orca_base.specs.declared.message.Message.TheVariants as message
 use Rattle.orca_base.specs.declared.port.Port.TheVariants as port
 use Rattle.orca_base.specs.MidiBytes.{note_on_bytes, note_off_bytes, control_bytes, bend_bytes}
 use Rattle.orca_base.specs.declared.note.Note.{Note}
-use Rattle.orca_grid.specs.GridText.{printed}
+use Rattle.orca_grid.specs.GridText.{text_of}
 use Rattle.orca_notes.specs.Device.{device, device-append, voices, Voice, IsFair, IsFair-append, midi, midi_of}
 use Rattle.orca_notes.specs.Sound.{ends}
 use Rattle.orca_player.specs.declared.lines.Label.{Label}
@@ -76,7 +76,7 @@ midi_text bytes sends = refl
 
 midi_close : (show : Show) (m : Moment) → midi_sent (close_sends show m) ≡ midi (ends m.notes)
 unfolding close_sends
-midi_close Grid m = midi_text (printed m.sheet) (sends_of (ends m.notes)) ∙ midi_sent-sends_of (ends m.notes)
+midi_close Grid m = midi_text (text_of m.sheet) (sends_of (ends m.notes)) ∙ midi_sent-sends_of (ends m.notes)
 midi_close Messages m = midi_sent-and_none (ends m.notes) (lines_of End (ends m.notes)) (midi_sent-lines_of End (ends m.notes))
 
 nothing_sent : device [] (midi_sent []) ≡ []

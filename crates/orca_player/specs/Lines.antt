@@ -5,7 +5,7 @@ use Rattle.std.specs.Fmt.{decimal}
 use Rattle.orca_base.specs.declared.message.Message.{Message}
 use Rattle.orca_base.specs.declared.port.Port.TheVariants as port
 use Rattle.orca_base.specs.Ports.{port_name}
-use Rattle.orca_grid.specs.GridText.{space, line_feed}
+use Rattle.orca_base.specs.Ascii.{space, line_feed}
 use Rattle.orca_player.specs.declared.lines.Label.{Label}
 use Rattle.orca_player.specs.declared.lines.Label.TheVariants.{Tick, End}
 use Rattle.orca_player.specs.Outside.{Sent}

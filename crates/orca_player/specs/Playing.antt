@@ -5,7 +5,7 @@ use Rattle.orca_base.specs.declared.note.Note.{Note}
 use Rattle.orca_base.specs.declared.now.Now.{Now}
 use Rattle.orca_base.specs.declared.port.Port.TheVariants as port
 use Rattle.orca_base.specs.Grids.{Sheet}
-use Rattle.orca_grid.specs.GridText.{printed}
+use Rattle.orca_grid.specs.GridText.{text_of}
 use Rattle.orca_notes.specs.Device.{device, voices, IsFair}
 use Rattle.orca_notes.specs.Sound.{Sounds, sound, ends}
 use Rattle.orca_op.specs.Scan.{scan}
@@ -66,7 +66,7 @@ frames_sends show seed (suc n) m = frames_sends show seed n m ++ frame_sends sho
 
 -- the sends at the end: the final text, where there is one, then the ends of the notes that sound
 unfoldable pub close_sends : Show → Moment → List Sent
-close_sends Grid m = record { port = port.Text; bytes = printed m.sheet } ∷ sends_of (ends m.notes)
+close_sends Grid m = record { port = port.Text; bytes = text_of m.sheet } ∷ sends_of (ends m.notes)
 close_sends Messages m = sends_of (ends m.notes) ++ lines_of End (ends m.notes)
 
 -- all sends of a run of n frames

@@ -2,7 +2,7 @@
 use Rattle.std.specs.Prelude.{ℕ, List, [], ◌∷◌, ◌++◌, codes}
 use Rattle.std.specs.Fmt.{decimal}
 use Rattle.orca_base.specs.declared.port.Port.TheVariants as port
-use Rattle.orca_grid.specs.GridText.{line_feed}
+use Rattle.orca_base.specs.Ascii.{line_feed}
 use Rattle.orca_grid.specs.declared.refusal.GridRefusal.{GridRefusal}
 use Rattle.orca_grid.specs.declared.refusal.GridRefusal.TheVariants as refusal
 use Rattle.orca_player.specs.declared.status.Status.{Status}

@@ -1,5 +1,5 @@
 ghost use Rattle.std.specs.Prelude.{◌≡◌, ◌≢◌, ◌≤◌, ◌⊎◌, [], ◌∷◌, ◌++◌, IfOk};
-ghost use Rattle.orca_grid.specs.GridText.{line_feed};
+ghost use Rattle.orca_base.specs.Ascii.{line_feed};
 ghost use Rattle.orca_player.specs.Sending.{added};
 ghost use Rattle.orca_player.specs.Statuses.{refusal_text, status_text, status_sends};
 
