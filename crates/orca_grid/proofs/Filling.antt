@@ -5,23 +5,23 @@ use Rattle.std.specs.Str.Lines.{lines}
 use Rattle.std.proofs.lemmas.Bool.{cases_eq}
 use Rattle.std.proofs.lemmas.List.{get_or_push, get_or-replicate, get_or-set_same, get_or-set_other, length-set, length-map, length-replicate, length_push, map_push, append-nil}
 use Rattle.orca_base.specs.Glyphs.{empty}
-use Rattle.orca_base.specs.Grids.{Size, IsSize, Sheet, IsInside, cells_of, cells_by, sheet_by, index_of, place_of}
+use Rattle.orca_base.specs.Grids.{Size, IsSize, Sheet, IsInside, cells_of, by_place, sheet_by, index_of, place_of}
 use Rattle.orca_base.specs.declared.place.Place.{Place}
 use Rattle.orca_base.proofs.PlaceFacts.{index_of-below, place_of-index_of}
-use Rattle.orca_base.proofs.SheetFacts.{cells-same, length-cells_by, glyph_at-sheet_by, sheet-same}
+use Rattle.orca_base.proofs.SheetFacts.{list-by_place, length-by_place, glyph_at-sheet_by, sheet-same}
 use Rattle.orca_grid.specs.GridText.{is_cell, is_line_feed, offence, glyph_of, glyph_of_rows, size_of_rows, sheet_of_rows}
 use Rattle.orca_grid.proofs.Lines.{last_row, cell_is_no_end}
 use Rattle.orca_grid.proofs.Reading.{Reading, reading, reading_by, reading-by, rows_so_far, IsReading, IsPassed, passes-start, passes-more, lines-reading, cell-inside}
 
 -- ---- a cell of a grid is written
 
-pub set-cells_by : (d : Size) (old new : Place → ℕ) (at : Place) (glyph : ℕ) → IsSize d → IsInside d at → new at ≡ glyph
+pub set-by_place : (d : Size) (old new : Place → ℕ) (at : Place) (glyph : ℕ) → IsSize d → IsInside d at → new at ≡ glyph
     → ((p : Place) → IsInside d p → ((p.y ≡ at.y) × (p.x ≡ at.x) → ⊥) → new p ≡ old p)
-    → set (cells_by d old) (index_of d at) glyph ≡ cells_by d new
-set-cells_by d old new at glyph size inside here others =
-    let cells = cells_by d old in
-    let whole : length cells ≡ cells_of d = length-cells_by d old in
-    cells-same d (set cells (index_of d at) glyph) new size (length-set cells (index_of d at) glyph ∙ whole) (λ p within.
+    → set (by_place d old) (index_of d at) glyph ≡ by_place d new
+set-by_place d old new at glyph size inside here others =
+    let cells = by_place d old in
+    let whole : length cells ≡ cells_of d = length-by_place d old in
+    list-by_place d (set cells (index_of d at) glyph) new 0 size (length-set cells (index_of d at) glyph ∙ whole) (λ p within.
     elim (cases_eq (index_of d p) (index_of d at)) [
       | inl same ↦
           let below : index_of d at < length cells = omega (arith, whole, index_of-below d at inside) in
@@ -34,9 +34,9 @@ set-cells_by d old new at glyph size inside here others =
 
 set-sheet_by : (d : Size) (old new : Place → ℕ) (at : Place) (glyph : ℕ) → IsSize d → IsInside d at → new at ≡ glyph
     → ((p : Place) → IsInside d p → ((p.y ≡ at.y) × (p.x ≡ at.x) → ⊥) → new p ≡ old p)
-    → ◌≡◌ {A = Sheet} (record { dims = d; cells = set (cells_by d old) (index_of d at) glyph }) (sheet_by d new)
+    → ◌≡◌ {A = Sheet} (record { dims = d; cells = set (by_place d old) (index_of d at) glyph }) (sheet_by d new)
 set-sheet_by d old new at glyph size inside here others =
-    ap (λ (cells : List ℕ). record { dims = d; cells = cells }) (set-cells_by d old new at glyph size inside here others)
+    ap (λ (cells : List ℕ). record { dims = d; cells = cells }) (set-by_place d old new at glyph size inside here others)
 
 -- ---- the glyphs of rows
 
@@ -116,7 +116,7 @@ fills-start text g size dims blank =
 -- grids of one size are one where their glyphs are
 sheet_by-same : (d : Size) (old new : Place → ℕ) → IsSize d → ((at : Place) → IsInside d at → old at ≡ new at) → sheet_by d old ≡ sheet_by d new
 sheet_by-same d old new size same =
-    sheet-same (sheet_by d old) new size (length-cells_by d old) (λ at inside. glyph_at-sheet_by d old at inside ∙ same at inside)
+    sheet-same (sheet_by d old) new size (length-by_place d old) (λ at inside. glyph_at-sheet_by d old at inside ∙ same at inside)
 
 pub fills-line_feed : (text : List ℕ) (i : ℕ) (at : Place) (g : Sheet) → IsSize (size_of_rows (lines text)) → i < length text → offence text i ≡ None
     → is_line_feed (get_or text i 0) ≡ true → Fills text i at g → Fills text (i + 1) (record { y = at.y + 1; x = 0 }) g
