@@ -1,5 +1,5 @@
 ghost use Rattle.std.specs.Prelude.{◌≡◌, ◌<◌, ◌≤◌, ◌↔◌, ℕ, IsNone, IfSome, IsTrue, length, slice_set};
-ghost use Rattle.orca_base.specs.Glyphs.{IsGlyph, AreGlyphs, empty, bang, value, from_value, cased, is_operator, needs_bang, note_number, natural_note, is_upper};
+ghost use Rattle.orca_base.specs.Glyphs.{IsGlyph, empty, bang, value, from_value, cased, is_operator, needs_bang, note_number, natural_note, is_upper};
 
 use crate::limits::BASE;
 use std::marker::Model;
@@ -83,7 +83,7 @@ impl Glyph {
     pub fn put(self, into: &mut [Glyph], index: usize)
         requires { index < length into.old }
         ensures put { into.new ≡ slice_set into.old index self }
-        ensures glyphs { AreGlyphs into.old → AreGlyphs into.new }
+        ensures glyph { IsGlyph self }
     {
         into[index] = Glyph { byte: self.byte };
     }

@@ -1,59 +1,46 @@
--- A place more in a listing, and none.
-use Rattle.std.proofs.Common.{◌≡◌, ℕ, zero, suc, ◌+◌, ◌*◌, ◌<◌, ◌≤◌, Bool, true, false, not, ◌==◌, ◌&&◌, ◌||◌, cond, List, [], ◌∷◌, ◌++◌, length, get_or, take, drop, arith, ap, ◌∙◌, sym, refl, inl, inr, ◌/◌, length-append}
+-- A change more in a listing, and none.
+use Rattle.std.proofs.Common.{◌≡◌, ℕ, zero, suc, ◌+◌, ◌<◌, ◌≤◌, Bool, true, false, not, ◌==◌, ◌&&◌, ◌||◌, cond, List, [], ◌∷◌, ◌++◌, length, get_or, map, arith, ap, ◌∙◌, sym, refl, inl, inr, length-append, subst}
 use Rattle.std.proofs.Math.ListN.{set}
-use Rattle.std.specs.Prelude.{count_by}
-use Rattle.std.specs.List.{list_any}
-use Rattle.std.proofs.lemmas.List.{append-nil, drop_all, get_or-set_other, get_or-set_same, length-set, take_all}
+use Rattle.std.specs.Prelude.{All, count_by, Some}
+use Rattle.std.specs.List.{AllByRecursion}
+use Rattle.std.proofs.lemmas.List.{get_or-set_other, get_or-set_same, get_or_default, length-set, map_push, get_or-map, length-map}
 use Rattle.std.proofs.lemmas.List.Sums.{sum_by-set, count_by-le-length}
 use Rattle.std.proofs.lemmas.List.Folds.{list_any-append}
-use Rattle.std.proofs.lemmas.List.Elements.{All-nil, All-push}
-use Rattle.std.proofs.lemmas.Nat.{div-mul-add}
+use Rattle.std.proofs.lemmas.List.Elements.{All-nil, All-push, recursion_from_All}
 use Rattle.std.proofs.lemmas.Bool.Decides.{eqb_tells}
-use Rattle.std.proofs.lemmas.Bool.{eq-eqb}
+use Rattle.orca_base.specs.declared.change.Change.{Change}
 use Rattle.orca_base.specs.declared.limits.TheConstants.{MAX_CELLS}
 use Rattle.orca_base.specs.declared.place.Place.{Place}
-use Rattle.orca_base.specs.Grids.{Size, IsInside, index_of}
-use Rattle.orca_op.specs.Desk.{is_place}
-use Rattle.orca_board.specs.Listing.{IsFlagged, has_number}
+use Rattle.orca_base.specs.Grids.{Size, IsInside, glyph_at as glyph_on, index_of, is_inside, largest}
+use Rattle.orca_base.proofs.PlaceFacts.{is_place-index, is_inside-inside, inside-is_inside}
+use Rattle.orca_op.specs.State.{glyph_at}
+use Rattle.orca_op.specs.Desk.{Desk, KeepsUnlisted, changes_of, is_listed, list_with}
+use Rattle.orca_board.specs.Listing.{IsFlagged, has_number, places_of, changes_with}
 
 -- a flag more counts one more
-pub count_more : (flags : List Bool) (i : ℕ) → i < length flags → get_or flags i false ≡ false → count_by (λ flag. flag) (set flags i true) ≡ count_by (λ flag. flag) flags + 1
+count_more : (flags : List Bool) (i : ℕ) → i < length flags → get_or flags i false ≡ false → count_by (λ flag. flag) (set flags i true) ≡ count_by (λ flag. flag) flags + 1
 count_more flags i below off =
     let sums = sum_by-set (λ (flag : Bool). cond flag 1 0) flags i true false below in
     let plain = rw off at sums in
     omega (arith, plain)
 
 -- there is room for one more where a flag is off
-pub is_roomy : (began : Size) (places : List Place) (flags : List Bool) (room i : ℕ) → IsFlagged began places flags room → i < length flags → get_or flags i false ≡ false → length places < room
-is_roomy began places flags room i kept below off =
+pub is_roomy : (changes : List Change) (flags : List Bool) (room i : ℕ) → IsFlagged changes flags room → i < length flags → get_or flags i false ≡ false → length changes < room
+is_roomy changes flags room i kept below off =
     omega (arith, count_more flags i below off, count_by-le-length (λ (flag : Bool). flag) (set flags i true), length-set flags i true, kept.counted, kept.size, kept.roomy)
 
-tests_agree : (p q r s i j : ℕ) → (i ≡ j → (p ≡ q) × (r ≡ s)) → (p ≡ q → r ≡ s → i ≡ j) → ((p == q) && (r == s)) ≡ (i == j)
-tests_agree p q r s i j apart together =
-    elim (eqb_tells i j) [
-      | inl same ↦ rw (same.0, eq-eqb p q (apart same.1).0, eq-eqb r s (apart same.1).1) refl
-      | inr other ↦ elim (eqb_tells p q) [
-        | inl row ↦ elim (eqb_tells r s) [
-          | inl column ↦ absurd (other.1 (together row.1 column.1))
-          | inr column ↦ rw (other.0, row.0, column.0) refl
-        ]
-        | inr row ↦ rw (other.0, row.0) refl
-      ]
-    ]
+-- a place is listed where its number is
+numbered : (places : List Place) (at : Place) → IsInside largest at → All (IsInside largest) places → has_number places (index_of largest at) ≡ is_listed places at
+numbered places at inside all = by places (recursion_from_All (IsInside largest) places all)
+  where
+    by : (places : List Place) → AllByRecursion (IsInside largest) places → has_number places (index_of largest at) ≡ is_listed places at
+    by [] all = refl
+    by (p ∷ places) all = rw (is_place-index largest at p inside all.0, by places all.1) refl
 
--- the number of a place gives its row and its column
-index-injective : (w y x y' x' : ℕ) → x < w → x' < w → y * w + x ≡ y' * w + x' → (y ≡ y') × (x ≡ x')
-index-injective w y x y' x' inside inside' same =
-    let row : y ≡ y' = sym (div-mul-add y w x inside) ∙ (ap (λ n. n / w) same ∙ div-mul-add y' w x' inside') in
-    let rows : y * w ≡ y' * w = ap (λ n. n * w) row in
-    (row, omega arith)
-
--- places of the grid are one where their numbers are
-pub is_place-index : (d : Size) (a b : Place) → IsInside d a → IsInside d b → is_place a b ≡ (index_of d a == index_of d b)
-is_place-index d a b inside_a inside_b =
-    tests_agree a.y b.y a.x b.x (index_of d a) (index_of d b)
-    (index-injective d.w a.y a.x b.y b.x inside_a.column inside_b.column)
-    (λ row column. rw (row, column) refl)
+-- a flag is that of the listed place
+pub flag_listed : (changes : List Change) (flags : List Bool) (room : ℕ) (at : Place) → IsFlagged changes flags room → IsInside largest at → get_or flags (index_of largest at) false ≡ is_listed (places_of changes) at
+flag_listed changes flags room at kept inside =
+    kept.only (index_of largest at) ∙ numbered (places_of changes) at inside kept.inside
 
 or_false : (b : Bool) → b ≡ (b || false)
 or_false true = refl
@@ -67,25 +54,30 @@ flag_at flags i j below off =
       | inr other ↦ rw (get_or-set_other flags i j true false other.1, other.0) (or_false (get_or flags j false))
     ]
 
-pub flagged_more : (began : Size) (places : List Place) (flags : List Bool) (room room' : ℕ) (at : Place) → IsInside began at → IsFlagged began places flags room → get_or flags (index_of began at) false ≡ false → index_of began at < length flags → room ≤ room' → IsFlagged began (places ++ at ∷ []) (set flags (index_of began at) true) room'
-flagged_more began places flags room room' at inside kept off below grows = record {
-  size = length-set flags (index_of began at) true ∙ kept.size;
-  counted = omega (arith, length-append places (at ∷ []), count_more flags (index_of began at) below off, kept.counted);
-  flagged = λ other other_inside.
-      flag_at flags (index_of began at) (index_of began other) below off
-      ∙ (ap (λ (b : Bool). b || (index_of began other == index_of began at)) (kept.flagged other other_inside)
-      ∙ (ap (λ (b : Bool). list_any (is_place other) places || b) (sym (is_place-index began other at other_inside inside) ∙ or_false (is_place other at))
-      ∙ sym (list_any-append (is_place other) places (at ∷ []))));
-  only = λ i.
-      flag_at flags (index_of began at) i below off
-      ∙ (ap (λ (b : Bool). b || (i == index_of began at)) (kept.only i)
-      ∙ (ap (λ (b : Bool). has_number began places i || b) (or_false (i == index_of began at))
-      ∙ sym (list_any-append (λ place. i == index_of began place) places (at ∷ []))));
-  inside = All-push (IsInside began) places at kept.inside inside;
-  roomy = omega (arith, kept.roomy);
-}
+pub flagged_more : (changes new : List Change) (flags : List Bool) (room room' i : ℕ) (change : Change) → IsInside largest change.at → IsFlagged changes flags room → i ≡ index_of largest change.at → get_or flags i false ≡ false → i < length flags → new ≡ changes ++ change ∷ [] → room ≤ room' → IsFlagged new (set flags i true) room'
+flagged_more changes new flags room room' i change inside kept number off below pushed grows =
+    let places : places_of (changes ++ change ∷ []) ≡ places_of changes ++ change.at ∷ [] = map_push (λ (c : Change). c.at) changes change in
+    rw pushed (record {
+      size = length-set flags i true ∙ kept.size;
+      counted = omega (arith, length-append changes (change ∷ []), count_more flags i below off, kept.counted);
+      only = λ j.
+          flag_at flags i j below off
+          ∙ (ap (λ (b : Bool). b || (j == i)) (kept.only j)
+          ∙ (ap (λ (n : ℕ). has_number (places_of changes) j || (j == n)) number
+          ∙ (ap (λ (b : Bool). has_number (places_of changes) j || b) (or_false (j == index_of largest change.at))
+          ∙ (sym (list_any-append (λ place. j == index_of largest place) (places_of changes) (change.at ∷ []))
+          ∙ ap (λ (p : List Place). has_number p j) (sym places)))));
+      inside = subst (λ (p : List Place). All (IsInside largest) p) (sym places) (All-push (IsInside largest) (places_of changes) change.at kept.inside inside);
+      roomy = omega (arith, kept.roomy);
+    })
 
--- ---- no place any more
+-- the place of a change
+pub inside_there : (d : Size) (changes : List Change) (i : ℕ) (default : Change) → All (IsInside d) (places_of changes) → i < length changes → IsInside d (get_or changes i default).at
+inside_there d changes i default all below =
+    subst (IsInside d) (get_or-map (λ (c : Change). c.at) changes i default default.at below)
+    (all i default.at (omega (arith, below, length-map changes (λ (c : Change). c.at))))
+
+-- ---- no change any more
 
 no_flag : (flags : List Bool) → ((i : ℕ) → get_or flags i false ≡ false) → count_by (λ flag. flag) flags ≡ 0
 no_flag [] off = refl
@@ -93,14 +85,13 @@ no_flag (flag ∷ flags) off =
     let first : flag ≡ false = off zero in
     rw first (no_flag flags (λ i. off (suc i)))
 
--- no flag is set for no places
-pub flagged_none : (began : Size) (flags : List Bool) (room : ℕ) → length flags ≡ MAX_CELLS → ((i : ℕ) → get_or flags i false ≡ false) → MAX_CELLS ≤ room → IsFlagged began [] flags room
-flagged_none began flags room size off roomy = record {
+-- no flag is set for no changes
+pub flagged_none : (flags : List Bool) (room : ℕ) → length flags ≡ MAX_CELLS → ((i : ℕ) → get_or flags i false ≡ false) → MAX_CELLS ≤ room → IsFlagged [] flags room
+flagged_none flags room size off roomy = record {
   size = size;
   counted = sym (no_flag flags off);
-  flagged = λ at inside. off (index_of began at);
   only = off;
-  inside = All-nil (IsInside began);
+  inside = All-nil (IsInside largest);
   roomy = roomy;
 }
 
@@ -109,11 +100,100 @@ both true = refl
 both false = refl
 
 -- a flag that is set only for listed places is off once their flags are
-pub lowered_off : (began : Size) (places : List Place) (old new : List Bool) (i : ℕ) → get_or old i false ≡ has_number began places i → get_or new i false ≡ (get_or old i false && not (has_number began places i)) → get_or new i false ≡ false
-lowered_off began places old new i only lowered =
-    lowered ∙ (ap (λ (b : Bool). b && not (has_number began places i)) only ∙ both (has_number began places i))
+pub lowered_off : (changes : List Change) (old new : List Bool) (i : ℕ) → get_or old i false ≡ has_number (places_of changes) i → get_or new i false ≡ (get_or old i false && not (has_number (places_of changes) i)) → get_or new i false ≡ false
+lowered_off changes old new i only lowered =
+    lowered ∙ (ap (λ (b : Bool). b && not (has_number (places_of changes) i)) only ∙ both (has_number (places_of changes) i))
 
--- flags that are put in the place of as many
-pub put_over : (new old : List Bool) (n : ℕ) → length new ≡ length old → length old ≤ n → take n (new ++ drop (length new) old) ≡ new
-put_over new old n size all =
-    rw (drop_all (length new) old (omega (arith, size)), append-nil new) (take_all n new (omega (arith, size, all)))
+-- one flag more is down
+pub lowered_more : (old flags : List Bool) (changes : List Change) (change : Change) (i j : ℕ) → i ≡ index_of largest change.at → i < length flags
+    → get_or flags j false ≡ (get_or old j false && not (has_number (places_of changes) j))
+    → get_or (set flags i false) j false ≡ (get_or old j false && not (has_number (places_of (changes ++ change ∷ [])) j))
+lowered_more old flags changes change i j number below before =
+    let places : has_number (places_of (changes ++ change ∷ [])) j ≡ (has_number (places_of changes) j || (j == index_of largest change.at || false)) =
+    ap (λ (p : List Place). has_number p j) (map_push (λ (c : Change). c.at) changes change) ∙ list_any-append (λ place. j == index_of largest place) (places_of changes) (change.at ∷ []) in
+    elim (eqb_tells j i) [
+      | inl same ↦
+          let here : (j == index_of largest change.at) ≡ true = ap (λ (n : ℕ). j == n) (sym number) ∙ same.0 in
+          rw same.1 (get_or-set_same flags i false false below) ∙ down (get_or old j false) (has_number (places_of (changes ++ change ∷ [])) j) (places ∙ or_true _ _ here)
+      | inr other ↦
+          let there : (j == index_of largest change.at) ≡ false = ap (λ (n : ℕ). j == n) (sym number) ∙ other.0 in
+          get_or-set_other flags i j false false other.1 ∙ (before ∙ ap (λ (b : Bool). get_or old j false && not b) (sym (places ∙ or_none _ _ there)))
+    ]
+  where
+    down : (a b : Bool) → b ≡ true → false ≡ (a && not b)
+    down true b is = rw is refl
+    down false b is = refl
+    or_true : (a b : Bool) → b ≡ true → (a || (b || false)) ≡ true
+    or_true true b is = refl
+    or_true false b is = rw is refl
+    or_none : (a b : Bool) → b ≡ false → (a || (b || false)) ≡ a
+    or_none true b is = refl
+    or_none false b is = rw is refl
+
+-- ---- the places of the changes
+
+places_if : (changes : List Change) (at : Place) (old : ℕ) (adds : Bool) → places_of (cond adds (changes ++ record { at = at; old = old } ∷ []) changes) ≡ cond adds (places_of changes ++ at ∷ []) (places_of changes)
+places_if changes at old true = map_push (λ (c : Change). c.at) changes (record { at = at; old = old })
+places_if changes at old false = refl
+
+-- they are those of the desk
+pub places-changes_with : (began : Size) (changes : List Change) (at : Place) (old : ℕ) → places_of (changes_with began changes at old) ≡ list_with began (places_of changes) (Some at)
+places-changes_with began changes at old = places_if changes at old (is_inside began at && not (is_listed (places_of changes) at))
+
+-- a place that is new
+pub with_new : (began : Size) (changes : List Change) (at : Place) (old : ℕ) → IsInside began at → is_listed (places_of changes) at ≡ false → changes_with began changes at old ≡ changes ++ record { at = at; old = old } ∷ []
+with_new began changes at old inside absent = rw (is_inside-inside began at inside, absent) refl
+
+-- a place that is listed
+pub with_listed : (began : Size) (changes : List Change) (at : Place) (old : ℕ) → is_listed (places_of changes) at ≡ true → changes_with began changes at old ≡ changes
+with_listed began changes at old present = by (is_inside began at) (is_listed (places_of changes) at) present
+  where
+    never : (inside : Bool) → cond (inside && false) (changes ++ record { at = at; old = old } ∷ []) changes ≡ changes
+    never true = refl
+    never false = refl
+    by : (inside found : Bool) → found ≡ true → cond (inside && not found) (changes ++ record { at = at; old = old } ∷ []) changes ≡ changes
+    by inside true is = never inside
+    by inside false is = cc
+
+-- what a write in the grid adds to the changes: its glyph of the last `begin`, for a place that isn't listed still holds it
+pub changes-written : (d : Desk) (changes : List Change) (at : Place) → KeepsUnlisted d → places_of changes ≡ d.listed → changes ≡ changes_of d
+    → changes_with d.began.dims changes at (glyph_at d.scan at) ≡ changes_of (record d { listed = list_with d.began.dims d.listed (Some at) })
+changes-written d changes at kept places is =
+    rw places (by (is_inside d.began.dims at) (is_listed d.listed at) (inside-is_inside d.began.dims at) (λ inside absent. (kept at inside absent).1))
+  where
+    change : Place → Change
+    change q = record { at = q; old = glyph_on d.began q }
+    by : (inside found : Bool) → (inside ≡ true → IsInside d.began.dims at) → (IsInside d.began.dims at → found ≡ false → glyph_at d.scan at ≡ glyph_on d.began at)
+        → cond (inside && not found) (changes ++ record { at = at; old = glyph_at d.scan at } ∷ []) changes ≡ map change (cond (inside && not found) (d.listed ++ at ∷ []) d.listed)
+    by true false in_began holds =
+        rw (holds (in_began refl) refl) (ap (λ (c : List Change). c ++ change at ∷ []) is ∙ sym (map_push change d.listed at))
+    by true true in_began holds = is
+    by false found in_began holds = is
+
+-- ---- one call
+
+off_there : (flags : List Bool) (i : ℕ) (read : Bool) → i < length flags → read ≡ get_or flags i read → get_or flags i false ≡ read
+off_there flags i read below is = get_or_default flags i false read below ∙ sym is
+
+-- what is known where a place is added
+pub record Adds (changes : List Change) (flags : List Bool) (room : ℕ) (at : Place) (i : ℕ) (read : Bool) : Type 0 where
+  pub inside : IsInside largest at
+  pub kept : IsFlagged changes flags room
+  pub number : i ≡ index_of largest at
+  pub below : i < length flags
+  pub flag : get_or flags i false ≡ read
+  pub listed : is_listed (places_of changes) at ≡ read
+
+pub adds : (dims : Size) (changes : List Change) (flags : List Bool) (room : ℕ) (at : Place) (i : ℕ) (read : Bool) → IsFlagged changes flags room → IsInside largest at → dims ≡ largest → i ≡ index_of dims at → i < MAX_CELLS → read ≡ get_or flags i read → Adds changes flags room at i read
+adds dims changes flags room at i read kept inside most number below is =
+    let index : i ≡ index_of largest at = number ∙ ap (λ (d : Size). index_of d at) most in
+    let small : i < length flags = omega (arith, below, kept.size) in
+    let flag : get_or flags i false ≡ read = off_there flags i read small is in
+    record {
+      inside = inside;
+      kept = kept;
+      number = index;
+      below = small;
+      flag = flag;
+      listed = sym (flag_listed changes flags room at kept inside) ∙ (ap (λ (n : ℕ). get_or flags n false) (sym index) ∙ flag);
+    }

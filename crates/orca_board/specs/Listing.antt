@@ -1,26 +1,34 @@
--- The places that were written since the last `begin`, each once.
-use Rattle.std.specs.Prelude.{ℕ, ◌≡◌, ◌≤◌, ◌==◌, Bool, false, List, All, length, count_by, slice_index_or}
+-- The places that were written since the last `begin`, each once, with its glyph of that moment.
+use Rattle.std.specs.Prelude.{ℕ, ◌≡◌, ◌≤◌, ◌==◌, ◌&&◌, Bool, false, not, List, [], ◌∷◌, ◌++◌, All, length, map, count_by, slice_index_or, if◌then◌else◌}
 use Rattle.std.specs.List.{list_any}
+use Rattle.orca_base.specs.declared.change.Change.{Change}
 use Rattle.orca_base.specs.declared.limits.TheConstants.{MAX_CELLS}
 use Rattle.orca_base.specs.declared.place.Place.{Place}
-use Rattle.orca_base.specs.Grids.{Size, IsInside, index_of}
-use Rattle.orca_op.specs.Desk.{is_place}
+use Rattle.orca_base.specs.Grids.{Size, IsInside, index_of, is_inside, largest}
+use Rattle.orca_op.specs.Desk.{is_listed}
 
--- the size at the last `begin`, and the places in the order in which they were first written
+-- the size at the last `begin`, and the changes since, in the order in which their places were first written
 pub record Listed : Type 0 where
   pub began : Size
-  pub places : List Place
+  pub changes : List Change
 
--- a place among these has this number in reading order
-abbrev pub has_number : Size → List Place → ℕ → Bool
-has_number d places i = list_any (λ place. i == index_of d place) places
+-- the places of changes
+abbrev pub places_of : List Change → List Place
+places_of changes = map (λ change. change.at) changes
 
--- the flags that are set are those of the listed places, one for each, and there is room for every place of a
--- grid
-pub record IsFlagged (began : Size) (places : List Place) (flags : List Bool) (room : ℕ) : Type 0 where
+-- a change is listed once, where its place lay in the grid at the last `begin`
+abbrev pub changes_with : Size → List Change → Place → ℕ → List Change
+changes_with began changes at old =
+    if is_inside began at && not (is_listed (places_of changes) at) then changes ++ record { at = at; old = old } ∷ [] else changes
+
+-- a place among these has this number in the largest grid
+abbrev pub has_number : List Place → ℕ → Bool
+has_number places i = list_any (λ place. i == index_of largest place) places
+
+-- the flags that are set are those of the listed places, and there is room for every place of a grid
+pub record IsFlagged (changes : List Change) (flags : List Bool) (room : ℕ) : Type 0 where
   pub size : length flags ≡ MAX_CELLS
-  pub counted : length places ≡ count_by (λ flag. flag) flags
-  pub flagged : (at : Place) → IsInside began at → slice_index_or flags (index_of began at) false ≡ list_any (is_place at) places
-  pub only : (i : ℕ) → slice_index_or flags i false ≡ has_number began places i
-  pub inside : All (IsInside began) places
+  pub counted : length changes ≡ count_by (λ flag. flag) flags
+  pub only : (i : ℕ) → slice_index_or flags i false ≡ has_number (places_of changes) i
+  pub inside : All (IsInside largest) (places_of changes)
   pub roomy : MAX_CELLS ≤ room

@@ -1,10 +1,10 @@
 -- The desk that the parts of a plain board stand for, and what its parts keep.
-use Rattle.std.specs.Prelude.{ℕ, ◌≤◌}
-use Rattle.orca_base.specs.declared.limits.TheConstants.{MAX_EVENTS}
+use Rattle.std.specs.Prelude.{ℕ, ◌≡◌, ◌≤◌, List}
+use Rattle.orca_base.specs.declared.change.Change.{Change}
+use Rattle.orca_base.specs.declared.limits.TheConstants.{MAX_CELLS, MAX_EVENTS}
 use Rattle.orca_board.specs.declared.plain_board.PlainBoard.TheInside.{Inside}
-use Rattle.orca_op.specs.Desk.{Desk}
-use Rattle.orca_base.specs.Glyphs.{AreGlyphs}
-use Rattle.orca_op.specs.State.{IsState}
+use Rattle.orca_board.specs.Listing.{places_of}
+use Rattle.orca_op.specs.Desk.{Desk, IsDesk, changes_of}
 
 abbrev pub desk_of : Inside → Desk
 desk_of b = record {
@@ -15,12 +15,14 @@ desk_of b = record {
     vars = b.vars.items;
     events = b.events.items;
   };
-  began = b.listing.began;
-  listed = b.listing.places;
+  began = record { dims = b.listing.began; cells = b.before.value.items };
+  listed = places_of b.listing.changes;
 }
 
--- the cells are glyphs, and there is room for the most events of a frame
-pub record KeepsDesk (d : Desk) (room : ℕ) : Type 0 where
-  pub state : IsState d.scan
-  pub glyphs : AreGlyphs d.scan.cells
-  pub roomy : MAX_EVENTS ≤ room
+-- the parts are a desk, the listed changes are its changes, and there is room for the largest grid
+pub record KeepsDesk (d : Desk) (known : List Change) (cells marks events : ℕ) : Type 0 where
+  pub desk : IsDesk d
+  pub changes : known ≡ changes_of d
+  pub cells_roomy : MAX_CELLS ≤ cells
+  pub marks_roomy : MAX_CELLS ≤ marks
+  pub events_roomy : MAX_EVENTS ≤ events

@@ -1,18 +1,18 @@
-ghost use Rattle.std.specs.Prelude.{◌≡◌, ℕ, ◌&&◌, not, false, [], length, slice_index_or, All, IfOk, Some};
-ghost use Rattle.orca_base.specs.Grids.{IsInside};
-ghost use Rattle.orca_op.specs.Desk.{list_with};
-ghost use Rattle.orca_board.specs.Listing.{has_number};
+ghost use Rattle.std.specs.Prelude.{◌≡◌, ℕ, ◌&&◌, not, false, [], length, slice_index_or, All, IfOk};
+ghost use Rattle.orca_base.specs.Grids.{IsInside, largest};
+ghost use Rattle.orca_board.specs.Listing.{places_of, changes_with, has_number};
 
 use orca_base::limits::MAX_CELLS;
-use orca_base::{Dims, Memory, Place};
+use orca_base::{Change, Dims, Glyph, Memory, Place};
 use std::alloc::Global;
 use std::marker::Model;
 
-/// The places of the grid at the last `begin` that were written since, each once.
+/// The places of the grid at the last `begin` that were written since, each once, with their glyphs of
+/// that moment.
 #[derive(Drop)]
 pub(crate) struct Listing {
     began: Dims,
-    places: Vec<Place>,
+    changes: Vec<Change>,
     flags: Vec<bool>,
 }
 
@@ -22,66 +22,69 @@ impl Model for Listing {
 
     ghost Value = { Listed };
 
-    ghost view = { λ l. record { began = l.began; places = l.places.items } };
+    ghost view = { λ l. record { began = l.began; changes = l.changes.items } };
 
-    ghost invariant = { λ l. IsFlagged l.began l.places.items l.flags.items (vec_capacity l.places) };
+    ghost invariant = { λ l. IsFlagged l.changes.items l.flags.items (vec_capacity l.changes) };
 }
 
 impl Listing {
-    /// No place, for a grid of this size. It takes the room for each place that a grid may have. [`Memory`]
-    /// where that room is refused.
+    /// No change, for a grid of this size. It takes the room for each place that a grid may have.
+    /// [`Memory`] where that room is refused.
     pub fn start(alloc: Global, dims: Dims) -> Result<Listing, Memory>
-        ensures { IfOk result (λ listing. listing ≡ record { began = dims; places = [] }) }
+        ensures { IfOk result (λ listing. listing ≡ record { began = dims; changes = [] }) }
     {
         let mut flags = Vec::new(alloc);
         flags.resize(MAX_CELLS, false)?;
         Ok(Listing {
             began: dims,
-            places: Vec::with_capacity(alloc, MAX_CELLS)?,
+            changes: Vec::with_capacity(alloc, MAX_CELLS)?,
             flags,
         })
     }
 
-    /// The places, in the order in which they were first written.
-    pub fn places(&self) -> &[Place]
-        ensures { result.now ≡ self.now.places }
+    /// The changes, in the order in which their places were first written.
+    pub fn changes(&self) -> &[Change]
+        ensures { result.now ≡ self.now.changes }
     {
-        self.places.as_slice()
+        self.changes.as_slice()
     }
 
-    /// Lists a place, where it lay in the grid at the last `begin` and isn't listed yet.
-    pub fn add(&mut self, at: Place)
-        ensures { self.new ≡ record self.old { places = list_with self.old.began self.old.places (Some at) } }
+    /// Lists a place with its glyph before it is written, where the place lay in the grid at the last
+    /// `begin` and isn't listed yet.
+    pub fn add(&mut self, at: Place, old: Glyph)
+        ensures { self.new ≡ record self.old { changes = changes_with self.old.began self.old.changes at old } }
     {
-        if at.y >= self.began.h || at.x >= self.began.w {
+        let began = self.began;
+        if at.y >= began.h || at.x >= began.w {
             return;
         }
-        let i = self.began.index(at);
+        let i = Dims::largest().index(at);
         if !self.flags[i] {
             self.flags[i] = true;
-            self.places.push(at).unwrap();
+            self.changes.push_reserved(Change { at, old });
         }
     }
 
-    /// No place any more, for a grid of this size. It takes down the flags of the listed places alone, so
+    /// No change any more, for a grid of this size. It takes down the flags of the listed places alone, so
     /// it takes no longer for a larger grid.
     pub fn begin(&mut self, dims: Dims)
-        ensures { self.new ≡ record { began = dims; places = [] } }
+        ensures { self.new ≡ record { began = dims; changes = [] } }
     {
-        lower(&mut self.flags, self.began, &self.places);
-        self.places.clear();
+        lower(&mut self.flags, &self.changes);
+        self.changes.clear();
         self.began = dims;
     }
 }
 
-/// Takes down the flags of these places, and of no others.
-fn lower(flags: &mut [bool], dims: Dims, places: &[Place])
-    requires inside { All (IsInside dims) places.now }
+/// Takes down the flags of the changed places, and of no others.
+fn lower(flags: &mut [bool], changes: &[Change])
+    requires inside { All (IsInside largest) (places_of changes.now) }
     requires size { length flags.old ≡ MAX_CELLS }
     ensures size { length flags.new ≡ MAX_CELLS }
-    ensures flags { (i : ℕ) → slice_index_or flags.new i false ≡ (slice_index_or flags.old i false && not (has_number dims places.now i)) }
+    ensures flags { (i : ℕ) → slice_index_or flags.new i false
+        ≡ (slice_index_or flags.old i false && not (has_number (places_of changes.now) i)) }
 {
-    for place in places {
-        flags[dims.index(*place)] = false;
+    for change in changes {
+        flags[Dims::largest().index(change.at)] = false;
     }
 }

@@ -1,14 +1,17 @@
 ghost use Rattle.std.specs.Prelude.{◌≤◌, ◌≡◌, ◌+◌, [], length, count_by, IfOk};
+ghost use Rattle.orca_base.specs.Grids.{cells_of};
 ghost use Rattle.orca_base.specs.MarkSet.{is_marked};
-ghost use Rattle.orca_op.specs.State.{fresh, sheet_of};
+ghost use Rattle.orca_op.specs.Desk.{changes_of, desk_of_sheet};
+ghost use Rattle.orca_op.specs.State.{sheet_of};
 
 use crate::listing::Listing;
-use orca_base::limits::{BASE, MAX_EVENTS};
-use orca_base::{Dims, Event, Glyph, Look, Marks, Memory, Place, Spot, Steps};
+use orca_base::limits::{BASE, MAX_CELLS, MAX_EVENTS};
+use orca_base::{Change, Dims, Event, Glyph, Look, Marks, Memory, Place, Spot, Steps};
 use orca_grid::Grid;
-use orca_op::{Bench, read_glyphs};
+use orca_op::Bench;
 use std::alloc::Global;
 use std::marker::Model;
+use std::snapshot::Snapshot;
 use std::sync::ledger::Ledger;
 
 /// A bench over plain lists: the slow form, which looks at each place.
@@ -16,6 +19,8 @@ use std::sync::ledger::Ledger;
 pub struct PlainBoard {
     dims: Dims,
     cells: Vec<Glyph>,
+    /// The glyphs at the last `begin`, for the proof alone: it has no bytes when the program runs.
+    before: Snapshot<Vec<Glyph>>,
     marks: Vec<Marks>,
     vars: Vec<Glyph>,
     events: Vec<Event>,
@@ -32,25 +37,28 @@ impl Model for PlainBoard {
 
     ghost view = { desk_of };
 
-    ghost invariant = { λ b. KeepsDesk (desk_of b) (vec_capacity b.events) };
+    ghost invariant = { λ b. KeepsDesk (desk_of b) b.listing.changes
+        (vec_capacity b.cells) (vec_capacity b.marks) (vec_capacity b.events) };
 }
 
 impl PlainBoard {
     /// A board with the grid's size and glyphs, as after `begin`. It takes at once all the room that it
-    /// will need. [`Memory`] where that room is refused.
+    /// will need, for the largest grid. [`Memory`] where that room is refused.
     pub fn start(alloc: Global, grid: &Grid) -> Result<PlainBoard, Memory>
-        ensures { IfOk result (λ board. board ≡ record { scan = fresh grid.now; began = grid.now.dims; listed = [] }) }
+        ensures { IfOk result (λ board. board ≡ desk_of_sheet grid.now) }
     {
-        let dims = grid.dims();
-        let cells = grid.cells().to_vec(alloc)?;
-        read_glyphs(&cells);
-        let mut marks = Vec::new(alloc);
+        let dims = Look::dims(grid);
+        let mut cells = Vec::with_capacity(alloc, MAX_CELLS)?;
+        cells.extend_from_slice(grid.cells())?;
+        let mut marks = Vec::with_capacity(alloc, MAX_CELLS)?;
         marks.resize(dims.cells(), Marks::none())?;
         let mut vars = Vec::new(alloc);
         vars.resize(usize::from(BASE), Glyph::EMPTY)?;
+        let before = Snapshot::of(&cells);
         Ok(PlainBoard {
             dims,
             cells,
+            before,
             marks,
             vars,
             events: Vec::with_capacity(alloc, MAX_EVENTS)?,
@@ -64,6 +72,13 @@ impl PlainBoard {
         ensures few { length result.now ≤ MAX_EVENTS }
     {
         self.events.as_slice()
+    }
+
+    /// The places that were written since the last `begin`, each once, with its glyph of that moment.
+    pub fn changes(&self) -> &[Change]
+        ensures { result.now ≡ changes_of self.now }
+    {
+        self.listing.changes()
     }
 }
 
@@ -96,11 +111,11 @@ fn tick_marked<L: Ledger>(marks: &[Marks], steps: &mut Steps<L>)
     }
 }
 
-/// Ticks once for each place that is listed.
-fn tick_listed<L: Ledger>(listed: &[Place], steps: &mut Steps<L>)
-    ensures { steps.new ≡ steps.old + length listed.now }
+/// Ticks once for each change.
+fn tick_changes<L: Ledger>(changes: &[Change], steps: &mut Steps<L>)
+    ensures { steps.new ≡ steps.old + length changes.now }
 {
-    for _place in listed {
+    for _change in changes {
         steps.tick();
     }
 }
@@ -121,19 +136,17 @@ impl Bench for PlainBoard {
         }
     }
 
-    #[tactic(auto, unfolding(orca_op::specs::Deeds::after, orca_op::specs::Desk::listed_after))]
+    #[tactic(auto, unfolding(orca_op::specs::Deeds::after, orca_op::specs::Desk::list_after))]
     fn write<L: Ledger>(&mut self, at: Spot, glyph: Glyph, steps: &mut Steps<L>) {
         steps.tick();
         if let Some(place) = self.dims.holds(at) {
             let i = self.dims.index(place);
-            // By its byte a contract sees that it is a glyph.
-            let _byte = glyph.byte();
-            self.cells[i] = glyph;
-            self.listing.add(place);
+            self.listing.add(place, self.cells[i]);
+            glyph.put(&mut self.cells, i);
         }
     }
 
-    #[tactic(auto, unfolding(orca_op::specs::Deeds::after, orca_op::specs::Desk::listed_after))]
+    #[tactic(auto, unfolding(orca_op::specs::Deeds::after, orca_op::specs::Desk::list_after))]
     fn mark<L: Ledger>(&mut self, at: Spot, marks: Marks, steps: &mut Steps<L>) {
         steps.tick();
         if let Some(place) = self.dims.holds(at) {
@@ -157,26 +170,27 @@ impl Bench for PlainBoard {
         self.vars[usize::from(index)]
     }
 
-    #[tactic(auto, unfolding(orca_op::specs::Deeds::after, orca_op::specs::Desk::listed_after))]
+    #[tactic(auto, unfolding(orca_op::specs::Deeds::after, orca_op::specs::Desk::list_after))]
     fn set_var<L: Ledger>(&mut self, index: u8, glyph: Glyph, steps: &mut Steps<L>) {
         steps.tick();
-        self.vars[usize::from(index)] = glyph;
+        glyph.put(&mut self.vars, usize::from(index));
     }
 
-    #[tactic(auto, unfolding(orca_op::specs::Deeds::after, orca_op::specs::Desk::listed_after))]
+    #[tactic(auto, unfolding(orca_op::specs::Deeds::after, orca_op::specs::Desk::list_after))]
     fn emit<L: Ledger>(&mut self, event: Event, steps: &mut Steps<L>) {
         steps.tick();
-        self.events.push(event).unwrap();
+        self.events.push_reserved(event);
     }
 
     #[tactic(auto, unfolding(orca_op::specs::Desk::residue))]
     fn begin<L: Ledger>(&mut self, steps: &mut Steps<L>) {
         steps.tick();
         tick_marked(&self.marks, steps);
-        tick_listed(self.listing.places(), steps);
+        tick_changes(self.listing.changes(), steps);
         self.marks.fill(Marks::none());
         self.vars.fill(Glyph::EMPTY);
         self.events.clear();
+        self.before = Snapshot::of(&self.cells);
         self.listing.begin(self.dims);
     }
 }
