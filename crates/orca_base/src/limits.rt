@@ -12,6 +12,12 @@ pub const MAX_CELLS: usize = MAX_ROWS as usize * MAX_COLUMNS as usize;
 /// How many columns one word of live bits stands for: one for each bit.
 pub const WORD_COLUMNS: u16 = 64;
 
+/// The words of a row of the largest grid.
+pub const ROW_WORDS: usize = MAX_COLUMNS as usize / WORD_COLUMNS as usize;
+
+/// The words of all rows of the largest grid.
+pub const LIVE_WORDS: usize = MAX_ROWS as usize * ROW_WORDS;
+
 /// The number of values of a base-36 glyph, and of the variables of a frame.
 pub const BASE: u8 = 36;
 

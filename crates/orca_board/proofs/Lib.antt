@@ -1,2 +1,3 @@
 pub mod DeskLemmas
 mod ListingLemmas
+mod LiveBitsLemmas

@@ -2,6 +2,7 @@
 #![tactic(auto)]
 
 mod listing;
+mod live_bits;
 mod plain_board;
 
 pub use plain_board::PlainBoard;

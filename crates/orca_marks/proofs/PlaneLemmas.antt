@@ -1,12 +1,11 @@
 -- Marks added, and marks taken away.
 use Rattle.std.proofs.Common.{◌≡◌, ℕ, zero, suc, ◌+◌, ◌<◌, ◌≤◌, Bool, true, false, not, ◌==◌, ◌||◌, cond, List, [], ◌∷◌, ◌++◌, length, get_or, replicate, arith, ap, ◌∙◌, sym, refl, inl, inr, length-append, take, ◌-◌}
 use Rattle.std.proofs.Math.ListN.{set}
-use Rattle.std.specs.Prelude.{All, count_by, if◌then◌else◌}
-use Rattle.std.specs.List.{list_any}
+use Rattle.std.specs.Prelude.{count_by}
 use Rattle.std.proofs.lemmas.Bool.{cases_Bool, both_ways, eq-eqb}
 use Rattle.std.proofs.lemmas.Bool.Decides.{eqb_tells}
 use Rattle.std.proofs.lemmas.List.{ext_get_or, get_or-set_other, get_or-set_same, length-set, length-replicate, get_or_default}
-use Rattle.std.proofs.Math.Nat.{sub-zero}
+use Rattle.orca_base.proofs.ListFacts.{resized}
 use Rattle.std.proofs.lemmas.List.Sums.{sum_by-set, count_by-le-length}
 use Rattle.std.proofs.lemmas.List.Folds.{list_any-append}
 use Rattle.std.proofs.lemmas.List.Elements.{All-nil, All-push}
@@ -201,11 +200,7 @@ plane_blank room roomy = record {
 pub filled_blank : (n len : ℕ) (marks start : List MarkSet) (m : MarkSet) → n ≡ MAX_CELLS → start ≡ [] → len ≡ 0 → m ≡ no_marks → marks ≡ take n start ++ replicate (n - len) m → marks ≡ blank
 unfolding blank
 filled_blank n len marks start m most none zero_long unmarked is =
-    is ∙ (rw (none, zero_long, unmarked) (nothing n ∙ ap (λ (k : ℕ). replicate k no_marks) most))
-  where
-    nothing : (n : ℕ) → take n [] ++ replicate (n - 0) no_marks ≡ replicate n no_marks
-    nothing zero = refl
-    nothing (suc n) = rw (sub-zero (suc n)) refl
+    resized n len marks start m none zero_long is ∙ (rw unmarked (ap (λ (k : ℕ). replicate k no_marks) most))
 
 -- ---- one call
 

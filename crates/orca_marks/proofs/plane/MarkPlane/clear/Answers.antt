@@ -1,7 +1,6 @@
-use Rattle.std.proofs.Common.{◌≡◌, ℕ, arith, sym, ◌∙◌, cond, get_or}
-use Rattle.orca_base.specs.MarkSet.{no_marks}
+use Rattle.std.proofs.Common.{◌≡◌, arith, sym, ◌∙◌}
 use Rattle.orca_base.proofs.ListFacts.{put_over}
-use Rattle.orca_marks.specs.Planes.{is_in, blank}
+use Rattle.orca_marks.specs.Planes.{blank}
 use Rattle.orca_marks.proofs.PlaneLemmas.{all_clear, plane_blank}
 use Rattle.orca_marks.proofs.plane.MarkPlane.clear.Goals as goal
 use Rattle.orca_marks.proofs.plane.MarkPlane.clear.Goals.{After-clear}

@@ -1,0 +1,34 @@
+-- One bit of a word, and the words of which none is set.
+use Rattle.std.proofs.Common.{◌≡◌, ℕ, zero, suc, ◌+◌, ◌*◌, ◌%◌, ◌/◌, ◌^◌, ◌<◌, ◌==◌, Bool, true, false, refl, arith, ap, sym, ◌∙◌, bit_or, bit_xor, inl, inr, max, subst, replicate, List, []}
+use Rattle.std.specs.Int.{bit_at}
+use Rattle.std.specs.Prelude.{slice_index}
+use Rattle.std.proofs.lemmas.Bool.Decides.{eqb_tells}
+use Rattle.std.proofs.lemmas.Bool.{both_ways}
+use Rattle.std.proofs.lemmas.Nat.Bits.{bit_at_or, bit_at_xor, bit_at-lt, bit_at-zero, bit_at-pow_same, bit_at-pow_other}
+
+apart : (i k : ℕ) → (i == k) ≡ false → i ≡ k → ⊥
+apart i k other same = elim (eqb_tells i k) [
+  | inl is ↦ both_ways _ other is.0
+  | inr not ↦ not.1 same
+]
+
+-- with the bit
+pub with_here : (word k : ℕ) → (bit_at (bit_or word (2 ^ k)) k == 1) ≡ true
+with_here word k =
+    let one : bit_at (bit_or word (2 ^ k)) k ≡ 1 = omega (arith, bit_at_or word (2 ^ k) k, bit_at-pow_same k, bit_at-lt word k) in
+    rw one refl
+
+pub with_other : (word k i : ℕ) → (i == k) ≡ false → bit_at (bit_or word (2 ^ k)) i ≡ bit_at word i
+with_other word k i other =
+    omega (arith, bit_at_or word (2 ^ k) i, bit_at-pow_other k i (apart i k other), bit_at-lt word i)
+
+-- without it
+pub without_here : (word k : ℕ) → (bit_at (bit_xor (bit_or word (2 ^ k)) (2 ^ k)) k == 1) ≡ false
+without_here word k =
+    let none : bit_at (bit_xor (bit_or word (2 ^ k)) (2 ^ k)) k ≡ 0 =
+    omega (arith, bit_at_xor (bit_or word (2 ^ k)) (2 ^ k) k, bit_at_or word (2 ^ k) k, bit_at-pow_same k, bit_at-lt word k) in
+    rw none refl
+
+pub without_other : (word k i : ℕ) → (i == k) ≡ false → bit_at (bit_xor (bit_or word (2 ^ k)) (2 ^ k)) i ≡ bit_at word i
+without_other word k i other =
+    omega (arith, bit_at_xor (bit_or word (2 ^ k)) (2 ^ k) i, with_other word k i other, bit_at-pow_other k i (apart i k other), bit_at-lt word i)

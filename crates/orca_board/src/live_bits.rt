@@ -1,0 +1,76 @@
+ghost use Rattle.std.specs.Prelude.{ℕ, ◌≡◌, ◌+◌, ◌-◌, ◌*◌, ◌/◌, ◌%◌, ◌<◌, ◌≤◌, ◌==◌, Bool, false, length, if◌then◌else◌, IfOk};
+ghost use Rattle.std.specs.Int.{bit_at};
+ghost use Rattle.orca_base.specs.declared.limits.TheConstants.{MAX_CELLS, MAX_COLUMNS, MAX_ROWS, WORD_COLUMNS};
+ghost use Rattle.orca_op.specs.Live.{has_bit};
+ghost use Rattle.orca_board.specs.LiveBits.{no_bits};
+
+use orca_base::Memory;
+use orca_base::limits::{LIVE_WORDS, ROW_WORDS, WORD_COLUMNS};
+use std::alloc::Global;
+use std::marker::Model;
+
+/// A bit for each place of the largest grid, in reading order. A contract sees the words, whose bits count
+/// from the least significant one.
+#[derive(Drop)]
+pub(crate) struct LiveBits {
+    words: Vec<u64>,
+}
+
+impl Model for LiveBits {
+    ghost use Rattle.std.specs.Prelude.{ℕ, ◌≡◌, List, length};
+    ghost use Rattle.orca_base.specs.declared.limits.TheConstants.{LIVE_WORDS};
+
+    ghost Value = { List ℕ };
+
+    ghost view = { λ b. b.words.items };
+
+    ghost invariant = { λ b. length b.words.items ≡ LIVE_WORDS };
+}
+
+impl LiveBits {
+    /// No bit. [`Memory`] where the room for the bits is refused.
+    pub fn start(alloc: Global) -> Result<LiveBits, Memory>
+        ensures { IfOk result (λ bits. bits ≡ no_bits) }
+    {
+        let mut words = Vec::new(alloc);
+        words.resize(LIVE_WORDS, 0)?;
+        Ok(LiveBits { words })
+    }
+
+    /// Sets the bit of a place, by its number in the largest grid, or takes it away.
+    pub fn set(&mut self, number: usize, on: bool)
+        requires { number < MAX_CELLS }
+        ensures { (n : ℕ) → has_bit self.new n ≡ (if n == number then on else has_bit self.old n) }
+    {
+        let word = number / usize::from(WORD_COLUMNS);
+        let bit = (number % usize::from(WORD_COLUMNS)) as u16;
+        self.words[word] = with_bit(self.words[word], bit, on);
+    }
+
+    /// The words of a row of `w` columns.
+    pub fn row(&self, row: u16, w: u16) -> &[u64]
+        requires row { row < MAX_ROWS }
+        requires columns { w ≤ MAX_COLUMNS }
+        ensures size { length result.now ≡ (w + (WORD_COLUMNS - 1)) / WORD_COLUMNS }
+        ensures bits { (x : ℕ) → x < WORD_COLUMNS * length result.now
+            → has_bit result.now x ≡ has_bit self.now (row * MAX_COLUMNS + x) }
+    {
+        let first = usize::from(row) * ROW_WORDS;
+        let many = usize::from(w + (WORD_COLUMNS - 1)) / usize::from(WORD_COLUMNS);
+        &self.words[first..first + many]
+    }
+}
+
+/// The word with this bit set or taken away.
+fn with_bit(word: u64, bit: u16, on: bool) -> u64
+    requires { bit < WORD_COLUMNS }
+    ensures here { (bit_at result bit == 1) ≡ on }
+    ensures other { (k : ℕ) → (k == bit) ≡ false → bit_at result k ≡ bit_at word k }
+{
+    let alone = 1 << bit;
+    if on {
+        word | alone
+    } else {
+        (word | alone) ^ alone
+    }
+}
