@@ -1,4 +1,4 @@
--- What the parts of a plain board keep: a grid at the start of a frame, and a write.
+-- The desk that the parts of a board stand for: a grid at the start of a frame, and a write.
 use Rattle.std.proofs.Common.{◌≡◌, ℕ, ◌≤◌, List, [], refl, arith, ◌∙◌}
 use Rattle.std.proofs.Math.ListN.{set}
 use Rattle.std.specs.Prelude.{replicate, Some}
@@ -8,11 +8,12 @@ use Rattle.orca_base.specs.declared.place.Place.{Place}
 use Rattle.orca_base.specs.declared.place.Spot.{Spot}
 use Rattle.orca_base.specs.Glyphs.{IsGlyph, empty}
 use Rattle.orca_base.specs.Grids.{Sheet, IsSheet, IsInside, index_of, place_in}
+use Rattle.orca_base.specs.MarkSet.{MarkSet}
 use Rattle.orca_op.specs.State.{State, blank_marks, glyph_at}
-use Rattle.orca_op.specs.Deeds.{Write, after}
+use Rattle.orca_op.specs.Deeds.{Mark, Write, after}
 use Rattle.orca_op.specs.Desk.{Desk, changes_of, desk_of_sheet, desk_after, list_after, list_with}
 use Rattle.orca_op.proofs.DeskFacts.{IsDesk-after, IsDesk-of_sheet}
-use Rattle.orca_board.specs.Listing.{changes_with, places_of}
+use Rattle.orca_board.specs.Listing.{ListsChanges, changes_with, places_of}
 use Rattle.orca_board.specs.PlainBoard.{KeepsDesk}
 use Rattle.orca_board.proofs.ListingLemmas.{changes-written}
 
@@ -25,16 +26,9 @@ started d g dims cells marks vars events began listed = parts d.scan d.began d.l
         → s.events ≡ [] → began ≡ g → listed ≡ [] → ◌≡◌ {A = Desk} (record { scan = record { dims = s.dims; cells = s.cells; marks = s.marks; vars = s.vars; events = s.events }; began = began; listed = listed }) (desk_of_sheet g)
     parts s began listed dims cells marks vars events same none = rw (dims, cells, marks, vars, events, same, none) refl
 
--- they are the desk of that grid
-pub keeps-of_sheet : (d : Desk) (g : Sheet) (known : List Change) (cells marks events : ℕ) → IsSheet g → d ≡ desk_of_sheet g → known ≡ []
-    → MAX_CELLS ≤ cells → MAX_CELLS ≤ marks → MAX_EVENTS ≤ events → KeepsDesk d known cells marks events
-keeps-of_sheet d g known cells marks events sheet is none cells_roomy marks_roomy events_roomy = rw (is, none) (record {
-  desk = IsDesk-of_sheet g sheet;
-  changes = refl;
-  cells_roomy = cells_roomy;
-  marks_roomy = marks_roomy;
-  events_roomy = events_roomy;
-})
+-- it is a desk, and has no changes
+pub lists-of_sheet : (d : Desk) (g : Sheet) (known : List Change) → IsSheet g → d ≡ desk_of_sheet g → known ≡ [] → ListsChanges d known
+lists-of_sheet d g known sheet is none = rw (is, none) (record { desk = IsDesk-of_sheet g sheet; changes = refl })
 
 -- the parts after a glyph is written in the grid
 pub written : (d d' : Desk) (spot : Spot) (at : Place) (glyph : ℕ) → place_in d.scan.dims spot ≡ Some at → d'.scan ≡ record d.scan { cells = set d.scan.cells (index_of d.scan.dims at) glyph }
@@ -46,19 +40,25 @@ written d d' spot at glyph place scan began listed = rw place (parts d'.scan d'.
         → ◌≡◌ {A = Desk} (record { scan = s; began = b; listed = l }) (record { scan = record d.scan { cells = set d.scan.cells (index_of d.scan.dims at) glyph }; began = d.began; listed = list_with d.began.dims d.listed (Some at) })
     parts s b l scan began listed = rw (scan, began, listed) refl
 
--- they are the desk after that
-pub keeps-write : (d d' : Desk) (spot : Spot) (at : Place) (glyph : ℕ) (known known' : List Change) (cells cells' marks events : ℕ) → KeepsDesk d known cells marks events
+-- it is a desk, and its changes are one more at most
+pub lists-write : (d d' : Desk) (spot : Spot) (at : Place) (glyph : ℕ) (known known' : List Change) → ListsChanges d known
     → IsInside d.scan.dims at → place_in d.scan.dims spot ≡ Some at → IsGlyph glyph → d' ≡ desk_after d (Write spot glyph) → places_of known ≡ d.listed
-    → known' ≡ changes_with d.began.dims known at (glyph_at d.scan at) → cells ≤ cells' → KeepsDesk d' known' cells' marks events
+    → known' ≡ changes_with d.began.dims known at (glyph_at d.scan at) → ListsChanges d' known'
 unfolding list_after
-keeps-write d d' spot at glyph known known' cells cells' marks events kept inside place is after_it places more grows =
+lists-write d d' spot at glyph known known' lists inside place is after_it places more =
     rw after_it (record {
-      desk = IsDesk-after d (Write spot glyph) kept.desk is (omega (arith, kept.desk.state.events));
-      changes = more ∙ (changes-written d known at kept.desk.kept places kept.changes ∙ listed place);
-      cells_roomy = omega (arith, grows, kept.cells_roomy);
-      marks_roomy = kept.marks_roomy;
-      events_roomy = kept.events_roomy;
+      desk = IsDesk-after d (Write spot glyph) lists.desk is (omega (arith, lists.desk.state.events));
+      changes = more ∙ (changes-written d known at lists.desk.kept places lists.changes ∙ listed place);
     })
   where
     listed : place_in d.scan.dims spot ≡ Some at → changes_of (record d { listed = list_with d.began.dims d.listed (Some at) }) ≡ changes_of (desk_after d (Write spot glyph))
     listed here = rw here refl
+
+-- a desk after marks has the same changes
+pub lists-mark : (d d' : Desk) (spot : Spot) (marks : MarkSet) (known : List Change) → ListsChanges d known → d' ≡ desk_after d (Mark spot marks) → ListsChanges d' known
+unfolding list_after
+lists-mark d d' spot marks known lists after_it =
+    rw after_it (record {
+      desk = IsDesk-after d (Mark spot marks) lists.desk tt (omega (arith, lists.desk.state.events));
+      changes = lists.changes;
+    })

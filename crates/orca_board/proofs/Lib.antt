@@ -1,3 +1,4 @@
+mod BoardLemmas
 pub mod DeskLemmas
 mod ListingLemmas
 mod LiveBitsLemmas

@@ -1,3 +1,4 @@
+pub mod Board
 pub mod Listing
 pub mod LiveBits
 pub mod PlainBoard

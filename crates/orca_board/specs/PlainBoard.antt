@@ -1,10 +1,10 @@
 -- The desk that the parts of a plain board stand for, and what its parts keep.
-use Rattle.std.specs.Prelude.{ℕ, ◌≡◌, ◌≤◌, List}
+use Rattle.std.specs.Prelude.{ℕ, ◌≤◌, List}
 use Rattle.orca_base.specs.declared.change.Change.{Change}
 use Rattle.orca_base.specs.declared.limits.TheConstants.{MAX_CELLS, MAX_EVENTS}
 use Rattle.orca_board.specs.declared.plain_board.PlainBoard.TheInside.{Inside}
-use Rattle.orca_board.specs.Listing.{places_of}
-use Rattle.orca_op.specs.Desk.{Desk, IsDesk, changes_of}
+use Rattle.orca_board.specs.Listing.{ListsChanges, places_of}
+use Rattle.orca_op.specs.Desk.{Desk}
 
 abbrev pub desk_of : Inside → Desk
 desk_of b = record {
@@ -19,10 +19,9 @@ desk_of b = record {
   listed = places_of b.listing.changes;
 }
 
--- the parts are a desk, the listed changes are its changes, and there is room for the largest grid
+-- the parts are a desk with its changes, and there is room for the largest grid
 pub record KeepsDesk (d : Desk) (known : List Change) (cells marks events : ℕ) : Type 0 where
-  pub desk : IsDesk d
-  pub changes : known ≡ changes_of d
+  pub lists : ListsChanges d known
   pub cells_roomy : MAX_CELLS ≤ cells
   pub marks_roomy : MAX_CELLS ≤ marks
   pub events_roomy : MAX_EVENTS ≤ events

@@ -1,10 +1,12 @@
 //! The boards that a frame is worked on.
 #![tactic(auto)]
 
+mod board;
 mod listing;
 mod live_bits;
 mod plain_board;
 
+pub use board::Board;
 pub use plain_board::PlainBoard;
 
 #[cfg(test)]

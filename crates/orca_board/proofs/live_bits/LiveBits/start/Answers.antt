@@ -1,4 +1,3 @@
-use Rattle.std.proofs.Common.{ℕ, refl}
 use Rattle.orca_base.proofs.ListFacts.{resized}
 use Rattle.orca_base.specs.declared.limits.TheConstants.{LIVE_WORDS}
 use Rattle.orca_board.proofs.live_bits.LiveBits.start.Goals as goal

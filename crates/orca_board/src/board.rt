@@ -1,0 +1,255 @@
+ghost use Rattle.std.specs.Prelude.{ℕ, ◌≤◌, ◌≡◌, ◌+◌, ◌*◌, ◌<◌, false, length, slice_index, IfOk};
+ghost use Rattle.orca_base.specs.Grids.{by_place, cells_of};
+ghost use Rattle.orca_base.specs.Glyphs.{AreGlyphs, empty};
+ghost use Rattle.orca_base.specs.declared.limits.TheConstants.{MAX_CELLS};
+ghost use Rattle.orca_board.specs.Board.{AreLive, IsEmptyOutside, glyph_in};
+ghost use Rattle.orca_op.specs.Live.{has_bit};
+ghost use Rattle.orca_op.specs.Desk.{changes_of, desk_of_sheet, IsDesk};
+ghost use Rattle.orca_op.specs.State.{sheet_of};
+
+use crate::listing::Listing;
+use crate::live_bits::LiveBits;
+use orca_base::limits::{BASE, MAX_CELLS, MAX_EVENTS};
+use orca_base::{Change, Dims, Event, Glyph, Look, Marks, Memory, Place, Spot, Steps};
+use orca_grid::Grid;
+use orca_marks::MarkPlane;
+use orca_op::{Bench, Walk};
+use std::alloc::Global;
+use std::marker::Model;
+use std::snapshot::Snapshot;
+use std::sync::ledger::Ledger;
+
+/// A bench that keeps which places hold an operator. A row takes the room of the longest one, so that a
+/// change of size moves no glyph; outside the grid each cell is `.`.
+#[derive(Drop)]
+pub struct Board {
+    dims: Dims,
+    cells: Vec<Glyph>,
+    /// The cells at the last `begin`, for the proof alone: it has no bytes when the program runs.
+    before: Snapshot<Vec<Glyph>>,
+    marks: MarkPlane,
+    live: LiveBits,
+    vars: Vec<Glyph>,
+    events: Vec<Event>,
+    listing: Listing,
+}
+
+impl Model for Board {
+    ghost use Rattle.std.specs.Prelude.{vec_capacity};
+    ghost use Rattle.orca_op.specs.Desk.{Desk};
+
+    ghost Value = { Desk };
+
+    ghost use Rattle.orca_board.specs.Board.{desk_of, KeepsBoard};
+
+    ghost view = { desk_of };
+
+    ghost invariant = { λ b. KeepsBoard (desk_of b) b.listing.changes b.cells.items b.marks b.live (vec_capacity b.events) };
+}
+
+impl Board {
+    /// A board with the grid's size and glyphs, as after `begin`. It takes at once all the room that it
+    /// will need, for the largest grid. [`Memory`] where that room is refused.
+    pub fn start(alloc: Global, grid: &Grid) -> Result<Board, Memory>
+        ensures { IfOk result (λ board. board ≡ desk_of_sheet grid.now) }
+    {
+        let dims = Look::dims(grid);
+        let mut cells = Vec::new(alloc);
+        cells.resize(MAX_CELLS, Glyph::EMPTY)?;
+        let mut live = LiveBits::start(alloc)?;
+        lay(&mut cells, &mut live, dims, grid.cells());
+        let mut vars = Vec::new(alloc);
+        vars.resize(usize::from(BASE), Glyph::EMPTY)?;
+        let before = Snapshot::of(&cells);
+        Ok(Board {
+            dims,
+            cells,
+            before,
+            marks: MarkPlane::start(alloc)?,
+            live,
+            vars,
+            events: Vec::with_capacity(alloc, MAX_EVENTS)?,
+            listing: Listing::start(alloc, dims)?,
+        })
+    }
+
+    /// A grid of this size with exactly these glyphs, in reading order, as after `begin`. It ticks once for
+    /// each cell of the old grid and of the new one.
+    pub fn load<L: Ledger>(&mut self, dims: Dims, cells: &[Glyph], steps: &mut Steps<L>)
+        requires { length cells.now ≡ dims.h * dims.w }
+        ensures desk { self.new ≡ desk_of_sheet (record { dims = dims; cells = cells.now }) }
+        ensures ticks { steps.new ≡ steps.old + cells_of self.old.scan.dims + cells_of dims }
+    {
+        tick_times(self.dims.cells(), steps);
+        wipe(&mut self.cells, &mut self.live, self.dims);
+        tick_times(dims.cells(), steps);
+        lay(&mut self.cells, &mut self.live, dims, cells);
+        self.dims = dims;
+        self.marks.clear();
+        self.vars.fill(Glyph::EMPTY);
+        self.events.clear();
+        self.before = Snapshot::of(&self.cells);
+        self.listing.begin(dims);
+    }
+
+    /// The events, in the order in which they were emitted.
+    pub fn events(&self) -> &[Event]
+        ensures events { result.now ≡ self.now.scan.events }
+        ensures few { length result.now ≤ MAX_EVENTS }
+    {
+        self.events.as_slice()
+    }
+
+    /// The places that were written or cut off since the last `begin`, each once, with its glyph of that
+    /// moment.
+    pub fn changes(&self) -> &[Change]
+        ensures { result.now ≡ changes_of self.now }
+    {
+        self.listing.changes()
+    }
+}
+
+impl Look for Board {
+    ghost sheet = { λ b. sheet_of b.scan };
+
+    ghost marks = { λ b. b.scan.marks };
+
+    fn dims(&self) -> Dims {
+        self.dims
+    }
+
+    fn glyph_at(&self, at: Place) -> Glyph {
+        self.cells[Dims::largest().index(at)]
+    }
+
+    fn marks_at(&self, at: Place) -> Marks {
+        self.marks.at(at)
+    }
+}
+
+/// Writes the glyphs of a grid into cells that are all empty.
+fn lay(cells: &mut [Glyph], live: &mut LiveBits, dims: Dims, glyphs: &[Glyph])
+    requires whole { length cells.old ≡ MAX_CELLS }
+    requires empty { (n : ℕ) → n < MAX_CELLS → slice_index cells.old n ≡ empty }
+    requires off { (n : ℕ) → n < MAX_CELLS → has_bit live.old n ≡ false }
+    requires size { length glyphs.now ≡ dims.h * dims.w }
+    ensures whole { length cells.new ≡ MAX_CELLS }
+    ensures glyphs { AreGlyphs glyphs.now }
+    ensures inside { by_place dims (glyph_in cells.new) ≡ glyphs.now }
+    ensures outside { IsEmptyOutside dims cells.new }
+    ensures live { AreLive cells.new live.new }
+{
+    for n in 0..glyphs.len() {
+        let i = Dims::largest().index(dims.place(n));
+        glyphs[n].put(cells, i);
+        live.set(i, glyphs[n].is_operator());
+    }
+}
+
+/// Empties the cells of a grid.
+fn wipe(cells: &mut [Glyph], live: &mut LiveBits, dims: Dims)
+    requires whole { length cells.old ≡ MAX_CELLS }
+    requires outside { IsEmptyOutside dims cells.old }
+    requires live { AreLive cells.old live.old }
+    ensures whole { length cells.new ≡ MAX_CELLS }
+    ensures empty { (n : ℕ) → n < MAX_CELLS → slice_index cells.new n ≡ empty }
+    ensures off { (n : ℕ) → n < MAX_CELLS → has_bit live.new n ≡ false }
+{
+    for n in 0..dims.cells() {
+        let i = Dims::largest().index(dims.place(n));
+        cells[i] = Glyph::EMPTY;
+        live.set(i, false);
+    }
+}
+
+/// Ticks so many times.
+fn tick_times<L: Ledger>(times: usize, steps: &mut Steps<L>)
+    ensures { steps.new ≡ steps.old + times }
+{
+    for _ in 0..times {
+        steps.tick();
+    }
+}
+
+impl Bench for Board {
+    ghost desk = { λ b. b };
+
+    fn dims(&self) -> Dims {
+        self.dims
+    }
+
+    #[tactic(auto, unfolding(orca_op::specs::State::peek))]
+    fn peek<L: Ledger>(&self, at: Spot, steps: &mut Steps<L>) -> Glyph {
+        steps.tick();
+        match self.dims.holds(at) {
+            Some(place) => self.cells[Dims::largest().index(place)],
+            None => Glyph::EMPTY,
+        }
+    }
+
+    #[tactic(auto, unfolding(orca_op::specs::Deeds::after, orca_op::specs::Desk::list_after))]
+    fn write<L: Ledger>(&mut self, at: Spot, glyph: Glyph, steps: &mut Steps<L>) {
+        steps.tick();
+        if let Some(place) = self.dims.holds(at) {
+            let i = Dims::largest().index(place);
+            self.listing.add(place, self.cells[i]);
+            glyph.put(&mut self.cells, i);
+            self.live.set(i, glyph.is_operator());
+        }
+    }
+
+    #[tactic(auto, unfolding(orca_op::specs::Deeds::after, orca_op::specs::Desk::list_after))]
+    fn mark<L: Ledger>(&mut self, at: Spot, marks: Marks, steps: &mut Steps<L>) {
+        steps.tick();
+        if let Some(place) = self.dims.holds(at) {
+            self.marks.add(place, marks);
+        }
+    }
+
+    #[tactic(auto, unfolding(orca_op::specs::State::marked))]
+    fn marked<L: Ledger>(&self, at: Spot, steps: &mut Steps<L>) -> Marks {
+        steps.tick();
+        match self.dims.holds(at) {
+            Some(place) => self.marks.at(place),
+            None => Marks::none(),
+        }
+    }
+
+    #[tactic(auto, unfolding(orca_op::specs::State::var_at))]
+    fn var<L: Ledger>(&self, index: u8, steps: &mut Steps<L>) -> Glyph {
+        steps.tick();
+        self.vars[usize::from(index)]
+    }
+
+    #[tactic(auto, unfolding(orca_op::specs::Deeds::after, orca_op::specs::Desk::list_after))]
+    fn set_var<L: Ledger>(&mut self, index: u8, glyph: Glyph, steps: &mut Steps<L>) {
+        steps.tick();
+        glyph.put(&mut self.vars, usize::from(index));
+    }
+
+    #[tactic(auto, unfolding(orca_op::specs::Deeds::after, orca_op::specs::Desk::list_after))]
+    fn emit<L: Ledger>(&mut self, event: Event, steps: &mut Steps<L>) {
+        steps.tick();
+        self.events.push_reserved(event);
+    }
+
+    #[tactic(auto, unfolding(orca_op::specs::Desk::residue))]
+    fn begin<L: Ledger>(&mut self, steps: &mut Steps<L>) {
+        steps.tick();
+        tick_times(self.marks.count() as usize, steps);
+        tick_times(self.listing.changes().len(), steps);
+        self.marks.clear();
+        self.vars.fill(Glyph::EMPTY);
+        self.events.clear();
+        self.before = Snapshot::of(&self.cells);
+        self.listing.begin(self.dims);
+    }
+}
+
+impl Walk for Board {
+    fn live_words<L: Ledger>(&self, row: u16, steps: &mut Steps<L>) -> &[u64] {
+        steps.tick();
+        let dims = self.dims;
+        self.live.row(row, dims.w)
+    }
+}
