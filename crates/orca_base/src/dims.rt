@@ -69,6 +69,7 @@ impl Dims {
     pub fn cells(self) -> usize
         ensures cells { result ≡ self.h * self.w }
         ensures most { result ≤ MAX_CELLS }
+        ensures size { IsSize self }
     {
         usize::from(self.h) * usize::from(self.w)
     }

@@ -3,25 +3,27 @@ use Rattle.std.proofs.Common.{◌≡◌, ℕ, zero, suc, ◌+◌, ◌*◌, ◌/�
 use Rattle.std.proofs.Math.ListN.{set}
 use Rattle.std.specs.Prelude.{Some, count_by, nat_lt, slice_index, slice_index_or, if◌then◌else◌}
 use Rattle.std.specs.Int.{bit_at}
-use Rattle.std.proofs.lemmas.Bool.{both_ways, cases_lt, le-ltb, lt-ltb}
+use Rattle.std.proofs.lemmas.Bool.{both_ways, cases_Bool, cases_lt, le-ltb, lt-ltb}
 use Rattle.std.proofs.lemmas.Bool.Decides.{eqb_tells}
 use Rattle.std.proofs.lemmas.Nat.Bits.{bit_at-zero}
 use Rattle.std.proofs.lemmas.List.{get_or_default, get_or_past, get_or-set_other, get_or-set_same}
-use Rattle.orca_base.specs.declared.limits.TheConstants.{MAX_CELLS, MAX_COLUMNS, MAX_ROWS, WORD_COLUMNS}
+use Rattle.orca_base.specs.declared.change.Change.{Change}
+use Rattle.orca_base.specs.declared.limits.TheConstants.{MAX_EVENTS, MAX_CELLS, MAX_COLUMNS, MAX_ROWS, WORD_COLUMNS}
 use Rattle.orca_base.specs.declared.place.Place.{Place}
 use Rattle.orca_base.specs.declared.place.Spot.{Spot}
 use Rattle.orca_base.specs.Glyphs.{empty, is_operator}
-use Rattle.orca_base.specs.Grids.{Size, IsSize, IsInside, by_place, cells_of, index_of, is_inside, is_place, largest, place_in}
+use Rattle.orca_base.specs.Grids.{Sheet, IsSheet, Size, IsSize, IsInside, by_place, cells_of, index_of, is_inside, is_place, largest, place_in, place_of}
 use Rattle.orca_base.specs.MarkSet.{MarkSet, all_marks, no_marks, is_marked}
-use Rattle.orca_base.proofs.PlaceFacts.{index_of-below, index-apart, is_inside-inside, is_place-same}
+use Rattle.orca_base.proofs.PlaceFacts.{inside-place_of, index_of-place_of, place_of-index_of, index-injective, inside-is_inside, index_of-below, index-apart, is_inside-inside, is_place-same}
 use Rattle.orca_base.proofs.SheetFacts.{index-by_place, length-by_place, list-by_place, set-by_place}
 use Rattle.orca_marks.specs.Planes.{blank}
-use Rattle.orca_marks.proofs.PlaneLemmas.{count-set, index-blank, count-blank}
+use Rattle.orca_marks.proofs.PlaneLemmas.{length-blank, count-set, index-blank, count-blank}
 use Rattle.orca_op.specs.Deeds.{Mark, after}
-use Rattle.orca_op.specs.Desk.{Desk, desk_after, list_after}
+use Rattle.orca_op.specs.Desk.{Desk, desk_after, desk_of_sheet, list_after}
 use Rattle.orca_op.specs.Live.{has_bit, is_live}
 use Rattle.orca_op.specs.State.{State, blank_marks, glyph_at}
-use Rattle.orca_board.specs.Board.{KeepsBoard, glyph_in, marks_in}
+use Rattle.orca_board.specs.Board.{AreLive, IsEmptyOutside, KeepsBoard, glyph_in, marks_in}
+use Rattle.orca_board.proofs.DeskLemmas.{lists-of_sheet}
 
 -- a place of a grid is one of the largest
 pub inside-largest : (d : Size) (at : Place) → IsSize d → IsInside d at → IsInside largest at
@@ -143,3 +145,79 @@ live-row s cells bits words row x size below is outside live long read =
     past_edge : (row x : ℕ) → s.dims.w ≤ x → (nat_lt row s.dims.h && nat_lt x s.dims.w) ≡ false
     past_edge row x past = let column : nat_lt x s.dims.w ≡ false = le-ltb x s.dims.w past in rw column (and_false (nat_lt row s.dims.h))
 
+
+most_size : IsSize largest
+most_size = record { rows = omega arith; few_rows = omega arith; columns = omega arith; few_columns = omega arith }
+
+-- ---- cells that are written one after the other
+
+-- the first n places of a grid hold what the function gives to their numbers
+abbrev pub IsLaid : Size → ℕ → List ℕ → (ℕ → ℕ) → Type 0
+IsLaid d n cells glyph = (k : ℕ) → k < n → glyph_in cells (place_of d k) ≡ glyph k
+
+-- one more
+pub laid-more : (d : Size) (n : ℕ) (cells : List ℕ) (glyph : ℕ → ℕ) → IsSize d → n < cells_of d → length cells ≡ MAX_CELLS → IsLaid d n cells glyph
+    → IsLaid d (n + 1) (set cells (index_of largest (place_of d n)) (glyph n)) glyph
+laid-more d n cells glyph size few whole laid k below =
+    elim (eqb_tells k n) [
+      | inl same ↦ rw same.1 (get_or-set_same cells (index_of largest (place_of d n)) (glyph n) 0 (omega (arith, index_of-below largest (place_of d n) (inside-largest d _ size there), whole)))
+      | inr other ↦
+          let before : k < n = below_other k n below other.1 in
+          let here : IsInside d (place_of d k) = inside-place_of d k size (omega (arith, before, few)) in
+          get_or-set_other cells (index_of largest (place_of d n)) (index_of largest (place_of d k)) (glyph n) 0
+          (λ same. other.1 (
+              let parts = index-injective MAX_COLUMNS (k / d.w) (k % d.w) (n / d.w) (n % d.w) (omega (arith, here.column, size.few_columns)) (omega (arith, there.column, size.few_columns)) same in
+              sym (index_of-place_of d k size) ∙ (same_number parts.0 parts.1 ∙ index_of-place_of d n size)))
+          ∙ laid k before
+    ]
+  where
+    there : IsInside d (place_of d n)
+    there = inside-place_of d n size few
+    below_other : (k n : ℕ) → k < n + 1 → (k ≡ n → ⊥) → k < n
+    below_other k n below other = elim (cases_lt k n) [
+      | inl less ↦ less
+      | inr more ↦ absurd (other (omega (arith, below, more)))
+    ]
+    same_number : (k / d.w) ≡ (n / d.w) → (k % d.w) ≡ (n % d.w) → index_of d (place_of d k) ≡ index_of d (place_of d n)
+    same_number row column = ap (λ (y : ℕ). y * d.w + k % d.w) row ∙ ap (λ (x : ℕ). (n / d.w) * d.w + x) column
+
+-- all of them
+pub laid-at : (d : Size) (cells : List ℕ) (glyph : ℕ → ℕ) (at : Place) → IsInside d at → IsLaid d (cells_of d) cells glyph → glyph_in cells at ≡ glyph (index_of d at)
+laid-at d cells glyph at inside laid =
+    ap (glyph_in cells) (sym (place_of-index_of d at inside)) ∙ laid (index_of d at) (index_of-below d at inside)
+
+-- cells that are empty in the grid and outside it
+pub empty-cells : (d : Size) (cells : List ℕ) → IsSize d → IsLaid d (cells_of d) cells (λ _. empty) → IsEmptyOutside d cells → (n : ℕ) → n < MAX_CELLS → slice_index cells n ≡ empty
+empty-cells d cells size laid outside n few =
+    ap (λ (k : ℕ). slice_index cells k) (sym (index_of-place_of largest n most_size))
+    ∙ (elim (cases_Bool (is_inside d (place_of largest n))) [
+      | inl inside ↦ laid-at d cells (λ _. empty) (place_of largest n) (inside-is_inside d (place_of largest n) inside) laid
+      | inr past ↦ outside (place_of largest n) (inside-place_of largest n most_size few) past
+    ])
+
+-- no bit is set for them
+pub off-cells : (cells bits : List ℕ) → AreLive cells bits → ((n : ℕ) → n < MAX_CELLS → slice_index cells n ≡ empty) → (n : ℕ) → n < MAX_CELLS → has_bit bits n ≡ false
+unfolding is_operator
+off-cells cells bits live none n few = live n few ∙ ap is_operator (none n few)
+
+-- cells that are all empty, and bits that are all off
+pub live-none : (cells bits : List ℕ) → ((n : ℕ) → n < MAX_CELLS → slice_index cells n ≡ empty) → ((n : ℕ) → n < MAX_CELLS → has_bit bits n ≡ false) → AreLive cells bits
+unfolding is_operator
+live-none cells bits none off n few = off n few ∙ ap is_operator (sym (none n few))
+
+pub outside-none : (d : Size) (cells : List ℕ) → ((n : ℕ) → n < MAX_CELLS → slice_index cells n ≡ empty) → IsEmptyOutside d cells
+outside-none d cells none at inside past = none (index_of largest at) (index_of-below largest at inside)
+
+-- ---- a grid at the start of a frame
+
+pub keeps-of_sheet : (d : Desk) (g : Sheet) (known : List Change) (cells : List ℕ) (marks : List MarkSet) (bits : List ℕ) (room : ℕ) → IsSheet g → d ≡ desk_of_sheet g → known ≡ []
+    → length cells ≡ MAX_CELLS → marks ≡ blank → IsEmptyOutside g.dims cells → AreLive cells bits → MAX_EVENTS ≤ room → KeepsBoard d known cells marks bits room
+keeps-of_sheet d g known cells marks bits room sheet is none whole unmarked outside live roomy = rw (is, none, unmarked) (record {
+  lists = lists-of_sheet (desk_of_sheet g) g [] sheet refl refl;
+  whole = whole;
+  marks_whole = length-blank;
+  outside = outside;
+  live = live;
+  counted = count-blank_marks g.dims;
+  events_roomy = roomy;
+})

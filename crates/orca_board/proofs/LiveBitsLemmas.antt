@@ -1,6 +1,9 @@
 -- One bit of a word, and the words of which none is set.
 use Rattle.std.proofs.Common.{◌≡◌, ℕ, zero, suc, ◌+◌, ◌*◌, ◌%◌, ◌/◌, ◌^◌, ◌<◌, ◌==◌, Bool, true, false, refl, arith, ap, sym, ◌∙◌, bit_or, bit_xor, inl, inr, max, subst, replicate, List, []}
 use Rattle.std.specs.Int.{bit_at}
+use Rattle.orca_base.specs.declared.limits.TheConstants.{LIVE_WORDS}
+use Rattle.orca_op.specs.Live.{has_bit}
+use Rattle.orca_board.specs.LiveBits.{no_bits}
 use Rattle.std.specs.Prelude.{slice_index}
 use Rattle.std.proofs.lemmas.Bool.Decides.{eqb_tells}
 use Rattle.std.proofs.lemmas.Bool.{both_ways}
@@ -32,3 +35,13 @@ without_here word k =
 pub without_other : (word k i : ℕ) → (i == k) ≡ false → bit_at (bit_xor (bit_or word (2 ^ k)) (2 ^ k)) i ≡ bit_at word i
 without_other word k i other =
     omega (arith, bit_at_xor (bit_or word (2 ^ k)) (2 ^ k) i, with_other word k i other, bit_at-pow_other k i (apart i k other), bit_at-lt word i)
+
+-- no bit of no bits
+pub off-none : (n : ℕ) → has_bit no_bits n ≡ false
+unfolding no_bits
+off-none n = let none : slice_index no_bits (n / 64) ≡ 0 = zeros LIVE_WORDS (n / 64) in rw (none, bit_at-zero (n % 64)) refl
+  where
+    zeros : (k i : ℕ) → slice_index (replicate k 0) i ≡ 0
+    zeros zero i = refl
+    zeros (suc k) zero = refl
+    zeros (suc k) (suc i) = zeros k i

@@ -139,7 +139,7 @@ fn lay(cells: &mut [Glyph], live: &mut LiveBits, dims: Dims, glyphs: &[Glyph])
     ensures outside { IsEmptyOutside dims cells.new }
     ensures live { AreLive cells.new live.new }
 {
-    for n in 0..glyphs.len() {
+    for n in 0..dims.cells() {
         let i = Dims::largest().index(dims.place(n));
         glyphs[n].put(cells, i);
         live.set(i, glyphs[n].is_operator());
