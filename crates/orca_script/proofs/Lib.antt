@@ -1,0 +1,6 @@
+pub mod Along
+pub mod Digits
+pub mod Laws
+pub mod Reach
+pub mod Refusals
+pub mod Words

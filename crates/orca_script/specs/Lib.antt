@@ -1,0 +1,4 @@
+pub mod Given
+pub mod Grammar
+pub mod Nexts
+pub mod Reading

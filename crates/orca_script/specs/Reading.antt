@@ -1,0 +1,96 @@
+-- How a line is read along a form, byte by byte.
+use Rattle.std.specs.Prelude.{ℕ, ◌+◌, ◌-◌, ◌*◌, ◌^◌, ◌==◌, nat_lt, ◌&&◌, if◌then◌else◌, Option, Some, None, Result, Ok, Err, ok_or, List, [], ◌∷◌, length, suc, max}
+use Rattle.std.specs.List.{prefix_len}
+use Rattle.std.specs.Result.{result_map_both}
+use Rattle.std.specs.Option.{option_map, option_map_or}
+use Rattle.orca_base.specs.Ascii.{space, digit_zero}
+use Rattle.orca_base.specs.Glyphs.{is_digit, is_glyph}
+use Rattle.orca_base.specs.declared.limits.TheConstants.{MAX_DIGITS}
+use Rattle.orca_script.specs.declared.forms.Kind.{Kind}
+use Rattle.orca_script.specs.declared.forms.Kind.TheVariants.{Number, Glyph}
+use Rattle.orca_base.specs.declared.command.Command.{Command}
+use Rattle.orca_script.specs.declared.refusal.ScriptRefusal.{ScriptRefusal}
+use Rattle.orca_script.specs.Given.{Given, none, with_number, with_glyph, command_of}
+use Rattle.orca_script.specs.Grammar.{is_space, Form, forms, has_no_command}
+
+-- what comes next
+pub data Next : Type 0 where
+  -- these letters, then a space or the end of the line, and values of these kinds
+  Letters : List ℕ → List Kind → Next
+  -- a space has come: more of them, and values of these kinds
+  Blank : List Kind → Next
+  -- so many digits of a number have come, with this value: more of them, and values of these kinds
+  Digits : ℕ → ℕ → List Kind → Next
+
+-- what comes next, and what is given so far
+pub record State : Type 0 where
+  pub next : Next
+  pub given : Given
+
+abbrev pub state : Next → Given → State
+state next given = record { next = next; given = given }
+
+-- a number of so many digits and this value, with one digit more
+abbrev pub longer_number : ℕ → ℕ → ℕ → Option (ℕ × ℕ)
+longer_number count value byte =
+    if is_digit byte && nat_lt count MAX_DIGITS && nat_lt (value * 10 + (byte - digit_zero)) (2 ^ 32)
+    then Some (count + 1, value * 10 + (byte - digit_zero)) else None
+
+abbrev pub digits_state : List Kind → Given → ℕ × ℕ → State
+digits_state kinds given number = state (Digits number.0 number.1 kinds) given
+
+-- the state after the first byte of a value
+abbrev pub value_begun : List Kind → Given → ℕ → Option State
+value_begun [] given byte = None
+value_begun (Number ∷ kinds) given byte = option_map (digits_state kinds given) (longer_number 0 0 byte)
+value_begun (Glyph ∷ kinds) given byte = if is_glyph byte then Some (state (Letters [] kinds) (with_glyph given byte)) else None
+
+-- the state after one more byte; none where the line leaves the form there
+unfoldable pub step : Next → Given → ℕ → Option State
+step (Letters (letter ∷ word) kinds) given byte = if byte == letter then Some (state (Letters word kinds) given) else None
+step (Letters [] kinds) given byte = if byte == space then Some (state (Blank kinds) given) else None
+step (Blank kinds) given byte = if byte == space then Some (state (Blank kinds) given) else value_begun kinds given byte
+step (Digits count value kinds) given byte =
+    if byte == space then Some (state (Blank kinds) (with_number given value)) else option_map (digits_state kinds given) (longer_number count value byte)
+
+-- what is given where the line ends; none where the form goes on
+unfoldable pub given_at_end : Next → Given → Option Given
+given_at_end (Letters [] []) given = Some given
+given_at_end (Blank []) given = Some given
+given_at_end (Digits count value []) given = Some (with_number given value)
+given_at_end _ given = None
+
+-- what the bytes behind the first i give, or how many bytes go along the form
+unfoldable pub read_on : List ℕ → ℕ → State → Result Given ℕ
+read_on [] i s = ok_or (given_at_end s.next s.given) i
+read_on (byte ∷ bytes) i s = option_map_or (read_on bytes (i + 1)) (step s.next s.given byte) (Err i)
+
+-- how many numbers may still come
+abbrev pub length_left : Next → ℕ
+length_left (Letters word kinds) = length kinds
+length_left (Blank kinds) = length kinds
+length_left (Digits count value kinds) = suc (length kinds)
+
+-- a form of which nothing is read
+abbrev pub start : Form → State
+start form = state (Letters form.word form.kinds) none
+
+-- the command of a line by a form; else how many of its bytes go along the form
+abbrev pub read_form : Form → List ℕ → Result Command ℕ
+read_form form line = result_map_both (command_of form.verb) (λ count. count) (read_on line 0 (start form))
+
+-- what is read, or what another number leads to
+abbrev pub or_else_read : (ℕ → Result Command ℕ) → Result Command ℕ → Result Command ℕ
+or_else_read others (Ok command) = Ok command
+or_else_read others (Err count) = others count
+
+-- the command of the first of these forms that fits the line; else how many of its bytes go along one of them, or this number if it is larger
+unfoldable pub read_by : List Form → List ℕ → ℕ → Result Command ℕ
+read_by [] line most = Err most
+read_by (form ∷ others) line most = or_else_read (λ count. read_by others line (max most count)) (read_form form line)
+
+-- what a line is read as
+unfoldable pub reading : List ℕ → Result (Option Command) ScriptRefusal
+reading line =
+    if has_no_command line then Ok None
+    else result_map_both (λ command. Some command) (λ far. record { column = far + 1 }) (read_by forms line (prefix_len is_space line))

@@ -1,0 +1,15 @@
+//! Script text: the lines that ask for commands, read and printed exactly.
+//!
+//! A line of the grammar is one of the forms of a table, or has no command. [`read_line`] reads a line
+//! and [`print`] prints one; [`Lines`] cuts a text into its lines.
+#![tactic(auto)]
+
+mod forms;
+mod limits;
+mod read;
+mod reader;
+mod refusal;
+mod values;
+
+pub use read::read_line;
+pub use refusal::ScriptRefusal;
