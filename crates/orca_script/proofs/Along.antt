@@ -1,6 +1,6 @@
 -- What a line gives along a form is what its words give by the grammar.
 use Rattle.std.proofs.Common.{◌≡◌, ℕ, ◌+◌, ◌-◌, ◌*◌, ◌^◌, ◌<◌, ◌≤◌, Bool, true, false, eqb, ◌&&◌, List, [], ◌∷◌, ◌++◌, length, None, Some, Option, refl, ◌∙◌, arith, append_assoc}
-use Rattle.std.specs.Prelude.{nat_lt, option_and_then, if◌then◌else◌}
+use Rattle.std.specs.Prelude.{nat_le, nat_lt, option_and_then, if◌then◌else◌}
 use Rattle.std.specs.Option.{option_map}
 use Rattle.std.specs.Str.{bytes_eq}
 use Rattle.std.specs.Str.Parse.{digits_value}

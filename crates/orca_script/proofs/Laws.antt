@@ -10,9 +10,9 @@ use Rattle.orca_base.specs.Ascii.{space}
 use Rattle.orca_base.specs.declared.command.Command.{Command}
 use Rattle.orca_script.specs.Given.{Given, none, command_of}
 use Rattle.orca_script.specs.Grammar.{words_of, Form, given_by_form, command_by}
-use Rattle.orca_script.specs.Reading.{Letters, start, or_else_read, read_form, read_by}
+use Rattle.orca_script.specs.Reading.{Letters, start, or_else_read, read_form, read_by, reach, farthest}
 use Rattle.orca_script.proofs.Along.{final}
-use Rattle.orca_script.proofs.Reach.{reach, read_on-is, begins, goes_along, IsSound, line_given, final-line}
+use Rattle.orca_script.proofs.Reach.{read_on-is, begins, goes_along, IsSound, line_given, final-line}
 
 -- the command of a line by some forms
 abbrev pub line_by : List Form → List ℕ → Option Command
@@ -44,6 +44,7 @@ far form line = reach line (Letters form.word form.kinds) none
 pub record Stops (table : List Form) (line : List ℕ) (most count : ℕ) : Type 0 where
   pub none : line_by table line ≡ None
   pub least : most ≤ count
+  pub counted : count ≡ farthest table line most
   pub before : (k : ℕ) → k ≤ count → (k ≤ most) ⊎ ((rest : List ℕ) × ((command : Command) × (line_by table (take k line ++ rest) ≡ Some command)))
   pub behind : (k : ℕ) (rest : List ℕ) (command : Command) → k ≤ length line → line_by table (take k line ++ rest) ≡ Some command → k ≤ count
 
@@ -94,6 +95,7 @@ module _ (form : Form) (table : List Form) (line : List ℕ) (sound : IsSound fo
   stands_later most (Err count) e stops = record {
     none = line_by-cons form table line ∙ rw e stops.none;
     least = omega (arith, stops.least);
+    counted = stops.counted;
     before = λ k h. before_either most count k (stops.before k h);
     behind = λ k rest command h e. behind_either (line_given form (take k line ++ rest)) most count k rest command stops h refl (sym (line_by-cons form table (take k line ++ rest)) ∙ e);
   }
@@ -107,6 +109,7 @@ unfolding read_by
 stands_for [] line most sound = record {
   none = line_by-nil line;
   least = omega arith;
+  counted = refl;
   before = λ k h. inl h;
   behind = λ k rest command h e. absurd (none-some command (sym (line_by-nil (take k line ++ rest)) ∙ e));
 }

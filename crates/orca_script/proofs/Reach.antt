@@ -12,14 +12,9 @@ use Rattle.orca_script.specs.declared.forms.Kind.TheVariants.{Number, Glyph}
 use Rattle.orca_script.specs.declared.forms.Verb.{Verb}
 use Rattle.orca_script.specs.Given.{Given, none, with_number, with_glyph}
 use Rattle.orca_script.specs.Grammar.{is_space, words_of, given_by, Form, given_by_form}
-use Rattle.orca_script.specs.Reading.{Next, Letters, Blank, Digits, State, step, given_at_end, read_on}
+use Rattle.orca_script.specs.Reading.{Next, Letters, Blank, Digits, State, step, given_at_end, reach, read_on}
 use Rattle.orca_script.proofs.Along.{final, agrees}
 use Rattle.orca_script.proofs.Words.{is_plain, front, later_words, words-plain, words-none, later-plain}
-
--- how many bytes go along
-abbrev pub reach : List ℕ → Next → Given → ℕ
-reach [] next given = 0
-reach (b ∷ bytes) next given = option_map_or (λ s. suc (reach bytes s.next s.given)) (step next given b) 0
 
 -- reading gives what the bytes give in the end, or how many go along
 read_on_step : (o : Option State) (bytes : List ℕ) (i : ℕ) → ((s : State) → read_on bytes (i + 1) s ≡ ok_or (final bytes s.next s.given) (i + 1 + reach bytes s.next s.given)) → option_map_or (read_on bytes (i + 1)) o (Err i) ≡ ok_or (option_and_then (λ s. final bytes s.next s.given) o) (i + option_map_or (λ s. suc (reach bytes s.next s.given)) o 0)

@@ -8,7 +8,7 @@ use Rattle.std.proofs.lemmas.Option.{none-some}
 use Rattle.orca_base.specs.Ascii.{hash}
 use Rattle.orca_base.specs.declared.command.Command.{Command}
 use Rattle.orca_script.specs.Grammar.{is_space, forms, command_by, line_command, has_no_command, IsRefusedAt}
-use Rattle.orca_script.specs.Reading.{read_by}
+use Rattle.orca_script.specs.Reading.{read_by, reading}
 use Rattle.orca_script.proofs.Digits.{all-append}
 use Rattle.orca_script.proofs.Laws.{Stops, stands_for}
 use Rattle.orca_script.proofs.Reach.{IsSound}
@@ -111,3 +111,14 @@ refused line count e read within =
       ];
       within = omega arith;
     }
+
+-- where a line is read as its command, and where it is refused
+pub reading-command : (line : List ℕ) (most : ℕ) (command : Command) → has_no_command line ≡ false → read_by forms line most ≡ Ok command → Ok (Some command) ≡ reading line
+unfolding reading
+reading-command line most command e read = rw (e, command_read line most command read) refl
+
+pub reading-refused : (line : List ℕ) (count : ℕ) → has_no_command line ≡ false → read_by forms line (prefix_len is_space line) ≡ Err count → Err (record { column = count + 1 }) ≡ reading line
+unfolding reading line_command
+reading-refused line count e read =
+    let stops : Stops forms line (prefix_len is_space line) count = rw read at (stands_for forms line (prefix_len is_space line) sound_forms) in
+    rw (e, stops.none, stops.counted) refl

@@ -1,3 +1,4 @@
+pub mod Canonical
 pub mod Given
 pub mod Grammar
 pub mod Nexts

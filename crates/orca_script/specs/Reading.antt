@@ -11,7 +11,7 @@ use Rattle.orca_script.specs.declared.forms.Kind.TheVariants.{Number, Glyph}
 use Rattle.orca_base.specs.declared.command.Command.{Command}
 use Rattle.orca_script.specs.declared.refusal.ScriptRefusal.{ScriptRefusal}
 use Rattle.orca_script.specs.Given.{Given, none, with_number, with_glyph, command_of}
-use Rattle.orca_script.specs.Grammar.{is_space, Form, forms, has_no_command}
+use Rattle.orca_script.specs.Grammar.{is_space, Form, forms, has_no_command, line_command}
 
 -- what comes next
 pub data Next : Type 0 where
@@ -89,8 +89,18 @@ unfoldable pub read_by : List Form → List ℕ → ℕ → Result Command ℕ
 read_by [] line most = Err most
 read_by (form ∷ others) line most = or_else_read (λ count. read_by others line (max most count)) (read_form form line)
 
--- what a line is read as
+-- how many bytes go along a form: as long as there is a next state
+abbrev pub reach : List ℕ → Next → Given → ℕ
+reach [] next given = 0
+reach (byte ∷ bytes) next given = option_map_or (λ s. suc (reach bytes s.next s.given)) (step next given byte) 0
+
+-- the most bytes that go along one of these forms, or this number if it is larger
+abbrev pub farthest : List Form → List ℕ → ℕ → ℕ
+farthest [] line most = most
+farthest (form ∷ others) line most = farthest others line (max most (reach line (Letters form.word form.kinds) none))
+
+-- what a line is read as: it has no command, or a command by the grammar, or it is refused behind the bytes that are spaces alone or go along a form
 unfoldable pub reading : List ℕ → Result (Option Command) ScriptRefusal
 reading line =
     if has_no_command line then Ok None
-    else result_map_both (λ command. Some command) (λ far. record { column = far + 1 }) (read_by forms line (prefix_len is_space line))
+    else option_map_or (λ command. Ok (Some command)) (line_command line) (Err (record { column = farthest forms line (prefix_len is_space line) + 1 }))

@@ -6,10 +6,14 @@
 
 mod forms;
 mod limits;
+mod lines;
+mod print;
 mod read;
 mod reader;
 mod refusal;
 mod values;
 
+pub use lines::Lines;
+pub use print::print;
 pub use read::read_line;
 pub use refusal::ScriptRefusal;

@@ -2,7 +2,7 @@ use Rattle.std.proofs.Common.{◌≡◌, Some, Ok, ◌+◌, inr, sym, ◌∙◌,
 use Rattle.std.proofs.lemmas.Option.{none-some, same_Some}
 use Rattle.orca_base.specs.declared.command.Command.{Command}
 use Rattle.orca_script.specs.Grammar.{IsRefusedAt}
-use Rattle.orca_script.proofs.Refusals.{no_command, command_read, refused}
+use Rattle.orca_script.proofs.Refusals.{no_command, command_read, refused, reading-command, reading-refused}
 use Rattle.orca_script.proofs.read.read_line.Goals as goal
 use Rattle.orca_script.proofs.read.read_line.Goals.{In-Err}
 
@@ -26,3 +26,9 @@ returns-in-Err-clause-command c command = ((λ same. cc), (λ found. absurd ((st
 
 pub returns-in-Err-clause-refused : goal.returns-in-Err-clause-refused
 returns-in-Err-clause-refused c = stops c
+
+pub returns-in-Ok-clause-reading : goal.returns-in-Ok-clause-reading
+returns-in-Ok-clause-reading c = reading-command c.args.line.now _ c.in-Ok.command (sym c.has_no_command.ensures ∙ c.if-has_no_command.false) (sym c.read_command.ensures.read ∙ c.in-Ok.is)
+
+pub returns-in-Err-clause-reading : goal.returns-in-Err-clause-reading
+returns-in-Err-clause-reading c = reading-refused c.args.line.now c.in-Err.count (sym c.has_no_command.ensures ∙ c.if-has_no_command.false) (sym c.read_command.ensures.read ∙ c.in-Err.is)
