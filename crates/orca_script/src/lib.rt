@@ -7,13 +7,13 @@
 mod forms;
 mod limits;
 mod lines;
-mod print;
+mod printing;
 mod read;
 mod reader;
 mod refusal;
 mod values;
 
 pub use lines::Lines;
-pub use print::print;
+pub use printing::print;
 pub use read::read_line;
 pub use refusal::ScriptRefusal;

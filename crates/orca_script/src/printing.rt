@@ -1,11 +1,11 @@
 //! Printing a command.
 
-ghost use Rattle.std.specs.Prelude.{◌≡◌, ◌∷◌, [], ◌++◌, Ok, Some, OnOk, OnErr};
+ghost use Rattle.std.specs.Prelude.{◌≡◌, ◌∷◌, [], ◌++◌, Ok, Some, OnOk, OnErr, List, ℕ};
 ghost use Rattle.std.specs.List.{flat_map};
 ghost use Rattle.orca_base.specs.Ascii.{line_feed, space};
 ghost use Rattle.std.specs.Fmt.{decimal};
 ghost use Rattle.std.specs.Str.Lines.{lines};
-ghost use Rattle.orca_script.specs.Canonical.{canonical, printed, spaced, sides as sides_of, Extends};
+ghost use Rattle.orca_script.specs.Canonical.{canonical, printed, spaced, line, line_of, sides as sides_of, HasValues, Extends};
 ghost use Rattle.orca_script.specs.Reading.{reading};
 
 use orca_base::{Command, Glyph, Memory, Rect};
@@ -16,6 +16,9 @@ use orca_base::{Command, Glyph, Memory, Rect};
 pub fn print(command: &Command, into: &mut Vec<u8>) -> Result<(), Memory>
     ensures ok { OnOk result (into.new.items ≡ into.old.items ++ printed command.now) }
     ensures err { OnErr result (into.new.items ≡ into.old.items) }
+    // What is printed is read as the command, and is one line before any text.
+    ensures reads_back { OnOk result (reading (canonical command.now) ≡ Ok (Some command.now)) }
+    ensures one_line { OnOk result ((rest : List ℕ) → lines (printed command.now ++ rest) ≡ canonical command.now ∷ lines rest) }
 {
     let before = into.len();
     match push_command(*command, into) {
@@ -29,9 +32,10 @@ pub fn print(command: &Command, into: &mut Vec<u8>) -> Result<(), Memory>
 
 /// Appends the canonical line of a command and a line feed. Where memory is refused, a part stands behind
 /// what was there.
-#[tactic(auto, unfolding(crate::specs::Canonical::canonical))]
+#[tactic(auto, unfolding(crate::specs::Canonical::line_of))]
 fn push_command(command: Command, into: &mut Vec<u8>) -> Result<(), Memory>
     ensures ok { OnOk result (into.new.items ≡ into.old.items ++ printed command) }
+    ensures values { OnOk result (HasValues (line_of command)) }
     ensures err { OnErr result (Extends into.old.items into.new.items) }
 {
     match command {
@@ -68,7 +72,8 @@ fn push_line(
     glyph: Option<Glyph>,
     into: &mut Vec<u8>,
 ) -> Result<(), Memory>
-    ensures ok { OnOk result (into.new.items ≡ into.old.items ++ (spaced word.now numbers.now glyph ++ line_feed ∷ [])) }
+    ensures ok { OnOk result (into.new.items ≡ into.old.items ++ (spaced (line word.now numbers.now glyph) ++ line_feed ∷ [])) }
+    ensures values { OnOk result (HasValues (line word.now numbers.now glyph)) }
     ensures err { OnErr result (Extends into.old.items into.new.items) }
 {
     into.extend_from_slice(word)?;
@@ -98,9 +103,11 @@ fn push_decimal(number: u32, into: &mut Vec<u8>) -> Result<(), Memory>
     ensures ok { OnOk result (into.new.items ≡ into.old.items ++ decimal number) }
     ensures err { OnErr result (Extends into.old.items into.new.items) }
 {
-    if number >= 10 {
-        push_decimal(number / 10, into)?;
+    if number < 10 {
+        into.push(b'0' + number as u8)?;
+        return Ok(());
     }
+    push_decimal(number / 10, into)?;
     into.push(b'0' + (number % 10) as u8)?;
     Ok(())
 }

@@ -1,4 +1,4 @@
-use Rattle.orca_script.proofs.print.+push_decimal.Given as goal
+use Rattle.orca_script.proofs.printing.+push_decimal.Given as goal
 
 -- the number of digits falls with the number
 abbrev pub decreases-push_decimal : goal.decreases-push_decimal

@@ -2,7 +2,7 @@ use Rattle.std.proofs.Common.{◌≡◌, ◌∷◌, ◌++◌, take}
 use Rattle.std.specs.List.{flat_map}
 use Rattle.std.specs.Fmt.{decimal}
 use Rattle.orca_base.specs.Ascii.{space}
-use Rattle.orca_script.proofs.print.push_numbers.Given as goal
+use Rattle.orca_script.proofs.printing.push_numbers.Given as goal
 
 -- the numbers so far are appended
 abbrev pub invariant-loop-number : goal.invariant-loop-number
