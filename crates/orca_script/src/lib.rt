@@ -17,3 +17,6 @@ pub use lines::Lines;
 pub use printing::print;
 pub use read::read_line;
 pub use refusal::ScriptRefusal;
+
+#[cfg(test)]
+mod tests;
