@@ -8,8 +8,11 @@ pub on_err : {T E P : Type 0} (r : Result T E) → P → OnErr r P
 on_err (Ok x) p = tt
 on_err (Err e) p = p
 
-pub extends_more : (old middle new : List ℕ) → Extends old middle → Extends middle new → Extends old new
-extends_more old middle new a b = (a.0 ++ b.0, b.1 ∙ (ap (λ xs. xs ++ b.0) a.1 ∙ append_assoc old a.0 b.0))
+pub extends_more : (old middle new : List ℕ) → Extends old middle → Extends middle new →
+    Extends old new
+extends_more old middle new a b =
+    (a.0 ++ b.0, b.1 ∙ (ap (λ xs. xs ++ b.0) a.1 ∙ append_assoc old a.0 b.0))
 
-pub extends_by : (old middle new tail : List ℕ) → middle ≡ old ++ tail → Extends middle new → Extends old new
+pub extends_by : (old middle new tail : List ℕ) → middle ≡ old ++ tail → Extends middle new →
+    Extends old new
 extends_by old middle new tail a b = extends_more old middle new (tail, a) b

@@ -31,9 +31,12 @@ number_facts digits e =
 
 pub number_from : (digits : List ℕ) → IsNumber digits → is_number digits ≡ true
 number_from digits h =
-    and_from _ _ (and_from _ _ (and_from _ _ (le-leb 1 (length digits) h.some) (le-leb (length digits) MAX_DIGITS h.few)) h.all) (lt-ltb (digits_value 10 digits) (2 ^ 32) h.small)
+    and_from _ _ (and_from _ _
+    (and_from _ _ (le-leb 1 (length digits) h.some) (le-leb (length digits) MAX_DIGITS h.few))
+    h.all) (lt-ltb (digits_value 10 digits) (2 ^ 32) h.small)
 
-pub number_of-number : (digits : List ℕ) → is_number digits ≡ true → number_of digits ≡ Some (digits_value 10 digits)
+pub number_of-number : (digits : List ℕ) → is_number digits ≡ true →
+    number_of digits ≡ Some (digits_value 10 digits)
 unfolding number_of
 number_of-number digits e = rw e refl
 
@@ -45,11 +48,14 @@ and_assoc : (a b c : Bool) → (a && (b && c)) ≡ ((a && b) && c)
 and_assoc true b c = refl
 and_assoc false b c = refl
 
-pub all-append : (p : ℕ → Bool) (xs ys : List ℕ) → list_all p (xs ++ ys) ≡ (list_all p xs && list_all p ys)
+pub all-append : (p : ℕ → Bool) (xs ys : List ℕ) →
+    list_all p (xs ++ ys) ≡ (list_all p xs && list_all p ys)
 all-append p [] ys = refl
-all-append p (x ∷ xs) ys = ap (λ t. p x && t) (all-append p xs ys) ∙ and_assoc (p x) (list_all p xs) (list_all p ys)
+all-append p (x ∷ xs) ys = ap (λ t. p x && t) (all-append p xs ys)
+    ∙ and_assoc (p x) (list_all p xs) (list_all p ys)
 
-value-append : (n : ℕ) (xs ys : List ℕ) → digits_value_after 10 n (xs ++ ys) ≡ digits_value_after 10 (digits_value_after 10 n xs) ys
+value-append : (n : ℕ) (xs ys : List ℕ) →
+    digits_value_after 10 n (xs ++ ys) ≡ digits_value_after 10 (digits_value_after 10 n xs) ys
 value-append n [] ys = refl
 value-append n (x ∷ xs) ys = value-append (n * 10 + digit_value x) xs ys
 
@@ -66,10 +72,13 @@ pub record Grows (digits : List ℕ) (b : ℕ) : Type 0 where
   pub few : length digits < MAX_DIGITS
   pub small : digits_value 10 digits * 10 + (b - 48) < 2 ^ 32
 
-pub value-push : (digits : List ℕ) (b : ℕ) → is_digit b ≡ true → digits_value 10 (digits ++ b ∷ []) ≡ digits_value 10 digits * 10 + (b - 48)
-value-push digits b digit = value-append 0 digits (b ∷ []) ∙ ap (λ d. digits_value 10 digits * 10 + d) (digit_value-digit b digit)
+pub value-push : (digits : List ℕ) (b : ℕ) → is_digit b ≡ true →
+    digits_value 10 (digits ++ b ∷ []) ≡ digits_value 10 digits * 10 + (b - 48)
+value-push digits b digit = value-append 0 digits (b ∷ [])
+    ∙ ap (λ d. digits_value 10 digits * 10 + d) (digit_value-digit b digit)
 
-pub number-push : (digits : List ℕ) (b : ℕ) → is_number digits ≡ true → Grows digits b → is_number (digits ++ b ∷ []) ≡ true
+pub number-push : (digits : List ℕ) (b : ℕ) → is_number digits ≡ true → Grows digits b →
+    is_number (digits ++ b ∷ []) ≡ true
 number-push digits b e g =
     let h = number_facts digits e in
     number_from (digits ++ b ∷ []) (record {
@@ -79,14 +88,26 @@ number-push digits b e g =
       small = omega (arith, value-push digits b g.digit, g.small);
     })
 
-pub number-grows : (digits : List ℕ) (b : ℕ) (more : List ℕ) → is_number (digits ++ b ∷ more) ≡ true → Grows digits b
+pub number-grows : (digits : List ℕ) (b : ℕ) (more : List ℕ) →
+    is_number (digits ++ b ∷ more) ≡ true → Grows digits b
 number-grows digits b more e =
     let h = number_facts (digits ++ b ∷ more) e in
-    let all : (list_all is_digit digits && (is_digit b && list_all is_digit more)) ≡ true = sym (all-append is_digit digits (b ∷ more)) ∙ h.all in
-    let digit : is_digit b ≡ true = (and_parts (is_digit b) (list_all is_digit more) (and_parts (list_all is_digit digits) (is_digit b && list_all is_digit more) all).1).0 in
-    let value : digits_value 10 (digits ++ b ∷ more) ≡ digits_value_after 10 (digits_value 10 digits * 10 + digit_value b) more = value-append 0 digits (b ∷ more) in
+    let all : (list_all is_digit digits && (is_digit b && list_all is_digit more)) ≡ true =
+    sym (all-append is_digit digits (b ∷ more)) ∙ h.all in
+    let digit : is_digit b ≡ true =
+    (and_parts (is_digit b) (list_all is_digit more)
+    (and_parts (list_all is_digit digits) (is_digit b && list_all is_digit more) all).1).0 in
+    let value : digits_value 10 (digits ++ b ∷ more)
+    ≡ digits_value_after 10 (digits_value 10 digits * 10 + digit_value b) more =
+    value-append 0 digits (b ∷ more) in
     record {
       digit = digit;
       few = omega (arith, h.few, length-append digits (b ∷ more));
-      small = omega (arith, h.small, value, digit_value-digit b digit, value-grows (digits_value 10 digits * 10 + digit_value b) more);
+      small = omega (
+        arith,
+        h.small,
+        value,
+        digit_value-digit b digit,
+        value-grows (digits_value 10 digits * 10 + digit_value b) more,
+      );
     }

@@ -28,30 +28,40 @@ parts-first : (bytes : List ℕ) → HasFirst (parts bytes)
 parts-first [] = record { first = []; others = []; same = refl }
 parts-first (c ∷ bytes) = first-cond (eqb c 10) c (parts bytes)
 
-lines_of_parts-more : (x : List ℕ) (ps : List (List ℕ)) → HasFirst ps → lines_of_parts (x ∷ ps) ≡ strip_carriage_return x ∷ lines_of_parts ps
+lines_of_parts-more : (x : List ℕ) (ps : List (List ℕ)) → HasFirst ps →
+    lines_of_parts (x ∷ ps) ≡ strip_carriage_return x ∷ lines_of_parts ps
 lines_of_parts-more x ps h = rw h.same refl
 
 -- a line that a line feed ends
-pub lines-ended : (line rest : List ℕ) → All (λ b. eqb b 10 ≡ false) line → lines (line ++ 10 ∷ rest) ≡ strip_carriage_return line ∷ lines rest
-lines-ended line rest plain = ap lines_of_parts (slice_split_at (λ b. eqb b 10) line 10 rest plain refl) ∙ lines_of_parts-more line (parts rest) (parts-first rest)
+pub lines-ended : (line rest : List ℕ) → All (λ b. eqb b 10 ≡ false) line →
+    lines (line ++ 10 ∷ rest) ≡ strip_carriage_return line ∷ lines rest
+lines-ended line rest plain =
+    ap lines_of_parts (slice_split_at (λ b. eqb b 10) line 10 rest plain refl)
+    ∙ lines_of_parts-more line (parts rest) (parts-first rest)
 
 -- the first line feed ends the first line
-pub lines-found : (text : List ℕ) (end : ℕ) → position (λ b. eqb b 10) text ≡ Some end → lines text ≡ strip_carriage_return (take end text) ∷ lines (drop (end + 1) text)
+pub lines-found : (text : List ℕ) (end : ℕ) → position (λ b. eqb b 10) text ≡ Some end →
+    lines text ≡ strip_carriage_return (take end text) ∷ lines (drop (end + 1) text)
 lines-found text end found =
     let both = cond_some _ _ _ found in
     let first = slice_split_first (λ b. eqb b 10) text 0 (ltb-true _ _ both.0) in
     let front = before_first (λ b. eqb b 10) text in
     let back = after_first (λ b. eqb b 10) text in
-    rw (← both.1) (ap lines_of_parts first ∙ lines_of_parts-more front (parts back) (parts-first back))
+    rw (← both.1) (ap lines_of_parts first ∙ lines_of_parts-more front (parts back)
+    (parts-first back))
 
 none_false : (b : Bool) (n : ℕ) → cond b (Some n) None ≡ None → b ≡ false
 none_false true n e = cc
 none_false false n e = refl
 
 -- without one, the text is one line
-pub lines-last : (text : List ℕ) → position (λ b. eqb b 10) text ≡ None → 1 ≤ length text → lines text ≡ text ∷ []
+pub lines-last : (text : List ℕ) → position (λ b. eqb b 10) text ≡ None → 1 ≤ length text →
+    lines text ≡ text ∷ []
 lines-last text none some =
-    let all : length text ≤ position_or_len (λ b. eqb b 10) text = ltb-false _ _ (none_false _ _ none) in
-    let one : parts text ≡ text ∷ [] = slice_split_none (λ b. eqb b 10) text (λ k d h. fails_before_first (λ b. eqb b 10) text k d (omega arith)) in
+    let all : length text ≤ position_or_len (λ b. eqb b 10) text =
+    ltb-false _ _ (none_false _ _ none) in
+    let one : parts text ≡ text ∷ [] =
+    slice_split_none (λ b. eqb b 10) text
+    (λ k d h. fails_before_first (λ b. eqb b 10) text k d (omega arith)) in
     let kept : eqb (length text) 0 ≡ false = ne_eqb (length text) 0 (λ e. omega (arith, e)) in
     ap lines_of_parts one ∙ rw kept refl

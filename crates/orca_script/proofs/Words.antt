@@ -23,7 +23,10 @@ others (b ∷ bytes) = cond (is_space b) (slice_split is_space bytes) (others by
 unfoldable pub later_words : List ℕ → List (List ℕ)
 later_words bytes = filter is_word (others bytes)
 
-parts_cons : (spaced : Bool) (b : ℕ) (bytes : List ℕ) → slice_split is_space bytes ≡ front bytes ∷ others bytes → cond spaced ([] ∷ slice_split is_space bytes) (onto_first b (slice_split is_space bytes)) ≡ cond spaced [] (b ∷ front bytes) ∷ cond spaced (slice_split is_space bytes) (others bytes)
+parts_cons : (spaced : Bool) (b : ℕ) (bytes : List ℕ) →
+    slice_split is_space bytes ≡ front bytes ∷ others bytes →
+    cond spaced ([] ∷ slice_split is_space bytes) (onto_first b (slice_split is_space bytes))
+    ≡ cond spaced [] (b ∷ front bytes) ∷ cond spaced (slice_split is_space bytes) (others bytes)
 parts_cons true b bytes e = refl
 parts_cons false b bytes e = ap (onto_first b) e
 
@@ -32,26 +35,34 @@ parts [] = refl
 parts (b ∷ bytes) = parts_cons (is_space b) b bytes (parts bytes)
 
 -- a word at the front
-plain_cons : (spaced : Bool) (b : ℕ) (word bytes : List ℕ) → (not spaced && is_plain word) ≡ true → slice_split is_space (word ++ bytes) ≡ (word ++ front bytes) ∷ others bytes → cond spaced ([] ∷ slice_split is_space (word ++ bytes)) (onto_first b (slice_split is_space (word ++ bytes))) ≡ (b ∷ word ++ front bytes) ∷ others bytes
+plain_cons : (spaced : Bool) (b : ℕ) (word bytes : List ℕ) → (not spaced && is_plain word) ≡ true →
+    slice_split is_space (word ++ bytes) ≡ (word ++ front bytes) ∷ others bytes →
+    cond spaced ([] ∷ slice_split is_space (word ++ bytes))
+    (onto_first b (slice_split is_space (word ++ bytes))) ≡ (b ∷ word ++ front bytes) ∷ others bytes
 plain_cons true b word bytes plain e = absurd (false≢true plain)
 plain_cons false b word bytes plain e = ap (onto_first b) e
 
-parts-plain : (word bytes : List ℕ) → is_plain word ≡ true → slice_split is_space (word ++ bytes) ≡ (word ++ front bytes) ∷ others bytes
+parts-plain : (word bytes : List ℕ) → is_plain word ≡ true →
+    slice_split is_space (word ++ bytes) ≡ (word ++ front bytes) ∷ others bytes
 parts-plain [] bytes plain = parts bytes
-parts-plain (b ∷ word) bytes plain = plain_cons (is_space b) b word bytes plain (parts-plain word bytes (and_parts _ _ plain).1)
+parts-plain (b ∷ word) bytes plain =
+    plain_cons (is_space b) b word bytes plain (parts-plain word bytes (and_parts _ _ plain).1)
 
 word_kept : (b : ℕ) (word : List ℕ) → is_word (b ∷ word) ≡ true
 word_kept b word = not_from_false _ (ne_eqb (suc (length word)) 0 (λ e. omega (arith, e)))
 
-pub words-plain : (b : ℕ) (word bytes : List ℕ) → is_plain (b ∷ word) ≡ true → words_of (b ∷ word ++ bytes) ≡ (b ∷ word ++ front bytes) ∷ later_words bytes
+pub words-plain : (b : ℕ) (word bytes : List ℕ) → is_plain (b ∷ word) ≡ true →
+    words_of (b ∷ word ++ bytes) ≡ (b ∷ word ++ front bytes) ∷ later_words bytes
 unfolding words_of later_words
-words-plain b word bytes plain = ap (filter is_word) (parts-plain (b ∷ word) bytes plain) ∙ cond-true _ _ _ (word_kept b (word ++ front bytes))
+words-plain b word bytes plain = ap (filter is_word) (parts-plain (b ∷ word) bytes plain)
+    ∙ cond-true _ _ _ (word_kept b (word ++ front bytes))
 
 pub words-none : words_of [] ≡ []
 unfolding words_of
 words-none = refl
 
-pub words-space : (b : ℕ) (bytes : List ℕ) → is_space b ≡ true → words_of (b ∷ bytes) ≡ words_of bytes
+pub words-space : (b : ℕ) (bytes : List ℕ) → is_space b ≡ true →
+    words_of (b ∷ bytes) ≡ words_of bytes
 unfolding words_of
 words-space b bytes space = rw space refl
 
@@ -59,10 +70,12 @@ pub later-none : later_words [] ≡ []
 unfolding later_words
 later-none = refl
 
-pub later-space : (b : ℕ) (bytes : List ℕ) → is_space b ≡ true → later_words (b ∷ bytes) ≡ words_of bytes
+pub later-space : (b : ℕ) (bytes : List ℕ) → is_space b ≡ true →
+    later_words (b ∷ bytes) ≡ words_of bytes
 unfolding words_of later_words
 later-space b bytes space = rw space refl
 
-pub later-plain : (b : ℕ) (bytes : List ℕ) → is_space b ≡ false → later_words (b ∷ bytes) ≡ later_words bytes
+pub later-plain : (b : ℕ) (bytes : List ℕ) → is_space b ≡ false →
+    later_words (b ∷ bytes) ≡ later_words bytes
 unfolding later_words
 later-plain b bytes plain = rw plain refl

@@ -1,4 +1,5 @@
--- The canonical line of a command: single spaces between its words, no leading zeros, and no space at its end.
+-- The canonical line of a command: single spaces between its words, no leading zeros, and no space at
+-- its end.
 use Rattle.std.specs.Prelude.{ℕ, ◌^◌, ◌<◌, ◌≡◌, IfSome, List, [], ◌∷◌, ◌++◌, Option, Some, None, codes}
 use Rattle.std.specs.List.{flat_map, All}
 use Rattle.std.specs.Option.{option_to_list}
@@ -20,7 +21,10 @@ line word numbers glyph = record { word = word; numbers = numbers; glyph = glyph
 
 -- a word, and its values behind it, each after a space
 abbrev pub spaced : Line → List ℕ
-spaced l = l.word ++ (flat_map (λ number. space ∷ decimal number) l.numbers ++ flat_map (λ g. space ∷ g ∷ []) (option_to_list l.glyph))
+spaced l =
+    l.word
+    ++ (flat_map (λ number. space ∷ decimal number) l.numbers
+    ++ flat_map (λ glyph. space ∷ glyph ∷ []) (option_to_list l.glyph))
 
 -- the numbers of a block
 abbrev pub sides : Rect → List ℕ

@@ -33,13 +33,15 @@ rect_of given = record {
 -- the command of a name, made of what the words give
 unfoldable pub command_of : Verb → Given → Command
 command_of Frame given = command.Frame
-command_of Write given = command.Write (slice_index given.numbers 0) (slice_index given.numbers 1) given.glyph
+command_of Write given =
+    command.Write (slice_index given.numbers 0) (slice_index given.numbers 1) given.glyph
 command_of Fill given = command.Fill (rect_of given) given.glyph
 command_of Erase given = command.Erase (rect_of given)
 command_of Copy given = command.Copy (rect_of given)
 command_of Cut given = command.Cut (rect_of given)
 command_of Paste given = command.Paste (slice_index given.numbers 0) (slice_index given.numbers 1)
-command_of Move given = command.Move (rect_of given) (slice_index given.numbers 4) (slice_index given.numbers 5)
+command_of Move given =
+    command.Move (rect_of given) (slice_index given.numbers 4) (slice_index given.numbers 5)
 command_of Resize given = command.Resize (slice_index given.numbers 0) (slice_index given.numbers 1)
 command_of Reset given = command.Reset
 command_of Undo given = command.Undo

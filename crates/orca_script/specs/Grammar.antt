@@ -1,4 +1,5 @@
--- The grammar of script text: which lines ask for a command, which have none, and where a line leaves the grammar.
+-- The grammar of script text: which lines ask for a command, which have none, and where a line
+-- leaves the grammar.
 use Rattle.std.specs.Prelude.{ℕ, ◌+◌, ◌≡◌, ◌<◌, ◌≤◌, Bool, not, ◌==◌, ◌||◌, ◌⊎◌, if◌then◌else◌, Option, Some, None, option_and_then, IsTrue, List, [], ◌∷◌, ◌++◌, length, take, filter, map, slice_index}
 use Rattle.std.specs.Option.{option_map, option_or}
 use Rattle.std.specs.List.{slice_split, list_all}
@@ -31,8 +32,10 @@ glyph_of _ = None
 -- what words give as values of these kinds, one word for each, behind what is given already
 unfoldable pub given_by : Given → List Kind → List (List ℕ) → Option Given
 given_by given [] [] = Some given
-given_by given (Number ∷ kinds) (word ∷ words) = option_and_then (λ number. given_by (with_number given number) kinds words) (number_of word)
-given_by given (Glyph ∷ kinds) (word ∷ words) = option_and_then (λ glyph. given_by (with_glyph given glyph) kinds words) (glyph_of word)
+given_by given (Number ∷ kinds) (word ∷ words) =
+    option_and_then (λ number. given_by (with_number given number) kinds words) (number_of word)
+given_by given (Glyph ∷ kinds) (word ∷ words) =
+    option_and_then (λ glyph. given_by (with_glyph given glyph) kinds words) (glyph_of word)
 given_by given _ _ = None
 
 -- a form of a line: its word, the kinds of its values, and the name of its command
@@ -45,15 +48,18 @@ pub record Form : Type 0 where
 unfoldable pub forms : List Form
 forms = map (λ row. record { word = row.0.now; kinds = row.1.now; verb = row.2 }) FORMS
 
--- what the words of a line give by a form: the first is the form's word, and the others are its values
+-- what the words of a line give by a form: the first is the form's word, and the others are its
+-- values
 abbrev pub given_by_form : Form → List (List ℕ) → Option Given
 given_by_form form [] = None
-given_by_form form (word ∷ words) = if bytes_eq word form.word then given_by none form.kinds words else None
+given_by_form form (word ∷ words) =
+    if bytes_eq word form.word then given_by none form.kinds words else None
 
 -- the command of the first of these forms that fits the words
 abbrev pub command_by : List Form → List (List ℕ) → Option Command
 command_by [] words = None
-command_by (form ∷ others) words = option_or (option_map (command_of form.verb) (given_by_form form words)) (command_by others words)
+command_by (form ∷ others) words =
+    option_or (option_map (command_of form.verb) (given_by_form form words)) (command_by others words)
 
 -- the command that a line asks for: no space stands before its first word
 unfoldable pub line_command : List ℕ → Option Command
@@ -65,13 +71,15 @@ has_no_command line = list_all is_space line || (slice_index line 0 == hash)
 
 -- a line of the grammar
 abbrev pub IsLine : List ℕ → Type 0
-IsLine line = IsTrue (has_no_command line) ⊎ ((command : Command) × (line_command line ≡ Some command))
+IsLine line =
+    IsTrue (has_no_command line) ⊎ ((command : Command) × (line_command line ≡ Some command))
 
 -- some bytes may follow, so that it is a line of the grammar
 abbrev pub BeginsLine : List ℕ → Type 0
 BeginsLine front = (rest : List ℕ) × IsLine (front ++ rest)
 
--- a line outside the grammar, and the least number of its first bytes that begin no line; it is one more than the length where all of them begin one
+-- a line outside the grammar, and the column at which it leaves it: the least k such that the first
+-- k bytes of the line begin no line, or one more than the length where all of them begin one
 pub record IsRefusedAt (line : List ℕ) (column : ℕ) : Type 0 where
   pub no_line : IsLine line → ⊥
   pub before : (k : ℕ) → k < column → BeginsLine (take k line)

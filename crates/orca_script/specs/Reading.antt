@@ -1,19 +1,18 @@
--- How a line is read along a form, byte by byte.
-use Rattle.std.specs.Prelude.{ℕ, ◌+◌, ◌-◌, ◌*◌, ◌^◌, ◌==◌, nat_lt, ◌&&◌, if◌then◌else◌, Option, Some, None, Result, Ok, Err, ok_or, List, [], ◌∷◌, length, suc, max}
+-- What a line is read as, and how far it goes along a form of the grammar.
+use Rattle.std.specs.Prelude.{ℕ, ◌+◌, ◌-◌, ◌*◌, ◌^◌, ◌==◌, nat_lt, ◌&&◌, if◌then◌else◌, Option, Some, None, Result, Ok, Err, List, [], ◌∷◌, suc, max}
 use Rattle.std.specs.List.{prefix_len}
-use Rattle.std.specs.Result.{result_map_both}
 use Rattle.std.specs.Option.{option_map, option_map_or}
 use Rattle.orca_base.specs.Ascii.{space, digit_zero}
 use Rattle.orca_base.specs.Glyphs.{is_digit, is_glyph}
+use Rattle.orca_base.specs.declared.command.Command.{Command}
 use Rattle.orca_base.specs.declared.limits.TheConstants.{MAX_DIGITS}
 use Rattle.orca_script.specs.declared.forms.Kind.{Kind}
 use Rattle.orca_script.specs.declared.forms.Kind.TheVariants.{Number, Glyph}
-use Rattle.orca_base.specs.declared.command.Command.{Command}
 use Rattle.orca_script.specs.declared.refusal.ScriptRefusal.{ScriptRefusal}
-use Rattle.orca_script.specs.Given.{Given, none, with_number, with_glyph, command_of}
+use Rattle.orca_script.specs.Given.{Given, none, with_number, with_glyph}
 use Rattle.orca_script.specs.Grammar.{is_space, Form, forms, has_no_command, line_command}
 
--- what comes next
+-- what may come next on a line of a form
 pub data Next : Type 0 where
   -- these letters, then a space or the end of the line, and values of these kinds
   Letters : List ℕ → List Kind → Next
@@ -22,7 +21,7 @@ pub data Next : Type 0 where
   -- so many digits of a number have come, with this value: more of them, and values of these kinds
   Digits : ℕ → ℕ → List Kind → Next
 
--- what comes next, and what is given so far
+-- what may come next, and what is given so far
 pub record State : Type 0 where
   pub next : Next
   pub given : Given
@@ -30,77 +29,62 @@ pub record State : Type 0 where
 abbrev pub state : Next → Given → State
 state next given = record { next = next; given = given }
 
--- a number of so many digits and this value, with one digit more
-abbrev pub longer_number : ℕ → ℕ → ℕ → Option (ℕ × ℕ)
-longer_number count value byte =
-    if is_digit byte && nat_lt count MAX_DIGITS && nat_lt (value * 10 + (byte - digit_zero)) (2 ^ 32)
-    then Some (count + 1, value * 10 + (byte - digit_zero)) else None
-
-abbrev pub digits_state : List Kind → Given → ℕ × ℕ → State
-digits_state kinds given number = state (Digits number.0 number.1 kinds) given
-
--- the state after the first byte of a value
-abbrev pub value_begun : List Kind → Given → ℕ → Option State
-value_begun [] given byte = None
-value_begun (Number ∷ kinds) given byte = option_map (digits_state kinds given) (longer_number 0 0 byte)
-value_begun (Glyph ∷ kinds) given byte = if is_glyph byte then Some (state (Letters [] kinds) (with_glyph given byte)) else None
-
--- the state after one more byte; none where the line leaves the form there
-unfoldable pub step : Next → Given → ℕ → Option State
-step (Letters (letter ∷ word) kinds) given byte = if byte == letter then Some (state (Letters word kinds) given) else None
-step (Letters [] kinds) given byte = if byte == space then Some (state (Blank kinds) given) else None
-step (Blank kinds) given byte = if byte == space then Some (state (Blank kinds) given) else value_begun kinds given byte
-step (Digits count value kinds) given byte =
-    if byte == space then Some (state (Blank kinds) (with_number given value)) else option_map (digits_state kinds given) (longer_number count value byte)
-
--- what is given where the line ends; none where the form goes on
-unfoldable pub given_at_end : Next → Given → Option Given
-given_at_end (Letters [] []) given = Some given
-given_at_end (Blank []) given = Some given
-given_at_end (Digits count value []) given = Some (with_number given value)
-given_at_end _ given = None
-
--- what the bytes behind the first i give, or how many bytes go along the form
-unfoldable pub read_on : List ℕ → ℕ → State → Result Given ℕ
-read_on [] i s = ok_or (given_at_end s.next s.given) i
-read_on (byte ∷ bytes) i s = option_map_or (read_on bytes (i + 1)) (step s.next s.given byte) (Err i)
-
--- how many numbers may still come
-abbrev pub length_left : Next → ℕ
-length_left (Letters word kinds) = length kinds
-length_left (Blank kinds) = length kinds
-length_left (Digits count value kinds) = suc (length kinds)
-
 -- a form of which nothing is read
 abbrev pub start : Form → State
 start form = state (Letters form.word form.kinds) none
 
--- the command of a line by a form; else how many of its bytes go along the form
-abbrev pub read_form : Form → List ℕ → Result Command ℕ
-read_form form line = result_map_both (command_of form.verb) (λ count. count) (read_on line 0 (start form))
+-- the value of a number with one digit more
+abbrev pub with_digit : ℕ → ℕ → ℕ
+with_digit value byte = value * 10 + (byte - digit_zero)
 
--- what is read, or what another number leads to
-abbrev pub or_else_read : (ℕ → Result Command ℕ) → Result Command ℕ → Result Command ℕ
-or_else_read others (Ok command) = Ok command
-or_else_read others (Err count) = others count
+-- a number of so many digits and this value, with one digit more
+abbrev pub longer_number : ℕ → ℕ → ℕ → Option (ℕ × ℕ)
+longer_number count value byte =
+    if is_digit byte && nat_lt count MAX_DIGITS && nat_lt (with_digit value byte) (2 ^ 32)
+    then Some (count + 1, with_digit value byte) else None
 
--- the command of the first of these forms that fits the line; else how many of its bytes go along one of them, or this number if it is larger
-unfoldable pub read_by : List Form → List ℕ → ℕ → Result Command ℕ
-read_by [] line most = Err most
-read_by (form ∷ others) line most = or_else_read (λ count. read_by others line (max most count)) (read_form form line)
+abbrev pub digits_state : List Kind → Given → ℕ × ℕ → State
+digits_state kinds given number = state (Digits number.0 number.1 kinds) given
+
+-- the state after the first byte of a value; a glyph has no other
+abbrev pub value_begun : List Kind → Given → ℕ → Option State
+value_begun [] given byte = None
+value_begun (Number ∷ kinds) given byte =
+    option_map (digits_state kinds given) (longer_number 0 0 byte)
+value_begun (Glyph ∷ kinds) given byte =
+    if is_glyph byte then Some (state (Letters [] kinds) (with_glyph given byte)) else None
+
+-- the state after one more byte; none where the line leaves the form there
+unfoldable pub step : Next → Given → ℕ → Option State
+step (Letters (letter ∷ word) kinds) given byte =
+    if byte == letter then Some (state (Letters word kinds) given) else None
+step (Letters [] kinds) given byte =
+    if byte == space then Some (state (Blank kinds) given) else None
+step (Blank kinds) given byte =
+    if byte == space then Some (state (Blank kinds) given) else value_begun kinds given byte
+step (Digits count value kinds) given byte =
+    if byte == space then Some (state (Blank kinds) (with_number given value))
+    else option_map (digits_state kinds given) (longer_number count value byte)
 
 -- how many bytes go along a form: as long as there is a next state
 abbrev pub reach : List ℕ → Next → Given → ℕ
 reach [] next given = 0
-reach (byte ∷ bytes) next given = option_map_or (λ s. suc (reach bytes s.next s.given)) (step next given byte) 0
+reach (byte ∷ bytes) next given =
+    option_map_or (λ s. suc (reach bytes s.next s.given)) (step next given byte) 0
 
 -- the most bytes that go along one of these forms, or this number if it is larger
 abbrev pub farthest : List Form → List ℕ → ℕ → ℕ
 farthest [] line most = most
-farthest (form ∷ others) line most = farthest others line (max most (reach line (Letters form.word form.kinds) none))
+farthest (form ∷ others) line most =
+    farthest others line (max most (reach line (start form).next (start form).given))
 
--- what a line is read as: it has no command, or a command by the grammar, or it is refused behind the bytes that are spaces alone or go along a form
+-- the column behind the bytes that are spaces before any other byte, or go along a form
+abbrev pub column_of : List ℕ → ℕ
+column_of line = farthest forms line (prefix_len is_space line) + 1
+
+-- what a line is read as: it has no command, or one by the grammar, or is refused at a column
 unfoldable pub reading : List ℕ → Result (Option Command) ScriptRefusal
 reading line =
     if has_no_command line then Ok None
-    else option_map_or (λ command. Ok (Some command)) (line_command line) (Err (record { column = farthest forms line (prefix_len is_space line) + 1 }))
+    else option_map_or (λ command. Ok (Some command)) (line_command line)
+    (Err (record { column = column_of line }))

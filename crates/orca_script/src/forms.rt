@@ -9,7 +9,7 @@ pub(crate) enum Kind {
     Glyph,
 }
 
-/// The name of a command.
+/// The name of a command: that of its variant of [`Command`](orca_base::Command).
 #[derive(Clone, Copy, Debug, PartialEq, Eq)]
 pub(crate) enum Verb {
     Frame,
@@ -26,14 +26,16 @@ pub(crate) enum Verb {
     Rewind,
 }
 
-/// A form of a line: its first word, what each further word stands for, and the command that it asks for.
+/// A form of a line: its first word, what each further word stands for, and the command that it asks
+/// for.
 pub(crate) type Form = (&'static [u8], &'static [Kind], Verb);
 
 const N: Kind = Kind::Number;
 
 const G: Kind = Kind::Glyph;
 
-/// The grammar: a line that asks for a command is one of these forms.
+/// The grammar: a line that asks for a command is one of these forms. A form has at most
+/// [`MAX_LINE_VALUES`](crate::limits::MAX_LINE_VALUES) values, one glyph among them.
 pub(crate) static FORMS: [Form; 12] = [
     (b"frame", &[], Verb::Frame),
     (b"write", &[N, N, G], Verb::Write),

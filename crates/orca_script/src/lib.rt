@@ -1,7 +1,7 @@
 //! Script text: the lines that ask for commands, read and printed exactly.
 //!
-//! A line of the grammar is one of the forms of a table, or has no command. [`read_line`] reads a line
-//! and [`print`] prints one; [`Lines`] cuts a text into its lines.
+//! A line of the grammar is one of the forms of a table, or has no command. [`read_line`] reads a
+//! line, [`print`] prints one, and [`Lines`] cuts a text into its lines.
 #![tactic(auto)]
 
 mod forms;

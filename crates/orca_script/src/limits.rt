@@ -1,4 +1,4 @@
 //! The limits of script text.
 
-/// The most numbers of a line.
-pub const MAX_NUMBERS: usize = 6;
+/// The most values of a line: the words after its first.
+pub const MAX_LINE_VALUES: usize = 6;

@@ -2,6 +2,7 @@
 
 ghost use Rattle.std.specs.Prelude.{◌≡◌, ◌==◌, ◌∷◌, [], MatchOption, position};
 ghost use Rattle.std.specs.Str.Lines.{lines, strip_carriage_return};
+ghost use Rattle.orca_base.specs.Ascii.{line_feed};
 
 use std::marker::Model;
 
@@ -51,7 +52,8 @@ impl<'a> Iterator for Lines<'a> {
 
 /// The first line of a text, and what follows its end; none where the text is empty.
 fn split_line(text: &[u8]) -> Option<(&[u8], &[u8])>
-    ensures { MatchOption result (lines text.now ≡ []) (λ found. lines text.now ≡ found.0.now ∷ lines found.1.now) }
+    ensures { MatchOption result (lines text.now ≡ [])
+        (λ found. lines text.now ≡ found.0.now ∷ lines found.1.now) }
 {
     match line_feed(text) {
         Some(end) => Some((before_end(&text[..end]), &text[end + 1..])),
@@ -62,7 +64,7 @@ fn split_line(text: &[u8]) -> Option<(&[u8], &[u8])>
 
 /// The place of the first line feed; none where there is none.
 fn line_feed(text: &[u8]) -> Option<usize>
-    ensures { result ≡ position (λ byte. byte == 10) text.now }
+    ensures { result ≡ position (λ byte. byte == line_feed) text.now }
 {
     text.iter().position(|byte| *byte == b'\n')
 }

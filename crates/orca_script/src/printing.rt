@@ -10,15 +10,16 @@ ghost use Rattle.orca_script.specs.Reading.{reading};
 
 use orca_base::{Command, Glyph, Memory, Rect};
 
-/// Appends the one canonical line of a command and a line feed. The words stand apart by single spaces,
-/// numbers have no leading zeros, and no space stands at the end. Where memory is refused, `into` is as
-/// before.
+/// Appends the one canonical line of a command and a line feed. The words stand apart by single
+/// spaces, numbers have no leading zeros, and no space stands at the end. Where memory is refused,
+/// `into` is as before.
 pub fn print(command: &Command, into: &mut Vec<u8>) -> Result<(), Memory>
     ensures ok { OnOk result (into.new.items ≡ into.old.items ++ printed command.now) }
     ensures err { OnErr result (into.new.items ≡ into.old.items) }
     // What is printed is read as the command, and is one line before any text.
     ensures reads_back { OnOk result (reading (canonical command.now) ≡ Ok (Some command.now)) }
-    ensures one_line { OnOk result ((rest : List ℕ) → lines (printed command.now ++ rest) ≡ canonical command.now ∷ lines rest) }
+    ensures one_line { OnOk result ((rest : List ℕ) →
+        lines (printed command.now ++ rest) ≡ canonical command.now ∷ lines rest) }
 {
     let before = into.len();
     match push_command(*command, into) {
@@ -30,8 +31,8 @@ pub fn print(command: &Command, into: &mut Vec<u8>) -> Result<(), Memory>
     }
 }
 
-/// Appends the canonical line of a command and a line feed. Where memory is refused, a part stands behind
-/// what was there.
+/// Appends the canonical line of a command and a line feed. Where memory is refused, a part stands
+/// behind what was there.
 #[tactic(auto, unfolding(crate::specs::Canonical::line_of))]
 fn push_command(command: Command, into: &mut Vec<u8>) -> Result<(), Memory>
     ensures ok { OnOk result (into.new.items ≡ into.old.items ++ printed command) }
@@ -64,15 +65,16 @@ fn sides(rect: Rect) -> [u32; 4]
     [rect.y, rect.x, rect.h, rect.w]
 }
 
-/// Appends a word, its values behind it and a line feed. Where memory is refused, a part stands behind what
-/// was there.
+/// Appends a word, its values behind it and a line feed. Where memory is refused, a part stands behind
+/// what was there.
 fn push_line(
     word: &[u8],
     numbers: &[u32],
     glyph: Option<Glyph>,
     into: &mut Vec<u8>,
 ) -> Result<(), Memory>
-    ensures ok { OnOk result (into.new.items ≡ into.old.items ++ (spaced (line word.now numbers.now glyph) ++ line_feed ∷ [])) }
+    ensures ok { OnOk result (into.new.items
+        ≡ into.old.items ++ (spaced (line word.now numbers.now glyph) ++ line_feed ∷ [])) }
     ensures values { OnOk result (HasValues (line word.now numbers.now glyph)) }
     ensures err { OnErr result (Extends into.old.items into.new.items) }
 {
@@ -87,7 +89,8 @@ fn push_line(
 
 /// Appends numbers, each after a space. Where memory is refused, a part stands behind what was there.
 fn push_numbers(numbers: &[u32], into: &mut Vec<u8>) -> Result<(), Memory>
-    ensures ok { OnOk result (into.new.items ≡ into.old.items ++ flat_map (λ number. space ∷ decimal number) numbers.now) }
+    ensures ok { OnOk result (into.new.items
+        ≡ into.old.items ++ flat_map (λ number. space ∷ decimal number) numbers.now) }
     ensures err { OnErr result (Extends into.old.items into.new.items) }
 {
     for number in numbers {

@@ -4,28 +4,29 @@ ghost use Rattle.std.specs.Prelude.{◌≡◌, ◌≤◌, ◌<◌, ◌↔◌, �
 ghost use Rattle.std.specs.List.{list_all, prefix_len};
 ghost use Rattle.orca_base.specs.declared.command.Command.{Command};
 ghost use Rattle.orca_script.specs.Grammar.{is_space, forms, has_no_command as has_none, line_command, IsRefusedAt};
-ghost use Rattle.orca_script.specs.Nexts.{form_of};
-ghost use Rattle.orca_script.specs.Reading.{read_by, reading};
+ghost use Rattle.orca_script.specs.Readers.{form_of, read_by};
+ghost use Rattle.orca_script.specs.Reading.{reading};
 
 use crate::ScriptRefusal;
 use crate::forms::{FORMS, Form};
-use crate::limits::MAX_NUMBERS;
+use crate::limits::MAX_LINE_VALUES;
 use crate::reader::read_form;
 use orca_base::Command;
 use orca_base::limits::MAX_FILE_BYTES;
 
-/// The command that a line asks for, of at most [`MAX_FILE_BYTES`] bytes without its end; none where it
-/// has none: where it is empty, is spaces alone, or begins with `#`. The [`ScriptRefusal`] of a line
-/// outside the grammar. It takes no memory.
+/// The command that a line asks for. The line has at most [`MAX_FILE_BYTES`] bytes, and lacks its end.
+/// None stands for a line without a command: it is empty, is spaces alone, or begins with `#`. A line
+/// outside the grammar gets its [`ScriptRefusal`]. It takes no memory.
 ///
-/// The words of a line stand apart by one or more spaces, none before the first. The first word is one
-/// of a form, and the others are its values: a number of 1 to 10 decimal digits that is below 2^32, or
-/// a glyph.
+/// The words of a line stand apart by one or more spaces, and none stands before the first. The first
+/// word names the command. The others are its values: a number of 1 to 10 decimal digits that is below
+/// 2^32, or a glyph.
 #[tactic(auto, unfolding(crate::specs::Reading::reading))]
 pub fn read_line(line: &[u8]) -> Result<Option<Command>, ScriptRefusal>
     requires { length line.now ≤ MAX_FILE_BYTES }
     ensures reading { result ≡ reading line.now }
-    ensures command { (command : Command) → (result ≡ Ok (Some command)) ↔ (line_command line.now ≡ Some command) }
+    ensures command { (command : Command) →
+        (result ≡ Ok (Some command)) ↔ (line_command line.now ≡ Some command) }
     ensures nothing { (result ≡ Ok None) ↔ IsTrue (has_none line.now) }
     ensures refused { IfErr result (λ refusal. IsRefusedAt line.now refusal.column) }
 {
@@ -62,8 +63,8 @@ fn leading_spaces(line: &[u8]) -> usize
     line.iter().take_while(|byte| **byte == b' ').count()
 }
 
-/// The command that a line asks for; else how many of its bytes are spaces before any other byte, or go
-/// along a form, whichever is more.
+/// The command that a line asks for; else how many of its bytes are spaces before any other byte, or
+/// go along a form, whichever is more.
 #[tactic(auto, unfolding(crate::specs::Grammar::forms))]
 fn read_command(line: &[u8]) -> Result<Command, usize>
     ensures read { result ≡ read_by forms line.now (prefix_len is_space line.now) }
@@ -74,10 +75,11 @@ fn read_command(line: &[u8]) -> Result<Command, usize>
 
 /// The command of the first of these forms that fits the line; else how many of its bytes are spaces
 /// before any other byte, or go along a form, whichever is more.
-#[tactic(auto, unfolding(crate::specs::Reading::read_by))]
+#[tactic(auto, unfolding(crate::specs::Readers::read_by))]
 fn read_forms(table: &[Form], line: &[u8]) -> Result<Command, usize>
-    requires { All (λ form. length form.1.now ≤ MAX_NUMBERS) table.now }
-    ensures read { result ≡ read_by (map form_of table.now) line.now (prefix_len is_space line.now) }
+    requires { All (λ form. length form.1.now ≤ MAX_LINE_VALUES) table.now }
+    ensures read { result
+        ≡ read_by (map form_of table.now) line.now (prefix_len is_space line.now) }
     ensures within { IfErr result (λ count. count ≤ length line.now) }
 {
     let mut most = leading_spaces(line);

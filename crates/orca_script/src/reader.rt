@@ -2,11 +2,11 @@
 
 ghost use Rattle.std.specs.Prelude.{◌≡◌, ◌+◌, ◌≤◌, length, IfErr};
 ghost use Rattle.orca_script.specs.Given.{none};
-ghost use Rattle.orca_script.specs.Reading.{Letters, state, value_begun, longer_number, step, given_at_end, read_on, read_form as line_by_form};
-ghost use Rattle.orca_script.specs.Nexts.{form_of};
+ghost use Rattle.orca_script.specs.Readers.{form_of, given_at_end, read_on, read_form as line_by_form};
+ghost use Rattle.orca_script.specs.Reading.{Letters, state, value_begun, longer_number, step};
 
 use crate::forms::{Form, Kind};
-use crate::limits::MAX_NUMBERS;
+use crate::limits::MAX_LINE_VALUES;
 use crate::values::Values;
 use orca_base::limits::MAX_DIGITS;
 use orca_base::{Command, Glyph};
@@ -19,7 +19,8 @@ pub(crate) enum Next<'a> {
     Letters(&'a [u8], &'a [Kind]),
     /// A space has come: more of them, and values of these kinds.
     Blank(&'a [Kind]),
-    /// So many digits of a number have come, with this value: more of them, and values of these kinds.
+    /// So many digits of a number have come, with this value: more of them, and values of these
+    /// kinds.
     Digits(usize, u32, &'a [Kind]),
 }
 
@@ -32,22 +33,23 @@ pub(crate) struct Reader<'a> {
 
 impl<'a> Model for Reader<'a> {
     ghost use Rattle.std.specs.Prelude.{◌+◌, ◌≤◌, length};
-    ghost use Rattle.orca_script.specs.Reading.{State, length_left};
-    ghost use Rattle.orca_script.specs.declared.limits.TheConstants.{MAX_NUMBERS};
+    ghost use Rattle.orca_script.specs.Readers.{values_left};
+    ghost use Rattle.orca_script.specs.Reading.{State};
+    ghost use Rattle.orca_script.specs.declared.limits.TheConstants.{MAX_LINE_VALUES};
 
     ghost Value = { State };
 
-    ghost use Rattle.orca_script.specs.Nexts.{next_of};
+    ghost use Rattle.orca_script.specs.Readers.{next_of};
 
     ghost view = { λ r. record { next = next_of r.next; given = r.values } };
 
-    ghost invariant = { λ r. length r.values.numbers + length_left (next_of r.next) ≤ MAX_NUMBERS };
+    ghost invariant = { λ r. length r.values.numbers + values_left (next_of r.next) ≤ MAX_LINE_VALUES };
 }
 
 impl<'a> Reader<'a> {
     /// Nothing is read, and this word and values of these kinds come next.
     fn start(word: &'a [u8], kinds: &'a [Kind]) -> Reader<'a>
-        requires { length kinds.now ≤ MAX_NUMBERS }
+        requires { length kinds.now ≤ MAX_LINE_VALUES }
         ensures { result ≡ state (Letters word.now kinds.now) none }
     {
         Reader {
@@ -90,7 +92,7 @@ impl<'a> Reader<'a> {
     }
 
     /// What is given where the line ends; none where the form goes on.
-    #[tactic(auto, unfolding(crate::specs::Reading::given_at_end))]
+    #[tactic(auto, unfolding(crate::specs::Readers::given_at_end))]
     fn end(self) -> Option<Values>
         ensures { result ≡ given_at_end self.entry.next self.entry.given }
     {
@@ -108,7 +110,7 @@ impl<'a> Reader<'a> {
 
 /// After the first byte of a value. A glyph has no other.
 fn begin_value<'a>(kinds: &'a [Kind], mut values: Values, byte: u8) -> Option<Reader<'a>>
-    requires { length values.numbers + length kinds.now ≤ MAX_NUMBERS }
+    requires { length values.numbers + length kinds.now ≤ MAX_LINE_VALUES }
     ensures { result ≡ value_begun kinds.now values byte }
 {
     let (kind, kinds) = kinds.split_first()?;
@@ -139,7 +141,7 @@ fn add_digit(count: usize, value: u32, byte: u8) -> Option<(usize, u32)>
 
 /// The command of a line by a form; else how many bytes of the line go along the form.
 pub(crate) fn read_form(form: &Form, line: &[u8]) -> Result<Command, usize>
-    requires { length form.now.1.now ≤ MAX_NUMBERS }
+    requires { length form.now.1.now ≤ MAX_LINE_VALUES }
     ensures read { result ≡ line_by_form (form_of form.now) line.now }
     ensures within { IfErr result (λ count. count ≤ length line.now) }
 {
@@ -152,9 +154,9 @@ pub(crate) fn read_form(form: &Form, line: &[u8]) -> Result<Command, usize>
 
 /// What the words of a line give by a form of this word and these kinds; else how many bytes of the line
 /// go along the form.
-#[tactic(auto, unfolding(crate::specs::Reading::read_on))]
+#[tactic(auto, unfolding(crate::specs::Readers::read_on))]
 fn read_values(word: &[u8], kinds: &[Kind], line: &[u8]) -> Result<Values, usize>
-    requires { length kinds.now ≤ MAX_NUMBERS }
+    requires { length kinds.now ≤ MAX_LINE_VALUES }
     ensures read { result ≡ read_on line.now 0 (state (Letters word.now kinds.now) none) }
     ensures within { IfErr result (λ count. count ≤ length line.now) }
 {

@@ -4,14 +4,14 @@ ghost use Rattle.std.specs.Prelude.{◌≡◌, ◌<◌, [], ◌∷◌, ◌++◌,
 ghost use Rattle.orca_script.specs.Given.{none, with_number, with_glyph, rect_of, command_of};
 
 use crate::forms::Verb;
-use crate::limits::MAX_NUMBERS;
+use crate::limits::MAX_LINE_VALUES;
 use orca_base::{Command, Glyph, Rect};
 use std::marker::Model;
 
 /// The numbers of a line, in order, and its glyph, where it has one. A contract sees them so.
 #[derive(Drop)]
 pub(crate) struct Values {
-    numbers: [u32; MAX_NUMBERS],
+    numbers: [u32; MAX_LINE_VALUES],
     count: usize,
     glyph: Glyph,
 }
@@ -19,13 +19,13 @@ pub(crate) struct Values {
 impl Model for Values {
     ghost use Rattle.std.specs.Prelude.{take, ◌≤◌};
     ghost use Rattle.orca_script.specs.Given.{Given};
-    ghost use Rattle.orca_script.specs.declared.limits.TheConstants.{MAX_NUMBERS};
+    ghost use Rattle.orca_script.specs.declared.limits.TheConstants.{MAX_LINE_VALUES};
 
     ghost Value = { Given };
 
     ghost view = { λ v. record { numbers = take v.count v.numbers; glyph = v.glyph } };
 
-    ghost invariant = { λ v. v.count ≤ MAX_NUMBERS };
+    ghost invariant = { λ v. v.count ≤ MAX_LINE_VALUES };
 }
 
 impl Values {
@@ -34,7 +34,7 @@ impl Values {
         ensures { result ≡ none }
     {
         Values {
-            numbers: [0; MAX_NUMBERS],
+            numbers: [0; MAX_LINE_VALUES],
             count: 0,
             glyph: Glyph::EMPTY,
         }
@@ -42,7 +42,7 @@ impl Values {
 
     /// Adds a number behind the others, where one more fits.
     pub(crate) fn add_number(&mut self, number: u32)
-        requires { length self.old.numbers < MAX_NUMBERS }
+        requires { length self.old.numbers < MAX_LINE_VALUES }
         ensures { self.new ≡ with_number self.old number }
     {
         self.numbers[self.count] = number;

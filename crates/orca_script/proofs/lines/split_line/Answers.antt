@@ -14,5 +14,6 @@ returns-in-Some c =
 -- the last line, which isn't empty
 pub returns-in-None-2 : goal.returns-in-None-2
 returns-in-None-2 c =
-    let some : 1 ≤ length c.args.text.now = grind (arith, nat_tests, c.is_empty.ensures, c.if-is_empty.false) in
+    let some : 1 ≤ length c.args.text.now =
+    grind (arith, nat_tests, c.is_empty.ensures, c.if-is_empty.false) in
     lines-last c.args.text.now (sym c.line_feed.ensures ∙ c.in-None.is) some

@@ -6,4 +6,6 @@ use Rattle.orca_script.proofs.printing.push_numbers.Given as goal
 
 -- the numbers so far are appended
 abbrev pub invariant-loop-number : goal.invariant-loop-number
-invariant-loop-number l = l.into.items ≡ l.fn.into.items ++ flat_map (λ number. space ∷ decimal number) (take l.number-index l.numbers)
+invariant-loop-number l =
+    l.into.items ≡ l.fn.into.items ++ flat_map (λ number. space ∷ decimal number)
+    (take l.number-index l.numbers)
