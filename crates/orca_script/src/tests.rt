@@ -126,7 +126,7 @@ fn lines_with_a_command(rt: HostRuntime) -> Result<(), Fail> {
 }
 
 /// Lines outside the grammar, each with the column at which it leaves it.
-static REFUSED: [(&[u8], u32); 88] = [
+static REFUSED: [(&[u8], u32); 89] = [
     // words
     (b"frme", 3),
     (b"f", 2),
@@ -139,6 +139,7 @@ static REFUSED: [(&[u8], u32); 88] = [
     (b"rese", 5),
     (b"resi", 5),
     (b"rex", 3),
+    (b"redo", 3),
     (b"er", 3),
     (b"w", 2),
     (b"u", 2),
