@@ -8,12 +8,12 @@ use Rattle.std.specs.List.{AllByRecursion}
 use Rattle.std.proofs.lemmas.Option.{none-some}
 use Rattle.orca_base.specs.Ascii.{space}
 use Rattle.orca_base.specs.declared.command.Command.{Command}
-use Rattle.orca_script.specs.Given.{Given, none, command_of}
-use Rattle.orca_script.specs.Grammar.{words_of, Form, given_by_form, command_by}
+use Rattle.orca_script.specs.LineValues.{LineValues, none, command_of}
+use Rattle.orca_script.specs.Grammar.{words_of, Form, values_by_form, command_by}
 use Rattle.orca_script.specs.Readers.{or_else_read, read_form, read_by}
 use Rattle.orca_script.specs.Reading.{Letters, start, reach, farthest}
 use Rattle.orca_script.proofs.Along.{final}
-use Rattle.orca_script.proofs.Reach.{read_on-is, begins, goes_along, IsSound, line_given, final-line}
+use Rattle.orca_script.proofs.Reach.{read_on-is, begins, goes_along, IsSound, line_values, final-line}
 
 -- the command of a line by some forms
 abbrev pub line_by : List Form → List ℕ → Option Command
@@ -21,12 +21,12 @@ line_by table line = if slice_index line 0 == space then None else command_by ta
 
 -- the command of a line by one form
 abbrev pub by_form : Form → List ℕ → Option Command
-by_form form line = option_map (command_of form.verb) (line_given form line)
+by_form form line = option_map (command_of form.verb) (line_values form line)
 
 line_by_spaced : (spaced : Bool) (form : Form) (table : List Form) (words : List (List ℕ)) →
     (if spaced then None else command_by (form ∷ table) words)
     ≡ option_or (option_map (command_of form.verb)
-    (if spaced then None else given_by_form form words))
+    (if spaced then None else values_by_form form words))
     (if spaced then None else command_by table words)
 line_by_spaced true form table words = refl
 line_by_spaced false form table words = refl
@@ -47,7 +47,7 @@ line_by-nil line = none_spaced (slice_index line 0 == space)
 abbrev far : Form → List ℕ → ℕ
 far form line = reach line (Letters form.word form.kinds) none
 
--- a line has no command by the forms, and so many of its bytes, or at most so many given, begin one
+-- a line has no command by the forms, and so many of its bytes, or at most so many as before, begin one
 -- that has
 pub record Stops (table : List Form) (line : List ℕ) (most count : ℕ) : Type 0 where
   pub none : line_by table line ≡ None
@@ -64,10 +64,10 @@ abbrev pub StandsFor : List Form → List ℕ → ℕ → Result Command ℕ →
 StandsFor table line most (Ok command) = line_by table line ≡ Some command
 StandsFor table line most (Err count) = Stops table line most count
 
-ok_or-map : (f : Given → Command) (o : Option Given) (n : ℕ) →
+ok_or-map : (f : LineValues → Command) (o : Option LineValues) (n : ℕ) →
     result_map_both f (λ count. count) (ok_or o n) ≡ ok_or (option_map f o) n
 ok_or-map f None n = refl
-ok_or-map f (Some given) n = refl
+ok_or-map f (Some values) n = refl
 
 read_form-is : (form : Form) (line : List ℕ) → IsSound form →
     read_form form line ≡ ok_or (by_form form line) (far form line)
@@ -76,7 +76,7 @@ read_form-is form line sound =
     ∙ (ap (λ n. ok_or (final line (Letters form.word form.kinds) none) n)
     (zero-add (far form line))
     ∙ ap (λ o. ok_or o (far form line)) (final-line form line sound)))
-    ∙ ok_or-map (command_of form.verb) (line_given form line) (far form line)
+    ∙ ok_or-map (command_of form.verb) (line_values form line) (far form line)
 
 some_or : (o : Option Command) (command : Command) →
     (c : Command) × (option_or o (Some command) ≡ Some c)
@@ -90,20 +90,20 @@ module _ (form : Form) (table : List Form) (line : List ℕ) (sound : IsSound fo
       ≡ Some command))
   by_form-begins k h =
       let found = begins k line (Letters form.word form.kinds) none h in
-      let given : line_given form (take k line ++ found.0) ≡ Some found.1.0 =
+      let values : line_values form (take k line ++ found.0) ≡ Some found.1.0 =
       sym (final-line form (take k line ++ found.0) sound) ∙ found.1.1 in (
         found.0,
         (
           command_of form.verb found.1.0,
           line_by-cons form table (take k line ++ found.0)
-              ∙ rw given refl,
+              ∙ rw values refl,
         ),
       )
 
-  by_form-along : (k : ℕ) (rest : List ℕ) (given : Given) → k ≤ length line →
-      line_given form (take k line ++ rest) ≡ Some given → k ≤ far form line
-  by_form-along k rest given h e =
-      goes_along k line rest (Letters form.word form.kinds) none given h
+  by_form-along : (k : ℕ) (rest : List ℕ) (values : LineValues) → k ≤ length line →
+      line_values form (take k line ++ rest) ≡ Some values → k ≤ far form line
+  by_form-along k rest values h e =
+      goes_along k line rest (Letters form.word form.kinds) none values h
       (final-line form (take k line ++ rest) sound ∙ e)
 
   later_begins : (k : ℕ) (rest : List ℕ) (command : Command) →
@@ -114,14 +114,14 @@ module _ (form : Form) (table : List Form) (line : List ℕ) (sound : IsSound fo
       let found = some_or (by_form form (take k line ++ rest)) command in
       (rest, (found.0, line_by-cons form table (take k line ++ rest) ∙ rw e found.1))
 
-  behind_either : (o : Option Given) (most count : ℕ) (k : ℕ) (rest : List ℕ) (command : Command) →
+  behind_either : (o : Option LineValues) (most count : ℕ) (k : ℕ) (rest : List ℕ) (command : Command) →
       Stops table line (max most (far form line)) count → k ≤ length line →
-      line_given form (take k line ++ rest) ≡ o →
+      line_values form (take k line ++ rest) ≡ o →
       option_or (option_map (command_of form.verb) o) (line_by table (take k line ++ rest))
       ≡ Some command → k ≤ count
-  behind_either None most count k rest command stops h given e = stops.behind k rest command h e
-  behind_either (Some g) most count k rest command stops h given e =
-      omega (arith, stops.least, by_form-along k rest g h given)
+  behind_either None most count k rest command stops h values e = stops.behind k rest command h e
+  behind_either (Some g) most count k rest command stops h values e =
+      omega (arith, stops.least, by_form-along k rest g h values)
 
   before_either : (most count k : ℕ) →
       (k ≤ max most (far form line))
@@ -141,7 +141,7 @@ module _ (form : Form) (table : List Form) (line : List ℕ) (sound : IsSound fo
     least = omega (arith, stops.least);
     counted = stops.counted;
     before = λ k h. before_either most count k (stops.before k h);
-    behind = λ k rest command h e. behind_either (line_given form (take k line ++ rest)) most count
+    behind = λ k rest command h e. behind_either (line_values form (take k line ++ rest)) most count
         k rest command stops h refl (sym (line_by-cons form table (take k line ++ rest)) ∙ e);
   }
 

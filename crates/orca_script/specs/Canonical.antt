@@ -20,8 +20,8 @@ abbrev pub line : List ℕ → List ℕ → Option ℕ → Line
 line word numbers glyph = record { word = word; numbers = numbers; glyph = glyph }
 
 -- a word, and its values behind it, each after a space
-abbrev pub spaced : Line → List ℕ
-spaced l =
+abbrev pub text_of : Line → List ℕ
+text_of l =
     l.word
     ++ (flat_map (λ number. space ∷ decimal number) l.numbers
     ++ flat_map (λ glyph. space ∷ glyph ∷ []) (option_to_list l.glyph))
@@ -47,7 +47,7 @@ line_of (Rewind moment) = line (codes "rewind") (moment ∷ []) None
 
 -- the canonical line of a command
 abbrev pub canonical : Command → List ℕ
-canonical command = spaced (line_of command)
+canonical command = text_of (line_of command)
 
 -- the numbers have 32 bits, and the glyph is one
 pub record HasValues (l : Line) : Type 0 where

@@ -12,7 +12,7 @@ use Rattle.orca_script.specs.declared.forms.Kind.{Kind}
 use Rattle.orca_script.specs.declared.forms.Kind.TheVariants.{Number, Glyph}
 use Rattle.orca_script.specs.declared.forms.Verb.{Verb}
 use Rattle.orca_script.specs.declared.forms.TheConstants.{FORMS}
-use Rattle.orca_script.specs.Given.{Given, none, with_number, with_glyph, command_of}
+use Rattle.orca_script.specs.LineValues.{LineValues, none, with_number, with_glyph, command_of}
 
 abbrev pub is_space : ℕ → Bool
 is_space byte = byte == space
@@ -29,14 +29,14 @@ abbrev pub glyph_of : List ℕ → Option ℕ
 glyph_of (byte ∷ []) = if is_glyph byte then Some byte else None
 glyph_of _ = None
 
--- what words give as values of these kinds, one word for each, behind what is given already
-unfoldable pub given_by : Given → List Kind → List (List ℕ) → Option Given
-given_by given [] [] = Some given
-given_by given (Number ∷ kinds) (word ∷ words) =
-    option_and_then (λ number. given_by (with_number given number) kinds words) (number_of word)
-given_by given (Glyph ∷ kinds) (word ∷ words) =
-    option_and_then (λ glyph. given_by (with_glyph given glyph) kinds words) (glyph_of word)
-given_by given _ _ = None
+-- the values that words give by these kinds, one word for each, behind those so far
+unfoldable pub values_by : LineValues → List Kind → List (List ℕ) → Option LineValues
+values_by values [] [] = Some values
+values_by values (Number ∷ kinds) (word ∷ words) =
+    option_and_then (λ number. values_by (with_number values number) kinds words) (number_of word)
+values_by values (Glyph ∷ kinds) (word ∷ words) =
+    option_and_then (λ glyph. values_by (with_glyph values glyph) kinds words) (glyph_of word)
+values_by values _ _ = None
 
 -- a form of a line: its word, the kinds of its values, and the name of its command
 pub record Form : Type 0 where
@@ -50,16 +50,16 @@ forms = map (λ row. record { word = row.0.now; kinds = row.1.now; verb = row.2 
 
 -- what the words of a line give by a form: the first is the form's word, and the others are its
 -- values
-abbrev pub given_by_form : Form → List (List ℕ) → Option Given
-given_by_form form [] = None
-given_by_form form (word ∷ words) =
-    if bytes_eq word form.word then given_by none form.kinds words else None
+abbrev pub values_by_form : Form → List (List ℕ) → Option LineValues
+values_by_form form [] = None
+values_by_form form (word ∷ words) =
+    if bytes_eq word form.word then values_by none form.kinds words else None
 
 -- the command of the first of these forms that fits the words
 abbrev pub command_by : List Form → List (List ℕ) → Option Command
 command_by [] words = None
 command_by (form ∷ others) words =
-    option_or (option_map (command_of form.verb) (given_by_form form words)) (command_by others words)
+    option_or (option_map (command_of form.verb) (values_by_form form words)) (command_by others words)
 
 -- the command that a line asks for: no space stands before its first word
 unfoldable pub line_command : List ℕ → Option Command

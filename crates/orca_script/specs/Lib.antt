@@ -1,5 +1,5 @@
 pub mod Canonical
-pub mod Given
 pub mod Grammar
+pub mod LineValues
 pub mod Readers
 pub mod Reading

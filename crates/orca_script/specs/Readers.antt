@@ -8,7 +8,7 @@ use Rattle.orca_script.specs.declared.forms.Kind.{Kind}
 use Rattle.orca_script.specs.declared.forms.Verb.{Verb}
 use Rattle.orca_script.specs.declared.reader.Next.{Next as Held}
 use Rattle.orca_script.specs.declared.reader.Next.TheVariants as held
-use Rattle.orca_script.specs.Given.{Given, with_number, command_of}
+use Rattle.orca_script.specs.LineValues.{LineValues, with_number, command_of}
 use Rattle.orca_script.specs.Grammar.{Form}
 use Rattle.orca_script.specs.Reading.{Next, Letters, Blank, Digits, State, start, step}
 
@@ -28,18 +28,18 @@ values_left (Digits count value kinds) = suc (length kinds)
 abbrev pub form_of : Bor (List ℕ) × Bor (List Kind) × Verb → Form
 form_of row = record { word = row.0.now; kinds = row.1.now; verb = row.2 }
 
--- what is given where the line ends; none where the form goes on
-unfoldable pub given_at_end : Next → Given → Option Given
-given_at_end (Letters [] []) given = Some given
-given_at_end (Blank []) given = Some given
-given_at_end (Digits count value []) given = Some (with_number given value)
-given_at_end _ given = None
+-- the values where the line ends; none where the form goes on
+unfoldable pub values_at_end : Next → LineValues → Option LineValues
+values_at_end (Letters [] []) values = Some values
+values_at_end (Blank []) values = Some values
+values_at_end (Digits count value []) values = Some (with_number values value)
+values_at_end _ values = None
 
 -- what the bytes behind the first i give, or how many bytes go along the form
-unfoldable pub read_on : List ℕ → ℕ → State → Result Given ℕ
-read_on [] i s = ok_or (given_at_end s.next s.given) i
+unfoldable pub read_on : List ℕ → ℕ → State → Result LineValues ℕ
+read_on [] i s = ok_or (values_at_end s.next s.values) i
 read_on (byte ∷ bytes) i s =
-    option_map_or (read_on bytes (i + 1)) (step s.next s.given byte) (Err i)
+    option_map_or (read_on bytes (i + 1)) (step s.next s.values byte) (Err i)
 
 -- the command of a line by a form; else how many of its bytes go along the form
 abbrev pub read_form : Form → List ℕ → Result Command ℕ

@@ -5,7 +5,7 @@ ghost use Rattle.std.specs.List.{flat_map};
 ghost use Rattle.orca_base.specs.Ascii.{line_feed, space};
 ghost use Rattle.std.specs.Fmt.{decimal};
 ghost use Rattle.std.specs.Str.Lines.{lines};
-ghost use Rattle.orca_script.specs.Canonical.{canonical, printed, spaced, line, line_of, sides as sides_of, HasValues, Extends};
+ghost use Rattle.orca_script.specs.Canonical.{canonical, printed, text_of, line, line_of, sides as sides_of, HasValues, Extends};
 ghost use Rattle.orca_script.specs.Reading.{reading};
 
 use orca_base::{Command, Glyph, Memory, Rect};
@@ -74,7 +74,7 @@ fn push_line(
     into: &mut Vec<u8>,
 ) -> Result<(), Memory>
     ensures ok { OnOk result (into.new.items
-        ≡ into.old.items ++ (spaced (line word.now numbers.now glyph) ++ line_feed ∷ [])) }
+        ≡ into.old.items ++ (text_of (line word.now numbers.now glyph) ++ line_feed ∷ [])) }
     ensures values { OnOk result (HasValues (line word.now numbers.now glyph)) }
     ensures err { OnErr result (Extends into.old.items into.new.items) }
 {

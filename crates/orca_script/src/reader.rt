@@ -1,9 +1,9 @@
 //! Reading a line along one form, byte by byte.
 
 ghost use Rattle.std.specs.Prelude.{◌≡◌, ◌+◌, ◌≤◌, length, IfErr};
-ghost use Rattle.orca_script.specs.Given.{none};
-ghost use Rattle.orca_script.specs.Readers.{form_of, given_at_end, read_on, read_form as line_by_form};
-ghost use Rattle.orca_script.specs.Reading.{Letters, state, value_begun, longer_number, step};
+ghost use Rattle.orca_script.specs.LineValues.{none};
+ghost use Rattle.orca_script.specs.Readers.{form_of, values_at_end, read_on, read_form as line_by_form};
+ghost use Rattle.orca_script.specs.Reading.{Letters, state, value_start, longer_number, step};
 
 use crate::forms::{Form, Kind};
 use crate::limits::MAX_LINE_VALUES;
@@ -41,7 +41,7 @@ impl<'a> Model for Reader<'a> {
 
     ghost use Rattle.orca_script.specs.Readers.{next_of};
 
-    ghost view = { λ r. record { next = next_of r.next; given = r.values } };
+    ghost view = { λ r. record { next = next_of r.next; values = r.values } };
 
     ghost invariant = { λ r. length r.values.numbers + values_left (next_of r.next) ≤ MAX_LINE_VALUES };
 }
@@ -61,7 +61,7 @@ impl<'a> Reader<'a> {
     /// After one more byte; none where the line leaves the form there.
     #[tactic(auto, unfolding(crate::specs::Reading::step))]
     fn after(self, byte: u8) -> Option<Reader<'a>>
-        ensures { result ≡ step self.entry.next self.entry.given byte }
+        ensures { result ≡ step self.entry.next self.entry.values byte }
     {
         let Reader { next, mut values } = self;
         match next {
@@ -91,10 +91,10 @@ impl<'a> Reader<'a> {
         }
     }
 
-    /// What is given where the line ends; none where the form goes on.
-    #[tactic(auto, unfolding(crate::specs::Readers::given_at_end))]
+    /// What is values where the line ends; none where the form goes on.
+    #[tactic(auto, unfolding(crate::specs::Readers::values_at_end))]
     fn end(self) -> Option<Values>
-        ensures { result ≡ given_at_end self.entry.next self.entry.given }
+        ensures { result ≡ values_at_end self.entry.next self.entry.values }
     {
         let Reader { next, mut values } = self;
         match next {
@@ -111,7 +111,7 @@ impl<'a> Reader<'a> {
 /// After the first byte of a value. A glyph has no other.
 fn begin_value<'a>(kinds: &'a [Kind], mut values: Values, byte: u8) -> Option<Reader<'a>>
     requires { length values.numbers + length kinds.now ≤ MAX_LINE_VALUES }
-    ensures { result ≡ value_begun kinds.now values byte }
+    ensures { result ≡ value_start kinds.now values byte }
 {
     let (kind, kinds) = kinds.split_first()?;
     let next = match kind {

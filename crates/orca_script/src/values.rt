@@ -1,7 +1,7 @@
 //! What the words of a line give.
 
 ghost use Rattle.std.specs.Prelude.{◌≡◌, ◌<◌, [], ◌∷◌, ◌++◌, length, slice_index};
-ghost use Rattle.orca_script.specs.Given.{none, with_number, with_glyph, rect_of, command_of};
+ghost use Rattle.orca_script.specs.LineValues.{none, with_number, with_glyph, rect_of, command_of};
 
 use crate::forms::Verb;
 use crate::limits::MAX_LINE_VALUES;
@@ -18,10 +18,10 @@ pub(crate) struct Values {
 
 impl Model for Values {
     ghost use Rattle.std.specs.Prelude.{take, ◌≤◌};
-    ghost use Rattle.orca_script.specs.Given.{Given};
+    ghost use Rattle.orca_script.specs.LineValues.{LineValues};
     ghost use Rattle.orca_script.specs.declared.limits.TheConstants.{MAX_LINE_VALUES};
 
-    ghost Value = { Given };
+    ghost Value = { LineValues };
 
     ghost view = { λ v. record { numbers = take v.count v.numbers; glyph = v.glyph } };
 
@@ -82,7 +82,7 @@ impl Values {
     }
 
     /// The command of this name.
-    #[tactic(auto, unfolding(crate::specs::Given::command_of))]
+    #[tactic(auto, unfolding(crate::specs::LineValues::command_of))]
     pub(crate) fn command(&self, verb: Verb) -> Command
         ensures { result ≡ command_of verb self.now }
     {

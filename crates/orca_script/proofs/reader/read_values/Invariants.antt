@@ -1,5 +1,5 @@
 use Rattle.std.proofs.Common.{◌≡◌, drop}
-use Rattle.orca_script.specs.Given.{none}
+use Rattle.orca_script.specs.LineValues.{none}
 use Rattle.orca_script.specs.Readers.{read_on}
 use Rattle.orca_script.specs.Reading.{Letters, state}
 use Rattle.orca_script.proofs.reader.read_values.Given as goal
