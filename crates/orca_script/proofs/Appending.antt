@@ -1,5 +1,5 @@
 -- What is appended stands behind what was there.
-use Rattle.std.proofs.Common.{◌≡◌, List, ℕ, ◌++◌, ◌∙◌, ap, append_assoc, Result, Ok, Err}
+use Rattle.std.proofs.Common.{◌≡◌, List, ℕ, ◌++◌, ◌∙◌, ap, sym, append_assoc, Result, Ok, Err}
 use Rattle.std.specs.Result.{OnErr}
 use Rattle.orca_script.specs.Canonical.{Extends}
 
@@ -16,3 +16,9 @@ extends_more old middle new a b =
 pub extends_by : (old middle new tail : List ℕ) → middle ≡ old ++ tail → Extends middle new →
     Extends old new
 extends_by old middle new tail a b = extends_more old middle new (tail, a) b
+
+-- a part more at the end
+pub appended : (old middle new first last whole : List ℕ) → middle ≡ old ++ first →
+    new ≡ middle ++ last → whole ≡ first ++ last → new ≡ old ++ whole
+appended old middle new first last whole a b c =
+    b ∙ (ap (λ xs. xs ++ last) a ∙ (append_assoc old first last ∙ ap (λ xs. old ++ xs) (sym c)))
