@@ -1,0 +1,9 @@
+pub mod Along
+pub mod Digits
+pub mod Laws
+pub mod Appending
+pub mod Reach
+pub mod ReadsBack
+pub mod Refusals
+pub mod TextLines
+pub mod Words

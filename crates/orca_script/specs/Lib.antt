@@ -1,0 +1,5 @@
+pub mod Canonical
+pub mod Grammar
+pub mod LineValues
+pub mod Readers
+pub mod Reading

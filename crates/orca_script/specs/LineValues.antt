@@ -1,0 +1,48 @@
+-- What the words of a line after the first give, and the command that is made of it.
+use Rattle.std.specs.Prelude.{ℕ, List, [], ◌∷◌, ◌++◌, slice_index}
+use Rattle.orca_base.specs.Glyphs.{empty}
+use Rattle.orca_base.specs.declared.area.Rect.{Rect}
+use Rattle.orca_base.specs.declared.command.Command.{Command}
+use Rattle.orca_base.specs.declared.command.Command.TheVariants as command
+use Rattle.orca_script.specs.declared.forms.Verb.{Verb}
+use Rattle.orca_script.specs.declared.forms.Verb.TheVariants.{Frame, Write, Fill, Erase, Copy, Cut, Paste, Move, Resize, Reset, Undo, Rewind}
+
+-- the numbers of a line, in order, and its glyph, where it has one
+pub record LineValues : Type 0 where
+  pub numbers : List ℕ
+  pub glyph : ℕ
+
+abbrev pub none : LineValues
+none = record { numbers = []; glyph = empty }
+
+abbrev pub with_number : LineValues → ℕ → LineValues
+with_number values number = record values { numbers = values.numbers ++ number ∷ [] }
+
+abbrev pub with_glyph : LineValues → ℕ → LineValues
+with_glyph values glyph = record values { glyph = glyph }
+
+-- the block of the first four numbers
+abbrev pub rect_of : LineValues → Rect
+rect_of values = record {
+  y = slice_index values.numbers 0;
+  x = slice_index values.numbers 1;
+  h = slice_index values.numbers 2;
+  w = slice_index values.numbers 3;
+}
+
+-- the command of a name, made of what the words give
+unfoldable pub command_of : Verb → LineValues → Command
+command_of Frame values = command.Frame
+command_of Write values =
+    command.Write (slice_index values.numbers 0) (slice_index values.numbers 1) values.glyph
+command_of Fill values = command.Fill (rect_of values) values.glyph
+command_of Erase values = command.Erase (rect_of values)
+command_of Copy values = command.Copy (rect_of values)
+command_of Cut values = command.Cut (rect_of values)
+command_of Paste values = command.Paste (slice_index values.numbers 0) (slice_index values.numbers 1)
+command_of Move values =
+    command.Move (rect_of values) (slice_index values.numbers 4) (slice_index values.numbers 5)
+command_of Resize values = command.Resize (slice_index values.numbers 0) (slice_index values.numbers 1)
+command_of Reset values = command.Reset
+command_of Undo values = command.Undo
+command_of Rewind values = command.Rewind (slice_index values.numbers 0)
