@@ -1,0 +1,16 @@
+//! The terminal of a performance: its keys, the editor that they move, the picture that it shows, and the
+//! pacer of the frames.
+#![tactic(auto)]
+
+mod cell;
+mod editor;
+mod keys;
+mod pacer;
+mod picture;
+mod status;
+
+pub use cell::{Cell, ScreenSize};
+pub use editor::{Act, Editor};
+pub use keys::{Key, Keys, Pending};
+pub use pacer::Pacer;
+pub use status::{StatusLine, rule_name};
