@@ -2,5 +2,6 @@ pub mod Editing
 pub mod Forms
 pub mod Keys
 pub mod Pacing
+pub mod Painting
 pub mod Picture
 pub mod RuleNames

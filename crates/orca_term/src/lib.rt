@@ -5,7 +5,9 @@
 mod cell;
 mod editor;
 mod keys;
+mod limits;
 mod pacer;
+mod painting;
 mod picture;
 mod status;
 

@@ -6,15 +6,9 @@ ghost use Rattle.orca_term.specs.Picture.{state_word, note_word, status_text};
 ghost use Rattle.orca_term.specs.RuleNames.{rule_name};
 
 use crate::Editor;
+use crate::limits::{NAME_BYTES, STATUS_BYTES};
 use orca_base::limits::MAX_DIGITS;
 use orca_base::{Inline, Rule};
-
-/// The most bytes of the name of a rule.
-const NAME_BYTES: usize = 13;
-
-/// The most bytes of the status line: seven numbers, five letters of the state, the name of a rule, and the
-/// eight bytes between them.
-pub(crate) const STATUS_BYTES: usize = 7 * MAX_DIGITS + 5 + NAME_BYTES + 8;
 
 /// The text of a status line.
 pub(crate) type StatusText = Inline<STATUS_BYTES>;
