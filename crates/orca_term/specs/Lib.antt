@@ -5,3 +5,4 @@ pub mod Pacing
 pub mod Painting
 pub mod Picture
 pub mod RuleNames
+pub mod Terminal

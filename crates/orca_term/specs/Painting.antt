@@ -3,7 +3,8 @@
 use Rattle.std.specs.Prelude.{ℕ, ◌+◌, ◌*◌, ◌==◌, Bool, true, not, ◌&&◌, if◌then◌else◌, Option, Some, None, List, [], ◌∷◌, ◌++◌, take, drop}
 use Rattle.std.specs.Cmp.Lexicographic.{pointwise}
 use Rattle.std.specs.List.{flat_map, range_with_len}
-use Rattle.orca_term.specs.Forms.{Form, GoTo, Style, Show}
+use Rattle.orca_term.specs.declared.forms.Form.{Form}
+use Rattle.orca_term.specs.declared.forms.Form.TheVariants.{GoTo, Style, Show}
 use Rattle.orca_term.specs.Picture.{plain}
 use Rattle.orca_term.specs.declared.cell.Cell.{Cell}
 use Rattle.orca_term.specs.declared.cell.ScreenSize.{ScreenSize}

@@ -4,15 +4,18 @@
 
 mod cell;
 mod editor;
+mod forms;
 mod keys;
 mod limits;
 mod pacer;
 mod painting;
 mod picture;
+mod screen;
 mod status;
 
 pub use cell::{Cell, ScreenSize};
 pub use editor::{Act, Editor};
 pub use keys::{Key, Keys, Pending};
 pub use pacer::Pacer;
+pub use screen::Screen;
 pub use status::{StatusLine, rule_name};

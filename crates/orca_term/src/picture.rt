@@ -27,7 +27,7 @@ const UNDERLINED: u8 = 4;
 const REVERSED: u8 = 7;
 
 /// A space without a style.
-const BLANK: Cell = Cell {
+pub(crate) const BLANK: Cell = Cell {
     byte: b' ',
     style: PLAIN,
 };
