@@ -76,7 +76,7 @@ cells_all style cells i front whole h same =
     sym (append-nil front) ∙ (ap (λ cells. front ++ bytes_of (painted_cells style cells)) (sym (drop_all i cells h)) ∙ same)
 
 -- a row more
-flat_map-range : {A : Type 0} (f : ℕ → List A) (a n : ℕ) → flat_map f (range_with_len a (suc n)) ≡ flat_map f (range_with_len a n) ++ f (a + n)
+pub flat_map-range : {A : Type 0} (f : ℕ → List A) (a n : ℕ) → flat_map f (range_with_len a (suc n)) ≡ flat_map f (range_with_len a n) ++ f (a + n)
 flat_map-range f a zero = rw add-zero (append-nil (f a))
 flat_map-range f a (suc n) =
     let next : a + 1 + n ≡ a + suc n = omega arith in

@@ -39,7 +39,7 @@ goes t end reading next byte bytes step leads = record {
   ends = leads.ends;
 }
 
-unmapped : (form : Form) (o : Option (List Form)) (forms : List Form) → option_map (λ rest. form ∷ rest) o ≡ Some forms → (rest : List Form) × (o ≡ Some rest) × (forms ≡ form ∷ rest)
+pub unmapped : (form : Form) (o : Option (List Form)) (forms : List Form) → option_map (λ rest. form ∷ rest) o ≡ Some forms → (rest : List Form) × (o ≡ Some rest) × (forms ≡ form ∷ rest)
 unmapped form None forms e = cc
 unmapped form (Some rest) forms e = (rest, refl, cc)
 

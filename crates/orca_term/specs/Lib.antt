@@ -6,3 +6,4 @@ pub mod Painting
 pub mod Picture
 pub mod RuleNames
 pub mod Terminal
+pub mod Viewing

@@ -54,6 +54,15 @@ underlined = 4
 abbrev pub reversed : ℕ
 reversed = 7
 
+-- a printable byte of ASCII
+abbrev pub IsPrintableByte : ℕ → Type 0
+IsPrintableByte byte = (space ≤ byte) × (byte ≤ 126)
+
+-- a cell that a terminal can show: a printable byte, and a style of one byte
+pub record IsPrintable (cell : Cell) : Type 0 where
+  pub byte : IsPrintableByte cell.byte
+  pub style : cell.style ≤ 255
+
 -- a space without a style
 abbrev pub blank : Cell
 blank = record { byte = space; style = plain }

@@ -1,11 +1,11 @@
 //! The picture of a grid, its marks, the editor and the status line.
 
-ghost use Rattle.std.specs.Prelude.{◌≡◌, ◌+◌, ◌*◌, ◌<◌, ◌≤◌, length, slice_index_or};
+ghost use Rattle.std.specs.Prelude.{◌≡◌, ◌+◌, ◌*◌, ◌<◌, ◌≤◌, length, slice_index_or, All};
 ghost use Rattle.std.specs.Vec.{vec_capacity};
 ghost use Rattle.orca_base.specs.Edits.{is_in_area};
 ghost use Rattle.orca_base.specs.Grids.{IsInside};
 ghost use Rattle.orca_term.specs.Editing.{area_of};
-ghost use Rattle.orca_term.specs.Picture.{IsScreen, screen_cells, scene_of, style_by, grid_cell, page_of, status_cell, cell_at, picture};
+ghost use Rattle.orca_term.specs.Picture.{IsPrintable, IsPrintableByte, IsScreen, screen_cells, scene_of, style_by, grid_cell, page_of, status_cell, cell_at, picture};
 
 use crate::status::status_text;
 use crate::{Cell, Editor, ScreenSize, StatusLine};
@@ -45,6 +45,8 @@ pub(crate) fn draw<T: Look>(
     requires room { screen_cells size ≤ vec_capacity cells.old }
     ensures picture { cells.new.items
         ≡ picture size (scene_of (T.sheet look.now) (T.marks look.now) editor.now) line.now }
+    ensures whole { length cells.new.items ≡ screen_cells size }
+    ensures printable { All IsPrintable cells.new.items }
     ensures room { vec_capacity cells.new ≡ vec_capacity cells.old }
 {
     let text = status_text(editor, line);
@@ -59,8 +61,10 @@ pub(crate) fn draw<T: Look>(
 fn cell_at<T: Look>(size: ScreenSize, look: &T, editor: &Editor, text: &[u8], n: u32) -> Cell
     requires screen { IsScreen size }
     requires cell { n < screen_cells size }
-    ensures { result
+    requires printable { All IsPrintableByte text.now }
+    ensures cell { result
         ≡ cell_at size (scene_of (T.sheet look.now) (T.marks look.now) editor.now) text.now n }
+    ensures printable { IsPrintable result }
 {
     let (rows, columns) = (u32::from(size.rows), u32::from(size.columns));
     let (y, x) = (n / columns, n % columns);
@@ -83,7 +87,9 @@ fn page_of(side: u32, n: u32) -> u32
 
 /// The cell of a column of the status line.
 fn status_cell(text: &[u8], x: u32) -> Cell
-    ensures { result ≡ status_cell text.now x }
+    requires { All IsPrintableByte text.now }
+    ensures cell { result ≡ status_cell text.now x }
+    ensures printable { IsPrintable result }
 {
     Cell {
         byte: text.get(x as usize).copied().unwrap_or(b' '),
@@ -94,8 +100,9 @@ fn status_cell(text: &[u8], x: u32) -> Cell
 /// The cell of a row and a column that may lie outside the grid.
 #[tactic(auto, unfolding(crate::specs::Picture::grid_cell))]
 fn grid_cell<T: Look>(look: &T, editor: &Editor, y: u32, x: u32) -> Cell
-    ensures { result
+    ensures cell { result
         ≡ grid_cell (scene_of (T.sheet look.now) (T.marks look.now) editor.now) (record { y = y; x = x }) }
+    ensures printable { IsPrintable result }
 {
     let dims = look.dims();
     if y >= u32::from(dims.h) || x >= u32::from(dims.w) {

@@ -1,8 +1,8 @@
 //! The status line.
 
-ghost use Rattle.std.specs.Prelude.{◌≡◌, ◌+◌, ◌≤◌, ◌++◌, length};
+ghost use Rattle.std.specs.Prelude.{◌≡◌, ◌+◌, ◌≤◌, [], ◌∷◌, ◌++◌, length, All};
 ghost use Rattle.std.specs.Fmt.{decimal};
-ghost use Rattle.orca_term.specs.Picture.{state_word, note_word, status_text};
+ghost use Rattle.orca_term.specs.Picture.{IsPrintableByte, state_word, note_word, status_text};
 ghost use Rattle.orca_term.specs.RuleNames.{rule_name};
 
 use crate::Editor;
@@ -45,32 +45,50 @@ pub fn rule_name(rule: &Rule) -> &'static str
 /// The text of the status line.
 #[tactic(auto, unfolding(crate::specs::Picture::status_text))]
 pub(crate) fn status_text(editor: &Editor, line: &StatusLine) -> StatusText
-    ensures { result ≡ status_text editor.now line.now }
+    ensures text { result ≡ status_text editor.now line.now }
+    ensures printable { All IsPrintableByte result }
 {
     let mut text = StatusText::empty();
-    push_number(&mut text, line.tick);
-    text.push(b' ');
-    push_number(&mut text, line.moments);
-    text.push(b' ');
-    push_number(&mut text, line.sounding);
-    text.push(b' ');
-    push_number(&mut text, u32::from(editor.y));
-    text.push(b',');
-    push_number(&mut text, u32::from(editor.x));
-    text.push(b' ');
-    push_number(&mut text, u32::from(editor.h));
-    text.push(b'x');
-    push_number(&mut text, u32::from(editor.w));
-    text.push(b' ');
-    text.extend(state_word(editor.paused));
-    text.push(b' ');
-    text.extend(note_word(&line.note));
+    push_number(&mut text, line.tick, b' ');
+    push_number(&mut text, line.moments, b' ');
+    push_number(&mut text, line.sounding, b' ');
+    push_number(&mut text, u32::from(editor.y), b',');
+    push_number(&mut text, u32::from(editor.x), b' ');
+    push_number(&mut text, u32::from(editor.h), b'x');
+    push_number(&mut text, u32::from(editor.w), b' ');
+    push_word(&mut text, state_word(editor.paused));
+    push_word(&mut text, b" ");
+    push_word(&mut text, note_word(&line.note));
     text
+}
+
+/// Appends a number and the byte behind it.
+#[tactic(auto, using(crate::proofs::Digits::decimal_short))]
+fn push_number(text: &mut StatusText, n: u32, after: u8)
+    requires room { length text.old + MAX_DIGITS + 1 ≤ STATUS_BYTES }
+    requires printable { All IsPrintableByte text.old × IsPrintableByte after }
+    ensures text { text.new ≡ text.old ++ decimal n ++ after ∷ [] }
+    ensures short { length text.new ≤ length text.old + MAX_DIGITS + 1 }
+    ensures printable { All IsPrintableByte text.new }
+{
+    text.extend(decimal(n).as_slice());
+    text.push(after);
+}
+
+/// Appends a word.
+fn push_word(text: &mut StatusText, word: &[u8])
+    requires room { length text.old + length word.now ≤ STATUS_BYTES }
+    requires printable { All IsPrintableByte text.old × All IsPrintableByte word.now }
+    ensures text { text.new ≡ text.old ++ word.now }
+    ensures printable { All IsPrintableByte text.new }
+{
+    text.extend(word);
 }
 
 /// Whether the performance goes on.
 fn state_word(paused: bool) -> &'static [u8]
     ensures word { result.now ≡ state_word paused }
+    ensures printable { All IsPrintableByte result.now }
     ensures short { length result.now ≤ 5 }
 {
     if paused { b"pause" } else { b"play" }
@@ -79,6 +97,7 @@ fn state_word(paused: bool) -> &'static [u8]
 /// What became of the last command.
 fn note_word(note: &Option<Rule>) -> &'static [u8]
     ensures word { result.now ≡ note_word note.now }
+    ensures printable { All IsPrintableByte result.now }
     ensures short { length result.now ≤ NAME_BYTES }
 {
     match note {
@@ -87,20 +106,11 @@ fn note_word(note: &Option<Rule>) -> &'static [u8]
     }
 }
 
-/// Appends a number.
-#[tactic(auto, using(crate::proofs::Digits::decimal_short))]
-fn push_number(text: &mut StatusText, n: u32)
-    requires { length text.old + MAX_DIGITS ≤ STATUS_BYTES }
-    ensures text { text.new ≡ text.old ++ decimal n }
-    ensures short { length text.new ≤ length text.old + MAX_DIGITS }
-{
-    text.extend(decimal(n).as_slice());
-}
-
 /// A number in decimal digits, without leading zeros.
 #[tactic(auto, using(crate::proofs::Digits::decimal_short, crate::proofs::Digits::decimal_front, std::proofs::lemmas::Fmt::decimal_digit, std::proofs::lemmas::Fmt::decimal_step))]
 pub(crate) fn decimal(n: u32) -> Inline<MAX_DIGITS>
-    ensures { result ≡ decimal n }
+    ensures decimal { result ≡ decimal n }
+    ensures printable { All IsPrintableByte result }
 {
     if n < 10 {
         let mut digits = Inline::empty();
