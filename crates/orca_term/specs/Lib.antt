@@ -1,6 +1,7 @@
 pub mod Editing
 pub mod Forms
 pub mod Keys
+pub mod Lending
 pub mod Pacing
 pub mod Painting
 pub mod Picture

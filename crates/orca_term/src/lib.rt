@@ -12,6 +12,7 @@ mod painting;
 mod picture;
 mod screen;
 mod status;
+mod view;
 
 pub use cell::{Cell, ScreenSize};
 pub use editor::{Act, Editor};
@@ -19,3 +20,4 @@ pub use keys::{Key, Keys, Pending};
 pub use pacer::Pacer;
 pub use screen::Screen;
 pub use status::{StatusLine, rule_name};
+pub use view::View;
