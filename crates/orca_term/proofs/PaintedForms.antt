@@ -10,7 +10,7 @@ use Rattle.orca_term.specs.declared.cell.Cell.{Cell}
 use Rattle.orca_term.specs.declared.cell.ScreenSize.{ScreenSize}
 use Rattle.orca_term.specs.declared.forms.Form.{Form}
 use Rattle.orca_term.specs.declared.forms.Form.TheVariants.{GoTo, Style, Show}
-use Rattle.orca_term.specs.declared.limits.TheConstants.{FORM_DIGITS}
+use Rattle.orca_term.specs.declared.limits.TheConstants.{FORM_DIGITS, MAX_STYLE}
 use Rattle.orca_term.proofs.WholeForms.{IsForm, forms-read}
 
 abbrev AreForms : List Form → Type 0
@@ -24,7 +24,7 @@ forms-cond : (b : Bool) (xs ys : List Form) → AreForms xs → AreForms ys → 
 forms-cond true xs ys first second = first
 forms-cond false xs ys first second = second
 
-forms-restyled : (old new : ℕ) → new ≤ 255 → AreForms (restyled old new)
+forms-restyled : (old new : ℕ) → new ≤ MAX_STYLE → AreForms (restyled old new)
 unfolding restyled
 forms-restyled old new low =
     forms-cond (old == new) [] (cond (new == 0) (Style 0 ∷ []) (Style 0 ∷ Style new ∷ [])) tt (forms-cond (new == 0) (Style 0 ∷ []) (Style 0 ∷ Style new ∷ []) (omega arith, tt) (omega arith, (low, tt)))

@@ -6,7 +6,8 @@ use Rattle.std.proofs.lemmas.List.{append-nil, drop_more, drop_all}
 use Rattle.std.proofs.lemmas.Bool.{ne_eqb, eq-eqb}
 use Rattle.std.proofs.lemmas.Fmt.{decimal_digit}
 use Rattle.std.proofs.lemmas.Grind.{flat_map-append}
-use Rattle.orca_term.specs.Forms.{bytes_of, bytes_of_form, introducer}
+use Rattle.orca_term.specs.Codes.{introducer}
+use Rattle.orca_term.specs.Forms.{bytes_of, bytes_of_form}
 use Rattle.orca_term.specs.declared.forms.Form.{Form}
 use Rattle.orca_term.specs.declared.forms.Form.TheVariants.{GoTo, Style, Show}
 use Rattle.orca_term.specs.Painting.{restyled, painted_cells, painted_row}

@@ -6,7 +6,7 @@ use Rattle.std.specs.Option.{option_map}
 use Rattle.std.proofs.lemmas.Bool.{cases_lt, and_from, lt-ltb, le-leb, cond-true, cond-false, ne_eqb, eq-eqb}
 use Rattle.std.proofs.lemmas.Fmt.{decimal_digit, decimal_step}
 use Rattle.std.proofs.lemmas.List.{append-nil}
-use Rattle.orca_term.specs.Forms.{introducer, bytes_of, bytes_of_form, is_shown, no_digits, more, continues, read_first, read_second, read, forms_after, forms_from, forms_of}
+use Rattle.orca_term.specs.Forms.{bytes_of, bytes_of_form, is_shown, no_digits, more, continues, read_first, read_second, read, forms_after, forms_from, forms_of}
 use Rattle.orca_term.specs.Terminal.{Terminal, after_forms, after_bytes}
 use Rattle.orca_term.specs.declared.forms.Form.{Form}
 use Rattle.orca_term.specs.declared.forms.Form.TheVariants.{GoTo, Style, Show}
@@ -15,14 +15,14 @@ use Rattle.orca_term.specs.declared.forms.Reading.{Reading}
 use Rattle.orca_term.specs.declared.forms.Reading.TheVariants.{Ready, Escaped, First, Second}
 use Rattle.orca_term.specs.declared.forms.Step.{Step}
 use Rattle.orca_term.specs.declared.forms.Step.TheVariants.{Goes, Gives, Breaks}
-use Rattle.orca_term.specs.declared.limits.TheConstants.{FORM_DIGITS}
+use Rattle.orca_term.specs.declared.limits.TheConstants.{FORM_DIGITS, MAX_STYLE}
 use Rattle.orca_term.proofs.PaintingBytes.{bytes_of-append, bytes_of-nil}
 use Rattle.orca_term.proofs.Showing.{forms_from-more}
 
 -- numbers that a form may have
 abbrev pub IsForm : Form → Type 0
 IsForm (GoTo row column) = (1 ≤ row) × (row < 10 ^ FORM_DIGITS) × (1 ≤ column) × (column < 10 ^ FORM_DIGITS)
-IsForm (Style style) = style ≤ 255
+IsForm (Style style) = style ≤ MAX_STYLE
 IsForm (Show byte) = (32 ≤ byte) × (byte ≤ 126)
 
 -- a step that goes on, and one that gives a form
@@ -96,9 +96,9 @@ introduced : (bytes : List ℕ) → forms_of (27 ∷ 91 ∷ bytes) ≡ forms_fro
 unfolding read
 introduced bytes = stepped Ready Escaped 27 (91 ∷ bytes) refl ∙ stepped Escaped (First no_digits) 91 bytes refl
 
-ends_style : (digits n : ℕ) → 1 ≤ digits → n ≤ 255 → read (First (record { digits = digits; value = n })) 109 ≡ Gives (Style n)
+ends_style : (digits n : ℕ) → 1 ≤ digits → n ≤ MAX_STYLE → read (First (record { digits = digits; value = n })) 109 ≡ Gives (Style n)
 unfolding read
-ends_style digits n some low = cond-true _ _ _ (and_from _ _ (le-leb 1 digits some) (le-leb n 255 low))
+ends_style digits n some low = cond-true _ _ _ (and_from _ _ (le-leb 1 digits some) (le-leb n MAX_STYLE low))
 
 ends_row : (digits n : ℕ) → 1 ≤ n → read (First (record { digits = digits; value = n })) 59 ≡ Goes (Second n no_digits)
 unfolding read

@@ -1,11 +1,12 @@
 -- What a terminal reads, in whole forms of ECMA-48: ESC [ row ; column H (cursor position), ESC [ style m (select graphic
 -- rendition), and bytes that are shown. A number in them has 1 to 3 digits; rows and columns are counted from 1, and a style is at
 -- most 255.
-use Rattle.std.specs.Prelude.{ℕ, ◌+◌, ◌-◌, ◌*◌, ◌^◌, ◌<◌, ◌≤◌, Bool, ◌&&◌, ◌==◌, nat_le, nat_lt, if◌then◌else◌, Option, Some, None, option_map, List, ◌∷◌, [], ◌++◌, codes}
+use Rattle.std.specs.Prelude.{ℕ, ◌+◌, ◌-◌, ◌*◌, ◌^◌, ◌<◌, ◌≤◌, Bool, ◌&&◌, ◌==◌, nat_le, nat_lt, if◌then◌else◌, Option, Some, None, option_map, List, ◌∷◌, [], ◌++◌}
 use Rattle.std.specs.Fmt.{decimal}
 use Rattle.std.specs.List.{flat_map}
 use Rattle.orca_base.specs.Ascii.{escape, digit_zero}
 use Rattle.orca_base.specs.Glyphs.{is_digit}
+use Rattle.orca_term.specs.Codes.{bracket, semicolon, letter_h, letter_m, introducer}
 use Rattle.orca_term.specs.declared.forms.Form.{Form}
 use Rattle.orca_term.specs.declared.forms.Form.TheVariants.{GoTo, Style, Show}
 use Rattle.orca_term.specs.declared.forms.Number.{Number}
@@ -13,16 +14,12 @@ use Rattle.orca_term.specs.declared.forms.Reading.{Reading}
 use Rattle.orca_term.specs.declared.forms.Reading.TheVariants.{Ready, Escaped, First, Second}
 use Rattle.orca_term.specs.declared.forms.Step.{Step}
 use Rattle.orca_term.specs.declared.forms.Step.TheVariants.{Goes, Gives, Breaks}
-use Rattle.orca_term.specs.declared.limits.TheConstants.{FORM_DIGITS}
-
--- ESC [, which begins a form with numbers
-abbrev pub introducer : List ℕ
-introducer = 27 ∷ 91 ∷ []
+use Rattle.orca_term.specs.declared.limits.TheConstants.{FORM_DIGITS, MAX_STYLE}
 
 -- the bytes of a form, with its numbers in decimal digits
 abbrev pub bytes_of_form : Form → List ℕ
-bytes_of_form (GoTo row column) = introducer ++ decimal row ++ codes ";" ++ decimal column ++ codes "H"
-bytes_of_form (Style style) = introducer ++ decimal style ++ codes "m"
+bytes_of_form (GoTo row column) = introducer ++ decimal row ++ semicolon ∷ [] ++ decimal column ++ letter_h ∷ []
+bytes_of_form (Style style) = introducer ++ decimal style ++ letter_m ∷ []
 bytes_of_form (Show byte) = byte ∷ []
 
 -- the bytes of forms, one after another
@@ -48,19 +45,19 @@ continues number byte = is_digit byte && nat_lt number.digits FORM_DIGITS
 abbrev pub read_first : Number → ℕ → Step
 read_first number byte =
     if continues number byte then Goes (First (more number byte))
-    else (if byte == 59 && nat_le 1 number.value then Goes (Second number.value no_digits)
-    else (if byte == 109 && nat_le 1 number.digits && nat_le number.value 255 then Gives (Style number.value) else Breaks))
+    else (if byte == semicolon && nat_le 1 number.value then Goes (Second number.value no_digits)
+    else (if byte == letter_m && nat_le 1 number.digits && nat_le number.value MAX_STYLE then Gives (Style number.value) else Breaks))
 
 -- a byte after ESC [, a row, `;` and a number: a digit more, or the end of a column
 abbrev pub read_second : ℕ → Number → ℕ → Step
 read_second row number byte =
     if continues number byte then Goes (Second row (more number byte))
-    else (if byte == 72 && nat_le 1 number.value then Gives (GoTo row number.value) else Breaks)
+    else (if byte == letter_h && nat_le 1 number.value then Gives (GoTo row number.value) else Breaks)
 
 -- what a byte makes of what was read of a form
 unfoldable pub read : Reading → ℕ → Step
 read Ready byte = if byte == escape then Goes Escaped else (if is_shown byte then Gives (Show byte) else Breaks)
-read Escaped byte = if byte == 91 then Goes (First no_digits) else Breaks
+read Escaped byte = if byte == bracket then Goes (First no_digits) else Breaks
 read (First number) byte = read_first number byte
 read (Second row number) byte = read_second row number byte
 

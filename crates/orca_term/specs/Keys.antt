@@ -4,6 +4,7 @@ use Rattle.std.specs.Option.{option_to_list}
 use Rattle.orca_base.specs.Ascii.{escape}
 use Rattle.orca_base.specs.Glyphs.{is_glyph}
 use Rattle.orca_base.specs.declared.limits.TheConstants.{SEQUENCE_BYTES}
+use Rattle.orca_term.specs.Codes.{bracket, semicolon}
 use Rattle.orca_term.specs.declared.keys.Key.{Key}
 use Rattle.orca_term.specs.declared.keys.Key.TheVariants as key
 use Rattle.orca_term.specs.declared.keys.Pending.{Pending}
@@ -40,7 +41,7 @@ key_of byte = if is_glyph byte then Some (key.Glyph byte) else key_in lone_keys 
 -- the key of a sequence, by the bytes between ESC [ and its last byte, and by that
 unfoldable pub key_of_sequence : List ℕ → ℕ → Option Key
 key_of_sequence [] last = key_in arrow_keys last
-key_of_sequence (a ∷ b ∷ c ∷ []) last = if a == 49 && b == 59 && c == 50 then key_in shifted_keys last else None
+key_of_sequence (a ∷ b ∷ c ∷ []) last = if a == 49 && b == semicolon && c == 50 then key_in shifted_keys last else None
 key_of_sequence _ last = None
 
 -- the key of what is pending where it ends in such a byte: a sequence with too many bytes has none
@@ -52,10 +53,6 @@ key_at_end _ last = None
 abbrev pub collected : Pending → ℕ → Pending
 collected (Sequence bytes) byte = if nat_lt (length bytes) SEQUENCE_BYTES then Sequence (bytes ++ byte ∷ []) else Overlong
 collected p byte = p
-
--- `[`, which makes a sequence of an ESC
-abbrev pub bracket : ℕ
-bracket = 91
 
 -- the bytes that a sequence collects
 abbrev pub is_collected : ℕ → Bool

@@ -1,3 +1,4 @@
+pub mod Codes
 pub mod Editing
 pub mod Forms
 pub mod Keys

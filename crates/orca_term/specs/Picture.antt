@@ -16,6 +16,7 @@ use Rattle.orca_term.specs.RuleNames.{rule_name}
 use Rattle.orca_term.specs.declared.cell.Cell.{Cell}
 use Rattle.orca_term.specs.declared.cell.ScreenSize.{ScreenSize}
 use Rattle.orca_term.specs.declared.editor.Editor.{Editor}
+use Rattle.orca_term.specs.declared.limits.TheConstants.{MAX_STYLE}
 use Rattle.orca_term.specs.declared.status.StatusLine.{StatusLine}
 
 -- the sizes that a screen may have
@@ -61,7 +62,7 @@ IsPrintableByte byte = (space ≤ byte) × (byte ≤ 126)
 -- a cell that a terminal can show: a printable byte, and a style of one byte
 pub record IsPrintable (cell : Cell) : Type 0 where
   pub byte : IsPrintableByte cell.byte
-  pub style : cell.style ≤ 255
+  pub style : cell.style ≤ MAX_STYLE
 
 -- a space without a style
 abbrev pub blank : Cell

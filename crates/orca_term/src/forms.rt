@@ -4,7 +4,7 @@ ghost use Rattle.std.specs.Prelude.{◌≡◌, ◌<◌, IsTrue};
 ghost use Rattle.orca_base.specs.Glyphs.{is_digit};
 ghost use Rattle.orca_term.specs.Forms.{IsNumber, IsReading, GoesOn, more, read_first, read_second, read};
 
-use crate::limits::FORM_DIGITS;
+use crate::limits::{FORM_DIGITS, MAX_STYLE};
 
 /// What a terminal reads as one.
 #[derive(Clone, Copy, Debug, PartialEq, Eq)]
@@ -94,7 +94,7 @@ fn read_first(number: Number, byte: u8) -> Step
     }
     match byte {
         b';' if number.value >= 1 => Step::Goes(Reading::Second(number.value, NONE)),
-        b'm' if number.digits >= 1 && number.value <= u16::from(u8::MAX) => {
+        b'm' if number.digits >= 1 && number.value <= u16::from(MAX_STYLE) => {
             Step::Gives(Form::Style(number.value as u8))
         }
         _ => Step::Breaks,

@@ -1,7 +1,8 @@
 //! The keys of a terminal, by the bytes that it sends.
 
-ghost use Rattle.std.specs.Prelude.{◌≡◌};
-ghost use Rattle.orca_term.specs.Keys.{key_of, key_of_sequence, key_at_end as key_of_end, collected, awaits, key_in, arrow_keys, shifted_keys, turn, turn_outside, turn_after_escape, turn_inside, Byte, Due};
+ghost use Rattle.std.specs.Prelude.{◌≡◌, ◌∷◌, ◌++◌, List};
+ghost use Rattle.std.specs.Option.{option_to_list};
+ghost use Rattle.orca_term.specs.Keys.{key_of, key_of_sequence, key_at_end as key_of_end, collected, awaits, key_in, arrow_keys, shifted_keys, turn, turn_outside, turn_after_escape, turn_inside, keys_from, Item, Byte, Due};
 
 use orca_base::limits::SEQUENCE_BYTES;
 use orca_base::{Glyph, Inline};
@@ -109,10 +110,12 @@ impl Keys {
     }
 
     /// Reads a byte, and gives the key that it ends, if any.
-    #[tactic(auto, unfolding(crate::specs::Keys::turn))]
+    #[tactic(auto, unfolding(crate::specs::Keys::turn, crate::specs::Keys::keys_from))]
     pub fn feed(&mut self, byte: u8) -> Option<Key>
         ensures key { result ≡ (turn self.old (Byte byte)).key }
         ensures pending { self.new ≡ (turn self.old (Byte byte)).pending }
+        ensures keys { (items : List Item) → keys_from self.old (Byte byte ∷ items)
+            ≡ option_to_list result ++ keys_from self.new items }
     {
         let turn = match self.pending {
             Pending::Nothing => read_outside(byte),
@@ -125,10 +128,12 @@ impl Keys {
 
     /// Nothing came for a while: an ESC that stands alone is the escape key. A sequence that has begun
     /// stays.
-    #[tactic(auto, unfolding(crate::specs::Keys::turn))]
+    #[tactic(auto, unfolding(crate::specs::Keys::turn, crate::specs::Keys::keys_from))]
     pub fn due(&mut self) -> Option<Key>
         ensures key { result ≡ (turn self.old Due).key }
         ensures pending { self.new ≡ (turn self.old Due).pending }
+        ensures keys { (items : List Item) → keys_from self.old (Due ∷ items)
+            ≡ option_to_list result ++ keys_from self.new items }
     {
         match self.pending {
             Pending::Lone => {

@@ -17,3 +17,6 @@ pub const ROW_BYTES: usize = 2 + FORM_DIGITS + 3 + 4;
 
 /// The most bytes of a painted cell: `ESC [ 0 m`, `ESC [ style m` and the byte.
 pub const CELL_BYTES: usize = 4 + 3 + FORM_DIGITS + 1;
+
+/// The greatest style of a form that a terminal reads.
+pub const MAX_STYLE: u8 = u8::MAX;

@@ -1,6 +1,7 @@
 use Rattle.std.proofs.Common.{◌≡◌, ◌+◌, ◌++◌, [], ◌∷◌, sym, ap, ◌∙◌, refl, arith, append_assoc}
 use Rattle.std.specs.Fmt.{decimal}
-use Rattle.orca_term.specs.Forms.{introducer, bytes_of}
+use Rattle.orca_term.specs.Forms.{bytes_of}
+use Rattle.orca_term.specs.Codes.{introducer}
 use Rattle.orca_term.specs.Painting.{painted_cells}
 use Rattle.orca_term.proofs.PaintingBytes.{plain_bytes, cell_more, cells_all, painted_row-bytes, joined}
 use Rattle.orca_term.proofs.painting.paint_row.Goals as goal

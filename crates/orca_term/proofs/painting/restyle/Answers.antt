@@ -2,7 +2,7 @@ use Rattle.std.proofs.Common.{[], ◌∷◌, sym, ap, ◌∙◌, refl}
 use Rattle.std.proofs.lemmas.List.{append-nil}
 use Rattle.orca_term.proofs.PaintingBytes.{restyled-same, restyled-plain, restyled-new, plain_bytes, joined}
 use Rattle.std.specs.Fmt.{decimal}
-use Rattle.orca_term.specs.Forms.{introducer}
+use Rattle.orca_term.specs.Codes.{introducer}
 use Rattle.orca_term.proofs.painting.restyle.Goals as goal
 
 pub returns-then-old-new-clause-style : goal.returns-then-old-new-clause-style
