@@ -29,9 +29,9 @@ all_same d old cells old_whole whole same =
 append-parts : {A : Type 0} (xs ys : List A) → xs ++ ys ≡ [] → (xs ≡ []) × (ys ≡ [])
 append-parts [] ys e = (refl, e)
 append-parts (x ∷ xs) ys e = absurd (elim_cons x (xs ++ ys) e)
- where
-  elim_cons : {A : Type 0} (x : A) (xs : List A) → x ∷ xs ≡ [] → ⊥
-  elim_cons x xs e = cc
+  where
+    elim_cons : {A : Type 0} (x : A) (xs : List A) → x ∷ xs ≡ [] → ⊥
+    elim_cons x xs e = cc
 
 -- no forms at all come from no forms of each
 each_none : {A : Type 0} (f : ℕ → List A) (a n : ℕ) → flat_map f (range_with_len a n) ≡ [] → (y : ℕ) → y < n → f (a + y) ≡ []

@@ -44,9 +44,9 @@ step-append Breaks a b forms rest e = cc
 forms-append : (a b : List ℕ) (r : Reading) (forms : List Form) → forms_from r a ≡ Some forms → forms_from r (a ++ b) ≡ Follows forms b
 unfolding forms_from
 forms-append [] b Ready forms e = nothing_first (forms_of b) ∙ ap (λ fs. Follows fs b) (ready_none forms e)
- where
-  ready_none : (forms : List Form) → Some [] ≡ Some forms → [] ≡ forms
-  ready_none forms e = cc
+  where
+    ready_none : (forms : List Form) → Some [] ≡ Some forms → [] ≡ forms
+    ready_none forms e = cc
 forms-append [] b Escaped forms e = cc
 forms-append [] b (First number) forms e = cc
 forms-append [] b (Second row number) forms e = cc
@@ -59,10 +59,10 @@ unfolding after_form
 size-after_form t (GoTo row column) = (refl, refl)
 size-after_form t (Style style) = (refl, refl)
 size-after_form t (Show byte) = by_place (is_on_cell t)
- where
-  by_place : (b : Bool) → ((cond b (with_byte t byte) t).size ≡ t.size) × (length (cond b (with_byte t byte) t).cells ≡ length t.cells)
-  by_place true = (refl, length-set t.cells _ _)
-  by_place false = (refl, refl)
+  where
+    by_place : (b : Bool) → ((cond b (with_byte t byte) t).size ≡ t.size) × (length (cond b (with_byte t byte) t).cells ≡ length t.cells)
+    by_place true = (refl, length-set t.cells _ _)
+    by_place false = (refl, refl)
 
 size-after : (t : Terminal) (forms : List Form) → ((after_forms t forms).size ≡ t.size) × (length (after_forms t forms).cells ≡ length t.cells)
 unfolding after_forms
@@ -71,6 +71,9 @@ size-after t (form ∷ forms) =
     let one = size-after_form t form in
     let rest = size-after (after_form t form) forms in
     (rest.0 ∙ one.0, rest.1 ∙ one.1)
+
+pub size-after_bytes : (t : Terminal) (bytes : List ℕ) → (after_bytes t bytes).size ≡ t.size
+size-after_bytes t bytes = (size-after t (unwrap_or (forms_of bytes) [])).0
 
 -- two cells are the same where the test says so
 cell_same : (a b : Cell) → Decides (is_same_cell a b) (a ≡ b)

@@ -87,7 +87,7 @@ numbered at takes n low =
       | inr more_than_one ↦ elim (cases_lt n 100) [
         | inl two ↦ (2, numbered-two at takes n more_than_one two)
         | inr three ↦
-          (3, numbered-more at takes n 2 more_than_one low (numbered-two at takes (n / 10) (omega arith) (omega arith)) (omega arith))
+            (3, numbered-more at takes n 2 more_than_one low (numbered-two at takes (n / 10) (omega arith) (omega arith)) (omega arith))
       ]
     ]
 
@@ -132,9 +132,9 @@ form-read (GoTo row column) valid bytes =
     ∙ (stepped _ _ 59 (decimal column ++ 72 ∷ bytes) (ends_row first.0 row valid.0)
     ∙ (second.1.reads (72 ∷ bytes)
     ∙ given _ (GoTo row column) 72 bytes (ends_column row second.0 column valid.2)))))
- where
-  grouped : (a b c d e : List ℕ) → (((a ++ b) ++ c) ++ d) ++ e ≡ a ++ (b ++ (c ++ (d ++ e)))
-  grouped a b c d e = simp append_assoc
+  where
+    grouped : (a b c d e : List ℕ) → (((a ++ b) ++ c) ++ d) ++ e ≡ a ++ (b ++ (c ++ (d ++ e)))
+    grouped a b c d e = simp append_assoc
 
 -- the bytes of forms are read as these forms
 pub forms-read : (forms : List Form) → AllByRecursion IsForm forms → forms_of (bytes_of forms) ≡ Some forms
@@ -142,4 +142,3 @@ unfolding bytes_of forms_from
 forms-read [] valid = refl
 forms-read (form ∷ forms) valid =
     form-read form valid.0 (bytes_of forms) ∙ ap (option_map (λ rest. form ∷ rest)) (forms-read forms valid.1)
-

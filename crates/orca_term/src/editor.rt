@@ -70,10 +70,7 @@ impl Editor {
     {
         let (y, x) = (u32::from(at.y), u32::from(at.x));
         let (top, left) = (u32::from(self.y), u32::from(self.x));
-        top <= y
-            && y < top + u32::from(self.h)
-            && left <= x
-            && x < left + u32::from(self.w)
+        top <= y && y < top + u32::from(self.h) && left <= x && x < left + u32::from(self.w)
     }
 
     /// Cuts the selection to the grid.

@@ -21,3 +21,6 @@ pub use pacer::Pacer;
 pub use screen::Screen;
 pub use status::{StatusLine, rule_name};
 pub use view::View;
+
+#[cfg(test)]
+mod tests;

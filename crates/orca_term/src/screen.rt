@@ -52,7 +52,8 @@ impl Screen {
     /// Reads bytes, which are a sequence of whole forms.
     pub fn show(&mut self, bytes: &[u8])
         requires { IsWhole bytes.now }
-        ensures { self.new ≡ after_bytes self.old bytes.now }
+        ensures shown { self.new ≡ after_bytes self.old bytes.now }
+        ensures size { self.new.size ≡ self.old.size }
     {
         let mut reading = Reading::Ready;
         for byte in bytes {

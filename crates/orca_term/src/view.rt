@@ -10,9 +10,7 @@ use crate::limits::{CELL_BYTES, ROW_BYTES};
 use crate::painting::paint_rows;
 use crate::picture::{BLANK, draw};
 use crate::{Cell, Editor, ScreenSize, StatusLine};
-use orca_base::limits::{
-    MAX_SCREEN_COLUMNS, MAX_SCREEN_ROWS, MIN_SCREEN_COLUMNS, MIN_SCREEN_ROWS,
-};
+use orca_base::limits::{MAX_SCREEN_COLUMNS, MAX_SCREEN_ROWS, MIN_SCREEN_COLUMNS, MIN_SCREEN_ROWS};
 use orca_base::{Look, Memory};
 use std::alloc::Global;
 use std::marker::Model;
@@ -87,29 +85,27 @@ impl View {
     /// one, from the first row down, and all rows at the first call. They are whole forms that the small
     /// terminal reads.
     pub fn paint<T: Look>(&mut self, look: &T, editor: &Editor, line: &StatusLine) -> &[u8]
-        ensures painting {
-            let scene = scene_of (T.sheet look.now) (T.marks look.now) editor.now in
+        ensures painting { let scene = scene_of (T.sheet look.now) (T.marks look.now) editor.now in
             let cells = picture self.old.size scene line.now in
             result.now ≡ painting_bytes self.old.size self.old.last cells }
 
         ensures whole { IsWhole result.now }
 
         // No bytes exactly where the picture is the last one.
-        ensures same {
-            let scene = scene_of (T.sheet look.now) (T.marks look.now) editor.now in
+        ensures same { let scene = scene_of (T.sheet look.now) (T.marks look.now) editor.now in
             (result.now ≡ []) ↔ (self.old.last ≡ Some (picture self.old.size scene line.now)) }
 
         // A small terminal that was sent all paintings so far shows the new picture after this one.
-        ensures shows {
-            let scene = scene_of (T.sheet look.now) (T.marks look.now) editor.now in
+        ensures shows { let scene = scene_of (T.sheet look.now) (T.marks look.now) editor.now in
             let cells = picture self.old.size scene line.now in
             (sent : List ℕ) → Shows self.old.size sent self.old.last
-                → Shows self.old.size (sent ++ result.now) (Some cells) }
+            → Shows self.old.size (sent ++ result.now) (Some cells) }
 
         ensures* kept { sem 𝓛 (Rests self.entry (λ new. new ≡ record {
-            size = self.old.size;
-            last = Some (picture self.old.size (scene_of (T.sheet look.now) (T.marks look.now) editor.now) line.now);
-            bytes = result.now })) }
+          size = self.old.size;
+          last = Some (picture self.old.size (scene_of (T.sheet look.now) (T.marks look.now) editor.now) line.now);
+          bytes = result.now;
+        })) }
     {
         self.repaint(look, editor, line);
         self.bytes()
@@ -117,25 +113,23 @@ impl View {
 
     /// Makes the picture, and its painting after the last one.
     fn repaint<T: Look>(&mut self, look: &T, editor: &Editor, line: &StatusLine)
-        ensures kept {
-            let scene = scene_of (T.sheet look.now) (T.marks look.now) editor.now in
+        ensures kept { let scene = scene_of (T.sheet look.now) (T.marks look.now) editor.now in
             let cells = picture self.old.size scene line.now in
             self.new ≡ record {
-                size = self.old.size;
-                last = Some cells;
-                bytes = painting_bytes self.old.size self.old.last cells } }
+              size = self.old.size;
+              last = Some cells;
+              bytes = painting_bytes self.old.size self.old.last cells;
+            } }
 
         ensures whole { IsWhole self.new.bytes }
 
-        ensures same {
-            let scene = scene_of (T.sheet look.now) (T.marks look.now) editor.now in
+        ensures same { let scene = scene_of (T.sheet look.now) (T.marks look.now) editor.now in
             (self.new.bytes ≡ []) ↔ (self.old.last ≡ Some (picture self.old.size scene line.now)) }
 
-        ensures shows {
-            let scene = scene_of (T.sheet look.now) (T.marks look.now) editor.now in
+        ensures shows { let scene = scene_of (T.sheet look.now) (T.marks look.now) editor.now in
             let cells = picture self.old.size scene line.now in
             (sent : List ℕ) → Shows self.old.size sent self.old.last
-                → Shows self.old.size (sent ++ self.new.bytes) (Some cells) }
+            → Shows self.old.size (sent ++ self.new.bytes) (Some cells) }
     {
         draw(&mut self.next, self.size, look, editor, line);
         let last = self.painted.then_some(self.last.as_slice());

@@ -19,17 +19,17 @@ loop-y-preserved c =
     let more = rows_more (painted_at d last cells) c.loop-y.y in
     elim c.if-is_painted.branch [
       | then-is_painted w ↦
-        let painted = cond-true _ (painted_row c.loop-y.y (row_of d cells c.loop-y.y)) [] (sym c.is_painted.ensures ∙ w.if-is_painted.true) in
-        record {
-          bytes = rw (w.bytes-is, w.paint_row.ensures.row, w.row_of.ensures.row, c.loop-y.invariant.bytes, more, painted) refl;
-          short = rw w.bytes-is (omega arith);
-          room = rw w.bytes-is (omega arith);
-        }
+          let painted = cond-true _ (painted_row c.loop-y.y (row_of d cells c.loop-y.y)) [] (sym c.is_painted.ensures ∙ w.if-is_painted.true) in
+          record {
+            bytes = rw (w.bytes-is, w.paint_row.ensures.row, w.row_of.ensures.row, c.loop-y.invariant.bytes, more, painted) refl;
+            short = rw w.bytes-is (omega arith);
+            room = rw w.bytes-is (omega arith);
+          }
       | else-is_painted w ↦
-        let kept = cond-false _ (painted_row c.loop-y.y (row_of d cells c.loop-y.y)) [] (sym c.is_painted.ensures ∙ w.if-is_painted.false) in
-        record {
-          bytes = rw (w.bytes-is, c.loop-y.invariant.bytes, more, kept, bytes_of-nil) (sym (append-nil _));
-          short = rw w.bytes-is (omega arith);
-          room = rw w.bytes-is (omega arith);
-        }
+          let kept = cond-false _ (painted_row c.loop-y.y (row_of d cells c.loop-y.y)) [] (sym c.is_painted.ensures ∙ w.if-is_painted.false) in
+          record {
+            bytes = rw (w.bytes-is, c.loop-y.invariant.bytes, more, kept, bytes_of-nil) (sym (append-nil _));
+            short = rw w.bytes-is (omega arith);
+            room = rw w.bytes-is (omega arith);
+          }
     ]

@@ -2,6 +2,7 @@ use Rattle.std.proofs.Common.{◌≡◌, ◌+◌, ◌<◌, ◌∷◌, ℕ, List,
 use Rattle.std.proofs.lemmas.List.{drop_more, drop_all}
 use Rattle.orca_term.specs.Terminal.{Terminal, after_bytes}
 use Rattle.orca_term.specs.declared.forms.Reading.{Reading}
+use Rattle.orca_term.proofs.Sent.{size-after_bytes}
 use Rattle.orca_term.proofs.Showing.{LeadsTo, starts, goes, gives, breaks, done}
 use Rattle.orca_term.proofs.screen.Screen.show.Goals as goal
 use Rattle.orca_term.proofs.screen.Screen.show.Goals.{in-Goes, in-Gives}
@@ -26,18 +27,19 @@ loop-byte-preserved c =
     let leads = at_byte t end c.loop-byte.reading c.args.bytes.now c.loop-byte.byte-index (omega arith) c.loop-byte.invariant.leads in
     elim c.match-read.branch [
       | in-Goes w ↦
-        rw (w.reading-is, w.self-is) (record {
-          reading = w.in-Goes.ensures.goes_on;
-          leads = goes t end c.loop-byte.reading w.in-Goes.next _ _ (sym c.read.ensures.step ∙ w.in-Goes.is) leads;
-        })
+          rw (w.reading-is, w.self-is) (record {
+            reading = w.in-Goes.ensures.goes_on;
+            leads = goes t end c.loop-byte.reading w.in-Goes.next _ _ (sym c.read.ensures.step ∙ w.in-Goes.is) leads;
+          })
       | in-Gives w ↦
-        rw (w.reading-is, w.self-is, w.follow.ensures) (record {
-          reading = tt;
-          leads = gives t end c.loop-byte.reading w.in-Gives.form _ _ (sym c.read.ensures.step ∙ w.in-Gives.is) leads;
-        })
+          rw (w.reading-is, w.self-is, w.follow.ensures) (record {
+            reading = tt;
+            leads = gives t end c.loop-byte.reading w.in-Gives.form _ _ (sym c.read.ensures.step ∙ w.in-Gives.is) leads;
+          })
     ]
 
 pub returns : goal.returns
 returns c =
     let end = after_bytes c.args.self.now c.args.bytes.now in
-    done c.loop-byte.self end c.loop-byte.reading (subst (λ left. LeadsTo c.loop-byte.self c.loop-byte.reading left end) (drop_all c.loop-byte.byte-index c.args.bytes.now (omega arith)) c.loop-byte.invariant.leads)
+    let shown : c.loop-byte.self ≡ end = done c.loop-byte.self end c.loop-byte.reading (subst (λ left. LeadsTo c.loop-byte.self c.loop-byte.reading left end) (drop_all c.loop-byte.byte-index c.args.bytes.now (omega arith)) c.loop-byte.invariant.leads) in
+    record { shown = shown; size = ap (λ (t : Terminal). t.size) shown ∙ size-after_bytes c.args.self.now c.args.bytes.now }
