@@ -3,7 +3,7 @@ use Rattle.std.proofs.Common.{ℕ, ◌/◌, ◌<◌, ◌≤◌, ◌^◌, length,
 use Rattle.std.specs.Fmt.{decimal}
 use Rattle.std.proofs.lemmas.Fmt.{length-decimal-le}
 use Rattle.orca_base.specs.declared.limits.TheConstants.{MAX_DIGITS}
-use Rattle.orca_term.specs.declared.limits.TheConstants.{FORM_DIGITS, MAX_STYLE}
+use Rattle.orca_term.specs.declared.limits.TheConstants.{FORM_DIGITS}
 
 -- a number of 32 bits
 pub decimal_short : (n : ℕ) → n < 2 ^ 32 → length (decimal n) ≤ MAX_DIGITS

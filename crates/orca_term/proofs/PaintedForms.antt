@@ -1,15 +1,15 @@
 -- The forms of a painting are forms that a terminal reads.
-use Rattle.std.proofs.Common.{◌≡◌, ◌==◌, ℕ, zero, suc, ◌+◌, ◌*◌, ◌^◌, ◌<◌, ◌≤◌, Bool, true, false, cond, Option, Some, None, List, [], ◌∷◌, ◌++◌, length, take, drop, refl, sym, ap, ◌∙◌, arith, add-one}
+use Rattle.std.proofs.Common.{◌≡◌, ◌==◌, ℕ, zero, suc, ◌+◌, ◌*◌, ◌^◌, ◌<◌, ◌≤◌, Bool, true, false, cond, Option, Some, List, [], ◌∷◌, ◌++◌, drop, arith}
 use Rattle.std.specs.List.{All, AllByRecursion, flat_map, range_with_len}
 use Rattle.std.proofs.lemmas.List.Elements.{All-take, All-drop, recursion_from_All}
-use Rattle.orca_term.specs.Forms.{forms_of, bytes_of}
+use Rattle.orca_term.specs.Forms.{forms_of}
 use Rattle.orca_term.specs.Painting.{row_of, is_painted, restyled, painted_cells, painted_row, painted_at, painting}
-use Rattle.orca_term.specs.Picture.{IsPrintable, IsScreen, screen_cells}
+use Rattle.orca_term.specs.Picture.{IsPrintable, IsScreen}
 use Rattle.orca_term.specs.Viewing.{painting_bytes}
 use Rattle.orca_term.specs.declared.cell.Cell.{Cell}
 use Rattle.orca_term.specs.declared.cell.ScreenSize.{ScreenSize}
 use Rattle.orca_term.specs.declared.forms.Form.{Form}
-use Rattle.orca_term.specs.declared.forms.Form.TheVariants.{GoTo, Style, Show}
+use Rattle.orca_term.specs.declared.forms.Form.TheVariants.{Style, Show}
 use Rattle.orca_term.specs.declared.limits.TheConstants.{FORM_DIGITS, MAX_STYLE}
 use Rattle.orca_term.proofs.WholeForms.{IsForm, forms-read}
 

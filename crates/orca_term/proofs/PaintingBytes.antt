@@ -9,7 +9,7 @@ use Rattle.std.proofs.lemmas.Grind.{flat_map-append}
 use Rattle.orca_term.specs.Codes.{introducer}
 use Rattle.orca_term.specs.Forms.{bytes_of, bytes_of_form}
 use Rattle.orca_term.specs.declared.forms.Form.{Form}
-use Rattle.orca_term.specs.declared.forms.Form.TheVariants.{GoTo, Style, Show}
+use Rattle.orca_term.specs.declared.forms.Form.TheVariants.{Style, Show}
 use Rattle.orca_term.specs.Painting.{restyled, painted_cells, painted_row}
 use Rattle.orca_term.specs.declared.cell.Cell.{Cell}
 

@@ -1,10 +1,9 @@
 -- What a painting makes of a terminal.
-use Rattle.std.proofs.Common.{◌≡◌, ℕ, zero, suc, ◌+◌, ◌-◌, ◌*◌, ◌<◌, ◌≤◌, Bool, true, false, not, Option, Some, None, List, [], ◌∷◌, ◌++◌, length, take, drop, set, inl, inr, refl, sym, ap, ◌∙◌, subst, arith, add-one, append_assoc}
-use Rattle.std.specs.Cmp.Lexicographic.{pointwise}
-use Rattle.std.specs.List.{flat_map, range_with_len, fold}
+use Rattle.std.proofs.Common.{◌≡◌, ℕ, zero, suc, ◌+◌, ◌-◌, ◌*◌, ◌<◌, ◌≤◌, Bool, true, false, Option, List, [], ◌∷◌, ◌++◌, length, take, drop, set, inl, inr, refl, sym, ap, ◌∙◌, arith, add-one, append_assoc}
+use Rattle.std.specs.List.{flat_map, range_with_len}
 use Rattle.std.proofs.Math.Seq.{take-add}
 use Rattle.std.proofs.lemmas.Bool.{cases_eq, eq-eqb, ne_eqb, and_from, lt-ltb, cond-true, cond-false}
-use Rattle.std.proofs.lemmas.List.{append-nil, set_at, take_all, drop_all, take-append-drop, drop-drop, length-take-le, length-drop, length_push, take_at, drop_at, nil_from_length}
+use Rattle.std.proofs.lemmas.List.{append-nil, set_at, take_all, drop_all, take-append-drop, drop-drop, length-take-le, length-drop, length_push, nil_from_length}
 use Rattle.std.proofs.lemmas.List.Sums.{fold-append}
 use Rattle.std.proofs.lemmas.Nat.{rows}
 use Rattle.orca_term.specs.Painting.{row_of, is_painted, restyled, painted_cells, painted_row, painted_at, painting}
@@ -13,7 +12,7 @@ use Rattle.orca_term.specs.Terminal.{Terminal, after_form, after_forms, with_byt
 use Rattle.orca_term.specs.declared.cell.Cell.{Cell}
 use Rattle.orca_term.specs.declared.cell.ScreenSize.{ScreenSize}
 use Rattle.orca_term.specs.declared.forms.Form.{Form}
-use Rattle.orca_term.specs.declared.forms.Form.TheVariants.{GoTo, Style, Show}
+use Rattle.orca_term.specs.declared.forms.Form.TheVariants.{Show}
 use Rattle.orca_term.proofs.PaintingBytes.{flat_map-range}
 
 -- the terminal has this size and these cells

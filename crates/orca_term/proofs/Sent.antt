@@ -1,5 +1,5 @@
 -- Paintings that are sent one after another.
-use Rattle.std.proofs.Common.{◌≡◌, ℕ, ◌+◌, ◌*◌, ◌<◌, ◌≤◌, Bool, true, false, not, cond, Option, Some, None, List, [], ◌∷◌, ◌++◌, length, replicate, set, refl, sym, ap, ◌∙◌, arith}
+use Rattle.std.proofs.Common.{◌≡◌, ℕ, Bool, true, false, cond, Option, Some, None, List, [], ◌∷◌, ◌++◌, length, replicate, refl, sym, ap, ◌∙◌}
 use Rattle.std.specs.Bool.{Decides}
 use Rattle.std.specs.Cmp.Lexicographic.{pointwise}
 use Rattle.std.specs.Option.{option_map, unwrap_or, is_some}
@@ -9,7 +9,7 @@ use Rattle.std.proofs.lemmas.Slice.Eq.{slice_eq-Decides}
 use Rattle.orca_term.specs.Forms.{read, forms_after, forms_from, forms_of}
 use Rattle.orca_term.specs.Painting.{painting, is_painted, is_same_cell, row_of}
 use Rattle.orca_term.specs.Picture.{blank, screen_cells}
-use Rattle.orca_term.specs.Terminal.{Terminal, fresh, is_on_cell, with_byte, after_form, after_forms, after_bytes, shown, IsWhole}
+use Rattle.orca_term.specs.Terminal.{Terminal, fresh, is_on_cell, with_byte, after_form, after_forms, after_bytes}
 use Rattle.orca_term.specs.Viewing.{painting_bytes, Shows}
 use Rattle.orca_term.specs.declared.cell.Cell.{Cell}
 use Rattle.orca_term.specs.declared.cell.ScreenSize.{ScreenSize}

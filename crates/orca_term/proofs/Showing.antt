@@ -1,11 +1,10 @@
 -- What a terminal reads byte by byte.
-use Rattle.std.proofs.Common.{◌≡◌, ℕ, true, false, Option, Some, None, List, [], ◌∷◌, ◌++◌, refl, sym, ap, ◌∙◌}
+use Rattle.std.proofs.Common.{◌≡◌, ℕ, Option, Some, None, List, [], ◌∷◌, refl, sym, ap, ◌∙◌}
 use Rattle.std.specs.Option.{IsSome, option_map, unwrap_or}
 use Rattle.std.proofs.lemmas.Bool.{false≢true}
 use Rattle.orca_term.specs.declared.forms.Form.{Form}
 use Rattle.orca_term.specs.declared.forms.Reading.{Reading}
 use Rattle.orca_term.specs.declared.forms.Reading.TheVariants.{Ready, Escaped, First, Second}
-use Rattle.orca_term.specs.declared.forms.Step.{Step}
 use Rattle.orca_term.specs.declared.forms.Step.TheVariants.{Goes, Gives, Breaks}
 use Rattle.orca_term.specs.Forms.{read, forms_after, forms_from, forms_of}
 use Rattle.orca_term.specs.Terminal.{Terminal, after_form, after_forms, after_bytes, IsWhole}

@@ -1,8 +1,7 @@
 -- A view after one more painting.
-use Rattle.std.proofs.Common.{◌≡◌, ◌↔◌, ◌≤◌, ℕ, Bool, true, false, cond, Option, Some, None, List, [], ◌∷◌, ◌++◌, length, refl, sym, ap, ◌∙◌, subst, arith}
+use Rattle.std.proofs.Common.{◌≡◌, ◌↔◌, ℕ, Bool, true, false, cond, Option, Some, None, List, [], ◌++◌, length, sym, ap, ◌∙◌, subst, arith}
 use Rattle.std.specs.List.{All}
 use Rattle.std.specs.Option.{IfSome, is_some}
-use Rattle.orca_term.specs.Painting.{painting}
 use Rattle.orca_term.specs.Picture.{IsPrintable, IsScreen, screen_cells}
 use Rattle.orca_term.specs.Terminal.{IsWhole}
 use Rattle.orca_term.specs.Viewing.{Seen, painting_bytes, Shows}

@@ -1,22 +1,18 @@
 -- The bytes of forms are read as these forms.
-use Rattle.std.proofs.Common.{◌≡◌, ℕ, zero, suc, ◌+◌, ◌-◌, ◌*◌, ◌/◌, ◌%◌, ◌^◌, ◌<◌, ◌≤◌, Bool, true, false, Option, Some, None, List, [], ◌∷◌, ◌++◌, inl, inr, refl, sym, ap, ◌∙◌, arith, zero-add, append_assoc}
+use Rattle.std.proofs.Common.{◌≡◌, ℕ, ◌+◌, ◌-◌, ◌*◌, ◌/◌, ◌%◌, ◌^◌, ◌<◌, ◌≤◌, true, Some, List, [], ◌∷◌, ◌++◌, inl, inr, refl, ap, ◌∙◌, arith, zero-add, append_assoc}
 use Rattle.std.specs.Fmt.{decimal}
 use Rattle.std.specs.List.{AllByRecursion}
 use Rattle.std.specs.Option.{option_map}
-use Rattle.std.proofs.lemmas.Bool.{cases_lt, and_from, lt-ltb, le-leb, cond-true, cond-false, ne_eqb, eq-eqb}
+use Rattle.std.proofs.lemmas.Bool.{cases_lt, and_from, lt-ltb, le-leb, cond-true, cond-false, ne_eqb}
 use Rattle.std.proofs.lemmas.Fmt.{decimal_digit, decimal_step}
-use Rattle.std.proofs.lemmas.List.{append-nil}
-use Rattle.orca_term.specs.Forms.{bytes_of, bytes_of_form, is_shown, no_digits, more, continues, read_first, read_second, read, forms_after, forms_from, forms_of}
-use Rattle.orca_term.specs.Terminal.{Terminal, after_forms, after_bytes}
+use Rattle.orca_term.specs.Forms.{bytes_of, bytes_of_form, no_digits, more, continues, read, forms_after, forms_from, forms_of}
 use Rattle.orca_term.specs.declared.forms.Form.{Form}
 use Rattle.orca_term.specs.declared.forms.Form.TheVariants.{GoTo, Style, Show}
 use Rattle.orca_term.specs.declared.forms.Number.{Number}
 use Rattle.orca_term.specs.declared.forms.Reading.{Reading}
 use Rattle.orca_term.specs.declared.forms.Reading.TheVariants.{Ready, Escaped, First, Second}
-use Rattle.orca_term.specs.declared.forms.Step.{Step}
-use Rattle.orca_term.specs.declared.forms.Step.TheVariants.{Goes, Gives, Breaks}
+use Rattle.orca_term.specs.declared.forms.Step.TheVariants.{Goes, Gives}
 use Rattle.orca_term.specs.declared.limits.TheConstants.{FORM_DIGITS, MAX_STYLE}
-use Rattle.orca_term.proofs.PaintingBytes.{bytes_of-append, bytes_of-nil}
 use Rattle.orca_term.proofs.Showing.{forms_from-more}
 
 -- numbers that a form may have

@@ -1,5 +1,5 @@
 -- The small terminal: cells, a cursor and a style. Forms move the cursor, set the style, or show a byte in the cell at the cursor.
-use Rattle.std.specs.Prelude.{ℕ, ◌+◌, ◌-◌, ◌*◌, ◌≡◌, Bool, ◌&&◌, nat_lt, if◌then◌else◌, List, [], ◌++◌, length, fold, replicate, slice_set, slice_index_or, Option, Some, None, unwrap_or, is_some, IsSome}
+use Rattle.std.specs.Prelude.{ℕ, ◌+◌, ◌-◌, ◌*◌, Bool, ◌&&◌, nat_lt, if◌then◌else◌, List, [], fold, replicate, slice_set, slice_index_or, unwrap_or, IsSome}
 use Rattle.orca_term.specs.Forms.{forms_of}
 use Rattle.orca_term.specs.Picture.{blank, plain, screen_cells}
 use Rattle.orca_term.specs.declared.cell.Cell.{Cell}

@@ -1,8 +1,7 @@
-use Rattle.std.proofs.Common.{◌≡◌, ◌+◌, ◌++◌, [], ◌∷◌, sym, ap, ◌∙◌, refl, arith}
+use Rattle.std.proofs.Common.{[], sym, ◌∙◌, refl, arith}
 use Rattle.std.proofs.lemmas.Bool.{cond-true, cond-false}
 use Rattle.std.proofs.lemmas.List.{append-nil}
 use Rattle.std.specs.Option.{option_copied}
-use Rattle.orca_term.specs.Forms.{bytes_of}
 use Rattle.orca_term.specs.Painting.{painted_at, painted_row, row_of}
 use Rattle.orca_term.proofs.PaintingBytes.{rows_more, bytes_of-nil}
 use Rattle.orca_term.proofs.painting.paint_rows.Goals as goal

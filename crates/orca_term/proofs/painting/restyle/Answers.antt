@@ -1,4 +1,4 @@
-use Rattle.std.proofs.Common.{[], ◌∷◌, sym, ap, ◌∙◌, refl}
+use Rattle.std.proofs.Common.{[], ◌∷◌, sym, ◌∙◌, refl}
 use Rattle.std.proofs.lemmas.List.{append-nil}
 use Rattle.orca_term.proofs.PaintingBytes.{restyled-same, restyled-plain, restyled-new, plain_bytes, joined}
 use Rattle.std.specs.Fmt.{decimal}

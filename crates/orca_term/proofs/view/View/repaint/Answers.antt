@@ -1,7 +1,6 @@
-use Rattle.std.proofs.Common.{◌≡◌, List, rules}
+use Rattle.std.proofs.Common.{◌≡◌, rules}
 use Rattle.orca_term.specs.Picture.{scene_of, picture}
 use Rattle.orca_term.specs.Viewing.{painting_bytes}
-use Rattle.orca_term.specs.declared.cell.Cell.{Cell}
 use Rattle.orca_term.proofs.Views.{paints-view, whole_bytes, same_bytes, shown_bytes}
 use Rattle.orca_term.proofs.view.View.repaint.Goals as goal
 
