@@ -1,11 +1,5 @@
 //! The view of a performance, as a terminal is sent it.
 
-ghost use Rattle.std.specs.Prelude.{◌≡◌, ◌↔◌, ◌≤◌, ◌++◌, [], Some, None, List, ℕ, IfOk};
-ghost use Rattle.orca_base.specs.declared.limits.TheConstants.{MIN_SCREEN_ROWS, MAX_SCREEN_ROWS, MIN_SCREEN_COLUMNS, MAX_SCREEN_COLUMNS};
-ghost use Rattle.orca_term.specs.Picture.{scene_of, picture};
-ghost use Rattle.orca_term.specs.Terminal.{IsWhole};
-ghost use Rattle.orca_term.specs.Viewing.{painting_bytes, Shows};
-
 use crate::limits::{CELL_BYTES, ROW_BYTES};
 use crate::painting::paint_rows;
 use crate::picture::{BLANK, draw};
