@@ -10,7 +10,7 @@ use Rattle.orca_term.specs.Codes.{introducer}
 use Rattle.orca_term.specs.Forms.{bytes_of, bytes_of_form}
 use Rattle.orca_term.specs.declared.forms.Form.{Form}
 use Rattle.orca_term.specs.declared.forms.Form.TheVariants.{Style, Show}
-use Rattle.orca_term.specs.Painting.{restyled, painted_cells, painted_row}
+use Rattle.orca_term.specs.Painting.{style_change, painted_cells, painted_row}
 use Rattle.orca_term.specs.declared.cell.Cell.{Cell}
 
 pub bytes_of-append : (xs ys : List Form) → bytes_of (xs ++ ys) ≡ bytes_of xs ++ bytes_of ys
@@ -29,25 +29,25 @@ pub bytes_of-plain : bytes_of (Style 0 ∷ []) ≡ plain_bytes
 unfolding bytes_of
 bytes_of-plain = rw (decimal_digit 0 (omega arith)) refl
 
-pub restyled-same : (old new : ℕ) → old ≡ new → bytes_of (restyled old new) ≡ []
-unfolding bytes_of restyled
-restyled-same old new e = rw (e, eq-eqb new new refl) refl
+pub style_change-same : (old new : ℕ) → old ≡ new → bytes_of (style_change old new) ≡ []
+unfolding bytes_of style_change
+style_change-same old new e = rw (e, eq-eqb new new refl) refl
 
-pub restyled-plain : (old new : ℕ) → (old ≡ new → ⊥) → new ≡ 0 → bytes_of (restyled old new) ≡ plain_bytes
-unfolding restyled
-restyled-plain old new other e = rw (ne_eqb old new other, eq-eqb new 0 e) bytes_of-plain
+pub style_change-plain : (old new : ℕ) → (old ≡ new → ⊥) → new ≡ 0 → bytes_of (style_change old new) ≡ plain_bytes
+unfolding style_change
+style_change-plain old new other e = rw (ne_eqb old new other, eq-eqb new 0 e) bytes_of-plain
 
-pub restyled-new : (old new : ℕ) → (old ≡ new → ⊥) → (new ≡ 0 → ⊥) → bytes_of (restyled old new) ≡ plain_bytes ++ introducer ++ decimal new ++ 109 ∷ []
-unfolding bytes_of restyled
-restyled-new old new other some = rw (ne_eqb old new other, ne_eqb new 0 some, decimal_digit 0 (omega arith)) (simp append-nil)
+pub style_change-new : (old new : ℕ) → (old ≡ new → ⊥) → (new ≡ 0 → ⊥) → bytes_of (style_change old new) ≡ plain_bytes ++ introducer ++ decimal new ++ 109 ∷ []
+unfolding bytes_of style_change
+style_change-new old new other some = rw (ne_eqb old new other, ne_eqb new 0 some, decimal_digit 0 (omega arith)) (simp append-nil)
 
 pub bytes_of-show : (byte : ℕ) (forms : List Form) → bytes_of (Show byte ∷ forms) ≡ byte ∷ bytes_of forms
 unfolding bytes_of
 bytes_of-show byte forms = refl
 
-pub painted_cells-step : (style : ℕ) (cell : Cell) (cells : List Cell) → bytes_of (painted_cells style (cell ∷ cells)) ≡ bytes_of (restyled style cell.style) ++ cell.byte ∷ bytes_of (painted_cells cell.style cells)
+pub painted_cells-step : (style : ℕ) (cell : Cell) (cells : List Cell) → bytes_of (painted_cells style (cell ∷ cells)) ≡ bytes_of (style_change style cell.style) ++ cell.byte ∷ bytes_of (painted_cells cell.style cells)
 unfolding painted_cells
-painted_cells-step style cell cells = bytes_of-append (restyled style cell.style) (Show cell.byte ∷ painted_cells cell.style cells) ∙ ap (λ bytes. bytes_of (restyled style cell.style) ++ bytes) (bytes_of-show cell.byte (painted_cells cell.style cells))
+painted_cells-step style cell cells = bytes_of-append (style_change style cell.style) (Show cell.byte ∷ painted_cells cell.style cells) ∙ ap (λ bytes. bytes_of (style_change style cell.style) ++ bytes) (bytes_of-show cell.byte (painted_cells cell.style cells))
 
 regrouped : (a b c d e : List ℕ) → (((a ++ b) ++ c) ++ d) ++ e ≡ (a ++ (b ++ c ++ d)) ++ e
 regrouped a b c d e = simp append_assoc
@@ -61,12 +61,12 @@ pub joined : (a b c d e : List ℕ) → (((a ++ b) ++ c) ++ d) ++ e ≡ a ++ (b 
 joined a b c d e = simp append_assoc
 
 -- a cell more of a row: the bytes so far, and those of what is left, are as before
-pub cell_more : (style : ℕ) (cells : List Cell) (i : ℕ) (d : Cell) (front whole : List ℕ) → i < length cells → front ++ bytes_of (painted_cells style (drop i cells)) ≡ whole → (front ++ bytes_of (restyled style (get_or cells i d).style) ++ (get_or cells i d).byte ∷ []) ++ bytes_of (painted_cells (get_or cells i d).style (drop (i + 1) cells)) ≡ whole
+pub cell_more : (style : ℕ) (cells : List Cell) (i : ℕ) (d : Cell) (front whole : List ℕ) → i < length cells → front ++ bytes_of (painted_cells style (drop i cells)) ≡ whole → (front ++ bytes_of (style_change style (get_or cells i d).style) ++ (get_or cells i d).byte ∷ []) ++ bytes_of (painted_cells (get_or cells i d).style (drop (i + 1) cells)) ≡ whole
 cell_more style cells i d front whole h same =
     let cell = get_or cells i d in
     let rest = bytes_of (painted_cells cell.style (drop (i + 1) cells)) in
-    append_assoc (front ++ bytes_of (restyled style cell.style)) (cell.byte ∷ []) rest
-    ∙ (append_assoc front (bytes_of (restyled style cell.style)) (cell.byte ∷ rest)
+    append_assoc (front ++ bytes_of (style_change style cell.style)) (cell.byte ∷ []) rest
+    ∙ (append_assoc front (bytes_of (style_change style cell.style)) (cell.byte ∷ rest)
     ∙ (ap (λ bytes. front ++ bytes) (sym (painted_cells-step style cell (drop (i + 1) cells)))
     ∙ (ap (λ cells. front ++ bytes_of (painted_cells style cells)) (sym (drop_more cells i d h)) ∙ same)))
 

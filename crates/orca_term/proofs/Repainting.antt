@@ -6,7 +6,7 @@ use Rattle.std.proofs.lemmas.Bool.{cases_eq, eq-eqb, ne_eqb, and_from, lt-ltb, c
 use Rattle.std.proofs.lemmas.List.{append-nil, set_at, take_all, drop_all, take-append-drop, drop-drop, length-take-le, length-drop, length_push, nil_from_length}
 use Rattle.std.proofs.lemmas.List.Sums.{fold-append}
 use Rattle.std.proofs.lemmas.Nat.{rows}
-use Rattle.orca_term.specs.Painting.{row_of, is_painted, restyled, painted_cells, painted_row, painted_at, painting}
+use Rattle.orca_term.specs.Painting.{row_of, is_painted, style_change, painted_cells, painted_row, forms_of_row, painting}
 use Rattle.orca_term.specs.Picture.{screen_cells}
 use Rattle.orca_term.specs.Terminal.{Terminal, after_form, after_forms, with_byte, is_on_cell}
 use Rattle.orca_term.specs.declared.cell.Cell.{Cell}
@@ -25,9 +25,9 @@ unfolding after_forms
 after-append t xs ys = fold-append after_form t xs ys
 
 -- a change of style leaves the new style in force
-after-restyled : (t : Terminal) (new : ℕ) → after_forms t (restyled t.style new) ≡ record t { style = new }
-unfolding after_forms after_form restyled
-after-restyled t new =
+after-style_change : (t : Terminal) (new : ℕ) → after_forms t (style_change t.style new) ≡ record t { style = new }
+unfolding after_forms after_form style_change
+after-style_change t new =
     elim (cases_eq t.style new) [
       | inl same ↦ rw (eq-eqb t.style new same) (ap (λ (s : ℕ). record t { style = s }) same)
       | inr other ↦ elim (cases_eq new 0) [
@@ -54,9 +54,9 @@ after-cells t p (o ∷ old) (c ∷ cells) q stands at len row fits =
     ap (λ xs. set xs (t.y * t.size.columns + t.x) c) stands ∙ (set_at p o (old ++ q) c (t.y * t.size.columns + t.x) at ∙ sym (append_assoc p (c ∷ []) (old ++ q))) in
     let moved : length (p ++ c ∷ []) ≡ t.y * t.size.columns + (t.x + 1) = omega (arith, length_push p c, at) in
     let rest = after-cells next (p ++ c ∷ []) old cells q cells_are moved (omega (arith, len)) row (omega (arith, fits)) in
-    let same : after_forms t (restyled t.style c.style ++ Show c.byte ∷ painted_cells c.style cells) ≡ after_forms next (painted_cells c.style cells) =
-    after-append t (restyled t.style c.style) (Show c.byte ∷ painted_cells c.style cells)
-    ∙ (ap (λ u. after_forms u (Show c.byte ∷ painted_cells c.style cells)) (after-restyled t c.style)
+    let same : after_forms t (style_change t.style c.style ++ Show c.byte ∷ painted_cells c.style cells) ≡ after_forms next (painted_cells c.style cells) =
+    after-append t (style_change t.style c.style) (Show c.byte ∷ painted_cells c.style cells)
+    ∙ (ap (λ u. after_forms u (Show c.byte ∷ painted_cells c.style cells)) (after-style_change t c.style)
     ∙ ap (λ u. after_forms u (painted_cells c.style cells)) (after-show styled c.byte row here)) in
     record {
       size = ap (λ (u : Terminal). u.size) same ∙ rest.size;
@@ -118,7 +118,7 @@ abbrev pub Covers : ScreenSize → Option (List Cell) → List Cell → List Cel
 Covers d last old cells = (y : ℕ) → y < d.rows → is_painted d last cells y ≡ false → row_of d old y ≡ row_of d cells y
 
 -- one row, painted or not
-row-turn : (d : ScreenSize) (last : Option (List Cell)) (old cells : List Cell) (u : Terminal) (y : ℕ) → length old ≡ screen_cells d → length cells ≡ screen_cells d → Covers d last old cells → y < d.rows → Holds u d (mixed d old cells y) → (b : Bool) → is_painted d last cells y ≡ b → Holds (after_forms u (painted_at d last cells y)) d (mixed d old cells (y + 1))
+row-turn : (d : ScreenSize) (last : Option (List Cell)) (old cells : List Cell) (u : Terminal) (y : ℕ) → length old ≡ screen_cells d → length cells ≡ screen_cells d → Covers d last old cells → y < d.rows → Holds u d (mixed d old cells y) → (b : Bool) → is_painted d last cells y ≡ b → Holds (after_forms u (forms_of_row d last cells y)) d (mixed d old cells (y + 1))
 unfolding after_forms
 row-turn d last old cells u y old_whole whole covers row holds false kept =
     let none = cond-false (is_painted d last cells y) (painted_row y (row_of d cells y)) [] kept in
@@ -133,12 +133,12 @@ row-turn d last old cells u y old_whole whole covers row holds true painted =
     let done = after-row u y (take (y * d.columns) cells) (row_of d old y) (row_of d cells y) (drop ((y + 1) * d.columns) old) stands front len below fits in
     rw one (record { size = done.size ∙ holds.size; cells = done.cells ∙ joined_row d old cells y })
 
-after-rows : (d : ScreenSize) (last : Option (List Cell)) (old cells : List Cell) (t : Terminal) → length old ≡ screen_cells d → length cells ≡ screen_cells d → Covers d last old cells → Holds t d old → (y : ℕ) → y ≤ d.rows → Holds (after_forms t (flat_map (painted_at d last cells) (range_with_len 0 y))) d (mixed d old cells y)
+after-rows : (d : ScreenSize) (last : Option (List Cell)) (old cells : List Cell) (t : Terminal) → length old ≡ screen_cells d → length cells ≡ screen_cells d → Covers d last old cells → Holds t d old → (y : ℕ) → y ≤ d.rows → Holds (after_forms t (flat_map (forms_of_row d last cells) (range_with_len 0 y))) d (mixed d old cells y)
 unfolding after_forms
 after-rows d last old cells t old_whole whole covers holds zero h =
     record { size = holds.size; cells = holds.cells ∙ sym (mixed-start d old cells) }
 after-rows d last old cells t old_whole whole covers holds (suc y) h =
-    let f = painted_at d last cells in
+    let f = forms_of_row d last cells in
     let before = flat_map f (range_with_len 0 y) in
     let from_zero : 0 + y ≡ y = omega arith in
     let more : flat_map f (range_with_len 0 (suc y)) ≡ before ++ f y = flat_map-range f 0 y ∙ ap (λ k. before ++ f k) from_zero in

@@ -4,7 +4,7 @@ use Rattle.std.specs.List.{flat_map, range_with_len}
 use Rattle.std.specs.Option.{IfSome}
 use Rattle.std.proofs.lemmas.Bool.{true≢false, cond-true, cond-false}
 use Rattle.orca_term.specs.Forms.{bytes_of}
-use Rattle.orca_term.specs.Painting.{row_of, is_painted, painted_row, painted_at, painting}
+use Rattle.orca_term.specs.Painting.{row_of, is_painted, painted_row, forms_of_row, painting}
 use Rattle.orca_term.specs.Picture.{screen_cells}
 use Rattle.orca_term.specs.Viewing.{painting_bytes}
 use Rattle.orca_term.specs.declared.cell.Cell.{Cell}
@@ -56,7 +56,7 @@ unfolding painted_row
 row_is_some y cells e = cc
 
 -- a row without forms isn't painted
-kept : (d : ScreenSize) (last : Option (List Cell)) (cells : List Cell) (y : ℕ) → (b : Bool) → is_painted d last cells y ≡ b → painted_at d last cells y ≡ [] → is_painted d last cells y ≡ false
+kept : (d : ScreenSize) (last : Option (List Cell)) (cells : List Cell) (y : ℕ) → (b : Bool) → is_painted d last cells y ≡ b → forms_of_row d last cells y ≡ [] → is_painted d last cells y ≡ false
 kept d last cells y false is e = is
 kept d last cells y true is e = absurd (row_is_some y (row_of d cells y) (sym (cond-true _ _ _ is) ∙ e))
 
@@ -64,20 +64,20 @@ all_kept : (d : ScreenSize) (last : Option (List Cell)) (cells : List Cell) → 
 unfolding painting
 all_kept d last cells none y row =
     let from_zero : 0 + y ≡ y = omega arith in
-    kept d last cells y (is_painted d last cells y) refl (ap (painted_at d last cells) (sym from_zero) ∙ each_none (painted_at d last cells) 0 d.rows none y row)
+    kept d last cells y (is_painted d last cells y) refl (ap (forms_of_row d last cells) (sym from_zero) ∙ each_none (forms_of_row d last cells) 0 d.rows none y row)
 
 same_from_none : (d : ScreenSize) (last : Option (List Cell)) (cells : List Cell) → 1 ≤ d.rows → IfSome last (λ old. length old ≡ screen_cells d) → length cells ≡ screen_cells d → painting d last cells ≡ [] → last ≡ Some cells
 same_from_none d None cells some old_whole whole none = absurd (true≢false (all_kept d None cells none 0 (omega arith)))
 same_from_none d (Some old) cells some old_whole whole none =
     ap (λ (xs : List Cell). Some xs) (all_same d old cells old_whole whole (λ y row. unpainted d old cells y (all_kept d (Some old) cells none y row)))
 
-unchanged_row : (d : ScreenSize) (cells : List Cell) (y : ℕ) → painted_at d (Some cells) cells y ≡ []
+unchanged_row : (d : ScreenSize) (cells : List Cell) (y : ℕ) → forms_of_row d (Some cells) cells y ≡ []
 unchanged_row d cells y = cond-false _ _ _ (ap not ((rows_same (row_of d cells y) (row_of d cells y)).1 refl))
 
 none_from_same : (d : ScreenSize) (last : Option (List Cell)) (cells : List Cell) → last ≡ Some cells → painting d last cells ≡ []
 unfolding painting
 none_from_same d last cells same =
-    ap (λ o. flat_map (painted_at d o cells) (range_with_len 0 d.rows)) same ∙ none_each (painted_at d (Some cells) cells) 0 d.rows (unchanged_row d cells)
+    ap (λ o. flat_map (forms_of_row d o cells) (range_with_len 0 d.rows)) same ∙ none_each (forms_of_row d (Some cells) cells) 0 d.rows (unchanged_row d cells)
 
 pub same_picture : (d : ScreenSize) (last : Option (List Cell)) (cells : List Cell) → 1 ≤ d.rows → IfSome last (λ old. length old ≡ screen_cells d) → length cells ≡ screen_cells d → (painting_bytes d last cells ≡ []) ↔ (last ≡ Some cells)
 unfolding bytes_of

@@ -50,9 +50,9 @@ key_at_end (Sequence bytes) last = key_of_sequence bytes last
 key_at_end _ last = None
 
 -- a sequence collects no more bytes than these
-abbrev pub collected : Pending → ℕ → Pending
-collected (Sequence bytes) byte = if nat_lt (length bytes) SEQUENCE_BYTES then Sequence (bytes ++ byte ∷ []) else Overlong
-collected p byte = p
+abbrev pub pending_with : Pending → ℕ → Pending
+pending_with (Sequence bytes) byte = if nat_lt (length bytes) SEQUENCE_BYTES then Sequence (bytes ++ byte ∷ []) else Overlong
+pending_with p byte = p
 
 -- the bytes that a sequence collects
 abbrev pub is_collected : ℕ → Bool
@@ -79,7 +79,7 @@ turn_after_escape byte =
 -- a byte of a sequence: it is collected, or ends the sequence, or drops it and is read anew
 abbrev pub turn_inside : Pending → ℕ → Turn
 turn_inside p byte =
-    if is_collected byte then awaits (collected p byte)
+    if is_collected byte then awaits (pending_with p byte)
     else (if is_last byte then record { key = key_at_end p byte; pending = Nothing } else turn_outside byte)
 
 -- what an item gives, and what is pending after it

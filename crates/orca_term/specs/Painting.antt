@@ -24,25 +24,25 @@ is_painted d None cells y = true
 is_painted d (Some last) cells y = not (pointwise is_same_cell (row_of d last y) (row_of d cells y))
 
 -- what changes the style that is in force: nothing where it stays, and else no style and then the new one
-unfoldable pub restyled : ℕ → ℕ → List Form
-restyled old new = if old == new then [] else (if new == plain then Style plain ∷ [] else Style plain ∷ Style new ∷ [])
+unfoldable pub style_change : ℕ → ℕ → List Form
+style_change old new = if old == new then [] else (if new == plain then Style plain ∷ [] else Style plain ∷ Style new ∷ [])
 
 -- cells, from the left, where a style is in force before them
 unfoldable pub painted_cells : ℕ → List Cell → List Form
 painted_cells style [] = []
-painted_cells style (cell ∷ cells) = restyled style cell.style ++ Show cell.byte ∷ painted_cells cell.style cells
+painted_cells style (cell ∷ cells) = style_change style cell.style ++ Show cell.byte ∷ painted_cells cell.style cells
 
 -- row y, counted from 0, with these cells
 unfoldable pub painted_row : ℕ → List Cell → List Form
 painted_row y cells = GoTo (y + 1) 1 ∷ Style plain ∷ painted_cells plain cells
 
 -- row y where it is painted
-abbrev pub painted_at : ScreenSize → Option (List Cell) → List Cell → ℕ → List Form
-painted_at d last cells y = if is_painted d last cells y then painted_row y (row_of d cells y) else []
+abbrev pub forms_of_row : ScreenSize → Option (List Cell) → List Cell → ℕ → List Form
+forms_of_row d last cells y = if is_painted d last cells y then painted_row y (row_of d cells y) else []
 
 -- the painting of these cells after the last picture, or after none
 unfoldable pub painting : ScreenSize → Option (List Cell) → List Cell → List Form
-painting d last cells = flat_map (painted_at d last cells) (range_with_len 0 d.rows)
+painting d last cells = flat_map (forms_of_row d last cells) (range_with_len 0 d.rows)
 
 -- the most bytes of a painted row, and of a whole painting
 abbrev pub row_room : ScreenSize → ℕ

@@ -3,7 +3,7 @@
 use Rattle.std.specs.Prelude.{ℕ, ◌≡◌, Option, Some, None, List, []}
 use Rattle.orca_term.specs.Forms.{bytes_of}
 use Rattle.orca_term.specs.Painting.{painting}
-use Rattle.orca_term.specs.Terminal.{IsWhole, shown}
+use Rattle.orca_term.specs.Terminal.{IsWhole, terminal_after}
 use Rattle.orca_term.specs.declared.cell.Cell.{Cell}
 use Rattle.orca_term.specs.declared.cell.ScreenSize.{ScreenSize}
 
@@ -20,4 +20,4 @@ painting_bytes d last cells = bytes_of (painting d last cells)
 -- painting nothing was sent
 abbrev pub Shows : ScreenSize → List ℕ → Option (List Cell) → Type 0
 Shows d sent None = sent ≡ []
-Shows d sent (Some cells) = IsWhole sent × ((shown d sent).cells ≡ cells)
+Shows d sent (Some cells) = IsWhole sent × ((terminal_after d sent).cells ≡ cells)

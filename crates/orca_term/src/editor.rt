@@ -3,7 +3,7 @@
 ghost use Rattle.std.specs.Prelude.{◌≡◌, ◌≤◌, false};
 ghost use Rattle.orca_base.specs.Areas.{IsArea};
 ghost use Rattle.orca_base.specs.Edits.{is_in_area};
-ghost use Rattle.orca_term.specs.Editing.{area_of, rect_of, fitted, cut, act_of, editor_after, started};
+ghost use Rattle.orca_term.specs.Editing.{area_of, rect_of, new_editor, cut_to_grid, editor_inside, act_of, editor_after};
 
 use crate::Key;
 use orca_base::limits::BACK_MOMENTS;
@@ -43,7 +43,7 @@ pub enum Act {
 impl Editor {
     /// The cursor on the first place, the selection of that place alone, and no pause.
     pub fn start() -> Editor
-        ensures { result ≡ started }
+        ensures { result ≡ new_editor }
     {
         Editor {
             y: 0,
@@ -56,7 +56,7 @@ impl Editor {
 
     /// Brings the cursor and then the selection into a grid of this size.
     pub fn fit(&mut self, dims: Dims)
-        ensures fitted { self.new ≡ fitted dims self.old }
+        ensures fitted { self.new ≡ editor_inside dims self.old }
         ensures inside { IsArea dims (area_of self.new) }
     {
         self.y = self.y.min(dims.h - 1);
@@ -75,7 +75,7 @@ impl Editor {
 
     /// Cuts the selection to the grid.
     fn cut(&mut self, dims: Dims)
-        ensures { self.new ≡ cut dims self.old }
+        ensures { self.new ≡ cut_to_grid dims self.old }
     {
         self.h = self.h.min(dims.h.saturating_sub(self.y)).max(1);
         self.w = self.w.min(dims.w.saturating_sub(self.x)).max(1);

@@ -2,7 +2,7 @@
 
 ghost use Rattle.std.specs.Prelude.{◌≡◌, ◌∷◌, ◌++◌, List};
 ghost use Rattle.std.specs.Option.{option_to_list};
-ghost use Rattle.orca_term.specs.Keys.{key_of, key_of_sequence, key_at_end as key_of_end, collected, awaits, key_in, arrow_keys, shifted_keys, turn, turn_outside, turn_after_escape, turn_inside, keys_from, Item, Byte, Due};
+ghost use Rattle.orca_term.specs.Keys.{key_of, key_of_sequence, key_at_end as key_of_end, pending_with, awaits, key_in, arrow_keys, shifted_keys, turn, turn_outside, turn_after_escape, turn_inside, keys_from, Item, Byte, Due};
 
 use orca_base::limits::SEQUENCE_BYTES;
 use orca_base::{Glyph, Inline};
@@ -195,7 +195,7 @@ fn awaits(pending: Pending) -> Turn
 
 /// A byte more of a sequence.
 fn collect(pending: Pending, byte: u8) -> Pending
-    ensures { result ≡ collected pending byte }
+    ensures { result ≡ pending_with pending byte }
 {
     match pending {
         Pending::Sequence(mut bytes) => {

@@ -5,7 +5,7 @@ ghost use Rattle.std.specs.Fmt.{decimal};
 ghost use Rattle.std.specs.Option.{option_copied};
 ghost use Rattle.std.specs.Vec.{vec_capacity};
 ghost use Rattle.orca_term.specs.Forms.{bytes_of};
-ghost use Rattle.orca_term.specs.Painting.{row_of, is_painted, restyled, painted_row, painting, painting_room};
+ghost use Rattle.orca_term.specs.Painting.{row_of, is_painted, style_change, painted_row, painting, painting_room};
 ghost use Rattle.orca_term.specs.Picture.{IsScreen, screen_cells};
 
 use crate::limits::{CELL_BYTES, FORM_DIGITS, ROW_BYTES};
@@ -24,7 +24,8 @@ pub(crate) fn paint_rows(
     requires room { painting_room size ≤ vec_capacity bytes.old }
     requires whole { length cells.now ≡ screen_cells size }
     requires last { IfSome last (λ old. length old.now ≡ screen_cells size) }
-    ensures painting { bytes.new.items ≡ bytes_of (painting size (option_copied last.entry) cells.now) }
+    ensures painting { bytes.new.items
+        ≡ bytes_of (painting size (option_copied last.entry) cells.now) }
     ensures room { vec_capacity bytes.new ≡ vec_capacity bytes.old }
 {
     bytes.clear();
@@ -66,9 +67,11 @@ fn row_of(size: ScreenSize, cells: &[Cell], y: u16) -> &[Cell]
 #[tactic(auto, unfolding(crate::specs::Painting::painted_row))]
 fn paint_row(bytes: &mut Vec<u8>, y: u16, cells: &[Cell])
     requires row { y < 10 ^ FORM_DIGITS - 1 }
-    requires room { vec_len bytes.old + ROW_BYTES + CELL_BYTES * length cells.now ≤ vec_capacity bytes.old }
+    requires room { vec_len bytes.old + ROW_BYTES + CELL_BYTES * length cells.now
+        ≤ vec_capacity bytes.old }
     ensures row { bytes.new.items ≡ bytes.old.items ++ bytes_of (painted_row y cells.now) }
-    ensures short { vec_len bytes.new ≤ vec_len bytes.old + ROW_BYTES + CELL_BYTES * length cells.now }
+    ensures short { vec_len bytes.new
+        ≤ vec_len bytes.old + ROW_BYTES + CELL_BYTES * length cells.now }
     ensures room { vec_capacity bytes.new ≡ vec_capacity bytes.old }
 {
     push_all(bytes, b"\x1b[");
@@ -83,10 +86,10 @@ fn paint_row(bytes: &mut Vec<u8>, y: u16, cells: &[Cell])
 }
 
 /// Changes the style that is in force.
-#[tactic(auto, unfolding(crate::specs::Painting::restyled))]
+#[tactic(auto, unfolding(crate::specs::Painting::style_change))]
 fn restyle(bytes: &mut Vec<u8>, old: u8, new: u8)
     requires { vec_len bytes.old + CELL_BYTES ≤ vec_capacity bytes.old }
-    ensures style { bytes.new.items ≡ bytes.old.items ++ bytes_of (restyled old new) }
+    ensures style { bytes.new.items ≡ bytes.old.items ++ bytes_of (style_change old new) }
     ensures short { vec_len bytes.new + 1 ≤ vec_len bytes.old + CELL_BYTES }
     ensures room { vec_capacity bytes.new ≡ vec_capacity bytes.old }
 {

@@ -101,7 +101,8 @@ fn status_cell(text: &[u8], x: u32) -> Cell
 #[tactic(auto, unfolding(crate::specs::Picture::grid_cell))]
 fn grid_cell<T: Look>(look: &T, editor: &Editor, y: u32, x: u32) -> Cell
     ensures cell { result
-        ≡ grid_cell (scene_of (T.sheet look.now) (T.marks look.now) editor.now) (record { y = y; x = x }) }
+        ≡ grid_cell (scene_of (T.sheet look.now) (T.marks look.now) editor.now)
+        (record { y = y; x = x }) }
     ensures printable { IsPrintable result }
 {
     let dims = look.dims();

@@ -27,7 +27,13 @@ impl Model for Screen {
 
     ghost Value = { Terminal };
 
-    ghost view = { λ s. record { size = s.size; cells = s.cells.items; y = s.y; x = s.x; style = s.style } };
+    ghost view = { λ s. record {
+      size = s.size;
+      cells = s.cells.items;
+      y = s.y;
+      x = s.x;
+      style = s.style;
+    } };
 
     ghost invariant = { λ s. length s.cells.items ≡ screen_cells s.size };
 }

@@ -23,13 +23,13 @@ fn expect_keys(rt: &impl Abort, before: &[u8], due: bool, after: &[u8], want: &[
     let mut keys = Keys::start();
     let mut left = want;
     for byte in before {
-        left = taken(rt, keys.feed(*byte), left);
+        left = rest_after(rt, keys.feed(*byte), left);
     }
     if due {
-        left = taken(rt, keys.due(), left);
+        left = rest_after(rt, keys.due(), left);
     }
     for byte in after {
-        left = taken(rt, keys.feed(*byte), left);
+        left = rest_after(rt, keys.feed(*byte), left);
     }
     assert!(rt;
         left.is_empty(),
@@ -38,7 +38,7 @@ fn expect_keys(rt: &impl Abort, before: &[u8], due: bool, after: &[u8], want: &[
 }
 
 /// The keys that are left after this one, which is the first of them.
-fn taken<'a>(rt: &impl Abort, key: Option<Key>, left: &'a [Key]) -> &'a [Key] {
+fn rest_after<'a>(rt: &impl Abort, key: Option<Key>, left: &'a [Key]) -> &'a [Key] {
     let Some(key) = key else {
         return left;
     };

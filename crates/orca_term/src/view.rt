@@ -33,7 +33,11 @@ impl Model for View {
 
     ghost Value = { Seen };
 
-    ghost view = { λ v. record { size = v.size; last = if v.painted then Some v.last.items else None; bytes = v.bytes.items } };
+    ghost view = { λ v. record {
+      size = v.size;
+      last = if v.painted then Some v.last.items else None;
+      bytes = v.bytes.items;
+    } };
 
     ghost invariant = { λ v. IsScreen v.size
         × (length v.last.items ≡ screen_cells v.size)
@@ -57,7 +61,11 @@ impl View {
         requires rows { (MIN_SCREEN_ROWS ≤ rows) × (rows ≤ MAX_SCREEN_ROWS) }
         requires columns { (MIN_SCREEN_COLUMNS ≤ columns) × (columns ≤ MAX_SCREEN_COLUMNS) }
         ensures { IfOk result (λ view. view
-            ≡ record { size = record { rows = rows; columns = columns }; last = None; bytes = [] }) }
+            ≡ record {
+              size = record { rows = rows; columns = columns };
+              last = None;
+              bytes = [];
+            }) }
     {
         let cells = usize::from(rows) * usize::from(columns);
         let room = usize::from(rows) * (ROW_BYTES + CELL_BYTES * usize::from(columns));
@@ -97,7 +105,8 @@ impl View {
 
         ensures* kept { sem 𝓛 (Rests self.entry (λ new. new ≡ record {
           size = self.old.size;
-          last = Some (picture self.old.size (scene_of (T.sheet look.now) (T.marks look.now) editor.now) line.now);
+          last = Some (picture self.old.size
+              (scene_of (T.sheet look.now) (T.marks look.now) editor.now) line.now);
           bytes = result.now;
         })) }
     {
