@@ -1,0 +1,23 @@
+-- The bytes of ASCII that the sequences of ECMA-48 are made of, beside ESC.
+use Rattle.std.specs.Prelude.{ℕ, List, [], ◌∷◌}
+use Rattle.orca_base.specs.Ascii.{escape}
+
+-- `[`, which makes a sequence of an ESC
+abbrev pub bracket : ℕ
+bracket = 91
+
+-- `;`, between two numbers
+abbrev pub semicolon : ℕ
+semicolon = 59
+
+-- `H`, the end of a cursor position
+abbrev pub letter_h : ℕ
+letter_h = 72
+
+-- `m`, the end of a graphic rendition
+abbrev pub letter_m : ℕ
+letter_m = 109
+
+-- ESC [, which begins a sequence
+abbrev pub introducer : List ℕ
+introducer = escape ∷ bracket ∷ []

@@ -1,0 +1,11 @@
+pub mod Codes
+pub mod Editing
+pub mod Forms
+pub mod Keys
+pub mod Lending
+pub mod Pacing
+pub mod Painting
+pub mod Picture
+pub mod RuleNames
+pub mod Terminal
+pub mod Viewing

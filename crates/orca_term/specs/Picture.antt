@@ -1,0 +1,132 @@
+-- The picture: of each cell of the screen its byte and its style. The last row is the status line, and the others are a window
+-- on the grid. Styles are those of ECMA-48, select graphic rendition.
+use Rattle.std.specs.Prelude.{ℕ, ◌+◌, ◌-◌, ◌*◌, ◌/◌, ◌%◌, ◌≤◌, ◌==◌, Bool, true, false, ◌||◌, if◌then◌else◌, Option, Some, None, List, ◌++◌, map, codes, slice_index_or}
+use Rattle.std.specs.Fmt.{decimal}
+use Rattle.std.specs.List.{range_with_len}
+use Rattle.orca_base.specs.Ascii.{space}
+use Rattle.orca_base.specs.Edits.{is_in_area}
+use Rattle.orca_base.specs.Glyphs.{empty}
+use Rattle.orca_base.specs.Grids.{Sheet, is_inside, index_of, glyph_at}
+use Rattle.orca_base.specs.MarkSet.{MarkSet, no_marks}
+use Rattle.orca_base.specs.declared.command.Rule.{Rule}
+use Rattle.orca_base.specs.declared.limits.TheConstants.{MIN_SCREEN_ROWS, MAX_SCREEN_ROWS, MIN_SCREEN_COLUMNS, MAX_SCREEN_COLUMNS}
+use Rattle.orca_base.specs.declared.place.Place.{Place}
+use Rattle.orca_term.specs.Editing.{area_of}
+use Rattle.orca_term.specs.RuleNames.{rule_name}
+use Rattle.orca_term.specs.declared.cell.Cell.{Cell}
+use Rattle.orca_term.specs.declared.cell.ScreenSize.{ScreenSize}
+use Rattle.orca_term.specs.declared.editor.Editor.{Editor}
+use Rattle.orca_term.specs.declared.limits.TheConstants.{MAX_STYLE}
+use Rattle.orca_term.specs.declared.status.StatusLine.{StatusLine}
+
+-- the sizes that a screen may have
+pub record IsScreen (d : ScreenSize) : Type 0 where
+  pub rows : MIN_SCREEN_ROWS ≤ d.rows
+  pub few_rows : d.rows ≤ MAX_SCREEN_ROWS
+  pub columns : MIN_SCREEN_COLUMNS ≤ d.columns
+  pub few_columns : d.columns ≤ MAX_SCREEN_COLUMNS
+
+-- the number of cells
+abbrev pub screen_cells : ScreenSize → ℕ
+screen_cells d = d.rows * d.columns
+
+-- what is shown besides the status line: a grid, its marks, and the editor
+pub record Scene : Type 0 where
+  pub sheet : Sheet
+  pub marks : List MarkSet
+  pub editor : Editor
+
+abbrev pub scene_of : Sheet → List MarkSet → Editor → Scene
+scene_of sheet marks editor = record { sheet = sheet; marks = marks; editor = editor }
+
+-- the styles: none, bold, faint, underlined, and with the colours exchanged
+abbrev pub plain : ℕ
+plain = 0
+
+abbrev pub bold : ℕ
+bold = 1
+
+abbrev pub faint : ℕ
+faint = 2
+
+abbrev pub underlined : ℕ
+underlined = 4
+
+abbrev pub reversed : ℕ
+reversed = 7
+
+-- a printable byte of ASCII
+abbrev pub IsPrintableByte : ℕ → Type 0
+IsPrintableByte byte = (space ≤ byte) × (byte ≤ 126)
+
+-- a cell that a terminal can show: a printable byte, and a style of one byte
+pub record IsPrintable (cell : Cell) : Type 0 where
+  pub byte : IsPrintableByte cell.byte
+  pub style : cell.style ≤ MAX_STYLE
+
+-- a space without a style
+abbrev pub blank : Cell
+blank = record { byte = space; style = plain }
+
+-- the marks of a place in the grid
+abbrev pub marks_at : Scene → Place → MarkSet
+marks_at scene at = slice_index_or scene.marks (index_of scene.sheet.dims at) no_marks
+
+-- the style of a place with these marks and this glyph: the first of these that holds. It lies in the selection; it carries
+-- Output; it carries Input; it carries Lock or Sleep, or is empty
+abbrev pub style_by : Bool → MarkSet → ℕ → ℕ
+style_by selected marks glyph =
+    if selected then reversed
+    else (if marks.output then bold
+    else (if marks.input then underlined
+    else (if marks.lock || marks.sleep || glyph == empty then faint else plain)))
+
+-- the cell of a place; outside the grid it is blank
+unfoldable pub grid_cell : Scene → Place → Cell
+grid_cell scene at =
+    if is_inside scene.sheet.dims at
+    then record {
+      byte = glyph_at scene.sheet at;
+      style = style_by (is_in_area (area_of scene.editor) at) (marks_at scene at) (glyph_at scene.sheet at);
+    }
+    else blank
+
+-- the start of the page of so many that a number lies on
+abbrev pub page_of : ℕ → ℕ → ℕ
+page_of side n = n / side * side
+
+-- the place that a cell of the window shows: the window is the page of the grid on which the cursor lies
+abbrev pub window_place : ScreenSize → Editor → ℕ → ℕ → Place
+window_place d e y x = record { y = page_of (d.rows - 1) e.y + y; x = page_of d.columns e.x + x }
+
+-- whether the performance goes on
+abbrev pub state_word : Bool → List ℕ
+state_word true = codes "pause"
+state_word false = codes "play"
+
+-- what became of the last command
+abbrev pub note_word : Option Rule → List ℕ
+note_word None = codes "ok"
+note_word (Some rule) = rule_name rule
+
+-- the text of the status line
+unfoldable pub status_text : Editor → StatusLine → List ℕ
+status_text e line =
+    decimal line.tick ++ codes " " ++ decimal line.moments ++ codes " " ++ decimal line.sounding ++ codes " " ++ decimal e.y ++ codes "," ++ decimal e.x ++ codes " " ++ decimal e.h ++ codes "x" ++ decimal e.w ++ codes " " ++ state_word e.paused ++ codes " " ++ note_word line.note
+
+-- the cell of a column of the status line: the text is cut at the last column, or filled with spaces
+abbrev pub status_cell : List ℕ → ℕ → Cell
+status_cell text x = record { byte = slice_index_or text x space; style = plain }
+
+-- the cell of a row and a column of the screen, whose status line has this text
+unfoldable pub cell_of : ScreenSize → Scene → List ℕ → ℕ → ℕ → Cell
+cell_of d scene text y x =
+    if y + 1 == d.rows then status_cell text x else grid_cell scene (window_place d scene.editor y x)
+
+-- the same by its number in reading order
+abbrev pub cell_at : ScreenSize → Scene → List ℕ → ℕ → Cell
+cell_at d scene text n = cell_of d scene text (n / d.columns) (n % d.columns)
+
+-- the cells of the screen, in reading order
+unfoldable pub picture : ScreenSize → Scene → StatusLine → List Cell
+picture d scene line = map (cell_at d scene (status_text scene.editor line)) (range_with_len 0 (screen_cells d))

@@ -1,0 +1,26 @@
+//! The terminal of a performance: its keys, the editor that they move, the picture that it shows, and the
+//! pacer of the frames.
+#![tactic(auto)]
+
+mod cell;
+mod editor;
+mod forms;
+mod keys;
+mod limits;
+mod pacer;
+mod painting;
+mod picture;
+mod screen;
+mod status;
+mod view;
+
+pub use cell::{Cell, ScreenSize};
+pub use editor::{Act, Editor};
+pub use keys::{Key, Keys, Pending};
+pub use pacer::Pacer;
+pub use screen::Screen;
+pub use status::{StatusLine, rule_name};
+pub use view::View;
+
+#[cfg(test)]
+mod tests;

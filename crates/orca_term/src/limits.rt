@@ -1,0 +1,22 @@
+//! The limits of a screen's bytes.
+
+use orca_base::limits::MAX_DIGITS;
+
+/// The most bytes of the name of a rule.
+pub const NAME_BYTES: usize = 13;
+
+/// The most bytes of the status line: seven numbers, the five letters of a pause, the name of a rule, and
+/// the eight bytes between them.
+pub const STATUS_BYTES: usize = 7 * MAX_DIGITS + 5 + NAME_BYTES + 8;
+
+/// The most digits of a number in a form that a terminal reads.
+pub const FORM_DIGITS: usize = 3;
+
+/// The most bytes before the cells of a painted row: `ESC [ row ; 1 H` and `ESC [ 0 m`.
+pub const ROW_BYTES: usize = 2 + FORM_DIGITS + 3 + 4;
+
+/// The most bytes of a painted cell: `ESC [ 0 m`, `ESC [ style m` and the byte.
+pub const CELL_BYTES: usize = 4 + 3 + FORM_DIGITS + 1;
+
+/// The greatest style of a form that a terminal reads.
+pub const MAX_STYLE: u8 = u8::MAX;

@@ -1,0 +1,123 @@
+//! The status line.
+
+ghost use Rattle.std.specs.Prelude.{◌≡◌, ◌+◌, ◌≤◌, [], ◌∷◌, ◌++◌, length, All};
+ghost use Rattle.std.specs.Fmt.{decimal};
+ghost use Rattle.orca_term.specs.Picture.{IsPrintableByte, state_word, note_word, status_text};
+ghost use Rattle.orca_term.specs.RuleNames.{rule_name};
+
+use crate::Editor;
+use crate::limits::{NAME_BYTES, STATUS_BYTES};
+use orca_base::limits::MAX_DIGITS;
+use orca_base::{Inline, Rule};
+
+/// The text of a status line.
+pub(crate) type StatusText = Inline<STATUS_BYTES>;
+
+/// What the status line tells besides the editor.
+#[derive(Clone, Copy, Debug, PartialEq, Eq)]
+pub struct StatusLine {
+    /// The number of the next frame.
+    pub tick: u32,
+    /// How many entries the history has.
+    pub moments: u32,
+    /// How many notes sound.
+    pub sounding: u32,
+    /// The rule that refused the last command, if one did.
+    pub note: Option<Rule>,
+}
+
+/// The name of a rule, as it is printed.
+pub fn rule_name(rule: &Rule) -> &'static str
+    ensures name { result.now ≡ rule_name rule.now }
+    ensures short { length result.now ≤ NAME_BYTES }
+{
+    match rule {
+        Rule::OutOfGrid => "OutOfGrid",
+        Rule::EmptyBlock => "EmptyBlock",
+        Rule::BadSize => "BadSize",
+        Rule::EmptyClip => "EmptyClip",
+        Rule::NothingToUndo => "NothingToUndo",
+        Rule::NoSuchMoment { .. } => "NoSuchMoment",
+        Rule::HistoryFull => "HistoryFull",
+    }
+}
+
+/// The text of the status line.
+#[tactic(auto, unfolding(crate::specs::Picture::status_text))]
+pub(crate) fn status_text(editor: &Editor, line: &StatusLine) -> StatusText
+    ensures text { result ≡ status_text editor.now line.now }
+    ensures printable { All IsPrintableByte result }
+{
+    let mut text = StatusText::empty();
+    push_number(&mut text, line.tick, b' ');
+    push_number(&mut text, line.moments, b' ');
+    push_number(&mut text, line.sounding, b' ');
+    push_number(&mut text, u32::from(editor.y), b',');
+    push_number(&mut text, u32::from(editor.x), b' ');
+    push_number(&mut text, u32::from(editor.h), b'x');
+    push_number(&mut text, u32::from(editor.w), b' ');
+    push_word(&mut text, state_word(editor.paused));
+    push_word(&mut text, b" ");
+    push_word(&mut text, note_word(&line.note));
+    text
+}
+
+/// Appends a number and the byte behind it.
+#[tactic(auto, using(crate::proofs::Digits::decimal_short))]
+fn push_number(text: &mut StatusText, n: u32, after: u8)
+    requires room { length text.old + MAX_DIGITS + 1 ≤ STATUS_BYTES }
+    requires printable { All IsPrintableByte text.old × IsPrintableByte after }
+    ensures text { text.new ≡ text.old ++ decimal n ++ after ∷ [] }
+    ensures short { length text.new ≤ length text.old + MAX_DIGITS + 1 }
+    ensures printable { All IsPrintableByte text.new }
+{
+    text.extend(decimal(n).as_slice());
+    text.push(after);
+}
+
+/// Appends a word.
+fn push_word(text: &mut StatusText, word: &[u8])
+    requires room { length text.old + length word.now ≤ STATUS_BYTES }
+    requires printable { All IsPrintableByte text.old × All IsPrintableByte word.now }
+    ensures text { text.new ≡ text.old ++ word.now }
+    ensures printable { All IsPrintableByte text.new }
+{
+    text.extend(word);
+}
+
+/// Whether the performance goes on.
+fn state_word(paused: bool) -> &'static [u8]
+    ensures word { result.now ≡ state_word paused }
+    ensures printable { All IsPrintableByte result.now }
+    ensures short { length result.now ≤ 5 }
+{
+    if paused { b"pause" } else { b"play" }
+}
+
+/// What became of the last command.
+fn note_word(note: &Option<Rule>) -> &'static [u8]
+    ensures word { result.now ≡ note_word note.now }
+    ensures printable { All IsPrintableByte result.now }
+    ensures short { length result.now ≤ NAME_BYTES }
+{
+    match note {
+        None => b"ok",
+        Some(rule) => rule_name(rule).as_bytes(),
+    }
+}
+
+/// A number in decimal digits, without leading zeros.
+#[tactic(auto, using(crate::proofs::Digits::decimal_short, crate::proofs::Digits::decimal_front, std::proofs::lemmas::Fmt::decimal_digit, std::proofs::lemmas::Fmt::decimal_step))]
+pub(crate) fn decimal(n: u32) -> Inline<MAX_DIGITS>
+    ensures decimal { result ≡ decimal n }
+    ensures printable { All IsPrintableByte result }
+{
+    if n < 10 {
+        let mut digits = Inline::empty();
+        digits.push(b'0' + n as u8);
+        return digits;
+    }
+    let mut digits = decimal(n / 10);
+    digits.push(b'0' + (n % 10) as u8);
+    digits
+}
