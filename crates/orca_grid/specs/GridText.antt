@@ -1,6 +1,6 @@
 -- Grid text: how a byte offends, the grid of a text in which none does, and the text of a grid.
 -- A text's rows are its lines: each ends in a line feed, or in a carriage return and a line feed, and the end of the last may be missing.
-use Rattle.std.specs.Prelude.{ℕ, ◌+◌, ◌≡◌, Bool, not, ◌&&◌, ◌||◌, ◌==◌, nat_lt, if◌then◌else◌, Option, Some, None, Result, Ok, Err, List, [], ◌∷◌, ◌++◌, length, map, take, count_by, slice_index, slice_index_or, max, zero, suc}
+use Rattle.std.specs.Prelude.{ℕ, ◌+◌, ◌<◌, ◌≡◌, Bool, not, ◌&&◌, ◌||◌, ◌==◌, nat_lt, if◌then◌else◌, Option, Some, None, Result, Ok, Err, List, [], ◌∷◌, ◌++◌, length, map, take, count_by, slice_index, slice_index_or, max, zero, suc}
 use Rattle.std.specs.Option.{option_or}
 use Rattle.std.specs.List.{after_last, flat_map, range_with_len}
 use Rattle.std.specs.Str.Lines.{lines}
@@ -42,6 +42,10 @@ offence text i =
     if nat_lt MAX_ROWS (row_at text i) then Some TooHigh
     else (if is_bad text i then Some (BadByte i)
     else (if is_cell (slice_index text i) && (column_at text i == MAX_COLUMNS) then Some (TooWide (row_at text i)) else None))
+
+-- no byte of the text offends
+abbrev pub IsClean : List ℕ → Type 0
+IsClean text = (k : ℕ) → k < length text → offence text k ≡ None
 
 -- how the first offending byte among the first n offends
 unfoldable pub first_offence : List ℕ → ℕ → Option GridRefusal

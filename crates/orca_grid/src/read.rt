@@ -4,7 +4,7 @@ ghost use Rattle.std.specs.Prelude.{◌≡◌, ◌≢◌, ◌+◌, ◌^◌, ◌<
 ghost use Rattle.std.specs.Str.Lines.{lines};
 ghost use Rattle.orca_base.specs.Glyphs.{empty};
 ghost use Rattle.orca_base.specs.Grids.{IsSize, cells_of};
-ghost use Rattle.orca_grid.specs.GridText.{row_at, column_at, is_cell as is_cell_byte, is_bad as is_bad_at, offence as offence_at, first_offence, glyph_of, size_of_rows, sheet_of_rows, grid_text};
+ghost use Rattle.orca_grid.specs.GridText.{row_at, column_at, is_cell as is_cell_byte, is_bad as is_bad_at, offence as offence_at, IsClean, glyph_of, size_of_rows, sheet_of_rows, grid_text};
 
 use crate::{Grid, GridRefusal};
 use orca_base::limits::{MAX_COLUMNS, MAX_ROWS};
@@ -37,7 +37,7 @@ fn size_of(bytes: &[u8]) -> Result<Dims, GridRefusal>
     requires { length bytes.now < 2 ^ 32 }
     ensures size { IfOk result (λ dims. dims ≡ size_of_rows (lines bytes.now)) }
     ensures whole { IfOk result IsSize }
-    ensures clean { OnOk result (first_offence bytes.now (length bytes.now) ≡ None) }
+    ensures clean { OnOk result (IsClean bytes.now) }
     ensures found { OnOk result (grid_text bytes.now ≡ Ok (sheet_of_rows (lines bytes.now))) }
     ensures refused { IfErr result (λ refusal. grid_text bytes.now ≡ Err refusal) }
     ensures named { IfErr result (λ refusal. refusal ≢ GridRefusal.Memory) }
@@ -67,7 +67,7 @@ fn size_of(bytes: &[u8]) -> Result<Dims, GridRefusal>
 
 /// Writes the cells of a text in which no byte offends into a blank grid of its size.
 fn fill(grid: &mut Grid, bytes: &[u8])
-    requires clean { first_offence bytes.now (length bytes.now) ≡ None }
+    requires clean { IsClean bytes.now }
     requires size { grid.old.dims ≡ size_of_rows (lines bytes.now) }
     requires whole { IsSize grid.old.dims }
     requires blank { grid.old.cells ≡ replicate (cells_of grid.old.dims) empty }
