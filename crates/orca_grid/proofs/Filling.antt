@@ -1,12 +1,11 @@
 -- The second pass: each cell is written to its place.
-use Rattle.std.proofs.Common.{◌≡◌, ℕ, ◌+◌, ◌≤◌, ◌<◌, Bool, true, false, List, [], ◌∷◌, ◌++◌, length, map, get_or, replicate, zero, suc, inl, inr, refl, sym, ap, ◌∙◌, arith}
+use Rattle.std.proofs.Common.{◌≡◌, ℕ, ◌+◌, ◌<◌, Bool, true, false, List, [], ◌∷◌, ◌++◌, length, map, get_or, replicate, refl, sym, ap, ◌∙◌, arith}
 use Rattle.std.proofs.Math.ListN.{set}
 use Rattle.std.specs.Prelude.{if◌then◌else◌, ◌==◌, ◌&&◌}
 use Rattle.std.specs.Str.Lines.{lines}
-use Rattle.std.proofs.lemmas.Bool.{cases_eq, eq-eqb, ne_eqb}
 use Rattle.std.proofs.lemmas.Bool.Decides.{nat_tests}
 use Rattle.std.proofs.lemmas.Grind.{common_steps}
-use Rattle.std.proofs.lemmas.List.{get_or_push, get_or_past, get_or-replicate, get_or-set_same, get_or-set_other, length-set, length-map, length-replicate, length_push, map_push, append-nil}
+use Rattle.std.proofs.lemmas.List.{get_or_push, get_or_past, get_or-replicate, length-set, length-map, length-replicate, length_push, map_push, append-nil}
 use Rattle.orca_base.specs.Glyphs.{empty}
 use Rattle.orca_base.specs.Grids.{Size, IsSize, Sheet, IsInside, cells_of, index_of, is_place, sheet_by}
 use Rattle.orca_base.specs.declared.place.Place.{Place}
@@ -15,7 +14,7 @@ use Rattle.orca_base.proofs.SheetFacts.{sheet-same}
 use Rattle.orca_grid.specs.GridText.{is_cell, is_line_feed, glyph_of, glyph_of_rows, widest, size_of_rows, sheet_of_rows, IsClean}
 use Rattle.orca_grid.proofs.Lines.{last_row, cell_is_no_end}
 use Rattle.orca_grid.proofs.Places.{none-offends}
-use Rattle.orca_grid.proofs.Reading.{Reading, reading, reading_by, reading-more, rows_so_far, IsGood, IsFit, fits, reads, lines-read}
+use Rattle.orca_grid.proofs.Reading.{reading, reading_by, reading-more, rows_so_far, IsGood, IsFit, fits, reads, lines-read}
 
 -- ---- the glyphs of rows
 
@@ -71,12 +70,8 @@ shows-row d rows g shows = record { dims = shows.dims; whole = shows.whole; each
 index-set : (d : Size) (cells : List ℕ) (at p : Place) (glyph : ℕ) → length cells ≡ cells_of d → IsInside d at → IsInside d p
     → get_or (set cells (index_of d at) glyph) (index_of d p) 0 ≡ (if is_place p at then glyph else get_or cells (index_of d p) 0)
 index-set d cells at p glyph whole inside within =
-    let below : index_of d at < length cells = omega (arith, whole, index_of-below d at inside) in
-    elim (cases_eq (index_of d p) (index_of d at)) [
-      | inl same ↦
-          rw (is_place-index d p at within inside, eq-eqb _ _ same) (ap (λ i. get_or (set cells (index_of d at) glyph) i 0) same ∙ get_or-set_same cells (index_of d at) glyph 0 below)
-      | inr other ↦ rw (is_place-index d p at within inside, ne_eqb _ _ other) (get_or-set_other cells (index_of d at) (index_of d p) glyph 0 other)
-    ]
+    let below = index_of-below d at inside in
+    rw (is_place-index d p at within inside) (grind (arith, common_steps, nat_tests))
 
 pub shows-cell : (d : Size) (ended : List (List ℕ)) (begun : List ℕ) (byte : ℕ) (old new : Sheet) (at : Place) (glyph : ℕ)
     → IsInside d at → at ≡ record { y = length ended; x = length begun } → glyph_of byte ≡ glyph

@@ -1,29 +1,28 @@
 -- The row and the column of a byte, and the first offence, from one place to the next.
-use Rattle.std.proofs.Common.{◌≡◌, ℕ, ◌+◌, ◌-◌, ◌≤◌, ◌<◌, Bool, true, false, not, cond, List, [], ◌∷◌, ◌++◌, length, take, drop, get_or, zero, suc, Some, None, refl, sym, ap, ◌∙◌, arith, add-one, add-zero, add-suc}
-use Rattle.std.specs.List.{after_last, suffix_len, prefix_len, count_by}
-use Rattle.std.specs.Option.{option_or}
+use Rattle.std.proofs.Common.{◌≡◌, ℕ, ◌+◌, ◌≤◌, ◌<◌, Bool, true, false, not, cond, List, [], ◌∷◌, ◌++◌, get_or, zero, suc, Some, None, inl, inr, refl, ap, arith, add-one, add-zero, add-suc}
+use Rattle.std.specs.List.{after_last, suffix_len, prefix_len}
 use Rattle.std.proofs.lemmas.Bool.Decides.{nat_tests}
-use Rattle.std.proofs.lemmas.Bool.{cond-true, cond-false, not_from_true, not_from_false}
+use Rattle.std.specs.Prelude.{if◌then◌else◌}
+use Rattle.std.proofs.lemmas.Bool.{cases_Bool}
+use Rattle.std.proofs.lemmas.Grind.{common_steps}
 use Rattle.std.proofs.lemmas.List.{reverse-append, drop_all, drop-append-le, length_push}
 use Rattle.orca_base.specs.declared.limits.TheConstants.{MAX_ROWS, MAX_COLUMNS}
 use Rattle.orca_grid.specs.declared.refusal.GridRefusal.{GridRefusal}
-use Rattle.orca_grid.specs.GridText.{row_at, column_at, is_cell, is_line_feed, is_bad, offence, first_offence}
+use Rattle.orca_grid.specs.GridText.{row_at, column_at, is_cell, is_bad, offence, first_offence}
 
 -- ---- one element more at the end
 
 suffix_len-push : (p : ℕ → Bool) (xs : List ℕ) (y : ℕ) → suffix_len p (xs ++ y ∷ []) ≡ cond (p y) (1 + suffix_len p xs) 0
 suffix_len-push p xs y = ap (prefix_len p) (reverse-append xs (y ∷ []))
 
-pub after_last-push_yes : (p : ℕ → Bool) (xs : List ℕ) (y : ℕ) → p y ≡ true → after_last p (xs ++ y ∷ []) ≡ []
-after_last-push_yes p xs y e =
-    let none : suffix_len (λ x. not (p x)) (xs ++ y ∷ []) ≡ 0 = suffix_len-push (λ x. not (p x)) xs y ∙ cond-false _ _ _ (not_from_true _ e) in
-    rw none (drop_all _ (xs ++ y ∷ []) (omega arith))
-
-pub after_last-push_no : (p : ℕ → Bool) (xs : List ℕ) (y : ℕ) → p y ≡ false → after_last p (xs ++ y ∷ []) ≡ after_last p xs ++ y ∷ []
-after_last-push_no p xs y e =
-    let n : suffix_len (λ x. not (p x)) (xs ++ y ∷ []) ≡ 1 + suffix_len (λ x. not (p x)) xs = suffix_len-push (λ x. not (p x)) xs y ∙ cond-true _ _ _ (not_from_false _ e) in
-    let from : length (xs ++ y ∷ []) - suffix_len (λ x. not (p x)) (xs ++ y ∷ []) ≡ length xs - suffix_len (λ x. not (p x)) xs = omega (arith, n, length_push xs y) in
-    ap (λ k. drop k (xs ++ y ∷ [])) from ∙ drop-append-le _ xs (y ∷ []) (omega arith)
+pub after_last-push : (p : ℕ → Bool) (xs : List ℕ) (y : ℕ)
+    → after_last p (xs ++ y ∷ []) ≡ (if p y then [] else after_last p xs ++ y ∷ [])
+after_last-push p xs y =
+    let n = suffix_len-push (λ x. not (p x)) xs y in
+    elim (cases_Bool (p y)) [
+      | inl here ↦ rw (n, here) (drop_all _ (xs ++ y ∷ []) (omega arith))
+      | inr other ↦ rw (n, other) (grind (arith, common_steps, length_push, drop-append-le))
+    ]
 
 -- ---- a byte that doesn't offend
 

@@ -1,45 +1,34 @@
 -- A printed grid is read as that grid.
-use Rattle.std.proofs.Common.{◌≡◌, ℕ, ◌+◌, ◌≤◌, ◌<◌, ◌⊎◌, Bool, true, false, List, [], ◌∷◌, ◌++◌, length, get_or, map, append_assoc, Result, Ok, Err, inl, inr, refl, sym, ap, ◌∙◌, arith}
+use Rattle.std.proofs.Common.{◌≡◌, ℕ, ◌+◌, ◌≤◌, ◌<◌, ◌⊎◌, Bool, true, false, List, [], ◌∷◌, ◌++◌, length, get_or, map, append_assoc, Ok, inl, inr, refl, sym, ap, ◌∙◌, arith}
 use Rattle.std.specs.List.{All, AllPass, flat_map, range_with_len}
-use Rattle.std.specs.Result.{OnErr}
 use Rattle.std.specs.Str.Lines.{lines}
 use Rattle.std.proofs.lemmas.Bool.{ne_eqb}
 use Rattle.std.proofs.lemmas.Bool.Decides.{nat_tests}
+use Rattle.std.proofs.lemmas.Grind.{common_steps}
 use Rattle.std.proofs.lemmas.List.{get_or-map, flat_map_more, length_push}
 use Rattle.std.proofs.lemmas.List.Elements.{All-nil, All-head, All-tail, All-weaker, All-append, All-push, All-from_get_or}
 use Rattle.std.proofs.lemmas.List.FromFn.{map-range_with_len_more, length-map-range_with_len, get_or-map-range_with_len}
 use Rattle.std.proofs.lemmas.List.Recursion.{max_bounds, max_least}
 use Rattle.orca_base.specs.Glyphs.{IsGlyph, empty}
-use Rattle.orca_base.specs.Grids.{Size, IsSize, Sheet, IsSheet, glyph_at}
-use Rattle.orca_base.specs.declared.place.Place.{Place}
+use Rattle.orca_base.specs.Grids.{IsSize, Sheet, IsSheet, glyph_at}
 use Rattle.orca_base.proofs.SheetFacts.{IsGlyph-glyph_at}
-use Rattle.orca_grid.specs.GridText.{is_cell, is_line_feed, glyph_of, glyph_of_rows, widest, size_of_rows, sheet_of_rows, grid_text, rows_of, row_of, line, text_of, Extends, IsClean}
+use Rattle.orca_grid.specs.GridText.{is_cell, is_line_feed, glyph_of, glyph_of_rows, widest, size_of_rows, sheet_of_rows, grid_text, rows_of, row_of, line, text_of, IsClean}
 use Rattle.orca_grid.proofs.Lines.{cell_is_no_end, lines-ended}
 use Rattle.orca_grid.proofs.Places.{offence-none}
 use Rattle.orca_grid.proofs.Reading.{reading, reading_by, reading-more, IsGood, IsFit, fits, reads, column_read}
 use Rattle.orca_grid.proofs.Counting.{grid_text-clean}
 use Rattle.orca_grid.proofs.Filling.{shows-sheet}
 
--- an answer on an error, whatever the result
-pub on_err : {T E P : Type 0} (r : Result T E) → P → OnErr r P
-on_err (Ok x) p = tt
-on_err (Err e) p = p
-
-pub extends_more : (old middle new : List ℕ) → Extends old middle → Extends middle new → Extends old new
-extends_more old middle new a b = (a.0 ++ b.0, b.1 ∙ (ap (λ xs. xs ++ b.0) a.1 ∙ append_assoc old a.0 b.0))
-
 -- a cell more, and a row more
 pub cell-more : (f : ℕ → ℕ) (old into : List ℕ) (x : ℕ) → into ≡ old ++ map f (range_with_len 0 x)
     → into ++ f x ∷ [] ≡ old ++ map f (range_with_len 0 (x + 1))
-cell-more f old into x so_far =
-    ap (λ xs. xs ++ f x ∷ []) so_far
-    ∙ (append_assoc old (map f (range_with_len 0 x)) (f x ∷ []) ∙ ap (λ xs. old ++ xs) (sym (map-range_with_len_more f 0 x x (omega arith))))
+cell-more f old into x so_far = grind (arith, common_steps, map-range_with_len_more, append_assoc)
 
 pub row-more : (f : ℕ → List ℕ) (old into : List ℕ) (y : ℕ) → into ≡ old ++ flat_map line (map f (range_with_len 0 y))
     → into ++ line (f y) ≡ old ++ flat_map line (map f (range_with_len 0 (y + 1)))
 row-more f old into y so_far =
-    ap (λ xs. xs ++ line (f y)) so_far
-    ∙ (flat_map_more line old (map f (range_with_len 0 y)) (f y) ∙ ap (λ rows. old ++ flat_map line rows) (sym (map-range_with_len_more f 0 y y (omega arith))))
+    let next = map-range_with_len_more f 0 y y (omega arith) in
+    rw (so_far, next) (flat_map_more line old (map f (range_with_len 0 y)) (f y))
 
 -- ---- a text of rows of cell bytes
 

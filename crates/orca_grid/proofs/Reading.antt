@@ -10,8 +10,8 @@ use Rattle.std.proofs.lemmas.List.Recursion.{max_push}
 use Rattle.std.proofs.lemmas.List.Sums.{length-filter, count_by_more_yes, count_by_more_no}
 use Rattle.orca_base.specs.declared.limits.TheConstants.{MAX_ROWS, MAX_COLUMNS}
 use Rattle.orca_grid.specs.GridText.{row_at, column_at, is_cell, is_line_feed, is_bad, widest}
-use Rattle.orca_grid.proofs.Lines.{cell_is_no_end, last_row, lines-last, lines-ended, lines-returned}
-use Rattle.orca_grid.proofs.Places.{DoesNotOffend, after_last-push_yes, after_last-push_no}
+use Rattle.orca_grid.proofs.Lines.{last_row, lines-last, lines-ended, lines-returned}
+use Rattle.orca_grid.proofs.Places.{DoesNotOffend, after_last-push}
 
 pub record Reading : Type 0 where
   pub ended : List (List ℕ)
@@ -73,13 +73,13 @@ reads_by true cell text i r h good end is read =
     let rest : drop i text ≡ 10 ∷ drop (i + 1) text = rest-at text i 10 (eqb-true _ 10 end) (omega arith) in
     record {
       row = omega (arith, length_push r.ended r.begun, read.row, count_by_more_yes is_line_feed text i 0 h end);
-      begun = rw (take_more text i 0 h, after_last-push_yes is_line_feed (take i text) (get_or text i 0) end) refl;
+      begun = rw (take_more text i 0 h, after_last-push is_line_feed (take i text) (get_or text i 0), end) refl;
       rows = rw (append_assoc, ← lines-ended r.begun (drop (i + 1) text) (cells_read text i r read), ← rest) read.rows;
     }
 reads_by false true text i r h good end is read =
     record {
       row = read.row ∙ ap (λ n. n + 1) (sym (count_by_more_no is_line_feed text i 0 h end));
-      begun = rw (take_more text i 0 h, after_last-push_no is_line_feed (take i text) (get_or text i 0) end, filter-append, is) (ap (λ xs. xs ++ get_or text i 0 ∷ []) read.begun);
+      begun = rw (take_more text i 0 h, after_last-push is_line_feed (take i text) (get_or text i 0), end, filter-append, is) (ap (λ xs. xs ++ get_or text i 0 ∷ []) read.begun);
       rows = rw (append_assoc, ← drop_more text i 0 h) read.rows;
     }
 reads_by false false text i r h good end is read =
@@ -89,7 +89,7 @@ reads_by false false text i r h good end is read =
     let cells = cells_read text i r read in
     record {
       row = read.row ∙ ap (λ n. n + 1) (sym (count_by_more_no is_line_feed text i 0 h end));
-      begun = rw (take_more text i 0 h, after_last-push_no is_line_feed (take i text) (get_or text i 0) end, filter-append, is, append-nil) read.begun;
+      begun = rw (take_more text i 0 h, after_last-push is_line_feed (take i text) (get_or text i 0), end, filter-append, is, append-nil) read.begun;
       rows = rw (next, lines-ended r.begun _ cells, ← lines-returned r.begun (drop (i + 1 + 1) text) cells, ← rest) read.rows;
     }
 
@@ -134,13 +134,13 @@ pub record IsFit (h w : ℕ) (r : Reading) : Type 0 where
 pub fits_by : (line cell : Bool) (text : List ℕ) (i : ℕ) (r : Reading) → IsReading text i r → DoesNotOffend text i
     → is_cell (get_or text i 0) ≡ cell → IsFit MAX_ROWS MAX_COLUMNS r → IsFit MAX_ROWS MAX_COLUMNS (reading_by line cell (get_or text i 0) r)
 fits_by true cell text i r read free is fit =
-    let few : length (r.ended ++ r.begun ∷ []) ≤ MAX_ROWS = omega (arith, length_push r.ended r.begun, read.row, free.row) in
-    let wide : widest (r.ended ++ r.begun ∷ []) ≤ MAX_COLUMNS = omega (arith, widest-push r.ended r.begun, fit.narrow, fit.wide) in
-    record { few = few; begins = λ some. absurd (omega (arith, some)); narrow = omega arith; wide = wide }
+    let more = length_push r.ended r.begun in
+    let longest = widest-push r.ended r.begun in
+    record { few = omega (arith, read.row, free.row); begins = λ some. absurd (omega arith); narrow = omega arith; wide = omega arith }
 fits_by false true text i r read free is fit =
     let room : length r.begun ≡ MAX_COLUMNS → ⊥ = λ full. free.column is (sym (column_read text i r read) ∙ full) in
-    let narrow : length (r.begun ++ get_or text i 0 ∷ []) ≤ MAX_COLUMNS = omega (arith, length_push r.begun (get_or text i 0), fit.narrow, room) in
-    record { few = fit.few; begins = λ some. omega (arith, read.row, free.row); narrow = narrow; wide = fit.wide }
+    let more = length_push r.begun (get_or text i 0) in
+    record { few = fit.few; begins = λ some. omega (arith, read.row, free.row); narrow = omega arith; wide = fit.wide }
 fits_by false false text i r read free is fit = fit
 
 -- what is read later shows what was read before
@@ -148,10 +148,10 @@ fits-back : (line cell : Bool) (byte h w : ℕ) (r : Reading) → IsFit h w (rea
 fits-back true cell byte h w r fit =
     let more = length_push r.ended r.begun in
     let longest = widest-push r.ended r.begun in
-    record { few = omega (arith, fit.few, more); begins = λ some. omega (arith, fit.few, more); narrow = omega (arith, fit.wide, longest); wide = omega (arith, fit.wide, longest) }
+    record { few = omega arith; begins = λ some. omega arith; narrow = omega arith; wide = omega arith }
 fits-back false true byte h w r fit =
     let more = length_push r.begun byte in
-    record { few = fit.few; begins = λ some. fit.begins (omega (arith, more)); narrow = omega (arith, fit.narrow, more); wide = fit.wide }
+    record { few = fit.few; begins = λ some. fit.begins (omega arith); narrow = omega arith; wide = fit.wide }
 fits-back false false byte h w r fit = fit
 
 fits-before : (text : List ℕ) (h w i n : ℕ) → IsFit h w (reading text (i + n)) → IsFit h w (reading text i)
@@ -160,14 +160,14 @@ fits-before text h w i (suc n) fit =
     let next : i + suc n ≡ i + n + 1 = omega arith in
     fits-before text h w i n (fits-back _ _ _ h w _ (rw (next, reading-more _ _ text (i + n) refl refl) at fit))
 
-fits-end : (ended : List (List ℕ)) (begun : List ℕ) → IsFit (length (ended ++ last_row begun)) (widest (ended ++ last_row begun)) (record { ended = ended; begun = begun })
+fits-end : (ended : List (List ℕ)) (begun : List ℕ)
+    → IsFit (length (ended ++ last_row begun)) (widest (ended ++ last_row begun)) (record { ended = ended; begun = begun })
 fits-end ended [] =
-    let same : ended ++ [] ≡ ended = append-nil ended in
-    rw same (record { few = omega arith; begins = λ some. absurd (omega (arith, some)); narrow = omega arith; wide = omega arith })
+    rw (append-nil ended) (record { few = omega arith; begins = λ some. absurd (omega arith); narrow = omega arith; wide = omega arith })
 fits-end ended (c ∷ begun) =
     let more = length_push ended (c ∷ begun) in
     let longest = widest-push ended (c ∷ begun) in
-    record { few = omega (arith, more); begins = λ some. omega (arith, more); narrow = omega (arith, longest); wide = omega (arith, longest) }
+    record { few = omega arith; begins = λ some. omega arith; narrow = omega arith; wide = omega arith }
 
 -- what is read is of the size of the lines
 pub fits : (text : List ℕ) (i : ℕ) → IsGood text → i ≤ length text → IsFit (length (lines text)) (widest (lines text)) (reading text i)

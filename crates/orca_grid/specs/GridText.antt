@@ -101,7 +101,3 @@ line row = row ++ line_feed ∷ []
 -- the text of a grid: each row, with a line feed
 unfoldable pub text_of : Sheet → List ℕ
 text_of g = flat_map line (rows_of g)
-
--- old stands at the front of new
-abbrev pub Extends : List ℕ → List ℕ → Type 0
-Extends old new = (tail : List ℕ) × (new ≡ old ++ tail)

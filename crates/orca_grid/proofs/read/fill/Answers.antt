@@ -1,8 +1,7 @@
-use Rattle.std.proofs.Common.{true, false, ◌≡◌, List, ℕ, length, get_or, refl, sym, ap, ◌∙◌, arith}
+use Rattle.std.proofs.Common.{true, false, ◌≡◌, length, get_or, refl, sym, ◌∙◌, arith}
 use Rattle.std.proofs.lemmas.Bool.{eq-eqb, ne_eqb, cond-true, false_from_ne_true}
 use Rattle.std.proofs.lemmas.Option.{cond_some, none-some}
 use Rattle.std.proofs.lemmas.List.{length_push}
-use Rattle.orca_base.specs.Grids.{Sheet}
 use Rattle.orca_grid.specs.GridText.{is_cell, glyph_of}
 use Rattle.orca_grid.proofs.Filling.{shows-row, shows-cell, fills-start, fills-inside, fills-more, fills-end}
 use Rattle.orca_grid.proofs.read.fill.Goals as goal
