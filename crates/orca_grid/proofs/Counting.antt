@@ -12,7 +12,7 @@ use Rattle.orca_grid.specs.declared.refusal.GridRefusal.TheVariants.{NoCells}
 use Rattle.orca_grid.specs.GridText.{is_cell, is_line_feed, offence, first_offence, widest, size_of_rows, sheet_of_rows, unless_refused, grid_text, IsClean}
 use Rattle.orca_grid.proofs.Lines.{last_row}
 use Rattle.orca_grid.proofs.Places.{NoneOffends, none-offends, first_offence-none, first_offence-found}
-use Rattle.orca_grid.proofs.Reading.{reading, reading_by, reading-more, IsReading, reads-start, reads-more, IsFit, fits_by, rows_so_far, lines-read, widest-push}
+use Rattle.orca_grid.proofs.Reading.{Reading, reading, IsReading, reads-start, reads-more, IsFit, fits-more, rows_so_far, lines-read, widest-push}
 
 pub record Counts (text : List ℕ) (i height width column : ℕ) : Type 0 where
   pub clean : NoneOffends text i
@@ -35,22 +35,19 @@ counts-start text =
     }
 
 -- a byte more
-pub counts-more : (line cell : Bool) (text : List ℕ) (i height width column height' width' column' : ℕ) → Counts text i height width column
-    → i < length text → offence text i ≡ None → is_line_feed (get_or text i 0) ≡ line → is_cell (get_or text i 0) ≡ cell
-    → height' ≡ length (reading_by line cell (get_or text i 0) (reading text i)).ended
-    → width' ≡ widest (reading_by line cell (get_or text i 0) (reading text i)).ended
-    → column' ≡ length (reading_by line cell (get_or text i 0) (reading text i)).begun
+pub counts-more : (text : List ℕ) (i height width column height' width' column' : ℕ) (next : Reading)
+    → Counts text i height width column → i < length text → offence text i ≡ None → reading text (i + 1) ≡ next
+    → height' ≡ length next.ended → width' ≡ widest next.ended → column' ≡ length next.begun
     → Counts text (i + 1) height' width' column'
-counts-more line cell text i height width column height' width' column' counts h good end is height_is width_is column_is =
-    let next = reading-more line cell text i end is in
+counts-more text i height width column height' width' column' next counts h good is height_is width_is column_is =
     let free = none-offends text i good in
     record {
       clean = below_more _ _ counts.clean good;
       read = reads-more text i h free.good counts.read;
-      fit = rw next (fits_by line cell text i (reading text i) counts.read free is counts.fit);
-      height_is = rw next height_is;
-      width_is = rw next width_is;
-      column_is = rw next column_is;
+      fit = fits-more text i counts.read free counts.fit;
+      height_is = rw is height_is;
+      width_is = rw is width_is;
+      column_is = rw is column_is;
     }
 
 -- ---- at the end of the text
@@ -75,9 +72,7 @@ counts-size text i height width column end counts =
 pub grid_text-clean : (text : List ℕ) (d : Size) → IsClean text → size_of_rows (lines text) ≡ d
     → grid_text text ≡ (if (d.h == 0) || (d.w == 0) then Err NoCells else Ok (sheet_of_rows (lines text)))
 unfolding grid_text
-grid_text-clean text d clean size =
-    ap (λ o. unless_refused o (lines text)) (first_offence-none text (length text) clean)
-    ∙ ap (λ (s : Size). let answer : Result Sheet GridRefusal = if (s.h == 0) || (s.w == 0) then Err NoCells else Ok (sheet_of_rows (lines text)) in answer) size
+grid_text-clean text d clean size = rw (← size, first_offence-none text (length text) clean) refl
 
 pub grid_text-refused : (text : List ℕ) (i : ℕ) (r : GridRefusal) → i < length text → NoneOffends text i → offence text i ≡ Some r → grid_text text ≡ Err r
 unfolding grid_text

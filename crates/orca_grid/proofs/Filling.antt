@@ -14,7 +14,7 @@ use Rattle.orca_base.proofs.SheetFacts.{sheet-same}
 use Rattle.orca_grid.specs.GridText.{is_cell, is_line_feed, glyph_of, glyph_of_rows, widest, size_of_rows, sheet_of_rows, IsClean}
 use Rattle.orca_grid.proofs.Lines.{last_row, cell_is_no_end}
 use Rattle.orca_grid.proofs.Places.{none-offends}
-use Rattle.orca_grid.proofs.Reading.{reading, reading_by, reading-more, rows_so_far, IsGood, IsFit, fits, reads, lines-read}
+use Rattle.orca_grid.proofs.Reading.{Reading, reading, rows_so_far, IsGood, IsFit, fits, fits-cell, reads, lines-read}
 
 -- ---- the glyphs of rows
 
@@ -108,23 +108,18 @@ fills-start text g clean size dims blank =
     let good : IsGood text = λ k h. (none-offends text k (clean k h)).good in
     record { size = rw dims at size; good = good; fit = fits text 0 good (omega arith); at_is = refl; shows = shows-blank _ g dims blank }
 
-pub fills-more : (line cell : Bool) (text : List ℕ) (i : ℕ) (at next : Place) (old new : Sheet) → Fills text i at old → i < length text
-    → is_line_feed (get_or text i 0) ≡ line → is_cell (get_or text i 0) ≡ cell
-    → next ≡ record { y = length (reading_by line cell (get_or text i 0) (reading text i)).ended; x = length (reading_by line cell (get_or text i 0) (reading text i)).begun }
-    → Shows (size_of_rows (lines text)) ((reading_by line cell (get_or text i 0) (reading text i)).ended ++ (reading_by line cell (get_or text i 0) (reading text i)).begun ∷ []) new
-    → Fills text (i + 1) next new
-fills-more line cell text i at next old new fills h end is next_is shows =
-    let more = reading-more line cell text i end is in
-    record { size = fills.size; good = fills.good; fit = fits text (i + 1) fills.good (omega (arith, h)); at_is = rw more next_is; shows = rw more shows }
+pub fills-more : (text : List ℕ) (i : ℕ) (at at' : Place) (old new : Sheet) (next : Reading) → Fills text i at old → i < length text
+    → reading text (i + 1) ≡ next → at' ≡ record { y = length next.ended; x = length next.begun }
+    → Shows (size_of_rows (lines text)) (next.ended ++ next.begun ∷ []) new → Fills text (i + 1) at' new
+fills-more text i at at' old new next fills h is at_is shows =
+    record { size = fills.size; good = fills.good; fit = fits text (i + 1) fills.good (omega (arith, h)); at_is = rw is at_is; shows = rw is shows }
 
 -- the place of a cell lies in the grid
 pub fills-inside : (text : List ℕ) (i : ℕ) (at : Place) (g : Sheet) → Fills text i at g → i < length text → is_cell (get_or text i 0) ≡ true
     → IsInside (size_of_rows (lines text)) at
-fills-inside text i at g fills h cell =
-    let byte = get_or text i 0 in
-    let r = reading text i in
-    let fit : IsFit (length (lines text)) (widest (lines text)) (reading_by false true byte r) = rw (reading-more false true text i (cell_is_no_end byte cell) cell) at (fits text (i + 1) fills.good (omega (arith, h))) in
-    rw fills.at_is (record { row = fit.begins (omega (arith, length_push r.begun byte)); column = omega (arith, fit.narrow, length_push r.begun byte) })
+fills-inside text i at g fills h is =
+    let cell = fits-cell text i fills.good h is in
+    rw fills.at_is (record { row = cell.row; column = cell.column })
 
 -- at the end of the text all are written
 pub fills-end : (text : List ℕ) (i : ℕ) (at : Place) (g : Sheet) → i ≡ length text → Fills text i at g → g ≡ sheet_of_rows (lines text)

@@ -13,9 +13,9 @@ use Rattle.orca_base.specs.Glyphs.{IsGlyph, empty}
 use Rattle.orca_base.specs.Grids.{IsSize, Sheet, IsSheet, glyph_at}
 use Rattle.orca_base.proofs.SheetFacts.{IsGlyph-glyph_at}
 use Rattle.orca_grid.specs.GridText.{is_cell, is_line_feed, glyph_of, glyph_of_rows, widest, size_of_rows, sheet_of_rows, grid_text, rows_of, row_of, line, text_of, IsClean}
-use Rattle.orca_grid.proofs.Lines.{cell_is_no_end, lines-ended}
+use Rattle.orca_grid.proofs.Lines.{lines-ended}
 use Rattle.orca_grid.proofs.Places.{offence-none}
-use Rattle.orca_grid.proofs.Reading.{reading, reading_by, reading-more, IsGood, IsFit, fits, reads, column_read}
+use Rattle.orca_grid.proofs.Reading.{reading-more, IsGood, fits, fits-cell, reads, column_read}
 use Rattle.orca_grid.proofs.Counting.{grid_text-clean}
 use Rattle.orca_grid.proofs.Filling.{shows-sheet}
 
@@ -54,20 +54,16 @@ plain-rows (row ∷ rows) all =
 -- no byte of it offends where its lines are few and short
 plain-clean : (text : List ℕ) → All IsPlain text → IsSize (size_of_rows (lines text)) → IsClean text
 plain-clean text plain size k h =
-    let byte = get_or text k 0 in
-    let r = reading text k in
     let good : IsGood text = λ i below. elim (plain i 0 below) [ inl cell ↦ grind (arith, nat_tests) | inr end ↦ grind (arith, nat_tests) ] in
     let read = reads text k good (omega (arith, h)) in
-    let next : (line cell : Bool) → is_line_feed byte ≡ line → is_cell byte ≡ cell → IsFit (length (lines text)) (widest (lines text)) (reading_by line cell byte r) =
-    λ line cell end is. rw (reading-more line cell text k end is) at (fits text (k + 1) good (omega (arith, h))) in
-    let in_cell = λ (cell : is_cell byte ≡ true). next false true (cell_is_no_end byte cell) cell in
+    let in_row = λ (end : is_line_feed (get_or text k 0) ≡ true). (rw (reading-more true _ text k end refl) at (fits text (k + 1) good (omega (arith, h)))).few in
     offence-none text k (record {
       row = elim (plain k 0 h) [
-            | inl cell ↦ omega (arith, read.row, (in_cell cell).begins (omega (arith, length_push r.begun byte)), size.few_rows)
-            | inr end ↦ omega (arith, read.row, (next true (is_cell byte) end refl).few, length_push r.ended r.begun, size.few_rows)
-          ];
+        | inl cell ↦ omega (arith, read.row, (fits-cell text k good h cell).row, size.few_rows)
+        | inr end ↦ omega (arith, read.row, in_row end, length_push {X = List ℕ}, size.few_rows)
+      ];
       good = good k h;
-      column = λ cell full. omega (arith, full, column_read text k r read, (in_cell cell).narrow, length_push r.begun byte, size.few_columns);
+      column = λ cell full. omega (arith, full, column_read text k _ read, (fits-cell text k good h cell).column, size.few_columns);
     })
 
 -- ---- the rows of a grid

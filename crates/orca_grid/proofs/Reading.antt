@@ -10,7 +10,7 @@ use Rattle.std.proofs.lemmas.List.Recursion.{max_push}
 use Rattle.std.proofs.lemmas.List.Sums.{length-filter, count_by_more_yes, count_by_more_no}
 use Rattle.orca_base.specs.declared.limits.TheConstants.{MAX_ROWS, MAX_COLUMNS}
 use Rattle.orca_grid.specs.GridText.{row_at, column_at, is_cell, is_line_feed, is_bad, widest}
-use Rattle.orca_grid.proofs.Lines.{last_row, lines-last, lines-ended, lines-returned}
+use Rattle.orca_grid.proofs.Lines.{cell_is_no_end, last_row, lines-last, lines-ended, lines-returned}
 use Rattle.orca_grid.proofs.Places.{DoesNotOffend, after_last-push}
 
 pub record Reading : Type 0 where
@@ -53,9 +53,9 @@ unfolding row_at reading
 reads-start text = record { row = refl; begun = refl; rows = refl }
 
 -- a good byte that is no cell byte and no line feed is a carriage return before a line feed
-returns : (text : List ℕ) (i : ℕ) → is_line_feed (get_or text i 0) ≡ false → is_cell (get_or text i 0) ≡ false → is_bad text i ≡ false
+return-at : (text : List ℕ) (i : ℕ) → is_line_feed (get_or text i 0) ≡ false → is_cell (get_or text i 0) ≡ false → is_bad text i ≡ false
     → (get_or text i 0 ≡ 13) × (get_or text (i + 1) 0 ≡ 10)
-returns text i end cell good = (grind (arith, nat_tests), grind (arith, nat_tests))
+return-at text i end cell good = (grind (arith, nat_tests), grind (arith, nat_tests))
 
 -- a byte and the rest
 rest-at : (text : List ℕ) (i byte : ℕ) → get_or text i 0 ≡ byte → 0 < byte → drop i text ≡ byte ∷ drop (i + 1) text
@@ -83,7 +83,7 @@ reads_by false true text i r h good end is read =
       rows = rw (append_assoc, ← drop_more text i 0 h) read.rows;
     }
 reads_by false false text i r h good end is read =
-    let ends = returns text i end is good in
+    let ends = return-at text i end is good in
     let next : drop (i + 1) text ≡ 10 ∷ drop (i + 1 + 1) text = rest-at text (i + 1) 10 ends.1 (omega arith) in
     let rest : drop i text ≡ 13 ∷ 10 ∷ drop (i + 1 + 1) text = rest-at text i 13 ends.0 (omega arith) ∙ ap (λ bytes. 13 ∷ bytes) next in
     let cells = cells_read text i r read in
@@ -131,7 +131,7 @@ pub record IsFit (h w : ℕ) (r : Reading) : Type 0 where
   pub wide : widest r.ended ≤ w
 
 -- a byte that doesn't offend leaves them so
-pub fits_by : (line cell : Bool) (text : List ℕ) (i : ℕ) (r : Reading) → IsReading text i r → DoesNotOffend text i
+fits_by : (line cell : Bool) (text : List ℕ) (i : ℕ) (r : Reading) → IsReading text i r → DoesNotOffend text i
     → is_cell (get_or text i 0) ≡ cell → IsFit MAX_ROWS MAX_COLUMNS r → IsFit MAX_ROWS MAX_COLUMNS (reading_by line cell (get_or text i 0) r)
 fits_by true cell text i r read free is fit =
     let more = length_push r.ended r.begun in
@@ -142,6 +142,10 @@ fits_by false true text i r read free is fit =
     let more = length_push r.begun (get_or text i 0) in
     record { few = fit.few; begins = λ some. omega (arith, read.row, free.row); narrow = omega arith; wide = fit.wide }
 fits_by false false text i r read free is fit = fit
+
+pub fits-more : (text : List ℕ) (i : ℕ) → IsReading text i (reading text i) → DoesNotOffend text i
+    → IsFit MAX_ROWS MAX_COLUMNS (reading text i) → IsFit MAX_ROWS MAX_COLUMNS (reading text (i + 1))
+fits-more text i read free fit = rw (reading-more _ _ text i refl refl) (fits_by _ _ text i (reading text i) read free refl fit)
 
 -- what is read later shows what was read before
 fits-back : (line cell : Bool) (byte h w : ℕ) (r : Reading) → IsFit h w (reading_by line cell byte r) → IsFit h w r
@@ -176,3 +180,16 @@ fits text i good h =
     let rest : i + (n - i) ≡ n = omega arith in
     let r = reading text n in
     fits-before text _ _ i (n - i) (rw (rest, lines-read text r (reads text n good (omega arith))) (fits-end r.ended r.begun))
+
+-- before a cell byte there is a row more, and a column more
+pub record IsCellOf (text : List ℕ) (r : Reading) : Type 0 where
+  pub row : length r.ended < length (lines text)
+  pub column : length r.begun < widest (lines text)
+
+pub fits-cell : (text : List ℕ) (i : ℕ) → IsGood text → i < length text → is_cell (get_or text i 0) ≡ true → IsCellOf text (reading text i)
+fits-cell text i good h cell =
+    let byte = get_or text i 0 in
+    let more = length_push (reading text i).begun byte in
+    let next = reading-more false true text i (cell_is_no_end byte cell) cell in
+    let fit = rw next at (fits text (i + 1) good (omega (arith, h))) in
+    record { row = fit.begins (omega arith); column = omega (arith, fit.narrow) }

@@ -3,6 +3,7 @@ use Rattle.std.proofs.lemmas.Bool.{eq-eqb, ne_eqb, cond-true, false_from_ne_true
 use Rattle.std.proofs.lemmas.Option.{cond_some, none-some}
 use Rattle.std.proofs.lemmas.List.{length_push}
 use Rattle.orca_grid.specs.GridText.{is_cell, glyph_of}
+use Rattle.orca_grid.proofs.Reading.{reading-more}
 use Rattle.orca_grid.proofs.Filling.{shows-row, shows-cell, fills-start, fills-inside, fills-more, fills-end}
 use Rattle.orca_grid.proofs.read.fill.Goals as goal
 use Rattle.orca_grid.proofs.read.fill.Goals.{then-byte-eq10, else-byte-eq10+in-Some, else-byte-eq10+in_default}
@@ -23,14 +24,17 @@ loop-byte-preserved c =
     let h = c.loop-byte-test.true in
     elim c.if-byte-eq10.branch [
       | then-byte-eq10 w ↦
-          fills-more true _ text i _ _ _ _ fills h (eq-eqb _ 10 w.if-byte-eq10.true) refl (w.at-is ∙ rw (fills.at_is, length_push) refl) (rw w.grid-is (shows-row _ _ _ fills.shows))
+          let next = reading-more true _ text i (eq-eqb _ 10 w.if-byte-eq10.true) refl in
+          fills-more text i _ _ _ _ _ fills h next (w.at-is ∙ rw (fills.at_is, length_push) refl) (rw w.grid-is (shows-row _ _ _ fills.shows))
       | else-byte-eq10+in-Some w ↦
-          let cell = cond_some (is_cell (get_or text i 0)) (glyph_of (get_or text i 0)) w.in-Some.glyph (sym w.in-Some.ensures) in
-          fills-more false true text i _ _ _ _ fills h (ne_eqb _ 10 w.if-byte-eq10.false) cell.0 (w.at-is ∙ rw (fills.at_is, length_push) refl)
-            (rw w.grid-is (shows-cell _ _ _ _ _ _ _ _ (fills-inside text i _ _ fills h cell.0) fills.at_is cell.1 w.set.ensures fills.shows))
+          let cell = cond_some (is_cell (get_or text i 0)) _ _ (sym w.in-Some.ensures) in
+          let next = reading-more false true text i (ne_eqb _ 10 w.if-byte-eq10.false) cell.0 in
+          let shows = shows-cell _ _ _ _ _ _ _ _ (fills-inside text i _ _ fills h cell.0) fills.at_is cell.1 w.set.ensures fills.shows in
+          fills-more text i _ _ _ _ _ fills h next (w.at-is ∙ rw (fills.at_is, length_push) refl) (rw w.grid-is shows)
       | else-byte-eq10+in_default w ↦
-          let none = false_from_ne_true (is_cell (get_or text i 0)) (λ yes. none-some _ (sym w.in_default.is ∙ (w.cell.ensures ∙ cond-true _ _ _ yes))) in
-          fills-more false false text i _ _ _ _ fills h (ne_eqb _ 10 w.if-byte-eq10.false) none (w.at-is ∙ fills.at_is) (rw w.grid-is fills.shows)
+          let none = false_from_ne_true (is_cell (get_or text i 0)) (λ cell. none-some _ (sym w.in_default.is ∙ (w.cell.ensures ∙ cond-true _ _ _ cell))) in
+          let next = reading-more false false text i (ne_eqb _ 10 w.if-byte-eq10.false) none in
+          fills-more text i _ _ _ _ _ fills h next (w.at-is ∙ fills.at_is) (rw w.grid-is fills.shows)
     ]
 
 pub returns : goal.returns

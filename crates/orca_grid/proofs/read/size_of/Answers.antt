@@ -2,7 +2,7 @@ use Rattle.std.proofs.Common.{◌≡◌, List, ℕ, length, refl, sym, ◌∙◌
 use Rattle.std.proofs.lemmas.Bool.{eq-eqb, ne_eqb}
 use Rattle.std.proofs.lemmas.Bool.Decides.{nat_tests}
 use Rattle.std.proofs.lemmas.List.{length_push}
-use Rattle.orca_grid.proofs.Reading.{column_read, widest-push}
+use Rattle.orca_grid.proofs.Reading.{reading-more, column_read, widest-push}
 use Rattle.orca_grid.proofs.Counting.{counts-start, counts-more, counts-size, grid_text-refused, grid_text-clean}
 use Rattle.orca_grid.proofs.read.size_of.Goals as goal
 use Rattle.orca_grid.proofs.read.size_of.Goals.{then-byte-eq10, else-byte-eq10+then-is_cell, else-byte-eq10+else-is_cell}
@@ -23,14 +23,15 @@ loop-i-preserved c =
     let good = sym c.offence.ensures.offence ∙ c.in_default.is in
     elim c.if-byte-eq10.branch [
       | then-byte-eq10 w ↦
-          counts-more true _ _ _ _ _ _ _ _ _ counts c.loop-i-test.true good (eq-eqb _ 10 w.if-byte-eq10.true) refl
-            (omega (arith, length_push {X = List ℕ})) (omega (arith, widest-push)) w.column-is
+          let next = reading-more true _ _ _ (eq-eqb _ 10 w.if-byte-eq10.true) refl in
+          counts-more _ _ _ _ _ _ _ _ _ counts c.loop-i-test.true good next
+          (omega (arith, length_push {X = List ℕ})) (omega (arith, widest-push)) w.column-is
       | else-byte-eq10+then-is_cell w ↦
-          counts-more false true _ _ _ _ _ _ _ _ counts c.loop-i-test.true good (ne_eqb _ 10 w.if-byte-eq10.false) (sym w.if-is_cell.ensures)
-            (omega arith) (omega arith) (omega (arith, length_push {X = ℕ}))
+          let next = reading-more false true _ _ (ne_eqb _ 10 w.if-byte-eq10.false) (sym w.if-is_cell.ensures) in
+          counts-more _ _ _ _ _ _ _ _ _ counts c.loop-i-test.true good next (omega arith) (omega arith) (omega (arith, length_push {X = ℕ}))
       | else-byte-eq10+else-is_cell w ↦
-          counts-more false false _ _ _ _ _ _ _ _ counts c.loop-i-test.true good (ne_eqb _ 10 w.if-byte-eq10.false) (sym w.if-is_cell.ensures)
-            (omega arith) (omega arith) (omega arith)
+          let next = reading-more false false _ _ (ne_eqb _ 10 w.if-byte-eq10.false) (sym w.if-is_cell.ensures) in
+          counts-more _ _ _ _ _ _ _ _ _ counts c.loop-i-test.true good next (omega arith) (omega arith) (omega arith)
     ]
 
 pub returns-then-h-eq0-clause-refused : goal.returns-then-h-eq0-clause-refused
