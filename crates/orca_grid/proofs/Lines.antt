@@ -28,25 +28,34 @@ strip-cells (c ∷ row) cells =
 strip-return : (row : List ℕ) → strip_carriage_return (row ++ 13 ∷ []) ≡ row
 strip-return row =
     let last : length (row ++ 13 ∷ []) - 1 ≡ length row = omega (arith, length_push row 13) in
-    rw last (cond-true _ _ _ (eq-eqb _ 13 (get_or_push row 13 0 (length row) refl)) ∙ take_at row (13 ∷ []) (length row) refl)
+    let ends = eq-eqb _ 13 (get_or_push row 13 0 (length row) refl) in
+    rw last (cond-true _ _ _ ends ∙ take_at row (13 ∷ []) (length row) refl)
 
-lines-part : (part : List ℕ) (parts : List (List ℕ)) → 0 < length parts → lines_of_parts (part ∷ parts) ≡ strip_carriage_return part ∷ lines_of_parts parts
+lines-part : (part : List ℕ) (parts : List (List ℕ)) → 0 < length parts
+    → lines_of_parts (part ∷ parts) ≡ strip_carriage_return part ∷ lines_of_parts parts
 lines-part part [] some = absurd (omega (arith, some))
 lines-part part (p ∷ parts) some = refl
 
 -- up to the first line feed
-lines-at : (row bytes : List ℕ) → All (λ b. eqb b 10 ≡ false) row → lines (row ++ 10 ∷ bytes) ≡ strip_carriage_return row ∷ lines bytes
+lines-at : (row bytes : List ℕ) → All (λ b. eqb b 10 ≡ false) row
+    → lines (row ++ 10 ∷ bytes) ≡ strip_carriage_return row ∷ lines bytes
 lines-at row bytes none =
+    let parts = slice_split (λ b. eqb b 10) bytes in
+    let some : 0 < length parts = omega (arith, length-slice_split (λ b. eqb b 10) bytes) in
     ap lines_of_parts (slice_split_at (λ b. eqb b 10) row 10 bytes none refl)
-    ∙ lines-part row (slice_split (λ b. eqb b 10) bytes) (omega (arith, length-slice_split (λ b. eqb b 10) bytes))
+    ∙ lines-part row parts some
 
-pub lines-ended : (row bytes : List ℕ) → AllPass is_cell row → lines (row ++ 10 ∷ bytes) ≡ row ∷ lines bytes
-lines-ended row bytes cells = lines-at row bytes (no_ends row cells) ∙ ap (λ r. r ∷ lines bytes) (strip-cells row cells)
+pub lines-ended : (row bytes : List ℕ) → AllPass is_cell row
+    → lines (row ++ 10 ∷ bytes) ≡ row ∷ lines bytes
+lines-ended row bytes cells =
+    rw (lines-at row bytes (no_ends row cells), strip-cells row cells) refl
 
-pub lines-returned : (row bytes : List ℕ) → AllPass is_cell row → lines (row ++ 13 ∷ 10 ∷ bytes) ≡ row ∷ lines bytes
+pub lines-returned : (row bytes : List ℕ) → AllPass is_cell row
+    → lines (row ++ 13 ∷ 10 ∷ bytes) ≡ row ∷ lines bytes
 lines-returned row bytes cells =
+    let ends = All-push (λ b. eqb b 10 ≡ false) row 13 (no_ends row cells) refl in
     ap lines (sym (append_assoc row (13 ∷ []) (10 ∷ bytes)))
-    ∙ (lines-at (row ++ 13 ∷ []) bytes (All-push (λ b. eqb b 10 ≡ false) row 13 (no_ends row cells) refl) ∙ ap (λ r. r ∷ lines bytes) (strip-return row))
+    ∙ rw (lines-at (row ++ 13 ∷ []) bytes ends, strip-return row) refl
 
 -- what stands after the last end of a row is a row where it isn't empty
 abbrev pub last_row : List ℕ → List (List ℕ)

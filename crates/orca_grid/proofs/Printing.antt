@@ -1,5 +1,5 @@
 -- A printed grid is read as that grid.
-use Rattle.std.proofs.Common.{◌≡◌, ℕ, ◌+◌, ◌≤◌, ◌<◌, ◌⊎◌, Bool, true, false, List, [], ◌∷◌, ◌++◌, length, get_or, map, append_assoc, Ok, inl, inr, refl, sym, ap, ◌∙◌, arith}
+use Rattle.std.proofs.Common.{◌≤◌, ◌≡◌, ℕ, ◌+◌, ◌<◌, ◌⊎◌, true, false, List, [], ◌∷◌, ◌++◌, length, get_or, map, append_assoc, Ok, inl, inr, refl, ap, ◌∙◌, arith}
 use Rattle.std.specs.List.{All, AllPass, flat_map, range_with_len}
 use Rattle.std.specs.Str.Lines.{lines}
 use Rattle.std.proofs.lemmas.Bool.{ne_eqb}
@@ -12,7 +12,7 @@ use Rattle.std.proofs.lemmas.List.Recursion.{max_bounds, max_least}
 use Rattle.orca_base.specs.Glyphs.{IsGlyph, empty}
 use Rattle.orca_base.specs.Grids.{IsSize, Sheet, IsSheet, glyph_at}
 use Rattle.orca_base.proofs.SheetFacts.{IsGlyph-glyph_at}
-use Rattle.orca_grid.specs.GridText.{is_cell, is_line_feed, glyph_of, glyph_of_rows, widest, size_of_rows, sheet_of_rows, grid_text, rows_of, row_of, line, text_of, IsClean}
+use Rattle.orca_grid.specs.GridText.{is_bad, is_cell, is_line_feed, glyph_of, glyph_of_rows, widest, size_of_rows, sheet_of_rows, grid_text, rows_of, row_of, line, text_of, IsClean}
 use Rattle.orca_grid.proofs.Lines.{lines-ended}
 use Rattle.orca_grid.proofs.Places.{offence-none}
 use Rattle.orca_grid.proofs.Reading.{reading-more, IsGood, fits, fits-cell, reads, column_read}
@@ -24,7 +24,8 @@ pub cell-more : (f : ℕ → ℕ) (old into : List ℕ) (x : ℕ) → into ≡ o
     → into ++ f x ∷ [] ≡ old ++ map f (range_with_len 0 (x + 1))
 cell-more f old into x so_far = grind (arith, common_steps, map-range_with_len_more, append_assoc)
 
-pub row-more : (f : ℕ → List ℕ) (old into : List ℕ) (y : ℕ) → into ≡ old ++ flat_map line (map f (range_with_len 0 y))
+pub row-more : (f : ℕ → List ℕ) (old into : List ℕ) (y : ℕ)
+    → into ≡ old ++ flat_map line (map f (range_with_len 0 y))
     → into ++ line (f y) ≡ old ++ flat_map line (map f (range_with_len 0 (y + 1)))
 row-more f old into y so_far =
     let next = map-range_with_len_more f 0 y y (omega arith) in
@@ -39,7 +40,8 @@ AllRows rows = All (AllPass is_cell) rows
 lines-rows : (rows : List (List ℕ)) → AllRows rows → lines (flat_map line rows) ≡ rows
 lines-rows [] all = refl
 lines-rows (row ∷ rows) all =
-    rw (append_assoc, lines-ended row (flat_map line rows) (All-head (AllPass is_cell) row rows all)) (ap (λ xs. row ∷ xs) (lines-rows rows (All-tail (AllPass is_cell) row rows all)))
+    let first = lines-ended row (flat_map line rows) (All-head (AllPass is_cell) row rows all) in
+    rw (append_assoc, first, lines-rows rows (All-tail (AllPass is_cell) row rows all)) refl
 
 -- it holds cell bytes and line feeds
 abbrev IsPlain : ℕ → Type 0
@@ -48,22 +50,35 @@ IsPlain byte = (is_cell byte ≡ true) ⊎ (is_line_feed byte ≡ true)
 plain-rows : (rows : List (List ℕ)) → AllRows rows → All IsPlain (flat_map line rows)
 plain-rows [] all = All-nil IsPlain
 plain-rows (row ∷ rows) all =
-    let plain = All-weaker (λ b. is_cell b ≡ true) IsPlain (λ b cell. inl cell) row (All-head (AllPass is_cell) row rows all) in
-    All-append IsPlain (line row) (flat_map line rows) (All-push IsPlain row 10 plain (inr refl)) (plain-rows rows (All-tail (AllPass is_cell) row rows all))
+    let cells = All-head (AllPass is_cell) row rows all in
+    let plain = All-weaker (λ b. is_cell b ≡ true) IsPlain (λ b cell. inl cell) row cells in
+    let rest = plain-rows rows (All-tail (AllPass is_cell) row rows all) in
+    let ended = All-push IsPlain row 10 plain (inr refl) in
+    All-append IsPlain (line row) (flat_map line rows) ended rest
+
+plain-good : (text : List ℕ) (i : ℕ) → IsPlain (get_or text i 0) → is_bad text i ≡ false
+plain-good text i (inl cell) = grind (arith, nat_tests)
+plain-good text i (inr end) = grind (arith, nat_tests)
 
 -- no byte of it offends where its lines are few and short
 plain-clean : (text : List ℕ) → All IsPlain text → IsSize (size_of_rows (lines text)) → IsClean text
 plain-clean text plain size k h =
-    let good : IsGood text = λ i below. elim (plain i 0 below) [ inl cell ↦ grind (arith, nat_tests) | inr end ↦ grind (arith, nat_tests) ] in
+    let good : IsGood text = λ i below. plain-good text i (plain i 0 below) in
     let read = reads text k good (omega (arith, h)) in
-    let in_row = λ (end : is_line_feed (get_or text k 0) ≡ true). (rw (reading-more true _ text k end refl) at (fits text (k + 1) good (omega (arith, h)))).few in
+    let next = fits text (k + 1) good (omega (arith, h)) in
     offence-none text k (record {
       row = elim (plain k 0 h) [
-        | inl cell ↦ omega (arith, read.row, (fits-cell text k good h cell).row, size.few_rows)
-        | inr end ↦ omega (arith, read.row, in_row end, length_push {X = List ℕ}, size.few_rows)
+        | inl cell ↦
+            let row = (fits-cell text k good h cell).row in
+            omega (arith, read.row, row, size.few_rows)
+        | inr end ↦
+            let row = (rw (reading-more true _ text k end refl) at next).high in
+            omega (arith, read.row, row, length_push {X = List ℕ}, size.few_rows)
       ];
       good = good k h;
-      column = λ cell full. omega (arith, full, column_read text k _ read, (fits-cell text k good h cell).column, size.few_columns);
+      column = λ cell full.
+          let column = (fits-cell text k good h cell).column in
+          omega (arith, full, column_read text k _ read, column, size.few_columns);
     })
 
 -- ---- the rows of a grid
@@ -77,14 +92,23 @@ glyph_of-glyph b glyph = grind (arith, nat_tests)
 row-at : (g : Sheet) (y : ℕ) → y < g.dims.h → get_or (rows_of g) y [] ≡ row_of g y
 row-at g y h = get_or-map-range_with_len (row_of g) 0 g.dims.h y y [] h (omega arith)
 
-glyph-at : (g : Sheet) (y x : ℕ) → x < g.dims.w → get_or (row_of g y) x 0 ≡ glyph_at g (record { y = y; x = x })
-glyph-at g y x h = get_or-map-range_with_len (λ x. glyph_at g (record { y = y; x = x })) 0 g.dims.w x x 0 h (omega arith)
+glyph-at : (g : Sheet) (y x : ℕ) → x < g.dims.w
+    → get_or (row_of g y) x 0 ≡ glyph_at g (record { y = y; x = x })
+glyph-at g y x h =
+    let row = λ (x : ℕ). glyph_at g (record { y = y; x = x }) in
+    get_or-map-range_with_len row 0 g.dims.w x x 0 h (omega arith)
 
 length-row_of : (g : Sheet) (y : ℕ) → length (row_of g y) ≡ g.dims.w
-length-row_of g y = length-map-range_with_len (λ x. glyph_at g (record { y = y; x = x })) 0 g.dims.w
+length-row_of g y =
+    length-map-range_with_len (λ x. glyph_at g (record { y = y; x = x })) 0 g.dims.w
 
 length-rows_of : (g : Sheet) → length (rows_of g) ≡ g.dims.h
 length-rows_of g = length-map-range_with_len (row_of g) 0 g.dims.h
+
+IsGlyph-place : (g : Sheet) (y x : ℕ) → IsSheet g → y < g.dims.h → x < g.dims.w
+    → IsGlyph (glyph_at g (record { y = y; x = x }))
+IsGlyph-place g y x sheet row column =
+    IsGlyph-glyph_at g (record { y = y; x = x }) sheet (record { row = row; column = column })
 
 all-cells : (g : Sheet) → IsSheet g → AllRows (rows_of g)
 all-cells g sheet =
@@ -92,16 +116,21 @@ all-cells g sheet =
     let row : y < g.dims.h = omega (arith, high, length-rows_of g) in
     rw (row-at g y row) (All-from_get_or (λ b. is_cell b ≡ true) (row_of g y) 0 (λ x wide.
     let column : x < g.dims.w = omega (arith, wide, length-row_of g y) in
-    rw (glyph-at g y x column) (glyph-cell _ (IsGlyph-glyph_at g (record { y = y; x = x }) sheet (record { row = row; column = column }))))))
+    rw (glyph-at g y x column) (glyph-cell _ (IsGlyph-place g y x sheet row column)))))
 
 size-rows : (g : Sheet) → IsSheet g → size_of_rows (rows_of g) ≡ g.dims
 unfolding widest
 size-rows g sheet =
     let high : length (rows_of g) ≡ g.dims.h = length-rows_of g in
-    let length_at : (y : ℕ) → y < length (rows_of g) → length (get_or (rows_of g) y []) ≡ g.dims.w = λ y h. ap length (row-at g y (omega (arith, h, high))) ∙ length-row_of g y in
-    let most : widest (rows_of g) ≤ g.dims.w = max_least widest length refl (λ row rows. refl) (rows_of g) [] g.dims.w (λ y h. omega (arith, length_at y h)) in
-    let first : 0 < length (rows_of g) = omega (arith, high, sheet.size.rows) in
-    let wide : widest (rows_of g) ≡ g.dims.w = omega (arith, most, length_at 0 first, max_bounds widest length refl (λ row rows. refl) (rows_of g) 0 [] first) in
+    let rows = rows_of g in
+    let long = λ (y : ℕ) (h : y < length rows).
+    ap length (row-at g y (omega (arith, h, high))) ∙ length-row_of g y in
+    let some : 0 < length rows = omega (arith, high, sheet.size.rows) in
+    let short : (y : ℕ) → y < length rows → length (get_or rows y []) ≤ g.dims.w =
+    λ y h. omega (arith, long y h) in
+    let least = max_least widest length refl (λ row rows. refl) rows [] g.dims.w short in
+    let most = max_bounds widest length refl (λ row rows. refl) rows 0 [] some in
+    let wide : widest rows ≡ g.dims.w = omega (arith, least, most, long 0 some) in
     rw (high, wide) refl
 
 sheet-rows : (g : Sheet) → IsSheet g → g ≡ sheet_of_rows (rows_of g)
@@ -111,9 +140,11 @@ sheet-rows g sheet =
       dims = refl;
       whole = sheet.whole;
       each = λ at inside.
-          let wide : at.x < length (row_of g at.y) = omega (arith, inside.column, length-row_of g at.y) in
-          let glyph : glyph_of (glyph_at g at) ≡ glyph_at g at = glyph_of-glyph (glyph_at g at) (IsGlyph-glyph_at g at sheet inside) in
-          rw (row-at g at.y inside.row, get_or-map glyph_of (row_of g at.y) at.x 0 empty wide, glyph-at g at.y at.x inside.column, glyph) refl;
+          let wide : at.x < length (row_of g at.y) =
+          omega (arith, inside.column, length-row_of g at.y) in
+          let row = get_or-map glyph_of (row_of g at.y) at.x 0 empty wide in
+          let glyph = glyph_of-glyph (glyph_at g at) (IsGlyph-glyph_at g at sheet inside) in
+          rw (row-at g at.y inside.row, row, glyph-at g at.y at.x inside.column, glyph) refl;
     }))
 
 -- a printed grid is read as that grid
@@ -122,8 +153,10 @@ unfolding text_of
 text_of-read g sheet =
     let rows = rows_of g in
     let all = all-cells g sheet in
-    let same : lines (flat_map line rows) ≡ rows = lines-rows rows all in
-    let size : size_of_rows (lines (flat_map line rows)) ≡ g.dims = ap size_of_rows same ∙ size-rows g sheet in
+    let same = lines-rows rows all in
+    let size = ap size_of_rows same ∙ size-rows g sheet in
     let clean = plain-clean (flat_map line rows) (plain-rows rows all) (rw size sheet.size) in
-    grid_text-clean (flat_map line rows) g.dims clean size
-    ∙ (rw (ne_eqb g.dims.h 0 (λ e. omega (arith, e, sheet.size.rows)), ne_eqb g.dims.w 0 (λ e. omega (arith, e, sheet.size.columns)), same) (ap Ok (sym (sheet-rows g sheet))))
+    let high = ne_eqb g.dims.h 0 (λ e. omega (arith, e, sheet.size.rows)) in
+    let wide = ne_eqb g.dims.w 0 (λ e. omega (arith, e, sheet.size.columns)) in
+    let read = grid_text-clean (flat_map line rows) g.dims clean size in
+    rw (read, high, wide, same, ← sheet-rows g sheet) refl
