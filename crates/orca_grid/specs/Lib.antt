@@ -1,1 +1,2 @@
+pub mod BlankGrid
 pub mod GridText

@@ -1,8 +1,8 @@
 //! The grid.
 
-ghost use Rattle.std.specs.Prelude.{◌≡◌, ◌*◌, [], IfOk, replicate, slice_set};
-ghost use Rattle.orca_base.specs.Glyphs.{empty};
+ghost use Rattle.std.specs.Prelude.{◌≡◌, [], IfOk, slice_set};
 ghost use Rattle.orca_base.specs.Grids.{IsInside, index_of};
+ghost use Rattle.orca_grid.specs.BlankGrid.{blank_sheet};
 
 use orca_base::{Dims, Glyph, Look, Marks, Memory, Place};
 use std::alloc::Global;
@@ -28,7 +28,7 @@ impl Model for Grid {
 impl Grid {
     /// A grid of this size, each cell of it empty; [`Memory`] where its room is refused.
     pub fn blank(alloc: Global, dims: Dims) -> Result<Grid, Memory>
-        ensures { IfOk result (λ g. g ≡ record { dims = dims; cells = replicate (dims.h * dims.w) empty }) }
+        ensures { IfOk result (λ g. g ≡ blank_sheet dims) }
     {
         let mut cells = Vec::new(alloc);
         cells.resize(dims.cells(), Glyph::EMPTY)?;
@@ -38,7 +38,8 @@ impl Grid {
     /// Puts a glyph at a place in the grid.
     pub fn set(&mut self, at: Place, glyph: Glyph)
         requires { IsInside self.old.dims at }
-        ensures { self.new ≡ record self.old { cells = slice_set self.old.cells (index_of self.old.dims at) glyph } }
+        ensures { let index = index_of self.old.dims at in
+            self.new ≡ record self.old { cells = slice_set self.old.cells index glyph } }
     {
         let index = self.dims.index(at);
         self.cells[index] = glyph;

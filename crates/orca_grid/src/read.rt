@@ -1,10 +1,10 @@
 //! Reading a grid text.
 
-ghost use Rattle.std.specs.Prelude.{◌≡◌, ◌≢◌, ◌+◌, ◌^◌, ◌<◌, Some, None, Ok, Err, IfOk, IfErr, IfSome, IsOk, OnOk, IsOkUnless, length, replicate, if◌then◌else◌};
+ghost use Rattle.std.specs.Prelude.{◌≡◌, ◌≢◌, ◌+◌, ◌^◌, ◌<◌, Some, None, Ok, Err, IfOk, IfErr, IfSome, IsOk, OnOk, IsOkUnless, length, if◌then◌else◌};
 ghost use Rattle.std.specs.Str.Lines.{lines};
-ghost use Rattle.orca_base.specs.Glyphs.{empty};
-ghost use Rattle.orca_base.specs.Grids.{IsSize, cells_of};
-ghost use Rattle.orca_grid.specs.GridText.{row_at, column_at, is_cell as is_cell_byte, is_bad as is_bad_at, offence as offence_at, first_offence, glyph_of, size_of_rows, sheet_of_rows, grid_text};
+ghost use Rattle.orca_base.specs.Grids.{IsSize};
+ghost use Rattle.orca_grid.specs.BlankGrid.{blank_sheet};
+ghost use Rattle.orca_grid.specs.GridText.{row_at, column_at, is_cell as is_cell_byte, is_bad as is_bad_at, offence as offence_at, IsClean, glyph_of, size_of_rows, sheet_of_rows, grid_text};
 
 use crate::{Grid, GridRefusal};
 use orca_base::limits::{MAX_COLUMNS, MAX_ROWS};
@@ -15,9 +15,9 @@ impl Grid {
     /// The grid of a text of fewer than 2^32 bytes, or the [`GridRefusal`] of the first byte that
     /// offends; [`GridRefusal::Memory`] where memory is refused to the grid of a text.
     ///
-    /// A row ends in a line feed, or in a carriage return and a line feed; the end of the last row may
-    /// be missing. A space is read as `.`, and a row shorter than the longest is filled with `.` at
-    /// the right. A refused text is refused whatever memory there is.
+    /// A row ends in a line feed, or in a carriage return and a line feed; the end of the last row
+    /// may be missing. A space is read as `.`, and a row shorter than the longest is filled with
+    /// `.` at the right. A refused text is refused whatever memory there is.
     pub fn read(alloc: Global, bytes: &[u8]) -> Result<Grid, GridRefusal>
         requires { length bytes.now < 2 ^ 32 }
         ensures found { IfOk result (λ grid. grid_text bytes.now ≡ Ok grid) }
@@ -37,11 +37,12 @@ fn size_of(bytes: &[u8]) -> Result<Dims, GridRefusal>
     requires { length bytes.now < 2 ^ 32 }
     ensures size { IfOk result (λ dims. dims ≡ size_of_rows (lines bytes.now)) }
     ensures whole { IfOk result IsSize }
-    ensures clean { OnOk result (first_offence bytes.now (length bytes.now) ≡ None) }
+    ensures clean { OnOk result (IsClean bytes.now) }
     ensures found { OnOk result (grid_text bytes.now ≡ Ok (sheet_of_rows (lines bytes.now))) }
     ensures refused { IfErr result (λ refusal. grid_text bytes.now ≡ Err refusal) }
     ensures named { IfErr result (λ refusal. refusal ≢ GridRefusal.Memory) }
 {
+    // The rows that have ended, the longest of them, and the cells of the row that has begun.
     let mut height: u16 = 0;
     let mut width: u16 = 0;
     let mut column: u16 = 0;
@@ -57,7 +58,8 @@ fn size_of(bytes: &[u8]) -> Result<Dims, GridRefusal>
             column += 1;
         }
     }
-    let h = height + u16::from(column > 0);
+    // The end of the last row may be missing.
+    let h = height + column.min(1);
     let w = width.max(column);
     if h == 0 || w == 0 {
         return Err(GridRefusal::NoCells);
@@ -67,10 +69,9 @@ fn size_of(bytes: &[u8]) -> Result<Dims, GridRefusal>
 
 /// Writes the cells of a text in which no byte offends into a blank grid of its size.
 fn fill(grid: &mut Grid, bytes: &[u8])
-    requires clean { first_offence bytes.now (length bytes.now) ≡ None }
-    requires size { grid.old.dims ≡ size_of_rows (lines bytes.now) }
+    requires clean { IsClean bytes.now }
+    requires blank { grid.old ≡ blank_sheet (size_of_rows (lines bytes.now)) }
     requires whole { IsSize grid.old.dims }
-    requires blank { grid.old.cells ≡ replicate (cells_of grid.old.dims) empty }
     ensures { grid.new ≡ sheet_of_rows (lines bytes.now) }
 {
     let mut at = Place { y: 0, x: 0 };
@@ -84,8 +85,8 @@ fn fill(grid: &mut Grid, bytes: &[u8])
     }
 }
 
-/// How the byte at a place offends: `height` rows have ended before it, and `column` cells of its row
-/// stand before it.
+/// How the byte at a place offends: `height` rows have ended before it, and `column` cells of its
+/// row stand before it.
 #[tactic(auto, unfolding(crate::specs::GridText::offence))]
 fn offence(bytes: &[u8], i: usize, height: u16, column: u16) -> Option<GridRefusal>
     requires place { i < length bytes.now }

@@ -3,15 +3,16 @@
 use orca_base::Memory;
 use thiserror::Error;
 
-/// Why a text is no grid. The first offending byte decides; where it offends twice, [`TooHigh`] comes
-/// before [`BadByte`], and that before [`TooWide`].
+/// Why a text is no grid. The first offending byte decides; where it offends twice, [`TooHigh`]
+/// comes before [`BadByte`], and that before [`TooWide`].
 ///
 /// [`TooHigh`]: GridRefusal::TooHigh
 /// [`BadByte`]: GridRefusal::BadByte
 /// [`TooWide`]: GridRefusal::TooWide
 #[derive(Clone, Copy, Debug, PartialEq, Eq, Error)]
 pub enum GridRefusal {
-    /// A byte that is no glyph, no space, no line feed, and no carriage return that a line feed follows.
+    /// A byte that is no glyph, no space, no line feed, and no carriage return that a line feed
+    /// follows.
     #[error("bad byte at {offset}")]
     BadByte {
         /// The bytes before it.
