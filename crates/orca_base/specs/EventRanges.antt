@@ -40,7 +40,8 @@ IsInRange (event.Osc path values) = IsOsc path values
 
 -- an event in range can be played
 pub IsPlayable-in_range : (e : Event) → IsInRange e → IsPlayable e
-IsPlayable-in_range (event.Note channel key velocity frames mono) range = (range.numbers, range.loud)
+IsPlayable-in_range (event.Note channel key velocity frames mono) range =
+    (range.numbers, range.loud)
 IsPlayable-in_range (event.Control channel control value) range = range.numbers
 IsPlayable-in_range (event.Bend channel lsb msb) range = range
 IsPlayable-in_range (event.Udp text) range = tt
