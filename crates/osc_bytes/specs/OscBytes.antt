@@ -4,8 +4,8 @@ use Rattle.std.specs.Prelude.{ℕ, ◌+◌, ◌%◌, ◌==◌, List, [], ◌∷�
 use Rattle.std.specs.Int.{w32, to_be_bytes}
 use Rattle.std.specs.List.{flat_map}
 
--- the zero bytes at the end of a string of n bytes ("Atomic Data Types", OSC-string): one, and up to
--- three more, until the whole is a multiple of 4
+-- the zero bytes at the end of a string of n bytes ("Atomic Data Types", OSC-string): one, and up
+-- to three more, until the whole is a multiple of 4
 unfoldable pub zeros_after : ℕ → ℕ
 zeros_after n = unwrap_or (find (λ zeros. (n + zeros) % 4 == 0) (1 ∷ 2 ∷ 3 ∷ 4 ∷ [])) 0
 
