@@ -3,21 +3,21 @@ use Rattle.std.proofs.Common.{◌≡◌, ℕ, ◌+◌, ◌≤◌, Bool, true, fa
 use Rattle.std.specs.List.{AllByRecursion, filter, fold, All}
 use Rattle.std.proofs.lemmas.Bool.{and_from, eq-eqb}
 use Rattle.std.proofs.lemmas.List.{map-append}
-use Rattle.std.proofs.lemmas.List.Elements.{All-nil, All-push, All-append, recursion_from_All}
+use Rattle.std.proofs.lemmas.List.Elements.{All-nil, All-push, recursion_from_All}
 use Rattle.orca_base.specs.declared.limits.TheConstants.{MIN_VELOCITY}
 use Rattle.orca_base.specs.declared.note.Note.{Note}
 use Rattle.orca_base.specs.declared.event.Event.{Event}
 use Rattle.orca_base.specs.declared.event.Event.TheVariants as event
 use Rattle.orca_base.specs.declared.message.Message.{Message}
 use Rattle.orca_base.specs.declared.message.Message.TheVariants as message
-use Rattle.orca_base.specs.Ranges.{AreInRange, IsPlayable, IsSendable, HasFewValues, CarriesFewValues}
+use Rattle.orca_base.specs.Ranges.{AreInRange, IsPlayable, IsSendable}
 use Rattle.orca_notes.specs.Device.{Voice, is_same, is_on, voice_of, voices, IsChord, Leads, Plays, midi}
 use Rattle.orca_notes.specs.Sound.{Sounds, sounds_of, is_due, is_cut_by, ends, stop, start, say, happens, sound}
 use Rattle.orca_notes.proofs.Voices.{same_from_true}
 use Rattle.orca_notes.proofs.Chords.{IsChord-filter, IsChord-push, is_on-filter}
 use Rattle.orca_notes.proofs.DeviceFacts.{Leads-none}
 use Rattle.orca_notes.proofs.Turns.{Leads-on, Leads-other}
-use Rattle.orca_notes.proofs.PlayFacts.{Plays-none, Plays-append, Plays-ends_of, few_values-ends}
+use Rattle.orca_notes.proofs.PlayFacts.{Plays-none, Plays-append, Plays-ends_of}
 
 -- the notes are a chord, and the messages lead a device to them
 pub record Follows (before : List Note) (s : Sounds) : Type 0 where
@@ -123,38 +123,3 @@ sound-follows notes tick events chord low =
     fold-follows notes tick (stop (is_due tick) (sounds_of notes [])) events
     (recursion_from_All IsPlayable events low)
     (stop-follows notes (is_due tick) (sounds_of notes []) first)
-
--- ---- values of OSC messages
-
-happens-few_values : (tick : ℕ) (s : Sounds) (e : Event) → HasFewValues e
-    → All CarriesFewValues s.messages → All CarriesFewValues (happens tick s e).messages
-unfolding happens
-happens-few_values tick s (event.Note channel key velocity length mono) few so_far =
-    let cut = filter (is_cut_by channel key mono) s.notes in
-    let stopped = All-append CarriesFewValues s.messages (ends cut) so_far (few_values-ends cut) in
-    All-push CarriesFewValues _ (message.On channel key velocity) stopped tt
-happens-few_values tick s (event.Control channel control value) few so_far =
-    All-push CarriesFewValues s.messages (message.Control channel control value) so_far tt
-happens-few_values tick s (event.Bend channel lsb msb) few so_far =
-    All-push CarriesFewValues s.messages (message.Bend channel lsb msb) so_far tt
-happens-few_values tick s (event.Udp text) few so_far =
-    All-push CarriesFewValues s.messages (message.Udp text) so_far tt
-happens-few_values tick s (event.Osc path values) few so_far =
-    All-push CarriesFewValues s.messages (message.Osc path values) so_far few
-
-fold-few_values : (tick : ℕ) (s : Sounds) (events : List Event)
-    → AllByRecursion HasFewValues events → All CarriesFewValues s.messages
-    → All CarriesFewValues (fold (happens tick) s events).messages
-fold-few_values tick s [] few so_far = so_far
-fold-few_values tick s (e ∷ events) few so_far =
-    fold-few_values tick (happens tick s e) events few.1
-    (happens-few_values tick s e few.0 so_far)
-
--- a frame: each OSC message has few values where each event has
-pub sound-few_values : (notes : List Note) (tick : ℕ) (events : List Event)
-    → All HasFewValues events → All CarriesFewValues (sound notes tick events).messages
-unfolding sound
-sound-few_values notes tick events few =
-    fold-few_values tick (stop (is_due tick) (sounds_of notes [])) events
-    (recursion_from_All HasFewValues events few)
-    (few_values-ends (filter (is_due tick) notes))

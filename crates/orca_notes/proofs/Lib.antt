@@ -4,3 +4,4 @@ pub mod DeviceFacts
 pub mod Turns
 pub mod PlayFacts
 pub mod Follows
+pub mod MessageRanges

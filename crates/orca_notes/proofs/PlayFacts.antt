@@ -5,7 +5,7 @@ use Rattle.std.proofs.lemmas.List.Elements.{All-nil, All-append, All-map, All-fi
 use Rattle.orca_base.specs.declared.note.Note.{Note}
 use Rattle.orca_base.specs.declared.message.Message.{Message}
 use Rattle.orca_base.specs.declared.message.Message.TheVariants as message
-use Rattle.orca_base.specs.Ranges.{IsSendable, CarriesFewValues}
+use Rattle.orca_base.specs.Ranges.{IsSendable}
 use Rattle.orca_notes.specs.Device.{voices, IsChord, Plays, midi, midi-append}
 use Rattle.orca_notes.specs.Sound.{ends}
 use Rattle.orca_notes.proofs.Chords.{IsNote, voices-in_range}
@@ -59,8 +59,3 @@ pub Plays-ends : (notes : List Note) → IsChord notes → Plays notes (ends not
 Plays-ends notes chord =
     let all = Plays-ends_of (λ _. true) notes chord in
     rw (filter-every notes, filter-none notes) at all
-
--- an end carries no values
-pub few_values-ends : (notes : List Note) → All CarriesFewValues (ends notes)
-few_values-ends notes =
-    All-map CarriesFewValues (λ note. message.Off note.channel note.key) notes (λ k d h. tt)

@@ -51,7 +51,8 @@ voice_turn status key velocity =
     if status / 16 == 9 && not (velocity == 0) then Starts voice
     else (if status / 16 == 9 || status / 16 == 8 then Ends voice else Neither)
 
--- what the bytes of one message do; a message of one byte, F8 to FF, and all others do neither
+-- what the bytes of one message do; a message of one byte, F8 to FF, and all others do neither.
+-- Only messages in range are modelled, and none of these is a channel mode message
 abbrev pub turn_of : List ℕ → Turn
 turn_of (status ∷ key ∷ velocity ∷ []) = voice_turn status key velocity
 turn_of _ = Neither

@@ -1,7 +1,8 @@
 use Rattle.std.proofs.Common.{◌≡◌, ap}
 use Rattle.std.proofs.lemmas.List.{take_all}
 use Rattle.orca_notes.specs.Sound.{Sounds, sounds_of, sound}
-use Rattle.orca_notes.proofs.Follows.{Follows, sound-follows, sound-few_values}
+use Rattle.orca_notes.proofs.Follows.{Follows, sound-follows}
+use Rattle.orca_notes.proofs.MessageRanges.{few_values-sound}
 use Rattle.orca_notes.proofs.notes.Notes.advance.Goals as goal
 use Rattle.orca_notes.proofs.notes.Notes.advance.Goals.{After-loop-event}
 
@@ -31,4 +32,4 @@ returns-clause-plays c =
 pub returns-clause-few_values : goal.returns-clause-few_values
 returns-clause-few_values c = λ few.
     rw (ap (λ (s : Sounds). s.messages) (same c))
-    (sound-few_values c.args.self.now c.args.tick c.args.events.now few)
+    (few_values-sound c.args.self.now c.args.tick c.args.events.now few)

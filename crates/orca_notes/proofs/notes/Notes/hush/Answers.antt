@@ -3,7 +3,8 @@ use Rattle.orca_base.specs.declared.limits.TheConstants.{MAX_NOTES}
 use Rattle.orca_notes.specs.Sound.{ends}
 use Rattle.orca_notes.specs.Device.{IsChord}
 use Rattle.orca_notes.proofs.Chords.{length-IsChord, IsChord-nil}
-use Rattle.orca_notes.proofs.PlayFacts.{Plays-ends, few_values-ends}
+use Rattle.orca_notes.proofs.MessageRanges.{few_values-ends}
+use Rattle.orca_notes.proofs.PlayFacts.{Plays-ends}
 use Rattle.orca_notes.proofs.notes.Notes.hush.Goals as goal
 use Rattle.orca_notes.proofs.notes.Notes.hush.Goals.{After-clear}
 
