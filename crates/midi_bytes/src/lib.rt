@@ -57,8 +57,8 @@ pub fn control(channel: u8, control: u8, value: u8) -> [u8; 3]
     [CONTROL_CHANGE + channel, control, value]
 }
 
-/// The bytes of Pitch Bend Change on a channel, 0 to 15: the low seven bits of the bend, and then the
-/// high seven. The middle is `lsb` 0 and `msb` 64.
+/// The bytes of Pitch Bend Change on a channel, 0 to 15: the low seven bits of the bend, and then
+/// the high seven. The middle is `lsb` 0 and `msb` 64.
 pub fn bend(channel: u8, lsb: u8, msb: u8) -> [u8; 3]
     requires channel { channel ≤ MAX_CHANNEL }
     requires lsb { lsb ≤ MAX_DATA }

@@ -14,7 +14,8 @@ pub record AreInRange (channel first second : ℕ) : Type 0 where
 
 -- an event whose channel and data are in range, a note having at least the least velocity
 abbrev pub IsPlayable : Event → Type 0
-IsPlayable (event.Note channel key velocity length mono) = AreInRange channel key velocity × (MIN_VELOCITY ≤ velocity)
+IsPlayable (event.Note channel key velocity length mono) =
+    AreInRange channel key velocity × (MIN_VELOCITY ≤ velocity)
 IsPlayable (event.Control channel control value) = AreInRange channel control value
 IsPlayable (event.Bend channel lsb msb) = AreInRange channel lsb msb
 IsPlayable (event.Udp text) = Unit {0}
@@ -31,13 +32,11 @@ HasDataInRange (message.Osc path values) = Unit {0}
 
 -- the same, an On having at least the least velocity
 abbrev pub IsSendable : Message → Type 0
-IsSendable (message.On channel key velocity) = HasDataInRange (message.On channel key velocity) × (MIN_VELOCITY ≤ velocity)
-IsSendable (message.Off channel key) = HasDataInRange (message.Off channel key)
-IsSendable (message.Control channel control value) = HasDataInRange (message.Control channel control value)
-IsSendable (message.Bend channel lsb msb) = HasDataInRange (message.Bend channel lsb msb)
-IsSendable (message.Udp text) = Unit {0}
-IsSendable (message.Osc path values) = Unit {0}
+IsSendable (message.On channel key velocity) =
+    AreInRange channel key velocity × (MIN_VELOCITY ≤ velocity)
+IsSendable m = HasDataInRange m
 
+-- a message that can be sent has its data in range
 pub HasDataInRange-sendable : (m : Message) → IsSendable m → HasDataInRange m
 HasDataInRange-sendable (message.On channel key velocity) range = range.0
 HasDataInRange-sendable (message.Off channel key) range = range

@@ -30,8 +30,8 @@ impl Ending {
         }
     }
 
-    /// Says the ends of the notes that it takes, and leaves the others. Where it takes none, it looks at
-    /// each note once.
+    /// Says the ends of the notes that it takes, and leaves the others. If it takes none, it looks
+    /// at each note once.
     pub(crate) fn apply(self, notes: &mut Vec<Note>, messages: &mut Messages)
         requires { length messages.old + length notes.old.items ≤ MAX_MESSAGES }
         ensures said { messages.new ≡ messages.old ++ ends (filter (takes self) notes.old.items) }
@@ -47,7 +47,8 @@ impl Ending {
     fn say_ends(self, notes: &[Note], messages: &mut Messages) -> bool
         requires { length messages.old + length notes.now ≤ MAX_MESSAGES }
         ensures said { messages.new ≡ messages.old ++ ends (filter (takes self) notes.now) }
-        ensures none { result ≡ false → filter (λ note. not (takes self note)) notes.now ≡ notes.now }
+        ensures none { result ≡ false
+            → filter (λ note. not (takes self note)) notes.now ≡ notes.now }
     {
         let mut some = false;
         for note in notes {

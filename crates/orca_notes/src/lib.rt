@@ -2,10 +2,12 @@
 #![tactic(auto)]
 
 mod ending;
+mod laws;
 mod messages;
 mod notes;
 #[cfg(test)]
 mod tests;
 
+pub use laws::{device_laws, message_laws};
 pub use messages::Messages;
 pub use notes::Notes;

@@ -5,8 +5,9 @@ use orca_base::{Memory, Message};
 use std::alloc::Global;
 use std::marker::Model;
 
-/// The messages of one command, in the order in which they are handed. Room for the most messages of a
-/// frame is taken at the start, so that no later call takes memory. A contract sees the list.
+/// The messages of one command, in the order in which they are handed out. Room for the most
+/// messages of a frame is taken at the start, so that no later call takes memory. A contract sees
+/// the list.
 #[derive(Drop)]
 pub struct Messages {
     list: Vec<Message>,
@@ -22,11 +23,12 @@ impl Model for Messages {
 
     ghost view = { λ messages. messages.list.items };
 
-    ghost invariant = { λ messages. (vec_len messages.list ≤ MAX_MESSAGES) × (MAX_MESSAGES ≤ vec_capacity messages.list) };
+    ghost invariant = { λ m. (vec_len m.list ≤ MAX_MESSAGES)
+        × (MAX_MESSAGES ≤ vec_capacity m.list) };
 }
 
 impl Messages {
-    /// No messages, with the room for all of a frame. [`Memory`] where that room is refused.
+    /// No messages, with the room for all of a frame. [`Memory`] if that room is refused.
     pub fn start(alloc: Global) -> Result<Messages, Memory>
         ensures { IfOk result (λ messages. messages ≡ []) }
     {

@@ -1,8 +1,8 @@
-ghost use Rattle.std.specs.Prelude.{◌≡◌, ◌+◌, ◌*◌, ◌^◌, ◌<◌, ◌≤◌, [], ◌∷◌, ◌++◌, length, filter, not, false, All, IfOk};
-ghost use Rattle.orca_notes.specs.Sound.{sounds, ends, happens, sound};
+ghost use Rattle.std.specs.Prelude.{◌≡◌, ◌+◌, ◌^◌, ◌<◌, ◌≤◌, [], ◌∷◌, ◌++◌, length, filter, not, false, All, IfOk};
+ghost use Rattle.orca_base.specs.Ranges.{IsPlayable, HasFewValues, CarriesFewValues};
+ghost use Rattle.orca_notes.specs.Device.{voice_of, is_on, voices, IsChord, Plays};
 ghost use Rattle.orca_notes.specs.Ending.{takes};
-ghost use Rattle.orca_base.specs.Ranges.{IsPlayable, IsSendable, HasFewValues, CarriesFewValues};
-ghost use Rattle.orca_notes.specs.Device.{voice_of, is_on, voices, IsChord, device, IsFair, midi};
+ghost use Rattle.orca_notes.specs.Sound.{sounds_of, ends, happens, sound};
 
 use crate::Messages;
 use crate::ending::{Ending, say_all_ends};
@@ -11,9 +11,9 @@ use orca_base::{Event, Memory, Message, Note};
 use std::alloc::Global;
 use std::marker::Model;
 
-/// The notes that sound, in the order in which they started. No two have the same channel and key. Room
-/// for a note of each channel and key is taken at the start, so that no later call takes memory. A
-/// contract sees the list.
+/// The notes that sound, in the order in which they started. No two have the same channel and key.
+/// Room for a note of each channel and key is taken at the start, so that no later call takes
+/// memory. A contract sees the list.
 #[derive(Drop)]
 pub struct Notes {
     list: Vec<Note>,
@@ -30,11 +30,11 @@ impl Model for Notes {
 
     ghost view = { λ notes. notes.list.items };
 
-    ghost invariant = { λ notes. IsChord notes.list.items × (MAX_NOTES ≤ vec_capacity notes.list) };
+    ghost invariant = { λ n. IsChord n.list.items × (MAX_NOTES ≤ vec_capacity n.list) };
 }
 
 impl Notes {
-    /// No notes, with the room for one of each channel and key. [`Memory`] where that room is refused.
+    /// No notes, with the room for one of each channel and key. [`Memory`] if that room is refused.
     pub fn start(alloc: Global) -> Result<Notes, Memory>
         ensures { IfOk result (λ notes. notes ≡ []) }
     {
@@ -51,14 +51,14 @@ impl Notes {
         self.list.as_slice()
     }
 
-    /// Plays a frame: the notes that are due at the tick end, in the order in which they started, and
-    /// then the events happen in order. A note first ends those that it cuts off: with `mono` every note
-    /// of its channel, and else the one of its channel and key. It is due as many ticks later as it is
-    /// long.
+    /// Plays a frame: the notes that are due at the tick end, in the order in which they started,
+    /// and then the events happen in order. A note first ends those that it cuts off: with `mono`
+    /// every note of its channel, and else the one of its channel and key. It is due as many ticks
+    /// later as it is long.
     ///
-    /// A frame without events and due notes goes once over the sounding notes, and over no silent channel
-    /// or key. With due notes it goes twice over them, and each event that is a note goes over them once
-    /// more, or twice where it cuts some off. So no frame takes more than
+    /// A frame without events and due notes goes once over the sounding notes, and over no silent
+    /// channel or key. With due notes it goes twice over them. Each event that is a note goes over
+    /// them once more, or twice if it cuts some off. So no frame takes more than
     /// `2 * (MAX_EVENTS + 1) * MAX_NOTES` looks at a note.
     pub fn advance(&mut self, tick: u32, events: &[Event], messages: &mut Messages)
         requires empty { messages.old ≡ [] }
@@ -68,13 +68,9 @@ impl Notes {
         ensures notes { self.new ≡ (sound self.old tick events.now).notes }
         ensures messages { messages.new ≡ (sound self.old tick events.now).messages }
 
-        // A device that has the keys of the old notes on has those of the new notes on afterwards. No key
-        // starts that is on, and none ends that is off.
-        ensures device { device (voices self.old) (midi messages.new) ≡ voices self.new }
-        ensures fair { IsFair (voices self.old) (midi messages.new) }
-
-        ensures chord { IsChord self.new }
-        ensures sendable { All IsSendable messages.new }
+        // A device that has the keys of the old notes on has exactly those of the new notes on when
+        // it has read the messages. No key starts that is on, and none ends that is off.
+        ensures plays { Plays self.old messages.new self.new }
         ensures few_values { All HasFewValues events.now → All CarriesFewValues messages.new }
     {
         let now = u64::from(tick);
@@ -89,9 +85,7 @@ impl Notes {
         requires { messages.old ≡ [] }
         ensures notes { self.new ≡ [] }
         ensures messages { messages.new ≡ ends self.old }
-        ensures device { device (voices self.old) (midi messages.new) ≡ [] }
-        ensures fair { IsFair (voices self.old) (midi messages.new) }
-        ensures sendable { All IsSendable messages.new }
+        ensures plays { Plays self.old messages.new [] }
         ensures few_values { All CarriesFewValues messages.new }
     {
         say_all_ends(&self.list, messages);
@@ -104,8 +98,10 @@ impl Notes {
         requires fits { now < 2 ^ 32 }
         requires playable { IsPlayable event }
         requires room { length self.old + length messages.old < MAX_MESSAGES }
-        ensures happens { sounds self.new messages.new ≡ happens now (sounds self.old messages.old) event }
-        ensures few { length self.new + length messages.new ≤ length self.old + length messages.old + 2 }
+        ensures happens { sounds_of self.new messages.new
+            ≡ happens now (sounds_of self.old messages.old) event }
+        ensures few { length self.new + length messages.new
+            ≤ length self.old + length messages.old + 2 }
     {
         match event {
             Event::Note {
@@ -142,12 +138,14 @@ impl Notes {
     /// Ends the notes that the ending takes.
     fn stop(&mut self, ending: Ending, messages: &mut Messages)
         // There are at most as many notes as channels and keys, so a caller may count on it.
-        requires { length self.old ≤ MAX_NOTES → length self.old + length messages.old ≤ MAX_MESSAGES }
+        requires { length self.old ≤ MAX_NOTES
+            → length self.old + length messages.old ≤ MAX_MESSAGES }
         ensures notes { self.new ≡ filter (λ note. not (takes ending note)) self.old }
         ensures messages { messages.new ≡ messages.old ++ ends (filter (takes ending) self.old) }
         ensures chord { IsChord self.old }
         ensures few { length self.old ≤ MAX_NOTES }
-        ensures count { length self.new + length messages.new ≡ length self.old + length messages.old }
+        ensures count { length self.new + length messages.new
+            ≡ length self.old + length messages.old }
     {
         ending.apply(&mut self.list, messages);
     }
@@ -158,7 +156,8 @@ impl Notes {
         requires silent { is_on (voices self.old) (voice_of note) ≡ false }
         requires room { length messages.old < MAX_MESSAGES }
         ensures notes { self.new ≡ self.old ++ note ∷ [] }
-        ensures messages { messages.new ≡ messages.old ++ Message.On note.channel note.key velocity ∷ [] }
+        ensures messages { messages.new
+            ≡ messages.old ++ Message.On note.channel note.key velocity ∷ [] }
     {
         messages.push(Message::On {
             channel: note.channel,

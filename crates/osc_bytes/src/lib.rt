@@ -28,7 +28,7 @@ pub fn message(path: Glyph, values: &Short, into: &mut Wire)
     push_integers(values, into);
 }
 
-/// A comma and the tag of an int32 for each of so many values (OSC 1.0, type tag strings).
+/// A comma, and the tag of an int32 for each of `count` values (OSC 1.0, type tag strings).
 fn type_tags(count: usize) -> Short
     requires { count < SHORT_BYTES }
     ensures tags { result ≡ 44 ∷ replicate count 105 }
@@ -42,18 +42,20 @@ fn type_tags(count: usize) -> Short
     tags
 }
 
-/// Adds an OSC-string: the text, and then 1 to 4 zero bytes, up to a multiple of 4.
-#[tactic(auto, unfolding(crate::specs::OscBytes::osc_string))]
+/// Adds an OSC-string: the text, and then 1 to 4 zero bytes, up to a multiple of 4 (OSC 1.0, atomic
+/// data types).
 fn push_string(text: &[u8], into: &mut Wire)
-    requires { length into.old + length text.now + 4 ≤ WIRE_BYTES }
+    requires words { length into.old % 4 ≡ 0 }
+    requires room { length into.old + length text.now + 4 ≤ WIRE_BYTES }
     ensures string { into.new ≡ into.old ++ osc_string text.now }
-    ensures size { length into.new ≡ length into.old + (length text.now / 4 + 1) * 4 }
+    ensures words { length into.new % 4 ≡ 0 }
+    ensures short { length into.new ≤ length into.old + length text.now + 4 }
 {
     into.extend(text);
     push_zeros(4 - text.len() % 4, into);
 }
 
-/// Adds so many zero bytes.
+/// Adds `count` zero bytes.
 fn push_zeros(count: usize, into: &mut Wire)
     requires { length into.old + count ≤ WIRE_BYTES }
     ensures { into.new ≡ into.old ++ replicate count 0 }

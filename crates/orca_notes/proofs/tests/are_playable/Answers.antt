@@ -6,8 +6,14 @@ use Rattle.orca_notes.proofs.tests.are_playable.Goals as goal
 
 pub loop-event-preserved : goal.loop-event-preserved
 loop-event-preserved c =
-    let playable : IsPlayable (get_or c.args.events.now c.loop-event.event-index c.event-item.result) = rw (← c.event-item.is) (c.is_playable.ensures c.if-not-is_playable.false) in
-    All-more IsPlayable c.args.events.now c.loop-event.event-index c.event-item.result c.loop-event-test.true c.loop-event.invariant playable
+    let events = c.args.events.now in
+    let i = c.loop-event.event-index in
+    let item = c.event-item.result in
+    let playable : IsPlayable (get_or events i item) =
+    rw (← c.event-item.is) (c.is_playable.ensures c.if-not-is_playable.false) in
+    All-more IsPlayable events i item c.loop-event-test.true c.loop-event.invariant playable
 
 pub returns : goal.returns
-returns c = λ _. rw (take_all c.loop-event.event-index c.args.events.now c.loop-event-test.false) at c.loop-event.invariant
+returns c = λ _.
+    let all = take_all c.loop-event.event-index c.args.events.now c.loop-event-test.false in
+    rw all at c.loop-event.invariant

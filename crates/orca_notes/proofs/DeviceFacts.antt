@@ -1,0 +1,38 @@
+-- What messages in a row do to a device.
+use Rattle.std.proofs.Common.{◌≡◌, ℕ, List, [], ◌∷◌, ◌++◌, refl, ap, ◌∙◌}
+use Rattle.orca_notes.specs.Device.{Voice, Turn, Neither, turn_of, keys_after, device, Suits, IsFair, Leads, device-append, IsFair-append}
+
+-- no messages leave the keys as they are
+pub Leads-none : (on : List Voice) → Leads on [] on
+unfolding device IsFair
+Leads-none on = record { device = refl; fair = tt }
+
+-- messages, and then others that go on where these lead
+pub Leads-append : (on middle after : List Voice) (xs ys : List (List ℕ))
+    → Leads on xs middle → Leads middle ys after → Leads on (xs ++ ys) after
+Leads-append on middle after xs ys first rest = record {
+  device =
+      device-append on xs ys
+      ∙ (ap (λ (o : List Voice). device o ys) first.device ∙ rest.device);
+  fair = IsFair-append on xs ys first.fair (rw first.device rest.fair);
+}
+
+-- a message, and then others that go on where it leads
+pub Leads-cons : (on after : List Voice) (message : List ℕ) (turn : Turn) (messages : List (List ℕ))
+    → turn_of message ≡ turn → Suits on turn → Leads (keys_after on turn) messages after
+    → Leads on (message ∷ messages) after
+unfolding device IsFair
+Leads-cons on after message turn messages e suits rest = record {
+  device = rw e rest.device;
+  fair = (rw e suits, rw e rest.fair);
+}
+
+-- a message that neither starts nor ends a key leaves the keys as they are
+pub Leads-neither : (on : List Voice) (message : List ℕ)
+    → turn_of message ≡ Neither → Leads on (message ∷ []) on
+unfolding keys_after
+Leads-neither on message neither = Leads-cons on on message Neither [] neither tt (Leads-none on)
+
+-- so does a message of one byte, as those of a clock are
+pub Leads-byte : (on : List Voice) (byte : ℕ) → Leads on ((byte ∷ []) ∷ []) on
+Leads-byte on byte = Leads-neither on (byte ∷ []) refl
