@@ -6,8 +6,8 @@ use Rattle.orca_rig.specs.declared.inbox.Answer.TheVariants as answer
 use Rattle.orca_rig.specs.declared.outs.SendFault.{SendFault}
 use Rattle.orca_rig.specs.declared.outs.SendFault.TheVariants.{Failed, Memory}
 
--- one poll: the moment that it was asked to wait for, where there was one; the number of sends before it; its answer; and
--- the bytes that came
+-- one poll: the moment that it was asked to wait for, where there was one; the number of sends
+-- before it; its answer; and the bytes that came
 pub record Poll : Type 0 where
   pub until : Option ℕ
   pub sent : ℕ
@@ -59,10 +59,11 @@ is_ending (answer.Due at) = false
 is_ending answer.End = true
 is_ending answer.Failed = true
 
--- what a poll may answer: no moment is below the last one; 1 byte or more come, and no more than an arrival holds; and
--- Due comes only where a moment was given, at that moment or later
+-- what a poll may answer: no moment is below the last one; 1 byte or more come, and no more than an
+-- arrival holds; and Due comes only where a moment was given, at that moment or later
 abbrev pub MayAnswer : Option ℕ → ℕ → Answer → Type 0
-MayAnswer until last (answer.Bytes hand count at) = (last ≤ at) × (1 ≤ count) × (count ≤ ARRIVAL_BYTES)
+MayAnswer until last (answer.Bytes hand count at) =
+    (last ≤ at) × (1 ≤ count) × (count ≤ ARRIVAL_BYTES)
 MayAnswer until last (answer.Due at) = (last ≤ at) × IsSomeAnd until (λ moment. moment ≤ at)
 MayAnswer until last answer.End = Unit {0}
 MayAnswer until last answer.Failed = Unit {0}

@@ -16,15 +16,16 @@ use Rattle.orca_rig.specs.Outside.{Contents, Ask}
 use Rattle.orca_rig.specs.Outside.Ask.{Load, Save}
 use Rattle.orca_rig.specs.Handed.{Attached}
 
--- a store in memory: its files, the calls so far, the numbers of the calls that are to fail, and the faults so far
+-- a store in memory: its files, the calls so far, the numbers of the calls that are to fail, and
+-- the faults so far
 pub record Store : Type 0 where
   pub contents : Contents
   pub asked : List Ask
   pub fail : List ℕ
   pub faults : ℕ
 
--- ports in memory: what they were given, what they were attached to, the calls that are to fail, by port and number, and
--- the faults so far
+-- ports in memory: what they were given, what they were attached to, the calls that are to fail, by
+-- port and number, and the faults so far
 pub record Ports : Type 0 where
   pub handed : List Sent
   pub attached : List Attached
@@ -41,7 +42,8 @@ files_of files = finite.from_entries (named files)
 -- no name stands twice
 abbrev pub names_differ : List (List ℕ × List ℕ) → Bool
 names_differ [] = true
-names_differ (file ∷ files) = is_none (finite.find (slice_cmp nat_cmp) file.0 files) && names_differ files
+names_differ (file ∷ files) =
+    is_none (finite.find (slice_cmp nat_cmp) file.0 files) && names_differ files
 
 -- a call of a store as clauses see it
 abbrev pub ask_of : Call → Ask
@@ -67,10 +69,14 @@ sends_to port = count_by (λ sent. is_same_port sent.port port)
 abbrev pub attaches_to : Port → List Attached → ℕ
 attaches_to port = count_by (λ attached. is_same_port attached.port port)
 
--- whether the next call of a port is to fail: it is listed by its number among the calls of that port, counted from 1
+-- the number of the next call of a port, counted from 1 over its attaches and sends
+abbrev pub next_call : Ports → Port → ℕ
+next_call ports port = sends_to port ports.handed + attaches_to port ports.attached + 1
+
+-- whether it is to fail: it is listed by its port and its number
 abbrev pub is_port_to_fail : Ports → Port → Bool
 is_port_to_fail ports port =
-    list_any (λ call. is_same_port call.0 port && call.1 == sends_to port ports.handed + attaches_to port ports.attached + 1) ports.fail
+    list_any (λ call. is_same_port call.0 port && call.1 == next_call ports port) ports.fail
 
 -- what is handed out, as clauses see it
 abbrev pub sents : List (Port × Vec ℕ Global) → List Sent
@@ -84,11 +90,15 @@ attaches = map (λ attached. record { port = attached.0; name = string_bytes att
 abbrev pub store_code : Coded Store
 store_code =
     code_by (Contents × (List Ask × (List ℕ × ℕ)))
-    (coded× (finite.code (coded_list coded_ℕ) (coded_list coded_ℕ)) (coded× (coded_list ask_code) (coded× (coded_list coded_ℕ) coded_ℕ)))
+    (coded× (finite.code coded_bytes coded_bytes)
+    (coded× (coded_list ask_code) (coded× coded_bytes coded_ℕ)))
     (λ s. (s.contents, (s.asked, (s.fail, s.faults))))
     (λ p. record { contents = p.0; asked = p.1.0; fail = p.1.1.0; faults = p.1.1.1 })
     (λ _. refl)
   where
+    coded_bytes : Coded (List ℕ)
+    coded_bytes = coded_list coded_ℕ
+
     parts_of : Ask → List ℕ ⊎ (List ℕ × List ℕ)
     parts_of (Load name) = inl name
     parts_of (Save name bytes) = inr (name, bytes)
@@ -102,4 +112,6 @@ store_code =
     ask_back (Save name bytes) = refl
 
     ask_code : Coded Ask
-    ask_code = code_by (List ℕ ⊎ (List ℕ × List ℕ)) (coded⊎ (coded_list coded_ℕ) (coded× (coded_list coded_ℕ) (coded_list coded_ℕ))) parts_of ask_from ask_back
+    ask_code =
+        code_by (List ℕ ⊎ (List ℕ × List ℕ))
+        (coded⊎ coded_bytes (coded× coded_bytes coded_bytes)) parts_of ask_from ask_back

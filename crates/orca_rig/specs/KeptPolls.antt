@@ -7,7 +7,12 @@ use Rattle.orca_rig.specs.Arrived.{Poll, Log}
 use Rattle.orca_rig.specs.Schedule.{Schedule, is_in_order, are_arrivals}
 
 abbrev pub poll_of : Polled → Poll
-poll_of polled = record { until = polled.until; sent = polled.sent; answer = polled.answer; bytes = polled.bytes }
+poll_of polled = record {
+  until = polled.until;
+  sent = polled.sent;
+  answer = polled.answer;
+  bytes = polled.bytes;
+}
 
 abbrev pub log_of : Inside → Log
 log_of inbox = record {
@@ -27,9 +32,10 @@ schedule_of inbox = record {
   faults = inbox.failed;
 }
 
--- no answer is below the last moment, each arrival has as many bytes as it may, and there is room for every poll to come:
--- one for each answer, and one for the end
+-- no answer is below the last moment, each arrival has as many bytes as it may, and there is room
+-- for every poll to come: one for each answer, and one for the end
 pub record IsKept (inbox : Inside) : Type 0 where
   pub in_order : is_in_order inbox.last inbox.answers.items ≡ true
   pub arrivals : are_arrivals inbox.answers.items ≡ true
-  pub room : inbox.ended ≡ false → vec_len inbox.polls + length inbox.answers.items < vec_capacity inbox.polls
+  pub room : inbox.ended ≡ false
+      → vec_len inbox.polls + length inbox.answers.items < vec_capacity inbox.polls

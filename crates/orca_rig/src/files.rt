@@ -62,26 +62,32 @@ pub trait Files {
     /// Makes `into` exactly the bytes of the file of that name, which has at most
     /// [`MAX_FILE_BYTES`](orca_base::limits::MAX_FILE_BYTES). After an error `into` is as before.
     fn load(&mut self, name: &str, into: &mut Vec<u8>) -> Result<(), StoreFault>
-        ensures loaded { OnOk result (IfSome (contents self.old) (λ files. get files name.now ≡ Some into.new.items)) }
+        ensures loaded { OnOk result (IfSome (contents self.old)
+            (λ files. get files name.now ≡ Some into.new.items)) }
         ensures short { OnOk result (length into.new.items ≤ MAX_FILE_BYTES) }
         ensures untouched { OnErr result (into.new.items ≡ into.old.items) }
         ensures contents { contents self.new ≡ contents self.old }
         ensures asked { asked self.new ≡ after_ask result (Load name.now) (asked self.old) }
 
         ensures count { faults self.old ≤ faults self.new }
-        ensures failed { IsErrOf result StoreFault.Failed → Rose (faults self.old) (faults self.new) }
+        ensures failed { IsErrOf result StoreFault.Failed
+            → Rose (faults self.old) (faults self.new) }
         ensures steady { OnOk result (faults self.new ≡ faults self.old) }
-        ensures steady_memory { IsErrOf result StoreFault.Memory → faults self.new ≡ faults self.old };
+        ensures steady_memory { IsErrOf result StoreFault.Memory
+            → faults self.new ≡ faults self.old };
 
     /// Makes the file of that name hold exactly these bytes, whether or not there was one. After
-    /// [`StoreFault::Failed`] that file may hold any bytes or be missing, and the others are as before;
-    /// after [`StoreFault::Memory`] all are as before.
+    /// [`StoreFault::Failed`] that file may hold any bytes or be missing, and the others are as
+    /// before; after [`StoreFault::Memory`] all are as before.
     fn save(&mut self, name: &str, bytes: &[u8]) -> Result<(), StoreFault>
         ensures saved { IsSaved result name.now bytes.now (contents self.old) (contents self.new) }
-        ensures asked { asked self.new ≡ after_ask result (Save name.now bytes.now) (asked self.old) }
+        ensures asked { asked self.new
+            ≡ after_ask result (Save name.now bytes.now) (asked self.old) }
 
         ensures count { faults self.old ≤ faults self.new }
-        ensures failed { IsErrOf result StoreFault.Failed → Rose (faults self.old) (faults self.new) }
+        ensures failed { IsErrOf result StoreFault.Failed
+            → Rose (faults self.old) (faults self.new) }
         ensures steady { OnOk result (faults self.new ≡ faults self.old) }
-        ensures steady_memory { IsErrOf result StoreFault.Memory → faults self.new ≡ faults self.old };
+        ensures steady_memory { IsErrOf result StoreFault.Memory
+            → faults self.new ≡ faults self.old };
 }

@@ -22,8 +22,8 @@ pub enum Answer {
 
 /// Where the bytes of the players come in, and the clock.
 pub trait Inbox {
-    /// The name that [`listen`](Inbox::listen) was given, the moment that it answered, and the polls;
-    /// where they are told. A `listen` that answered [`SendFault::Memory`] is not kept.
+    /// The name that [`listen`](Inbox::listen) was given, the moment that it answered, and the
+    /// polls; where they are told. A `listen` that answered [`SendFault::Memory`] is not kept.
     ghost log: { Self → Option Log };
 
     /// The last moment that it answered.
@@ -50,13 +50,15 @@ pub trait Inbox {
         ensures ended { ended self.new ≡ ended self.old }
 
         ensures count { faults self.old ≤ faults self.new }
-        ensures failed { IsErrOf result SendFault.Failed → Rose (faults self.old) (faults self.new) }
+        ensures failed { IsErrOf result SendFault.Failed
+            → Rose (faults self.old) (faults self.new) }
         ensures steady { OnOk result (faults self.new ≡ faults self.old) }
-        ensures steady_memory { IsErrOf result SendFault.Memory → faults self.new ≡ faults self.old };
+        ensures steady_memory { IsErrOf result SendFault.Memory
+            → faults self.new ≡ faults self.old };
 
-    /// Waits for what comes next: bytes, which it puts at the front of `bytes`, or the moment `until`,
-    /// where there is one. It takes no memory. What stands in `bytes` behind those that came has no
-    /// meaning.
+    /// Waits for what comes next: bytes, which it puts at the front of `bytes`, or the moment
+    /// `until`, where there is one. It takes no memory. What stands in `bytes` behind those that
+    /// came has no meaning.
     fn poll<O: Outs>(
         &mut self,
         outs: &O,

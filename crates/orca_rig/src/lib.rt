@@ -1,5 +1,5 @@
-//! The outside of a run: the files that are loaded and saved, the ports that are sent to, and the inbox
-//! where bytes come in. Each is a trait with a form in memory and a form over the real thing.
+//! The outside of a run: the files that are loaded and saved, the ports that are sent to, and the
+//! inbox where bytes come in. Each is a trait with a form in memory and a form over the real thing.
 #![tactic(auto)]
 
 mod files;

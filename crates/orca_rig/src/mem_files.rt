@@ -38,12 +38,17 @@ impl Model for MemFiles {
 
     ghost coded = { store_code };
 
-    ghost view = { λ f. record { contents = files_of f.files.items; asked = asks_of f.calls.items; fail = f.to_fail.items; faults = f.failed } };
+    ghost view = { λ f. record {
+      contents = files_of f.files.items;
+      asked = asks_of f.calls.items;
+      fail = f.to_fail.items;
+      faults = f.failed;
+    } };
 }
 
 impl MemFiles {
-    /// A store that holds exactly these files, each a name and its bytes. `fail` lists the calls that
-    /// are to fail, by their numbers, counted from 1.
+    /// A store that holds exactly these files, each a name and its bytes. `fail` lists the calls
+    /// that are to fail, by their numbers, counted from 1.
     pub fn new(contents: Vec<(String, Vec<u8>)>, fail: Vec<u64>) -> Result<MemFiles, Memory>
         // No name stands twice.
         requires { IsTrue (names_differ (named contents.items)) }
@@ -120,7 +125,8 @@ fn place_of(files: &[(String, Vec<u8>)], name: &str) -> Option<usize>
 /// Makes the file of that name hold these bytes. There is room for one more file.
 fn put_file(files: &mut Vec<(String, Vec<u8>)>, name: String, bytes: Vec<u8>)
     requires { vec_len files.old < vec_capacity files.old }
-    ensures { files_of files.new.items ≡ insert (files_of files.old.items) (string_bytes name) bytes.items }
+    ensures { files_of files.new.items
+        ≡ insert (files_of files.old.items) (string_bytes name) bytes.items }
 {
     match place_of(files, name.as_str()) {
         Some(place) => files[place].1 = bytes,
@@ -166,19 +172,25 @@ impl Files for MemFiles {
         ensures short { OnOk result (length into.new.items ≤ MAX_FILE_BYTES) }
         ensures untouched { OnErr result (into.new.items ≡ into.old.items) }
         ensures contents { self.new.contents ≡ self.old.contents }
-        ensures asked { Some self.new.asked ≡ after_ask result (Load name.now) (Some self.old.asked) }
+        ensures asked { Some self.new.asked
+            ≡ after_ask result (Load name.now) (Some self.old.asked) }
 
         ensures count { self.old.faults ≤ self.new.faults }
         ensures failed { IsErrOf result StoreFault.Failed → Rose self.old.faults self.new.faults }
         ensures steady { OnOk result (self.new.faults ≡ self.old.faults) }
-        ensures steady_memory { IsErrOf result StoreFault.Memory → self.new.faults ≡ self.old.faults }
+        ensures steady_memory { IsErrOf result StoreFault.Memory
+            → self.new.faults ≡ self.old.faults }
 
         ensures fail { self.new.fail ≡ self.old.fail }
         ensures cause { IsErrOf result StoreFault.Failed
-            → is_to_fail self.old.fail (length self.old.asked) ≡ false → IsUnloadable self.old.contents name.now }
-        ensures not_listed { OnOk result (is_to_fail self.old.fail (length self.old.asked) ≡ false) }
-        ensures counted { IsErrOf result StoreFault.Failed → self.new.faults ≡ min (self.old.faults + 1) last_count }
-        ensures quiet { self.old.fail ≡ [] → self.old.faults < self.new.faults → IsUnloadable self.old.contents name.now }
+            → is_to_fail self.old.fail (length self.old.asked) ≡ false
+            → IsUnloadable self.old.contents name.now }
+        ensures not_listed { OnOk result (is_to_fail self.old.fail (length self.old.asked)
+            ≡ false) }
+        ensures counted { IsErrOf result StoreFault.Failed
+            → self.new.faults ≡ min (self.old.faults + 1) last_count }
+        ensures quiet { self.old.fail ≡ []
+            → self.old.faults < self.new.faults → IsUnloadable self.old.contents name.now }
     {
         let alloc = *into.allocator();
         let call = Call::Load(String::from_str(alloc, name)?);
@@ -195,19 +207,25 @@ impl Files for MemFiles {
     }
 
     fn save(&mut self, name: &str, bytes: &[u8]) -> Result<(), StoreFault>
-        ensures saved { IsSaved result name.now bytes.now (Some self.old.contents) (Some self.new.contents) }
-        ensures asked { Some self.new.asked ≡ after_ask result (Save name.now bytes.now) (Some self.old.asked) }
+        ensures saved { IsSaved result name.now bytes.now
+            (Some self.old.contents) (Some self.new.contents) }
+        ensures asked { Some self.new.asked
+            ≡ after_ask result (Save name.now bytes.now) (Some self.old.asked) }
 
         ensures count { self.old.faults ≤ self.new.faults }
         ensures failed { IsErrOf result StoreFault.Failed → Rose self.old.faults self.new.faults }
         ensures steady { OnOk result (self.new.faults ≡ self.old.faults) }
-        ensures steady_memory { IsErrOf result StoreFault.Memory → self.new.faults ≡ self.old.faults }
+        ensures steady_memory { IsErrOf result StoreFault.Memory
+            → self.new.faults ≡ self.old.faults }
 
         ensures fail { self.new.fail ≡ self.old.fail }
         ensures untouched { OnErr result (self.new.contents ≡ self.old.contents) }
-        ensures listed { IsErrOf result StoreFault.Failed → IsTrue (is_to_fail self.old.fail (length self.old.asked)) }
-        ensures not_listed { OnOk result (is_to_fail self.old.fail (length self.old.asked) ≡ false) }
-        ensures counted { IsErrOf result StoreFault.Failed → self.new.faults ≡ min (self.old.faults + 1) last_count }
+        ensures listed { IsErrOf result StoreFault.Failed
+            → IsTrue (is_to_fail self.old.fail (length self.old.asked)) }
+        ensures not_listed { OnOk result (is_to_fail self.old.fail (length self.old.asked)
+            ≡ false) }
+        ensures counted { IsErrOf result StoreFault.Failed
+            → self.new.faults ≡ min (self.old.faults + 1) last_count }
         ensures quiet { self.old.fail ≡ [] → self.new.faults ≡ self.old.faults }
     {
         let alloc = *self.files.allocator();

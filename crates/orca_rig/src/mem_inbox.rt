@@ -49,11 +49,11 @@ impl Model for MemInbox {
 }
 
 impl MemInbox {
-    /// An inbox at which nobody listened. `start` is the moment that `listen` answers, and `answers` are
-    /// those of the polls, in order: a [`MemAnswer::Due`] is passed over where no moment is waited for, and
-    /// where it is below that moment, and a poll after the last of them answers [`Answer::End`]. `fail`
-    /// lists the calls that are to fail, by their numbers, counted from 1 over `listen` and the polls. A poll
-    /// that fails passes nothing over.
+    /// An inbox at which nobody listened. `start` is the moment that `listen` answers, and
+    /// `answers` are those of the polls, in order: a [`MemAnswer::Due`] is passed over where no
+    /// moment is waited for, and where it is below that moment, and a poll after the last of them
+    /// answers [`Answer::End`]. `fail` lists the calls that are to fail, by their numbers, counted
+    /// from 1 over `listen` and the polls. A poll that fails passes nothing over.
     pub fn new(start: u64, answers: Vec<MemAnswer>, fail: Vec<u64>) -> Result<MemInbox, Memory>
         // No moment is below an earlier one, the start being the first.
         requires order { IsTrue (is_in_order start answers.items) }
@@ -93,7 +93,8 @@ fn answer_next(
     bytes: &mut [u8; ARRIVAL_BYTES],
 ) -> Answer
     requires { are_arrivals answers.old.items ≡ true }
-    ensures turn { record { answer = result; answers = answers.new.items; bytes = bytes.new } ≡ turn_of fails until answers.old.items bytes.old }
+    ensures turn { record { answer = result; answers = answers.new.items; bytes = bytes.new }
+        ≡ turn_of fails until answers.old.items bytes.old }
     ensures in_order { (last : ℕ) → is_in_order last answers.old.items ≡ true
         → IsAnsweredInOrder until last answers.old.items result answers.new.items }
     ensures failed { IsTrue fails ↔ (result ≡ Answer.Failed) }
@@ -148,7 +149,8 @@ fn give(answer: &MemAnswer, bytes: &mut [u8; ARRIVAL_BYTES]) -> Answer
 /// Whether the next call is to fail.
 fn is_to_fail(to_fail: &[u64], name: &Option<String>, polls: &[Polled]) -> bool
     requires { length polls.now < 2 ^ 63 }
-    ensures { result ≡ is_to_fail to_fail.now ((if is_some name.now then 1 else 0) + length polls.now) }
+    ensures { result
+        ≡ is_to_fail to_fail.now ((if is_some name.now then 1 else 0) + length polls.now) }
 {
     let number = u64::from(name.is_some()) + polls.len() as u64 + 1;
     to_fail.contains(&number)
@@ -189,7 +191,13 @@ fn poll_to_keep<O: Outs>(
     bytes: &[u8; ARRIVAL_BYTES],
 ) -> Polled
     requires { count_of answer ≤ ARRIVAL_BYTES }
-    ensures { poll_of result ≡ record { until = until; sent = O.sent outs.now; answer = answer; bytes = arrived answer bytes.now } }
+    ensures { poll_of result
+        ≡ record {
+          until = until;
+          sent = O.sent outs.now;
+          answer = answer;
+          bytes = arrived answer bytes.now;
+        } }
 {
     let mut came = Wire::empty();
     came.extend(&bytes[..count_of(answer)]);
@@ -222,13 +230,17 @@ impl Inbox for MemInbox {
         ensures count { self.old.faults ≤ self.new.faults }
         ensures failed { IsErrOf result SendFault.Failed → Rose self.old.faults self.new.faults }
         ensures steady { OnOk result (self.new.faults ≡ self.old.faults) }
-        ensures steady_memory { IsErrOf result SendFault.Memory → self.new.faults ≡ self.old.faults }
+        ensures steady_memory { IsErrOf result SendFault.Memory
+            → self.new.faults ≡ self.old.faults }
 
         ensures answers { self.new.answers ≡ self.old.answers }
         ensures fail { self.new.fail ≡ self.old.fail }
-        ensures listed { IsErrOf result SendFault.Failed → IsTrue (is_to_fail self.old.fail (calls_of self.old.log)) }
-        ensures not_listed { OnOk result (is_to_fail self.old.fail (calls_of self.old.log) ≡ false) }
-        ensures counted { IsErrOf result SendFault.Failed → self.new.faults ≡ min (self.old.faults + 1) last_count }
+        ensures listed { IsErrOf result SendFault.Failed
+            → IsTrue (is_to_fail self.old.fail (calls_of self.old.log)) }
+        ensures not_listed { OnOk result (is_to_fail self.old.fail (calls_of self.old.log)
+            ≡ false) }
+        ensures counted { IsErrOf result SendFault.Failed
+            → self.new.faults ≡ min (self.old.faults + 1) last_count }
         ensures quiet { self.old.fail ≡ [] → self.new.faults ≡ self.old.faults }
     {
         self.listened = true;
@@ -268,7 +280,8 @@ impl Inbox for MemInbox {
         ensures answers { self.new.answers ≡ (turn self.old until bytes.old).answers }
         ensures bytes { bytes.new ≡ (turn self.old until bytes.old).bytes }
         ensures fail { self.new.fail ≡ self.old.fail }
-        ensures counted { result ≡ Answer.Failed → self.new.faults ≡ min (self.old.faults + 1) last_count }
+        ensures counted { result ≡ Answer.Failed
+            → self.new.faults ≡ min (self.old.faults + 1) last_count }
         ensures quiet { self.old.fail ≡ [] → self.new.faults ≡ self.old.faults }
     {
         let fails = is_to_fail(&self.to_fail, &self.name, &self.polls);

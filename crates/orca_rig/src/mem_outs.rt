@@ -22,12 +22,18 @@ impl Model for MemOuts {
 
     ghost Value = { Ports };
 
-    ghost view = { λ o. record { handed = sents o.pieces.items; attached = attaches o.names.items; fail = o.to_fail.items; faults = o.failed } };
+    ghost view = { λ o. record {
+      handed = sents o.pieces.items;
+      attached = attaches o.names.items;
+      fail = o.to_fail.items;
+      faults = o.failed;
+    } };
 }
 
 impl MemOuts {
-    /// Ports that were given nothing and attached to nothing. `fail` lists the calls that are to fail,
-    /// by their port and their number among the attaches and sends of that port, counted from 1.
+    /// Ports that were given nothing and attached to nothing. `fail` lists the calls that are to
+    /// fail, by their port and their number among the attaches and sends of that port, counted from
+    /// 1.
     pub fn new(fail: Vec<(Port, u64)>) -> Result<MemOuts, Memory>
         ensures handed { IfOk result (λ outs. outs.handed ≡ []) }
         ensures attached { IfOk result (λ outs. outs.attached ≡ []) }
@@ -44,7 +50,8 @@ impl MemOuts {
 
     /// A piece that was given to a port, counted from 0; none exactly from the number of pieces on.
     pub fn handed_at(&self, index: u64) -> Option<(Port, &[u8])>
-        ensures piece { option_map (λ sent. record { port = sent.0; bytes = sent.1.now }) result ≡ slice_get self.now.handed index }
+        ensures piece { option_map (λ sent. record { port = sent.0; bytes = sent.1.now }) result
+            ≡ slice_get self.now.handed index }
         ensures none { IsNone result ↔ (length self.now.handed ≤ index) }
     {
         let (port, bytes) = self.pieces.get(index as usize)?;
@@ -72,7 +79,8 @@ fn attaches_to(names: &[(Port, String)], port: Port) -> usize
 fn next_number(pieces: &[(Port, Vec<u8>)], names: &[(Port, String)], port: Port) -> u64
     requires pieces { length pieces.now < 2 ^ 63 }
     requires names { length names.now < 2 ^ 63 }
-    ensures { result ≡ sends_to port (sents pieces.now) + attaches_to port (attaches names.now) + 1 }
+    ensures { result
+        ≡ sends_to port (sents pieces.now) + attaches_to port (attaches names.now) + 1 }
 {
     (sends_to(pieces, port) + attaches_to(names, port)) as u64 + 1
 }
@@ -99,17 +107,20 @@ impl Outs for MemOuts {
     ghost faults = { λ o. o.faults };
 
     fn attach(&mut self, port: Port, name: &str) -> Result<(), SendFault>
-        ensures attached { Some self.new.attached ≡ after_call result (record { port = port; name = name.now }) (Some self.old.attached) }
+        ensures attached { Some self.new.attached
+            ≡ after_call result (record { port = port; name = name.now }) (Some self.old.attached) }
         ensures handed { self.new.handed ≡ self.old.handed }
         ensures count { self.old.faults ≤ self.new.faults }
         ensures failed { IsErrOf result SendFault.Failed → Rose self.old.faults self.new.faults }
         ensures steady { OnOk result (self.new.faults ≡ self.old.faults) }
-        ensures steady_memory { IsErrOf result SendFault.Memory → self.new.faults ≡ self.old.faults }
+        ensures steady_memory { IsErrOf result SendFault.Memory
+            → self.new.faults ≡ self.old.faults }
 
         ensures fail { self.new.fail ≡ self.old.fail }
         ensures listed { IsErrOf result SendFault.Failed → IsTrue (is_port_to_fail self.old port) }
         ensures not_listed { OnOk result (is_port_to_fail self.old port ≡ false) }
-        ensures counted { IsErrOf result SendFault.Failed → self.new.faults ≡ min (self.old.faults + 1) last_count }
+        ensures counted { IsErrOf result SendFault.Failed
+            → self.new.faults ≡ min (self.old.faults + 1) last_count }
         ensures quiet { self.old.fail ≡ [] → self.new.faults ≡ self.old.faults }
     {
         let fails = self.is_to_fail(port);
@@ -123,17 +134,20 @@ impl Outs for MemOuts {
     }
 
     fn send(&mut self, port: Port, bytes: &[u8]) -> Result<(), SendFault>
-        ensures handed { Some self.new.handed ≡ after_call result (record { port = port; bytes = bytes.now }) (Some self.old.handed) }
+        ensures handed { Some self.new.handed
+            ≡ after_call result (record { port = port; bytes = bytes.now }) (Some self.old.handed) }
         ensures attached { self.new.attached ≡ self.old.attached }
         ensures count { self.old.faults ≤ self.new.faults }
         ensures failed { IsErrOf result SendFault.Failed → Rose self.old.faults self.new.faults }
         ensures steady { OnOk result (self.new.faults ≡ self.old.faults) }
-        ensures steady_memory { IsErrOf result SendFault.Memory → self.new.faults ≡ self.old.faults }
+        ensures steady_memory { IsErrOf result SendFault.Memory
+            → self.new.faults ≡ self.old.faults }
 
         ensures fail { self.new.fail ≡ self.old.fail }
         ensures listed { IsErrOf result SendFault.Failed → IsTrue (is_port_to_fail self.old port) }
         ensures not_listed { OnOk result (is_port_to_fail self.old port ≡ false) }
-        ensures counted { IsErrOf result SendFault.Failed → self.new.faults ≡ min (self.old.faults + 1) last_count }
+        ensures counted { IsErrOf result SendFault.Failed
+            → self.new.faults ≡ min (self.old.faults + 1) last_count }
         ensures quiet { self.old.fail ≡ [] → self.new.faults ≡ self.old.faults }
     {
         let fails = self.is_to_fail(port);

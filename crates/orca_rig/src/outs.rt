@@ -54,7 +54,8 @@ pub trait Outs {
     ghost handed: { Self → Option (List Sent) };
 
     /// All ports that were attached and their names, in order, also where [`attach`](Outs::attach)
-    /// answered [`SendFault::Failed`], and none that answered [`SendFault::Memory`]; where they are told.
+    /// answered [`SendFault::Failed`], and none that answered [`SendFault::Memory`]; where they are
+    /// told.
     ghost attached: { Self → Option (List Attached) };
 
     /// What [`sent`](Outs::sent) answers.
@@ -65,27 +66,33 @@ pub trait Outs {
 
     /// Connects a port to the file, device or address of that name.
     fn attach(&mut self, port: Port, name: &str) -> Result<(), SendFault>
-        ensures attached { attached self.new ≡ after_call result (record { port = port; name = name.now }) (attached self.old) }
+        ensures attached { attached self.new
+            ≡ after_call result (record { port = port; name = name.now }) (attached self.old) }
         ensures handed { handed self.new ≡ handed self.old }
 
         ensures count { faults self.old ≤ faults self.new }
-        ensures failed { IsErrOf result SendFault.Failed → Rose (faults self.old) (faults self.new) }
+        ensures failed { IsErrOf result SendFault.Failed
+            → Rose (faults self.old) (faults self.new) }
         ensures steady { OnOk result (faults self.new ≡ faults self.old) }
-        ensures steady_memory { IsErrOf result SendFault.Memory → faults self.new ≡ faults self.old };
+        ensures steady_memory { IsErrOf result SendFault.Memory
+            → faults self.new ≡ faults self.old };
 
     /// Sends the bytes to the port, as one piece.
     fn send(&mut self, port: Port, bytes: &[u8]) -> Result<(), SendFault>
-        ensures handed { handed self.new ≡ after_call result (record { port = port; bytes = bytes.now }) (handed self.old) }
+        ensures handed { handed self.new
+            ≡ after_call result (record { port = port; bytes = bytes.now }) (handed self.old) }
         ensures attached { attached self.new ≡ attached self.old }
 
         ensures count { faults self.old ≤ faults self.new }
-        ensures failed { IsErrOf result SendFault.Failed → Rose (faults self.old) (faults self.new) }
+        ensures failed { IsErrOf result SendFault.Failed
+            → Rose (faults self.old) (faults self.new) }
         ensures steady { OnOk result (faults self.new ≡ faults self.old) }
-        ensures steady_memory { IsErrOf result SendFault.Memory → faults self.new ≡ faults self.old };
+        ensures steady_memory { IsErrOf result SendFault.Memory
+            → faults self.new ≡ faults self.old };
 
-    /// How many pieces were given to [`send`](Outs::send), where that is told and fits. It is there for
-    /// an inbox to write down: only [`Inbox::poll`](crate::Inbox::poll) may call it, since the ports of a
-    /// running program answer 0.
+    /// How many pieces were given to [`send`](Outs::send), where that is told and fits. It is there
+    /// for an inbox to write down: only [`Inbox::poll`](crate::Inbox::poll) may call it, since the
+    /// ports of a running program answer 0.
     fn sent(&self) -> u64
         ensures { result ≡ sent self.now };
 

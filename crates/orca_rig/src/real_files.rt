@@ -44,9 +44,10 @@ impl<R: rt::Files> Files for RealFiles<'_, R> {
         }
     }
 
-    /// Creates or empties the file, and writes all bytes. A directory, a file that may not be written and
-    /// a folder that is missing are failures, and so is a disk that is full. Once the file is emptied, no
-    /// fault leaves it as it was: each is a failure then, also one for which memory was refused.
+    /// Creates or empties the file, and writes all bytes. A directory, a file that may not be
+    /// written and a folder that is missing are failures, and so is a disk that is full. Once the
+    /// file is emptied, no fault leaves it as it was: each is a failure then, also one for which
+    /// memory was refused.
     fn save(&mut self, name: &str, bytes: &[u8]) -> Result<(), StoreFault> {
         match write_file(self.rt, name, bytes) {
             Ok(()) => Ok(()),

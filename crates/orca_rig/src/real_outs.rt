@@ -13,13 +13,13 @@ use std::{io, rt, str};
 ///
 /// | port | goes to |
 /// |---|---|
-/// | [`Port::Midi`] | the file, pipe or device file that it is attached to, one write for each send |
-/// | [`Port::Udp`], [`Port::Osc`] | the address that it is attached to, one datagram for each send |
+/// | [`Port::Midi`] | the attached file, pipe or device file, one write for each send |
+/// | [`Port::Udp`], [`Port::Osc`] | the attached address, one datagram for each send |
 /// | [`Port::Text`], [`Port::View`] | the standard output |
 /// | [`Port::Fault`] | the standard error |
 ///
-/// Midi, Udp and Osc drop their bytes while they are not attached. Nothing is kept back: when a send
-/// returns, its bytes have left the program.
+/// Midi, Udp and Osc drop their bytes while they are not attached. Nothing is kept back: when a
+/// send returns, its bytes have left the program.
 #[derive(Drop)]
 pub struct RealOuts<'a, R: rt::Files> {
     rt: &'a R,
@@ -96,16 +96,17 @@ impl<R: Print + Eprint + rt::Files + Net> Outs for RealOuts<'_, R> {
 
     ghost faults = { λ o. o.failed };
 
-    /// Midi is attached to a file, a named pipe or a device file, which is opened for writing: a plain file
-    /// is created or emptied. A pipe that nobody reads waits here until somebody does, as open(2) says.
-    /// Udp and Osc are attached to an address, `HOST:PORT`. The other ports cannot be attached: that is a
-    /// failure. A failed attach leaves the port unattached.
+    /// Midi is attached to a file, a named pipe or a device file, which is opened for writing: a
+    /// plain file is created or emptied. A pipe that nobody reads waits here until somebody does,
+    /// as open(2) says. Udp and Osc are attached to an address, `HOST:PORT`. The other ports cannot
+    /// be attached: that is a failure. A failed attach leaves the port unattached.
     fn attach(&mut self, port: Port, name: &str) -> Result<(), SendFault> {
         let done = self.connect(port, name);
         count(&mut self.failed, done)
     }
 
-    /// Text for the standard error that is no UTF-8 is a failure, and so is a datagram that was cut.
+    /// Text for the standard error that is no UTF-8 is a failure, and so is a datagram that was
+    /// cut.
     fn send(&mut self, port: Port, bytes: &[u8]) -> Result<(), SendFault> {
         let done = self.write(port, bytes);
         count(&mut self.failed, done)

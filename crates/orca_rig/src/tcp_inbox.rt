@@ -19,9 +19,10 @@ const LONGEST_WAIT: u64 = 1_000_000;
 /// `listen`, by the clock that does not go back. It tells no log.
 ///
 /// A peer that closes its end gives [`Answer::End`], once its bytes are read. One that resets the
-/// connection is a failure. One that sends nothing lets a poll wait for its moment, or forever where it
-/// has none; such a wait takes no processor. Neither side can hold the other up: of a moment that has come
-/// and bytes that have come, a poll answers the moment, and the next poll the bytes.
+/// connection is a failure. One that sends nothing lets a poll wait for its moment, or forever
+/// where it has none; such a wait takes no processor. Neither side can hold the other up: of a
+/// moment that has come and bytes that have come, a poll answers the moment, and the next poll the
+/// bytes.
 #[derive(Drop)]
 pub struct TcpInbox<'a, R> {
     rt: &'a R,
@@ -142,8 +143,8 @@ impl<R: Net<Stream = TcpStream> + Clock> Inbox for TcpInbox<'_, R> {
 
     ghost faults = { λ i. i.failed };
 
-    /// Waits until somebody connects to the address, and then accepts nobody else. An address that is
-    /// malformed, taken or unknown is a failure. The moment of the start is 0.
+    /// Waits until somebody connects to the address, and then accepts nobody else. An address that
+    /// is malformed, taken or unknown is a failure. The moment of the start is 0.
     fn listen(&mut self, name: &str) -> Result<u64, SendFault> {
         self.listened = true;
         match start(self.rt, &mut self.stream, name) {
@@ -159,8 +160,8 @@ impl<R: Net<Stream = TcpStream> + Clock> Inbox for TcpInbox<'_, R> {
         }
     }
 
-    /// A poll before `listen`, one whose clock fails, and one that has taken 2^64 - 1 turns without an
-    /// answer are failures.
+    /// A poll before `listen`, one whose clock fails, and one that has taken 2^64 - 1 turns without
+    /// an answer are failures.
     fn poll<O: Outs>(
         &mut self,
         outs: &O,

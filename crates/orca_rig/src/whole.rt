@@ -16,7 +16,8 @@ const PIECE_BYTES: usize = 4096;
 /// All that the reader has left. An interrupted read is tried again.
 pub(crate) fn read_whole<R: Read>(alloc: Global, from: &mut R) -> Result<Vec<u8>, StoreFault>
     ensures short { IfOk result (λ bytes. length bytes.items ≤ MAX_FILE_BYTES) }
-    ensures whole { IfOk result (λ bytes. IfSome (R.remaining from.old) (λ left. bytes.items ≡ left)) }
+    ensures whole { IfOk result (λ bytes.
+        IfSome (R.remaining from.old) (λ left. bytes.items ≡ left)) }
 {
     let mut bytes = Vec::new(alloc);
     let mut piece = [0u8; PIECE_BYTES];
@@ -32,8 +33,9 @@ pub(crate) fn read_whole<R: Read>(alloc: Global, from: &mut R) -> Result<Vec<u8>
     Err(StoreFault::Failed)
 }
 
-/// Writes all of the bytes. After a short write it goes on with the rest, an interrupted one is tried
-/// again, and one that takes nothing is a failure. Nothing is kept back, so nothing is flushed.
+/// Writes all of the bytes. After a short write it goes on with the rest, an interrupted one is
+/// tried again, and one that takes nothing is a failure. Nothing is kept back, so nothing is
+/// flushed.
 pub(crate) fn write_whole<W: Write>(to: &mut W, bytes: &[u8]) -> io::Result<()>
     ensures { OnOk result (Appends (W.contents to.old) (W.contents to.new) bytes.now) }
 {

@@ -8,7 +8,8 @@ use std::net::{TcpListener, TcpStream};
 use std::process::Abort;
 use std::test::Fail;
 
-/// The moment of an answer that is not the last: of so many bytes, or of a Due where none are wanted.
+/// The moment of an answer that is not the last: of so many bytes, or of a Due where none are
+/// wanted.
 fn moment_of(rt: &impl Abort, answer: Answer, wanted: Option<u8>) -> u64
     ensures { is_ending answer ≡ false }
 {

@@ -8,5 +8,8 @@ returns-in-Ok-eq0-clause-whole g c =
     let read = rw c.in-Ok-eq0.is at c.read.ensures.bytes in
     let room : 0 < length c.read.new.buf = search rules in
     let all = Consumes-trans _ _ _ _ _ c.loop.invariant.read read.0 in
-    let none : c.loop.bytes.items ++ take c.in-Ok-eq0.field-0 c.read.new.buf ≡ c.loop.bytes.items = rw c.in-Ok-eq0.field-0-test (append-nil _) in
-    Consumes-whole _ _ _ (λ left. c.loop.bytes.items ≡ left) all (read.1 c.in-Ok-eq0.field-0-test room) (sym none)
+    let kept = c.loop.bytes.items in
+    let none : kept ++ take c.in-Ok-eq0.field-0 c.read.new.buf ≡ kept =
+    rw c.in-Ok-eq0.field-0-test (append-nil _) in
+    let end = read.1 c.in-Ok-eq0.field-0-test room in
+    Consumes-whole _ _ _ (λ left. c.loop.bytes.items ≡ left) all end (sym none)

@@ -5,4 +5,7 @@ use Rattle.orca_rig.proofs.whole.read_whole.Given as goal
 
 -- what is kept was read, and is short enough
 abbrev pub invariant-loop : goal.invariant-loop
-invariant-loop g l = record { short : length l.bytes.items ≤ MAX_FILE_BYTES; read : Consumes (g.R.Read.remaining l.initial.from) (g.R.Read.remaining l.from) l.bytes.items }
+invariant-loop g l = record {
+  short : length l.bytes.items ≤ MAX_FILE_BYTES;
+  read : Consumes (g.R.Read.remaining l.initial.from) (g.R.Read.remaining l.from) l.bytes.items;
+}

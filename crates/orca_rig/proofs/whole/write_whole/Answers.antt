@@ -11,9 +11,12 @@ returns-then-is_empty g c =
     let empty : c.loop.rest.now ≡ [] = drop_of_length-le c.loop.rest.now {i = 0} (search rules) in
     subst (Appends _ _) (sym (split ∙ ap (λ l. done ++ l) empty ∙ append-nil done)) appended
 
-moves_front : (all done rest : List ℕ) (n : ℕ) → all ≡ done ++ rest → all ≡ (done ++ take n rest) ++ take (length rest - n) (drop n rest)
+moves_front : (all done rest : List ℕ) (n : ℕ) → all ≡ done ++ rest
+    → all ≡ (done ++ take n rest) ++ take (length rest - n) (drop n rest)
 moves_front all done rest n e =
-    e ∙ ap (λ l. done ++ l) (sym (take-append-drop n rest)) ∙ sym (append_assoc done (take n rest) (drop n rest)) ∙ ap (λ l. (done ++ take n rest) ++ l) (sym (take_rest rest n))
+    e ∙ ap (λ l. done ++ l) (sym (take-append-drop n rest))
+    ∙ sym (append_assoc done (take n rest) (drop n rest))
+    ∙ ap (λ l. (done ++ take n rest) ++ l) (sym (take_rest rest n))
 
 pub loop-preserved : goal.loop-preserved
 loop-preserved g c =
@@ -22,7 +25,9 @@ loop-preserved g c =
     elim c.match-write.branch [
       | in-Ok w ↦
           let wrote = rw w.in-Ok.is at c.write.ensures.bytes in
-          (done ++ take w.in-Ok.count rest, rw w.rest-is (moves_front _ done rest w.in-Ok.count split), Appends-trans _ _ _ _ _ appended wrote)
+          let moved = moves_front _ done rest w.in-Ok.count split in
+          let both = Appends-trans _ _ _ _ _ appended wrote in
+          (done ++ take w.in-Ok.count rest, rw w.rest-is moved, both)
       | in-Err w ↦
           let kept = rw w.in-Err.is at c.write.ensures.bytes in
           (done, rw w.rest-is split, Appends-kept _ _ _ _ appended kept)
