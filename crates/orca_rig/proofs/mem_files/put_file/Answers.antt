@@ -1,6 +1,5 @@
 use Rattle.std.proofs.Common.{◌≡◌, ◌∙◌, sym, ap, ℕ, Some, string_bytes}
 use Rattle.std.specs.Prelude.{None, position, Option}
-use Rattle.std.specs.Str.{bytes_eq}
 use Rattle.orca_rig.specs.InMemory.{files_of}
 use Rattle.orca_rig.proofs.InMemoryLemmas.{has_name, files_of_over, files_of_push, placed, unplaced}
 use Rattle.orca_rig.proofs.mem_files.put_file.Goals as goal
