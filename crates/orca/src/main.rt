@@ -4,17 +4,21 @@
 ghost use Rattle.std.specs.Prelude.{◌≡◌, ◌<◌};
 
 use orca_base::{Memory, Port, Steps};
-use orca_player::rig::{Outs, RealFiles, RealOuts};
 use orca_player::{Status, run};
+use orca_rig::{Outs, RealFiles, RealOuts};
 use std::env;
 use std::io::ErrorKind;
 use std::marker::Brand;
+use std::net::Net;
 use std::process::ExitCode;
 use std::rt::{Env, Files};
 use std::sync::ledger::{Blank, Ledger};
 
 /// Runs the words over the system's files and streams. It counts its steps in a new ledger.
-fn start<R: AllocGlobal + Env + Files + Print + Eprint, L: Ledger>(rt: &R, blank: Blank) -> Status
+fn start<R: AllocGlobal + Env + Files + Net + Print + Eprint, L: Ledger>(
+    rt: &R,
+    blank: Blank,
+) -> Status
     requires name { blank.name ≡ L.name }
     requires parts { blank.parts ≡ L.parts }
     requires some { 0 < blank.parts }

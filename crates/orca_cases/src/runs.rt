@@ -7,7 +7,7 @@ use crate::case::Case;
 use anyhow::{Result, bail, ensure};
 use orca_base::Steps;
 use orca_player::Status;
-use orca_player::rig::{MemFiles, MemOuts, names_differ};
+use orca_rig::{MemFiles, MemOuts, names_differ};
 use std::alloc::Global;
 use std::marker::Brand;
 use std::sync::ledger::{Blank, Ledger};

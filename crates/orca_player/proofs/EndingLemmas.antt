@@ -8,13 +8,14 @@ use Rattle.orca_base.specs.Grids.{Sheet}
 use Rattle.orca_base.specs.declared.limits.TheConstants.{MAX_FILE_BYTES}
 use Rattle.orca_grid.specs.GridText.{grid_text}
 use Rattle.orca_grid.specs.declared.refusal.GridRefusal.{GridRefusal}
-use Rattle.orca_player.specs.declared.rig.files.StoreFault.{StoreFault}
-use Rattle.orca_player.specs.declared.rig.files.StoreFault.TheVariants as fault
-use Rattle.orca_player.specs.Asked.{after_ask}
+use Rattle.orca_rig.specs.declared.files.StoreFault.{StoreFault}
+use Rattle.orca_rig.specs.declared.files.StoreFault.TheVariants as fault
+use Rattle.orca_rig.specs.Asked.{after_ask}
 use Rattle.orca_base.specs.declared.port.Port.TheVariants as port
 use Rattle.orca_player.specs.declared.status.Status.{Status}
 use Rattle.orca_player.specs.declared.status.Status.TheVariants.{Done, Usage, GridRefused, OutFault, FileFault, Memory}
-use Rattle.orca_player.specs.Outside.{Contents, Ask, Sent}
+use Rattle.orca_base.specs.Ports.{Sent}
+use Rattle.orca_rig.specs.Outside.{Contents, Ask}
 use Rattle.orca_player.specs.Out.{Out, out, EndsAs, IsCaused, AskedBeginning, stopped, out_of, out_of_file, out_of_grid, body_sends, told_sends, HangsNone, HangsNoneIn}
 use Rattle.orca_notes.specs.Device.{device, IsFair}
 use Rattle.orca_player.specs.Playing.{LeavesNoNote, HandedLeavesNoNote, midi_sent}

@@ -2,7 +2,7 @@
 use Rattle.std.proofs.Common.{ℕ, ◌≤◌, refl, sym, ◌∙◌, arith, inl, inr, Bool}
 use Rattle.std.specs.Prelude.{Result, Ok, Err, OnOk}
 use Rattle.std.proofs.Math.Nat.{eq-or-lt_of_le}
-use Rattle.orca_player.specs.Outside.{Rose}
+use Rattle.orca_rig.specs.Outside.{Rose}
 use Rattle.orca_player.specs.Sending.{RecordsFaults}
 
 -- what rose stays risen

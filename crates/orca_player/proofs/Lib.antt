@@ -1,4 +1,3 @@
-pub mod InMemoryLemmas
 pub mod WordLemmas
 pub mod PlayingLemmas
 pub mod FaultLemmas

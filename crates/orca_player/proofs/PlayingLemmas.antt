@@ -18,7 +18,7 @@ use Rattle.orca_player.specs.declared.lines.Label.TheVariants.{Tick, End}
 use Rattle.orca_player.specs.declared.words.Show.{Show}
 use Rattle.orca_player.specs.declared.words.Show.TheVariants.{Grid, Messages}
 use Rattle.orca_player.specs.Lines.{lines_of}
-use Rattle.orca_player.specs.Outside.{Sent, same_port}
+use Rattle.orca_base.specs.Ports.{Sent, is_same_port}
 use Rattle.orca_player.specs.Playing.{Moment, next_moment, messages_at, moment_after, told_of, frame_sends, frames_sends, close_sends, run_sends, midi_sent, IsPlayed, HangsNoNote}
 use Rattle.orca_player.specs.Sending.{sends_of, added}
 
@@ -30,7 +30,7 @@ added_twice (Some before) xs ys = ap Some (append_assoc before xs ys)
 pub midi_sent-append : (xs ys : List Sent) → midi_sent (xs ++ ys) ≡ midi_sent xs ++ midi_sent ys
 unfolding midi_sent
 midi_sent-append xs ys =
-    let is_midi : Sent → Bool = λ (sent : Sent). same_port sent.port port.Midi in
+    let is_midi : Sent → Bool = λ (sent : Sent). is_same_port sent.port port.Midi in
     let bytes_of : Sent → List ℕ = λ (sent : Sent). sent.bytes in
     ap (map bytes_of) (filter-append is_midi xs ys) ∙ map-append bytes_of (filter is_midi xs) (filter is_midi ys)
 

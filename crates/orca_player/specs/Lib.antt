@@ -1,7 +1,3 @@
-pub mod Asked
-pub mod Handed
-pub mod InMemory
-pub mod Outside
 pub mod Words
 pub mod Sending
 pub mod Lines

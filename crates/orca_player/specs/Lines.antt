@@ -8,7 +8,7 @@ use Rattle.orca_base.specs.Ports.{port_name}
 use Rattle.orca_base.specs.Ascii.{space, line_feed}
 use Rattle.orca_player.specs.declared.lines.Label.{Label}
 use Rattle.orca_player.specs.declared.lines.Label.TheVariants.{Tick, End}
-use Rattle.orca_player.specs.Outside.{Sent}
+use Rattle.orca_base.specs.Ports.{Sent}
 use Rattle.orca_player.specs.Sending.{sent_of}
 
 abbrev pub digit_zero : ℕ

@@ -9,8 +9,9 @@ use Rattle.orca_grid.specs.declared.refusal.GridRefusal.{GridRefusal}
 use Rattle.orca_grid.specs.declared.refusal.GridRefusal.TheVariants as refused
 use Rattle.orca_player.specs.declared.status.Status.{Status}
 use Rattle.orca_player.specs.declared.status.Status.TheVariants.{Done, Usage, GridRefused, OutFault, FileFault, Memory}
-use Rattle.orca_player.specs.Outside.{Contents, Ask, Sent, Rose}
-use Rattle.orca_player.specs.Outside.Ask.{Load}
+use Rattle.orca_base.specs.Ports.{Sent}
+use Rattle.orca_rig.specs.Outside.{Contents, Ask, Rose}
+use Rattle.orca_rig.specs.Outside.Ask.{Load}
 use Rattle.orca_player.specs.Playing.{opened, run_sends, HangsNoNote}
 use Rattle.orca_player.specs.Statuses.{status_sends}
 use Rattle.orca_player.specs.Words.{Request, request_of}

@@ -14,7 +14,7 @@ use Rattle.orca_player.specs.declared.lines.Label.TheVariants.{Tick, End}
 use Rattle.orca_player.specs.declared.words.Show.{Show}
 use Rattle.orca_player.specs.declared.words.Show.TheVariants.{Grid, Messages}
 use Rattle.orca_player.specs.Lines.{lines_of}
-use Rattle.orca_player.specs.Outside.{Sent, same_port}
+use Rattle.orca_base.specs.Ports.{Sent, is_same_port}
 use Rattle.orca_player.specs.Sending.{sends_of}
 
 -- a moment between two frames: the grid, the number of the next frame, and the notes that sound
@@ -75,7 +75,7 @@ run_sends show seed n m = frames_sends show seed n m ++ close_sends show (moment
 
 -- the MIDI messages among sends, in order
 unfoldable pub midi_sent : List Sent → List (List ℕ)
-midi_sent sends = map (λ sent. sent.bytes) (filter (λ sent. same_port sent.port port.Midi) sends)
+midi_sent sends = map (λ sent. sent.bytes) (filter (λ sent. is_same_port sent.port port.Midi) sends)
 
 -- after each of n frames the keys that are on are those of the notes that sound, and after the close none is; no key
 -- starts that is on, and none ends that is off

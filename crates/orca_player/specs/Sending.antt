@@ -6,7 +6,8 @@ use Rattle.orca_base.specs.declared.message.Message.TheVariants as message
 use Rattle.orca_base.specs.declared.port.Port.TheVariants as port
 use Rattle.orca_base.specs.MidiBytes.{note_on_bytes, note_off_bytes, control_bytes, bend_bytes}
 use Rattle.osc_bytes.specs.OscBytes.{message_bytes}
-use Rattle.orca_player.specs.Outside.{Sent, Rose}
+use Rattle.orca_base.specs.Ports.{Sent}
+use Rattle.orca_rig.specs.Outside.{Rose}
 
 -- the port and the bytes of a message
 abbrev pub sent_of : Message → Sent

@@ -7,7 +7,7 @@ use Rattle.orca_grid.specs.declared.refusal.GridRefusal.{GridRefusal}
 use Rattle.orca_grid.specs.declared.refusal.GridRefusal.TheVariants as refusal
 use Rattle.orca_player.specs.declared.status.Status.{Status}
 use Rattle.orca_player.specs.declared.status.Status.TheVariants.{Done, Usage, GridRefused, OutFault, FileFault, Memory}
-use Rattle.orca_player.specs.Outside.{Sent}
+use Rattle.orca_base.specs.Ports.{Sent}
 
 abbrev pub number_of_status : Status → ℕ
 number_of_status Done = 0

@@ -5,9 +5,9 @@ ghost use Rattle.orca_player.specs.Statuses.{refusal_text, status_text, status_s
 
 use crate::Status;
 use crate::lines::push_decimal;
-use crate::rig::{Outs, SendFault};
 use orca_base::{Memory, Port};
 use orca_grid::GridRefusal;
+use orca_rig::{Outs, SendFault};
 use std::alloc::Global;
 
 /// Sends the line of a status that is no success, and answers the status; or `Memory` where memory is

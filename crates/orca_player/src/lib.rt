@@ -6,7 +6,6 @@ mod lines;
 mod machine;
 mod message_bytes;
 mod play;
-pub mod rig;
 mod status;
 mod tell;
 #[cfg(test)]

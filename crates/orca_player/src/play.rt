@@ -8,11 +8,11 @@ ghost use Rattle.orca_player.specs.Sending.{sends_of, added, RecordsFaults};
 
 use crate::lines::Label;
 use crate::machine::Machine;
-use crate::rig::Outs;
 use crate::tell::{NoMemory, tell, tell_lines, tell_messages};
 use crate::words::Show;
 use orca_base::{Now, Port, Steps};
 use orca_grid::Grid;
+use orca_rig::Outs;
 use std::sync::ledger::Ledger;
 
 /// Plays so many frames from tick 0, hands their messages, and closes.

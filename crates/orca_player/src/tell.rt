@@ -4,9 +4,9 @@ ghost use Rattle.orca_player.specs.Lines.{lines_of, line_sent};
 ghost use Rattle.orca_player.specs.Sending.{sent_of, sends_of, added, RecordsFaults};
 
 use crate::lines::{Label, write_line};
-use crate::rig::{Outs, SendFault};
 use crate::wire;
 use orca_base::{Memory, Message, Port, Wire};
+use orca_rig::{Outs, SendFault};
 
 /// Where memory was refused.
 #[derive(Clone, Copy, Debug, PartialEq, Eq)]

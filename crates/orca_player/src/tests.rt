@@ -1,10 +1,10 @@
 //! Whole runs at want of memory.
 
-ghost use Rattle.std.specs.Prelude.{◌≡◌, ◌<◌, Some};
+ghost use Rattle.std.specs.Prelude.{◌≡◌, ◌<◌, Some, length};
 
 use crate::Status;
-use crate::rig::{MemFiles, MemOuts, Outs, SendFault, names_differ};
 use orca_base::{Port, Steps};
+use orca_rig::{MemFiles, MemOuts, Outs, SendFault, names_differ};
 use std::alloc::Global;
 use std::marker::Brand;
 use std::process::Abort;
@@ -21,7 +21,15 @@ struct Tight {
 impl Outs for Tight {
     ghost handed = { λ o. Some o.kept.handed };
 
+    ghost attached = { λ o. Some o.kept.attached };
+
+    ghost sent = { λ o. length o.kept.handed };
+
     ghost faults = { λ o. o.kept.faults };
+
+    fn attach(&mut self, port: Port, name: &str) -> Result<(), SendFault> {
+        self.kept.attach(port, name)
+    }
 
     fn send(&mut self, port: Port, bytes: &[u8]) -> Result<(), SendFault> {
         self.sends = self.sends.saturating_add(1);
@@ -30,6 +38,12 @@ impl Outs for Tight {
         }
         self.kept.send(port, bytes)
     }
+
+    fn sent(&self) -> u64 {
+        self.kept.sent()
+    }
+
+    ghost sent_is_length = { λ outs pieces told fits. Prim.cc };
 }
 
 /// Does the run.

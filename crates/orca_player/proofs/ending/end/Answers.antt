@@ -1,6 +1,6 @@
 use Rattle.std.proofs.Common.{ap, sym, ◌∙◌, [], ◌∷◌, List, ℕ}
 use Rattle.orca_base.specs.declared.port.Port.TheVariants as port
-use Rattle.orca_player.specs.Outside.{Sent}
+use Rattle.orca_base.specs.Ports.{Sent}
 use Rattle.orca_player.specs.Statuses.{status_sends, status_text}
 use Rattle.orca_player.proofs.EndingLemmas.{said}
 use Rattle.orca_player.proofs.ending.end.Goals as goal

@@ -1,0 +1,69 @@
+-- What an inbox was asked and answered.
+use Rattle.std.specs.Prelude.{ℕ, ◌≤◌, Bool, true, false, List, [], ◌∷◌, ◌++◌, take, Option, Some, None, Result, Ok, Err, IsSomeAnd}
+use Rattle.orca_base.specs.declared.limits.TheConstants.{ARRIVAL_BYTES}
+use Rattle.orca_rig.specs.declared.inbox.Answer.{Answer}
+use Rattle.orca_rig.specs.declared.inbox.Answer.TheVariants as answer
+use Rattle.orca_rig.specs.declared.outs.SendFault.{SendFault}
+use Rattle.orca_rig.specs.declared.outs.SendFault.TheVariants.{Failed, Memory}
+
+-- one poll: the moment that it was asked to wait for, where there was one; the number of sends
+-- before it; its answer; and the bytes that came
+pub record Poll : Type 0 where
+  pub until : Option ℕ
+  pub sent : ℕ
+  pub answer : Answer
+  pub bytes : List ℕ
+
+-- the name that `listen` was given, the moment that it answered, and the polls
+pub record Log : Type 0 where
+  pub name : Option (List ℕ)
+  pub start : Option ℕ
+  pub polls : List Poll
+
+-- nothing was asked yet
+abbrev pub empty_log : Log
+empty_log = record { name = None; start = None; polls = [] }
+
+-- a `listen` that failed has no moment; one for which memory was refused isn't kept
+abbrev pub after_listen : Result ℕ SendFault → List ℕ → Log → Log
+after_listen (Ok at) name log = record { name = Some name; start = Some at; polls = log.polls }
+after_listen (Err Failed) name log = record { name = Some name; start = None; polls = log.polls }
+after_listen (Err Memory) name log = log
+
+-- a poll is kept as the last
+abbrev pub after_poll : Poll → Log → Log
+after_poll poll log = record { name = log.name; start = log.start; polls = log.polls ++ poll ∷ [] }
+
+-- how many bytes came with an answer
+abbrev pub count_of : Answer → ℕ
+count_of (answer.Bytes hand count at) = count
+count_of (answer.Due at) = 0
+count_of answer.End = 0
+count_of answer.Failed = 0
+
+-- the bytes that came with an answer: the first of those that were filled
+abbrev pub arrived : Answer → List ℕ → List ℕ
+arrived answer filled = take (count_of answer) filled
+
+-- the last moment, after this answer
+abbrev pub moment_after : Answer → ℕ → ℕ
+moment_after (answer.Bytes hand count at) last = at
+moment_after (answer.Due at) last = at
+moment_after answer.End last = last
+moment_after answer.Failed last = last
+
+-- whether this is the last answer
+abbrev pub is_ending : Answer → Bool
+is_ending (answer.Bytes hand count at) = false
+is_ending (answer.Due at) = false
+is_ending answer.End = true
+is_ending answer.Failed = true
+
+-- what a poll may answer: no moment is below the last one; 1 byte or more come, and no more than an
+-- arrival holds; and Due comes only where a moment was given, at that moment or later
+abbrev pub MayAnswer : Option ℕ → ℕ → Answer → Type 0
+MayAnswer until last (answer.Bytes hand count at) =
+    (last ≤ at) × (1 ≤ count) × (count ≤ ARRIVAL_BYTES)
+MayAnswer until last (answer.Due at) = (last ≤ at) × IsSomeAnd until (λ moment. moment ≤ at)
+MayAnswer until last answer.End = Unit {0}
+MayAnswer until last answer.Failed = Unit {0}

@@ -1,0 +1,17 @@
+-- What the ports were given, and the names that they were attached to.
+use Rattle.std.specs.Prelude.{ℕ, List, [], ◌∷◌, ◌++◌, Option, Result, Ok, Err}
+use Rattle.std.specs.Option.{option_map}
+use Rattle.orca_base.specs.declared.port.Port.{Port}
+use Rattle.orca_rig.specs.declared.outs.SendFault.{SendFault}
+use Rattle.orca_rig.specs.declared.outs.SendFault.TheVariants.{Failed, Memory}
+
+-- a port that was attached to a name
+pub record Attached : Type 0 where
+  pub port : Port
+  pub name : List ℕ
+
+-- a call is kept, where the calls are told, unless memory was refused
+abbrev pub after_call : {T A : Type 0} → Result T SendFault → A → Option (List A) → Option (List A)
+after_call (Ok done) call calls = option_map (λ before. before ++ call ∷ []) calls
+after_call (Err Failed) call calls = option_map (λ before. before ++ call ∷ []) calls
+after_call (Err Memory) call calls = calls

@@ -1,0 +1,22 @@
+-- What the objects of the outside hold, and how they count their faults.
+use Rattle.std.specs.Prelude.{ℕ, ◌^◌, ◌-◌, ◌<◌, ◌≡◌, ◌⊎◌, List}
+use Rattle.std.specs.Ordering.{nat_cmp}
+use Rattle.std.specs.Cmp.Lexicographic.{slice_cmp}
+use Rattle.std.specs.FinMap.{FinMap}
+
+-- files: a finite map from names to bytes
+abbrev pub Contents : Type 0
+Contents = FinMap (slice_cmp nat_cmp) (List ℕ)
+
+-- a call of a store: a load of the file of this name, or a save of these bytes under this name
+pub data Ask : Type 0 where
+  Load : List ℕ → Ask
+  Save : List ℕ → List ℕ → Ask
+
+-- the last value of a counter of 64 bits, where it stands still
+abbrev pub last_count : ℕ
+last_count = 2 ^ 64 - 1
+
+-- a count rose: it is greater than before, or stands at its last value
+abbrev pub Rose : ℕ → ℕ → Type 0
+Rose before now = (before < now) ⊎ (now ≡ last_count)

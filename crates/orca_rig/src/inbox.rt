@@ -1,0 +1,84 @@
+ghost use Rattle.std.specs.Prelude.{◌≡◌, ◌≢◌, ◌≤◌, ◌⊎◌, ℕ, Bool, true, false, Option, Some, IfOk, OnOk, OnErr, IsErrOf};
+ghost use Rattle.std.specs.Option.{option_map};
+ghost use Rattle.orca_rig.specs.Outside.{Rose};
+ghost use Rattle.orca_rig.specs.Arrived.{Log, after_listen, after_poll, arrived, moment_after, is_ending, MayAnswer};
+
+use crate::{Outs, SendFault};
+use orca_base::limits::ARRIVAL_BYTES;
+
+/// What a poll answers. Moments are in microseconds.
+#[derive(Clone, Copy, Debug, PartialEq, Eq)]
+pub enum Answer {
+    /// Bytes came: the first `count` of the buffer, from the hand of this number, at this moment.
+    /// `count` is 1 to [`ARRIVAL_BYTES`].
+    Bytes { hand: u8, count: u8, at: u64 },
+    /// The moment to wait for has come; this is the moment now.
+    Due { at: u64 },
+    /// Nothing more will come.
+    End,
+    /// The inbox failed, and counted it.
+    Failed,
+}
+
+/// Where the bytes of the players come in, and the clock.
+pub trait Inbox {
+    /// The name that [`listen`](Inbox::listen) was given, the moment that it answered, and the
+    /// polls; where they are told. A `listen` that answered [`SendFault::Memory`] is not kept.
+    ghost log: { Self → Option Log };
+
+    /// The last moment that it answered.
+    ghost last: { Self → ℕ };
+
+    /// Whether [`listen`](Inbox::listen) was called.
+    ghost listened: { Self → Bool };
+
+    /// Whether a poll has answered [`Answer::End`] or [`Answer::Failed`].
+    ghost ended: { Self → Bool };
+
+    /// How often the inbox has failed.
+    ghost faults: { Self → ℕ };
+
+    /// Waits for the players at that name, and answers the moment of the start, in microseconds.
+    fn listen(&mut self, name: &str) -> Result<u64, SendFault>
+        // Nobody listened before.
+        requires { listened self.old ≡ false }
+        ensures log { log self.new ≡ option_map (after_listen result name.now) (log self.old) }
+        ensures moment { IfOk result (λ at. last self.new ≡ at) }
+        ensures later { last self.old ≤ last self.new }
+        ensures unanswered { OnErr result (last self.new ≡ last self.old) }
+        ensures listened { listened self.new ≡ true }
+        ensures ended { ended self.new ≡ ended self.old }
+
+        ensures count { faults self.old ≤ faults self.new }
+        ensures failed { IsErrOf result SendFault.Failed
+            → Rose (faults self.old) (faults self.new) }
+        ensures steady { OnOk result (faults self.new ≡ faults self.old) }
+        ensures steady_memory { IsErrOf result SendFault.Memory
+            → faults self.new ≡ faults self.old };
+
+    /// Waits for what comes next: bytes, which it puts at the front of `bytes`, or the moment
+    /// `until`, where there is one. It takes no memory. What stands in `bytes` behind those that
+    /// came has no meaning.
+    fn poll<O: Outs>(
+        &mut self,
+        outs: &O,
+        until: Option<u64>,
+        bytes: &mut [u8; ARRIVAL_BYTES],
+    ) -> Answer
+        // Neither End nor Failed was answered before.
+        requires { ended self.old ≡ false }
+        ensures answer { MayAnswer until (last self.old) result }
+        ensures log { log self.new ≡ option_map (after_poll (record {
+          until = until;
+          sent = O.sent outs.now;
+          answer = result;
+          bytes = arrived result bytes.new;
+        })) (log self.old) }
+        ensures last { last self.new ≡ moment_after result (last self.old) }
+        ensures listened { listened self.new ≡ listened self.old }
+        ensures ended { ended self.new ≡ is_ending result }
+
+        ensures count { faults self.old ≤ faults self.new }
+        ensures failed { result ≡ Answer.Failed → Rose (faults self.old) (faults self.new) }
+        ensures steady { result ≢ Answer.Failed → faults self.new ≡ faults self.old };
+}

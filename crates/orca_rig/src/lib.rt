@@ -1,0 +1,28 @@
+//! The outside of a run: the files that are loaded and saved, the ports that are sent to, and the
+//! inbox where bytes come in. Each is a trait with a form in memory and a form over the real thing.
+#![tactic(auto)]
+
+mod files;
+mod inbox;
+mod mem_answer;
+mod mem_files;
+mod mem_inbox;
+mod mem_outs;
+mod outs;
+mod real_files;
+mod real_outs;
+mod tcp_inbox;
+#[cfg(test)]
+mod tests;
+mod whole;
+
+pub use files::{Files, StoreFault};
+pub use inbox::{Answer, Inbox};
+pub use mem_answer::{MemAnswer, are_arrivals, is_in_order};
+pub use mem_files::{MemFiles, names_differ};
+pub use mem_inbox::MemInbox;
+pub use mem_outs::MemOuts;
+pub use outs::{Outs, SendFault};
+pub use real_files::RealFiles;
+pub use real_outs::RealOuts;
+pub use tcp_inbox::TcpInbox;

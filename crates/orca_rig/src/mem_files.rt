@@ -1,0 +1,243 @@
+ghost use Rattle.std.specs.Prelude.{◌≡◌, ◌+◌, min, ◌<◌, ◌≤◌, ◌^◌, [], ◌∷◌, ◌++◌, false, length, position, string_bytes, vec_len, vec_capacity, Some, IsTrue, IfSome, IfNone, IfOk, OnOk, OnErr, IsErrOf};
+ghost use Rattle.std.specs.Str.{bytes_eq};
+ghost use Rattle.std.specs.Option.{option_copied};
+ghost use Rattle.orca_base.specs.declared.limits.TheConstants.{MAX_FILE_BYTES};
+ghost use Rattle.std.specs.Ordering.{nat_cmp};
+ghost use Rattle.std.specs.Cmp.Lexicographic.{slice_cmp};
+ghost use Rattle.std.specs.FinMap.{get, find, insert};
+ghost use Rattle.orca_rig.specs.Outside.{Rose, last_count};
+ghost use Rattle.orca_rig.specs.Outside.Ask.{Load, Save};
+ghost use Rattle.orca_rig.specs.Asked.{after_ask, IsSaved};
+ghost use Rattle.orca_rig.specs.InMemory.{named, files_of, asks_of, ask_of, names_differ, is_to_fail, IsUnloadable};
+
+use crate::{Files, StoreFault};
+use orca_base::Memory;
+use orca_base::limits::MAX_FILE_BYTES;
+use std::marker::Model;
+
+/// A call of a store: a load of the file of a name, or a save of bytes under a name.
+#[derive(Drop)]
+enum Call {
+    Load(String),
+    Save(String, Vec<u8>),
+}
+
+/// A store of files in memory. It fails where it is told to, and then holds what it held.
+#[derive(Drop)]
+pub struct MemFiles {
+    files: Vec<(String, Vec<u8>)>,
+    calls: Vec<Call>,
+    to_fail: Vec<u64>,
+    failed: u64,
+}
+
+impl Model for MemFiles {
+    ghost use Rattle.orca_rig.specs.InMemory.{Store, store_code, files_of, asks_of};
+
+    ghost Value = { Store };
+
+    ghost coded = { store_code };
+
+    ghost view = { λ f. record {
+      contents = files_of f.files.items;
+      asked = asks_of f.calls.items;
+      fail = f.to_fail.items;
+      faults = f.failed;
+    } };
+}
+
+impl MemFiles {
+    /// A store that holds exactly these files, each a name and its bytes. `fail` lists the calls
+    /// that are to fail, by their numbers, counted from 1.
+    pub fn new(contents: Vec<(String, Vec<u8>)>, fail: Vec<u64>) -> Result<MemFiles, Memory>
+        // No name stands twice.
+        requires { IsTrue (names_differ (named contents.items)) }
+        ensures contents { IfOk result (λ files. files.contents ≡ files_of contents.items) }
+        ensures asked { IfOk result (λ files. files.asked ≡ []) }
+        ensures fail { IfOk result (λ files. files.fail ≡ fail.items) }
+        ensures faults { IfOk result (λ files. files.faults ≡ 0) }
+    {
+        let alloc = *contents.allocator();
+        Ok(MemFiles {
+            files: contents,
+            calls: Vec::new(alloc),
+            to_fail: fail,
+            failed: 0,
+        })
+    }
+
+    /// The bytes of the file of that name; none exactly where no file has it.
+    pub fn file(&self, name: &str) -> Option<&[u8]>
+        ensures { option_copied result ≡ get self.now.contents name.now }
+    {
+        bytes_of(&self.files, name)
+    }
+}
+
+/// Whether no name stands twice.
+pub fn names_differ(contents: &[(String, Vec<u8>)]) -> bool
+    ensures { result ≡ names_differ (named contents.now) }
+{
+    let mut rest = contents;
+    while let [(name, _), others @ ..] = rest {
+        if bytes_of(others, name.as_str()).is_some() {
+            return false;
+        }
+        rest = others;
+    }
+    true
+}
+
+/// The bytes of the first file of that name.
+#[tactic(auto, using(crate::proofs::InMemoryLemmas::get_files_of))]
+fn bytes_of<'a>(files: &'a [(String, Vec<u8>)], name: &str) -> Option<&'a [u8]>
+    ensures first { option_copied result ≡ find (slice_cmp nat_cmp) name.now (named files.now) }
+    ensures held { option_copied result ≡ get (files_of files.now) name.now }
+{
+    for (held, bytes) in files {
+        if name == held.as_str() {
+            return Some(bytes.as_slice());
+        }
+    }
+    None
+}
+
+/// The bytes of the file of that name, where it is there and short enough.
+fn loadable<'a>(files: &'a [(String, Vec<u8>)], name: &str) -> Option<&'a [u8]>
+    ensures found { IfSome result (λ bytes. get (files_of files.now) name.now ≡ Some bytes.now) }
+    ensures short { IfSome result (λ bytes. length bytes.now ≤ MAX_FILE_BYTES) }
+    ensures none { IfNone result (IsUnloadable (files_of files.now) name.now) }
+{
+    let bytes = bytes_of(files, name)?;
+    if bytes.len() > MAX_FILE_BYTES {
+        return None;
+    }
+    Some(bytes)
+}
+
+/// The place of the first file of that name.
+fn place_of(files: &[(String, Vec<u8>)], name: &str) -> Option<usize>
+    ensures { result ≡ position (λ file. bytes_eq name.now (string_bytes file.0)) files.now }
+{
+    files.iter().position(|file| name == file.0.as_str())
+}
+
+/// Makes the file of that name hold these bytes. There is room for one more file.
+fn put_file(files: &mut Vec<(String, Vec<u8>)>, name: String, bytes: Vec<u8>)
+    requires { vec_len files.old < vec_capacity files.old }
+    ensures { files_of files.new.items
+        ≡ insert (files_of files.old.items) (string_bytes name) bytes.items }
+{
+    match place_of(files, name.as_str()) {
+        Some(place) => files[place].1 = bytes,
+        None => files.push_reserved((name, bytes)),
+    }
+}
+
+/// Whether the next call is to fail.
+fn is_to_fail(to_fail: &[u64], calls: &[Call]) -> bool
+    requires { length calls.now < 2 ^ 63 }
+    ensures { result ≡ is_to_fail to_fail.now (length calls.now) }
+{
+    let number = calls.len() as u64 + 1;
+    to_fail.contains(&number)
+}
+
+/// Keeps a call that fails, and counts it.
+fn keep_failed(calls: &mut Vec<Call>, failed: &mut u64, call: Call) -> StoreFault
+    ensures kept { result ≡ StoreFault.Failed → calls.new.items ≡ calls.old.items ++ call ∷ [] }
+    ensures count { failed.old ≤ failed.new }
+    ensures counted { result ≡ StoreFault.Failed → failed.new ≡ min (failed.old + 1) last_count }
+    ensures memory { result ≡ StoreFault.Memory → calls.new.items ≡ calls.old.items }
+    ensures steady { result ≡ StoreFault.Memory → failed.new ≡ failed.old }
+{
+    match calls.push(call) {
+        Ok(()) => {
+            *failed = failed.saturating_add(1);
+            StoreFault::Failed
+        }
+        Err(_) => StoreFault::Memory,
+    }
+}
+
+impl Files for MemFiles {
+    ghost contents = { λ f. Some f.contents };
+
+    ghost asked = { λ f. Some f.asked };
+
+    ghost faults = { λ f. f.faults };
+
+    fn load(&mut self, name: &str, into: &mut Vec<u8>) -> Result<(), StoreFault>
+        ensures loaded { OnOk result (get self.old.contents name.now ≡ Some into.new.items) }
+        ensures short { OnOk result (length into.new.items ≤ MAX_FILE_BYTES) }
+        ensures untouched { OnErr result (into.new.items ≡ into.old.items) }
+        ensures contents { self.new.contents ≡ self.old.contents }
+        ensures asked { Some self.new.asked
+            ≡ after_ask result (Load name.now) (Some self.old.asked) }
+
+        ensures count { self.old.faults ≤ self.new.faults }
+        ensures failed { IsErrOf result StoreFault.Failed → Rose self.old.faults self.new.faults }
+        ensures steady { OnOk result (self.new.faults ≡ self.old.faults) }
+        ensures steady_memory { IsErrOf result StoreFault.Memory
+            → self.new.faults ≡ self.old.faults }
+
+        ensures fail { self.new.fail ≡ self.old.fail }
+        ensures cause { IsErrOf result StoreFault.Failed
+            → is_to_fail self.old.fail (length self.old.asked) ≡ false
+            → IsUnloadable self.old.contents name.now }
+        ensures not_listed { OnOk result (is_to_fail self.old.fail (length self.old.asked)
+            ≡ false) }
+        ensures counted { IsErrOf result StoreFault.Failed
+            → self.new.faults ≡ min (self.old.faults + 1) last_count }
+        ensures quiet { self.old.fail ≡ []
+            → self.old.faults < self.new.faults → IsUnloadable self.old.contents name.now }
+    {
+        let alloc = *into.allocator();
+        let call = Call::Load(String::from_str(alloc, name)?);
+        if is_to_fail(&self.to_fail, &self.calls) {
+            return Err(keep_failed(&mut self.calls, &mut self.failed, call));
+        }
+        let Some(bytes) = loadable(&self.files, name) else {
+            return Err(keep_failed(&mut self.calls, &mut self.failed, call));
+        };
+        let loaded = bytes.to_vec(alloc)?;
+        self.calls.push(call)?;
+        *into = loaded;
+        Ok(())
+    }
+
+    fn save(&mut self, name: &str, bytes: &[u8]) -> Result<(), StoreFault>
+        ensures saved { IsSaved result name.now bytes.now
+            (Some self.old.contents) (Some self.new.contents) }
+        ensures asked { Some self.new.asked
+            ≡ after_ask result (Save name.now bytes.now) (Some self.old.asked) }
+
+        ensures count { self.old.faults ≤ self.new.faults }
+        ensures failed { IsErrOf result StoreFault.Failed → Rose self.old.faults self.new.faults }
+        ensures steady { OnOk result (self.new.faults ≡ self.old.faults) }
+        ensures steady_memory { IsErrOf result StoreFault.Memory
+            → self.new.faults ≡ self.old.faults }
+
+        ensures fail { self.new.fail ≡ self.old.fail }
+        ensures untouched { OnErr result (self.new.contents ≡ self.old.contents) }
+        ensures listed { IsErrOf result StoreFault.Failed
+            → IsTrue (is_to_fail self.old.fail (length self.old.asked)) }
+        ensures not_listed { OnOk result (is_to_fail self.old.fail (length self.old.asked)
+            ≡ false) }
+        ensures counted { IsErrOf result StoreFault.Failed
+            → self.new.faults ≡ min (self.old.faults + 1) last_count }
+        ensures quiet { self.old.fail ≡ [] → self.new.faults ≡ self.old.faults }
+    {
+        let alloc = *self.files.allocator();
+        let call = Call::Save(String::from_str(alloc, name)?, bytes.to_vec(alloc)?);
+        if is_to_fail(&self.to_fail, &self.calls) {
+            return Err(keep_failed(&mut self.calls, &mut self.failed, call));
+        }
+        let held = String::from_str(alloc, name)?;
+        let kept = bytes.to_vec(alloc)?;
+        self.files.reserve(1)?;
+        self.calls.push(call)?;
+        put_file(&mut self.files, held, kept);
+        Ok(())
+    }
+}

@@ -1,0 +1,4 @@
+mod files;
+mod inbox;
+mod outs;
+mod tcp;

@@ -1,0 +1,168 @@
+use crate::{MemOuts, Outs, RealOuts, SendFault};
+use orca_base::Port;
+use std::io::Read;
+use std::net::UdpSocket;
+use std::os::fd::AsRawFd;
+use std::process::Abort;
+use std::test::Fail;
+use std::{fs, io};
+
+type Given<'a> = (Port, &'a [u8], Result<(), SendFault>);
+
+type Named<'a> = (Port, &'a str, Result<(), SendFault>);
+
+/// Sends the pieces one after another, and looks at each answer.
+fn check_sends<O: Outs>(rt: &impl Abort, outs: &mut O, turns: &[Given<'_>]) {
+    for (port, bytes, answer) in turns {
+        assert_eq!(rt; outs.send(*port, bytes), *answer, "{bytes:?}");
+    }
+}
+
+/// Attaches the ports one after another, and looks at each answer.
+fn check_attaches<O: Outs>(rt: &impl Abort, outs: &mut O, turns: &[Named<'_>]) {
+    for (port, name, answer) in turns {
+        assert_eq!(rt; outs.attach(*port, name), *answer, "{name}");
+    }
+}
+
+#[test]
+fn ports_in_memory_keep_what_they_are_given(rt: HostRuntime) -> Result<(), Fail> {
+    let alloc = rt.alloc();
+    let mut outs = MemOuts::new(vec![in alloc; (Port::Text, 2u64), (Port::Fault, 1u64)]?)?;
+    let turns: [Given; 4] = [
+        (Port::Text, b"one", Ok(())),
+        (Port::Midi, b"two", Ok(())),
+        (Port::Text, b"three", Err(SendFault::Failed)),
+        (Port::Text, b"", Ok(())),
+    ];
+    check_sends(&rt, &mut outs, &turns);
+    let mut index = 0u64;
+    for (port, bytes, _) in turns {
+        assert_eq!(rt; outs.handed_at(index), Some((port, bytes)));
+        index = index.saturating_add(1);
+    }
+    assert_eq!(rt; outs.handed_at(4), None);
+    assert_eq!(rt; outs.sent(), 4);
+    Ok(())
+}
+
+#[test]
+fn an_attach_in_memory_is_a_call_of_its_port(rt: HostRuntime) -> Result<(), Fail> {
+    let alloc = rt.alloc();
+    let fail = vec![in alloc; (Port::Udp, 1u64), (Port::Midi, 2u64), (Port::Osc, 3u64)]?;
+    let mut outs = MemOuts::new(fail)?;
+    let names: [Named; 4] = [
+        (Port::Midi, "a", Ok(())),
+        (Port::Udp, "b", Err(SendFault::Failed)),
+        (Port::Osc, "c", Ok(())),
+        (Port::Osc, "d", Ok(())),
+    ];
+    check_attaches(&rt, &mut outs, &names);
+    let turns: [Given; 3] = [
+        (Port::Midi, b"one", Err(SendFault::Failed)),
+        (Port::Udp, b"two", Ok(())),
+        (Port::Osc, b"three", Err(SendFault::Failed)),
+    ];
+    check_sends(&rt, &mut outs, &turns);
+    assert_eq!(rt; outs.sent(), 3);
+    Ok(())
+}
+
+#[test]
+fn ports_of_the_system_take_bytes(rt: HostRuntime) {
+    // The standard error takes text alone, and a port that is not attached drops what it is given.
+    let turns: [Given; 8] = [
+        (Port::Text, b"", Ok(())),
+        (Port::Text, b"...\n", Ok(())),
+        (Port::View, b"\n", Ok(())),
+        (Port::Fault, b"output fault\n", Ok(())),
+        (Port::Fault, b"\xff", Err(SendFault::Failed)),
+        (Port::Midi, b"\xff", Ok(())),
+        (Port::Udp, b"hi", Ok(())),
+        (Port::Osc, b"hi", Ok(())),
+    ];
+    let mut outs = RealOuts::new(&rt);
+    check_sends(&rt, &mut outs, &turns);
+    assert_eq!(rt; outs.sent(), 0);
+}
+
+#[test]
+fn midi_goes_to_a_file_or_a_device(rt: HostRuntime) -> Result<(), Fail> {
+    let name = "rig_midi";
+    fs::write(&rt, name, b"what stood there before".as_slice())?;
+    let mut outs = RealOuts::new(&rt);
+    check_attaches(&rt, &mut outs, &[(Port::Midi, name, Ok(()))]);
+    let turns: [Given; 3] = [
+        (Port::Midi, b"\x90\x30\x3f", Ok(())),
+        (Port::Midi, b"", Ok(())),
+        (Port::Midi, b"\x80\x30\x00", Ok(())),
+    ];
+    check_sends(&rt, &mut outs, &turns);
+    // Each send has left the program when it returns.
+    assert_eq!(rt;
+        fs::read(&rt, name)?.as_slice(),
+        b"\x90\x30\x3f\x80\x30\x00".as_slice()
+    );
+    fs::remove_file(&rt, name)?;
+    // A device that takes nothing fails at the send. A failed attach leaves the port unattached.
+    check_attaches(&rt, &mut outs, &[(Port::Midi, "/dev/full", Ok(()))]);
+    check_sends(
+        &rt,
+        &mut outs,
+        &[(Port::Midi, b"\x90", Err(SendFault::Failed))],
+    );
+    let names: [Named; 2] = [
+        (Port::Midi, "no/such/folder", Err(SendFault::Failed)),
+        (Port::Text, "rig_text", Err(SendFault::Failed)),
+    ];
+    check_attaches(&rt, &mut outs, &names);
+    check_sends(&rt, &mut outs, &[(Port::Midi, b"\x90", Ok(()))]);
+    Ok(())
+}
+
+#[test]
+fn midi_goes_to_a_pipe(rt: HostRuntime) -> Result<(), Fail> {
+    let (mut reader, writer) = io::pipe(&rt)?;
+    let name = format!(in rt.alloc(); "/proc/self/fd/{}", writer.as_raw_fd())?;
+    let mut outs = RealOuts::new(&rt);
+    check_attaches(&rt, &mut outs, &[(Port::Midi, name.as_str(), Ok(()))]);
+    check_sends(&rt, &mut outs, &[(Port::Midi, b"\x90\x30\x3f", Ok(()))]);
+    let mut into = [0u8; 8];
+    assert_eq!(rt; reader.read(&mut into)?, 3);
+    assert_eq!(rt; &into[..3], b"\x90\x30\x3f".as_slice());
+    // Nobody reads any longer.
+    drop(reader);
+    check_sends(
+        &rt,
+        &mut outs,
+        &[(Port::Midi, b"\x90", Err(SendFault::Failed))],
+    );
+    drop(writer);
+    Ok(())
+}
+
+#[test]
+fn each_send_is_one_datagram(rt: HostRuntime) -> Result<(), Fail> {
+    let there = UdpSocket::bind(&rt, "127.0.0.1:0")?;
+    let name = format!(in rt.alloc(); "{}", there.local_addr()?)?;
+    let mut outs = RealOuts::new(&rt);
+    let names: [Named; 4] = [
+        (Port::Udp, name.as_str(), Ok(())),
+        (Port::Osc, "no port", Err(SendFault::Failed)),
+        (Port::Osc, "127.0.0.1:65536", Err(SendFault::Failed)),
+        (Port::Osc, name.as_str(), Ok(())),
+    ];
+    check_attaches(&rt, &mut outs, &names);
+    let turns: [Given; 3] = [
+        (Port::Udp, b"hi", Ok(())),
+        (Port::Osc, b"/a\0\0,\0\0\0", Ok(())),
+        (Port::Udp, b"", Ok(())),
+    ];
+    check_sends(&rt, &mut outs, &turns);
+    let mut into = [0u8; 64];
+    for (_, bytes, _) in turns {
+        let (count, _) = there.recv_from(&mut into)?;
+        assert_eq!(rt; &into[..count], bytes);
+    }
+    Ok(())
+}
