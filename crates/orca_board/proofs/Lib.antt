@@ -1,2 +1,5 @@
+pub mod BlockEdits
+pub mod BlockLemmas
+pub mod BlockPlaces
 pub mod DeskLemmas
 mod ListingLemmas

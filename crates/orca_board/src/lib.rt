@@ -1,6 +1,7 @@
 //! The boards that a frame is worked on.
 #![tactic(auto)]
 
+mod blocks;
 mod listing;
 mod plain_board;
 
