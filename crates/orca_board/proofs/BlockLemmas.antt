@@ -1,24 +1,27 @@
 -- Places written in order: the desk that they leave.
-use Rattle.std.proofs.Common.{◌≡◌, ℕ, zero, suc, ◌+◌, ◌-◌, ◌*◌, ◌/◌, ◌%◌, ◌<◌, ◌≤◌, Bool, true, false, not, ◌&&◌, ◌||◌, List, [], ◌∷◌, ◌++◌, length, get_or, refl, arith, ap, sym, ◌∙◌, subst, inl, inr, zero-add, cond}
+use Rattle.std.proofs.Common.{◌≡◌, ℕ, zero, suc, ◌+◌, ◌-◌, ◌*◌, ◌/◌, ◌%◌, ◌<◌, ◌≤◌, Bool, true, false, not, ◌&&◌, ◌||◌, List, [], ◌∷◌, ◌++◌, length, get_or, take, below_more, refl, arith, ap, sym, ◌∙◌, subst, inl, inr, zero-add, cond}
 use Rattle.std.proofs.Math.ListN.{set}
 use Rattle.std.specs.Prelude.{All, Some, filter, map, if◌then◌else◌, slice_index}
 use Rattle.std.specs.List.{range_with_len, AllByRecursion}
 use Rattle.std.proofs.lemmas.Bool.{cases_Bool}
-use Rattle.std.proofs.lemmas.List.{append-nil, get_or-set_same, length-set, map_push}
+use Rattle.std.proofs.lemmas.List.{append-nil, get_or_default, get_or-set_other, get_or-set_same, get_or-take, length-set, length-take-le, length_push, map_push}
 use Rattle.std.proofs.lemmas.List.Elements.{recursion_from_All}
-use Rattle.std.proofs.lemmas.List.FromFn.{filter_of_map_range_with_len_more, map-range_with_len_more}
+use Rattle.std.proofs.lemmas.List.FromFn.{fill_by_all, filter_of_map_range_with_len_more, map-range_with_len_more}
 use Rattle.orca_base.specs.declared.area.Area.{Area}
 use Rattle.orca_base.specs.declared.place.Place.{Place}
 use Rattle.orca_base.specs.declared.place.Spot.{Spot}
-use Rattle.orca_base.specs.Grids.{Size, Sheet, IsSize, IsInside, by_place, cells_of, here, index_of, is_place, sheet_by}
+use Rattle.orca_base.specs.Areas.{corner_of}
+use Rattle.orca_base.specs.Edits.{block_of, is_in_area}
+use Rattle.orca_base.specs.Grids.{Size, Sheet, IsSize, IsInside, by_place, cells_of, glyph_at as glyph_on, here, index_of, is_place, sheet_by}
 use Rattle.orca_base.proofs.PlaceFacts.{index_of-below, is_place-same, is_place-refl, place_in-here}
 use Rattle.orca_base.proofs.SheetFacts.{list-by_place, same-by_place}
-use Rattle.orca_op.specs.State.{State, glyph_at}
+use Rattle.orca_op.specs.State.{State, glyph_at, peek}
 use Rattle.orca_op.specs.Deeds.{Deed, Write, after}
 use Rattle.orca_op.specs.Desk.{Desk, desk_after, desk_after_all, is_listed, list_after, list_with}
+use Rattle.orca_op.specs.HereFacts.{peek_here}
 use Rattle.orca_op.specs.LawFacts.{desk_after_all-append}
 use Rattle.orca_op.proofs.DeskFacts.{glyph_at-write_other}
-use Rattle.orca_board.specs.Blocks.{list_each, desk_after_edit, nth_place, places_in, write_each}
+use Rattle.orca_board.specs.Blocks.{list_each, desk_after_edit, glyph_from, nth_place, places_in, rows_of, write_each}
 
 -- ---- a loop over the places of an area
 
@@ -76,6 +79,56 @@ kept_step d e f glyph keeps area n at spot g before keeps_it place is glyph_is d
     (rw (before, is, place, glyph_is) at deed)
     ∙ (sym (write_each-push d glyph (filter keeps (first_places area n)) (nth_place area n))
     ∙ ap (λ (places : List Place). desk_after_all d (write_each glyph places)) (sym (kept-true keeps area n keeps_it)))
+
+pub kept_same : (d e : Desk) (glyph : Place → ℕ) (keeps : Place → Bool) (area : Area) (n : ℕ)
+    → e ≡ desk_after_all d (write_each glyph (filter keeps (first_places area n))) → keeps (nth_place area n) ≡ false
+    → e ≡ desk_after_all d (write_each glyph (filter keeps (first_places area (n + 1))))
+kept_same d e glyph keeps area n before is =
+    before ∙ ap (λ (places : List Place). desk_after_all d (write_each glyph places)) (sym (kept-false keeps area n is))
+
+pub length_kept-true : (keeps : Place → Bool) (area : Area) (n : ℕ) → keeps (nth_place area n) ≡ true → length (filter keeps (first_places area (n + 1))) ≡ length (filter keeps (first_places area n)) + 1
+length_kept-true keeps area n is =
+    ap (λ (places : List Place). length places) (kept-true keeps area n is) ∙ length_push (filter keeps (first_places area n)) (nth_place area n)
+
+pub length_kept-false : (keeps : Place → Bool) (area : Area) (n : ℕ) → keeps (nth_place area n) ≡ false → length (filter keeps (first_places area (n + 1))) ≡ length (filter keeps (first_places area n))
+length_kept-false keeps area n is = ap (λ (places : List Place). length places) (kept-false keeps area n is)
+
+-- the end of such a loop
+pub all_kept : (keeps : Place → Bool) (area : Area) (n : ℕ) → n ≡ area.h * area.w → filter keeps (first_places area n) ≡ filter keeps (places_in area)
+all_kept keeps area n end = ap (λ (places : List Place). filter keeps places) (ap (first_places area) end ∙ first_places-all area)
+
+-- the test of the code's place
+pub passes : (other : Area) (at p : Place) (holds is : Bool) → at ≡ p → holds ≡ is_in_area other at → holds ≡ is → not (is_in_area other p) ≡ not is
+passes other at p holds is place tested known = ap (λ (q : Place). not (is_in_area other q)) (sym place) ∙ ap not (sym tested ∙ known)
+
+-- the glyph of a place, in rows that begin where the area begins
+pub glyph_read : (cells : List ℕ) (area : Area) (n width columns whole g : ℕ) → columns ≡ area.w → whole ≡ width
+    → g ≡ get_or cells (n / columns * whole + n % columns) g → n / columns * whole + n % columns < length cells → g ≡ glyph_from (rows_of width cells) (corner_of area) (nth_place area n)
+glyph_read cells area n width columns whole g same all is below =
+    let row : n / area.w ≡ 0 + (area.y + (n / area.w - 0) - area.y) = omega arith in
+    let column : n % area.w ≡ 0 + (area.x + (n % area.w - 0) - area.x) = omega arith in
+    is ∙ (get_or_default cells (n / columns * whole + n % columns) g 0 below
+    ∙ (ap (λ (w : ℕ). get_or cells (n / w * whole + n % w) 0) same
+    ∙ (ap (λ (w : ℕ). get_or cells (n / area.w * w + n % area.w) 0) all
+    ∙ (ap (λ (y : ℕ). get_or cells (y * width + n % area.w) 0) row
+    ∙ ap (λ (x : ℕ). get_or cells ((0 + (area.y + (n / area.w - 0) - area.y)) * width + x) 0) column))))
+
+-- one glyph more is read
+pub read_step : (s : State) (area : Area) (n : ℕ) (xs ys : List ℕ) (at : Place) (spot : Spot) (g : ℕ) → IsInside s.dims (nth_place area n) → n < length xs
+    → ((i : ℕ) → i < n → get_or xs i 0 ≡ glyph_at s (nth_place area i)) → at ≡ nth_place area n → spot ≡ here at → g ≡ peek s spot → ys ≡ set xs n g
+    → (i : ℕ) → i < n + 1 → get_or ys i 0 ≡ glyph_at s (nth_place area i)
+read_step s area n xs ys at spot g inside room before place is glyph put =
+    rw put (below_more (λ i. get_or (set xs n g) i 0 ≡ glyph_at s (nth_place area i)) n
+    (λ i below. get_or-set_other xs n i g 0 (λ same. absurd (omega (arith, below, same))) ∙ before i below)
+    (get_or-set_same xs n g 0 room ∙ (glyph ∙ (ap (peek s) (is ∙ ap here place) ∙ peek_here s (nth_place area n) inside))))
+
+-- all are read
+pub all_read : (g : Sheet) (area : Area) (xs : List ℕ) → area.h * area.w ≤ length xs → ((i : ℕ) → i < area.h * area.w → get_or xs i 0 ≡ glyph_on g (nth_place area i))
+    → take (area.h * area.w) xs ≡ (block_of g area).cells
+unfolding by_place
+all_read g area xs room each =
+    fill_by_all (λ n. glyph_on g (nth_place area n)) (take (area.h * area.w) xs) (area.h * area.w) 0 (length-take-le (area.h * area.w) xs room)
+    (λ i below. get_or-take (area.h * area.w) xs i 0 below ∙ each i below)
 
 -- ---- the desk that is left
 

@@ -26,15 +26,29 @@ pub record IsBetween (area : Area) (at : Place) : Type 0 where
   pub left : area.x ≤ at.x
   pub right : at.x < area.x + area.w
 
-pub between-nth : (area : Area) (n : ℕ) → n < area.h * area.w → IsBetween area (nth_place area n)
-between-nth area n below =
+-- the row and the column of a number, within the area
+pub record IsNumber (area : Area) (n : ℕ) : Type 0 where
+  pub row : n / area.w < area.h
+  pub column : n % area.w < area.w
+
+is_number : (area : Area) (n : ℕ) → n < area.h * area.w → IsNumber area n
+is_number area n below =
     let some : 0 < area.w = elim (cases_lt 0 area.w) [
       | inl above ↦ above
       | inr none ↦ absurd (let zero : area.w ≡ 0 = omega arith in let no : n < area.h * 0 = subst (λ (w : ℕ). n < area.h * w) zero below in omega arith)
     ] in
-    let row : n / area.w < area.h = (div-lt_iff_lt-mul {k = area.w} {x = n} {y = area.h} some).1 below in
-    let column : n % area.w < area.w = mod_below n area.w some in
-    record { top = omega arith; bottom = omega (arith, row); left = omega arith; right = omega (arith, column) }
+    record { row = (div-lt_iff_lt-mul {k = area.w} {x = n} {y = area.h} some).1 below; column = mod_below n area.w some }
+
+-- the number of that cell, among rows that may be wider
+pub in_rows : (area : Area) (n width columns whole : ℕ) → n < area.h * area.w → columns ≡ area.w → whole ≡ width → area.w ≤ width → n / columns * whole + n % columns < area.h * width
+in_rows area n width columns whole below same all wide =
+    let number = is_number area n below in
+    rw (same, all) (index-below (n / area.w) (n % area.w) area.h width number.row (omega (arith, number.column, wide)))
+
+pub between-nth : (area : Area) (n : ℕ) → n < area.h * area.w → IsBetween area (nth_place area n)
+between-nth area n below =
+    let number = is_number area n below in
+    record { top = omega arith; bottom = omega (arith, number.row); left = omega arith; right = omega (arith, number.column) }
 
 between-test : (area : Area) (at : Place) → is_in_area area at ≡ true → IsBetween area at
 between-test area at is =
@@ -114,6 +128,11 @@ inside-places_in d area bottom right =
 pub inside-places_outside : (d : Size) (area other : Area) → area.y + area.h ≤ d.h → area.x + area.w ≤ d.w → All (IsInside d) (places_outside area other)
 inside-places_outside d area other bottom right =
     All-filter (λ at. not (is_in_area other at)) (IsInside d) (places_in area) (inside-places_in d area bottom right)
+
+pub inside-nth : (d : Size) (area : Area) (n : ℕ) → area.y + area.h ≤ d.h → area.x + area.w ≤ d.w → n < area.h * area.w → IsInside d (nth_place area n)
+inside-nth d area n bottom right below =
+    let is = between-nth area n below in
+    record { row = omega (arith, is.bottom, bottom); column = omega (arith, is.right, right) }
 
 -- ---- the image of a block
 
