@@ -1,5 +1,5 @@
 -- The desk that each block edit leaves.
-use Rattle.std.proofs.Common.{◌≡◌, ℕ, ◌+◌, ◌-◌, ◌*◌, ◌<◌, ◌≤◌, Bool, true, false, not, ◌&&◌, List, length, take, refl, arith, ap, sym, ◌∙◌}
+use Rattle.std.proofs.Common.{◌≡◌, ℕ, ◌+◌, ◌-◌, ◌*◌, ◌<◌, ◌≤◌, Bool, true, false, not, ◌&&◌, List, length, take, refl, arith, ap, sym, ◌∙◌, length-append}
 use Rattle.std.specs.Prelude.{if◌then◌else◌, nat_lt}
 use Rattle.std.proofs.lemmas.Bool.{and_parts, leb-true, ltb-true}
 use Rattle.orca_base.specs.declared.area.Area.{Area}
@@ -13,7 +13,7 @@ use Rattle.orca_op.specs.State.{sheet_of}
 use Rattle.orca_op.specs.Desk.{Desk, IsDesk, desk_after_all, is_listed}
 use Rattle.orca_board.specs.Blocks.{desk_after_edit, fill_places, glyph_from, image, places_in, places_outside, put_places, rows_of, shift_places, write_each}
 use Rattle.orca_board.proofs.BlockLemmas.{after_writes, edit-edit}
-use Rattle.orca_board.proofs.BlockPlaces.{image-fits, in-image, inside-places_in, inside-places_outside, is_listed-places_in, is_listed-places_outside}
+use Rattle.orca_board.proofs.BlockPlaces.{image-fits, in-image, length-places_in, inside-places_in, inside-places_outside, is_listed-places_in, is_listed-places_outside}
 
 -- fill
 pub after_fill : (d : Desk) (area : Area) (glyph : ℕ) → IsDesk d → IsArea d.scan.dims area
@@ -43,6 +43,10 @@ pub put_as : (d e : Desk) (dims : Size) (to : Place) (block : Sheet) (h w width 
     → e ≡ desk_after_edit d (sheet_after_put (sheet_of d.scan) to block) (put_places d.scan.dims to block.dims)
 put_as d e dims to block h w width area cells desk start same rows columns whole glyphs is left =
     (rw (is, same, rows, columns, whole, glyphs) at left) ∙ after_put d to block desk start
+
+pub length-put : (d dims : Size) (to : Place) (size : Size) (h w : ℕ) (area : Area) → dims ≡ d → h ≡ size.h → w ≡ size.w → area ≡ image dims to (record { h = h; w = w })
+    → area.h * area.w ≡ length (put_places d to size)
+length-put d dims to size h w area same rows columns is = rw (is, same, rows, columns) (sym (length-places_in (image d to size)))
 
 -- shift
 moved_glyph : (g : Sheet) (area : Area) (to at : Place) → is_within to (size_of area) at ≡ true → glyph_from (block_of g area) to at ≡ glyph_at g (moved to (corner_of area) at)
@@ -100,3 +104,9 @@ pub shift_as : (d e f : Desk) (dims : Size) (area : Area) (to : Place) (target :
     → f ≡ desk_after_edit d (sheet_after_move (sheet_of d.scan) area to) (shift_places d.scan.dims area to)
 shift_as d e f dims area to target cells desk is start same target_is glyphs cleared left =
     (rw (cleared, target_is, same, glyphs) at left) ∙ after_shift d area to desk is start
+
+pub length-shift : (d dims : Size) (area : Area) (to : Place) (target : Area) → dims ≡ d → target ≡ image dims to (size_of area)
+    → length (places_outside area target) + target.h * target.w ≡ length (shift_places d area to)
+length-shift d dims area to target same is =
+    rw (is, same)
+    (omega (arith, length-append (places_outside area (image d to (size_of area))) (places_in (image d to (size_of area))), length-places_in (image d to (size_of area))))
