@@ -72,7 +72,7 @@ by_tests false in_area x y z w same = refl
 
 after_shift : (d : Desk) (area : Area) (to : Place) → IsDesk d → IsArea d.scan.dims area → IsInside d.scan.dims to
     → desk_after_all (desk_after_all d (write_each (λ at. empty) (places_outside area (image d.scan.dims to (size_of area)))))
-        (write_each (glyph_from (block_of (sheet_of d.scan) area) to) (places_in (image d.scan.dims to (size_of area))))
+    (write_each (glyph_from (block_of (sheet_of d.scan) area) to) (places_in (image d.scan.dims to (size_of area))))
     ≡ desk_after_edit d (sheet_after_move (sheet_of d.scan) area to) (shift_places d.scan.dims area to)
 after_shift d area to desk is start =
     let target : Area = image d.scan.dims to (size_of area) in

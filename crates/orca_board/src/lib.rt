@@ -8,4 +8,6 @@ mod plain_board;
 pub use plain_board::PlainBoard;
 
 #[cfg(test)]
+mod blocks_tests;
+#[cfg(test)]
 mod tests;

@@ -25,11 +25,20 @@ loop-n-preserved g c =
       ];
       ticks = elim c.if-not-holds.branch [
         | then-not-holds w ↦
-            omega (arith, w.steps-is, w.write.ensures.ticks, c.loop-n.invariant.ticks,
-            length_kept-true keeps c.args.area c.loop-n.n (passes c.args.other _ _ _ false c.nth_place-at.ensures c.holds.ensures w.if-not-holds.true))
+            omega (
+              arith,
+              w.steps-is,
+              w.write.ensures.ticks,
+              c.loop-n.invariant.ticks,
+              length_kept-true keeps c.args.area c.loop-n.n (passes c.args.other _ _ _ false c.nth_place-at.ensures c.holds.ensures w.if-not-holds.true),
+            )
         | else-not-holds w ↦
-            omega (arith, w.steps-is, c.loop-n.invariant.ticks,
-            length_kept-false keeps c.args.area c.loop-n.n (passes c.args.other _ _ _ true c.nth_place-at.ensures c.holds.ensures w.if-not-holds.false))
+            omega (
+              arith,
+              w.steps-is,
+              c.loop-n.invariant.ticks,
+              length_kept-false keeps c.args.area c.loop-n.n (passes c.args.other _ _ _ true c.nth_place-at.ensures c.holds.ensures w.if-not-holds.false),
+            )
       ];
     }
 
@@ -41,6 +50,9 @@ returns-clause-desk g c =
 
 pub returns-clause-ticks : goal.returns-clause-ticks
 returns-clause-ticks g c =
-    omega (arith, c.loop-n.invariant.ticks,
-    ap (λ (places : List Place). length places)
-    (all_kept (λ at. not (is_in_area c.args.other at)) c.args.area c.loop-n.n (omega (arith, c.cells_of-n-end.ensures, c.loop-n-test.false, c.loop-n.auto.n-end))))
+    omega (
+      arith,
+      c.loop-n.invariant.ticks,
+      ap (λ (places : List Place). length places)
+          (all_kept (λ at. not (is_in_area c.args.other at)) c.args.area c.loop-n.n (omega (arith, c.cells_of-n-end.ensures, c.loop-n-test.false, c.loop-n.auto.n-end))),
+    )

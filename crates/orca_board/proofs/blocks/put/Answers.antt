@@ -9,5 +9,8 @@ returns-clause-desk g c =
 
 pub returns-clause-ticks : goal.returns-clause-ticks
 returns-clause-ticks g c =
-    omega (arith, c.write_block.ensures.ticks,
-    length-put _ c.dims.result c.args.to c.args.block.now.dims c.h.result c.w.result c.image-area.result c.dims.ensures.size c.h.ensures c.w.ensures c.image-area.ensures.image)
+    omega (
+      arith,
+      c.write_block.ensures.ticks,
+      length-put _ c.dims.result c.args.to c.args.block.now.dims c.h.result c.w.result c.image-area.result c.dims.ensures.size c.h.ensures c.w.ensures c.image-area.ensures.image,
+    )

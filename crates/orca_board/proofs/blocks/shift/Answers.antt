@@ -11,5 +11,10 @@ returns-clause-desk g c =
 
 pub returns-clause-ticks : goal.returns-clause-ticks
 returns-clause-ticks g c =
-    omega (arith, c.read_area.ensures.ticks, c.clear_outside.ensures.ticks, c.write_block.ensures.ticks,
-    length-shift _ c.dims.result c.args.area c.args.to c.image-target.result c.dims.ensures.size c.image-target.ensures.image)
+    omega (
+      arith,
+      c.read_area.ensures.ticks,
+      c.clear_outside.ensures.ticks,
+      c.write_block.ensures.ticks,
+      length-shift _ c.dims.result c.args.area c.args.to c.image-target.result c.dims.ensures.size c.image-target.ensures.image,
+    )

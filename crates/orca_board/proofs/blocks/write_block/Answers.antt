@@ -15,8 +15,8 @@ loop-n-preserved g c =
     omega (arith, in_rows c.args.area c.loop-n.n c.args.width c.from-columns.result c.from.result (omega (arith, c.loop-n-test.true, c.cells_of-n-end.ensures)) c.from-columns.ensures c.from.ensures c.requires.columns, c.requires.rows) in
     record {
       desk = step _ _ _ (glyph_from (rows_of c.args.width c.args.cells.now) (corner_of c.args.area)) c.args.area c.loop-n.n _ _ _ c.loop-n.invariant.desk c.nth_place.ensures c.here.ensures
-      (glyph_read c.args.cells.now c.args.area c.loop-n.n c.args.width c.from-columns.result c.from.result c.index-cells-n.result c.from-columns.ensures c.from.ensures c.index-cells-n.is below)
-      c.write.ensures.deed;
+          (glyph_read c.args.cells.now c.args.area c.loop-n.n c.args.width c.from-columns.result c.from.result c.index-cells-n.result c.from-columns.ensures c.from.ensures c.index-cells-n.is below)
+          c.write.ensures.deed;
       ticks = omega (arith, c.loop-n.invariant.ticks, c.write.ensures.ticks);
     }
 
