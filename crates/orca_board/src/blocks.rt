@@ -105,8 +105,8 @@ fn write_block<B: Bench, L: Ledger>(
 {
     let columns = usize::from(area.w);
     for n in 0..cells_of(area) {
-        let glyph = cells[n / columns * usize::from(width) + n % columns];
-        bench.write(nth_place(area, n).here(), glyph, steps);
+        let cell = cells[n / columns * usize::from(width) + n % columns];
+        bench.write(nth_place(area, n).here(), cell, steps);
     }
 }
 
@@ -147,9 +147,9 @@ pub(crate) fn put<B: Bench, L: Ledger>(
     write_block(bench, area, block.cells(), block.w(), steps);
 }
 
-/// Moves the glyphs of an area to the area's image, the block whose first place is `to`. The rest of the area
-/// becomes empty, and what would stand outside the grid is left out. The glyphs are first read into
-/// `scratch`, since the area and its image may overlap.
+/// Moves the glyphs of an area to the area's image, the block of its size whose first place is `to`. The
+/// rest of the area becomes empty, and what would stand outside the grid is left out. The glyphs are first
+/// read into `scratch`, which has [`MAX_CELLS`] places, since the area and its image may overlap.
 pub(crate) fn shift<B: Bench, L: Ledger>(
     bench: &mut B,
     area: Area,
