@@ -11,6 +11,8 @@ use Rattle.orca_board.proofs.blocks.clear_outside.Given as goal
 abbrev pub invariant-loop-n : goal.invariant-loop-n
 invariant-loop-n g l = record {
   desk : g.B.Bench.desk l.bench ≡ desk_after_all (g.B.Bench.desk l.initial.bench)
-      (write_each (λ at. empty) (filter (λ at. not (is_in_area l.other at)) (first_places l.area l.n)));
-  ticks : l.steps ≡ l.initial.steps + length (filter (λ at. not (is_in_area l.other at)) (first_places l.area l.n));
+      (write_each (λ at. empty)
+      (filter (λ at. not (is_in_area l.other at)) (first_places l.area l.n)));
+  ticks : l.steps ≡ l.initial.steps + length
+      (filter (λ at. not (is_in_area l.other at)) (first_places l.area l.n));
 }

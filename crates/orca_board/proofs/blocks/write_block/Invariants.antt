@@ -9,6 +9,7 @@ use Rattle.orca_board.proofs.blocks.write_block.Given as goal
 abbrev pub invariant-loop-n : goal.invariant-loop-n
 invariant-loop-n g l = record {
   desk : g.B.Bench.desk l.bench ≡ desk_after_all (g.B.Bench.desk l.initial.bench)
-      (write_each (glyph_from (rows_of l.width l.cells) (corner_of l.area)) (first_places l.area l.n));
+      (write_each (glyph_from (rows_of l.width l.cells) (corner_of l.area))
+      (first_places l.area l.n));
   ticks : l.steps ≡ l.initial.steps + l.n;
 }

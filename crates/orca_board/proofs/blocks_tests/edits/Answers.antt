@@ -6,11 +6,15 @@ use Rattle.orca_op.specs.Desk.{Desk}
 use Rattle.orca_board.specs.Blocks.{put_places, shift_places}
 use Rattle.orca_board.proofs.blocks_tests.edits.Goals as goal
 
-put_one : (d size : Size) (to : Place) → d ≡ record { h = 4; w = 4 } → size ≡ record { h = 2; w = 2 } → to ≡ record { y = 3; x = 3 } → length (put_places d to size) ≡ 1
+put_one : (d size : Size) (to : Place) → d ≡ record { h = 4; w = 4 }
+    → size ≡ record { h = 2; w = 2 } → to ≡ record { y = 3; x = 3 }
+    → length (put_places d to size) ≡ 1
 unfolding by_place
 put_one d size to grid block corner = rw (grid, block, corner) refl
 
-shift_six : (d : Size) (area : Area) (to : Place) → d ≡ record { h = 4; w = 4 } → area ≡ record { y = 1; x = 1; h = 2; w = 2 } → to ≡ record { y = 1; x = 2 } → length (shift_places d area to) ≡ 6
+shift_six : (d : Size) (area : Area) (to : Place) → d ≡ record { h = 4; w = 4 }
+    → area ≡ record { y = 1; x = 1; h = 2; w = 2 } → to ≡ record { y = 1; x = 2 }
+    → length (shift_places d area to) ≡ 6
 unfolding by_place
 shift_six d area to grid square right = rw (grid, square, right) refl
 
