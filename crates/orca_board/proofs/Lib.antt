@@ -1,4 +1,7 @@
 mod BoardLemmas
+pub mod BlockEdits
+pub mod BlockLemmas
+pub mod BlockPlaces
 pub mod DeskLemmas
 mod ListingLemmas
 mod LiveBitsLemmas

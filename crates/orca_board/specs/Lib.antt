@@ -1,4 +1,5 @@
 pub mod Board
+pub mod Blocks
 pub mod Listing
 pub mod LiveBits
 pub mod PlainBoard

@@ -2,6 +2,7 @@
 #![tactic(auto)]
 
 mod board;
+mod blocks;
 mod listing;
 mod live_bits;
 mod plain_board;
@@ -9,5 +10,7 @@ mod plain_board;
 pub use board::Board;
 pub use plain_board::PlainBoard;
 
+#[cfg(test)]
+mod blocks_tests;
 #[cfg(test)]
 mod tests;

@@ -4,14 +4,13 @@ use Rattle.std.specs.Prelude.{filter, map, Option, Some, None}
 use Rattle.std.proofs.Math.Nat.{eq-or-lt_of_le}
 use Rattle.std.proofs.lemmas.List.{map-append}
 use Rattle.std.proofs.lemmas.List.Elements.{filter-append}
-use Rattle.std.proofs.lemmas.List.Concat.{flat_map-cons}
 use Rattle.orca_base.specs.declared.message.Message.{Message}
 use Rattle.orca_base.specs.declared.message.Message.TheVariants as message
 use Rattle.orca_base.specs.declared.port.Port.TheVariants as port
 use Rattle.orca_base.specs.MidiBytes.{note_on_bytes, note_off_bytes, control_bytes, bend_bytes}
 use Rattle.orca_base.specs.declared.note.Note.{Note}
 use Rattle.orca_grid.specs.GridText.{text_of}
-use Rattle.orca_notes.specs.Device.{device, device-append, voices, Voice, IsFair, IsFair-append, midi, midi_of}
+use Rattle.orca_notes.specs.Device.{device, device-append, voices, Voice, IsFair, IsFair-append, midi}
 use Rattle.orca_notes.specs.Sound.{ends}
 use Rattle.orca_player.specs.declared.lines.Label.{Label}
 use Rattle.orca_player.specs.declared.lines.Label.TheVariants.{Tick, End}
@@ -39,15 +38,15 @@ midi_sent-sends_of : (messages : List Message) → midi_sent (sends_of messages)
 unfolding midi_sent midi
 midi_sent-sends_of [] = refl
 midi_sent-sends_of (message.On channel key velocity ∷ messages) =
-    ap (λ (xs : List (List ℕ)). note_on_bytes channel key velocity ∷ xs) (midi_sent-sends_of messages) ∙ sym (flat_map-cons midi_of (message.On channel key velocity) messages)
+    ap (λ (xs : List (List ℕ)). note_on_bytes channel key velocity ∷ xs) (midi_sent-sends_of messages)
 midi_sent-sends_of (message.Off channel key ∷ messages) =
-    ap (λ (xs : List (List ℕ)). note_off_bytes channel key ∷ xs) (midi_sent-sends_of messages) ∙ sym (flat_map-cons midi_of (message.Off channel key) messages)
+    ap (λ (xs : List (List ℕ)). note_off_bytes channel key ∷ xs) (midi_sent-sends_of messages)
 midi_sent-sends_of (message.Control channel control value ∷ messages) =
-    ap (λ (xs : List (List ℕ)). control_bytes channel control value ∷ xs) (midi_sent-sends_of messages) ∙ sym (flat_map-cons midi_of (message.Control channel control value) messages)
+    ap (λ (xs : List (List ℕ)). control_bytes channel control value ∷ xs) (midi_sent-sends_of messages)
 midi_sent-sends_of (message.Bend channel lsb msb ∷ messages) =
-    ap (λ (xs : List (List ℕ)). bend_bytes channel lsb msb ∷ xs) (midi_sent-sends_of messages) ∙ sym (flat_map-cons midi_of (message.Bend channel lsb msb) messages)
-midi_sent-sends_of (message.Udp text ∷ messages) = midi_sent-sends_of messages ∙ sym (flat_map-cons midi_of (message.Udp text) messages)
-midi_sent-sends_of (message.Osc path values ∷ messages) = midi_sent-sends_of messages ∙ sym (flat_map-cons midi_of (message.Osc path values) messages)
+    ap (λ (xs : List (List ℕ)). bend_bytes channel lsb msb ∷ xs) (midi_sent-sends_of messages)
+midi_sent-sends_of (message.Udp text ∷ messages) = midi_sent-sends_of messages
+midi_sent-sends_of (message.Osc path values ∷ messages) = midi_sent-sends_of messages
 
 -- lines are no MIDI messages
 midi_sent-lines_of : (label : Label) (messages : List Message) → midi_sent (lines_of label messages) ≡ []

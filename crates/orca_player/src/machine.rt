@@ -5,8 +5,8 @@ ghost use Rattle.orca_notes.specs.Sound.{ends};
 ghost use Rattle.orca_player.specs.Playing.{opened, next_moment, messages_at};
 
 use orca_base::{Memory, Message, Now, Steps};
-use orca_board::PlainBoard;
-use orca_frame::frame_plain;
+use orca_board::Board;
+use orca_frame::frame;
 use orca_grid::Grid;
 use orca_notes::{Messages, Notes};
 use std::alloc::Global;
@@ -15,7 +15,7 @@ use std::sync::ledger::Ledger;
 /// What plays: the board, the notes that sound, and the messages of the last frame.
 #[derive(Drop)]
 pub(crate) struct Machine {
-    pub board: PlainBoard,
+    pub board: Board,
     pub notes: Notes,
     pub messages: Messages,
 }
@@ -28,7 +28,7 @@ impl Machine {
         ensures moment { IfOk result (λ machine. moment_of machine 0 ≡ opened grid.now) }
         ensures messages { IfOk result (λ machine. machine.messages ≡ []) }
     {
-        let board = PlainBoard::start(alloc, grid)?;
+        let board = Board::start(alloc, grid)?;
         let notes = Notes::start(alloc)?;
         let messages = Messages::start(alloc)?;
         Ok(Machine {
@@ -48,7 +48,7 @@ impl Machine {
         ensures device { device (voices self.old.notes) (midi self.new.messages) ≡ voices self.new.notes }
         ensures fair { IsFair (voices self.old.notes) (midi self.new.messages) }
     {
-        frame_plain(&mut self.board, now, steps);
+        frame(&mut self.board, now, steps);
         self.messages.clear();
         self.notes
             .advance(now.tick, self.board.events(), &mut self.messages);

@@ -7,11 +7,11 @@ use Rattle.orca_player.proofs.machine.Machine.frame.Goals as goal
 -- the events of a frame are in range, so they can be played
 pub advance-requires-clause-playable : goal.advance-requires-clause-playable
 advance-requires-clause-playable g c =
-    let in_range : All IsInRange c.events.result.now = subst (λ (events : List Event). All IsInRange events) (sym c.events.ensures.events) c.frame_plain.ensures.playable in
+    let in_range : All IsInRange c.events.result.now = subst (λ (events : List Event). All IsInRange events) (sym c.events.ensures.events) c.frame.ensures.framed.events in
     λ k d below. IsPlayable-in_range _ (in_range k d below)
 
 -- and so the messages have few values
 pub returns-clause-few_values : goal.returns-clause-few_values
 returns-clause-few_values g c =
-    let in_range : All IsInRange c.events.result.now = subst (λ (events : List Event). All IsInRange events) (sym c.events.ensures.events) c.frame_plain.ensures.playable in
+    let in_range : All IsInRange c.events.result.now = subst (λ (events : List Event). All IsInRange events) (sym c.events.ensures.events) c.frame.ensures.framed.events in
     c.advance.ensures.few_values (λ k d below. HasFewValues-in_range _ (in_range k d below))
