@@ -93,6 +93,7 @@ blank-by_place d size =
     long : (n : ℕ) → length (replicate n no_marks) ≡ n
     long zero = refl
     long (suc n) = ap suc (long n)
+
     none : (n i : ℕ) → get_or (replicate n no_marks) i no_marks ≡ no_marks
     none zero i = refl
     none (suc n) zero = refl
@@ -145,7 +146,6 @@ live-row s cells bits words row x size below is outside live long read =
     past_edge : (row x : ℕ) → s.dims.w ≤ x → (nat_lt row s.dims.h && nat_lt x s.dims.w) ≡ false
     past_edge row x past = let column : nat_lt x s.dims.w ≡ false = le-ltb x s.dims.w past in rw column (and_false (nat_lt row s.dims.h))
 
-
 most_size : IsSize largest
 most_size = record { rows = omega arith; few_rows = omega arith; columns = omega arith; few_columns = omega arith }
 
@@ -166,18 +166,20 @@ laid-more d n cells glyph size few whole laid k below =
           let here : IsInside d (place_of d k) = inside-place_of d k size (omega (arith, before, few)) in
           get_or-set_other cells (index_of largest (place_of d n)) (index_of largest (place_of d k)) (glyph n) 0
           (λ same. other.1 (
-              let parts = index-injective MAX_COLUMNS (k / d.w) (k % d.w) (n / d.w) (n % d.w) (omega (arith, here.column, size.few_columns)) (omega (arith, there.column, size.few_columns)) same in
-              sym (index_of-place_of d k size) ∙ (same_number parts.0 parts.1 ∙ index_of-place_of d n size)))
+          let parts = index-injective MAX_COLUMNS (k / d.w) (k % d.w) (n / d.w) (n % d.w) (omega (arith, here.column, size.few_columns)) (omega (arith, there.column, size.few_columns)) same in
+          sym (index_of-place_of d k size) ∙ (same_number parts.0 parts.1 ∙ index_of-place_of d n size)))
           ∙ laid k before
     ]
   where
     there : IsInside d (place_of d n)
     there = inside-place_of d n size few
+
     below_other : (k n : ℕ) → k < n + 1 → (k ≡ n → ⊥) → k < n
     below_other k n below other = elim (cases_lt k n) [
       | inl less ↦ less
       | inr more ↦ absurd (other (omega (arith, below, more)))
     ]
+
     same_number : (k / d.w) ≡ (n / d.w) → (k % d.w) ≡ (n % d.w) → index_of d (place_of d k) ≡ index_of d (place_of d n)
     same_number row column = ap (λ (y : ℕ). y * d.w + k % d.w) row ∙ ap (λ (x : ℕ). (n / d.w) * d.w + x) column
 

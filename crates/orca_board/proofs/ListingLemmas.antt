@@ -123,9 +123,11 @@ lowered_more old flags changes change i j number below before =
     down : (a b : Bool) → b ≡ true → false ≡ (a && not b)
     down true b is = rw is refl
     down false b is = refl
+
     or_true : (a b : Bool) → b ≡ true → (a || (b || false)) ≡ true
     or_true true b is = refl
     or_true false b is = rw is refl
+
     or_none : (a b : Bool) → b ≡ false → (a || (b || false)) ≡ a
     or_none true b is = refl
     or_none false b is = rw is refl
@@ -151,6 +153,7 @@ with_listed began changes at old present = by (is_inside began at) (is_listed (p
     never : (inside : Bool) → cond (inside && false) (changes ++ record { at = at; old = old } ∷ []) changes ≡ changes
     never true = refl
     never false = refl
+
     by : (inside found : Bool) → found ≡ true → cond (inside && not found) (changes ++ record { at = at; old = old } ∷ []) changes ≡ changes
     by inside true is = never inside
     by inside false is = cc
@@ -163,6 +166,7 @@ changes-written d changes at kept places is =
   where
     change : Place → Change
     change q = record { at = q; old = glyph_on d.began q }
+
     by : (inside found : Bool) → (inside ≡ true → IsInside d.began.dims at) → (IsInside d.began.dims at → found ≡ false → glyph_at d.scan at ≡ glyph_on d.began at)
         → cond (inside && not found) (changes ++ record { at = at; old = glyph_at d.scan at } ∷ []) changes ≡ map change (cond (inside && not found) (d.listed ++ at ∷ []) d.listed)
     by true false in_began holds =

@@ -1,8 +1,8 @@
 //! The boards that a frame is worked on.
 #![tactic(auto)]
 
-mod board;
 mod blocks;
+mod board;
 mod listing;
 mod live_bits;
 mod plain_board;
@@ -10,7 +10,5 @@ mod plain_board;
 pub use board::Board;
 pub use plain_board::PlainBoard;
 
-#[cfg(test)]
-mod blocks_tests;
 #[cfg(test)]
 mod tests;

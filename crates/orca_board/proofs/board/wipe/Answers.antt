@@ -20,7 +20,7 @@ loop-n-preserved c =
           set-outside c.args.dims c.loop-n.cells (place_of c.args.dims c.loop-n.n) q empty 0 c.cells-n-end.ensures.size (subst (IsInside c.args.dims) c.place.ensures.place c.place.ensures.inside) inside past
           ∙ c.loop-n.invariant.outside q inside past;
       live = live-set c.loop-n.live c.set.new.self c.loop-n.cells (index_of largest (place_of c.args.dims c.loop-n.n)) empty (omega (arith, below, c.loop-n.invariant.whole)) c.loop-n.invariant.whole c.loop-n.invariant.live
-      (λ n. rw number at (c.set.ensures n));
+          (λ n. rw number at (c.set.ensures n));
     })
 
 pub returns-clause-empty : goal.returns-clause-empty

@@ -13,8 +13,8 @@ pub invariant_of-self : goal.invariant_of-self
 invariant_of-self g c =
     rw c.add.ensures (record {
       lists = lists-mark (desk_of c.self.inside) _ c.args.at c.args.marks c.self.inside.listing.changes c.self.invariant.lists
-      (marked-plane (desk_of c.self.inside) c.self.inside.marks c.args.at c.in-Some.place c.args.marks c.self.invariant.lists.desk.state.sheet.size c.in-Some.ensures.inside
-      (sym c.in-Some.ensures.place) refl c.self.invariant.marks_whole);
+          (marked-plane (desk_of c.self.inside) c.self.inside.marks c.args.at c.in-Some.place c.args.marks c.self.invariant.lists.desk.state.sheet.size c.in-Some.ensures.inside
+          (sym c.in-Some.ensures.place) refl c.self.invariant.marks_whole);
       whole = c.self.invariant.whole;
       marks_whole = length-set c.self.inside.marks _ _ ∙ c.self.invariant.marks_whole;
       outside = c.self.invariant.outside;

@@ -27,17 +27,17 @@ invariant_of-self g c =
     let planes = set-plane c.self.inside.dims c.self.inside.cells.items c.in-Some.place c.args.glyph 0 c.self.invariant.lists.desk.state.sheet.size c.in-Some.ensures.inside c.self.invariant.whole in
     rw cells (record {
       lists = lists-write (desk_of c.self.inside) _ c.args.at c.in-Some.place c.args.glyph c.self.inside.listing.changes _ c.self.invariant.lists
-      c.in-Some.ensures.inside (sym c.in-Some.ensures.place) c.put.ensures.glyph
-      (written (desk_of c.self.inside) _ c.args.at c.in-Some.place c.args.glyph (sym c.in-Some.ensures.place)
-      (ap (λ (cells : List ℕ). record (desk_of c.self.inside).scan { cells = cells }) planes) (rw c.add.ensures refl) (rw c.add.ensures (places-changes_with _ _ c.in-Some.place _)))
-      refl (rw c.add.ensures (ap (changes_with _ _ c.in-Some.place) there));
+          c.in-Some.ensures.inside (sym c.in-Some.ensures.place) c.put.ensures.glyph
+          (written (desk_of c.self.inside) _ c.args.at c.in-Some.place c.args.glyph (sym c.in-Some.ensures.place)
+          (ap (λ (cells : List ℕ). record (desk_of c.self.inside).scan { cells = cells }) planes) (rw c.add.ensures refl) (rw c.add.ensures (places-changes_with _ _ c.in-Some.place _)))
+          refl (rw c.add.ensures (ap (changes_with _ _ c.in-Some.place) there));
       whole = length-set c.self.inside.cells.items _ _ ∙ c.self.invariant.whole;
       marks_whole = c.self.invariant.marks_whole;
       outside = λ q inside_q out.
           set-outside c.self.inside.dims c.self.inside.cells.items c.in-Some.place q c.args.glyph 0 c.self.invariant.lists.desk.state.sheet.size c.in-Some.ensures.inside inside_q out
           ∙ c.self.invariant.outside q inside_q out;
       live = live-set c.self.inside.live c.set.new.self c.self.inside.cells.items (index_of largest c.in-Some.place) c.args.glyph (omega (arith, c.index-i.ensures.most, number, c.self.invariant.whole))
-      c.self.invariant.whole c.self.invariant.live (rw (number, c.is_operator.ensures) at c.set.ensures);
+          c.self.invariant.whole c.self.invariant.live (rw (number, c.is_operator.ensures) at c.set.ensures);
       counted = c.self.invariant.counted;
       events_roomy = c.self.invariant.events_roomy;
     })

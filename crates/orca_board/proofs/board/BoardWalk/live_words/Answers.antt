@@ -10,5 +10,5 @@ returns-clause-live g c =
     rw (← c.self.view_is) (record {
       size = long;
       bits = λ x. live-row (desk_of c.self.inside).scan c.self.inside.cells.items c.self.inside.live c.row.result.now c.args.row x c.self.invariant.lists.desk.state.sheet.size
-      (rw (← c.self.view_is) at c.requires) refl c.self.invariant.outside c.self.invariant.live long (c.row.ensures.bits x);
+          (rw (← c.self.view_is) at c.requires) refl c.self.invariant.outside c.self.invariant.live long (c.row.ensures.bits x);
     })

@@ -19,10 +19,10 @@ invariant_of-self g c =
     (put_over (set c.self.inside.cells.items (index_of c.self.inside.dims c.in-Some.place) c.args.glyph) c.self.inside.cells.items c.self.inside.cells.len (length-set c.self.inside.cells.items _ _) (omega (arith, c.self.inside.cells.ok.0))) in
     record {
       lists = lists-write (desk_of c.self.inside) _ c.args.at c.in-Some.place c.args.glyph c.self.inside.listing.changes _ c.self.invariant.lists
-      c.in-Some.ensures.inside (sym c.in-Some.ensures.place) c.put.ensures.glyph
-      (written (desk_of c.self.inside) _ c.args.at c.in-Some.place c.args.glyph (sym c.in-Some.ensures.place)
-      (ap (λ (cells : List ℕ). record (desk_of c.self.inside).scan { cells = cells }) cells) (rw c.add.ensures refl) (rw c.add.ensures (places-changes_with _ _ c.in-Some.place _)))
-      refl (rw c.add.ensures (ap (changes_with _ _ c.in-Some.place) there));
+          c.in-Some.ensures.inside (sym c.in-Some.ensures.place) c.put.ensures.glyph
+          (written (desk_of c.self.inside) _ c.args.at c.in-Some.place c.args.glyph (sym c.in-Some.ensures.place)
+          (ap (λ (cells : List ℕ). record (desk_of c.self.inside).scan { cells = cells }) cells) (rw c.add.ensures refl) (rw c.add.ensures (places-changes_with _ _ c.in-Some.place _)))
+          refl (rw c.add.ensures (ap (changes_with _ _ c.in-Some.place) there));
       cells_roomy = c.self.invariant.cells_roomy;
       marks_roomy = c.self.invariant.marks_roomy;
       events_roomy = c.self.invariant.events_roomy;

@@ -4,7 +4,7 @@ use Rattle.orca_base.specs.declared.place.Place.{Place}
 use Rattle.orca_base.specs.Grids.{Size, by_place}
 use Rattle.orca_op.specs.Desk.{Desk}
 use Rattle.orca_board.specs.Blocks.{put_places, shift_places}
-use Rattle.orca_board.proofs.blocks_tests.edits.Goals as goal
+use Rattle.orca_board.proofs.tests.blocks.edits.Goals as goal
 
 put_one : (d size : Size) (to : Place) → d ≡ record { h = 4; w = 4 }
     → size ≡ record { h = 2; w = 2 } → to ≡ record { y = 3; x = 3 }
