@@ -8,7 +8,7 @@ use Rattle.orca_base.specs.declared.event.Event.{Event}
 use Rattle.orca_base.specs.declared.limits.TheConstants.{BASE, MIN_VELOCITY, MAX_CHANNEL, MAX_DATA, MAX_TEXT, MAX_DEEDS}
 use Rattle.orca_base.specs.declared.place.Place.{Place}
 use Rattle.orca_base.specs.EventRanges.{IsInRange}
-use Rattle.orca_base.specs.Glyphs.{IsGlyph, empty, value, note_number, AreGlyphs}
+use Rattle.orca_base.specs.Glyphs.{IsGlyph, empty, value, note_number}
 use Rattle.orca_base.specs.GlyphFacts.{value-below}
 use Rattle.orca_op.specs.State.{State, IsState, has_bang}
 use Rattle.orca_base.specs.Grids.{right}

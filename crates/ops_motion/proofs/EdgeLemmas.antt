@@ -1,13 +1,13 @@
 -- What lies beyond the right edge: no glyph stands there, and a lock does nothing.
-use Rattle.std.specs.Prelude.{ℕ, zero, suc, ◌+◌, ◌≡◌, ◌<◌, ◌≤◌, ◌==◌, ◌&&◌, Bool, true, false, if◌then◌else◌, List, [], ◌∷◌, ◌++◌, Option, Some, None, refl}
-use Rattle.std.proofs.Common.{arith, ap, ◌∙◌, inl, inr}
+use Rattle.std.specs.Prelude.{ℕ, zero, suc, ◌+◌, ◌≡◌, ◌<◌, ◌≤◌, ◌==◌, ◌&&◌, Bool, true, false, if◌then◌else◌, List, [], ◌∷◌, Some, None, refl}
+use Rattle.std.proofs.Common.{arith, ◌∙◌, inl, inr}
 use Rattle.std.proofs.Math.Nat.{eq-or-lt_of_le}
 use Rattle.std.proofs.lemmas.Bool.{le-ltb}
 use Rattle.orca_base.specs.declared.place.Place.{Place}
 use Rattle.orca_base.specs.Grids.{Size, place_in}
 use Rattle.orca_op.specs.State.{State, peek}
 use Rattle.orca_base.specs.Grids.{right}
-use Rattle.orca_op.specs.Deeds.{Deed, Mark, Write, Set, Emit, after, lock_at, each}
+use Rattle.orca_op.specs.Deeds.{Deed, Mark, Write, Set, Emit, after, lock_at}
 use Rattle.orca_op.specs.Desk.{Desk, desk_after, desk_after_all, list_after}
 use Rattle.orca_op.specs.LawFacts.{desk_after_all-append}
 use Rattle.orca_op.specs.MotionRules.{hash, lock_deeds}

@@ -1,10 +1,10 @@
 -- Marks as bits: the set of both bytes, a mark more, and a test.
-use Rattle.std.proofs.Common.{◌≡◌, ℕ, zero, suc, ◌+◌, ◌<◌, Bool, true, false, not, ◌==◌, ◌||◌, arith, ap, ◌∙◌, refl, bit_or, bit_and}
+use Rattle.std.proofs.Common.{◌≡◌, ℕ, zero, suc, ◌<◌, Bool, true, false, not, ◌==◌, ◌||◌, arith, ap, ◌∙◌, refl, bit_or, bit_and}
 use Rattle.std.specs.Prelude.{max}
 use Rattle.std.specs.Int.{bit_at}
 use Rattle.std.proofs.lemmas.Nat.Bits.{bit_at_or, bit_at-lt}
 use Rattle.std.proofs.lemmas.Bool.{agree_below_at}
-use Rattle.orca_base.specs.MarkSet.{MarkSet, all_marks, with_mark, has_mark, is_marked}
+use Rattle.orca_base.specs.MarkSet.{all_marks, with_mark, has_mark, is_marked}
 use Rattle.orca_base.specs.MarkBits.{marks_of, bit_of}
 use Rattle.orca_base.specs.declared.marks.Mark.{Mark}
 use Rattle.orca_base.specs.declared.marks.Mark.TheVariants.{Lock, Input, Param, Output, Sleep}

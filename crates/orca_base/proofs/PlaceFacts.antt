@@ -1,9 +1,9 @@
 -- Places, their numbers in reading order, and spots.
-use Rattle.std.proofs.Common.{◌≡◌, ℕ, ◌+◌, ◌*◌, ◌/◌, ◌%◌, ◌<◌, ◌≤◌, Bool, true, false, ◌==◌, ◌&&◌, Some, None, arith, ap, ◌∙◌, sym, refl, inl, inr, add-zero}
-use Rattle.std.specs.Prelude.{Option, nat_lt, pos, negsuc, ℤ, if◌then◌else◌, IfSome}
+use Rattle.std.proofs.Common.{◌≡◌, ℕ, ◌+◌, ◌*◌, ◌/◌, ◌%◌, ◌<◌, Bool, true, false, ◌==◌, ◌&&◌, Some, None, arith, ap, ◌∙◌, sym, refl, inl, inr, add-zero}
+use Rattle.std.specs.Prelude.{nat_lt, pos, negsuc, ℤ, if◌then◌else◌, IfSome}
 use Rattle.std.proofs.Math.Nat.{div-lt_iff_lt-mul}
 use Rattle.std.proofs.lemmas.Nat.{div-mul-add}
-use Rattle.std.proofs.lemmas.Bool.{eq-eqb, eqb-true, lt-ltb, ltb-true}
+use Rattle.std.proofs.lemmas.Bool.{eq-eqb, lt-ltb}
 use Rattle.std.proofs.lemmas.Bool.Decides.{eqb_tells, nat_tests}
 use Rattle.orca_base.specs.declared.place.Place.{Place}
 use Rattle.orca_base.specs.declared.place.Spot.{Spot}

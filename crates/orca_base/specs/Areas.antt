@@ -1,5 +1,5 @@
 -- Areas of a grid, and the part of a rect that lies in the grid.
-use Rattle.std.specs.Prelude.{ℕ, ◌+◌, ◌-◌, ◌*◌, ◌≤◌, Bool, ◌&&◌, nat_le, nat_lt, min}
+use Rattle.std.specs.Prelude.{◌+◌, ◌-◌, ◌≤◌, min}
 use Rattle.orca_base.specs.declared.area.Area.{Area}
 use Rattle.orca_base.specs.declared.area.Rect.{Rect}
 use Rattle.orca_base.specs.declared.place.Place.{Place}

@@ -1,10 +1,9 @@
 -- A set of marks as the bits of one byte.
-use Rattle.std.specs.Prelude.{ℕ, ◌+◌, ◌≡◌, ◌<◌, ◌==◌, ◌||◌, Bool, true, false, not, max, if◌then◌else◌}
+use Rattle.std.specs.Prelude.{ℕ, ◌+◌, ◌≡◌, ◌<◌, ◌==◌, true, if◌then◌else◌}
 use Rattle.std.specs.Int.{bit_at}
-use Rattle.std.proofs.Common.{arith, refl, ap, ◌∙◌, zero, suc, bit_or, bit_and}
-use Rattle.std.proofs.lemmas.Nat.Bits.{bit_at_or, bit_at-lt}
+use Rattle.std.proofs.Common.{refl}
 use Rattle.std.proofs.lemmas.Bool.{agree_below_at, eqb-true}
-use Rattle.orca_base.specs.MarkSet.{MarkSet, all_marks, with_mark, has_mark, is_marked}
+use Rattle.orca_base.specs.MarkSet.{MarkSet}
 use Rattle.orca_base.specs.declared.marks.Mark.{Mark}
 use Rattle.orca_base.specs.declared.marks.Mark.TheVariants.{Lock, Input, Param, Output, Sleep}
 

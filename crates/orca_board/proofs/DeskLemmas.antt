@@ -1,9 +1,9 @@
 -- The desk that the parts of a board stand for: a grid at the start of a frame, and a write.
-use Rattle.std.proofs.Common.{◌≡◌, ℕ, ◌≤◌, List, [], refl, arith, ◌∙◌}
+use Rattle.std.proofs.Common.{◌≡◌, ℕ, List, [], refl, arith, ◌∙◌}
 use Rattle.std.proofs.Math.ListN.{set}
 use Rattle.std.specs.Prelude.{replicate, Some}
 use Rattle.orca_base.specs.declared.change.Change.{Change}
-use Rattle.orca_base.specs.declared.limits.TheConstants.{BASE, MAX_CELLS, MAX_EVENTS}
+use Rattle.orca_base.specs.declared.limits.TheConstants.{BASE}
 use Rattle.orca_base.specs.declared.place.Place.{Place}
 use Rattle.orca_base.specs.declared.place.Spot.{Spot}
 use Rattle.orca_base.specs.Glyphs.{IsGlyph, empty}
@@ -14,7 +14,6 @@ use Rattle.orca_op.specs.Deeds.{Mark, Write, after}
 use Rattle.orca_op.specs.Desk.{Desk, changes_of, desk_of_sheet, desk_after, list_after, list_with}
 use Rattle.orca_op.proofs.DeskFacts.{IsDesk-after, IsDesk-of_sheet}
 use Rattle.orca_board.specs.Listing.{ListsChanges, changes_with, places_of}
-use Rattle.orca_board.specs.PlainBoard.{KeepsDesk}
 use Rattle.orca_board.proofs.ListingLemmas.{changes-written}
 
 -- the parts of a board at the start of a frame

@@ -1,5 +1,5 @@
 -- One bit of a word, and the words of which none is set.
-use Rattle.std.proofs.Common.{◌≡◌, ℕ, zero, suc, ◌+◌, ◌*◌, ◌%◌, ◌/◌, ◌^◌, ◌<◌, ◌==◌, Bool, true, false, refl, arith, ap, sym, ◌∙◌, bit_or, bit_xor, inl, inr, max, subst, replicate, List, []}
+use Rattle.std.proofs.Common.{◌≡◌, ℕ, zero, suc, ◌%◌, ◌/◌, ◌^◌, ◌==◌, true, false, refl, arith, bit_or, bit_xor, inl, inr, replicate}
 use Rattle.std.specs.Int.{bit_at}
 use Rattle.orca_base.specs.declared.limits.TheConstants.{LIVE_WORDS}
 use Rattle.orca_op.specs.Live.{has_bit}

@@ -1,6 +1,6 @@
 -- A frame: before, during and after the visits.
-use Rattle.std.proofs.Common.{◌≡◌, ℕ, zero, suc, ◌+◌, ◌*◌, ◌<◌, ◌≤◌, arith, ap, sym, ◌∙◌, subst, add-one, length, refl}
-use Rattle.std.specs.Prelude.{All, Contains, ◌↔◌, if◌then◌else◌, List}
+use Rattle.std.proofs.Common.{◌≡◌, ℕ, ◌+◌, ◌*◌, ◌<◌, ◌≤◌, arith, ap, sym, ◌∙◌, subst, add-one, length, refl}
+use Rattle.std.specs.Prelude.{Contains, ◌↔◌, if◌then◌else◌, List}
 use Rattle.orca_base.specs.declared.limits.TheConstants.{MAX_DEEDS, MAX_TICKS}
 use Rattle.orca_base.specs.declared.now.Now.{Now}
 use Rattle.orca_base.specs.declared.place.Place.{Place}
@@ -8,7 +8,7 @@ use Rattle.orca_base.specs.Glyphs.{is_operator}
 use Rattle.orca_base.specs.Grids.{Size, Sheet, IsSheet, IsInside, cells_of, place_of}
 use Rattle.orca_op.specs.Desk.{HasRoom, Desk, IsDesk, desk_after_all, residue}
 use Rattle.orca_op.specs.Laws.{IsLawful}
-use Rattle.orca_op.specs.State.{State, sheet_of, glyph_at}
+use Rattle.orca_op.specs.State.{sheet_of, glyph_at}
 use Rattle.orca_op.specs.Rules.{rule}
 use Rattle.orca_op.specs.Scan.{visit_deeds, state_after_places, scan, written_places, busy, busy_of, places}
 use Rattle.orca_frame.specs.Frames.{IsFramed, desk_after_places, looks, most_plain_ticks}

@@ -1,5 +1,5 @@
 -- What holds of every desk holds throughout a frame, and every event of a frame is in range.
-use Rattle.std.proofs.Common.{◌≡◌, ℕ, zero, suc, ◌+◌, ◌<◌, ◌≤◌, List, [], ◌∷◌, length, refl, arith, ap, sym, subst, Bool, true, false}
+use Rattle.std.proofs.Common.{◌≡◌, ℕ, zero, suc, ◌≤◌, List, [], length, arith, ap, sym, subst, Bool, true, false}
 use Rattle.std.specs.Prelude.{All, count_by, if◌then◌else◌}
 use Rattle.std.proofs.lemmas.List.Elements.{All-nil}
 use Rattle.orca_base.specs.declared.now.Now.{Now}
@@ -9,12 +9,12 @@ use Rattle.orca_base.specs.Grids.{Size, Sheet, IsSheet, IsInside, cells_of, plac
 use Rattle.orca_base.proofs.PlaceFacts.{inside-place_of}
 use Rattle.orca_base.proofs.SheetFacts.{IsGlyph-glyph_at}
 use Rattle.orca_op.specs.State.{State, IsState, sheet_of, glyph_at}
-use Rattle.orca_op.specs.Deeds.{Deed, after_all}
+use Rattle.orca_op.specs.Deeds.{Deed}
 use Rattle.orca_op.specs.Desk.{Desk, IsDesk, desk_after_all}
 use Rattle.orca_op.specs.Laws.{IsLawful, Every, WritesGlyph, EmitsInRange, is_emit}
 use Rattle.orca_op.specs.LawFacts.{in_range-after_all}
 use Rattle.orca_op.specs.Rules.{rule}
-use Rattle.orca_op.specs.Scan.{Rules, visit_deeds, is_idle, state_after_places, places}
+use Rattle.orca_op.specs.Scan.{visit_deeds, is_idle, state_after_places, places}
 use Rattle.orca_op.proofs.DeskFacts.{IsDesk-after_all, IsDesk-of_sheet}
 use Rattle.orca_op.proofs.StateFacts.{events_after_all}
 use Rattle.orca_frame.specs.Frames.{desk_after_places}

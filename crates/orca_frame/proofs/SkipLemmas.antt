@@ -1,14 +1,13 @@
 -- Over places that hold no operator the scan changes nothing.
 use Rattle.std.proofs.Common.{◌≡◌, ℕ, zero, suc, ◌+◌, ◌*◌, ◌<◌, ◌≤◌, Bool, true, false, not, ◌&&◌, ◌||◌, arith, ap, sym, ◌∙◌, subst, refl, List, [], add-zero}
-use Rattle.std.specs.Prelude.{if◌then◌else◌, IsTrue, ◌-◌, nat_lt, ◌++◌}
+use Rattle.std.specs.Prelude.{if◌then◌else◌, IsTrue, ◌-◌, nat_lt}
 use Rattle.std.proofs.lemmas.List.{append-nil}
 use Rattle.std.proofs.lemmas.Bool.{lt-ltb, ltb-true}
-use Rattle.std.proofs.lemmas.Nat.{div-mul-add}
-use Rattle.orca_base.specs.declared.limits.TheConstants.{MAX_TICKS, MAX_VISIT_TICKS}
+use Rattle.orca_base.specs.declared.limits.TheConstants.{MAX_VISIT_TICKS}
 use Rattle.orca_base.specs.declared.now.Now.{Now}
 use Rattle.orca_base.specs.declared.place.Place.{Place}
 use Rattle.orca_base.specs.Glyphs.{is_operator}
-use Rattle.orca_base.specs.Grids.{Size, Sheet, IsSheet, IsInside, cells_of, place_of}
+use Rattle.orca_base.specs.Grids.{Size, Sheet, IsInside, cells_of, place_of}
 use Rattle.orca_base.proofs.PlaceFacts.{place_of-index_of, index_of-below}
 use Rattle.orca_op.specs.Deeds.{Deed, after_all}
 use Rattle.orca_op.specs.Desk.{Desk, desk_after_all, list_after_all, residue}
@@ -18,7 +17,6 @@ use Rattle.orca_op.specs.Scan.{Rules, visit_deeds, is_idle, state_after_visit, s
 use Rattle.orca_op.specs.State.{State, sheet_of, glyph_at}
 use Rattle.orca_frame.specs.Frames.{desk_after_places, most_ticks}
 use Rattle.orca_frame.specs.Skips.{HoldsNone}
-use Rattle.orca_frame.proofs.DeskLemmas.{dims_after_places, desk_suc}
 use Rattle.orca_frame.proofs.FrameLemmas.{dims_desk, inside_desk, visit_desk, busy_more}
 
 idle_if : (operator lock sleep waits : Bool) (deeds : List Deed) → operator ≡ false → (if not operator || lock || sleep || waits then [] else deeds) ≡ []
@@ -42,8 +40,8 @@ state-skip rules n (suc many) g now none =
     let before : state_after_places rules (n + many) g now ≡ s = state-skip rules n many g now (λ i below. none i (omega arith)) in
     let next : n + suc many ≡ suc (n + many) = omega arith in
     rw next (
-      ap (λ (t : State). state_after_visit rules t at now) before
-      ∙ after_none s (visit_deeds rules s at now) (no_deeds rules s at now (none many (omega arith))))
+    ap (λ (t : State). state_after_visit rules t at now) before
+    ∙ after_none s (visit_deeds rules s at now) (no_deeds rules s at now (none many (omega arith))))
 
 -- so do the deeds of the frame
 deeds-skip : (n many : ℕ) (g : Sheet) (now : Now) → HoldsNone rule n many g now → scan_deeds (n + many) g now ≡ scan_deeds n g now

@@ -1,20 +1,19 @@
 -- What holds of every desk holds after a deed, and as a frame begins.
-use Rattle.std.proofs.Common.{◌≡◌, ℕ, zero, suc, ◌+◌, ◌<◌, ◌≤◌, Bool, true, false, not, ◌&&◌, ◌||◌, List, [], ◌∷◌, ◌++◌, length, refl, arith, ap, sym, ◌∙◌, subst, inl, inr}
+use Rattle.std.proofs.Common.{◌≡◌, ℕ, ◌+◌, ◌≤◌, Bool, true, false, not, ◌&&◌, List, [], ◌∷◌, ◌++◌, length, refl, arith, ap, sym, ◌∙◌, subst, inl, inr}
 use Rattle.std.proofs.Math.ListN.{set}
 use Rattle.std.specs.Prelude.{All, count_by, Option, Some, None, IfSome, if◌then◌else◌, slice_index}
 use Rattle.std.specs.Cmp.{IsEquivalence}
-use Rattle.std.specs.List.{IsDistinct, list_any}
-use Rattle.std.proofs.lemmas.Bool.{both_ways, cases_Bool, false_from_ne_true, or_parts, and_parts}
+use Rattle.std.specs.List.{IsDistinct}
+use Rattle.std.proofs.lemmas.Bool.{both_ways, cases_Bool, false_from_ne_true, or_parts}
 use Rattle.std.proofs.lemmas.List.{get_or-set_other}
 use Rattle.std.proofs.lemmas.List.Elements.{All-nil, All-push}
 use Rattle.std.proofs.lemmas.List.Folds.{list_any-append}
 use Rattle.std.proofs.lemmas.Map.Keys.{IsDistinct-push}
 use Rattle.orca_base.specs.declared.place.Place.{Place}
-use Rattle.orca_base.specs.declared.place.Spot.{Spot}
 use Rattle.orca_base.specs.Grids.{Size, Sheet, IsSheet, IsInside, cells_of, glyph_at as glyph_on, index_of, is_inside, is_place, place_in}
-use Rattle.orca_base.proofs.PlaceFacts.{is_place-same, is_place-refl, is_place-index, is_inside-inside, inside-is_inside, inside-place_in, index-injective}
-use Rattle.orca_op.specs.State.{State, IsState, sheet_of, fresh, glyph_at}
-use Rattle.orca_op.specs.Deeds.{Deed, Mark, Write, Set, Emit, after, after_all, cells_after}
+use Rattle.orca_base.proofs.PlaceFacts.{is_place-same, is_place-refl, is_inside-inside, inside-is_inside, inside-place_in, index-injective}
+use Rattle.orca_op.specs.State.{State, glyph_at}
+use Rattle.orca_op.specs.Deeds.{Deed, Mark, Write, Set, Emit, after, cells_after}
 use Rattle.orca_op.specs.Desk.{Desk, IsDesk, KeepsUnlisted, is_listed, list_with, list_after, desk_after, desk_after_all, desk_of_sheet}
 use Rattle.orca_op.specs.Laws.{Every, WritesGlyph, is_emit}
 use Rattle.orca_op.specs.LawFacts.{count_by-append}
@@ -79,8 +78,8 @@ pub glyph_at-write_other : (s : State) (at q : Place) (glyph : ℕ) → IsInside
 glyph_at-write_other s at q glyph here inside other =
     get_or-set_other s.cells (index_of s.dims at) (index_of s.dims q) glyph 0
     (λ same. both_ways _ other (
-        let parts = index-injective s.dims.w q.y q.x at.y at.x inside.column here.column same in
-        subst (λ (p : Place). is_place q p ≡ true) (same_place q.y q.x at.y at.x parts.0 parts.1) (is_place-refl q)))
+    let parts = index-injective s.dims.w q.y q.x at.y at.x inside.column here.column same in
+    subst (λ (p : Place). is_place q p ≡ true) (same_place q.y q.x at.y at.x parts.0 parts.1) (is_place-refl q)))
   where
     same_place : (y x y' x' : ℕ) → y ≡ y' → x ≡ x' → ◌≡◌ {A = Place} (record { y = y; x = x }) (record { y = y'; x = x' })
     same_place y x y' x' row column =

@@ -1,11 +1,11 @@
 -- What deeds leave of a state: its size, the lengths of its lists, and glyphs alone.
-use Rattle.std.proofs.Common.{◌≡◌, ℕ, zero, suc, ◌+◌, ◌*◌, ◌<◌, ◌≤◌, List, [], ◌∷◌, ◌++◌, length, replicate, refl, arith, ap, sym, ◌∙◌, subst, lit≤, length-append}
+use Rattle.std.proofs.Common.{◌≡◌, ℕ, zero, suc, ◌+◌, ◌≤◌, List, [], ◌∷◌, length, replicate, refl, arith, ap, ◌∙◌, lit≤, length-append}
 use Rattle.std.specs.Prelude.{count_by, Option, Some, None}
 use Rattle.std.proofs.lemmas.List.{length-set, length-replicate}
 use Rattle.orca_base.specs.declared.limits.TheConstants.{BASE}
 use Rattle.orca_base.specs.declared.place.Place.{Place}
 use Rattle.orca_base.specs.Glyphs.{IsGlyph, AreGlyphs, empty}
-use Rattle.orca_base.specs.Grids.{Size, Sheet, IsSheet, cells_of, index_of, place_in}
+use Rattle.orca_base.specs.Grids.{Sheet, IsSheet, cells_of, index_of, place_in}
 use Rattle.orca_base.specs.MarkSet.{MarkSet, no_marks, all_marks}
 use Rattle.orca_base.proofs.SheetFacts.{AreGlyphs-set}
 use Rattle.orca_op.specs.State.{State, IsState, sheet_of, fresh, marks_at}

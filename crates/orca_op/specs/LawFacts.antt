@@ -1,7 +1,6 @@
 -- What the laws of rules come from, and how deeds add up.
 use Rattle.std.specs.Prelude.{ℕ, zero, suc, All, ◌+◌, ◌-◌, ◌*◌, max, ◌<◌, ◌≤◌, ◌≡◌, List, [], ◌∷◌, ◌++◌, length, count_by, Option, Some, None, IfSome, Bool, refl, if◌then◌else◌}
 use Rattle.std.proofs.Common.{inl, inr, arith, subst, add-one, length-append, lit≤}
-use Rattle.std.proofs.Math.ListN.{set}
 use Rattle.std.proofs.Math.Nat.{eq-or-lt_of_le}
 use Rattle.std.proofs.lemmas.Bool.Decides.{nat_tests}
 use Rattle.std.proofs.lemmas.List.Elements.{All-push}

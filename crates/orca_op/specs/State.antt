@@ -1,5 +1,5 @@
 -- The state of a scan, and what can be read in it.
-use Rattle.std.specs.Prelude.{ℕ, ◌*◌, ◌≡◌, ◌≤◌, ◌==◌, Bool, ◌||◌, List, [], length, replicate, Option, Some, None, slice_index, slice_index_or, is_some}
+use Rattle.std.specs.Prelude.{ℕ, ◌≡◌, ◌≤◌, ◌==◌, Bool, ◌||◌, List, [], length, replicate, Option, Some, None, slice_index, slice_index_or, is_some}
 use Rattle.orca_base.specs.declared.event.Event.{Event}
 use Rattle.orca_base.specs.declared.limits.TheConstants.{BASE}
 use Rattle.orca_base.specs.declared.place.Place.{Place}

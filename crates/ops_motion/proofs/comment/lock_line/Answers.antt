@@ -1,4 +1,4 @@
-use Rattle.std.proofs.Common.{arith, rules, ◌∙◌, sym, ap}
+use Rattle.std.proofs.Common.{arith, rules, ◌∙◌, ap}
 use Rattle.orca_op.specs.LawFacts.{desk_after_all-each_more}
 use Rattle.orca_base.specs.Grids.{Size}
 use Rattle.ops_motion.proofs.EdgeLemmas.{locked_edge}

@@ -1,5 +1,4 @@
-use Rattle.std.proofs.Common.{ℕ, arith, sym}
-use Rattle.orca_base.specs.Grids.{index_of}
+use Rattle.std.proofs.Common.{arith, sym}
 use Rattle.orca_base.proofs.SheetFacts.{AreGlyphs-each, list-by_place}
 use Rattle.orca_board.specs.Board.{glyph_in}
 use Rattle.orca_board.proofs.BoardLemmas.{laid-at, live-none, outside-none}

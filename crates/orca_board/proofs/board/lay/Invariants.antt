@@ -1,4 +1,4 @@
-use Rattle.std.proofs.Common.{ℕ, ◌≡◌, ◌<◌, length, get_or}
+use Rattle.std.proofs.Common.{ℕ, ◌≡◌, ◌<◌, length}
 use Rattle.std.specs.Prelude.{slice_index}
 use Rattle.orca_base.specs.Glyphs.{IsGlyph}
 use Rattle.orca_base.specs.declared.limits.TheConstants.{MAX_CELLS}

@@ -1,6 +1,5 @@
-use Rattle.std.proofs.Common.{◌≡◌, ℕ, ◌<◌, arith, ap, subst, ◌∙◌}
+use Rattle.std.proofs.Common.{◌≡◌, ◌<◌, arith, ap, subst, ◌∙◌}
 use Rattle.std.proofs.lemmas.List.{length-set}
-use Rattle.std.specs.Prelude.{slice_index}
 use Rattle.orca_base.specs.declared.limits.TheConstants.{MAX_CELLS}
 use Rattle.orca_base.specs.Glyphs.{empty}
 use Rattle.orca_base.specs.Grids.{Size, IsInside, index_of, largest, place_of}

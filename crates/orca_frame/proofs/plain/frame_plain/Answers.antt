@@ -1,5 +1,4 @@
-use Rattle.std.proofs.Common.{arith, ◌≡◌, ◌∙◌, ap, refl, sym, subst}
-use Rattle.orca_base.specs.declared.place.Place.{Place}
+use Rattle.std.proofs.Common.{arith, ◌≡◌, ◌∙◌, ap, subst}
 use Rattle.orca_base.specs.Grids.{Size, IsInside, cells_of, place_of}
 use Rattle.orca_frame.proofs.FrameLemmas.{inside_desk, room_desk, visit_desk, framed, ticks_more, ticks_all}
 use Rattle.orca_frame.proofs.plain.frame_plain.Given as given

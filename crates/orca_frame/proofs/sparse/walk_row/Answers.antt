@@ -1,12 +1,7 @@
-use Rattle.std.proofs.Common.{◌≡◌, ◌+◌, ◌*◌, ◌<◌, ◌≤◌, ap, sym, ◌∙◌, subst, arith, Fits, w16}
-use Rattle.orca_base.specs.declared.limits.TheConstants.{MAX_VISIT_TICKS}
-use Rattle.orca_base.specs.Grids.{Size, Sheet, IsInside}
-use Rattle.orca_op.specs.Desk.{Desk}
-use Rattle.orca_op.specs.Scan.{busy_of}
-use Rattle.orca_frame.specs.Frames.{desk_after_places}
+use Rattle.std.proofs.Common.{ap, arith}
+use Rattle.orca_base.specs.Grids.{Size}
 use Rattle.orca_frame.proofs.FrameLemmas.{dims_desk, room_desk}
 use Rattle.orca_frame.proofs.SkipLemmas.{finds, visited, row_over}
-use Rattle.orca_frame.proofs.sparse.walk_row.Given as given
 use Rattle.orca_frame.proofs.sparse.walk_row.Goals as goal
 
 -- the size of the grid

@@ -1,4 +1,4 @@
-use Rattle.std.proofs.Common.{rules, ◌≡◌, ◌<◌, not, ℕ, nat_eq, ap, sym, ◌∙◌}
+use Rattle.std.proofs.Common.{ap, sym, ◌∙◌}
 use Rattle.orca_base.specs.MarkBits.{bits_of, bits-back}
 use Rattle.orca_base.proofs.marks.MarksPartialEq.eq.Goals as goal
 

@@ -1,11 +1,11 @@
-use Rattle.std.proofs.Common.{◌≡◌, ◌++◌, ℕ, List, length, take, drop, replicate, arith, rules, ap, refl, sym, ◌∙◌}
+use Rattle.std.proofs.Common.{◌≡◌, ◌++◌, ℕ, List, length, take, drop, replicate, arith, rules, ap, sym, ◌∙◌}
 use Rattle.std.proofs.Math.ListN.{length-replicate}
 use Rattle.orca_base.specs.declared.limits.TheConstants.{MAX_CELLS}
 use Rattle.orca_base.specs.Glyphs.{empty}
 use Rattle.orca_base.specs.Grids.{Sheet, by_place, sheet_by}
 use Rattle.orca_base.proofs.ListFacts.{put_over, resized}
 use Rattle.orca_board.specs.Listing.{Listed, places_of}
-use Rattle.orca_board.specs.Board.{AreLive, glyph_in}
+use Rattle.orca_board.specs.Board.{glyph_in}
 use Rattle.orca_board.proofs.BoardLemmas.{blank-by_place, keeps-of_sheet}
 use Rattle.orca_board.proofs.DeskLemmas.{started}
 use Rattle.orca_board.proofs.LiveBitsLemmas.{off-none}

@@ -1,10 +1,6 @@
-use Rattle.std.proofs.Common.{◌≡◌, arith, ap, refl, sym, ◌∙◌, List, ℕ}
+use Rattle.std.proofs.Common.{refl, sym, ◌∙◌}
 use Rattle.std.proofs.lemmas.List.{length-set}
-use Rattle.orca_base.specs.Grids.{index_of, largest}
-use Rattle.orca_base.specs.MarkSet.{MarkSet, all_marks, no_marks}
-use Rattle.orca_op.specs.Deeds.{Mark}
-use Rattle.orca_op.specs.Desk.{desk_after}
-use Rattle.orca_board.specs.Board.{desk_of, marks_in}
+use Rattle.orca_board.specs.Board.{desk_of}
 use Rattle.orca_board.proofs.BoardLemmas.{count-plane, marked-plane}
 use Rattle.orca_board.proofs.DeskLemmas.{lists-mark}
 use Rattle.orca_board.proofs.board.BoardBench.mark.Goals as goal

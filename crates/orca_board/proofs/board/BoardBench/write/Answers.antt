@@ -1,19 +1,16 @@
-use Rattle.std.proofs.Common.{◌≡◌, ◌++◌, ℕ, List, length, get_or, take, drop, arith, ap, refl, sym, ◌∙◌}
+use Rattle.std.proofs.Common.{◌≡◌, ◌++◌, ℕ, List, length, take, drop, arith, ap, refl, sym, ◌∙◌}
 use Rattle.std.proofs.Math.ListN.{set}
 use Rattle.std.proofs.lemmas.List.{length-set}
-use Rattle.orca_base.specs.Grids.{Size, by_place, index_of, largest}
+use Rattle.orca_base.specs.Grids.{Size, index_of, largest}
 use Rattle.orca_base.proofs.ListFacts.{put_over}
-use Rattle.orca_op.specs.Deeds.{Write}
-use Rattle.orca_op.specs.Desk.{desk_after}
 use Rattle.orca_op.specs.State.{glyph_at}
 use Rattle.orca_board.specs.Listing.{changes_with}
-use Rattle.orca_board.specs.Board.{desk_of, glyph_in}
+use Rattle.orca_board.specs.Board.{desk_of}
 use Rattle.orca_board.proofs.BoardLemmas.{live-set, read-cell, set-outside, set-plane}
 use Rattle.orca_board.proofs.DeskLemmas.{lists-write, written}
 use Rattle.orca_board.proofs.ListingLemmas.{places-changes_with}
 use Rattle.orca_board.proofs.board.BoardBench.write.Goals as goal
 use Rattle.orca_board.proofs.board.BoardBench.write.Goals.{After-set}
-use Rattle.orca_board.proofs.board.BoardBench.write.Given.{Over}
 
 pub invariant_of-self : goal.invariant_of-self
 invariant_of-self g c =

@@ -1,4 +1,3 @@
-use Rattle.std.proofs.Common.{arith}
 use Rattle.orca_board.proofs.BoardLemmas.{read-cell}
 use Rattle.orca_board.proofs.board.BoardLook.glyph_at.Goals as goal
 
