@@ -3,3 +3,4 @@ pub mod Blocks
 pub mod Listing
 pub mod LiveBits
 pub mod PlainBoard
+pub mod Sizes

@@ -1,5 +1,8 @@
 ghost use Rattle.std.specs.Prelude.{ℕ, ◌≤◌, ◌≡◌, ◌+◌, ◌*◌, ◌<◌, false, length, slice_index, IfOk};
-ghost use Rattle.orca_base.specs.Grids.{by_place, cells_of};
+ghost use Rattle.orca_base.specs.Areas.{IsArea};
+ghost use Rattle.orca_base.specs.Edits.{sheet_after_fill, sheet_after_put, sheet_after_move};
+ghost use Rattle.orca_base.specs.Grids.{IsInside, by_place, cells_of};
+ghost use Rattle.orca_board.specs.Blocks.{desk_after_edit, fill_places, put_places, shift_places};
 ghost use Rattle.orca_base.specs.Glyphs.{AreGlyphs, empty};
 ghost use Rattle.orca_base.specs.declared.limits.TheConstants.{MAX_CELLS};
 ghost use Rattle.orca_board.specs.Board.{AreLive, IsEmptyOutside, glyph_in};
@@ -7,10 +10,11 @@ ghost use Rattle.orca_op.specs.Live.{has_bit};
 ghost use Rattle.orca_op.specs.Desk.{changes_of, desk_of_sheet, IsDesk};
 ghost use Rattle.orca_op.specs.State.{sheet_of};
 
+use crate::blocks;
 use crate::listing::Listing;
 use crate::live_bits::LiveBits;
 use orca_base::limits::{BASE, MAX_CELLS, MAX_EVENTS};
-use orca_base::{Change, Dims, Event, Glyph, Look, Marks, Memory, Place, Spot, Steps};
+use orca_base::{Area, Block, Change, Dims, Event, Glyph, Look, Marks, Memory, Place, Spot, Steps};
 use orca_grid::Grid;
 use orca_marks::MarkPlane;
 use orca_op::{Bench, Walk};
@@ -90,6 +94,45 @@ impl Board {
         self.events.clear();
         self.before = Snapshot::of(&self.cells);
         self.listing.begin(dims);
+    }
+
+    /// Writes the glyph to each place of an area of the grid. It ticks once for each.
+    pub fn fill<L: Ledger>(&mut self, area: Area, glyph: Glyph, steps: &mut Steps<L>)
+        requires { IsArea self.old.scan.dims area }
+        ensures desk { self.new ≡ desk_after_edit self.old
+            (sheet_after_fill (sheet_of self.old.scan) area glyph) (fill_places area) }
+        ensures ticks { steps.new ≡ steps.old + area.h * area.w }
+    {
+        blocks::fill(self, area, glyph, steps);
+    }
+
+    /// Writes a block whose first place is `to`. What would stand outside the grid is left out. It ticks
+    /// once for each place that it writes.
+    pub fn put<L: Ledger>(&mut self, to: Place, block: &Block, steps: &mut Steps<L>)
+        requires { IsInside self.old.scan.dims to }
+        ensures desk { self.new ≡ desk_after_edit self.old
+            (sheet_after_put (sheet_of self.old.scan) to block.now)
+            (put_places self.old.scan.dims to block.now.dims) }
+        ensures ticks { steps.new
+            ≡ steps.old + length (put_places self.old.scan.dims to block.now.dims) }
+    {
+        blocks::put(self, to, block, steps);
+    }
+
+    /// Moves the glyphs of an area to its image, the block of its size whose first place is `to`. The rest
+    /// of the area becomes empty, and what would stand outside the grid is left out. It ticks once for each
+    /// place that it reads, and once for each that it writes.
+    pub fn shift<L: Ledger>(&mut self, area: Area, to: Place, steps: &mut Steps<L>)
+        requires area { IsArea self.old.scan.dims area }
+        requires to { IsInside self.old.scan.dims to }
+        ensures desk { self.new ≡ desk_after_edit self.old
+            (sheet_after_move (sheet_of self.old.scan) area to)
+            (shift_places self.old.scan.dims area to) }
+        ensures ticks { steps.new ≡ steps.old + area.h * area.w
+            + length (shift_places self.old.scan.dims area to) }
+    {
+        let mut scratch = [Glyph::EMPTY; MAX_CELLS];
+        blocks::shift(self, area, to, &mut scratch, steps);
     }
 
     /// The events, in the order in which they were emitted.

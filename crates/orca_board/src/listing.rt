@@ -42,6 +42,13 @@ impl Listing {
         })
     }
 
+    /// The size of the grid at the last `begin`.
+    pub fn dims(&self) -> Dims
+        ensures { result ≡ self.now.began }
+    {
+        self.began
+    }
+
     /// The changes, in the order in which their places were first written.
     pub fn changes(&self) -> &[Change]
         ensures { result.now ≡ self.now.changes }
