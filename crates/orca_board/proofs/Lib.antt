@@ -5,3 +5,6 @@ pub mod BlockPlaces
 pub mod DeskLemmas
 mod ListingLemmas
 mod LiveBitsLemmas
+mod SizeLemmas
+mod CutLemmas
+mod RevertLemmas

@@ -15,7 +15,7 @@ is_size a b = (a.h == b.h) && (a.w == b.w)
 -- the state with another grid: a grid of another size has no marks and no events
 abbrev pub with_sheet : State → Sheet → State
 with_sheet s g =
-    if is_size s.dims g.dims then record s { dims = g.dims; cells = g.cells }
+    if is_size g.dims s.dims then record s { dims = g.dims; cells = g.cells }
     else record s { dims = g.dims; cells = g.cells; marks = blank_marks g.dims; events = [] }
 
 -- all places of a grid

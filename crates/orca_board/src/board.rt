@@ -1,14 +1,17 @@
-ghost use Rattle.std.specs.Prelude.{ℕ, ◌≤◌, ◌≡◌, ◌+◌, ◌*◌, ◌<◌, false, length, slice_index, IfOk};
+ghost use Rattle.std.specs.Prelude.{ℕ, All, true, ◌≤◌, ◌≡◌, ◌+◌, ◌*◌, ◌<◌, false, length, slice_index, IfOk};
 ghost use Rattle.orca_base.specs.Areas.{IsArea};
-ghost use Rattle.orca_base.specs.Edits.{sheet_after_fill, sheet_after_put, sheet_after_move};
-ghost use Rattle.orca_base.specs.Grids.{IsInside, by_place, cells_of};
-ghost use Rattle.orca_board.specs.Blocks.{desk_after_edit, fill_places, put_places, shift_places};
+ghost use Rattle.orca_base.specs.Edits.{sheet_after_fill, sheet_after_put, sheet_after_move, sheet_after_resize};
+ghost use Rattle.orca_base.specs.Grids.{IsInside, IsSize, by_place, cells_of, is_inside, largest};
+ghost use Rattle.orca_base.specs.declared.place.Place.{Place};
+ghost use Rattle.orca_board.specs.Listing.{places_of};
+ghost use Rattle.orca_board.specs.Sizes.{cut_places, desk_after_resize, desk_reverted, whole, with_sheet};
+ghost use Rattle.orca_board.specs.Blocks.{IsInLargest, desk_after_edit, fill_places, put_places, shift_places};
 ghost use Rattle.orca_base.specs.Glyphs.{AreGlyphs, empty};
 ghost use Rattle.orca_base.specs.declared.limits.TheConstants.{MAX_CELLS};
 ghost use Rattle.orca_board.specs.Board.{AreLive, IsEmptyOutside, glyph_in};
 ghost use Rattle.orca_op.specs.Live.{has_bit};
-ghost use Rattle.orca_op.specs.Desk.{changes_of, desk_of_sheet, IsDesk};
-ghost use Rattle.orca_op.specs.State.{sheet_of};
+ghost use Rattle.orca_op.specs.Desk.{changes_of, desk_of_sheet, is_listed};
+ghost use Rattle.orca_op.specs.State.{glyph_at, sheet_of};
 
 use crate::blocks;
 use crate::listing::Listing;
@@ -135,6 +138,50 @@ impl Board {
         blocks::shift(self, area, to, &mut scratch, steps);
     }
 
+    /// Gives the grid another size: the common part stays, and new places are empty. Where the size changes,
+    /// nothing is marked any more, and there is no event. It ticks once for each place that is cut off.
+    pub fn set_dims<L: Ledger>(&mut self, dims: Dims, steps: &mut Steps<L>)
+        ensures desk { self.new ≡ desk_after_resize self.old dims }
+        ensures ticks { steps.new ≡ steps.old + length (cut_places self.old.scan.dims dims) }
+    {
+        let old = self.dims;
+        blocks::clear_outside(self, whole(old), whole(dims), steps);
+        self.take_dims(dims);
+    }
+
+    /// The size and the glyphs of the last `begin`, and no changes. Where the size changes, nothing is marked
+    /// any more, and there is no event. It ticks once for each change, and once for each place that the size
+    /// of the last `begin` cuts off.
+    pub fn revert<L: Ledger>(&mut self, steps: &mut Steps<L>)
+        ensures desk { self.new ≡ desk_reverted self.old }
+        ensures ticks { steps.new ≡ steps.old
+            + length (cut_places self.old.scan.dims self.old.began.dims) + length self.old.listed }
+    {
+        let old = self.dims;
+        let began = self.listing.dims();
+        blocks::clear_outside(self, whole(old), whole(began), steps);
+        self.take_dims(began);
+        restore(&mut self.cells, &mut self.live, self.listing.changes(), steps);
+        self.listing.begin(began);
+    }
+
+    /// Gives the grid another size, where no place that is cut off holds a glyph, or is wanted for a change.
+    fn take_dims(&mut self, dims: Dims)
+        requires size { IsSize dims }
+        requires empty { (at : Place) → IsInside self.old.scan.dims at → is_inside dims at ≡ false
+            → glyph_at self.old.scan at ≡ empty }
+        requires listed { (at : Place) → IsInside self.old.began.dims at → is_inside dims at ≡ false
+            → is_listed self.old.listed at ≡ true }
+        ensures { self.new ≡ record self.old {
+            scan = with_sheet self.old.scan (sheet_after_resize (sheet_of self.old.scan) dims) } }
+    {
+        if dims != self.dims {
+            self.marks.clear();
+            self.events.clear();
+            self.dims = dims;
+        }
+    }
+
     /// The events, in the order in which they were emitted.
     pub fn events(&self) -> &[Event]
         ensures events { result.now ≡ self.now.scan.events }
@@ -202,6 +249,46 @@ fn wipe(cells: &mut [Glyph], live: &mut LiveBits, dims: Dims)
         let i = Dims::largest().index(dims.place(n));
         cells[i] = Glyph::EMPTY;
         live.set(i, false);
+    }
+}
+
+/// All places of a grid.
+fn whole(dims: Dims) -> Area
+    ensures whole { result ≡ whole dims }
+    ensures fits { IsInLargest result }
+    ensures size { IsSize dims }
+{
+    Area {
+        y: 0,
+        x: 0,
+        h: dims.h,
+        w: dims.w,
+    }
+}
+
+/// Puts the old glyphs of the changes back. It ticks once for each.
+fn restore<L: Ledger>(
+    cells: &mut [Glyph],
+    live: &mut LiveBits,
+    changes: &[Change],
+    steps: &mut Steps<L>,
+)
+    requires whole { length cells.old ≡ MAX_CELLS }
+    requires inside { All (IsInside largest) (places_of changes.now) }
+    requires live { AreLive cells.old live.old }
+    ensures whole { length cells.new ≡ MAX_CELLS }
+    ensures olds { (old : Place → ℕ) → All (λ change. change.old ≡ old change.at) changes.now → (at : Place)
+        → IsInside largest at → is_listed (places_of changes.now) at ≡ true → glyph_in cells.new at ≡ old at }
+    ensures others { (at : Place) → IsInside largest at → is_listed (places_of changes.now) at ≡ false
+        → glyph_in cells.new at ≡ glyph_in cells.old at }
+    ensures live { AreLive cells.new live.new }
+    ensures ticks { steps.new ≡ steps.old + length changes.now }
+{
+    for change in changes {
+        steps.tick();
+        let i = Dims::largest().index(change.at);
+        change.old.put(cells, i);
+        live.set(i, change.old.is_operator());
     }
 }
 

@@ -1,0 +1,35 @@
+use Rattle.std.proofs.Common.{◌≡◌, Bool, true, false, not, arith, ap, refl, sym, ◌∙◌}
+use Rattle.orca_base.specs.Edits.{sheet_after_resize}
+use Rattle.orca_op.specs.Desk.{Desk}
+use Rattle.orca_op.specs.State.{State, sheet_of}
+use Rattle.orca_board.specs.Board.{desk_of}
+use Rattle.orca_board.specs.Sizes.{is_size, with_sheet}
+use Rattle.orca_board.proofs.SizeLemmas.{keeps-resize, sized, unsized}
+use Rattle.orca_board.proofs.board.Board.take_dims.Goals as goal
+
+off : (b : Bool) → true ≡ not b → b ≡ false
+off true is = is
+off false is = refl
+
+on : (b : Bool) → false ≡ not b → b ≡ true
+on true is = refl
+on false is = is
+
+pub invariant_of-self : goal.invariant_of-self
+invariant_of-self c =
+    rw (c.clear.ensures, c.clear-then-ne.ensures.items)
+    (keeps-resize (desk_of c.self.inside) c.args.dims c.self.inside.listing.changes c.self.inside.cells.items c.self.inside.marks c.self.inside.live _ _ c.self.invariant c.requires.size
+    (off (is_size c.args.dims c.self.inside.dims) c.if-ne.ensures) refl (rw (← c.self.view_is) at c.requires.empty) (rw (← c.self.view_is) at c.requires.listed) (omega (arith, c.clear-then-ne.ensures.capacity)))
+
+pub returns-then-ne : goal.returns-then-ne
+returns-then-ne c =
+    rw (← c.self.view_is, c.clear.ensures, c.clear-then-ne.ensures.items)
+    (ap (λ (s : State). record (desk_of c.self.inside) { scan = s })
+    (sized c.self.inside.dims c.args.dims c.self.inside.cells.items _ c.self.inside.vars.items c.self.inside.events.items c.self.invariant.lists.desk.state.sheet.size c.requires.size c.self.invariant.outside
+    (off (is_size c.args.dims c.self.inside.dims) c.if-ne.ensures)))
+
+pub returns-else-ne : goal.returns-else-ne
+returns-else-ne c =
+    rw (← c.self.view_is)
+    (ap (λ (s : State). record (desk_of c.self.inside) { scan = s })
+    (unsized (desk_of c.self.inside).scan c.args.dims c.self.invariant.lists.desk.state.sheet (on (is_size c.args.dims c.self.inside.dims) c.if-ne.ensures)))
