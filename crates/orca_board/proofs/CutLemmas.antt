@@ -1,18 +1,18 @@
 -- The places that another size cuts off: what the desk holds and lists once they are emptied.
-use Rattle.std.proofs.Common.{◌≡◌, ℕ, ◌+◌, ◌≤◌, Bool, true, false, not, ◌&&◌, ◌||◌, List, [], ◌∷◌, refl, arith, ap, sym, ◌∙◌, subst, inl, inr, zero-add}
+use Rattle.std.proofs.Common.{◌≡◌, ℕ, Bool, true, false, not, ◌&&◌, List, [], ◌∷◌, refl, arith, ap, sym, ◌∙◌, inl, inr, zero-add}
 use Rattle.std.specs.Prelude.{filter, nat_lt, if◌then◌else◌, Some}
 use Rattle.std.proofs.lemmas.Bool.{both_ways, cases_Bool, le-leb}
 use Rattle.orca_base.specs.declared.place.Place.{Place}
 use Rattle.orca_base.specs.Edits.{is_in_area, sheet_after_resize}
 use Rattle.orca_base.specs.Glyphs.{empty}
-use Rattle.orca_base.specs.Grids.{Size, IsSize, Sheet, IsInside, glyph_at as glyph_on, is_inside, is_place, sheet_by}
+use Rattle.orca_base.specs.Grids.{Size, IsSize, IsInside, glyph_at as glyph_on, is_inside, sheet_by}
 use Rattle.orca_base.proofs.PlaceFacts.{inside-is_inside, is_inside-inside}
 use Rattle.orca_base.proofs.SheetFacts.{glyph_at-sheet_by, same-by_place}
 use Rattle.orca_op.specs.Desk.{Desk, IsDesk, desk_after_all, is_listed, list_with}
 use Rattle.orca_op.specs.State.{glyph_at, sheet_of}
 use Rattle.orca_op.proofs.DeskFacts.{absent-list_with}
 use Rattle.orca_board.specs.Blocks.{desk_after_edit, list_each, write_each}
-use Rattle.orca_board.specs.Sizes.{cut_places, desk_after_resize, whole, with_sheet}
+use Rattle.orca_board.specs.Sizes.{cut_places, whole}
 use Rattle.orca_board.proofs.BlockLemmas.{after_writes}
 use Rattle.orca_board.proofs.BlockPlaces.{inside-places_outside, is_listed-places_outside}
 

@@ -1,19 +1,19 @@
 -- The grid of the last `begin`, once the old glyphs of the changes are put back.
-use Rattle.std.proofs.Common.{◌≡◌, ℕ, ◌≤◌, Bool, true, false, List, [], ◌∷◌, length, get_or, refl, arith, ap, sym, ◌∙◌, subst, inl, inr}
+use Rattle.std.proofs.Common.{◌≡◌, ℕ, Bool, true, false, List, [], ◌∷◌, length, refl, ap, sym, ◌∙◌, subst, inl, inr}
 use Rattle.std.specs.Prelude.{All, if◌then◌else◌, slice_index}
 use Rattle.std.specs.List.{AllByRecursion, IsDistinct}
 use Rattle.std.proofs.lemmas.Bool.{both_ways, cases_Bool}
 use Rattle.std.proofs.lemmas.List.Elements.{All-map, All-nil, recursion_from_All}
 use Rattle.orca_base.specs.declared.change.Change.{Change}
-use Rattle.orca_base.specs.declared.limits.TheConstants.{MAX_CELLS, MAX_EVENTS}
+use Rattle.orca_base.specs.declared.limits.TheConstants.{MAX_CELLS}
 use Rattle.orca_base.specs.declared.place.Place.{Place}
 use Rattle.orca_base.specs.Grids.{Size, Sheet, IsSheet, IsInside, by_place, glyph_at as glyph_on, index_of, is_inside, is_place, largest}
 use Rattle.orca_base.proofs.PlaceFacts.{is_inside-inside, is_place-same}
 use Rattle.orca_base.specs.MarkSet.{MarkSet}
 use Rattle.orca_base.proofs.SheetFacts.{index-by_place, list-by_place}
-use Rattle.orca_op.specs.Desk.{Desk, IsDesk, changes_of, is_listed}
-use Rattle.orca_op.specs.State.{State, blank_marks, glyph_at, sheet_of}
-use Rattle.orca_board.specs.Board.{AreLive, IsEmptyOutside, KeepsBoard, glyph_in}
+use Rattle.orca_op.specs.Desk.{Desk, changes_of, is_listed}
+use Rattle.orca_op.specs.State.{State, blank_marks}
+use Rattle.orca_board.specs.Board.{AreLive, KeepsBoard, glyph_in}
 use Rattle.orca_board.specs.Listing.{places_of}
 use Rattle.orca_board.specs.Sizes.{is_size, with_sheet}
 use Rattle.orca_board.proofs.BoardLemmas.{inside-largest}

@@ -1,14 +1,13 @@
 -- A grid that takes another size, and the changes that are put back.
-use Rattle.std.proofs.Common.{◌≡◌, ℕ, ◌<◌, ◌≤◌, ◌==◌, Bool, true, false, not, ◌&&◌, ◌||◌, List, [], ◌∷◌, ◌++◌, length, get_or, refl, arith, replicate, ap, sym, ◌∙◌, subst, inl, inr}
+use Rattle.std.proofs.Common.{◌≡◌, ℕ, ◌≤◌, ◌==◌, Bool, true, false, ◌||◌, List, [], ◌∷◌, ◌++◌, length, refl, arith, ap, sym, ◌∙◌, inl, inr}
 use Rattle.std.proofs.Math.ListN.{set, length-replicate}
-use Rattle.std.specs.Prelude.{All, count_by, if◌then◌else◌, slice_index}
-use Rattle.std.specs.List.{list_any}
+use Rattle.std.specs.Prelude.{if◌then◌else◌, slice_index}
 use Rattle.std.proofs.lemmas.Bool.{both_ways, cases_Bool, or_parts, and_parts}
 use Rattle.std.proofs.lemmas.Bool.Decides.{eqb_tells}
 use Rattle.std.proofs.lemmas.List.{get_or-set_other, get_or-set_same}
 use Rattle.std.proofs.lemmas.List.Folds.{list_any-append}
 use Rattle.orca_base.specs.declared.change.Change.{Change}
-use Rattle.orca_base.specs.declared.limits.TheConstants.{MAX_CELLS, MAX_EVENTS}
+use Rattle.orca_base.specs.declared.limits.TheConstants.{MAX_CELLS}
 use Rattle.orca_base.specs.declared.event.Event.{Event}
 use Rattle.orca_base.specs.declared.place.Place.{Place}
 use Rattle.orca_base.specs.Edits.{sheet_after_resize}
@@ -19,10 +18,9 @@ use Rattle.orca_base.proofs.PlaceFacts.{index-apart, index_of-below, inside-is_i
 use Rattle.orca_base.proofs.SheetFacts.{index-by_place, IsGlyph-glyph_at, IsSheet-sheet_by, glyph_at-sheet_by, same-by_place, sheet-same}
 use Rattle.orca_marks.specs.Planes.{blank}
 use Rattle.orca_marks.proofs.PlaneLemmas.{length-blank}
-use Rattle.orca_op.specs.Desk.{Desk, IsDesk, changes_of, is_listed}
+use Rattle.orca_op.specs.Desk.{Desk, IsDesk, is_listed}
 use Rattle.orca_op.specs.State.{State, blank_marks, glyph_at, sheet_of}
-use Rattle.orca_board.specs.Board.{AreLive, IsEmptyOutside, KeepsBoard, glyph_in, marks_in}
-use Rattle.orca_board.specs.Listing.{ListsChanges, places_of}
+use Rattle.orca_board.specs.Board.{IsEmptyOutside, KeepsBoard, glyph_in, marks_in}
 use Rattle.orca_board.specs.Sizes.{is_size, with_sheet}
 use Rattle.orca_board.proofs.BoardLemmas.{blank-by_place, count-blank_marks, inside-largest}
 

@@ -72,7 +72,12 @@ fn read_area<B: Bench, L: Ledger>(bench: &B, area: Area, into: &mut [Glyph], ste
 }
 
 /// Empties the places of an area that lie outside another.
-pub(crate) fn clear_outside<B: Bench, L: Ledger>(bench: &mut B, area: Area, other: Area, steps: &mut Steps<L>)
+pub(crate) fn clear_outside<B: Bench, L: Ledger>(
+    bench: &mut B,
+    area: Area,
+    other: Area,
+    steps: &mut Steps<L>,
+)
     requires area { IsInLargest area }
     requires other { IsInLargest other }
     ensures desk { B.desk bench.new

@@ -161,7 +161,12 @@ impl Board {
         let began = self.listing.dims();
         blocks::clear_outside(self, whole(old), whole(began), steps);
         self.take_dims(began);
-        restore(&mut self.cells, &mut self.live, self.listing.changes(), steps);
+        restore(
+            &mut self.cells,
+            &mut self.live,
+            self.listing.changes(),
+            steps,
+        );
         self.listing.begin(began);
     }
 
@@ -173,7 +178,8 @@ impl Board {
         requires listed { (at : Place) → IsInside self.old.began.dims at → is_inside dims at ≡ false
             → is_listed self.old.listed at ≡ true }
         ensures { self.new ≡ record self.old {
-            scan = with_sheet self.old.scan (sheet_after_resize (sheet_of self.old.scan) dims) } }
+          scan = with_sheet self.old.scan (sheet_after_resize (sheet_of self.old.scan) dims);
+        } }
     {
         if dims != self.dims {
             self.marks.clear();

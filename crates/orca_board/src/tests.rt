@@ -3,3 +3,4 @@
 mod blocks;
 mod live;
 mod plain;
+mod sizes;

@@ -25,7 +25,7 @@ enum Edit {
     Shift(Area, Place),
 }
 
-fn is_area(dims: Dims, area: Area) -> bool
+pub(super) fn is_area(dims: Dims, area: Area) -> bool
     ensures { IsTrue result → IsArea dims area }
 {
     area.h >= 1
@@ -36,7 +36,7 @@ fn is_area(dims: Dims, area: Area) -> bool
         && area.x <= dims.w - area.w
 }
 
-fn is_inside(dims: Dims, at: Place) -> bool
+pub(super) fn is_inside(dims: Dims, at: Place) -> bool
     ensures { IsTrue result → IsInside dims at }
 {
     at.y < dims.h && at.x < dims.w

@@ -1,12 +1,9 @@
-use Rattle.std.proofs.Common.{◌≡◌, ℕ, ◌<◌, ◌+◌, ◌++◌, [], ◌∷◌, List, true, false, arith, ap, sym, ◌∙◌, take, length, subst, refl}
-use Rattle.std.proofs.lemmas.List.{length-set, map_more, take_all}
-use Rattle.std.specs.Prelude.{All}
+use Rattle.std.proofs.Common.{◌≡◌, ℕ, ◌+◌, ◌++◌, [], ◌∷◌, List, arith, ap, sym, ◌∙◌, take, subst, refl}
+use Rattle.std.proofs.lemmas.List.{length-set, map_more}
 use Rattle.std.proofs.lemmas.Bool.{both_ways}
 use Rattle.orca_base.specs.declared.change.Change.{Change}
 use Rattle.orca_base.specs.declared.place.Place.{Place}
 use Rattle.orca_base.specs.Grids.{Size, IsInside, index_of, largest}
-use Rattle.orca_op.specs.Desk.{is_listed}
-use Rattle.orca_board.specs.Board.{glyph_in}
 use Rattle.orca_board.specs.Listing.{places_of}
 use Rattle.orca_board.proofs.BoardLemmas.{live-set}
 use Rattle.orca_board.proofs.ListingLemmas.{inside_there}
@@ -47,6 +44,6 @@ loop-change-preserved g c =
           let other = restored-other c.loop-change.cells before item.at at item.old here inside absent in
           other.1 ∙ c.loop-change.invariant.others at inside other.0;
       live = live-set c.loop-change.live c.set.new.self c.loop-change.cells (index_of largest item.at) item.old (omega (arith, c.loop-change.invariant.whole, number, c.index-i.ensures.most)) c.loop-change.invariant.whole
-      c.loop-change.invariant.live (λ k. rw (number, c.is_operator.ensures) at (c.set.ensures k));
+          c.loop-change.invariant.live (λ k. rw (number, c.is_operator.ensures) at (c.set.ensures k));
       ticks = omega (arith, c.loop-change.invariant.ticks, c.tick.ensures);
     })

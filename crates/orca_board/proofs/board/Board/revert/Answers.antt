@@ -10,7 +10,6 @@ use Rattle.orca_board.specs.Sizes.{cut_places, whole, with_sheet}
 use Rattle.orca_base.proofs.ListFacts.{put_over}
 use Rattle.orca_op.specs.Desk.{Desk}
 use Rattle.orca_board.specs.Board.{desk_of, glyph_in}
-use Rattle.orca_board.specs.Listing.{Listed, places_of}
 use Rattle.orca_board.proofs.CutLemmas.{cut-away, cut-empty, cut-listed, cut-unlisted, left_glyph}
 use Rattle.orca_board.proofs.RevertLemmas.{Restores, back, dims-with_sheet, keeps-revert, sheet-back, sheeted}
 use Rattle.orca_board.proofs.board.Board.revert.Goals as goal

@@ -1,11 +1,9 @@
-use Rattle.std.proofs.Common.{◌≡◌, ap, refl, sym, ◌∙◌}
+use Rattle.std.proofs.Common.{ap}
 use Rattle.orca_base.specs.Grids.{Sheet}
-use Rattle.orca_op.specs.Desk.{Desk, IsDesk}
-use Rattle.orca_board.specs.Blocks.{desk_after_edit}
+use Rattle.orca_op.specs.Desk.{Desk}
 use Rattle.orca_board.specs.Board.{desk_of}
-use Rattle.orca_base.specs.Grids.{sheet_by}
-use Rattle.orca_board.specs.Sizes.{cut_places, desk_after_resize, with_sheet}
-use Rattle.orca_board.proofs.CutLemmas.{cut-away, cut-empty, cut-listed, left_glyph, resize-cut}
+use Rattle.orca_board.specs.Sizes.{desk_after_resize, with_sheet}
+use Rattle.orca_board.proofs.CutLemmas.{cut-away, cut-empty, cut-listed, resize-cut}
 use Rattle.orca_board.proofs.board.Board.set_dims.Goals as goal
 
 pub take_dims-requires-clause-empty : goal.take_dims-requires-clause-empty

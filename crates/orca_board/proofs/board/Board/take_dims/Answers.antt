@@ -1,9 +1,7 @@
-use Rattle.std.proofs.Common.{◌≡◌, Bool, true, false, not, arith, ap, refl, sym, ◌∙◌}
-use Rattle.orca_base.specs.Edits.{sheet_after_resize}
-use Rattle.orca_op.specs.Desk.{Desk}
-use Rattle.orca_op.specs.State.{State, sheet_of}
+use Rattle.std.proofs.Common.{◌≡◌, Bool, true, false, not, arith, ap, refl}
+use Rattle.orca_op.specs.State.{State}
 use Rattle.orca_board.specs.Board.{desk_of}
-use Rattle.orca_board.specs.Sizes.{is_size, with_sheet}
+use Rattle.orca_board.specs.Sizes.{is_size}
 use Rattle.orca_board.proofs.SizeLemmas.{keeps-resize, sized, unsized}
 use Rattle.orca_board.proofs.board.Board.take_dims.Goals as goal
 
