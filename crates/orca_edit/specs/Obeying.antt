@@ -1,0 +1,236 @@
+-- A session as a machine: what it does with a command, and when it refuses one.
+use Rattle.std.specs.Prelude.{ℕ, suc, ◌+◌, ◌==◌, Bool, true, false, not, ◌&&◌, ◌||◌, nat_le, nat_lt, min, if◌then◌else◌, List, [], ◌∷◌, ◌++◌, length, take, Option, Some, None, is_none, Result, Ok, Err}
+use Rattle.std.specs.List.{list_all}
+use Rattle.std.specs.Option.{option_map, option_map_or}
+use Rattle.orca_base.specs.declared.area.Area.{Area}
+use Rattle.orca_base.specs.declared.area.Rect.{Rect}
+use Rattle.orca_base.specs.declared.command.Command.{Command}
+use Rattle.orca_base.specs.declared.command.Command.TheVariants as command
+use Rattle.orca_base.specs.declared.command.Entry.{Entry}
+use Rattle.orca_base.specs.declared.command.Entry.TheVariants as entry
+use Rattle.orca_base.specs.declared.command.Reply.{Reply}
+use Rattle.orca_base.specs.declared.command.Reply.TheVariants.{Edited, Copied, Framed, Jumped}
+use Rattle.orca_base.specs.declared.command.Rule.{Rule}
+use Rattle.orca_base.specs.declared.command.Rule.TheVariants.{OutOfGrid, EmptyBlock, BadSize, EmptyClip, NothingToUndo, NoSuchMoment, HistoryFull}
+use Rattle.orca_base.specs.declared.limits.TheConstants.{MAX_ROWS, MAX_COLUMNS}
+use Rattle.orca_base.specs.declared.message.Message.{Message}
+use Rattle.orca_base.specs.declared.place.Place.{Place}
+use Rattle.orca_base.specs.Areas.{area_in, area_at}
+use Rattle.orca_base.specs.Edits.{block_of}
+use Rattle.orca_base.specs.Glyphs.{empty}
+use Rattle.orca_base.specs.Grids.{Size, Sheet, is_inside}
+use Rattle.orca_notes.specs.Sound.{ends}
+use Rattle.orca_edit.specs.Pieces.{Piece, Outcome, apply, piece_after}
+
+-- a session: the opened grid, the seed, the most entries that its history may have, the history since the opened grid,
+-- the clip, and how many entries the history had at the last close
+pub record MachineState : Type 0 where
+  pub opened : Sheet
+  pub seed : ℕ
+  pub limit : ℕ
+  pub history : List Entry
+  pub clip : Option Sheet
+  pub closed : ℕ
+
+-- a session with an opened grid
+abbrev pub machine_at_start : Sheet → ℕ → ℕ → MachineState
+machine_at_start sheet seed limit = record { opened = sheet; seed = seed; limit = limit; history = []; clip = None; closed = 0 }
+
+-- the piece as it stands: the opened grid after the history
+abbrev pub piece_of : MachineState → Piece
+piece_of m = piece_after m.opened m.seed m.history m.closed
+
+-- the place of a row and a column
+abbrev pub place : ℕ → ℕ → Place
+place y x = record { y = y; x = x }
+
+-- the first place of a block
+abbrev pub anchor_of : Rect → Place
+anchor_of rect = place rect.y rect.x
+
+-- the places that a command names
+abbrev pub named_places : Command → List Place
+named_places (command.Write y x glyph) = place y x ∷ []
+named_places (command.Fill rect glyph) = anchor_of rect ∷ []
+named_places (command.Erase rect) = anchor_of rect ∷ []
+named_places (command.Copy rect) = anchor_of rect ∷ []
+named_places (command.Cut rect) = anchor_of rect ∷ []
+named_places (command.Paste y x) = place y x ∷ []
+named_places (command.Move rect to_y to_x) = anchor_of rect ∷ place to_y to_x ∷ []
+named_places _ = []
+
+-- the block that a command names
+abbrev pub named_rect : Command → Option Rect
+named_rect (command.Fill rect glyph) = Some rect
+named_rect (command.Erase rect) = Some rect
+named_rect (command.Copy rect) = Some rect
+named_rect (command.Cut rect) = Some rect
+named_rect (command.Move rect to_y to_x) = Some rect
+named_rect _ = None
+
+-- OutOfGrid: a place that the command names isn't in the grid
+abbrev pub names_outside : Size → Command → Bool
+names_outside d c = not (list_all (is_inside d) (named_places c))
+
+-- EmptyBlock: a side of the block that the command names is 0
+abbrev pub names_empty_block : Command → Bool
+names_empty_block c = option_map_or (λ rect. (rect.h == 0) || (rect.w == 0)) (named_rect c) false
+
+-- BadSize: a side of Resize is 0 or too long
+abbrev pub names_bad_size : Command → Bool
+names_bad_size (command.Resize h w) = not (nat_le 1 h && nat_le h MAX_ROWS && nat_le 1 w && nat_le w MAX_COLUMNS)
+names_bad_size _ = false
+
+-- EmptyClip: a Paste, and nothing was copied or cut so far
+abbrev pub wants_clip : Option Sheet → Command → Bool
+wants_clip clip (command.Paste y x) = is_none clip
+wants_clip clip _ = false
+
+-- an entry that is an edit
+abbrev pub is_edit : Entry → Bool
+is_edit entry.Frame = false
+is_edit entry.Hush = false
+is_edit _ = true
+
+-- the place of the last edit in a history
+abbrev pub last_edit : List Entry → Option ℕ
+last_edit [] = None
+last_edit (e ∷ es) = option_map_or (λ i. Some (suc i)) (last_edit es) (if is_edit e then Some 0 else None)
+
+-- NothingToUndo: an Undo, and the history holds no edit
+abbrev pub undoes_nothing : List Entry → Command → Bool
+undoes_nothing history command.Undo = is_none (last_edit history)
+undoes_nothing history _ = false
+
+-- NoSuchMoment: a Rewind to a moment that isn't below the count of the entries
+abbrev pub rewinds_too_far : List Entry → Command → Bool
+rewinds_too_far history (command.Rewind moment) = nat_le (length history) moment
+rewinds_too_far history _ = false
+
+-- a command that adds an entry of its own to the history; a jump cuts the history
+abbrev pub adds_entry : Command → Bool
+adds_entry (command.Copy rect) = false
+adds_entry command.Undo = false
+adds_entry (command.Rewind moment) = false
+adds_entry _ = true
+
+-- HistoryFull: a command that adds an entry, and the history has as many as it may have
+abbrev pub has_no_room : ℕ → List Entry → Command → Bool
+has_no_room limit history c = adds_entry c && nat_le limit (length history)
+
+-- a rule, and whether it stands
+pub record Test : Type 0 where
+  pub rule : Rule
+  pub stands : Bool
+
+abbrev pub test : Rule → Bool → Test
+test rule stands = record { rule = rule; stands = stands }
+
+-- the first rule that stands
+abbrev pub first_standing : List Test → Option Rule
+first_standing [] = None
+first_standing (t ∷ ts) = if t.stands then Some t.rule else first_standing ts
+
+-- the rules on a command's places and blocks, in their order
+abbrev pub block_tests : Size → Option Sheet → Command → List Test
+block_tests d clip c =
+    test OutOfGrid (names_outside d c)
+    ∷ test EmptyBlock (names_empty_block c)
+    ∷ test BadSize (names_bad_size c)
+    ∷ test EmptyClip (wants_clip clip c)
+    ∷ []
+
+-- the rules on the history, in their order
+abbrev pub history_tests : ℕ → List Entry → Command → List Test
+history_tests limit history c =
+    test NothingToUndo (undoes_nothing history c)
+    ∷ test (NoSuchMoment (length history)) (rewinds_too_far history c)
+    ∷ test HistoryFull (has_no_room limit history c)
+    ∷ []
+
+-- the rule that refuses a command in a grid of this size with this clip, where its places and blocks do
+unfoldable pub block_rule : Size → Option Sheet → Command → Option Rule
+block_rule d clip c = first_standing (block_tests d clip c)
+
+-- the rule that refuses a command
+unfoldable pub rule_against : MachineState → Command → Option Rule
+rule_against m c =
+    first_standing (block_tests (piece_of m).sheet.dims m.clip c ++ history_tests m.limit m.history c)
+
+-- the entry of a command in a grid of this size with this clip: a block is cut to the grid
+unfoldable pub entry_of : Size → Option Sheet → Command → Option Entry
+entry_of d clip command.Frame = Some entry.Frame
+entry_of d clip (command.Write y x glyph) = Some (entry.Fill (area_at (place y x)) glyph)
+entry_of d clip (command.Fill rect glyph) = Some (entry.Fill (area_in d rect) glyph)
+entry_of d clip (command.Erase rect) = Some (entry.Fill (area_in d rect) empty)
+entry_of d clip (command.Copy rect) = None
+entry_of d clip (command.Cut rect) = Some (entry.Fill (area_in d rect) empty)
+entry_of d clip (command.Paste y x) = option_map (entry.Put (place y x)) clip
+entry_of d clip (command.Move rect to_y to_x) = Some (entry.Move (area_in d rect) (place to_y to_x))
+entry_of d clip (command.Resize h w) = Some (entry.Resize (record { h = h; w = w }))
+entry_of d clip command.Reset = Some entry.Reset
+entry_of d clip command.Undo = None
+entry_of d clip (command.Rewind moment) = None
+
+-- the area that becomes the clip
+unfoldable pub taken_area : Size → Command → Option Area
+taken_area d (command.Copy rect) = Some (area_in d rect)
+taken_area d (command.Cut rect) = Some (area_in d rect)
+taken_area d _ = None
+
+-- the clip after a command: the glyphs that it takes, as they stand before it
+abbrev pub clip_after : Option Sheet → Sheet → Option Area → Option Sheet
+clip_after clip sheet None = clip
+clip_after clip sheet (Some area) = Some (block_of sheet area)
+
+-- the answer to a command, the session after it, and the messages
+pub record Obeyed : Type 0 where
+  pub answer : Result Reply Rule
+  pub machine : MachineState
+  pub messages : List Message
+
+-- a refused command changes nothing
+abbrev pub refused : MachineState → Rule → Obeyed
+refused m rule = record { answer = Err rule; machine = m; messages = [] }
+
+-- a jump keeps the first entries and ends every note
+unfoldable pub jumped : MachineState → ℕ → Obeyed
+jumped m moment = record {
+  answer = Ok (Jumped moment);
+  machine = record m { history = take moment m.history ++ entry.Hush ∷ []; closed = min m.closed (moment + 1) };
+  messages = ends (piece_of m).notes;
+}
+
+-- the answer to a command that adds an entry
+abbrev pub reply_of : Command → Piece → Reply
+reply_of command.Frame p = Framed p.tick
+reply_of _ p = Edited
+
+-- an entry is added, with its messages
+abbrev pub extended : MachineState → Command → Option Sheet → Entry → Obeyed
+extended m c clip e = record {
+  answer = Ok (reply_of c (piece_of m));
+  machine = record m { history = m.history ++ e ∷ []; clip = clip };
+  messages = (apply (piece_of m) e).messages;
+}
+
+-- a command without an entry of its own takes the clip alone
+abbrev pub done_with : MachineState → Command → Option Sheet → Option Entry → Obeyed
+done_with m c clip None = record { answer = Ok Copied; machine = record m { clip = clip }; messages = [] }
+done_with m c clip (Some e) = extended m c clip e
+
+-- what is done with a command against which no rule stands
+unfoldable pub accepted : MachineState → Command → Obeyed
+accepted m command.Undo = option_map_or (jumped m) (last_edit m.history) (refused m NothingToUndo)
+accepted m (command.Rewind moment) = jumped m moment
+accepted m c =
+    done_with m c (clip_after m.clip (piece_of m).sheet (taken_area (piece_of m).sheet.dims c))
+    (entry_of (piece_of m).sheet.dims m.clip c)
+
+-- what a session does with a command
+unfoldable pub obey : MachineState → Command → Obeyed
+obey m c = option_map_or (refused m) (rule_against m c) (accepted m c)
+
+-- the session after a close: every note ends
+abbrev pub machine_closed : MachineState → MachineState
+machine_closed m = record m { closed = length m.history }

@@ -1,0 +1,2 @@
+//! Commands, and what they make of a grid.
+#![tactic(auto)]
