@@ -5,6 +5,7 @@ pub mod EventRanges
 pub mod GlyphFacts
 pub mod Glyphs
 pub mod Grids
+pub mod Histories
 pub mod Inline
 pub mod MarkBits
 pub mod MarkSet

@@ -9,6 +9,8 @@ use Rattle.orca_base.specs.declared.command.Rule.{Rule}
 use Rattle.orca_base.specs.declared.command.Rule.TheVariants.{OutOfGrid, EmptyBlock, BadSize, EmptyClip, NothingToUndo, NoSuchMoment, HistoryFull}
 use Rattle.orca_base.specs.declared.message.Message.{Message}
 use Rattle.orca_base.specs.Grids.{Sheet, by_place}
+use Rattle.orca_base.specs.Glyphs.{is_operator}
+use Rattle.orca_op.specs.Scan.{scan, visit_deeds, is_idle}
 use Rattle.orca_edit.specs.Obeying.{MachineState, Obeyed, machine_at_start, piece_of, rule_against, entry_of, taken_area, jumped, accepted, obey}
 use Rattle.orca_edit.specs.Pieces.{apply, piece_after}
 
@@ -90,5 +92,5 @@ abbrev full : Course
 full = course (machine_at_start (grid 1 1 (codes ".")) 1 3) (Frame ∷ Frame ∷ Frame ∷ Write 0 0 53 ∷ Rewind 1 ∷ [])
 
 full_answers : full.answers ≡ Ok (Framed 0) ∷ Ok (Framed 1) ∷ Ok (Framed 2) ∷ Err HistoryFull ∷ Ok (Jumped 1) ∷ []
-unfolding obey accepted rule_against entry_of taken_area jumped apply piece_after by_place
+unfolding obey accepted rule_against entry_of taken_area jumped apply piece_after by_place scan visit_deeds is_idle is_operator
 full_answers = refl

@@ -1,5 +1,5 @@
 -- A session as a machine: what it does with a command, and when it refuses one.
-use Rattle.std.specs.Prelude.{ℕ, suc, ◌+◌, ◌==◌, Bool, true, false, not, ◌&&◌, ◌||◌, nat_le, nat_lt, min, if◌then◌else◌, List, [], ◌∷◌, ◌++◌, length, take, Option, Some, None, is_none, Result, Ok, Err}
+use Rattle.std.specs.Prelude.{ℕ, ◌+◌, ◌==◌, Bool, true, false, not, ◌&&◌, ◌||◌, nat_le, nat_lt, min, if◌then◌else◌, List, [], ◌∷◌, ◌++◌, length, take, Option, Some, None, is_none, Result, Ok, Err}
 use Rattle.std.specs.List.{list_all}
 use Rattle.std.specs.Option.{option_map, option_map_or}
 use Rattle.orca_base.specs.declared.area.Area.{Area}
@@ -19,6 +19,7 @@ use Rattle.orca_base.specs.Areas.{area_in, area_at}
 use Rattle.orca_base.specs.Edits.{block_of}
 use Rattle.orca_base.specs.Glyphs.{empty}
 use Rattle.orca_base.specs.Grids.{Size, Sheet, is_inside}
+use Rattle.orca_base.specs.Histories.{last_edit}
 use Rattle.orca_notes.specs.Sound.{ends}
 use Rattle.orca_edit.specs.Pieces.{Piece, Outcome, apply, piece_after}
 
@@ -85,17 +86,6 @@ names_bad_size _ = false
 abbrev pub wants_clip : Option Sheet → Command → Bool
 wants_clip clip (command.Paste y x) = is_none clip
 wants_clip clip _ = false
-
--- an entry that is an edit
-abbrev pub is_edit : Entry → Bool
-is_edit entry.Frame = false
-is_edit entry.Hush = false
-is_edit _ = true
-
--- the place of the last edit in a history
-abbrev pub last_edit : List Entry → Option ℕ
-last_edit [] = None
-last_edit (e ∷ es) = option_map_or (λ i. Some (suc i)) (last_edit es) (if is_edit e then Some 0 else None)
 
 -- NothingToUndo: an Undo, and the history holds no edit
 abbrev pub undoes_nothing : List Entry → Command → Bool
