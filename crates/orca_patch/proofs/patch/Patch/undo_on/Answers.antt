@@ -1,0 +1,75 @@
+use Rattle.std.proofs.Common.{◌≡◌, ◌+◌, List, length, arith, ap}
+use Rattle.orca_base.specs.declared.change.Change.{Change}
+use Rattle.orca_board.specs.Sizes.{cut_places}
+use Rattle.orca_base.specs.declared.place.Place.{Place}
+use Rattle.orca_patch.specs.Patches.{desk_before}
+use Rattle.orca_patch.proofs.Cutting.{cut_places-same, length-cut_places}
+use Rattle.orca_patch.proofs.Undoing.{step, undone, sheet-desk_before, residue-desk_before}
+use Rattle.orca_patch.proofs.patch.Patch.undo_on.Given.{Over}
+use Rattle.orca_patch.proofs.patch.Patch.undo_on.Goals as goal
+
+pub loop-change-init : goal.loop-change-init
+loop-change-init g c = record {
+  desk = c.set_dims.ensures.desk;
+  ticks = omega (arith, c.set_dims.ensures.ticks);
+}
+
+pub loop-change-preserved : goal.loop-change-preserved
+loop-change-preserved g c =
+    let items = c.as_slice-change-items.ensures in
+    record {
+      desk = step _ _ _ _ c.loop-change.change-index c.change-item.result _
+          (rw items at c.loop-change-test.true) (rw items at c.change-item.is)
+          c.loop-change.invariant.desk c.here.ensures c.write.ensures.deed;
+      ticks = omega (arith, c.loop-change.invariant.ticks, c.write.ensures.ticks);
+    }
+
+-- the board is the one before
+left : (g : Over) (c : goal.After-loop-change g)
+    → c.loop-change.board ≡ desk_before c.args.self.now c.args.board.now
+left g c =
+    rw (← c.self.view_is) (undone _ c.args.board.now _ c.loop-change.change-index c.self.invariant
+    (rw (← c.self.view_is) at c.requires) c.loop-change.invariant.desk
+    (rw c.as_slice-change-items.ensures at c.loop-change-test.false))
+
+pub returns-clause-desk : goal.returns-clause-desk
+returns-clause-desk g c = left g c
+
+pub returns-clause-sheet : goal.returns-clause-sheet
+returns-clause-sheet g c =
+    rw (left g c) (sheet-desk_before c.args.self.now c.args.board.now)
+
+-- once for each place that is cut off, and once for each change
+ticks : (g : Over) (c : goal.After-loop-change g) → c.loop-change.steps
+    ≡ c.args.steps.now + length (cut_places c.args.board.now.scan.dims c.args.self.now.dims)
+    + length c.args.self.now.changes
+ticks g c =
+    rw (← c.self.view_is)
+    (omega (
+      arith,
+      c.loop-change.invariant.ticks,
+      ap (λ (changes : List Change). length changes) c.as_slice-change-items.ensures,
+    ))
+
+pub returns-clause-ticks : goal.returns-clause-ticks
+returns-clause-ticks g c = ticks g c
+
+pub returns-clause-same_size : goal.returns-clause-same_size
+returns-clause-same_size g c same =
+    let none : length (cut_places c.args.board.now.scan.dims c.args.self.now.dims) ≡ 0 =
+    rw (← same) (ap (λ (places : List Place). length places)
+    (cut_places-same c.args.board.now.scan.dims)) in
+    omega (arith, ticks g c, none)
+
+pub returns-clause-few_ticks : goal.returns-clause-few_ticks
+returns-clause-few_ticks g c =
+    omega (
+      arith,
+      ticks g c,
+      length-cut_places c.args.board.now.scan.dims c.args.self.now.dims,
+    )
+
+pub returns-clause-residue : goal.returns-clause-residue
+returns-clause-residue g c =
+    rw (left g c)
+    (omega (arith, ticks g c, residue-desk_before c.args.self.now c.args.board.now))

@@ -1,0 +1,10 @@
+//! Patches: what was before a change, kept so that it can be undone.
+#![tactic(auto)]
+
+mod laws;
+mod patch;
+#[cfg(test)]
+mod tests;
+
+pub use laws::inverse_law;
+pub use patch::Patch;
