@@ -1,0 +1,2 @@
+pub mod LastEdit
+pub mod Keeping
