@@ -1,5 +1,6 @@
 -- Entries that fit the grids that they are applied to.
-use Rattle.std.proofs.Common.{◌≡◌, ℕ, List, [], ◌∷◌, ◌++◌, take, drop, ap, sym, subst}
+use Rattle.std.proofs.Common.{◌≡◌, ℕ, zero, suc, List, [], ◌∷◌, ◌++◌, take, drop, ap, sym, subst}
+use Rattle.std.specs.Prelude.{Some, slice_get}
 use Rattle.std.proofs.lemmas.List.{take-append-drop}
 use Rattle.orca_base.specs.declared.command.Entry.{Entry}
 use Rattle.orca_base.specs.Grids.{Size, Sheet}
@@ -26,13 +27,37 @@ AllFit-take p entries count all =
     (AllFit-parts p (take count entries) (drop count entries)
     (subst (λ (es : List Entry). AllFit p es) (sym (take-append-drop count entries)) all)).0
 
+-- what fits but for the notes
+fits-same : (p q : Piece) (entry : Entry) → silence p ≡ silence q → FitsIn p.sheet.dims entry
+    → FitsIn q.sheet.dims entry
+fits-same p q entry same fits =
+    subst (λ (d : Size). FitsIn d entry) (ap (λ (s : Piece). s.sheet.dims) same) fits
+
 pub AllFit-same : (p q : Piece) (entries : List Entry) → silence p ≡ silence q → AllFit p entries
     → AllFit q entries
 AllFit-same p q [] same all = tt
 AllFit-same p q (e ∷ entries) same all = (
-  subst (λ (d : Size). FitsIn d e) (ap (λ (s : Piece). s.sheet.dims) same) all.0,
+  fits-same p q e same all.0,
   AllFit-same (apply p e).piece (apply q e).piece entries (apply-same p q e same) all.1,
 )
+
+fits-nth : (p : Piece) (entries : List Entry) (i : ℕ) (entry : Entry) → AllFit p entries
+    → slice_get entries i ≡ Some entry → FitsIn (fold_entries p (take i entries)).sheet.dims entry
+fits-nth p [] i entry all is = absurd (cc)
+fits-nth p (e ∷ entries) zero entry all is =
+    let same : e ≡ entry = cc in
+    subst (λ (x : Entry). FitsIn p.sheet.dims x) same all.0
+fits-nth p (e ∷ entries) (suc i) entry all is = fits-nth (apply p e).piece entries i entry all.1 is
+
+pub fits-moment : (opened : Sheet) (seed : ℕ) (history : List Entry) (moment : ℕ) (entry : Entry)
+    (closed : ℕ) → AllFit (opened_piece opened seed) history
+    → slice_get history moment ≡ Some entry
+    → FitsIn (piece_after opened seed (take moment history) closed).sheet.dims entry
+fits-moment opened seed history moment entry closed all is =
+    fits-same (fold_entries (opened_piece opened seed) (take moment history))
+    (piece_after opened seed (take moment history) closed) entry
+    (sym (silence-piece_after opened seed (take moment history) closed))
+    (fits-nth (opened_piece opened seed) history moment entry all is)
 
 pub AllFit-push : (opened : Sheet) (seed : ℕ) (history : List Entry) (entry : Entry) (closed : ℕ)
     → AllFit (opened_piece opened seed) history
@@ -40,7 +65,8 @@ pub AllFit-push : (opened : Sheet) (seed : ℕ) (history : List Entry) (entry : 
     → AllFit (opened_piece opened seed) (history ++ entry ∷ [])
 AllFit-push opened seed history entry closed all fits =
     AllFit-append (opened_piece opened seed) history (entry ∷ []) all (
-      subst (λ (d : Size). FitsIn d entry)
-          (ap (λ (s : Piece). s.sheet.dims) (silence-piece_after opened seed history closed)) fits,
+      fits-same (piece_after opened seed history closed)
+          (fold_entries (opened_piece opened seed) history) entry
+          (silence-piece_after opened seed history closed) fits,
       tt,
     )

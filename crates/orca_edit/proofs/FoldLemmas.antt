@@ -1,7 +1,9 @@
 -- Histories, folded.
 use Rattle.std.proofs.Common.{◌≡◌, ℕ, ◌+◌, ◌≤◌, List, [], ◌∷◌, ◌++◌, length, take, drop, refl, arith, ap, sym, ◌∙◌, inl, inr, length-append}
+use Rattle.std.specs.Prelude.{Some, slice_get}
 use Rattle.std.proofs.lemmas.Bool.{cases_lt}
-use Rattle.std.proofs.lemmas.List.{drop-append-le, drop_all, take-append-drop, take-append-le, take_all}
+use Rattle.std.proofs.lemmas.List.{drop-append-le, drop_all, take-append-drop, take-append-le, take_all, take_more}
+use Rattle.std.proofs.lemmas.Option.{get_or_from_slice_get, slice_get_within}
 use Rattle.orca_base.specs.declared.command.Entry.{Entry}
 use Rattle.orca_base.specs.declared.command.Entry.TheVariants.{Fill, Put, Move, Resize, Reset, Frame, Hush}
 use Rattle.orca_base.specs.Grids.{Sheet}
@@ -124,6 +126,45 @@ piece_after-hush opened seed history closed other = elim (cases_lt (length histo
       piece_after-push opened seed history Hush closed within
       ∙ silence-closes opened seed history closed other
 ]
+
+-- ---- moments
+
+-- one entry more of a list
+take-next : (entries : List Entry) (i : ℕ) (entry : Entry) → slice_get entries i ≡ Some entry
+    → take (i + 1) entries ≡ take i entries ++ entry ∷ []
+take-next entries i entry is =
+    take_more entries i entry (slice_get_within entries i entry is)
+    ∙ ap (λ (e : Entry). take i entries ++ e ∷ [])
+    (get_or_from_slice_get entries i entry entry is)
+
+pub piece_after-next : (opened : Sheet) (seed : ℕ) (history : List Entry) (moment : ℕ)
+    (entry : Entry) (closed other : ℕ) → slice_get history moment ≡ Some entry
+    → silence (piece_after opened seed (take (moment + 1) history) closed)
+    ≡ silence (apply (piece_after opened seed (take moment history) other) entry).piece
+piece_after-next opened seed history moment entry closed other is =
+    let before : List Entry = take moment history in
+    silence-closes opened seed (take (moment + 1) history) closed 0
+    ∙ (ap (λ (entries : List Entry). silence (piece_after opened seed entries 0))
+    (take-next history moment entry is)
+    ∙ (ap (λ (p : Piece). silence p)
+    (piece_after-push opened seed before entry 0 (omega arith))
+    ∙ apply-same (piece_after opened seed before 0) (piece_after opened seed before other) entry
+    (silence-closes opened seed before 0 other)))
+
+pub piece_after-from : (opened : Sheet) (seed : ℕ) (history : List Entry)
+    (moment closed other : ℕ)
+    → silence (piece_after opened seed history closed)
+    ≡ silence (fold_entries (piece_after opened seed (take moment history) other)
+    (drop moment history))
+piece_after-from opened seed history moment closed other =
+    let before : List Entry = take moment history in
+    let rest : List Entry = drop moment history in
+    silence-closes opened seed history closed 0
+    ∙ (ap (λ (entries : List Entry). silence (piece_after opened seed entries 0))
+    (sym (take-append-drop moment history))
+    ∙ (ap (λ (p : Piece). silence p) (piece_after-append opened seed before rest 0 (omega arith))
+    ∙ fold_entries-same (piece_after opened seed before 0) (piece_after opened seed before other)
+    rest (silence-closes opened seed before 0 other)))
 
 -- ---- ticks
 

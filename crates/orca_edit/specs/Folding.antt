@@ -1,5 +1,5 @@
 -- What holds of the folds of histories: the statements of the laws.
-use Rattle.std.specs.Prelude.{ℕ, ◌+◌, ◌≤◌, ◌≡◌, List, [], ◌∷◌, ◌++◌, length, take, All}
+use Rattle.std.specs.Prelude.{ℕ, ◌+◌, ◌≤◌, ◌≡◌, List, [], ◌∷◌, ◌++◌, length, take, drop, slice_get, Some, All}
 use Rattle.orca_base.specs.declared.command.Entry.{Entry}
 use Rattle.orca_base.specs.declared.command.Entry.TheVariants.{Hush}
 use Rattle.orca_base.specs.Grids.{Sheet, IsSheet}
@@ -18,7 +18,7 @@ FoldsOneMore =
     → piece_after opened seed (history ++ entry ∷ []) closed
     ≡ (apply (piece_after opened seed history closed) entry).piece
 
--- the first entries of a history leave a piece, from which the others go on
+-- more entries go on from the piece as it stands
 abbrev pub FoldsMore : Type 0
 FoldsMore =
     (opened : Sheet) (seed : ℕ) (history more : List Entry) (closed : ℕ)
@@ -32,7 +32,7 @@ FoldsOn =
     (p : Piece) (entries more : List Entry)
     → fold_entries p (entries ++ more) ≡ fold_entries (fold_entries p entries) more
 
--- before the first close
+-- a session that was never closed: the whole history is folded from the opened grid
 abbrev pub FoldsFromOpened : Type 0
 FoldsFromOpened =
     (opened : Sheet) (seed : ℕ) (history : List Entry)
@@ -44,13 +44,13 @@ KeepsSeed = (p : Piece) (entries : List Entry) → (fold_entries p entries).seed
 
 -- ---- notes
 
--- pieces that differ in their notes alone stay so: the grid and the tick don't depend on notes
+-- pieces that differ in their notes alone go on to do so: no grid and no tick depends on notes
 abbrev pub IgnoresNotes : Type 0
 IgnoresNotes =
     (p q : Piece) (entries : List Entry) → silence p ≡ silence q
     → silence (fold_entries p entries) ≡ silence (fold_entries q entries)
 
--- so they don't depend on when the session was closed
+-- so they don't depend on when a session was closed
 abbrev pub IgnoresCloses : Type 0
 IgnoresCloses =
     (opened : Sheet) (seed : ℕ) (history : List Entry) (closed other : ℕ)
@@ -71,6 +71,22 @@ HushesAll =
     → piece_after opened seed (history ++ Hush ∷ []) closed
     ≡ silence (piece_after opened seed history other)
 
+-- the next entry of a history leads from one moment to the next, but for the notes
+abbrev pub FoldsNext : Type 0
+FoldsNext =
+    (opened : Sheet) (seed : ℕ) (history : List Entry) (moment : ℕ) (entry : Entry)
+    (closed other : ℕ) → slice_get history moment ≡ Some entry
+    → silence (piece_after opened seed (take (moment + 1) history) closed)
+    ≡ silence (apply (piece_after opened seed (take moment history) other) entry).piece
+
+-- the other entries lead from any moment to the last one, but for the notes
+abbrev pub FoldsFromMoment : Type 0
+FoldsFromMoment =
+    (opened : Sheet) (seed : ℕ) (history : List Entry) (moment closed other : ℕ)
+    → silence (piece_after opened seed history closed)
+    ≡ silence (fold_entries (piece_after opened seed (take moment history) other)
+    (drop moment history))
+
 -- ---- ticks
 
 -- an entry raises the tick by one at most
@@ -86,25 +102,32 @@ TicksAtMost =
 
 -- ---- entries that fit
 
--- entries fit one after the other
+-- entries that fit, and others that fit after them
 abbrev pub FitsOn : Type 0
 FitsOn =
     (p : Piece) (entries more : List Entry) → AllFit p entries
     → AllFit (fold_entries p entries) more → AllFit p (entries ++ more)
 
--- and the first of them, and the others from there on
+-- entries that all fit: the first ones fit, and the others fit after them
 abbrev pub FitsInParts : Type 0
 FitsInParts =
     (p : Piece) (entries more : List Entry) → AllFit p (entries ++ more)
     → AllFit p entries × AllFit (fold_entries p entries) more
 
--- so do the first entries of a history
+-- the first so many of them fit
 abbrev pub FitsAtFirst : Type 0
 FitsAtFirst =
     (p : Piece) (entries : List Entry) (count : ℕ) → AllFit p entries
     → AllFit p (take count entries)
 
--- an entry more fits where it fits the piece as it stands
+-- each of a history fits the piece of its moment
+abbrev pub FitsAtMoment : Type 0
+FitsAtMoment =
+    (opened : Sheet) (seed : ℕ) (history : List Entry) (moment : ℕ) (entry : Entry) (closed : ℕ)
+    → AllFit (opened_piece opened seed) history → slice_get history moment ≡ Some entry
+    → FitsIn (piece_after opened seed (take moment history) closed).sheet.dims entry
+
+-- an entry more, which fits the piece as it stands
 abbrev pub FitsOneMore : Type 0
 FitsOneMore =
     (opened : Sheet) (seed : ℕ) (history : List Entry) (entry : Entry) (closed : ℕ)
@@ -120,8 +143,8 @@ FitsWithoutNotes =
 
 -- ---- grids
 
--- a grid stays one: its size is one that a grid may have, and each of its places has a glyph. So
--- it is if the operators write glyphs alone, the entries fit, and what they write is glyphs
+-- a grid stays one, of a size that a grid may have and with a glyph for each place, if operators
+-- write glyphs alone, and the entries fit and write glyphs
 abbrev pub KeepsSheet : Type 0
 KeepsSheet =
     IsLawful rule → (p : Piece) (entries : List Entry) → IsSheet p.sheet → AllFit p entries

@@ -15,7 +15,7 @@ mod rules;
 pub use applying::apply;
 pub use copying::copy;
 pub use entries::{Edit, to_entry};
-pub use laws::{fit_law, fold_law, notes_law, sheet_law, tick_law};
+pub use laws::{fit_law, fold_law, moment_law, notes_law, sheet_law, tick_law};
 
 #[cfg(test)]
 mod tests;

@@ -1,4 +1,4 @@
-use Rattle.orca_edit.proofs.FitLemmas.{AllFit-append, AllFit-parts, AllFit-push, AllFit-same, AllFit-take}
+use Rattle.orca_edit.proofs.FitLemmas.{AllFit-append, AllFit-parts, AllFit-push, AllFit-same, AllFit-take, fits-moment}
 use Rattle.orca_edit.proofs.laws.fit_law.Goals as goal
 
 pub returns-clause-on : goal.returns-clause-on
@@ -15,3 +15,6 @@ returns-clause-one c = AllFit-push
 
 pub returns-clause-notes : goal.returns-clause-notes
 returns-clause-notes c = AllFit-same
+
+pub returns-clause-moment : goal.returns-clause-moment
+returns-clause-moment c = fits-moment
