@@ -130,7 +130,7 @@ abbrev pub first_standing : List Test → Option Rule
 first_standing [] = None
 first_standing (t ∷ ts) = if t.stands then Some t.rule else first_standing ts
 
--- the rules on a command's places and blocks, in their order
+-- the rules on the places, the block and the size that a command names, and on the clip, in order
 abbrev pub block_tests : Size → Option Sheet → Command → List Test
 block_tests d clip c =
     test OutOfGrid (names_outside d c)
@@ -139,7 +139,7 @@ block_tests d clip c =
     ∷ test EmptyClip (wants_clip clip c)
     ∷ []
 
--- the rules on the history, in their order
+-- the rules on the history, in order
 abbrev pub history_tests : ℕ → List Entry → Command → List Test
 history_tests limit history c =
     test NothingToUndo (undoes_nothing history c)

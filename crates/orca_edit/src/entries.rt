@@ -58,8 +58,7 @@ fn taken_area(command: &Command, dims: Dims) -> Option<Area>
     ensures inside { IfSome result (IsArea dims) }
 {
     match *command {
-        Command::Copy { rect } => Some(area_in(dims, rect)),
-        Command::Cut { rect } => Some(area_in(dims, rect)),
+        Command::Copy { rect } | Command::Cut { rect } => Some(area_in(dims, rect)),
         _ => None,
     }
 }
@@ -76,37 +75,31 @@ fn entry_of(command: &Command, dims: Dims, clip: Option<&Block>) -> Result<Optio
     ensures glyphs { IfSome (option_copied clip.entry) IsBlock
         → IfOk result (λ entry. IfSome entry WritesGlyphs) }
 {
-    match *command {
-        Command::Write { y, x, glyph } => {
-            Ok(Some(fill(area_at(dims, place(dims, y, x)), glyph)))
+    let entry = match *command {
+        Command::Write { y, x, glyph } => fill(area_at(dims, place(dims, y, x)), glyph),
+        Command::Fill { rect, glyph } => fill(area_in(dims, rect), glyph),
+        Command::Erase { rect } | Command::Cut { rect } => {
+            fill(area_in(dims, rect), Glyph::EMPTY)
         }
-        Command::Fill { rect, glyph } => Ok(Some(fill(area_in(dims, rect), glyph))),
-        Command::Erase { rect } => Ok(Some(fill(area_in(dims, rect), Glyph::EMPTY))),
-        Command::Copy { .. } => Ok(None),
-        Command::Cut { rect } => Ok(Some(fill(area_in(dims, rect), Glyph::EMPTY))),
-        Command::Paste { y, x } => {
-            let block = match clip {
-                Some(block) => block.copy()?,
-                None => unreachable!(),
-            };
-            Ok(Some(Entry::Put {
-                at: place(dims, y, x),
-                block,
-            }))
-        }
-        Command::Move { rect, to_y, to_x } => Ok(Some(Entry::Move {
+        Command::Copy { .. } => return Ok(None),
+        Command::Paste { y, x } => Entry::Put {
+            at: place(dims, y, x),
+            block: clip.unwrap().copy()?,
+        },
+        Command::Move { rect, to_y, to_x } => Entry::Move {
             area: area_in(dims, rect),
             to: place(dims, to_y, to_x),
-        })),
-        Command::Resize { h, w } => Ok(Some(Entry::Resize {
+        },
+        Command::Resize { h, w } => Entry::Resize {
             dims: Dims {
                 h: h as u16,
                 w: w as u16,
             },
-        })),
-        Command::Reset => Ok(Some(Entry::Reset)),
+        },
+        Command::Reset => Entry::Reset,
         Command::Frame | Command::Undo | Command::Rewind { .. } => unreachable!(),
-    }
+    };
+    Ok(Some(entry))
 }
 
 /// The entry that writes a glyph to each place of an area.

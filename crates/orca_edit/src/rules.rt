@@ -36,15 +36,11 @@ fn names_outside(dims: Dims, command: &Command) -> bool
     ensures { result ≡ names_outside dims command.now }
 {
     match *command {
-        Command::Write { y, x, .. } => !holds(dims, y, x),
-        Command::Paste { y, x } => !holds(dims, y, x),
+        Command::Write { y, x, .. } | Command::Paste { y, x } => !holds(dims, y, x),
         Command::Move { rect, to_y, to_x } => {
             !holds(dims, rect.y, rect.x) || !holds(dims, to_y, to_x)
         }
-        _ => match named_rect(command) {
-            Some(rect) => !holds(dims, rect.y, rect.x),
-            None => false,
-        },
+        _ => named_rect(command).is_some_and(|rect| !holds(dims, rect.y, rect.x)),
     }
 }
 
@@ -53,11 +49,11 @@ fn named_rect(command: &Command) -> Option<Rect>
     ensures { result ≡ named_rect command.now }
 {
     match *command {
-        Command::Fill { rect, .. } => Some(rect),
-        Command::Erase { rect } => Some(rect),
-        Command::Copy { rect } => Some(rect),
-        Command::Cut { rect } => Some(rect),
-        Command::Move { rect, .. } => Some(rect),
+        Command::Fill { rect, .. }
+        | Command::Erase { rect }
+        | Command::Copy { rect }
+        | Command::Cut { rect }
+        | Command::Move { rect, .. } => Some(rect),
         _ => None,
     }
 }
@@ -66,10 +62,7 @@ fn named_rect(command: &Command) -> Option<Rect>
 fn names_empty_block(command: &Command) -> bool
     ensures { result ≡ names_empty_block command.now }
 {
-    match named_rect(command) {
-        Some(rect) => rect.h == 0 || rect.w == 0,
-        None => false,
-    }
+    named_rect(command).is_some_and(|rect| rect.h == 0 || rect.w == 0)
 }
 
 /// Whether the command asks for a grid with a side that is 0 or too long.
