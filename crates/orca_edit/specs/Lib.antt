@@ -1,3 +1,4 @@
-pub mod Pieces
-pub mod Obeying
 pub mod Editing
+pub mod Folding
+pub mod Obeying
+pub mod Pieces

@@ -1,5 +1,5 @@
 -- A session as a machine: what it does with a command, and when it refuses one.
-use Rattle.std.specs.Prelude.{ℕ, ◌+◌, ◌==◌, Bool, true, false, not, ◌&&◌, ◌||◌, nat_le, nat_lt, min, if◌then◌else◌, List, [], ◌∷◌, ◌++◌, length, take, Option, Some, None, is_none, Result, Ok, Err}
+use Rattle.std.specs.Prelude.{ℕ, ◌+◌, ◌==◌, Bool, true, false, not, ◌&&◌, ◌||◌, nat_le, min, if◌then◌else◌, List, [], ◌∷◌, ◌++◌, length, take, Option, Some, None, is_none, Result, Ok, Err}
 use Rattle.std.specs.List.{list_all}
 use Rattle.std.specs.Option.{option_map, option_map_or}
 use Rattle.orca_base.specs.declared.area.Area.{Area}
@@ -21,10 +21,10 @@ use Rattle.orca_base.specs.Glyphs.{empty}
 use Rattle.orca_base.specs.Grids.{Size, Sheet, is_inside}
 use Rattle.orca_base.specs.Histories.{last_edit}
 use Rattle.orca_notes.specs.Sound.{ends}
-use Rattle.orca_edit.specs.Pieces.{Piece, Outcome, apply, piece_after}
+use Rattle.orca_edit.specs.Pieces.{Piece, apply, piece_after}
 
--- a session: the opened grid, the seed, the most entries that its history may have, the history since the opened grid,
--- the clip, and how many entries the history had at the last close
+-- a session: the opened grid, the seed, the most entries that its history may have, the history
+-- since the opened grid, the clip, and how many entries the history had at the last close
 pub record MachineState : Type 0 where
   pub opened : Sheet
   pub seed : ℕ
@@ -35,7 +35,14 @@ pub record MachineState : Type 0 where
 
 -- a session with an opened grid
 abbrev pub machine_at_start : Sheet → ℕ → ℕ → MachineState
-machine_at_start sheet seed limit = record { opened = sheet; seed = seed; limit = limit; history = []; clip = None; closed = 0 }
+machine_at_start sheet seed limit = record {
+  opened = sheet;
+  seed = seed;
+  limit = limit;
+  history = [];
+  clip = None;
+  closed = 0;
+}
 
 -- the piece as it stands: the opened grid after the history
 abbrev pub piece_of : MachineState → Piece
@@ -75,11 +82,13 @@ names_outside d c = not (list_all (is_inside d) (named_places c))
 
 -- EmptyBlock: a side of the block that the command names is 0
 abbrev pub names_empty_block : Command → Bool
-names_empty_block c = option_map_or (λ rect. (rect.h == 0) || (rect.w == 0)) (named_rect c) false
+names_empty_block c =
+    option_map_or (λ rect. (rect.h == 0) || (rect.w == 0)) (named_rect c) false
 
 -- BadSize: a side of Resize is 0 or too long
 abbrev pub names_bad_size : Command → Bool
-names_bad_size (command.Resize h w) = not (nat_le 1 h && nat_le h MAX_ROWS && nat_le 1 w && nat_le w MAX_COLUMNS)
+names_bad_size (command.Resize h w) =
+    not (nat_le 1 h && nat_le h MAX_ROWS && nat_le 1 w && nat_le w MAX_COLUMNS)
 names_bad_size _ = false
 
 -- EmptyClip: a Paste, and nothing was copied or cut so far
@@ -121,7 +130,7 @@ abbrev pub first_standing : List Test → Option Rule
 first_standing [] = None
 first_standing (t ∷ ts) = if t.stands then Some t.rule else first_standing ts
 
--- the rules on a command's places and blocks, in their order
+-- the rules on the places, the block and the size that a command names, and on the clip, in order
 abbrev pub block_tests : Size → Option Sheet → Command → List Test
 block_tests d clip c =
     test OutOfGrid (names_outside d c)
@@ -130,7 +139,7 @@ block_tests d clip c =
     ∷ test EmptyClip (wants_clip clip c)
     ∷ []
 
--- the rules on the history, in their order
+-- the rules on the history, in order
 abbrev pub history_tests : ℕ → List Entry → Command → List Test
 history_tests limit history c =
     test NothingToUndo (undoes_nothing history c)
@@ -138,14 +147,16 @@ history_tests limit history c =
     ∷ test HistoryFull (has_no_room limit history c)
     ∷ []
 
--- the rule that refuses a command in a grid of this size with this clip, where its places and blocks do
+-- the rule that refuses a command for its places and its block, in a grid of this size and with
+-- this clip
 unfoldable pub block_rule : Size → Option Sheet → Command → Option Rule
 block_rule d clip c = first_standing (block_tests d clip c)
 
 -- the rule that refuses a command
 unfoldable pub rule_against : MachineState → Command → Option Rule
 rule_against m c =
-    first_standing (block_tests (piece_of m).sheet.dims m.clip c ++ history_tests m.limit m.history c)
+    first_standing
+    (block_tests (piece_of m).sheet.dims m.clip c ++ history_tests m.limit m.history c)
 
 -- the entry of a command in a grid of this size with this clip: a block is cut to the grid
 unfoldable pub entry_of : Size → Option Sheet → Command → Option Entry
@@ -156,7 +167,8 @@ entry_of d clip (command.Erase rect) = Some (entry.Fill (area_in d rect) empty)
 entry_of d clip (command.Copy rect) = None
 entry_of d clip (command.Cut rect) = Some (entry.Fill (area_in d rect) empty)
 entry_of d clip (command.Paste y x) = option_map (entry.Put (place y x)) clip
-entry_of d clip (command.Move rect to_y to_x) = Some (entry.Move (area_in d rect) (place to_y to_x))
+entry_of d clip (command.Move rect to_y to_x) =
+    Some (entry.Move (area_in d rect) (place to_y to_x))
 entry_of d clip (command.Resize h w) = Some (entry.Resize (record { h = h; w = w }))
 entry_of d clip command.Reset = Some entry.Reset
 entry_of d clip command.Undo = None
@@ -180,14 +192,17 @@ pub record Obeyed : Type 0 where
   pub messages : List Message
 
 -- a refused command changes nothing
-abbrev pub refused : MachineState → Rule → Obeyed
-refused m rule = record { answer = Err rule; machine = m; messages = [] }
+abbrev pub refuse : MachineState → Rule → Obeyed
+refuse m rule = record { answer = Err rule; machine = m; messages = [] }
 
 -- a jump keeps the first entries and ends every note
-unfoldable pub jumped : MachineState → ℕ → Obeyed
-jumped m moment = record {
+unfoldable pub jump : MachineState → ℕ → Obeyed
+jump m moment = record {
   answer = Ok (Jumped moment);
-  machine = record m { history = take moment m.history ++ entry.Hush ∷ []; closed = min m.closed (moment + 1) };
+  machine = record m {
+    history = take moment m.history ++ entry.Hush ∷ [];
+    closed = min m.closed (moment + 1);
+  };
   messages = ends (piece_of m).notes;
 }
 
@@ -197,29 +212,30 @@ reply_of command.Frame p = Framed p.tick
 reply_of _ p = Edited
 
 -- an entry is added, with its messages
-abbrev pub extended : MachineState → Command → Option Sheet → Entry → Obeyed
-extended m c clip e = record {
+abbrev pub extend : MachineState → Command → Option Sheet → Entry → Obeyed
+extend m c clip e = record {
   answer = Ok (reply_of c (piece_of m));
   machine = record m { history = m.history ++ e ∷ []; clip = clip };
   messages = (apply (piece_of m) e).messages;
 }
 
 -- a command without an entry of its own takes the clip alone
-abbrev pub done_with : MachineState → Command → Option Sheet → Option Entry → Obeyed
-done_with m c clip None = record { answer = Ok Copied; machine = record m { clip = clip }; messages = [] }
-done_with m c clip (Some e) = extended m c clip e
+abbrev pub carry_out : MachineState → Command → Option Sheet → Option Entry → Obeyed
+carry_out m c clip None =
+    record { answer = Ok Copied; machine = record m { clip = clip }; messages = [] }
+carry_out m c clip (Some e) = extend m c clip e
 
 -- what is done with a command against which no rule stands
-unfoldable pub accepted : MachineState → Command → Obeyed
-accepted m command.Undo = option_map_or (jumped m) (last_edit m.history) (refused m NothingToUndo)
-accepted m (command.Rewind moment) = jumped m moment
-accepted m c =
-    done_with m c (clip_after m.clip (piece_of m).sheet (taken_area (piece_of m).sheet.dims c))
+unfoldable pub accept : MachineState → Command → Obeyed
+accept m command.Undo = option_map_or (jump m) (last_edit m.history) (refuse m NothingToUndo)
+accept m (command.Rewind moment) = jump m moment
+accept m c =
+    carry_out m c (clip_after m.clip (piece_of m).sheet (taken_area (piece_of m).sheet.dims c))
     (entry_of (piece_of m).sheet.dims m.clip c)
 
 -- what a session does with a command
 unfoldable pub obey : MachineState → Command → Obeyed
-obey m c = option_map_or (refused m) (rule_against m c) (accepted m c)
+obey m c = option_map_or (refuse m) (rule_against m c) (accept m c)
 
 -- the session after a close: every note ends
 abbrev pub machine_closed : MachineState → MachineState

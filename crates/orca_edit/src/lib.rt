@@ -1,2 +1,21 @@
 //! Commands, and what they make of a grid.
+//!
+//! [`to_entry`] says what a command adds to a history and takes as the clip, or which rule refuses
+//! it. [`copy`] takes the clip, and [`apply`] does an entry on a board. The laws say what holds of
+//! the piece that a history leaves.
 #![tactic(auto)]
+
+mod applying;
+mod areas;
+mod copying;
+mod entries;
+mod laws;
+mod rules;
+
+pub use applying::apply;
+pub use copying::copy;
+pub use entries::{Edit, to_entry};
+pub use laws::{fit_law, fold_law, moment_law, notes_law, sheet_law, tick_law};
+
+#[cfg(test)]
+mod tests;
