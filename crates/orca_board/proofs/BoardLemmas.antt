@@ -1,7 +1,7 @@
 -- Lists for the largest grid, seen as those of a grid: what a place holds, one place changed, and the marked places.
 use Rattle.std.proofs.Common.{◌≡◌, ℕ, zero, suc, ◌+◌, ◌*◌, ◌/◌, ◌-◌, ◌%◌, ◌<◌, ◌≤◌, ◌==◌, Bool, true, false, ◌&&◌, List, [], length, get_or, replicate, refl, arith, ap, sym, ◌∙◌, subst, inl, inr}
 use Rattle.std.proofs.Math.ListN.{set}
-use Rattle.std.specs.Prelude.{Some, count_by, nat_lt, slice_index, if◌then◌else◌}
+use Rattle.std.specs.Prelude.{Some, nat_lt, slice_index, if◌then◌else◌}
 use Rattle.std.proofs.lemmas.Bool.{both_ways, cases_Bool, cases_lt, le-ltb, lt-ltb}
 use Rattle.std.proofs.lemmas.Bool.Decides.{eqb_tells}
 use Rattle.std.proofs.lemmas.Nat.Bits.{bit_at-zero}
@@ -12,11 +12,11 @@ use Rattle.orca_base.specs.declared.place.Place.{Place}
 use Rattle.orca_base.specs.declared.place.Spot.{Spot}
 use Rattle.orca_base.specs.Glyphs.{empty, is_operator}
 use Rattle.orca_base.specs.Grids.{Sheet, IsSheet, Size, IsSize, IsInside, by_place, cells_of, index_of, is_inside, is_place, largest, place_in, place_of}
-use Rattle.orca_base.specs.MarkSet.{MarkSet, all_marks, no_marks, is_marked}
+use Rattle.orca_base.specs.MarkSet.{MarkSet, all_marks, no_marks}
 use Rattle.orca_base.proofs.PlaceFacts.{inside-place_of, index_of-place_of, place_of-index_of, index-injective, inside-is_inside, index_of-below, index-apart, is_inside-inside, is_place-same}
-use Rattle.orca_base.proofs.SheetFacts.{index-by_place, length-by_place, list-by_place, set-by_place}
+use Rattle.orca_base.proofs.SheetFacts.{index-by_place, list-by_place, set-by_place}
 use Rattle.orca_marks.specs.Planes.{blank}
-use Rattle.orca_marks.proofs.PlaneLemmas.{length-blank, count-set, index-blank, count-blank}
+use Rattle.orca_marks.proofs.PlaneLemmas.{index-blank}
 use Rattle.orca_op.specs.Deeds.{Mark, after}
 use Rattle.orca_op.specs.Desk.{Desk, desk_after, desk_of_sheet, list_after}
 use Rattle.orca_op.specs.Live.{has_bit, is_live}
@@ -65,17 +65,6 @@ live-set bits new cells i glyph below whole live written n few =
       | inr other ↦ rw (other.0, get_or-set_other cells i n glyph 0 other.1) (live n few)
     ])
 
--- as many places of the grid are marked, after one was
-pub count-plane : (d : Size) (marks : List MarkSet) (at : Place) (m : MarkSet) → IsSize d → IsInside d at → length marks ≡ MAX_CELLS
-    → count_by is_marked marks ≡ count_by is_marked (by_place d (marks_in marks))
-    → count_by is_marked (set marks (index_of largest at) m) ≡ count_by is_marked (by_place d (marks_in (set marks (index_of largest at) m)))
-count-plane d marks at m size inside whole counted =
-    let here : IsInside largest at = inside-largest d at size inside in
-    let all = count-set marks (index_of largest at) m (omega (arith, index_of-below largest at here, whole)) in
-    let some = count-set (by_place d (marks_in marks)) (index_of d at) m (omega (arith, index_of-below d at inside, length-by_place d (marks_in marks))) in
-    let read : get_or (by_place d (marks_in marks)) (index_of d at) no_marks ≡ get_or marks (index_of largest at) no_marks = index-by_place d (marks_in marks) at no_marks inside in
-    rw (set-plane d marks at m no_marks size inside whole) (omega (arith, all, rw read at some, counted))
-
 -- the desk after marks in the grid
 pub marked-plane : (d : Desk) (plane : List MarkSet) (spot : Spot) (at : Place) (marks : MarkSet) → IsSize d.scan.dims → IsInside d.scan.dims at → place_in d.scan.dims spot ≡ Some at
     → d.scan.marks ≡ by_place d.scan.dims (marks_in plane) → length plane ≡ MAX_CELLS
@@ -97,13 +86,6 @@ blank-by_place d size =
     none zero i = refl
     none (suc n) zero = refl
     none (suc n) (suc i) = none n i
-
-count-none : (n : ℕ) → count_by is_marked (replicate n no_marks) ≡ 0
-count-none zero = refl
-count-none (suc n) = count-none n
-
-pub count-blank_marks : (d : Size) → count_by is_marked blank ≡ count_by is_marked (blank_marks d)
-count-blank_marks d = count-blank ∙ sym (count-none (cells_of d))
 
 and_false : (b : Bool) → (b && false) ≡ false
 and_false true = refl
@@ -212,13 +194,12 @@ outside-none d cells none at inside past = none (index_of largest at) (index_of-
 -- ---- a grid at the start of a frame
 
 pub keeps-of_sheet : (d : Desk) (g : Sheet) (known : List Change) (cells : List ℕ) (marks : List MarkSet) (bits : List ℕ) (room : ℕ) → IsSheet g → d ≡ desk_of_sheet g → known ≡ []
-    → length cells ≡ MAX_CELLS → marks ≡ blank → IsEmptyOutside g.dims cells → AreLive cells bits → MAX_EVENTS ≤ room → KeepsBoard d known cells marks bits room
-keeps-of_sheet d g known cells marks bits room sheet is none whole unmarked outside live roomy = rw (is, none, unmarked) (record {
+    → length cells ≡ MAX_CELLS → length marks ≡ MAX_CELLS → IsEmptyOutside g.dims cells → AreLive cells bits → MAX_EVENTS ≤ room → KeepsBoard d known cells marks bits room
+keeps-of_sheet d g known cells marks bits room sheet is none whole marks_whole outside live roomy = rw (is, none) (record {
   lists = lists-of_sheet (desk_of_sheet g) g [] sheet refl refl;
   whole = whole;
-  marks_whole = length-blank;
+  marks_whole = marks_whole;
   outside = outside;
   live = live;
-  counted = count-blank_marks g.dims;
   events_roomy = roomy;
 })

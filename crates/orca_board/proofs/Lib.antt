@@ -4,6 +4,7 @@ pub mod BlockLemmas
 pub mod BlockPlaces
 pub mod DeskLemmas
 mod ListingLemmas
+mod LargestLemmas
 mod LiveBitsLemmas
 mod SizeLemmas
 mod CutLemmas

@@ -88,7 +88,6 @@ keeps-revert e known cells new marks bits more room kept restored live same is l
       marks_whole = kept.marks_whole;
       outside = λ at inside past. restored.others at inside (unlisted at past (is_listed (places_of known) at) refl) ∙ kept.outside at inside past;
       live = live;
-      counted = kept.counted;
       events_roomy = kept.events_roomy;
     }
   where

@@ -22,7 +22,7 @@ use Rattle.orca_op.specs.Desk.{Desk, IsDesk, is_listed}
 use Rattle.orca_op.specs.State.{State, blank_marks, glyph_at, sheet_of}
 use Rattle.orca_board.specs.Board.{IsEmptyOutside, KeepsBoard, glyph_in, marks_in}
 use Rattle.orca_board.specs.Sizes.{is_size, with_sheet}
-use Rattle.orca_board.proofs.BoardLemmas.{blank-by_place, count-blank_marks, inside-largest}
+use Rattle.orca_board.proofs.BoardLemmas.{blank-by_place, inside-largest}
 
 -- ---- another size
 
@@ -117,7 +117,6 @@ keeps-resize d to known cells marks bits room more kept size other is cut listed
       marks_whole = length-blank;
       outside = λ at inside past. each at inside past (is_inside d.scan.dims at) refl;
       live = kept.live;
-      counted = count-blank_marks to;
       events_roomy = omega (arith, kept.events_roomy, grows);
     })
   where

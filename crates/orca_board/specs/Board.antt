@@ -1,11 +1,11 @@
 -- The desk that the parts of a board stand for, and what its parts keep.
-use Rattle.std.specs.Prelude.{ℕ, ◌≡◌, ◌≤◌, ◌<◌, false, List, length, count_by, slice_index, slice_index_or}
+use Rattle.std.specs.Prelude.{ℕ, ◌≡◌, ◌≤◌, ◌<◌, false, List, length, slice_index, slice_index_or}
 use Rattle.orca_base.specs.declared.change.Change.{Change}
 use Rattle.orca_base.specs.declared.limits.TheConstants.{MAX_CELLS, MAX_EVENTS}
 use Rattle.orca_base.specs.declared.place.Place.{Place}
 use Rattle.orca_base.specs.Glyphs.{empty, is_operator}
 use Rattle.orca_base.specs.Grids.{Size, by_place, sheet_by, index_of, is_inside, IsInside, largest}
-use Rattle.orca_base.specs.MarkSet.{MarkSet, no_marks, is_marked}
+use Rattle.orca_base.specs.MarkSet.{MarkSet, no_marks}
 use Rattle.orca_board.specs.declared.board.Board.TheInside.{Inside}
 use Rattle.orca_board.specs.Listing.{ListsChanges, places_of}
 use Rattle.orca_op.specs.Desk.{Desk}
@@ -40,12 +40,11 @@ abbrev pub AreLive : List ℕ → List ℕ → Type 0
 AreLive cells bits = (n : ℕ) → n < MAX_CELLS → has_bit bits n ≡ is_operator (slice_index cells n)
 
 -- the parts are a desk with its changes; a cell outside the grid is empty; a bit is set exactly where
--- a cell holds an operator; as many places are marked as places of the grid; and there is room for every event
+-- a cell holds an operator; and there is room for every event
 pub record KeepsBoard (d : Desk) (known : List Change) (cells : List ℕ) (marks : List MarkSet) (bits : List ℕ) (room : ℕ) : Type 0 where
   pub lists : ListsChanges d known
   pub whole : length cells ≡ MAX_CELLS
   pub marks_whole : length marks ≡ MAX_CELLS
   pub outside : IsEmptyOutside d.scan.dims cells
   pub live : AreLive cells bits
-  pub counted : count_by is_marked marks ≡ count_by is_marked d.scan.marks
   pub events_roomy : MAX_EVENTS ≤ room

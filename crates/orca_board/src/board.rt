@@ -1,4 +1,4 @@
-ghost use Rattle.std.specs.Prelude.{ℕ, All, true, ◌≤◌, ◌≡◌, ◌+◌, ◌*◌, ◌<◌, false, length, slice_index, IfOk};
+ghost use Rattle.std.specs.Prelude.{ℕ, All, true, ◌≤◌, ◌≡◌, ◌+◌, ◌*◌, ◌<◌, false, length, count_by, slice_index, slice_set, IfOk};
 ghost use Rattle.orca_base.specs.Areas.{IsArea};
 ghost use Rattle.orca_base.specs.Edits.{sheet_after_fill, sheet_after_put, sheet_after_move, sheet_after_resize};
 ghost use Rattle.orca_base.specs.Grids.{IsInside, IsSize, by_place, cells_of, is_inside, largest};
@@ -6,9 +6,10 @@ ghost use Rattle.orca_base.specs.declared.place.Place.{Place};
 ghost use Rattle.orca_board.specs.Listing.{places_of};
 ghost use Rattle.orca_board.specs.Sizes.{cut_places, desk_after_resize, desk_reverted, whole, with_sheet};
 ghost use Rattle.orca_board.specs.Blocks.{IsInLargest, desk_after_edit, fill_places, put_places, shift_places};
-ghost use Rattle.orca_base.specs.Glyphs.{AreGlyphs, empty};
+ghost use Rattle.orca_base.specs.Glyphs.{AreGlyphs, IsGlyph, empty};
+ghost use Rattle.orca_base.specs.MarkSet.{is_marked};
 ghost use Rattle.orca_base.specs.declared.limits.TheConstants.{MAX_CELLS};
-ghost use Rattle.orca_board.specs.Board.{AreLive, IsEmptyOutside, glyph_in};
+ghost use Rattle.orca_board.specs.Board.{AreLive, IsEmptyOutside, glyph_in, marks_in};
 ghost use Rattle.orca_op.specs.Live.{has_bit};
 ghost use Rattle.orca_op.specs.Desk.{changes_of, desk_of_sheet, is_listed};
 ghost use Rattle.orca_op.specs.State.{glyph_at, sheet_of};
@@ -298,6 +299,35 @@ fn restore<L: Ledger>(
     }
 }
 
+/// Writes a glyph where another stands, by the number of the place in the largest grid.
+fn renew(cells: &mut [Glyph], live: &mut LiveBits, i: usize, old: Glyph, glyph: Glyph)
+    requires whole { length cells.old ≡ MAX_CELLS }
+    requires number { i < MAX_CELLS }
+    requires old { slice_index cells.old i ≡ old }
+    requires live { AreLive cells.old live.old }
+    ensures cells { cells.new ≡ slice_set cells.old i glyph }
+    ensures glyph { IsGlyph glyph }
+    ensures live { AreLive cells.new live.new }
+{
+    // By its byte a contract sees that it is a glyph.
+    let _byte = glyph.byte();
+    if glyph != old {
+        glyph.put(cells, i);
+        live.set(i, glyph.is_operator());
+    }
+}
+
+/// Ticks once for each place of a grid that is marked.
+fn tick_marked<L: Ledger>(marks: &MarkPlane, dims: Dims, steps: &mut Steps<L>)
+    ensures { steps.new ≡ steps.old + count_by is_marked (by_place dims (marks_in marks.now)) }
+{
+    for n in 0..dims.cells() {
+        if !marks.at(dims.place(n)).is_empty() {
+            steps.tick();
+        }
+    }
+}
+
 /// Ticks so many times.
 fn tick_times<L: Ledger>(times: usize, steps: &mut Steps<L>)
     ensures { steps.new ≡ steps.old + times }
@@ -317,8 +347,10 @@ impl Bench for Board {
     #[tactic(auto, unfolding(orca_op::specs::State::peek))]
     fn peek<L: Ledger>(&self, at: Spot, steps: &mut Steps<L>) -> Glyph {
         steps.tick();
-        match self.dims.holds(at) {
-            Some(place) => self.cells[Dims::largest().index(place)],
+        // Outside the grid each cell is empty.
+        let most = Dims::largest();
+        match most.holds(at) {
+            Some(place) => self.cells[most.index(place)],
             None => Glyph::EMPTY,
         }
     }
@@ -328,16 +360,17 @@ impl Bench for Board {
         steps.tick();
         if let Some(place) = self.dims.holds(at) {
             let i = Dims::largest().index(place);
-            self.listing.add(place, self.cells[i]);
-            glyph.put(&mut self.cells, i);
-            self.live.set(i, glyph.is_operator());
+            let old = self.cells[i];
+            self.listing.add(place, old);
+            renew(&mut self.cells, &mut self.live, i, old, glyph);
         }
     }
 
     #[tactic(auto, unfolding(orca_op::specs::Deeds::after, orca_op::specs::Desk::list_after))]
     fn mark<L: Ledger>(&mut self, at: Spot, marks: Marks, steps: &mut Steps<L>) {
         steps.tick();
-        if let Some(place) = self.dims.holds(at) {
+        // Marks outside the grid are never looked at.
+        if let Some(place) = Dims::largest().holds(at) {
             self.marks.add(place, marks);
         }
     }
@@ -371,14 +404,15 @@ impl Bench for Board {
 
     #[tactic(auto, unfolding(orca_op::specs::Desk::residue))]
     fn begin<L: Ledger>(&mut self, steps: &mut Steps<L>) {
+        let dims = self.dims;
         steps.tick();
-        tick_times(self.marks.count() as usize, steps);
+        tick_marked(&self.marks, dims, steps);
         tick_times(self.listing.changes().len(), steps);
-        self.marks.clear();
+        self.marks.clear_rows(dims.h);
         self.vars.fill(Glyph::EMPTY);
         self.events.clear();
         self.before = Snapshot::of(&self.cells);
-        self.listing.begin(self.dims);
+        self.listing.begin(dims);
     }
 }
 

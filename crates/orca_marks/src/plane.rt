@@ -1,24 +1,27 @@
-ghost use Rattle.std.specs.Prelude.{◌≡◌, ◌≤◌, ◌<◌, ℕ, length, replicate, slice_set, slice_index_or, count_by, All, if◌then◌else◌, IfOk};
-ghost use Rattle.orca_base.specs.declared.limits.TheConstants.{MAX_CELLS};
+ghost use Rattle.std.specs.Prelude.{◌≡◌, ◌≤◌, ◌<◌, ◌+◌, ◌*◌, ◌/◌, ◌==◌, ◌&&◌, ℕ, length, map, nat_le, nat_lt, slice_set, slice_index_or, count_by, if◌then◌else◌, IfOk};
+ghost use Rattle.orca_base.specs.declared.limits.TheConstants.{MAX_CELLS, MAX_COLUMNS, MAX_ROWS};
 ghost use Rattle.orca_base.specs.Grids.{IsInside, largest, index_of};
 ghost use Rattle.orca_base.specs.MarkSet.{MarkSet, no_marks, all_marks, is_marked};
-ghost use Rattle.orca_marks.specs.Planes.{is_in, blank};
+ghost use Rattle.orca_marks.specs.Planes.{blank};
 
-use orca_base::limits::MAX_CELLS;
+use orca_base::limits::{MAX_CELLS, MAX_COLUMNS, MAX_ROWS};
 use orca_base::{Dims, Marks, Memory, Place};
 use std::alloc::Global;
 use std::marker::Model;
+
+/// The rows of the largest grid.
+const ROWS: usize = MAX_ROWS as usize;
 
 /// The marks of the places of the largest grid. A contract sees them in reading order.
 #[derive(Drop)]
 pub struct MarkPlane {
     marks: Vec<Marks>,
-    /// The numbers of the marked places, each once.
-    marked: Vec<u32>,
+    /// Which rows were marked since they were last cleared.
+    touched: [bool; ROWS],
 }
 
 impl Model for MarkPlane {
-    ghost use Rattle.std.specs.Prelude.{List, vec_capacity};
+    ghost use Rattle.std.specs.Prelude.{List};
     ghost use Rattle.orca_base.specs.MarkSet.{MarkSet};
     ghost use Rattle.orca_marks.specs.Planes.{IsPlane};
 
@@ -26,7 +29,7 @@ impl Model for MarkPlane {
 
     ghost view = { λ p. p.marks.items };
 
-    ghost invariant = { λ p. IsPlane p.marks.items p.marked.items (vec_capacity p.marked) };
+    ghost invariant = { λ p. IsPlane p.marks.items p.touched };
 }
 
 impl MarkPlane {
@@ -38,7 +41,7 @@ impl MarkPlane {
         marks.resize(MAX_CELLS, Marks::none())?;
         Ok(MarkPlane {
             marks,
-            marked: Vec::with_capacity(alloc, MAX_CELLS)?,
+            touched: [false; ROWS],
         })
     }
 
@@ -49,12 +52,24 @@ impl MarkPlane {
             (all_marks (slice_index_or self.old (index_of largest at) no_marks) marks) }
     {
         let index = Dims::largest().index(at);
-        let before = self.marks[index];
-        let after = before.union(marks);
-        self.marks[index] = after;
-        if before.is_empty() && !after.is_empty() {
-            self.marked.push_reserved(index as u32);
-        }
+        self.touched[usize::from(at.y)] = true;
+        self.marks[index] = self.marks[index].union(marks);
+    }
+
+    /// Adds marks to `count` places of a row of the largest grid, the first of which is `at`.
+    pub fn add_run(&mut self, at: Place, count: u16, marks: Marks)
+        requires inside { IsInside largest at }
+        requires fits { at.x + count ≤ MAX_COLUMNS }
+        ensures size { length self.new ≡ MAX_CELLS }
+        ensures marks { (i : ℕ) → slice_index_or self.new i no_marks
+            ≡ (if nat_le (index_of largest at) i && nat_lt i (index_of largest at + count)
+            then all_marks (slice_index_or self.old i no_marks) marks
+            else slice_index_or self.old i no_marks) }
+    {
+        let first = Dims::largest().index(at);
+        let row = usize::from(at.y);
+        self.touched[row] = true;
+        add_from(&mut self.marks, first, usize::from(count), marks);
     }
 
     /// The marks of a place of the largest grid.
@@ -65,32 +80,81 @@ impl MarkPlane {
         self.marks[Dims::largest().index(at)]
     }
 
+    /// The marks of a place of the largest grid, by its number.
+    pub fn numbered(&self, number: usize) -> Marks
+        requires { number < MAX_CELLS }
+        ensures { result ≡ slice_index_or self.now number no_marks }
+    {
+        self.marks[number]
+    }
+
     /// How many places are marked.
     pub fn count(&self) -> u32
         ensures count { result ≡ count_by is_marked self.now }
         ensures most { result ≤ MAX_CELLS }
     {
-        self.marked.len() as u32
+        self.marks.iter().filter(|place| !place.is_empty()).count() as u32
     }
 
-    /// No marks any more. It goes over the marked places alone.
+    /// No marks any more. It goes over the rows that were marked alone.
     pub fn clear(&mut self)
         ensures { self.new ≡ blank }
     {
-        clear_each(&mut self.marks, &self.marked);
-        self.marked.clear();
+        self.clear_rows(MAX_ROWS);
+    }
+
+    /// Takes the marks of the first rows of the largest grid away.
+    pub fn clear_rows(&mut self, rows: u16)
+        requires { rows ≤ MAX_ROWS }
+        ensures size { length self.new ≡ MAX_CELLS }
+        ensures marks { (i : ℕ) → slice_index_or self.new i no_marks
+            ≡ (if nat_lt i (rows * MAX_COLUMNS) then no_marks else slice_index_or self.old i no_marks) }
+    {
+        let _marks = &self.marks;
+        for row in 0..rows {
+            self.clear_row(row);
+        }
+    }
+
+    /// Takes the marks of a row away.
+    fn clear_row(&mut self, row: u16)
+        requires { row < MAX_ROWS }
+        ensures size { length self.new ≡ MAX_CELLS }
+        ensures marks { (i : ℕ) → slice_index_or self.new i no_marks
+            ≡ (if i / MAX_COLUMNS == row then no_marks else slice_index_or self.old i no_marks) }
+    {
+        let row = usize::from(row);
+        if self.touched[row] {
+            self.touched[row] = false;
+            let columns = usize::from(MAX_COLUMNS);
+            clear_from(&mut self.marks, row * columns, columns);
+        }
     }
 }
 
-/// Takes the marks of these places away, and of no others.
-fn clear_each(marks: &mut [Marks], marked: &[u32])
-    requires inside { All (λ i. i < MAX_CELLS) marked.now }
-    requires size { length marks.old ≡ MAX_CELLS }
-    ensures size { length marks.new ≡ MAX_CELLS }
-    ensures marks { (i : ℕ) → slice_index_or marks.new i no_marks
-        ≡ (if is_in marked.now i then no_marks else slice_index_or marks.old i no_marks) }
+/// Adds marks to `count` places, counted up from `first`.
+fn add_from(places: &mut [Marks], first: usize, count: usize, marks: Marks)
+    requires { first + count ≤ length places.old }
+    ensures size { length places.new ≡ length places.old }
+    ensures marks { (i : ℕ) → slice_index_or places.new i no_marks
+        ≡ (if nat_le first i && nat_lt i (first + count)
+        then all_marks (slice_index_or places.old i no_marks) marks
+        else slice_index_or places.old i no_marks) }
 {
-    for index in marked {
-        marks[*index as usize] = Marks::none();
+    for i in first..first + count {
+        places[i] = places[i].union(marks);
+    }
+}
+
+/// Takes the marks of `count` places away, counted up from `first`.
+fn clear_from(places: &mut [Marks], first: usize, count: usize)
+    requires { first + count ≤ length places.old }
+    ensures size { length places.new ≡ length places.old }
+    ensures marks { (i : ℕ) → slice_index_or places.new i no_marks
+        ≡ (if nat_le first i && nat_lt i (first + count) then no_marks
+        else slice_index_or places.old i no_marks) }
+{
+    for i in first..first + count {
+        places[i] = Marks::none();
     }
 }

@@ -16,6 +16,11 @@ fn marks_are_added_and_cleared(rt: HostRuntime) -> Result<(), Memory> {
     assert_eq!(rt; plane.count(), 1);
     assert_eq!(rt; plane.at(corner), lock.with(Mark::Sleep));
     assert_eq!(rt; plane.at(Place { y: 255, x: 254 }), Marks::none());
+    plane.add_run(Place { y: 1, x: 254 }, 2, sleep);
+    assert_eq!(rt; plane.count(), 3);
+    assert_eq!(rt; plane.numbered(511), sleep);
+    plane.clear_rows(2);
+    assert_eq!(rt; plane.count(), 1);
     plane.clear();
     assert_eq!(rt; plane.count(), 0);
     assert_eq!(rt; plane.at(corner), Marks::none());

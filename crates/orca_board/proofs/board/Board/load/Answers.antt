@@ -1,6 +1,7 @@
 use Rattle.std.proofs.Common.{◌≡◌, ◌++◌, ℕ, List, length, take, drop, arith, rules, ap, refl, sym, ◌∙◌}
 use Rattle.orca_base.specs.Grids.{Sheet, IsSheet, sheet_by}
 use Rattle.orca_base.proofs.ListFacts.{put_over}
+use Rattle.orca_marks.proofs.PlaneLemmas.{length-blank}
 use Rattle.orca_board.specs.Listing.{Listed, places_of}
 use Rattle.orca_board.specs.Board.{glyph_in}
 use Rattle.orca_board.proofs.BoardLemmas.{blank-by_place, keeps-of_sheet}
@@ -19,7 +20,7 @@ invariant_of-self over c =
     rw laid (keeps-of_sheet _ g _ _ _ _ _ sheet
     (started _ g refl c.lay.ensures.inside (rw c.clear.ensures (blank-by_place c.args.dims c.cells-2.ensures.size)) (search rules) c.clear-2.ensures.items
     (rw (c.begin.ensures, c.of.ensures, laid) filled) (ap (λ (l : Listed). places_of l.changes) c.begin.ensures))
-    (ap (λ (l : Listed). l.changes) c.begin.ensures) c.lay.ensures.whole c.clear.ensures c.lay.ensures.outside c.lay.ensures.live
+    (ap (λ (l : Listed). l.changes) c.begin.ensures) c.lay.ensures.whole (rw c.clear.ensures length-blank) c.lay.ensures.outside c.lay.ensures.live
     (omega (arith, c.clear-2.ensures.capacity, c.self.invariant.events_roomy)))
 
 pub returns-clause-desk : goal.returns-clause-desk

@@ -4,6 +4,7 @@ use Rattle.orca_base.specs.declared.limits.TheConstants.{MAX_CELLS}
 use Rattle.orca_base.specs.Glyphs.{empty}
 use Rattle.orca_base.specs.Grids.{Sheet, by_place, sheet_by}
 use Rattle.orca_base.proofs.ListFacts.{put_over, resized}
+use Rattle.orca_marks.proofs.PlaneLemmas.{length-blank}
 use Rattle.orca_board.specs.Listing.{Listed, places_of}
 use Rattle.orca_board.specs.Board.{glyph_in}
 use Rattle.orca_board.proofs.BoardLemmas.{blank-by_place, keeps-of_sheet}
@@ -26,7 +27,7 @@ invariant_of-result-2 c =
     rw laid (keeps-of_sheet _ g _ _ _ _ _ c.dims-dims.ensures.whole
     (started _ g c.dims-dims.ensures.size (rw c.dims-dims.ensures.size inside) (rw (c.dims-dims.ensures.size, c.in_ok-start.ensures) (blank-by_place g.dims c.dims-dims.ensures.whole.size)) (search rules) c.in_ok-with_capacity.ensures.items
     (rw (c.in_ok-start-2.ensures, c.of-before.ensures, laid, c.dims-dims.ensures.size) filled) (ap (λ (l : Listed). places_of l.changes) c.in_ok-start-2.ensures))
-    (ap (λ (l : Listed). l.changes) c.in_ok-start-2.ensures) c.lay.ensures.whole c.in_ok-start.ensures (rw (← c.dims-dims.ensures.size) c.lay.ensures.outside)
+    (ap (λ (l : Listed). l.changes) c.in_ok-start-2.ensures) c.lay.ensures.whole (rw c.in_ok-start.ensures length-blank) (rw (← c.dims-dims.ensures.size) c.lay.ensures.outside)
     (rw c.live.view_is c.lay.ensures.live) (omega (arith, c.in_ok-with_capacity.ensures.capacity)))
 
 pub returns : goal.returns

@@ -1,9 +1,15 @@
-use Rattle.orca_board.proofs.BoardLemmas.{read-cell}
+use Rattle.std.proofs.Common.{refl, sym, ◌∙◌}
+use Rattle.orca_board.specs.Board.{desk_of}
+use Rattle.orca_board.proofs.LargestLemmas.{peek-none, peek-some}
 use Rattle.orca_board.proofs.board.BoardBench.peek.Goals as goal
 
 pub returns-in-Some-clause-glyph : goal.returns-in-Some-clause-glyph
-unfolding Rattle.orca_op.specs.State.peek
 returns-in-Some-clause-glyph g c =
-    rw (← c.self.view_is, ← c.in-Some.ensures.place)
-    (read-cell c.self.inside.dims c.largest.result c.self.inside.cells.items c.in-Some.place c.index.result c.index-in-Some.result.now c.in-Some.ensures.inside
-    c.largest.ensures c.index.ensures.index c.index.ensures.most c.self.invariant.whole c.index-in-Some.ensures)
+    rw (← c.self.view_is)
+    (peek-some (desk_of c.self.inside).scan _ c.self.inside.cells.items _ _ _ _ c.self.invariant.lists.desk.state.sheet.size refl c.self.invariant.outside
+    c.largest-most.ensures c.in-Some.ensures.place c.in-Some.ensures.inside c.index.ensures.index c.index.ensures.most c.self.invariant.whole c.index-in-Some.ensures)
+
+pub returns-in-None-clause-glyph : goal.returns-in-None-clause-glyph
+returns-in-None-clause-glyph g c =
+    rw (← c.self.view_is)
+    (peek-none (desk_of c.self.inside).scan _ _ c.self.invariant.lists.desk.state.sheet.size c.largest-most.ensures (sym c.in-None.is ∙ c.holds.ensures.place))

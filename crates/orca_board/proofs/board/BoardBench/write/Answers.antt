@@ -6,25 +6,24 @@ use Rattle.orca_base.proofs.ListFacts.{put_over}
 use Rattle.orca_op.specs.State.{glyph_at}
 use Rattle.orca_board.specs.Listing.{changes_with}
 use Rattle.orca_board.specs.Board.{desk_of}
-use Rattle.orca_board.proofs.BoardLemmas.{live-set, read-cell, set-outside, set-plane}
+use Rattle.orca_board.proofs.BoardLemmas.{read-cell, set-outside, set-plane}
 use Rattle.orca_board.proofs.DeskLemmas.{lists-write, written}
 use Rattle.orca_board.proofs.ListingLemmas.{places-changes_with}
 use Rattle.orca_board.proofs.board.BoardBench.write.Goals as goal
-use Rattle.orca_board.proofs.board.BoardBench.write.Goals.{After-set}
 
 pub invariant_of-self : goal.invariant_of-self
 invariant_of-self g c =
     let number : c.index-i.result ≡ index_of largest c.in-Some.place = c.index-i.ensures.index ∙ ap (λ (d : Size). index_of d c.in-Some.place) c.largest.ensures in
-    let cells : take c.self.inside.cells.len (c.put.new.into ++ drop (length c.put.new.into) c.self.inside.cells.items) ≡ set c.self.inside.cells.items (index_of largest c.in-Some.place) c.args.glyph =
-    rw (c.put.ensures.put, c.deref_mut.ensures.value, number)
+    let cells : take c.self.inside.cells.len (c.renew.new.cells ++ drop (length c.renew.new.cells) c.self.inside.cells.items) ≡ set c.self.inside.cells.items (index_of largest c.in-Some.place) c.args.glyph =
+    rw (c.renew.ensures.cells, c.deref_mut.ensures.value, number)
     (put_over (set c.self.inside.cells.items (index_of largest c.in-Some.place) c.args.glyph) c.self.inside.cells.items c.self.inside.cells.len (length-set c.self.inside.cells.items _ _) (omega (arith, c.self.inside.cells.ok.0))) in
-    let there : c.index.result.now ≡ glyph_at (desk_of c.self.inside).scan c.in-Some.place =
-    read-cell c.self.inside.dims c.largest.result c.self.inside.cells.items c.in-Some.place c.index-i.result c.index.result.now c.in-Some.ensures.inside
-    c.largest.ensures c.index-i.ensures.index c.index-i.ensures.most c.self.invariant.whole c.index.ensures in
+    let there : c.index-old.result.now ≡ glyph_at (desk_of c.self.inside).scan c.in-Some.place =
+    read-cell c.self.inside.dims c.largest.result c.self.inside.cells.items c.in-Some.place c.index-i.result c.index-old.result.now c.in-Some.ensures.inside
+    c.largest.ensures c.index-i.ensures.index c.index-i.ensures.most c.self.invariant.whole c.index-old.ensures in
     let planes = set-plane c.self.inside.dims c.self.inside.cells.items c.in-Some.place c.args.glyph 0 c.self.invariant.lists.desk.state.sheet.size c.in-Some.ensures.inside c.self.invariant.whole in
     rw cells (record {
       lists = lists-write (desk_of c.self.inside) _ c.args.at c.in-Some.place c.args.glyph c.self.inside.listing.changes _ c.self.invariant.lists
-          c.in-Some.ensures.inside (sym c.in-Some.ensures.place) c.put.ensures.glyph
+          c.in-Some.ensures.inside (sym c.in-Some.ensures.place) c.renew.ensures.glyph
           (written (desk_of c.self.inside) _ c.args.at c.in-Some.place c.args.glyph (sym c.in-Some.ensures.place)
           (ap (λ (cells : List ℕ). record (desk_of c.self.inside).scan { cells = cells }) planes) (rw c.add.ensures refl) (rw c.add.ensures (places-changes_with _ _ c.in-Some.place _)))
           refl (rw c.add.ensures (ap (changes_with _ _ c.in-Some.place) there));
@@ -33,17 +32,15 @@ invariant_of-self g c =
       outside = λ q inside_q out.
           set-outside c.self.inside.dims c.self.inside.cells.items c.in-Some.place q c.args.glyph 0 c.self.invariant.lists.desk.state.sheet.size c.in-Some.ensures.inside inside_q out
           ∙ c.self.invariant.outside q inside_q out;
-      live = live-set c.self.inside.live c.set.new.self c.self.inside.cells.items (index_of largest c.in-Some.place) c.args.glyph (omega (arith, c.index-i.ensures.most, number, c.self.invariant.whole))
-          c.self.invariant.whole c.self.invariant.live (rw (number, c.is_operator.ensures) at c.set.ensures);
-      counted = c.self.invariant.counted;
+      live = rw (c.renew.ensures.cells, c.deref_mut.ensures.value, number) at c.renew.ensures.live;
       events_roomy = c.self.invariant.events_roomy;
     })
 
 pub returns-in-Some-clause-deed : goal.returns-in-Some-clause-deed
 returns-in-Some-clause-deed g c =
     let number : c.index-i.result ≡ index_of largest c.in-Some.place = c.index-i.ensures.index ∙ ap (λ (d : Size). index_of d c.in-Some.place) c.largest.ensures in
-    let cells : take c.self.inside.cells.len (c.put.new.into ++ drop (length c.put.new.into) c.self.inside.cells.items) ≡ set c.self.inside.cells.items (index_of largest c.in-Some.place) c.args.glyph =
-    rw (c.put.ensures.put, c.deref_mut.ensures.value, number)
+    let cells : take c.self.inside.cells.len (c.renew.new.cells ++ drop (length c.renew.new.cells) c.self.inside.cells.items) ≡ set c.self.inside.cells.items (index_of largest c.in-Some.place) c.args.glyph =
+    rw (c.renew.ensures.cells, c.deref_mut.ensures.value, number)
     (put_over (set c.self.inside.cells.items (index_of largest c.in-Some.place) c.args.glyph) c.self.inside.cells.items c.self.inside.cells.len (length-set c.self.inside.cells.items _ _) (omega (arith, c.self.inside.cells.ok.0))) in
     let planes = set-plane c.self.inside.dims c.self.inside.cells.items c.in-Some.place c.args.glyph 0 c.self.invariant.lists.desk.state.sheet.size c.in-Some.ensures.inside c.self.invariant.whole in
     rw (← c.self.view_is, cells)
