@@ -1,0 +1,8 @@
+pub mod Checking
+pub mod CuesLeft
+pub mod Drawing
+pub mod LineCounts
+pub mod Printed
+pub mod Turning
+pub mod Words
+mod WorkedCues

@@ -1,0 +1,5 @@
+pub mod Cues
+pub mod Made
+pub mod Readable
+pub mod Scripts
+pub mod TurnsLeft
