@@ -1,4 +1,5 @@
 pub mod Editing
 pub mod Folding
+pub mod Machines
 pub mod Obeying
 pub mod Pieces

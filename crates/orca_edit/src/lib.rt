@@ -2,7 +2,7 @@
 //!
 //! [`to_entry`] says what a command adds to a history and takes as the clip, or which rule refuses
 //! it. [`copy`] takes the clip, and [`apply`] does an entry on a board. The laws say what holds of
-//! the piece that a history leaves.
+//! the piece that a history leaves. A session is a [`Machine`] to those above it.
 #![tactic(auto)]
 
 mod applying;
@@ -10,12 +10,15 @@ mod areas;
 mod copying;
 mod entries;
 mod laws;
+mod machine;
 mod rules;
 
 pub use applying::apply;
 pub use copying::copy;
 pub use entries::{Edit, to_entry};
 pub use laws::{fit_law, fold_law, moment_law, notes_law, sheet_law, tick_law};
+pub use machine::Machine;
+pub use rules::block_rule;
 
 #[cfg(test)]
 mod tests;

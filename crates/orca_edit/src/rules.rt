@@ -12,7 +12,7 @@ use orca_base::{Block, Command, Dims, Rect, Rule};
 /// The first rule that stands against the command, of those on its places, its block, its size and
 /// the clip, in the order of [`Rule`].
 #[tactic(auto, unfolding(crate::specs::Obeying::block_rule))]
-pub(crate) fn block_rule(command: &Command, dims: Dims, clip: Option<&Block>) -> Option<Rule>
+pub fn block_rule(command: &Command, dims: Dims, clip: Option<&Block>) -> Option<Rule>
     ensures rule { result ≡ block_rule dims (option_copied clip.entry) command.now }
     ensures allowed { IfNone result (IsAllowed dims (option_copied clip.entry) command.now) }
 {

@@ -1,0 +1,68 @@
+ghost use Rattle.std.specs.Prelude.{◌≡◌, ℕ, List, [], length};
+ghost use Rattle.orca_base.specs.declared.note.Note.{Note};
+ghost use Rattle.orca_edit.specs.Machines.{Acts, Closes, preview_of};
+ghost use Rattle.orca_edit.specs.Obeying.{MachineState, piece_of};
+
+use orca_base::{Command, Fault, Look, Note, Reply, Steps};
+use orca_notes::Messages;
+use std::sync::ledger::Ledger;
+
+/// A session as those above it see it: a machine that obeys commands, and that can be looked at.
+pub trait Machine: Look {
+    /// The machine that it means: the opened grid, the history, the clip, and the last close.
+    ghost machine: { Self → MachineState };
+
+    /// The most entries that its history has had.
+    ghost peak: { Self → ℕ };
+
+    /// Does what a command asks for, and gives the messages of it.
+    ///
+    /// [`Fault::Refused`] names the first rule that stands against the command. [`Fault::Memory`] if
+    /// memory is refused; never for `Undo` and `Rewind`. After either the machine is as before, and
+    /// there is no message.
+    fn act<L: Ledger>(
+        &mut self,
+        command: &Command,
+        messages: &mut Messages,
+        steps: &mut Steps<L>,
+    ) -> Result<Reply, Fault>
+        requires { messages.old ≡ [] }
+        ensures { Acts (machine self.old) command.now result (machine self.new) messages.new };
+
+    /// Ends all notes that sound, and gives the messages of it. The history stays.
+    fn close(&mut self, messages: &mut Messages)
+        requires { messages.old ≡ [] }
+        ensures closes { Closes (machine self.old) (machine self.new) messages.new }
+        ensures peak { peak self.new ≡ peak self.old };
+
+    /// Leaves the marks of a scan of the piece as it stands, to be seen until the next call that
+    /// takes the machine by `&mut`. All else is as before.
+    fn preview_marks<L: Ledger>(&mut self, steps: &mut Steps<L>)
+        ensures machine { machine self.new ≡ machine self.old }
+        ensures peak { peak self.new ≡ peak self.old }
+        ensures marks { Self.marks self.new ≡ preview_of (piece_of (machine self.old)) };
+
+    /// The tick of the next frame.
+    fn tick(&self) -> u32
+        ensures { result ≡ (piece_of (machine self.now)).tick };
+
+    /// The notes that sound, in the order in which they started.
+    fn notes(&self) -> &[Note]
+        ensures { result.now ≡ (piece_of (machine self.now)).notes };
+
+    /// The number of entries of the history, at most the limit.
+    fn moments(&self) -> u32
+        ensures { result ≡ length (machine self.now).history };
+
+    /// The most entries that the history has had.
+    fn peak(&self) -> u32
+        ensures { result ≡ peak self.now };
+
+    /// What is looked at is the grid of the piece as it stands.
+    ghost shown: { (m : Self) → Self.sheet m ≡ (piece_of (machine m)).sheet };
+
+    /// What is looked at is the grid of the piece as it stands.
+    final fn is_shown(&self)
+        ensures { Self.sheet self.now ≡ (piece_of (machine self.now)).sheet }
+    {}
+}
