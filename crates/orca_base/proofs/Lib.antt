@@ -5,3 +5,4 @@ pub mod MarkLemmas
 pub mod NumberLemmas
 pub mod PlaceFacts
 pub mod SheetFacts
+mod WorkedLimits

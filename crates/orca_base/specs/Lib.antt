@@ -10,6 +10,7 @@ pub mod Inline
 pub mod MarkBits
 pub mod MarkSet
 pub mod MidiBytes
+pub mod MidiLimits
 pub mod Numbers
 pub mod Ports
 pub mod Ranges

@@ -1,0 +1,104 @@
+-- The limits with their numbers, so that none changes unseen. What the reaches and the ranges of MIDI are for
+-- is said by the laws of src/laws.rt.
+use Rattle.std.specs.Prelude.{◌≡◌, ◌+◌, ◌^◌, max, refl}
+use Rattle.orca_base.specs.declared.limits.TheConstants.{MAX_ROWS, MAX_COLUMNS, BASE, MAX_OCTAVE, MIN_VELOCITY, MAX_TEXT, MAX_VALUES, JUMP_REACH, COMMENT_REACH, MAX_DEEDS, MAX_TICKS, MAX_VISIT_TICKS, MAX_EVENTS, MAX_NOTES, MAX_MESSAGES, MAX_DIGITS, DEFAULT_SEED, MAX_FILE_BYTES, MAX_HISTORY, DEFAULT_HISTORY, KEPT_PATCHES, BACK_MOMENTS, MIN_SCREEN_ROWS, MAX_SCREEN_ROWS, MIN_SCREEN_COLUMNS, MAX_SCREEN_COLUMNS, MAX_BPM, DEFAULT_BPM, BEAT_FRAMES, MINUTE_MICROSECONDS, MAX_POLLS}
+
+-- grids
+most_rows : MAX_ROWS ≡ 256
+most_rows = refl
+
+most_columns : MAX_COLUMNS ≡ 256
+most_columns = refl
+
+-- values, and what operators make of them
+values_of_a_glyph : BASE ≡ 36
+values_of_a_glyph = refl
+
+greatest_octave : MAX_OCTAVE ≡ 9
+greatest_octave = refl
+
+least_velocity : MIN_VELOCITY ≡ 7
+least_velocity = refl
+
+longest_text : MAX_TEXT ≡ 16
+longest_text = refl
+
+most_values : MAX_VALUES ≡ 35
+most_values = refl
+
+-- the reaches are as long as the longest grid needs, and no longer
+jump_past_the_last_place : JUMP_REACH ≡ max MAX_ROWS MAX_COLUMNS
+jump_past_the_last_place = refl
+
+comment_to_the_last_place : COMMENT_REACH + 1 ≡ MAX_COLUMNS
+comment_to_the_last_place = refl
+
+-- a frame
+most_deeds : MAX_DEEDS ≡ 512
+most_deeds = refl
+
+most_ticks : MAX_TICKS ≡ 560
+most_ticks = refl
+
+most_visit_ticks : MAX_VISIT_TICKS ≡ 600
+most_visit_ticks = refl
+
+most_events : MAX_EVENTS ≡ 65536
+most_events = refl
+
+most_notes : MAX_NOTES ≡ 2048
+most_notes = refl
+
+most_messages : MAX_MESSAGES ≡ 133120
+most_messages = refl
+
+-- words and files
+most_digits : MAX_DIGITS ≡ 10
+most_digits = refl
+
+seed_that_is_not_given : DEFAULT_SEED ≡ 1
+seed_that_is_not_given = refl
+
+most_bytes_of_a_file : MAX_FILE_BYTES ≡ 16777216
+most_bytes_of_a_file = refl
+
+-- histories
+longest_history : MAX_HISTORY ≡ 4000000
+longest_history = refl
+
+history_that_is_not_given : DEFAULT_HISTORY ≡ 1000000
+history_that_is_not_given = refl
+
+newest_entries : KEPT_PATCHES ≡ 1024
+newest_entries = refl
+
+moments_of_a_key : BACK_MOMENTS ≡ 16
+moments_of_a_key = refl
+
+-- screens, and the pace
+fewest_screen_rows : MIN_SCREEN_ROWS ≡ 2
+fewest_screen_rows = refl
+
+most_screen_rows : MAX_SCREEN_ROWS ≡ 100
+most_screen_rows = refl
+
+fewest_screen_columns : MIN_SCREEN_COLUMNS ≡ 8
+fewest_screen_columns = refl
+
+most_screen_columns : MAX_SCREEN_COLUMNS ≡ 256
+most_screen_columns = refl
+
+fastest_tempo : MAX_BPM ≡ 999
+fastest_tempo = refl
+
+tempo_that_is_not_given : DEFAULT_BPM ≡ 120
+tempo_that_is_not_given = refl
+
+frames_of_a_beat : BEAT_FRAMES ≡ 4
+frames_of_a_beat = refl
+
+microseconds_of_a_minute : MINUTE_MICROSECONDS ≡ 60000000
+microseconds_of_a_minute = refl
+
+most_polls : MAX_POLLS ≡ 2 ^ 40
+most_polls = refl
