@@ -1,2 +1,3 @@
 mod ChainLemmas
 mod EdgeLemmas
+mod ReachLemmas
