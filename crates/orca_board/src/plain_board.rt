@@ -1,6 +1,7 @@
-ghost use Rattle.std.specs.Prelude.{◌≤◌, ◌≡◌, ◌+◌, [], length, count_by, IfOk};
+ghost use Rattle.std.specs.Prelude.{◌≤◌, ◌≡◌, ◌+◌, ◌*◌, length, count_by, replicate, vec_capacity, IfOk};
+ghost use Rattle.orca_base.specs.Glyphs.{AreGlyphs};
 ghost use Rattle.orca_base.specs.Grids.{cells_of};
-ghost use Rattle.orca_base.specs.MarkSet.{is_marked};
+ghost use Rattle.orca_base.specs.MarkSet.{is_marked, no_marks};
 ghost use Rattle.orca_op.specs.Desk.{changes_of, desk_of_sheet};
 ghost use Rattle.orca_op.specs.State.{sheet_of};
 
@@ -66,6 +67,23 @@ impl PlainBoard {
         })
     }
 
+    /// A grid of this size with exactly these glyphs, in reading order, as after `begin`. It ticks once for
+    /// each of its cells, and takes no memory.
+    pub fn load<L: Ledger>(&mut self, dims: Dims, cells: &[Glyph], steps: &mut Steps<L>)
+        requires { length cells.now ≡ dims.h * dims.w }
+        ensures desk { self.new ≡ desk_of_sheet (record { dims = dims; cells = cells.now }) }
+        ensures ticks { steps.new ≡ steps.old + cells_of dims }
+    {
+        let places = dims.cells();
+        self.dims = dims;
+        copy_into(&mut self.cells, cells, steps);
+        unmark(&mut self.marks, places);
+        self.vars.fill(Glyph::EMPTY);
+        self.events.clear();
+        self.before = Snapshot::of(&self.cells);
+        self.listing.begin(dims);
+    }
+
     /// The events, in the order in which they were emitted.
     pub fn events(&self) -> &[Event]
         ensures events { result.now ≡ self.now.scan.events }
@@ -97,6 +115,35 @@ impl Look for PlainBoard {
 
     fn marks_at(&self, at: Place) -> Marks {
         self.marks[self.dims.index(at)]
+    }
+}
+
+/// Makes a list exactly these glyphs, for which it has room. It ticks once for each.
+fn copy_into<L: Ledger>(list: &mut Vec<Glyph>, glyphs: &[Glyph], steps: &mut Steps<L>)
+    requires { length glyphs.now ≤ vec_capacity list.old }
+    ensures items { list.new.items ≡ glyphs.now }
+    ensures glyphs { AreGlyphs glyphs.now }
+    ensures capacity { vec_capacity list.new ≡ vec_capacity list.old }
+    ensures ticks { steps.new ≡ steps.old + length glyphs.now }
+{
+    list.clear();
+    for glyph in glyphs {
+        steps.tick();
+        // By its byte a contract sees that it is a glyph.
+        let _byte = glyph.byte();
+        list.push_reserved(*glyph);
+    }
+}
+
+/// Makes a list the empty sets of so many places, for which it has room.
+fn unmark(list: &mut Vec<Marks>, places: usize)
+    requires { places ≤ vec_capacity list.old }
+    ensures items { list.new.items ≡ replicate places no_marks }
+    ensures capacity { vec_capacity list.new ≡ vec_capacity list.old }
+{
+    list.clear();
+    for _ in 0..places {
+        list.push_reserved(Marks::none());
     }
 }
 
