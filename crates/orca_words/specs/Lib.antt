@@ -1,0 +1,4 @@
+pub mod Forms
+pub mod Requests
+pub mod RequestIn
+pub mod PlainWords

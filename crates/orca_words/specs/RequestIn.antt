@@ -1,0 +1,59 @@
+-- A request as contracts see it, with its texts as lists of bytes.
+use Rattle.std.specs.Prelude.{Option, option_map, List, ℕ}
+use Rattle.std.specs.Borrow.{Bor}
+use Rattle.clap.specs.Words.{Row, Text, found_of, rows_of}
+use Rattle.clap.specs.declared.parser.matches.ArgMatches.{ArgMatches}
+use Rattle.orca_words.specs.declared.request.Request.{Request as Held}
+use Rattle.orca_words.specs.declared.request.Request.TheVariants as held
+use Rattle.orca_words.specs.declared.request.Setup.{Setup as HeldSetup}
+use Rattle.orca_words.specs.declared.request.Work.{Work as HeldWork}
+use Rattle.orca_words.specs.declared.request.Work.TheVariants as held_work
+use Rattle.orca_words.specs.declared.request.Performance.{Performance as HeldPerformance}
+use Rattle.orca_words.specs.declared.request.Workload.{Workload as HeldWorkload}
+use Rattle.orca_words.specs.Requests.{Request, Perform, Make, Setup, Work, Run, Events, Replay, Play, Performance, Workload}
+
+-- what a parse found
+unfoldable pub rows_in : ArgMatches → List Row
+rows_in matches = rows_of (found_of matches)
+
+-- the text behind a reference
+abbrev pub text_in : Option (Bor (List ℕ)) → Option Text
+text_in = option_map (λ text. text.now)
+
+abbrev pub setup_in : HeldSetup → Setup
+setup_in setup = record {
+  grid = setup.grid.now;
+  seed = setup.seed;
+  limit = setup.limit;
+  midi = text_in setup.midi;
+  udp = text_in setup.udp;
+  osc = text_in setup.osc;
+}
+
+abbrev pub performance_in : HeldPerformance → Performance
+performance_in play = record {
+  address = play.address.now;
+  bpm = play.bpm;
+  rows = play.rows;
+  cols = play.cols;
+  save = text_in play.save;
+  script = text_in play.script;
+}
+
+abbrev pub workload_in : HeldWorkload → Workload
+workload_in load = record {
+  seed = load.seed;
+  height = load.height;
+  width = load.width;
+  frames = load.frames;
+}
+
+abbrev pub work_in : HeldWork → Work
+work_in (held_work.Run frames) = Run frames
+work_in (held_work.Events frames) = Events frames
+work_in (held_work.Replay script) = Replay script.now
+work_in (held_work.Play play) = Play (performance_in play)
+
+abbrev pub request_in : Held → Request
+request_in (held.Perform setup work) = Perform (setup_in setup) (work_in work)
+request_in (held.Make load) = Make (workload_in load)

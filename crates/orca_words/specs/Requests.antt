@@ -1,0 +1,152 @@
+-- What the words of the command line ask for.
+use Rattle.std.specs.Prelude.{ℕ, ◌-◌, ◌^◌, ◌&&◌, nat_le, if◌then◌else◌, Option, Some, None, option_map, option_and_then, unwrap_or, List, [], ◌∷◌, codes}
+use Rattle.std.specs.Option.{option_map_or}
+use Rattle.clap.specs.Walk.{is_empty}
+use Rattle.clap.specs.Words.{Row, Text, fault_of, first_of, matches_of}
+use Rattle.orca_base.specs.Numbers.{number_of}
+use Rattle.orca_base.specs.declared.limits.TheConstants.{DEFAULT_SEED, MAX_HISTORY, DEFAULT_HISTORY, MAX_BPM, DEFAULT_BPM, MIN_SCREEN_ROWS, MAX_SCREEN_ROWS, MIN_SCREEN_COLUMNS, MAX_SCREEN_COLUMNS, MAX_ROWS, MAX_COLUMNS}
+use Rattle.orca_words.specs.declared.limits.TheConstants.{DEFAULT_SCREEN_ROWS, DEFAULT_SCREEN_COLUMNS, MAX_MADE_FRAMES}
+use Rattle.orca_words.specs.declared.forms.Verb.{Verb}
+use Rattle.orca_words.specs.declared.forms.Verb.TheVariants as verb
+use Rattle.orca_words.specs.Forms.{Form, form_by, command_of}
+
+-- the grid and the options of a run
+pub record Setup : Type 0 where
+  pub grid : Text
+  pub seed : ℕ
+  pub limit : ℕ
+  pub midi : Option Text
+  pub udp : Option Text
+  pub osc : Option Text
+
+-- where keys come from and pictures go to, how fast frames are played, and what is saved at the end
+pub record Performance : Type 0 where
+  pub address : Text
+  pub bpm : ℕ
+  pub rows : ℕ
+  pub cols : ℕ
+  pub save : Option Text
+  pub script : Option Text
+
+-- a grid and commands that are generated
+pub record Workload : Type 0 where
+  pub seed : ℕ
+  pub height : ℕ
+  pub width : ℕ
+  pub frames : ℕ
+
+-- what is done on a grid
+pub data Work : Type 0 where
+  Run : ℕ → Work
+  Events : ℕ → Work
+  Replay : Text → Work
+  Play : Performance → Work
+
+-- what the words ask for
+pub data Request : Type 0 where
+  Perform : Setup → Work → Request
+  Make : Workload → Request
+
+-- ---- what clap found, by names
+
+-- the text of an option, where the words set it
+unfoldable pub option_text : List Row → Text → Option Text
+option_text found name = first_of name found
+
+-- the text of a word that has to be there
+abbrev pub word_text : List Row → Text → Text
+word_text found name = unwrap_or (option_text found name) []
+
+-- ---- numbers
+
+-- the greatest number of 32 bits
+abbrev pub greatest : ℕ
+greatest = 2 ^ 32 - 1
+
+-- the value of 1 to 10 decimal digits, where it lies in this range
+unfoldable pub number_in : ℕ → ℕ → Text → Option ℕ
+number_in least most digits = option_and_then (λ number.
+    if nat_le least number && nat_le number most then Some number else None) (number_of digits)
+
+-- the number of a word
+abbrev pub word_number : List Row → Text → ℕ → ℕ → Option ℕ
+word_number found name least most = number_in least most (word_text found name)
+
+-- the number that an option sets, or its default where the words don't set it
+abbrev pub option_number : List Row → Text → ℕ → ℕ → ℕ → Option ℕ
+option_number found name default least most =
+    option_map_or (number_in least most) (option_text found name) (Some default)
+
+-- ---- requests
+
+-- what is made of a number, where there is one
+abbrev pub with_number : {A : Type 0} → Option ℕ → (ℕ → Option A) → Option A
+with_number number make = option_and_then make number
+
+-- the grid and the options of a run
+unfoldable pub setup_of : List Row → Option Setup
+setup_of found =
+    with_number (option_number found (codes "seed") DEFAULT_SEED 0 greatest) (λ seed.
+    with_number (option_number found (codes "limit") DEFAULT_HISTORY 1 MAX_HISTORY) (λ limit.
+    Some (record {
+      grid = word_text found (codes "GRID");
+      seed = seed;
+      limit = limit;
+      midi = option_text found (codes "midi");
+      udp = option_text found (codes "udp");
+      osc = option_text found (codes "osc");
+    })))
+
+-- the address, the tempo, the screen and the names of `play`
+unfoldable pub performance_of : List Row → Option Performance
+performance_of found =
+    with_number (option_number found (codes "bpm") DEFAULT_BPM 1 MAX_BPM) (λ bpm.
+    with_number (option_number found (codes "rows") DEFAULT_SCREEN_ROWS MIN_SCREEN_ROWS
+    MAX_SCREEN_ROWS) (λ rows.
+    with_number (option_number found (codes "cols") DEFAULT_SCREEN_COLUMNS MIN_SCREEN_COLUMNS
+    MAX_SCREEN_COLUMNS) (λ cols.
+    Some (record {
+      address = word_text found (codes "ADDRESS");
+      bpm = bpm;
+      rows = rows;
+      cols = cols;
+      save = option_text found (codes "save");
+      script = option_text found (codes "script");
+    }))))
+
+-- the four numbers of `make`
+unfoldable pub workload_of : List Row → Option Workload
+workload_of found =
+    with_number (word_number found (codes "SEED") 0 greatest) (λ seed.
+    with_number (word_number found (codes "HEIGHT") 1 MAX_ROWS) (λ height.
+    with_number (word_number found (codes "WIDTH") 1 MAX_COLUMNS) (λ width.
+    with_number (word_number found (codes "FRAMES") 0 MAX_MADE_FRAMES) (λ frames.
+    Some (record { seed = seed; height = height; width = width; frames = frames })))))
+
+-- how many frames are played
+abbrev pub frames_of : List Row → Option ℕ
+frames_of found = word_number found (codes "FRAMES") 0 greatest
+
+-- this work, on the grid and with the options that the words name
+abbrev pub performed : List Row → Option Work → Option Request
+performed found = option_and_then (λ work. option_map (λ setup. Perform setup work) (setup_of found))
+
+-- what a verb asks for, by what clap found
+unfoldable pub request_by : Verb → List Row → Option Request
+request_by verb.Run found = performed found (option_map Run (frames_of found))
+request_by verb.Events found = performed found (option_map Events (frames_of found))
+request_by verb.Replay found = performed found (Some (Replay (word_text found (codes "SCRIPT"))))
+request_by verb.Play found = performed found (option_map Play (performance_of found))
+request_by verb.Make found = option_map Make (workload_of found)
+
+-- what the words after the first ask for, by the form that it picked: they are accepted exactly where
+-- the command of the form has no fault and the numbers are in their ranges
+unfoldable pub request_in_form : Form → List Text → Option Request
+request_in_form form words =
+    if is_empty (fault_of (command_of form) words)
+    then request_by form.verb (matches_of (command_of form) words) else None
+
+-- what the words of the command line ask for
+unfoldable pub request_of : List Text → Option Request
+request_of [] = None
+request_of (first ∷ words) = option_and_then (λ form. request_in_form form words) (form_by first)

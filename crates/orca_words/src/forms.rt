@@ -1,0 +1,37 @@
+//! The forms of the command line.
+
+/// What the first word asks for.
+#[derive(Clone, Copy, Debug, PartialEq, Eq)]
+pub(crate) enum Verb {
+    Run,
+    Events,
+    Replay,
+    Play,
+    Make,
+}
+
+/// A form of the command line: its first word, the names of the words that have to follow it in this
+/// order, the names of its options, which may stand anywhere behind it, and what it asks for.
+pub(crate) type Form = (
+    &'static str,
+    &'static [&'static str],
+    &'static [&'static str],
+    Verb,
+);
+
+/// The options of a run on a grid.
+const OPTIONS: &[&str] = &["seed", "limit", "midi", "udp", "osc"];
+
+/// The options of a run on a grid that is edited while it plays.
+const PLAY_OPTIONS: &[&str] = &[
+    "seed", "limit", "midi", "udp", "osc", "bpm", "rows", "cols", "save", "script",
+];
+
+/// The command lines that are read: each is in one of these forms.
+pub(crate) static FORMS: [Form; 5] = [
+    ("run", &["GRID", "FRAMES"], OPTIONS, Verb::Run),
+    ("events", &["GRID", "FRAMES"], OPTIONS, Verb::Events),
+    ("replay", &["GRID", "SCRIPT"], OPTIONS, Verb::Replay),
+    ("play", &["GRID", "ADDRESS"], PLAY_OPTIONS, Verb::Play),
+    ("make", &["SEED", "HEIGHT", "WIDTH", "FRAMES"], &[], Verb::Make),
+];

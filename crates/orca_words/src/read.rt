@@ -1,0 +1,137 @@
+//! Reading the words of the command line.
+
+ghost use Rattle.std.specs.Prelude.{◌≡◌, None, Some, map, option_map, string_bytes, IfOk, IsErrOf, MatchOption};
+ghost use Rattle.orca_words.specs.Requests.{frames_of, performance_of, performed, request_by, request_of, setup_of, workload_of};
+ghost use Rattle.orca_words.specs.Forms.{form_by, form_in};
+ghost use Rattle.orca_words.specs.RequestIn.{performance_in, request_in, rows_in, setup_in, work_in, workload_in};
+
+use crate::command::parse;
+use crate::forms::{FORMS, Form, Verb};
+use crate::limits::{DEFAULT_SCREEN_COLUMNS, DEFAULT_SCREEN_ROWS, MAX_MADE_FRAMES};
+use crate::values::{option_number, option_text, small_option, word_number, word_text};
+use crate::{Performance, Request, Setup, WordsFault, Work, Workload};
+use clap::ArgMatches;
+use orca_base::limits::{
+    DEFAULT_BPM, DEFAULT_HISTORY, DEFAULT_SEED, MAX_BPM, MAX_COLUMNS, MAX_HISTORY, MAX_ROWS,
+    MAX_SCREEN_COLUMNS, MAX_SCREEN_ROWS, MIN_SCREEN_COLUMNS, MIN_SCREEN_ROWS,
+};
+use std::alloc::Global;
+
+/// What the words of the command line ask for. They are the words after the program's own name.
+///
+/// The first word is compared as it is and picks a form. A simple `clap` command of that form reads
+/// the words after it. A number is 1 to 10 decimal digits with a value in its range.
+pub fn read_words<'a>(alloc: Global, words: &'a Vec<String>) -> Result<Request<'a>, WordsFault>
+    ensures read { IfOk result (λ request.
+        request_of (map string_bytes words.now.items) ≡ Some (request_in request)) }
+    ensures refused { IsErrOf result WordsFault.Usage
+        → request_of (map string_bytes words.now.items) ≡ None }
+{
+    let [first, others @ ..] = words.as_slice() else {
+        return Err(WordsFault::Usage);
+    };
+    let Some(form) = form_by(first.as_str()) else {
+        return Err(WordsFault::Usage);
+    };
+    let found = parse(alloc, form, others)?;
+    request_by(form.3, &found).ok_or(WordsFault::Usage)
+}
+
+/// The form that a first word picks.
+fn form_by(first: &str) -> Option<&'static Form>
+    ensures { option_map (λ form. form_in form.now) result ≡ form_by first.now }
+{
+    FORMS.iter().find(|form| form.0 == first)
+}
+
+/// What a verb asks for, by what its command found; none where a number is not in its range.
+fn request_by<'a>(verb: Verb, found: &ArgMatches<'a>) -> Option<Request<'a>>
+    ensures { option_map request_in result ≡ request_by verb (rows_in found.now) }
+{
+    match verb {
+        Verb::Run => {
+            let frames = frames(found)?;
+            perform(found, Work::Run { frames })
+        }
+        Verb::Events => {
+            let frames = frames(found)?;
+            perform(found, Work::Events { frames })
+        }
+        Verb::Replay => {
+            let script = word_text(found, "SCRIPT");
+            perform(found, Work::Replay { script })
+        }
+        Verb::Play => perform(found, Work::Play(performance(found)?)),
+        Verb::Make => Some(Request::Make(workload(found)?)),
+    }
+}
+
+/// How many frames are played.
+fn frames(found: &ArgMatches) -> Option<u32>
+    ensures { result ≡ frames_of (rows_in found.now) }
+{
+    word_number(found, "FRAMES", 0, u32::MAX)
+}
+
+/// This work, on the grid and with the options that the words name.
+fn perform<'a>(found: &ArgMatches<'a>, work: Work<'a>) -> Option<Request<'a>>
+    ensures { option_map request_in result ≡ performed (rows_in found.now) (Some (work_in work.entry)) }
+{
+    let setup = setup(found)?;
+    Some(Request::Perform { setup, work })
+}
+
+/// The grid and the options of a run.
+fn setup<'a>(found: &ArgMatches<'a>) -> Option<Setup<'a>>
+    ensures { option_map setup_in result ≡ setup_of (rows_in found.now) }
+{
+    let seed = option_number(found, "seed", DEFAULT_SEED, 0, u32::MAX)?;
+    let limit = option_number(found, "limit", DEFAULT_HISTORY, 1, MAX_HISTORY)?;
+    Some(Setup {
+        grid: word_text(found, "GRID"),
+        seed,
+        limit,
+        midi: option_text(found, "midi"),
+        udp: option_text(found, "udp"),
+        osc: option_text(found, "osc"),
+    })
+}
+
+/// The address, the tempo, the screen and the names of `play`.
+fn performance<'a>(found: &ArgMatches<'a>) -> Option<Performance<'a>>
+    ensures { option_map performance_in result ≡ performance_of (rows_in found.now) }
+{
+    let bpm = small_option(found, "bpm", DEFAULT_BPM, 1, MAX_BPM)?;
+    let rows = small_option(found, "rows", DEFAULT_SCREEN_ROWS, MIN_SCREEN_ROWS, MAX_SCREEN_ROWS)?;
+    let cols = small_option(
+        found,
+        "cols",
+        DEFAULT_SCREEN_COLUMNS,
+        MIN_SCREEN_COLUMNS,
+        MAX_SCREEN_COLUMNS,
+    )?;
+    Some(Performance {
+        address: word_text(found, "ADDRESS"),
+        bpm,
+        rows,
+        cols,
+        save: option_text(found, "save"),
+        script: option_text(found, "script"),
+    })
+}
+
+/// The four numbers of `make`.
+fn workload(found: &ArgMatches) -> Option<Workload>
+    ensures { option_map workload_in result ≡ workload_of (rows_in found.now) }
+{
+    let seed = word_number(found, "SEED", 0, u32::MAX)?;
+    let height = word_number(found, "HEIGHT", 1, u32::from(MAX_ROWS))? as u16;
+    let width = word_number(found, "WIDTH", 1, u32::from(MAX_COLUMNS))? as u16;
+    let frames = word_number(found, "FRAMES", 0, MAX_MADE_FRAMES)?;
+    Some(Workload {
+        seed,
+        height,
+        width,
+        frames,
+    })
+}

@@ -1,0 +1,83 @@
+//! What the words of the command line ask for.
+
+ghost use Rattle.std.specs.Prelude.{◌≤◌};
+ghost use Rattle.orca_base.specs.declared.limits.TheConstants.{MAX_BPM, MAX_COLUMNS, MAX_HISTORY, MAX_ROWS, MAX_SCREEN_COLUMNS, MAX_SCREEN_ROWS, MIN_SCREEN_COLUMNS, MIN_SCREEN_ROWS};
+ghost use Rattle.orca_words.specs.declared.limits.TheConstants.{MAX_MADE_FRAMES};
+
+/// What the words ask for.
+#[derive(Debug, PartialEq, Eq, Drop)]
+pub enum Request<'a> {
+    /// Work on a grid that is loaded.
+    Perform { setup: Setup<'a>, work: Work<'a> },
+    /// The word `make`: a grid and commands that are generated.
+    Make(Workload),
+}
+
+/// The grid and the options of a run.
+#[derive(Debug, PartialEq, Eq, Drop)]
+pub struct Setup<'a> {
+    /// The name of the grid's file.
+    pub grid: &'a str,
+    /// The seed of the random operator.
+    pub seed: u32,
+    /// The most entries of the history: 1 to [`MAX_HISTORY`](orca_base::limits::MAX_HISTORY).
+    pub limit: u32,
+    /// The file, pipe or device that MIDI bytes go to.
+    pub midi: Option<&'a str>,
+    /// The address that plain datagrams go to.
+    pub udp: Option<&'a str>,
+    /// The address that OSC messages go to.
+    pub osc: Option<&'a str>,
+    ghost limit_in_range: { (1 ≤ limit) × (limit ≤ MAX_HISTORY) },
+}
+
+/// What is done on a grid.
+#[derive(Debug, PartialEq, Eq, Drop)]
+pub enum Work<'a> {
+    /// The word `run`: frames are played, and the last grid is shown.
+    Run { frames: u32 },
+    /// The word `events`: frames are played, and each message is shown.
+    Events { frames: u32 },
+    /// The word `replay`: the commands of a script are done.
+    Replay { script: &'a str },
+    /// The word `play`: the grid plays while it is edited by keys.
+    Play(Performance<'a>),
+}
+
+/// Where keys come from and pictures go to, how fast frames are played, and what is saved at the end.
+#[derive(Debug, PartialEq, Eq, Drop)]
+pub struct Performance<'a> {
+    /// The address at which the keys arrive.
+    pub address: &'a str,
+    /// The tempo in beats a minute: 1 to [`MAX_BPM`](orca_base::limits::MAX_BPM).
+    pub bpm: u16,
+    /// The rows of the screen: [`MIN_SCREEN_ROWS`](orca_base::limits::MIN_SCREEN_ROWS) to
+    /// [`MAX_SCREEN_ROWS`](orca_base::limits::MAX_SCREEN_ROWS).
+    pub rows: u16,
+    /// The columns of the screen: [`MIN_SCREEN_COLUMNS`](orca_base::limits::MIN_SCREEN_COLUMNS) to
+    /// [`MAX_SCREEN_COLUMNS`](orca_base::limits::MAX_SCREEN_COLUMNS).
+    pub cols: u16,
+    /// The file that the grid is saved to.
+    pub save: Option<&'a str>,
+    /// The file that the commands are saved to.
+    pub script: Option<&'a str>,
+    ghost bpm_in_range: { (1 ≤ bpm) × (bpm ≤ MAX_BPM) },
+    ghost rows_in_range: { (MIN_SCREEN_ROWS ≤ rows) × (rows ≤ MAX_SCREEN_ROWS) },
+    ghost cols_in_range: { (MIN_SCREEN_COLUMNS ≤ cols) × (cols ≤ MAX_SCREEN_COLUMNS) },
+}
+
+/// A grid and commands that are generated.
+#[derive(Clone, Copy, Debug, PartialEq, Eq)]
+pub struct Workload {
+    /// The seed of the generator and of the random operator.
+    pub seed: u32,
+    /// The rows of the grid: 1 to [`MAX_ROWS`](orca_base::limits::MAX_ROWS).
+    pub height: u16,
+    /// The columns of the grid: 1 to [`MAX_COLUMNS`](orca_base::limits::MAX_COLUMNS).
+    pub width: u16,
+    /// The turns of the generator: at most [`MAX_MADE_FRAMES`](crate::limits::MAX_MADE_FRAMES).
+    pub frames: u32,
+    ghost height_in_range: { (1 ≤ height) × (height ≤ MAX_ROWS) },
+    ghost width_in_range: { (1 ≤ width) × (width ≤ MAX_COLUMNS) },
+    ghost frames_in_range: { frames ≤ MAX_MADE_FRAMES },
+}

@@ -1,0 +1,80 @@
+//! The texts and the numbers that a parse found.
+
+ghost use Rattle.std.specs.Prelude.{◌≡◌, ◌≤◌, option_map, IfSome};
+ghost use Rattle.orca_words.specs.Requests.{number_in, option_number, option_text, word_number, word_text};
+ghost use Rattle.orca_words.specs.RequestIn.{rows_in, text_in};
+
+use clap::ArgMatches;
+use orca_base::number;
+
+/// The text of an option, where the words set it.
+pub(crate) fn option_text<'a>(found: &ArgMatches<'a>, name: &str) -> Option<&'a str>
+    ensures { text_in result ≡ option_text (rows_in found.now) name.now }
+{
+    found.get_str(name)
+}
+
+/// The text of a word that has to be there.
+pub(crate) fn word_text<'a>(found: &ArgMatches<'a>, name: &str) -> &'a str
+    ensures { result.now ≡ word_text (rows_in found.now) name.now }
+{
+    option_text(found, name).unwrap_or("")
+}
+
+/// The number that an option sets, or its default where the words do not set it. None stands for a
+/// text that is not 1 to 10 digits, or a number outside its range.
+pub(crate) fn option_number(
+    found: &ArgMatches,
+    name: &str,
+    default: u32,
+    least: u32,
+    most: u32,
+) -> Option<u32>
+    requires low { least ≤ default }
+    requires high { default ≤ most }
+    ensures value { result ≡ option_number (rows_in found.now) name.now default least most }
+    ensures within { IfSome result (λ number. (least ≤ number) × (number ≤ most)) }
+{
+    match option_text(found, name) {
+        Some(text) => number_in(text, least, most),
+        None => Some(default),
+    }
+}
+
+/// The same of an option whose numbers are small.
+pub(crate) fn small_option(
+    found: &ArgMatches,
+    name: &str,
+    default: u16,
+    least: u16,
+    most: u16,
+) -> Option<u16>
+    requires low { least ≤ default }
+    requires high { default ≤ most }
+    ensures value { result ≡ option_number (rows_in found.now) name.now default least most }
+    ensures within { IfSome result (λ number. (least ≤ number) × (number ≤ most)) }
+{
+    let number = option_number(found, name, default.into(), least.into(), most.into())?;
+    Some(number as u16)
+}
+
+/// The number of a word that has to be there, where it lies in this range.
+pub(crate) fn word_number(found: &ArgMatches, name: &str, least: u32, most: u32) -> Option<u32>
+    ensures value { result ≡ word_number (rows_in found.now) name.now least most }
+    ensures within { IfSome result (λ number. (least ≤ number) × (number ≤ most)) }
+{
+    number_in(word_text(found, name), least, most)
+}
+
+/// The value of 1 to 10 decimal digits, where it lies in this range.
+#[tactic(auto, unfolding(crate::specs::Requests::number_in))]
+fn number_in(text: &str, least: u32, most: u32) -> Option<u32>
+    ensures value { result ≡ number_in least most text.now }
+    ensures within { IfSome result (λ number. (least ≤ number) × (number ≤ most)) }
+{
+    let number = number(text)?;
+    if number < least || number > most {
+        return None;
+    }
+    Some(number)
+}
