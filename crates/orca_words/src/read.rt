@@ -1,6 +1,7 @@
 //! Reading the words of the command line.
 
-ghost use Rattle.std.specs.Prelude.{◌≡◌, None, Some, map, option_map, string_bytes, IfOk, IsErrOf, MatchOption};
+ghost use Rattle.std.specs.Prelude.{◌≡◌, None, Some, find, map, option_map, string_bytes, IfOk, IsErrOf, MatchOption};
+ghost use Rattle.std.specs.Str.{bytes_eq};
 ghost use Rattle.orca_words.specs.Requests.{frames_of, performance_of, performed, request_by, request_of, setup_of, workload_of};
 ghost use Rattle.orca_words.specs.Forms.{form_by, form_in};
 ghost use Rattle.orca_words.specs.RequestIn.{performance_in, request_in, rows_in, setup_in, work_in, workload_in};
@@ -21,6 +22,7 @@ use std::alloc::Global;
 ///
 /// The first word is compared as it is and picks a form. A simple `clap` command of that form reads
 /// the words after it. A number is 1 to 10 decimal digits with a value in its range.
+#[tactic(auto, unfolding(crate::specs::Requests::request_of, crate::specs::Requests::request_in_form))]
 pub fn read_words<'a>(alloc: Global, words: &'a Vec<String>) -> Result<Request<'a>, WordsFault>
     ensures read { IfOk result (λ request.
         request_of (map string_bytes words.now.items) ≡ Some (request_in request)) }
@@ -38,13 +40,28 @@ pub fn read_words<'a>(alloc: Global, words: &'a Vec<String>) -> Result<Request<'
 }
 
 /// The form that a first word picks.
+#[tactic(auto, unfolding(crate::specs::Forms::forms))]
 fn form_by(first: &str) -> Option<&'static Form>
     ensures { option_map (λ form. form_in form.now) result ≡ form_by first.now }
 {
-    FORMS.iter().find(|form| form.0 == first)
+    first_with(&FORMS, first)
+}
+
+/// The first of these forms with this word.
+fn first_with<'t>(table: &'t [Form], word: &str) -> Option<&'t Form>
+    ensures { option_map (λ form. form_in form.now) result
+        ≡ find (λ form. bytes_eq form.word word.now) (map form_in table.now) }
+{
+    for form in table {
+        if form.0 == word {
+            return Some(form);
+        }
+    }
+    None
 }
 
 /// What a verb asks for, by what its command found; none where a number is not in its range.
+#[tactic(auto, unfolding(crate::specs::Requests::request_by))]
 fn request_by<'a>(verb: Verb, found: &ArgMatches<'a>) -> Option<Request<'a>>
     ensures { option_map request_in result ≡ request_by verb (rows_in found.now) }
 {
@@ -82,6 +99,7 @@ fn perform<'a>(found: &ArgMatches<'a>, work: Work<'a>) -> Option<Request<'a>>
 }
 
 /// The grid and the options of a run.
+#[tactic(auto, unfolding(crate::specs::Requests::setup_of))]
 fn setup<'a>(found: &ArgMatches<'a>) -> Option<Setup<'a>>
     ensures { option_map setup_in result ≡ setup_of (rows_in found.now) }
 {
@@ -98,6 +116,7 @@ fn setup<'a>(found: &ArgMatches<'a>) -> Option<Setup<'a>>
 }
 
 /// The address, the tempo, the screen and the names of `play`.
+#[tactic(auto, unfolding(crate::specs::Requests::performance_of))]
 fn performance<'a>(found: &ArgMatches<'a>) -> Option<Performance<'a>>
     ensures { option_map performance_in result ≡ performance_of (rows_in found.now) }
 {
@@ -121,6 +140,7 @@ fn performance<'a>(found: &ArgMatches<'a>) -> Option<Performance<'a>>
 }
 
 /// The four numbers of `make`.
+#[tactic(auto, unfolding(crate::specs::Requests::workload_of))]
 fn workload(found: &ArgMatches) -> Option<Workload>
     ensures { option_map workload_in result ≡ workload_of (rows_in found.now) }
 {
