@@ -1,4 +1,6 @@
 pub mod Commands
 pub mod Found
 pub mod Parses
+pub mod PlainForms
+pub mod PlainWords
 pub mod SimpleForms
