@@ -33,5 +33,10 @@ pub(crate) static FORMS: [Form; 5] = [
     ("events", &["GRID", "FRAMES"], OPTIONS, Verb::Events),
     ("replay", &["GRID", "SCRIPT"], OPTIONS, Verb::Replay),
     ("play", &["GRID", "ADDRESS"], PLAY_OPTIONS, Verb::Play),
-    ("make", &["SEED", "HEIGHT", "WIDTH", "FRAMES"], &[], Verb::Make),
+    (
+        "make",
+        &["SEED", "HEIGHT", "WIDTH", "FRAMES"],
+        &[],
+        Verb::Make,
+    ),
 ];

@@ -9,5 +9,4 @@ ghost use Rattle.orca_words.specs.PlainWords.{AsksPlainly};
 pub fn plain_words_law()
     ensures run { AsksPlainly (codes "run") Run }
     ensures events { AsksPlainly (codes "events") Events }
-{
-}
+{}

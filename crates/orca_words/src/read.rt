@@ -121,7 +121,13 @@ fn performance<'a>(found: &ArgMatches<'a>) -> Option<Performance<'a>>
     ensures { option_map performance_in result ≡ performance_of (rows_in found.now) }
 {
     let bpm = small_option(found, "bpm", DEFAULT_BPM, 1, MAX_BPM)?;
-    let rows = small_option(found, "rows", DEFAULT_SCREEN_ROWS, MIN_SCREEN_ROWS, MAX_SCREEN_ROWS)?;
+    let rows = small_option(
+        found,
+        "rows",
+        DEFAULT_SCREEN_ROWS,
+        MIN_SCREEN_ROWS,
+        MAX_SCREEN_ROWS,
+    )?;
     let cols = small_option(
         found,
         "cols",

@@ -1,6 +1,6 @@
 //! Words that are read, and words that are refused.
 
-use crate::{Performance, Request, Setup, Work, Workload, WordsFault, read_words};
+use crate::{Performance, Request, Setup, WordsFault, Work, Workload, read_words};
 use std::alloc::{AllocError, Global};
 use std::test::Fail;
 
@@ -8,6 +8,16 @@ use std::test::Fail;
 fn list(alloc: Global, words: &[&str]) -> Result<Vec<String>, AllocError> {
     let mut list = Vec::new(alloc);
     for word in words {
+        list.push(String::from_str(alloc, word)?)?;
+    }
+    Ok(list)
+}
+
+/// The words, with this text in the place of `#`.
+fn with_text(alloc: Global, words: &[&str], text: &str) -> Result<Vec<String>, AllocError> {
+    let mut list = Vec::new(alloc);
+    for word in words {
+        let word = if *word == "#" { text } else { word };
         list.push(String::from_str(alloc, word)?)?;
     }
     Ok(list)
@@ -37,9 +47,9 @@ fn quiet() -> Performance<'static> {
     }
 }
 
-/// What a first word and the positionals after it ask for.
+/// What each first word asks for, with no option.
 #[test]
-fn each_first_word(rt: HostRuntime) -> Result<(), Fail> {
+fn first_words(rt: HostRuntime) -> Result<(), Fail> {
     for (words, request) in [
         (
             ["run", "g", "3"].as_slice(),
@@ -82,6 +92,478 @@ fn each_first_word(rt: HostRuntime) -> Result<(), Fail> {
         let list = list(rt.alloc(), words)?;
         let read = read_words(rt.alloc(), &list);
         assert!(rt; read == Ok(request), "{words:?}");
+    }
+    Ok(())
+}
+
+/// Words with their grid, seed and limit, and the names for MIDI, UDP and OSC.
+static SETUPS: [(&[&str], &str, [u32; 2], [Option<&str>; 3]); 32] = [
+    // both spellings of each option
+    (
+        &["run", "g", "3", "--seed", "7"],
+        "g",
+        [7, 1_000_000],
+        [None; 3],
+    ),
+    (
+        &["run", "g", "3", "--seed=7"],
+        "g",
+        [7, 1_000_000],
+        [None; 3],
+    ),
+    (&["run", "g", "3", "--limit", "7"], "g", [1, 7], [None; 3]),
+    (&["run", "g", "3", "--limit=7"], "g", [1, 7], [None; 3]),
+    (
+        &["run", "g", "3", "--midi", "m"],
+        "g",
+        [1, 1_000_000],
+        [Some("m"), None, None],
+    ),
+    (
+        &["run", "g", "3", "--midi=m"],
+        "g",
+        [1, 1_000_000],
+        [Some("m"), None, None],
+    ),
+    (
+        &["run", "g", "3", "--udp", "u"],
+        "g",
+        [1, 1_000_000],
+        [None, Some("u"), None],
+    ),
+    (
+        &["run", "g", "3", "--udp=u"],
+        "g",
+        [1, 1_000_000],
+        [None, Some("u"), None],
+    ),
+    (
+        &["run", "g", "3", "--osc", "o"],
+        "g",
+        [1, 1_000_000],
+        [None, None, Some("o")],
+    ),
+    (
+        &["run", "g", "3", "--osc=o"],
+        "g",
+        [1, 1_000_000],
+        [None, None, Some("o")],
+    ),
+    // in every position, and several
+    (
+        &["run", "--seed", "7", "g", "3"],
+        "g",
+        [7, 1_000_000],
+        [None; 3],
+    ),
+    (
+        &["run", "g", "--seed", "7", "3"],
+        "g",
+        [7, 1_000_000],
+        [None; 3],
+    ),
+    (
+        &["run", "--seed=7", "g", "3"],
+        "g",
+        [7, 1_000_000],
+        [None; 3],
+    ),
+    (
+        &["run", "g", "--seed=7", "3"],
+        "g",
+        [7, 1_000_000],
+        [None; 3],
+    ),
+    (
+        &[
+            "events",
+            "--osc",
+            "o",
+            "g",
+            "--udp=u",
+            "--seed",
+            "7",
+            "3",
+            "--midi",
+            "m",
+            "--limit=9",
+        ],
+        "g",
+        [7, 9],
+        [Some("m"), Some("u"), Some("o")],
+    ),
+    (
+        &[
+            "replay",
+            "--limit=9",
+            "g",
+            "--midi",
+            "m",
+            "s",
+            "--osc=o",
+            "--udp",
+            "u",
+            "--seed=7",
+        ],
+        "g",
+        [7, 9],
+        [Some("m"), Some("u"), Some("o")],
+    ),
+    (
+        &[
+            "play", "--midi=m", "--udp", "u", "--osc=o", "g", "a", "--seed=7", "--limit", "9",
+        ],
+        "g",
+        [7, 9],
+        [Some("m"), Some("u"), Some("o")],
+    ),
+    // empty texts
+    (&["run", "", "3"], "", [1, 1_000_000], [None; 3]),
+    (
+        &["run", "g", "3", "--midi="],
+        "g",
+        [1, 1_000_000],
+        [Some(""), None, None],
+    ),
+    (
+        &["run", "g", "3", "--midi", ""],
+        "g",
+        [1, 1_000_000],
+        [Some(""), None, None],
+    ),
+    (
+        &["play", "", "", "--osc="],
+        "",
+        [1, 1_000_000],
+        [None, None, Some("")],
+    ),
+    // a lone dash
+    (&["run", "-", "3"], "-", [1, 1_000_000], [None; 3]),
+    (
+        &["run", "g", "3", "--midi", "-"],
+        "g",
+        [1, 1_000_000],
+        [Some("-"), None, None],
+    ),
+    (
+        &["run", "g", "3", "--udp=-"],
+        "g",
+        [1, 1_000_000],
+        [None, Some("-"), None],
+    ),
+    // after `--` all words are positional
+    (&["run", "--", "g", "3"], "g", [1, 1_000_000], [None; 3]),
+    (&["run", "g", "--", "3"], "g", [1, 1_000_000], [None; 3]),
+    (&["run", "g", "3", "--"], "g", [1, 1_000_000], [None; 3]),
+    (
+        &["run", "--seed=7", "--", "--seed", "3"],
+        "--seed",
+        [7, 1_000_000],
+        [None; 3],
+    ),
+    (&["run", "--", "--", "3"], "--", [1, 1_000_000], [None; 3]),
+    // what follows the first `=` is the text
+    (
+        &["run", "g", "3", "--midi=--x"],
+        "g",
+        [1, 1_000_000],
+        [Some("--x"), None, None],
+    ),
+    (
+        &["run", "g", "3", "--midi==x"],
+        "g",
+        [1, 1_000_000],
+        [Some("=x"), None, None],
+    ),
+    (
+        &["run", "gr\u{e9}", "3", "--midi", "\u{266a}"],
+        "gr\u{e9}",
+        [1, 1_000_000],
+        [Some("\u{266a}"), None, None],
+    ),
+];
+
+#[test]
+fn setups(rt: HostRuntime) -> Result<(), Fail> {
+    for (words, grid, numbers, names) in SETUPS {
+        let list = list(rt.alloc(), words)?;
+        match read_words(rt.alloc(), &list) {
+            Ok(Request::Perform { setup, .. }) => {
+                assert_eq!(rt; setup.grid, grid, "{words:?}");
+                assert_eq!(rt; [setup.seed, setup.limit], numbers, "{words:?}");
+                assert_eq!(rt; [setup.midi, setup.udp, setup.osc], names, "{words:?}");
+            }
+            read => panic!(rt; "{words:?} are read as {read:?}"),
+        }
+    }
+    Ok(())
+}
+
+/// Options of `play` with its tempo, rows and columns, and the names to save to.
+static PERFORMANCES: [(&[&str], [u16; 3], [Option<&str>; 2]); 13] = [
+    (&["play", "g", "a", "--bpm", "90"], [90, 24, 80], [None; 2]),
+    (&["play", "g", "a", "--bpm=90"], [90, 24, 80], [None; 2]),
+    (&["play", "g", "a", "--rows", "9"], [120, 9, 80], [None; 2]),
+    (&["play", "g", "a", "--rows=9"], [120, 9, 80], [None; 2]),
+    (&["play", "g", "a", "--cols", "9"], [120, 24, 9], [None; 2]),
+    (&["play", "g", "a", "--cols=9"], [120, 24, 9], [None; 2]),
+    (
+        &["play", "g", "a", "--save", "o"],
+        [120, 24, 80],
+        [Some("o"), None],
+    ),
+    (
+        &["play", "g", "a", "--save=o"],
+        [120, 24, 80],
+        [Some("o"), None],
+    ),
+    (
+        &["play", "g", "a", "--script", "s"],
+        [120, 24, 80],
+        [None, Some("s")],
+    ),
+    (
+        &["play", "g", "a", "--script=s"],
+        [120, 24, 80],
+        [None, Some("s")],
+    ),
+    (
+        &["play", "g", "a", "--save=", "--script", ""],
+        [120, 24, 80],
+        [Some(""), Some("")],
+    ),
+    (
+        &[
+            "play", "--rows", "9", "g", "--save=o", "--bpm", "90", "a", "--script", "s", "--cols=9",
+        ],
+        [90, 9, 9],
+        [Some("o"), Some("s")],
+    ),
+    (
+        &["play", "--save", "o", "--", "g", "a"],
+        [120, 24, 80],
+        [Some("o"), None],
+    ),
+];
+
+#[test]
+fn performances(rt: HostRuntime) -> Result<(), Fail> {
+    for (words, numbers, names) in PERFORMANCES {
+        let list = list(rt.alloc(), words)?;
+        match read_words(rt.alloc(), &list) {
+            Ok(
+                Request::Perform {
+                    work: Work::Play(play),
+                    ..
+                },
+            ) => {
+                assert_eq!(rt; play.address, "a", "{words:?}");
+                assert_eq!(rt; [play.bpm, play.rows, play.cols], numbers, "{words:?}");
+                assert_eq!(rt; [play.save, play.script], names, "{words:?}");
+            }
+            read => panic!(rt; "{words:?} are read as {read:?}"),
+        }
+    }
+    Ok(())
+}
+
+/// Words that are refused.
+static REFUSED: [&[&str]; 62] = [
+    // the first word
+    &[],
+    &[""],
+    &["sing", "g"],
+    &["Run", "g", "3"],
+    &["run ", "g", "3"],
+    &["ru", "g", "3"],
+    &["--seed", "7", "run", "g", "3"],
+    &["--", "run", "g", "3"],
+    &["--help"],
+    &["help"],
+    // too few words and too many
+    &["run"],
+    &["run", "g"],
+    &["run", "g", "--"],
+    &["run", "--seed", "7"],
+    &["run", "g", "--seed", "3"],
+    &["run", "g", "3", "x"],
+    &["run", "g", "3", ""],
+    &["run", "g", "3", "-"],
+    &["run", "g", "3", "--", "--seed"],
+    &["events", "g"],
+    &["events", "g", "3", "3"],
+    &["replay", "g"],
+    &["replay", "g", "s", "s"],
+    &["play", "g"],
+    &["play", "g", "a", "a"],
+    &["make", "1", "2", "3"],
+    &["make", "1", "2", "3", "4", "5"],
+    // an option twice
+    &["run", "--seed", "7", "--seed", "7", "g", "3"],
+    &["run", "--seed=7", "g", "--seed=8", "3"],
+    &["run", "--seed", "7", "g", "3", "--seed=7"],
+    &["run", "--midi=", "--midi=", "g", "3"],
+    &["play", "g", "a", "--save", "o", "--save", "p"],
+    // without a value
+    &["run", "g", "3", "--seed"],
+    &["run", "g", "3", "--midi"],
+    &["run", "g", "3", "--seed", "--limit", "4"],
+    &["run", "g", "--seed", "--", "3"],
+    &["run", "g", "3", "--midi", "--udp=u"],
+    &["run", "g", "3", "--midi", "-x"],
+    &["run", "g", "3", "--midi", "--"],
+    // a dash before a positional
+    &["run", "-g", "3"],
+    &["run", "--g", "3"],
+    &["replay", "g", "-s"],
+    &["replay", "g", "-3"],
+    // unknown options, abbreviated options, and options of another word
+    &["run", "g", "3", "--tempo", "7"],
+    &["run", "g", "3", "--tempo=7"],
+    &["run", "g", "3", "--se", "7"],
+    &["run", "g", "3", "--se=7"],
+    &["run", "g", "3", "--Seed", "7"],
+    &["run", "g", "3", "--=7"],
+    &["run", "g", "3", "-s", "7"],
+    &["run", "g", "3", "-seed", "7"],
+    &["run", "g", "3", "-\u{e9}"],
+    &["run", "g", "3", "---"],
+    &["run", "g", "3", "--bpm", "90"],
+    &["replay", "g", "s", "--script", "t"],
+    &["make", "1", "2", "3", "4", "--seed", "1"],
+    &["make", "1", "2", "3", "4", "--limit=9"],
+    // no help and no version
+    &["run", "--help"],
+    &["run", "g", "3", "--help"],
+    &["play", "g", "a", "-h"],
+    &["make", "1", "2", "3", "4", "--version"],
+    &["events", "g", "3", "-V"],
+];
+
+#[test]
+fn refusals(rt: HostRuntime) -> Result<(), Fail> {
+    for words in REFUSED {
+        let list = list(rt.alloc(), words)?;
+        let read = read_words(rt.alloc(), &list);
+        assert!(rt;
+            matches!(read, Err(WordsFault::Usage)),
+            "{words:?} are read as {read:?}"
+        );
+    }
+    Ok(())
+}
+
+/// Words with a number in the place of `#`, the texts that are read there, and those that are out of
+/// its range.
+static NUMBERS: [(&[&str], &[&str], &[&str]); 12] = [
+    (
+        &["run", "g", "#"],
+        &[
+            "0",
+            "1",
+            "4294967294",
+            "4294967295",
+            "0000000000",
+            "0000000003",
+        ],
+        &["4294967296", "9999999999"],
+    ),
+    (
+        &["events", "g", "#"],
+        &["0", "1", "4294967294", "4294967295"],
+        &["4294967296"],
+    ),
+    (
+        &["run", "g", "3", "--seed", "#"],
+        &["0", "1", "4294967294", "4294967295", "0000000000"],
+        &["4294967296", "9999999999"],
+    ),
+    (
+        &["replay", "g", "s", "--limit", "#"],
+        &["1", "2", "3999999", "4000000", "0000000001", "0004000000"],
+        &["0", "4000001", "0004000001", "4294967295", "4294967297"],
+    ),
+    (
+        &["play", "g", "a", "--bpm", "#"],
+        &["1", "2", "998", "999", "0000000999"],
+        &["0", "1000", "65537"],
+    ),
+    (
+        &["play", "g", "a", "--rows", "#"],
+        &["2", "3", "99", "100", "0000000100"],
+        &["0", "1", "101", "65538"],
+    ),
+    (
+        &["play", "g", "a", "--cols", "#"],
+        &["8", "9", "255", "256", "0000000256"],
+        &["0", "7", "257", "65544"],
+    ),
+    (
+        &["make", "#", "2", "3", "4"],
+        &["0", "1", "4294967294", "4294967295", "0000000000"],
+        &["4294967296"],
+    ),
+    (
+        &["make", "1", "#", "3", "4"],
+        &["1", "2", "255", "256"],
+        &["0", "257", "65537"],
+    ),
+    (
+        &["make", "1", "2", "#", "4"],
+        &["1", "2", "255", "256"],
+        &["0", "257", "65537"],
+    ),
+    (
+        &["make", "1", "2", "3", "#"],
+        &["0", "1", "99999", "100000", "0000100000"],
+        &["100001", "4294967295"],
+    ),
+    (
+        &["run", "--", "g", "#"],
+        &["0", "4294967295"],
+        &["4294967296"],
+    ),
+];
+
+/// Texts that are no number.
+static NO_NUMBERS: [&str; 16] = [
+    "",
+    " ",
+    " 9",
+    "9 ",
+    "\t9",
+    "+9",
+    "-9",
+    "9x",
+    "x9",
+    "0x9",
+    "9.0",
+    "1_0",
+    "00000000009",
+    "10000000000",
+    "99999999999999999999",
+    "\u{0669}",
+];
+
+#[test]
+fn numbers(rt: HostRuntime) -> Result<(), Fail> {
+    for (words, within, outside) in NUMBERS {
+        for text in within {
+            let list = with_text(rt.alloc(), words, text)?;
+            let read = read_words(rt.alloc(), &list);
+            assert!(rt;
+                read.is_ok(),
+                "{words:?} with {text:?} are read as {read:?}"
+            );
+        }
+        for text in outside.iter().chain(&NO_NUMBERS) {
+            let list = with_text(rt.alloc(), words, text)?;
+            let read = read_words(rt.alloc(), &list);
+            assert!(rt;
+                matches!(read, Err(WordsFault::Usage)),
+                "{words:?} with {text:?} are read as {read:?}"
+            );
+        }
     }
     Ok(())
 }
