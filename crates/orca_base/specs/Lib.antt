@@ -14,3 +14,4 @@ pub mod MidiLimits
 pub mod Numbers
 pub mod Ports
 pub mod Ranges
+pub mod RuleNames

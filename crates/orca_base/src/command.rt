@@ -130,6 +130,28 @@ pub enum Rule {
     HistoryFull,
 }
 
+impl Rule {
+    ghost use Rattle.std.specs.Prelude.{◌≡◌, ◌≤◌, length};
+    ghost use Rattle.orca_base.specs.declared.limits.TheConstants.{RULE_NAME_BYTES};
+    ghost use Rattle.orca_base.specs.RuleNames.{rule_name};
+
+    /// The name of the rule, as it is printed.
+    pub fn name(self) -> &'static str
+        ensures name { result.now ≡ rule_name self }
+        ensures short { length result.now ≤ RULE_NAME_BYTES }
+    {
+        match self {
+            Rule::OutOfGrid => "OutOfGrid",
+            Rule::EmptyBlock => "EmptyBlock",
+            Rule::BadSize => "BadSize",
+            Rule::EmptyClip => "EmptyClip",
+            Rule::NothingToUndo => "NothingToUndo",
+            Rule::NoSuchMoment { .. } => "NoSuchMoment",
+            Rule::HistoryFull => "HistoryFull",
+        }
+    }
+}
+
 /// What a session did.
 #[derive(Clone, Copy, Debug, PartialEq, Eq)]
 pub enum Reply {

@@ -132,3 +132,6 @@ pub const MINUTE_MICROSECONDS: u64 = 60_000_000;
 
 /// The most polls of one performance.
 pub const MAX_POLLS: u64 = 1 << 40;
+
+/// The most bytes of the name of a rule that refuses a command.
+pub const RULE_NAME_BYTES: usize = 13;

@@ -1,6 +1,6 @@
-//! The tables of the glyphs: values, note numbers and cases.
+//! The tables of the glyphs: values, note numbers and cases; and the names of the rules.
 
-use crate::Glyph;
+use crate::{Glyph, Rule};
 use std::process::Abort;
 
 fn glyph(rt: &impl Abort, byte: u8) -> Glyph {
@@ -45,5 +45,20 @@ fn glyph_tables(rt: HostRuntime) {
         let by = glyph(&rt, by);
         assert!(rt; value < 36);
         assert_eq!(rt; Glyph::cased(value, by).byte(), cased, "{value} by {by:?}");
+    }
+}
+
+#[test]
+fn rules_have_names(rt: HostRuntime) {
+    for (rule, name) in [
+        (Rule::OutOfGrid, "OutOfGrid"),
+        (Rule::EmptyBlock, "EmptyBlock"),
+        (Rule::BadSize, "BadSize"),
+        (Rule::EmptyClip, "EmptyClip"),
+        (Rule::NothingToUndo, "NothingToUndo"),
+        (Rule::NoSuchMoment { kept: 3 }, "NoSuchMoment"),
+        (Rule::HistoryFull, "HistoryFull"),
+    ] {
+        assert!(rt; rule.name() == name);
     }
 }

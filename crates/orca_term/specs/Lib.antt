@@ -6,6 +6,5 @@ pub mod Lending
 pub mod Pacing
 pub mod Painting
 pub mod Picture
-pub mod RuleNames
 pub mod Terminal
 pub mod Viewing

@@ -12,7 +12,7 @@ use Rattle.orca_base.specs.declared.command.Rule.{Rule}
 use Rattle.orca_base.specs.declared.limits.TheConstants.{MIN_SCREEN_ROWS, MAX_SCREEN_ROWS, MIN_SCREEN_COLUMNS, MAX_SCREEN_COLUMNS}
 use Rattle.orca_base.specs.declared.place.Place.{Place}
 use Rattle.orca_term.specs.Editing.{area_of}
-use Rattle.orca_term.specs.RuleNames.{rule_name}
+use Rattle.orca_base.specs.RuleNames.{rule_name}
 use Rattle.orca_term.specs.declared.cell.Cell.{Cell}
 use Rattle.orca_term.specs.declared.cell.ScreenSize.{ScreenSize}
 use Rattle.orca_term.specs.declared.editor.Editor.{Editor}

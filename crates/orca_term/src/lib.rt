@@ -19,7 +19,7 @@ pub use editor::{Act, Editor};
 pub use keys::{Key, Keys, Pending};
 pub use pacer::Pacer;
 pub use screen::Screen;
-pub use status::{StatusLine, rule_name};
+pub use status::StatusLine;
 pub use view::View;
 
 #[cfg(test)]

@@ -1,13 +1,10 @@
 //! The limits of a screen's bytes.
 
-use orca_base::limits::MAX_DIGITS;
-
-/// The most bytes of the name of a rule.
-pub const NAME_BYTES: usize = 13;
+use orca_base::limits::{MAX_DIGITS, RULE_NAME_BYTES};
 
 /// The most bytes of the status line: seven numbers, the five letters of a pause, the name of a rule, and
 /// the eight bytes between them.
-pub const STATUS_BYTES: usize = 7 * MAX_DIGITS + 5 + NAME_BYTES + 8;
+pub const STATUS_BYTES: usize = 7 * MAX_DIGITS + 5 + RULE_NAME_BYTES + 8;
 
 /// The most digits of a number in a form that a terminal reads.
 pub const FORM_DIGITS: usize = 3;

@@ -3,11 +3,10 @@
 ghost use Rattle.std.specs.Prelude.{◌≡◌, ◌+◌, ◌≤◌, [], ◌∷◌, ◌++◌, length, All};
 ghost use Rattle.std.specs.Fmt.{decimal};
 ghost use Rattle.orca_term.specs.Picture.{IsPrintableByte, state_word, note_word, status_text};
-ghost use Rattle.orca_term.specs.RuleNames.{rule_name};
 
 use crate::Editor;
-use crate::limits::{NAME_BYTES, STATUS_BYTES};
-use orca_base::limits::MAX_DIGITS;
+use crate::limits::STATUS_BYTES;
+use orca_base::limits::{MAX_DIGITS, RULE_NAME_BYTES};
 use orca_base::{Inline, Rule};
 
 /// The text of a status line.
@@ -24,22 +23,6 @@ pub struct StatusLine {
     pub sounding: u32,
     /// The rule that refused the last command, if one did.
     pub note: Option<Rule>,
-}
-
-/// The name of a rule, as it is printed.
-pub fn rule_name(rule: &Rule) -> &'static str
-    ensures name { result.now ≡ rule_name rule.now }
-    ensures short { length result.now ≤ NAME_BYTES }
-{
-    match rule {
-        Rule::OutOfGrid => "OutOfGrid",
-        Rule::EmptyBlock => "EmptyBlock",
-        Rule::BadSize => "BadSize",
-        Rule::EmptyClip => "EmptyClip",
-        Rule::NothingToUndo => "NothingToUndo",
-        Rule::NoSuchMoment { .. } => "NoSuchMoment",
-        Rule::HistoryFull => "HistoryFull",
-    }
 }
 
 /// The text of the status line.
@@ -98,11 +81,11 @@ fn state_word(paused: bool) -> &'static [u8]
 fn note_word(note: &Option<Rule>) -> &'static [u8]
     ensures word { result.now ≡ note_word note.now }
     ensures printable { All IsPrintableByte result.now }
-    ensures short { length result.now ≤ NAME_BYTES }
+    ensures short { length result.now ≤ RULE_NAME_BYTES }
 {
     match note {
         None => b"ok",
-        Some(rule) => rule_name(rule).as_bytes(),
+        Some(rule) => rule.name().as_bytes(),
     }
 }
 

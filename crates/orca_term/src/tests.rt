@@ -3,7 +3,7 @@
 ghost use Rattle.std.specs.Prelude.{◌≤◌};
 ghost use Rattle.orca_base.specs.declared.limits.TheConstants.{MIN_SCREEN_ROWS, MAX_SCREEN_ROWS, MIN_SCREEN_COLUMNS, MAX_SCREEN_COLUMNS};
 
-use crate::{Act, Editor, Key, Keys, Pacer, Screen, StatusLine, View, rule_name};
+use crate::{Act, Editor, Key, Keys, Pacer, Screen, StatusLine, View};
 use orca_base::{Command, Dims, Glyph, Look, Mark, Marks, Memory, Place, Rect, Rule};
 use std::alloc::Global;
 use std::marker::Model;
@@ -548,19 +548,4 @@ fn the_small_terminal_reads_forms(rt: HostRuntime) -> Result<(), Memory> {
     assert!(rt; screen.cell(0, 2) == (b' ', 0));
     assert!(rt; screen.cell(1, 0) == (b' ', 0));
     Ok(())
-}
-
-#[test]
-fn rules_have_names(rt: HostRuntime) {
-    for (rule, name) in [
-        (Rule::OutOfGrid, "OutOfGrid"),
-        (Rule::EmptyBlock, "EmptyBlock"),
-        (Rule::BadSize, "BadSize"),
-        (Rule::EmptyClip, "EmptyClip"),
-        (Rule::NothingToUndo, "NothingToUndo"),
-        (Rule::NoSuchMoment { kept: 3 }, "NoSuchMoment"),
-        (Rule::HistoryFull, "HistoryFull"),
-    ] {
-        assert!(rt; rule_name(&rule) == name);
-    }
 }
