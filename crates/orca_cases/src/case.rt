@@ -1,6 +1,7 @@
 //! A case, and its lines.
 
 use crate::bytes::read_bytes;
+use crate::step::{Step, read_step};
 use anyhow::{Context, Result, anyhow, bail, ensure};
 use orca_base::{Now, Port};
 use std::alloc::Global;
@@ -15,12 +16,14 @@ const PORTS: [Port; 6] = [
     Port::View,
 ];
 
-/// What is to be done: a whole run, or a frame alone.
+/// What is to be done: a whole run, a frame alone, or steps on two boards.
 #[derive(Drop)]
 pub(crate) struct Case {
     pub name: String,
     /// The tick and the seed of a frame alone; none where the case is a run.
     pub frame: Option<Now>,
+    /// The steps on two boards; none where the case is another.
+    pub steps: Vec<Step>,
     /// The words of the command line.
     pub words: Vec<String>,
     /// The files that are held at the start, each a name and its bytes.
@@ -39,6 +42,7 @@ impl Case {
         Ok(Case {
             name: String::from_str(alloc, name)?,
             frame: None,
+            steps: Vec::new(alloc),
             words: Vec::new(alloc),
             files: Vec::new(alloc),
             wanted: Vec::new(alloc),
@@ -51,6 +55,7 @@ impl Case {
     fn add(&mut self, alloc: Global, key: &str, rest: &str) -> Result<()> {
         match key {
             "scan" => self.frame = Some(read_now(rest)?),
+            "step" => self.steps.push(read_step(alloc, rest)?)?,
             "word" => self
                 .words
                 .push(String::from_utf8(read_bytes(alloc, rest)?)?)?,
@@ -148,6 +153,11 @@ mod tests {
             "scan 1",
             "scan 1 4294967296",
             "sing g",
+            "step",
+            "step frame 1",
+            "step resize 0 1",
+            "step write 0 0 ..",
+            "step load 1 2 .",
             "word ff",
             "word 0g",
         ];

@@ -20,12 +20,36 @@
 //! Input, 4 for Param, 8 for Output and 16 for Sleep, added; `vars BYTES`, the 36 variables; and for
 //! each event `event note CHANNEL KEY VELOCITY LENGTH MONO`, `event control CHANNEL CONTROL VALUE`,
 //! `event bend CHANNEL LSB MSB`, `event udp BYTES` or `event osc PATH VALUES`.
+//!
+//! Both boards do that frame, and have to give one answer.
+//!
+//! A case with lines `step STEP` is done on a live board, with a plain board beside it, from the grid text
+//! of its one file on. Its answer is `case NAME`, then `one answer`, or the first step after which the
+//! boards differ. Glyphs stand as they are, those of a block row after row.
+//!
+//! | step | meaning |
+//! |---|---|
+//! | `frame TICK SEED` | a frame |
+//! | `write Y X GLYPH` | a glyph is written |
+//! | `fill Y X H W GLYPH` | an area is filled |
+//! | `put Y X H W GLYPHS` | a block is put, its first place at a row and a column |
+//! | `shift Y X H W Y X` | an area is moved to a row and a column |
+//! | `resize H W` | the grid gets another size |
+//! | `load H W GLYPHS` | another grid |
+//! | `revert` | the grid of the last frame or load |
+//!
+//! After each step the boards have the same size and the same glyphs, and the live board finds exactly its
+//! operators. After a frame or a load, and writes after it, marks, variables, events and changes are the
+//! same too. What edits of blocks, sizes and reverts leave is worked out place by place, without the boards.
 #![tactic(auto)]
 
 mod bytes;
 mod case;
+mod cells;
+mod pair;
 mod runs;
 mod scans;
+mod step;
 
 use anyhow::{Result, ensure};
 use case::{Case, take_line};
@@ -37,6 +61,7 @@ fn answer(alloc: Global, case: Case) -> Result<String> {
     let mut answer = format!(in alloc; "case {}\n", case.name)?;
     match case.frame {
         Some(now) => scans::tell(alloc, &case, now, &mut answer)?,
+        None if !case.steps.is_empty() => pair::tell(alloc, &case, &mut answer)?,
         None => runs::tell(alloc, case, &mut answer)?,
     }
     Ok(answer)

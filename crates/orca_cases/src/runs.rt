@@ -17,6 +17,7 @@ pub(crate) fn tell(alloc: Global, case: Case, into: &mut String) -> Result<()> {
     let Case {
         name: _,
         frame: _,
+        steps: _,
         words,
         files,
         wanted,

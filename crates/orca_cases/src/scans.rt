@@ -1,4 +1,4 @@
-//! A frame alone, on the plain board.
+//! A frame alone, on both boards.
 
 ghost use Rattle.std.specs.Prelude.{◌≡◌, ◌<◌};
 
@@ -7,53 +7,102 @@ use crate::case::Case;
 use anyhow::{Result, bail, ensure};
 use orca_base::limits::{BASE, MAX_FILE_BYTES};
 use orca_base::{Event, Look, Mark, Marks, Now, Steps};
-use orca_board::PlainBoard;
-use orca_frame::frame_plain;
+use orca_board::{Board, PlainBoard};
+use orca_frame::{frame, frame_plain};
 use orca_grid::Grid;
 use orca_op::Bench;
 use std::alloc::Global;
 use std::marker::Brand;
 use std::sync::ledger::{Blank, Ledger};
 
-/// Adds the lines of the answer.
+/// Adds the lines of the answer, which both boards have to give.
 pub(crate) fn tell(alloc: Global, case: &Case, now: Now, into: &mut String) -> Result<()> {
-    let [(_, text)] = case.files.as_slice() else {
-        bail!("a frame alone has one grid");
-    };
-    ensure!(text.len() <= MAX_FILE_BYTES, "the grid is too long");
-    let grid = Grid::read(alloc, text.as_slice())?;
-    let Ok(mut board) = PlainBoard::start(alloc, &grid) else {
-        bail!("memory was refused");
-    };
-    let vars = work::<Brand>(alloc, &mut board, now, Blank::new(1))?;
-    tell_places(alloc, &board, into)?;
-    tell_bytes(alloc, into, "vars", vars.as_slice())?;
-    for event in board.events() {
-        tell_event(alloc, *event, into)?;
-    }
+    let grid = read_grid(alloc, case)?;
+    let mut plain = plain_board(alloc, &grid)?;
+    let mut live = live_board(alloc, &grid)?;
+    let slow = scan::<Brand>(alloc, &mut plain, now, Blank::new(1))?;
+    let quick = walk::<Brand>(alloc, &mut live, now, Blank::new(1))?;
+    ensure!(slow.as_str() == quick.as_str(), "the boards differ");
+    into.push_str(slow.as_str())?;
     Ok(())
 }
 
-/// Works the frame, and gives the variables after it.
-fn work<L: Ledger>(alloc: Global, board: &mut PlainBoard, now: Now, blank: Blank) -> Result<Vec<u8>>
+/// The grid of a case, its one file.
+pub(crate) fn read_grid(alloc: Global, case: &Case) -> Result<Grid> {
+    let [(_, text)] = case.files.as_slice() else {
+        bail!("a case on boards has one grid");
+    };
+    ensure!(text.len() <= MAX_FILE_BYTES, "the grid is too long");
+    Ok(Grid::read(alloc, text.as_slice())?)
+}
+
+/// The plain board of a grid.
+pub(crate) fn plain_board(alloc: Global, grid: &Grid) -> Result<PlainBoard> {
+    let Ok(board) = PlainBoard::start(alloc, grid) else {
+        bail!("memory was refused");
+    };
+    Ok(board)
+}
+
+/// The live board of a grid.
+pub(crate) fn live_board(alloc: Global, grid: &Grid) -> Result<Board> {
+    let Ok(board) = Board::start(alloc, grid) else {
+        bail!("memory was refused");
+    };
+    Ok(board)
+}
+
+/// The answer of the plain board, which looks at every place.
+fn scan<L: Ledger>(alloc: Global, board: &mut PlainBoard, now: Now, blank: Blank) -> Result<String>
     requires name { blank.name ≡ L.name }
     requires parts { blank.parts ≡ L.parts }
     requires some { 0 < blank.parts }
 {
     let mut steps = Steps::<L>::start(blank);
     frame_plain(board, now, &mut steps);
+    let mut answer = String::new(alloc);
+    tell_frame(alloc, board, board.events(), &mut answer, &mut steps)?;
+    Ok(answer)
+}
+
+/// The answer of the live board, which goes from one operator to the next.
+fn walk<L: Ledger>(alloc: Global, board: &mut Board, now: Now, blank: Blank) -> Result<String>
+    requires name { blank.name ≡ L.name }
+    requires parts { blank.parts ≡ L.parts }
+    requires some { 0 < blank.parts }
+{
+    let mut steps = Steps::<L>::start(blank);
+    frame(board, now, &mut steps);
+    let mut answer = String::new(alloc);
+    tell_frame(alloc, board, board.events(), &mut answer, &mut steps)?;
+    Ok(answer)
+}
+
+/// Adds the lines of a board after a frame: its glyphs, its marks, its variables and its events.
+pub(crate) fn tell_frame<B: Bench + Look, L: Ledger>(
+    alloc: Global,
+    board: &B,
+    events: &[Event],
+    into: &mut String,
+    steps: &mut Steps<L>,
+) -> Result<()> {
+    tell_places(alloc, board, into)?;
     let mut vars = Vec::new(alloc);
     for index in 0..BASE {
-        vars.push(board.var(index, &mut steps).byte())?;
+        vars.push(board.var(index, steps).byte())?;
     }
-    Ok(vars)
+    tell_bytes(alloc, into, "vars", vars.as_slice())?;
+    for event in events {
+        tell_event(alloc, *event, into)?;
+    }
+    Ok(())
 }
 
 /// Adds the lines of the glyphs and the marks.
 fn tell_places<T: Look>(alloc: Global, look: &T, into: &mut String) -> Result<()> {
     let mut cells = Vec::new(alloc);
     let mut marks = Vec::new(alloc);
-    let dims = look.dims();
+    let dims = Look::dims(look);
     for index in 0..dims.cells() {
         let place = dims.place(index);
         cells.push(look.glyph_at(place).byte())?;
