@@ -38,23 +38,30 @@ lawful-read_at = record {
 }
 
 -- what holds in either case holds by cases
-in_either : (P : List Deed → Type 0) (test : Bool) (xs ys : List Deed) → P xs → P ys → P (if test then xs else ys)
+in_either : (P : List Deed → Type 0) (test : Bool) (xs ys : List Deed) → P xs → P ys
+    → P (if test then xs else ys)
 in_either P true xs ys first second = first
 in_either P false xs ys first second = second
 
 variable_by : (s : State) (at : Place) (P : List Deed → Type 0)
     → P (param_at (left at 1) ∷ input_at (right at 1) ∷ [])
-    → P (param_at (left at 1) ∷ input_at (right at 1) ∷ output_at (below at) ∷ Write (below at) (var_at s (value (peek s (right at 1)))) ∷ [])
-    → P (param_at (left at 1) ∷ input_at (right at 1) ∷ Set (value (peek s (left at 1))) (peek s (right at 1)) ∷ [])
+    → P (param_at (left at 1) ∷ input_at (right at 1) ∷ output_at (below at) ∷ Write (below at)
+    (var_at s (value (peek s (right at 1)))) ∷ [])
+    → P (param_at (left at 1) ∷ input_at (right at 1) ∷ Set (value (peek s (left at 1)))
+    (peek s (right at 1)) ∷ [])
     → (g : ℕ) (now : Now) → P (variable g s at now)
 variable_by s at P neither reads sets g now =
-    let ports : List Deed → List Deed = λ (deeds : List Deed). param_at (left at 1) ∷ input_at (right at 1) ∷ deeds in
-    in_either (λ deeds. P (ports deeds)) (peek s (left at 1) == empty) _ _ (in_either (λ deeds. P (ports deeds)) (peek s (right at 1) == empty) _ _ neither reads) sets
+    let ports : List Deed → List Deed = λ (deeds : List Deed). param_at (left at 1)
+    ∷ input_at (right at 1) ∷ deeds in
+    in_either (λ deeds. P (ports deeds)) (peek s (left at 1) == empty) _ _
+    (in_either (λ deeds. P (ports deeds)) (peek s (right at 1) == empty) _ _ neither reads) sets
 
 pub lawful-variable : IsLawful variable
 lawful-variable = record {
-  few_deeds = λ g s at now. variable_by s at (λ deeds. length deeds ≤ MAX_DEEDS) (omega arith) (omega arith) (omega arith) g now;
-  one_event = λ g s at now. variable_by s at (λ deeds. count_by is_emit deeds ≤ 1) (omega arith) (omega arith) (omega arith) g now;
+  few_deeds = λ g s at now. variable_by s at (λ deeds. length deeds ≤ MAX_DEEDS) (omega arith)
+      (omega arith) (omega arith) g now;
+  one_event = λ g s at now. variable_by s at (λ deeds. count_by is_emit deeds ≤ 1) (omega arith)
+      (omega arith) (omega arith) g now;
   glyphs = λ g s at now whole is_glyph.
       variable_by s at (Every WritesGlyph) (tt, (tt, tt))
       (tt, (tt, (tt, (IsGlyph-var_at s _ whole (value-below _), tt))))
@@ -63,7 +70,8 @@ lawful-variable = record {
       variable_by s at (λ deeds. Every (IsCovered at deeds) deeds) (tt, (tt, tt))
       (tt, (tt, (tt, (inr (inr (inr (inl (refl, refl)))), tt)))) (tt, (tt, (tt, tt))) g now;
   events = λ g s at now whole.
-      variable_by s at (Every EmitsInRange) (tt, (tt, tt)) (tt, (tt, (tt, (tt, tt)))) (tt, (tt, (tt, tt))) g now;
+      variable_by s at (Every EmitsInRange) (tt, (tt, tt)) (tt, (tt, (tt, (tt, tt))))
+      (tt, (tt, (tt, tt))) g now;
 }
 
 pub lawful-track : IsLawful track
@@ -100,46 +108,61 @@ lawful-query = lawful-copies
 
 -- what holds of no deeds and of a variable written below holds of a name
 named : (P : List Deed → Type 0) (s : State) (at : Place) (i : ℕ) → P []
-    → P (output_at (off at (pos 1) (pos i)) ∷ Write (off at (pos 1) (pos i)) (var_at s (value (peek s (right at i)))) ∷ [])
+    → P (output_at (off at (pos 1) (pos i)) ∷ Write (off at (pos 1) (pos i))
+    (var_at s (value (peek s (right at i)))) ∷ [])
     → P (store_deeds at i (peek s (right at i)) (var_at s (value (peek s (right at i)))))
 unfolding store_deeds
 named P s at i none some = in_either P (peek s (right at i) == empty) _ _ none some
 
 name_deeds : State → Place → ℕ → List Deed
 name_deeds s at i =
-    input_at (right at (i + 1)) ∷ store_deeds at (i + 1) (peek s (right at (i + 1))) (var_at s (value (peek s (right at (i + 1)))))
+    input_at (right at (i + 1)) ∷ store_deeds at (i + 1) (peek s (right at (i + 1)))
+    (var_at s (value (peek s (right at (i + 1)))))
 
 pub lawful-konkat : IsLawful konkat
 unfolding name_deeds
 lawful-konkat =
     let many : State → Place → ℕ = λ s at. value_or (peek s (left at 1)) 1 in
-    let few : (s : State) (at : Place) → many s at < BASE = λ s at. omega (arith, (value_or-range (peek s (left at 1)) 1).0) in
+    let few : (s : State) (at : Place)
+    → many s at < BASE = λ s at. omega (arith, (value_or-range (peek s (left at 1)) 1).0) in
     record {
       few_deeds = λ g s at now.
           let run = length-each (many s at) 3 (name_deeds s at)
-          (λ i. named (λ deeds. length (input_at (right at (i + 1)) ∷ deeds) ≤ 3) s at (i + 1) (omega arith) (omega arith)) in
+          (λ i. named (λ deeds. length (input_at (right at (i + 1)) ∷ deeds) ≤ 3) s at (i + 1)
+          (omega arith) (omega arith)) in
           omega (arith, run, few s at);
       one_event = λ g s at now.
           let run = no_event-each (many s at) (name_deeds s at)
-          (λ i. named (λ deeds. count_by is_emit (input_at (right at (i + 1)) ∷ deeds) ≡ 0) s at (i + 1) refl refl) in
+          (λ i. named (λ deeds. count_by is_emit (input_at (right at (i + 1)) ∷ deeds) ≡ 0)
+          s at (i + 1) refl refl) in
           omega (arith, run);
       glyphs = λ g s at now whole is_glyph. (
         tt,
         Every-each WritesGlyph (many s at) (name_deeds s at)
-            (λ i below. (tt, named (Every WritesGlyph) s at (i + 1) tt (tt, (IsGlyph-var_at s _ whole (value-below _), tt)))),
+            (λ i below. (
+              tt,
+              named (Every WritesGlyph) s at (i + 1) tt
+                  (tt, (IsGlyph-var_at s _ whole (value-below _), tt)),
+            )),
       );
-      events = λ g s at now whole.
-          (tt, Every-each EmitsInRange (many s at) (name_deeds s at) (λ i below. (tt, named (Every EmitsInRange) s at (i + 1) tt (tt, (tt, tt)))));
+      events = λ g s at now whole. (
+        tt,
+        Every-each EmitsInRange (many s at) (name_deeds s at)
+            (λ i below. (tt, named (Every EmitsInRange) s at (i + 1) tt (tt, (tt, tt)))),
+      );
       covered = λ g s at now.
           let all : List Deed = konkat g s at now in (
             tt,
             Every-each (IsCovered at all) (many s at) (name_deeds s at)
                 (λ i below. (
                   tt,
-                  named (λ deeds. ((spot : Spot) → AnyDeed (Covers spot) deeds → AnyDeed (Covers spot) all) → Every (IsCovered at all) deeds) s at (i + 1)
+                  named (λ deeds. ((spot : Spot) → AnyDeed (Covers spot) deeds
+                      → AnyDeed (Covers spot) all) → Every (IsCovered at all) deeds) s at (i + 1)
                       (λ within. tt)
                       (λ within. (tt, (inr (within _ (inl (refl, refl))), tt)))
-                      (λ spot some. inr (AnyDeed-each (Covers spot) (many s at) i (name_deeds s at) below (inr some))),
+                      (λ spot some. inr
+                      (AnyDeed-each (Covers spot) (many s at) i (name_deeds s at) below
+                      (inr some))),
                 )),
           );
     }

@@ -53,7 +53,8 @@ fn variables<B: Bench, L: Ledger>(
     steps: &mut Steps<L>,
 ) -> [Glyph; ROOM]
     requires { length < BASE }
-    ensures stored { (i : ℕ) → i < length → slice_index result i ≡ var_at (B.desk bench.now).scan (value (slice_index names.now i)) }
+    ensures stored { (i : ℕ) → i < length → slice_index result i ≡ var_at (B.desk bench.now).scan
+        (value (slice_index names.now i)) }
     ensures ticks { steps.new ≡ steps.old + length }
 {
     let mut stored = [Glyph::EMPTY; ROOM];
@@ -94,7 +95,8 @@ fn write_below<B: Bench, L: Ledger>(
     stored: Glyph,
     steps: &mut Steps<L>,
 )
-    ensures deeds { B.desk bench.new ≡ desk_after_all (B.desk bench.old) (konkat_one at i name stored) }
+    ensures deeds { B.desk bench.new ≡ desk_after_all (B.desk bench.old)
+        (konkat_one at i name stored) }
     ensures ticks { steps.new ≤ steps.old + 3 }
     ensures later { steps.old ≤ steps.new }
 {

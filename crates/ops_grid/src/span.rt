@@ -31,7 +31,8 @@ pub(crate) fn read<B: Bench, L: Ledger>(
     steps: &mut Steps<L>,
 ) -> [Glyph; ROOM]
     requires { span.length < BASE }
-    ensures glyphs { (i : ℕ) → i < span.length → slice_index result i ≡ peek (B.desk bench.now).scan (off at (pos span.y) (pos (i + span.x))) }
+    ensures glyphs { (i : ℕ) → i < span.length → slice_index result i ≡ peek (B.desk bench.now).scan
+        (off at (pos span.y) (pos (i + span.x))) }
     ensures ticks { steps.new ≡ steps.old + span.length }
 {
     let mut glyphs = [Glyph::EMPTY; ROOM];
@@ -44,7 +45,8 @@ pub(crate) fn read<B: Bench, L: Ledger>(
 
 /// Locks a span.
 pub(crate) fn lock<B: Bench, L: Ledger>(bench: &mut B, at: Place, span: Span, steps: &mut Steps<L>)
-    ensures deeds { B.desk bench.new ≡ desk_after_all (B.desk bench.old) (each span.length (λ i. lock_at (off at (pos span.y) (pos (i + span.x))) ∷ [])) }
+    ensures deeds { B.desk bench.new ≡ desk_after_all (B.desk bench.old)
+        (each span.length (λ i. lock_at (off at (pos span.y) (pos (i + span.x))) ∷ [])) }
     ensures ticks { steps.new ≡ steps.old + span.length }
 {
     for i in 0..span.length {

@@ -43,7 +43,8 @@ impl NotePorts {
     /// The note; none without an octave, where the note is no letter, and where the velocity has value 0
     /// without being missing.
     pub(crate) fn event(&self) -> Option<Event>
-        ensures { result ≡ note_with self.now.mono self.now.channel self.now.octave self.now.velocity self.now.length (note_number self.now.note) }
+        ensures { result ≡ note_with self.now.mono self.now.channel self.now.octave
+            self.now.velocity self.now.length (note_number self.now.note) }
     {
         let number = self.note.note_number()?;
         let silent = self.velocity != Glyph::EMPTY && self.velocity.value() == 0;

@@ -29,7 +29,8 @@ pub(crate) fn inputs<B: Bench, L: Ledger>(
 /// Marks one input.
 #[tactic(auto, unfolding(orca_op::specs::Deeds::after))]
 fn input<B: Bench, L: Ledger>(bench: &mut B, at: Place, i: u8, from: u8, steps: &mut Steps<L>)
-    ensures deed { B.desk bench.new ≡ desk_after (B.desk bench.old) (input_at (right at (i + from))) }
+    ensures deed { B.desk bench.new ≡ desk_after (B.desk bench.old)
+        (input_at (right at (i + from))) }
     ensures room { HasRoom (B.desk bench.old) → HasRoom (B.desk bench.new) }
     ensures ticks { steps.new ≡ steps.old + 1 }
 {

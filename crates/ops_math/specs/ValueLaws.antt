@@ -18,7 +18,8 @@ IsGlyph-banged false = (lit≤ tt, lit≤ tt)
 
 -- a remainder by a value is below the base
 mod_value-below : (n g other : ℕ) → 0 < other → other ≤ BASE → n % value_or g other < BASE
-mod_value-below n g other some most = omega (arith, (value_or-range g other).1 some, (value_or-range g other).0)
+mod_value-below n g other some most =
+    omega (arith, (value_or-range g other).1 some, (value_or-range g other).0)
 
 random_between-below : (a b word : ℕ) → a < BASE → b ≤ BASE → random_between a b word < BASE
 unfolding random_between
@@ -41,7 +42,20 @@ pub lawful-subtract : IsLawful subtract
 lawful-subtract = record {
   few_deeds = λ g s at now. omega arith;
   one_event = λ g s at now. omega arith;
-  glyphs = λ g s at now whole is_glyph. (tt, (tt, (tt, (IsGlyph-cased _ _ (omega (arith, value-below (peek s (left at 1)), value-below (peek s (right at 1)))), tt))));
+  glyphs = λ g s at now whole is_glyph. (
+    tt,
+    (
+      tt,
+      (
+        tt,
+        (
+          IsGlyph-cased _ _
+              (omega (arith, value-below (peek s (left at 1)), value-below (peek s (right at 1)))),
+          tt,
+        ),
+      ),
+    ),
+  );
   covered = λ g s at now. (tt, (tt, (tt, (inr (inr (inr (inl (refl, refl)))), tt))));
   events = λ g s at now whole. quiet (subtract g s at now) refl;
 }
@@ -50,7 +64,10 @@ pub lawful-clock : IsLawful clock
 lawful-clock = record {
   few_deeds = λ g s at now. omega arith;
   one_event = λ g s at now. omega arith;
-  glyphs = λ g s at now whole is_glyph. (tt, (tt, (tt, (IsGlyph-cased _ _ (mod_value-below _ _ 8 (omega arith) (omega arith)), tt))));
+  glyphs = λ g s at now whole is_glyph. (
+    tt,
+    (tt, (tt, (IsGlyph-cased _ _ (mod_value-below _ _ 8 (omega arith) (omega arith)), tt))),
+  );
   covered = λ g s at now. (tt, (tt, (tt, (inr (inr (inr (inl (refl, refl)))), tt))));
   events = λ g s at now whole. quiet (clock g s at now) refl;
 }
@@ -77,12 +94,28 @@ pub lawful-increment : IsLawful increment
 lawful-increment = record {
   few_deeds = λ g s at now. omega arith;
   one_event = λ g s at now. omega arith;
-  glyphs = λ g s at now whole is_glyph. (tt, (tt, (tt, (tt, (IsGlyph-cased _ _ (mod_value-below _ _ BASE (omega arith) (omega arith)), tt)))));
+  glyphs = λ g s at now whole is_glyph. (
+    tt,
+    (
+      tt,
+      (
+        tt,
+        (
+          tt,
+          (
+            IsGlyph-cased _ _ (mod_value-below _ _ BASE (omega arith) (omega arith)),
+            tt,
+          ),
+        ),
+      ),
+    ),
+  );
   covered = λ g s at now. (tt, (tt, (tt, (tt, (inr (inr (inr (inl (refl, refl)))), tt)))));
   events = λ g s at now whole. quiet (increment g s at now) refl;
 }
 
-IsGlyph-least : (missing : Bool) (by a b : ℕ) → IsGlyph (if missing then empty else cased (min (value a) (value b)) by)
+IsGlyph-least : (missing : Bool) (by a b : ℕ)
+    → IsGlyph (if missing then empty else cased (min (value a) (value b)) by)
 IsGlyph-least true by a b = (lit≤ tt, lit≤ tt)
 IsGlyph-least false by a b = IsGlyph-cased _ _ (omega (arith, value-below a, value-below b))
 
@@ -90,7 +123,10 @@ pub lawful-lesser : IsLawful lesser
 lawful-lesser = record {
   few_deeds = λ g s at now. omega arith;
   one_event = λ g s at now. omega arith;
-  glyphs = λ g s at now whole is_glyph. (tt, (tt, (tt, (IsGlyph-least _ _ (peek s (left at 1)) (peek s (right at 1)), tt))));
+  glyphs = λ g s at now whole is_glyph. (
+    tt,
+    (tt, (tt, (IsGlyph-least _ _ (peek s (left at 1)) (peek s (right at 1)), tt))),
+  );
   covered = λ g s at now. (tt, (tt, (tt, (inr (inr (inr (inl (refl, refl)))), tt))));
   events = λ g s at now whole. quiet (lesser g s at now) refl;
 }
@@ -108,7 +144,21 @@ pub lawful-random : IsLawful random
 lawful-random = record {
   few_deeds = λ g s at now. omega arith;
   one_event = λ g s at now. omega arith;
-  glyphs = λ g s at now whole is_glyph. (tt, (tt, (tt, (IsGlyph-cased _ _ (random_between-below _ _ _ (value-below _) (value_or-range (peek s (right at 1)) BASE).0), tt))));
+  glyphs = λ g s at now whole is_glyph. (
+    tt,
+    (
+      tt,
+      (
+        tt,
+        (
+          IsGlyph-cased _ _
+              (random_between-below _ _ _ (value-below _)
+              (value_or-range (peek s (right at 1)) BASE).0),
+          tt,
+        ),
+      ),
+    ),
+  );
   covered = λ g s at now. (tt, (tt, (tt, (inr (inr (inr (inl (refl, refl)))), tt))));
   events = λ g s at now whole. quiet (random g s at now) refl;
 }
@@ -126,7 +176,22 @@ pub lawful-lerp : IsLawful lerp
 lawful-lerp = record {
   few_deeds = λ g s at now. omega arith;
   one_event = λ g s at now. omega arith;
-  glyphs = λ g s at now whole is_glyph. (tt, (tt, (tt, (tt, (IsGlyph-cased _ _ (lerped-below _ _ _ (value-below _) (value-below _)), tt)))));
+  glyphs = λ g s at now whole is_glyph. (
+    tt,
+    (
+      tt,
+      (
+        tt,
+        (
+          tt,
+          (
+            IsGlyph-cased _ _ (lerped-below _ _ _ (value-below _) (value-below _)),
+            tt,
+          ),
+        ),
+      ),
+    ),
+  );
   covered = λ g s at now. (tt, (tt, (tt, (tt, (inr (inr (inr (inl (refl, refl)))), tt)))));
   events = λ g s at now whole. quiet (lerp g s at now) refl;
 }

@@ -20,11 +20,13 @@ outside : (d : Size) (at : Place) (k : ℕ) → d.w ≤ at.x + k → place_in d 
 outside d at k past = rw (le-ltb (at.x + k) d.w past) (none_if _ _)
 
 -- no `#` stands beyond the edge
-pub no_hash : (s : State) (at : Place) (k : ℕ) → s.dims.w ≤ at.x + k → (peek s (right at k) == hash) ≡ false
+pub no_hash : (s : State) (at : Place) (k : ℕ) → s.dims.w ≤ at.x + k
+    → (peek s (right at k) == hash) ≡ false
 unfolding peek
 no_hash s at k past = rw (outside s.dims at k past) refl
 
-lock_outside : (d : Desk) (at : Place) (k : ℕ) → d.scan.dims.w ≤ at.x + k → desk_after d (lock_at (right at k)) ≡ d
+lock_outside : (d : Desk) (at : Place) (k : ℕ) → d.scan.dims.w ≤ at.x + k
+    → desk_after d (lock_at (right at k)) ≡ d
 unfolding after list_after
 lock_outside d at k past = rw (outside d.scan.dims at k past) refl
 
@@ -40,7 +42,9 @@ dims_all d [] = refl
 dims_all d (deed ∷ deeds) = dims_all (desk_after d deed) deeds ∙ dims_done d deed
 
 -- locks beyond the edge can be left out
-pub locked_edge : (d : Desk) (at : Place) (m n : ℕ) → m ≤ n → (m < n → d.scan.dims.w ≤ at.x + (m + 1)) → desk_after_all d (lock_deeds at m) ≡ desk_after_all d (lock_deeds at n)
+pub locked_edge : (d : Desk) (at : Place) (m n : ℕ) → m ≤ n
+    → (m < n → d.scan.dims.w ≤ at.x + (m + 1))
+    → desk_after_all d (lock_deeds at m) ≡ desk_after_all d (lock_deeds at n)
 locked_edge d at m zero few past = let none : m ≡ 0 = omega (arith, few) in rw none refl
 locked_edge d at m (suc n) few past =
     elim (eq-or-lt_of_le few) [
@@ -48,5 +52,10 @@ locked_edge d at m (suc n) few past =
       | inr less ↦
           let same = dims_all d (lock_deeds at n) in
           let beyond = past less in
-          rw (desk_after_all-append d (lock_deeds at n) (lock_at (right at (n + 1)) ∷ []), lock_outside (desk_after_all d (lock_deeds at n)) at (n + 1) (rw same (omega (arith, less, beyond)))) (locked_edge d at m n (omega (arith, less)) (λ below. beyond))
+          rw (
+            desk_after_all-append d (lock_deeds at n) (lock_at (right at (n + 1)) ∷ []),
+            lock_outside (desk_after_all d (lock_deeds at n)) at (n + 1)
+                (rw same (omega (arith, less, beyond))),
+          )
+          (locked_edge d at m n (omega (arith, less)) (λ below. beyond))
     ]

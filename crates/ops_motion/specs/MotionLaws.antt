@@ -62,7 +62,8 @@ abbrev sleep_one : (ℕ → Spot) → ℕ → List Deed
 sleep_one beyond k = sleep_at (beyond (k + 1)) ∷ []
 
 -- a comment locks no more places than it reaches
-comment_few : (first : Option ℕ) → IfSome first (λ i. (1 ≤ i) × (i < 1 + COMMENT_REACH)) → unwrap_or first COMMENT_REACH ≤ COMMENT_REACH
+comment_few : (first : Option ℕ) → IfSome first (λ i. (1 ≤ i) × (i < 1 + COMMENT_REACH))
+    → unwrap_or first COMMENT_REACH ≤ COMMENT_REACH
 comment_few None within = lit≤ tt
 comment_few (Some i) within = omega arith
 
@@ -74,68 +75,106 @@ pub lawful-comment : IsLawful comment
 lawful-comment = record {
   few_deeds = λ g s at now.
       let few = comment_length-few s at in
-      let counted : length (lock_deeds at (comment_length s at)) ≤ comment_length s at * 1 = length-each (comment_length s at) 1 (lock_one at) (λ i. lit≤ tt) in
+      let counted : length (lock_deeds at (comment_length s at)) ≤ comment_length s at * 1 =
+      length-each (comment_length s at) 1 (lock_one at) (λ i. lit≤ tt) in
       omega arith;
   one_event = λ g s at now.
-      let none : count_by is_emit (lock_deeds at (comment_length s at)) ≡ 0 = no_event-each (comment_length s at) (lock_one at) (λ i. refl) in
+      let none : count_by is_emit (lock_deeds at (comment_length s at)) ≡ 0 =
+      no_event-each (comment_length s at) (lock_one at) (λ i. refl) in
       omega arith;
-  glyphs = λ g s at now whole is_glyph. Every-each WritesGlyph (comment_length s at) (lock_one at) (λ i below. (tt, tt));
-  covered = λ g s at now. Every-each (IsCovered at (comment g s at now)) (comment_length s at) (lock_one at) (λ i below. (tt, tt));
-  events = λ g s at now whole. Every-each EmitsInRange (comment_length s at) (lock_one at) (λ i below. (tt, tt));
+  glyphs = λ g s at now whole is_glyph. Every-each WritesGlyph (comment_length s at) (lock_one at)
+      (λ i below. (tt, tt));
+  covered = λ g s at now. Every-each (IsCovered at (comment g s at now)) (comment_length s at)
+      (lock_one at) (λ i below. (tt, tt));
+  events = λ g s at now whole. Every-each EmitsInRange (comment_length s at) (lock_one at)
+      (λ i below. (tt, tt));
 }
 
 -- a chain's end lies no farther than a jumper looks
-chain_end-range : (g : ℕ) (s : State) (beyond : ℕ → Spot) → IfSome (chain_end g s beyond) (λ i. (1 ≤ i) × (i < 1 + JUMP_REACH))
+chain_end-range : (g : ℕ) (s : State) (beyond : ℕ → Spot)
+    → IfSome (chain_end g s beyond) (λ i. (1 ≤ i) × (i < 1 + JUMP_REACH))
 unfolding chain_end
 chain_end-range g s beyond = first_where-range _ 1 JUMP_REACH
 
 -- the laws of a jumper that acts, by where its chain ends
-jump_by-few : (g : ℕ) (s : State) (source : Spot) (beyond : ℕ → Spot) (end : Option ℕ) → IfSome end (λ i. (1 ≤ i) × (i < 1 + JUMP_REACH)) → length (jump_by g s source beyond end) ≤ MAX_DEEDS
+jump_by-few : (g : ℕ) (s : State) (source : Spot) (beyond : ℕ → Spot) (end : Option ℕ)
+    → IfSome end (λ i. (1 ≤ i) × (i < 1 + JUMP_REACH))
+    → length (jump_by g s source beyond end) ≤ MAX_DEEDS
 jump_by-few g s source beyond None within = lit≤ tt
 jump_by-few g s source beyond (Some i) within =
-    let slept : length (sleep_deeds beyond (i - 1)) ≤ (i - 1) * 1 = length-each (i - 1) 1 (sleep_one beyond) (λ k. lit≤ tt) in
-    omega (arith, length-append (sleep_deeds beyond (i - 1)) (output_at (beyond i) ∷ Write (beyond i) (peek s source) ∷ []))
+    let slept : length (sleep_deeds beyond (i - 1)) ≤ (i - 1) * 1 =
+    length-each (i - 1) 1 (sleep_one beyond) (λ k. lit≤ tt) in
+    omega (
+      arith,
+      length-append (sleep_deeds beyond (i - 1))
+          (output_at (beyond i) ∷ Write (beyond i) (peek s source) ∷ []),
+    )
 
-jump_by-quiet : (g : ℕ) (s : State) (source : Spot) (beyond : ℕ → Spot) (end : Option ℕ) → count_by is_emit (jump_by g s source beyond end) ≤ 1
+jump_by-quiet : (g : ℕ) (s : State) (source : Spot) (beyond : ℕ → Spot) (end : Option ℕ)
+    → count_by is_emit (jump_by g s source beyond end) ≤ 1
 jump_by-quiet g s source beyond None = lit≤ tt
 jump_by-quiet g s source beyond (Some i) =
-    let none : count_by is_emit (sleep_deeds beyond (i - 1)) ≡ 0 = no_event-each (i - 1) (sleep_one beyond) (λ k. refl) in
-    omega (arith, count_by-append is_emit (sleep_deeds beyond (i - 1)) (output_at (beyond i) ∷ Write (beyond i) (peek s source) ∷ []))
+    let none : count_by is_emit (sleep_deeds beyond (i - 1)) ≡ 0 =
+    no_event-each (i - 1) (sleep_one beyond) (λ k. refl) in
+    omega (
+      arith,
+      count_by-append is_emit (sleep_deeds beyond (i - 1))
+          (output_at (beyond i) ∷ Write (beyond i) (peek s source) ∷ []),
+    )
 
-jump_by-glyphs : (g : ℕ) (s : State) (source : Spot) (beyond : ℕ → Spot) (end : Option ℕ) → IsGlyph (peek s source) → Every WritesGlyph (jump_by g s source beyond end)
+jump_by-glyphs : (g : ℕ) (s : State) (source : Spot) (beyond : ℕ → Spot) (end : Option ℕ)
+    → IsGlyph (peek s source) → Every WritesGlyph (jump_by g s source beyond end)
 jump_by-glyphs g s source beyond None glyph = (tt, tt)
-jump_by-glyphs g s source beyond (Some i) glyph =
-    (tt, Every-append WritesGlyph (sleep_deeds beyond (i - 1)) _ (Every-each WritesGlyph (i - 1) (sleep_one beyond) (λ k below. (tt, tt))) (tt, (glyph, tt)))
+jump_by-glyphs g s source beyond (Some i) glyph = (
+  tt,
+  Every-append WritesGlyph (sleep_deeds beyond (i - 1)) _
+      (Every-each WritesGlyph (i - 1) (sleep_one beyond) (λ k below. (tt, tt))) (tt, (glyph, tt)),
+)
 
-jump_by-events : (g : ℕ) (s : State) (source : Spot) (beyond : ℕ → Spot) (end : Option ℕ) → Every EmitsInRange (jump_by g s source beyond end)
+jump_by-events : (g : ℕ) (s : State) (source : Spot) (beyond : ℕ → Spot) (end : Option ℕ)
+    → Every EmitsInRange (jump_by g s source beyond end)
 jump_by-events g s source beyond None = (tt, tt)
-jump_by-events g s source beyond (Some i) =
-    (tt, Every-append EmitsInRange (sleep_deeds beyond (i - 1)) _ (Every-each EmitsInRange (i - 1) (sleep_one beyond) (λ k below. (tt, tt))) (tt, (tt, tt)))
+jump_by-events g s source beyond (Some i) = (
+  tt,
+  Every-append EmitsInRange (sleep_deeds beyond (i - 1)) _
+      (Every-each EmitsInRange (i - 1) (sleep_one beyond) (λ k below. (tt, tt))) (tt, (tt, tt)),
+)
 
-jump_by-covered : (at : Place) (g : ℕ) (s : State) (source : Spot) (beyond : ℕ → Spot) (end : Option ℕ) → Every (IsCovered at (jump_by g s source beyond end)) (jump_by g s source beyond end)
+jump_by-covered : (at : Place) (g : ℕ) (s : State) (source : Spot) (beyond : ℕ → Spot)
+    (end : Option ℕ) → Every (IsCovered at (jump_by g s source beyond end))
+    (jump_by g s source beyond end)
 jump_by-covered at g s source beyond None = (tt, tt)
 jump_by-covered at g s source beyond (Some i) =
     let deeds = jump_by g s source beyond (Some i) in (
       tt,
-      Every-append (IsCovered at deeds) (sleep_deeds beyond (i - 1)) _ (Every-each (IsCovered at deeds) (i - 1) (sleep_one beyond) (λ k below. (tt, tt)))
+      Every-append (IsCovered at deeds) (sleep_deeds beyond (i - 1)) _
+          (Every-each (IsCovered at deeds) (i - 1) (sleep_one beyond) (λ k below. (tt, tt)))
           (tt, (inr (inr (AnyDeed-right _ (sleep_deeds beyond (i - 1)) _ (inl (refl, refl)))), tt)),
     )
 
 -- where a jumper does nothing, nothing has to be covered
-covered_unless : (at : Place) (nothing : Bool) (deeds : List Deed) → Every (IsCovered at deeds) deeds → Every (IsCovered at (if nothing then [] else deeds)) (if nothing then [] else deeds)
+covered_unless : (at : Place) (nothing : Bool) (deeds : List Deed)
+    → Every (IsCovered at deeds) deeds
+    → Every (IsCovered at (if nothing then [] else deeds)) (if nothing then [] else deeds)
 covered_unless at true deeds covered = tt
 covered_unless at false deeds covered = covered
 
 -- a jumper's rule is lawful, whichever way it hands on
-lawful-jump : (source : Place → Spot) (beyond : Place → ℕ → Spot) → IsLawful (λ g s at now. jump g s (source at) (beyond at))
+lawful-jump : (source : Place → Spot) (beyond : Place → ℕ → Spot)
+    → IsLawful (λ g s at now. jump g s (source at) (beyond at))
 unfolding jump
 lawful-jump source beyond = record {
-  few_deeds = λ g s at now. let few = jump_by-few g s (source at) (beyond at) _ (chain_end-range g s (beyond at)) in search rules;
-  one_event = λ g s at now. let quiet = jump_by-quiet g s (source at) (beyond at) (chain_end g s (beyond at)) in search rules;
+  few_deeds = λ g s at now. let few =
+      jump_by-few g s (source at) (beyond at) _ (chain_end-range g s (beyond at)) in search rules;
+  one_event = λ g s at now. let quiet =
+      jump_by-quiet g s (source at) (beyond at) (chain_end g s (beyond at)) in search rules;
   glyphs = λ g s at now whole is_glyph.
-      let glyphs = jump_by-glyphs g s (source at) (beyond at) (chain_end g s (beyond at)) (IsGlyph-peek s (source at) whole) in search rules;
-  covered = λ g s at now. covered_unless at (peek s (source at) == g) _ (jump_by-covered at g s (source at) (beyond at) (chain_end g s (beyond at)));
-  events = λ g s at now whole. let events = jump_by-events g s (source at) (beyond at) (chain_end g s (beyond at)) in search rules;
+      let glyphs = jump_by-glyphs g s (source at) (beyond at) (chain_end g s (beyond at))
+      (IsGlyph-peek s (source at) whole) in search rules;
+  covered = λ g s at now. covered_unless at (peek s (source at) == g) _
+      (jump_by-covered at g s (source at) (beyond at) (chain_end g s (beyond at)));
+  events = λ g s at now whole. let events =
+      jump_by-events g s (source at) (beyond at) (chain_end g s (beyond at)) in search rules;
 }
 
 pub lawful-jumper : IsLawful jumper

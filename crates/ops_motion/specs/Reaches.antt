@@ -13,7 +13,8 @@ use Rattle.orca_op.specs.MotionRules.{hash, comment, chain_end}
 -- on every grid a chain of glyphs has an end, since what stands outside the grid is empty
 abbrev pub ChainsEnd : (Place → ℕ → Spot) → Type 0
 ChainsEnd beyond =
-    (g : ℕ) (s : State) (at : Place) → IsSize s.dims → g ≢ empty → IsSome (chain_end g s (beyond at))
+    (g : ℕ) (s : State) (at : Place) → IsSize s.dims → g ≢ empty
+    → IsSome (chain_end g s (beyond at))
 
 -- no `#` stands between a place and the k-th place to its right
 abbrev pub IsOpen : State → Place → ℕ → Type 0
@@ -22,5 +23,6 @@ IsOpen s at k = (j : ℕ) → 1 ≤ j → j < k → (peek s (right at j) == hash
 -- a comment locks each place of its row at its right, up to and with the next `#`
 abbrev pub CommentsLock : Type 0
 CommentsLock =
-    (g : ℕ) (s : State) (at : Place) (now : Now) (k : ℕ) → IsSize s.dims → 1 ≤ k → at.x + k < s.dims.w
+    (g : ℕ) (s : State) (at : Place) (now : Now) (k : ℕ) → IsSize s.dims → 1 ≤ k
+    → at.x + k < s.dims.w
     → IsOpen s at k → Contains (comment g s at now) (lock_at (right at k))

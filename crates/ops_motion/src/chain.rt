@@ -19,7 +19,8 @@ pub(crate) fn jump<B: Bench, L: Ledger>(
     way: Way,
     steps: &mut Steps<L>,
 )
-    ensures deeds { B.desk bench.new ≡ desk_after_all (B.desk bench.old) (jump glyph (B.desk bench.old).scan (source_on way at) (beyond_on way at)) }
+    ensures deeds { B.desk bench.new ≡ desk_after_all (B.desk bench.old)
+        (jump glyph (B.desk bench.old).scan (source_on way at) (beyond_on way at)) }
     ensures ticks { steps.new ≤ steps.old + (2 * JUMP_REACH + 3) }
     ensures later { steps.old ≤ steps.new }
 {
@@ -65,7 +66,8 @@ fn sleep_chain<B: Bench, L: Ledger>(
     places: u16,
     steps: &mut Steps<L>,
 )
-    ensures deeds { B.desk bench.new ≡ desk_after_all (B.desk bench.old) (sleep_deeds (beyond_on way at) places) }
+    ensures deeds { B.desk bench.new ≡ desk_after_all (B.desk bench.old)
+        (sleep_deeds (beyond_on way at) places) }
     ensures ticks { steps.new ≡ steps.old + places }
 {
     for passed in 0..places {

@@ -8,31 +8,40 @@ use Rattle.orca_base.specs.GlyphFacts.{value-below}
 
 pub value_table : (g : ℕ) → g < 128 → slice_index VALUES g ≡ value g
 unfolding value
-value_table g below = eqb-true (slice_index VALUES g) (value g) (agree_below_at (λ k. slice_index VALUES k == value k) (λ k. true) 128 g refl below)
+value_table g below = eqb-true (slice_index VALUES g) (value g)
+    (agree_below_at (λ k. slice_index VALUES k == value k) (λ k. true) 128 g refl below)
 
 pub operator_table : (g : ℕ) → g < 128 → not (slice_index OPERATORS g == 0) ≡ is_operator g
 unfolding is_operator
-operator_table g below = agree_below_at (λ k. not (slice_index OPERATORS k == 0)) is_operator 128 g refl below
+operator_table g below = agree_below_at (λ k. not (slice_index OPERATORS k == 0)) is_operator 128 g
+    refl below
 
 pub lower_table : (n : ℕ) → n < 36 → slice_index LOWER n ≡ from_value n
 unfolding from_value
-lower_table n below = eqb-true (slice_index LOWER n) (from_value n) (agree_below_at (λ k. slice_index LOWER k == from_value k) (λ k. true) 36 n refl below)
+lower_table n below = eqb-true (slice_index LOWER n) (from_value n)
+    (agree_below_at (λ k. slice_index LOWER k == from_value k) (λ k. true) 36 n refl below)
 
 pub upper_table : (n : ℕ) → n < 36 → slice_index UPPER n ≡ upper (from_value n)
 unfolding from_value
-upper_table n below = eqb-true (slice_index UPPER n) (upper (from_value n)) (agree_below_at (λ k. slice_index UPPER k == upper (from_value k)) (λ k. true) 36 n refl below)
+upper_table n below = eqb-true (slice_index UPPER n) (upper (from_value n))
+    (agree_below_at (λ k. slice_index UPPER k == upper (from_value k)) (λ k. true) 36 n refl below)
 
 pub lower_low : (n : ℕ) → n < 36 → 33 ≤ slice_index LOWER n
-lower_low n below = leb-true 33 (slice_index LOWER n) (agree_below_at (λ k. nat_le 33 (slice_index LOWER k)) (λ k. true) 36 n refl below)
+lower_low n below = leb-true 33 (slice_index LOWER n)
+    (agree_below_at (λ k. nat_le 33 (slice_index LOWER k)) (λ k. true) 36 n refl below)
 
 pub lower_high : (n : ℕ) → n < 36 → slice_index LOWER n ≤ 126
-lower_high n below = leb-true (slice_index LOWER n) 126 (agree_below_at (λ k. nat_le (slice_index LOWER k) 126) (λ k. true) 36 n refl below)
+lower_high n below = leb-true (slice_index LOWER n) 126
+    (agree_below_at (λ k. nat_le (slice_index LOWER k) 126) (λ k. true) 36 n refl below)
 
 pub upper_low : (n : ℕ) → n < 36 → 33 ≤ slice_index UPPER n
-upper_low n below = leb-true 33 (slice_index UPPER n) (agree_below_at (λ k. nat_le 33 (slice_index UPPER k)) (λ k. true) 36 n refl below)
+upper_low n below = leb-true 33 (slice_index UPPER n)
+    (agree_below_at (λ k. nat_le 33 (slice_index UPPER k)) (λ k. true) 36 n refl below)
 
 pub upper_high : (n : ℕ) → n < 36 → slice_index UPPER n ≤ 126
-upper_high n below = leb-true (slice_index UPPER n) 126 (agree_below_at (λ k. nat_le (slice_index UPPER k) 126) (λ k. true) 36 n refl below)
+upper_high n below = leb-true (slice_index UPPER n) 126
+    (agree_below_at (λ k. nat_le (slice_index UPPER k) 126) (λ k. true) 36 n refl below)
 
 pub value_table_below : (g : ℕ) → g < 128 → slice_index VALUES g < 36
-value_table_below g below = let v = value_table g below in let h = value-below g in omega (arith, v, h)
+value_table_below g below = let v = value_table g below in let h =
+    value-below g in omega (arith, v, h)

@@ -20,7 +20,11 @@ index_of-below d at inside = index-below at.y at.x d.h d.w inside.row inside.col
 pub inside-place_of : (d : Size) (n : ℕ) → IsSize d → n < cells_of d → IsInside d (place_of d n)
 inside-place_of d n size below =
     let some : 0 < d.w = omega (arith, size.columns) in
-    record { row = (div-lt_iff_lt-mul {k = d.w} {x = n} {y = d.h} some).1 below; column = omega arith }
+    record {
+      row = (div-lt_iff_lt-mul {k = d.w} {x = n} {y = d.h} some).1 below;
+      column =
+          omega arith;
+    }
 
 -- places and numbers give each other back
 pub index_of-place_of : (d : Size) (n : ℕ) → IsSize d → index_of d (place_of d n) ≡ n
@@ -33,13 +37,16 @@ place_of-index_of d at inside =
     rw (row, column) refl
 
 -- the number of a place gives its row and its column
-pub index-injective : (w y x y' x' : ℕ) → x < w → x' < w → y * w + x ≡ y' * w + x' → (y ≡ y') × (x ≡ x')
+pub index-injective : (w y x y' x' : ℕ) → x < w → x' < w → y * w + x ≡ y' * w + x'
+    → (y ≡ y') × (x ≡ x')
 index-injective w y x y' x' inside inside' same =
-    let row : y ≡ y' = sym (div-mul-add y w x inside) ∙ (ap (λ n. n / w) same ∙ div-mul-add y' w x' inside') in
+    let row : y ≡ y' = sym (div-mul-add y w x inside)
+    ∙ (ap (λ n. n / w) same ∙ div-mul-add y' w x' inside') in
     let rows : y * w ≡ y' * w = ap (λ n. n * w) row in
     (row, omega arith)
 
-tests_agree : (p q r s i j : ℕ) → (i ≡ j → (p ≡ q) × (r ≡ s)) → (p ≡ q → r ≡ s → i ≡ j) → ((p == q) && (r == s)) ≡ (i == j)
+tests_agree : (p q r s i j : ℕ) → (i ≡ j → (p ≡ q) × (r ≡ s)) → (p ≡ q → r ≡ s → i ≡ j)
+    → ((p == q) && (r == s)) ≡ (i == j)
 tests_agree p q r s i j apart together =
     elim (eqb_tells i j) [
       | inl same ↦ rw (same.0, eq-eqb p q (apart same.1).0, eq-eqb r s (apart same.1).1) refl
@@ -53,7 +60,8 @@ tests_agree p q r s i j apart together =
     ]
 
 -- places of the grid are one where their numbers are
-pub is_place-index : (d : Size) (a b : Place) → IsInside d a → IsInside d b → is_place a b ≡ (index_of d a == index_of d b)
+pub is_place-index : (d : Size) (a b : Place) → IsInside d a → IsInside d b
+    → is_place a b ≡ (index_of d a == index_of d b)
 is_place-index d a b inside_a inside_b =
     tests_agree a.y b.y a.x b.x (index_of d a) (index_of d b)
     (index-injective d.w a.y a.x b.y b.x inside_a.column inside_b.column)
@@ -80,13 +88,24 @@ pub is_inside-inside : (d : Size) (at : Place) → IsInside d at → is_inside d
 is_inside-inside d at inside = rw (lt-ltb at.y d.h inside.row, lt-ltb at.x d.w inside.column) refl
 
 pub inside-is_inside : (d : Size) (at : Place) → is_inside d at ≡ true → IsInside d at
-inside-is_inside d at test = record { row = grind (arith, nat_tests); column = grind (arith, nat_tests) }
+inside-is_inside d at test = record {
+  row = grind (arith, nat_tests);
+  column =
+      grind (arith, nat_tests);
+}
 
 -- the spot of a place in the grid is that place
 pub place_in-here : (d : Size) (at : Place) → IsInside d at → place_in d (here at) ≡ Some at
-place_in-here d at inside = rw (add-zero at.y, add-zero at.x, lt-ltb at.y d.h inside.row, lt-ltb at.x d.w inside.column) refl
+place_in-here d at inside = rw (
+  add-zero at.y,
+  add-zero at.x,
+  lt-ltb at.y d.h inside.row,
+  lt-ltb
+      at.x d.w inside.column,
+) refl
 
-inside_if : (d : Size) (y x : ℕ) (test : Bool) → test ≡ (nat_lt y d.h && nat_lt x d.w) → IfSome (if test then Some (record { y = y; x = x }) else None) (IsInside d)
+inside_if : (d : Size) (y x : ℕ) (test : Bool) → test ≡ (nat_lt y d.h && nat_lt x d.w)
+    → IfSome (if test then Some (record { y = y; x = x }) else None) (IsInside d)
 inside_if d y x true is = inside-is_inside d (record { y = y; x = x }) (sym is)
 inside_if d y x false is = tt
 
@@ -100,7 +119,8 @@ pub inside-place_in : (d : Size) (spot : Spot) → IfSome (place_in d spot) (IsI
 inside-place_in d spot = inside_at d spot.y spot.x
 
 -- two places of the grid that differ have different numbers
-pub index-apart : (d : Size) (a b : Place) → IsInside d a → IsInside d b → is_place a b ≡ false → index_of d a ≡ index_of d b → ⊥
+pub index-apart : (d : Size) (a b : Place) → IsInside d a → IsInside d b → is_place a b ≡ false
+    → index_of d a ≡ index_of d b → ⊥
 index-apart d a b inside_a inside_b apart same =
     let parts = index-injective d.w a.y a.x b.y b.x inside_a.column inside_b.column same in
     let test : is_place a b ≡ true = rw (eq-eqb a.y b.y parts.0, eq-eqb a.x b.x parts.1) refl in

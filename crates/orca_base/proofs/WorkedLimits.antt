@@ -1,4 +1,5 @@
--- The limits with their numbers, so that none changes unseen. What the reaches and the ranges of MIDI are for
+-- The limits with their numbers, so that none changes unseen. What the reaches and the ranges of
+-- MIDI are for
 -- is said by the laws of src/laws.rt.
 use Rattle.std.specs.Prelude.{◌≡◌, ◌+◌, ◌^◌, max, refl}
 use Rattle.orca_base.specs.declared.limits.TheConstants.{MAX_ROWS, MAX_COLUMNS, BASE, MAX_OCTAVE, MIN_VELOCITY, MAX_TEXT, MAX_VALUES, JUMP_REACH, COMMENT_REACH, MAX_DEEDS, MAX_TICKS, MAX_VISIT_TICKS, MAX_EVENTS, MAX_NOTES, MAX_MESSAGES, MAX_DIGITS, DEFAULT_SEED, MAX_FILE_BYTES, MAX_HISTORY, DEFAULT_HISTORY, KEPT_PATCHES, BACK_MOMENTS, MIN_SCREEN_ROWS, MAX_SCREEN_ROWS, MIN_SCREEN_COLUMNS, MAX_SCREEN_COLUMNS, MAX_BPM, DEFAULT_BPM, BEAT_FRAMES, MINUTE_MICROSECONDS, MAX_POLLS}

@@ -22,7 +22,12 @@ corner_of area = record { y = area.y; x = area.x }
 
 -- the part of a rect that lies in the grid
 abbrev pub area_in : Size → Rect → Area
-area_in d rect = record { y = rect.y; x = rect.x; h = min (rect.y + rect.h) d.h - rect.y; w = min (rect.x + rect.w) d.w - rect.x }
+area_in d rect = record {
+  y = rect.y;
+  x = rect.x;
+  h = min (rect.y + rect.h) d.h - rect.y;
+  w = min (rect.x + rect.w) d.w - rect.x;
+}
 
 -- the area of one place
 abbrev pub area_at : Place → Area

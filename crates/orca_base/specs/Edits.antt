@@ -1,4 +1,5 @@
--- What an edit makes of a grid, and what a copy takes of it. Each says of one place alone where its glyph comes from.
+-- What an edit makes of a grid, and what a copy takes of it. Each says of one place alone where its
+-- glyph comes from.
 use Rattle.std.specs.Prelude.{ℕ, ◌+◌, ◌-◌, Bool, ◌&&◌, nat_le, nat_lt, if◌then◌else◌}
 use Rattle.orca_base.specs.declared.area.Area.{Area}
 use Rattle.orca_base.specs.declared.place.Place.{Place}
@@ -9,7 +10,8 @@ use Rattle.orca_base.specs.Grids.{Size, Sheet, glyph_at, is_inside, sheet_by}
 -- the place lies in the block of this size whose first place is `corner`
 abbrev pub is_within : Place → Size → Place → Bool
 is_within corner d at =
-    nat_le corner.y at.y && nat_lt at.y (corner.y + d.h) && nat_le corner.x at.x && nat_lt at.x (corner.x + d.w)
+    nat_le corner.y at.y && nat_lt at.y (corner.y + d.h) && nat_le corner.x at.x && nat_lt at.x
+    (corner.x + d.w)
 
 -- the place lies in the area
 abbrev pub is_in_area : Area → Place → Bool
@@ -25,12 +27,15 @@ origin = record { y = 0; x = 0 }
 
 -- Fill: the places of the area hold the glyph
 abbrev pub sheet_after_fill : Sheet → Area → ℕ → Sheet
-sheet_after_fill g area glyph = sheet_by g.dims (λ at. if is_in_area area at then glyph else glyph_at g at)
+sheet_after_fill g area glyph =
+    sheet_by g.dims (λ at. if is_in_area area at then glyph else glyph_at g at)
 
--- Put: the cell (i, j) of the block stands i rows below and j columns to the right of `to`, where that is in the grid
+-- Put: the cell (i, j) of the block stands i rows below and j columns to the right of `to`, where
+-- that is in the grid
 abbrev pub sheet_after_put : Sheet → Place → Sheet → Sheet
 sheet_after_put g to block =
-    sheet_by g.dims (λ at. if is_within to block.dims at then glyph_at block (moved to origin at) else glyph_at g at)
+    sheet_by g.dims (λ at. if is_within to block.dims at then glyph_at block
+    (moved to origin at) else glyph_at g at)
 
 -- Move: the area's image holds what the area held, and the rest of the area is empty
 abbrev pub sheet_after_move : Sheet → Area → Place → Sheet

@@ -48,7 +48,8 @@ abbrev pub place_of : Size → ℕ → Place
 place_of d n = record { y = n / d.w; x = n % d.w }
 
 abbrev pub place_at : Size → ℤ → ℤ → Option Place
-place_at d (pos y) (pos x) = if nat_lt y d.h && nat_lt x d.w then Some (record { y = y; x = x }) else None
+place_at d (pos y) (pos x) = if nat_lt y d.h && nat_lt x d.w then Some
+    (record { y = y; x = x }) else None
 place_at d (pos y) (negsuc x) = None
 place_at d (negsuc y) x = None
 
@@ -64,7 +65,8 @@ IsReach d = (neg_ℤ MAX_REACH ≤ℤ d) × (d ≤ℤ MAX_REACH)
 abbrev pub off : Place → ℤ → ℤ → Spot
 off at dy dx = record { y = pos at.y +ℤ dy; x = pos at.x +ℤ dx }
 
--- a place as a spot, the spot above it, those n rows below, and those n columns to the left and to the right
+-- a place as a spot, the spot above it, those n rows below, and those n columns to the left and to
+-- the right
 abbrev pub here : Place → Spot
 here at = off at (pos 0) (pos 0)
 

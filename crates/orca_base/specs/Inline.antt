@@ -14,16 +14,19 @@ pub record IsInline (room : ℕ) (bytes : List ℕ) (len : ℕ) : Type 0 where
   pub zeros : drop len bytes ≡ replicate (room - len) 0
 
 -- the list gives the bytes and its length back
-pub length-inline : (room : ℕ) (bytes : List ℕ) (len : ℕ) → IsInline room bytes len → length (take len bytes) ≡ len
+pub length-inline : (room : ℕ) (bytes : List ℕ) (len : ℕ) → IsInline room bytes len
+    → length (take len bytes) ≡ len
 length-inline room bytes len inline =
     let fits : len ≤ length bytes = omega (arith, inline.short, inline.size) in
     length-take-le len bytes fits
 
-pub filled-inline : (room : ℕ) (bytes : List ℕ) (len : ℕ) → IsInline room bytes len → filled room (take len bytes) ≡ bytes
+pub filled-inline : (room : ℕ) (bytes : List ℕ) (len : ℕ) → IsInline room bytes len
+    → filled room (take len bytes) ≡ bytes
 filled-inline room bytes len inline =
     rw (length-inline room bytes len inline, ← inline.zeros) (take-append-drop len bytes)
 
-pub both-inline : (room : ℕ) (bytes : List ℕ) (len : ℕ) → IsInline room bytes len → ◌≡◌ {A = List ℕ × ℕ} (filled room (take len bytes), length (take len bytes)) (bytes, len)
+pub both-inline : (room : ℕ) (bytes : List ℕ) (len : ℕ) → IsInline room bytes len
+    → ◌≡◌ {A = List ℕ × ℕ} (filled room (take len bytes), length (take len bytes)) (bytes, len)
 both-inline room bytes len inline =
     let list : filled room (take len bytes) ≡ bytes = filled-inline room bytes len inline in
     let size : length (take len bytes) ≡ len = length-inline room bytes len inline in

@@ -19,7 +19,8 @@ marks_of n = record {
 -- the byte of a set
 abbrev pub bits_of : MarkSet → ℕ
 bits_of s =
-    (if s.lock then 1 else 0) + (if s.input then 2 else 0) + (if s.param then 4 else 0) + (if s.output then 8 else 0) + (if s.sleep then 16 else 0)
+    (if s.lock then 1 else 0) + (if s.input then 2 else 0) + (if s.param then 4 else 0)
+    + (if s.output then 8 else 0) + (if s.sleep then 16 else 0)
 
 -- the byte of one mark
 abbrev pub bit_of : Mark → ℕ
@@ -30,4 +31,5 @@ bit_of Output = 8
 bit_of Sleep = 16
 
 pub bits-back : (n : ℕ) → n < 32 → bits_of (marks_of n) ≡ n
-bits-back n below = eqb-true (bits_of (marks_of n)) n (agree_below_at (λ k. bits_of (marks_of k) == k) (λ k. true) 32 n refl below)
+bits-back n below = eqb-true (bits_of (marks_of n)) n
+    (agree_below_at (λ k. bits_of (marks_of k) == k) (λ k. true) 32 n refl below)

@@ -8,7 +8,8 @@ use Rattle.orca_base.specs.declared.limits.TheConstants.{MAX_DIGITS}
 -- 1 to 10 decimal digits whose value is below 2^32
 abbrev pub is_number : List ℕ → Bool
 is_number digits =
-    nat_le 1 (length digits) && nat_le (length digits) MAX_DIGITS && list_all is_digit digits && nat_lt (digits_value 10 digits) (2 ^ 32)
+    nat_le 1 (length digits) && nat_le (length digits) MAX_DIGITS && list_all is_digit digits
+    && nat_lt (digits_value 10 digits) (2 ^ 32)
 
 -- their value; leading zeros are read
 unfoldable pub number_of : List ℕ → Option ℕ

@@ -29,7 +29,8 @@ impl<const ROOM: usize> Model for Inline<ROOM> {
 
     ghost inverse = { λ s. record { bytes = filled ROOM s; len = length s } };
 
-    ghost inverse_ok = { λ s h. ap (λ (p : List ℕ × ℕ). record { bytes = p.0; len = p.1 }) (both-inline ROOM s.bytes s.len h) };
+    ghost inverse_ok = { λ s h. ap (λ (p : List ℕ × ℕ). record { bytes = p.0; len = p.1 })
+        (both-inline ROOM s.bytes s.len h) };
 }
 
 impl<const ROOM: usize> Inline<ROOM> {

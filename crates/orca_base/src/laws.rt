@@ -13,7 +13,8 @@ use crate::limits::{COMMENT_REACH, JUMP_REACH, MAX_CHANNEL, MAX_DATA};
 pub fn reach_law()
     ensures down { (d : Size) (at : Place) → IsSize d → place_in d (down at JUMP_REACH) ≡ None }
     ensures right { (d : Size) (at : Place) → IsSize d → place_in d (right at JUMP_REACH) ≡ None }
-    ensures comment { (d : Size) (at : Place) (k : ℕ) → IsSize d → at.x + k < d.w → k ≤ COMMENT_REACH }
+    ensures comment { (d : Size) (at : Place) (k : ℕ) → IsSize d → at.x + k < d.w
+        → k ≤ COMMENT_REACH }
 {}
 
 /// The channels and the data bytes are those of MIDI 1.0, no fewer and no more. So each MIDI message in range

@@ -25,5 +25,6 @@ pub trait Look {
     /// The marks of a place in the grid.
     fn marks_at(&self, at: Place) -> Marks
         requires { IsInside (sheet self.now).dims at }
-        ensures { result ≡ slice_index_or (marks self.now) (index_of (sheet self.now).dims at) no_marks };
+        ensures { result ≡ slice_index_or (marks self.now) (index_of (sheet self.now).dims at)
+            no_marks };
 }

@@ -13,24 +13,32 @@ use Rattle.orca_op.proofs.StateFacts.{dims_after, dims_after_all}
 use Rattle.orca_frame.specs.Frames.{desk_after_places}
 
 -- no visit changes the size
-pub dims_after_places : (rules : Rules) (n : ℕ) (g : Sheet) (now : Now) → (state_after_places rules n g now).dims ≡ g.dims
+pub dims_after_places : (rules : Rules) (n : ℕ) (g : Sheet) (now : Now)
+    → (state_after_places rules n g now).dims ≡ g.dims
 dims_after_places rules zero g now = refl
 dims_after_places rules (suc n) g now =
-    dims_after_all (state_after_places rules n g now) (visit_deeds rules (state_after_places rules n g now) (place_of g.dims n) now) ∙ dims_after_places rules n g now
+    dims_after_all (state_after_places rules n g now)
+    (visit_deeds rules (state_after_places rules n g now) (place_of g.dims n) now)
+    ∙ dims_after_places rules n g now
 
-listed-desk_after_all : (d : Desk) (deeds : List Deed) → (desk_after_all d deeds).listed ≡ list_after_all d.began.dims d.scan.dims d.listed deeds
+listed-desk_after_all : (d : Desk) (deeds : List Deed)
+    → (desk_after_all d deeds).listed ≡ list_after_all d.began.dims d.scan.dims d.listed deeds
 listed-desk_after_all d [] = refl
 listed-desk_after_all d (deed ∷ deeds) =
     listed-desk_after_all (desk_after d deed) deeds
-    ∙ ap (λ (dims : Size). list_after_all d.began.dims dims (list_after d.began.dims d.scan.dims d.listed deed) deeds) (dims_after d.scan deed)
+    ∙ ap (λ (dims : Size). list_after_all d.began.dims dims
+    (list_after d.began.dims d.scan.dims d.listed deed) deeds) (dims_after d.scan deed)
 
 began-desk_after_all : (d : Desk) (deeds : List Deed) → (desk_after_all d deeds).began ≡ d.began
 began-desk_after_all d [] = refl
 began-desk_after_all d (deed ∷ deeds) = began-desk_after_all (desk_after d deed) deeds
 
-list_after_all-append : (began dims : Size) (listed : List Place) (xs ys : List Deed) → list_after_all began dims listed (xs ++ ys) ≡ list_after_all began dims (list_after_all began dims listed xs) ys
+list_after_all-append : (began dims : Size) (listed : List Place) (xs ys : List Deed)
+    → list_after_all began dims listed (xs ++ ys) ≡ list_after_all began dims
+    (list_after_all began dims listed xs) ys
 list_after_all-append began dims listed [] ys = refl
-list_after_all-append began dims listed (x ∷ xs) ys = list_after_all-append began dims (list_after began dims listed x) xs ys
+list_after_all-append began dims listed (x ∷ xs) ys =
+    list_after_all-append began dims (list_after began dims listed x) xs ys
 
 same_desk : (d e : Desk) → d.scan ≡ e.scan → d.began ≡ e.began → d.listed ≡ e.listed → d ≡ e
 same_desk d e scan began listed =
@@ -39,7 +47,9 @@ same_desk d e scan began listed =
     ∙ ap (λ (l : List Place). record { scan = e.scan; began = e.began; listed = l }) listed)
 
 -- one visit more
-pub desk_suc : (n : ℕ) (g : Sheet) (now : Now) → desk_after_all (desk_after_places n g now) (visit_deeds rule (state_after_places rule n g now) (place_of g.dims n) now) ≡ desk_after_places (suc n) g now
+pub desk_suc : (n : ℕ) (g : Sheet) (now : Now)
+    → desk_after_all (desk_after_places n g now) (visit_deeds rule (state_after_places rule n g now)
+    (place_of g.dims n) now) ≡ desk_after_places (suc n) g now
 desk_suc n g now =
     let d = desk_after_places n g now in
     let deeds = visit_deeds rule (state_after_places rule n g now) (place_of g.dims n) now in
@@ -47,5 +57,6 @@ desk_suc n g now =
     (scan-desk_after_all d deeds)
     (began-desk_after_all d deeds)
     (listed-desk_after_all d deeds
-    ∙ (ap (λ (dims : Size). list_after_all g.dims dims d.listed deeds) (dims_after_places rule n g now)
+    ∙ (ap (λ (dims : Size). list_after_all g.dims dims d.listed deeds)
+    (dims_after_places rule n g now)
     ∙ sym (list_after_all-append g.dims g.dims [] (scan_deeds n g now) deeds)))

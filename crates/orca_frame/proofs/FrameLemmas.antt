@@ -19,54 +19,71 @@ use Rattle.orca_frame.proofs.ResidueLemmas.{residue_desk}
 use Rattle.orca_frame.proofs.WrittenLemmas.{written_places-exactly, scan-deeds}
 
 -- the size stays
-pub dims_desk : (d : Desk) (n : ℕ) (g : Sheet) (now : Now) → d ≡ desk_after_places n g now → d.scan.dims ≡ g.dims
+pub dims_desk : (d : Desk) (n : ℕ) (g : Sheet) (now : Now) → d ≡ desk_after_places n g now
+    → d.scan.dims ≡ g.dims
 dims_desk d n g now is = ap (λ (e : Desk). e.scan.dims) is ∙ dims_after_places rule n g now
 
 -- a place of the grid lies in it throughout
-pub inside_desk : (d : Desk) (n : ℕ) (g : Sheet) (now : Now) (at : Place) → d ≡ desk_after_places n g now → IsInside g.dims at → IsInside d.scan.dims at
-inside_desk d n g now at is inside = subst (λ (e : Size). IsInside e at) (sym (dims_desk d n g now is)) inside
+pub inside_desk : (d : Desk) (n : ℕ) (g : Sheet) (now : Now) (at : Place)
+    → d ≡ desk_after_places n g now → IsInside g.dims at → IsInside d.scan.dims at
+inside_desk d n g now at is inside =
+    subst (λ (e : Size). IsInside e at) (sym (dims_desk d n g now is)) inside
 
 -- there is room for one event more while a place is left
-pub room_desk : (d : Desk) (n : ℕ) (g : Sheet) (now : Now) → d ≡ desk_after_places n g now → IsLawful rule → IsSheet g → n < places g → HasRoom d
+pub room_desk : (d : Desk) (n : ℕ) (g : Sheet) (now : Now) → d ≡ desk_after_places n g now
+    → IsLawful rule → IsSheet g → n < places g → HasRoom d
 room_desk d n g now is lawful sheet below =
     let few : length d.scan.events ≤ n =
-    subst (λ (e : Desk). length e.scan.events ≤ n) (sym is) (played n g now lawful sheet (omega arith)).few in
+    subst (λ (e : Desk). length e.scan.events ≤ n) (sym is)
+    (played n g now lawful sheet (omega arith)).few in
     let as_many : cells_of d.scan.dims ≡ cells_of g.dims = ap cells_of (dims_desk d n g now is) in
     omega (arith, few, as_many, below)
 
 -- one visit more
-pub visit_desk : (d e : Desk) (n : ℕ) (g : Sheet) (now : Now) (at : Place) → d ≡ desk_after_places n g now → at ≡ place_of g.dims n → e ≡ desk_after_all d (visit_deeds rule d.scan at now) → e ≡ desk_after_places (n + 1) g now
+pub visit_desk : (d e : Desk) (n : ℕ) (g : Sheet) (now : Now) (at : Place)
+    → d ≡ desk_after_places n g now → at ≡ place_of g.dims n
+    → e ≡ desk_after_all d (visit_deeds rule d.scan at now) → e ≡ desk_after_places (n + 1) g now
 visit_desk d e n g now at is here visited =
     rw add-one (visited
     ∙ (ap (λ (x : Desk). desk_after_all x (visit_deeds rule x.scan at now)) is
-    ∙ (ap (λ (p : Place). desk_after_all (desk_after_places n g now) (visit_deeds rule (state_after_places rule n g now) p now)) here
+    ∙ (ap (λ (p : Place). desk_after_all (desk_after_places n g now)
+    (visit_deeds rule (state_after_places rule n g now) p now)) here
     ∙ desk_suc n g now)))
 
 -- whether the place that is visited holds an operator
-pub busy_more : (d : Desk) (n : ℕ) (g : Sheet) (now : Now) (at : Place) → d ≡ desk_after_places n g now → at ≡ place_of g.dims n
+pub busy_more : (d : Desk) (n : ℕ) (g : Sheet) (now : Now) (at : Place)
+    → d ≡ desk_after_places n g now → at ≡ place_of g.dims n
     → busy_of (n + 1) g now ≡ busy_of n g now + (if is_operator (glyph_at d.scan at) then 1 else 0)
 busy_more d n g now at is here =
-    let operator : glyph_at d.scan at ≡ glyph_at (state_after_places rule n g now) (place_of g.dims n) =
-    ap (λ (e : Desk). glyph_at e.scan at) is ∙ ap (λ (p : Place). glyph_at (state_after_places rule n g now) p) here in
+    let operator : glyph_at d.scan at ≡ glyph_at (state_after_places rule n g now)
+    (place_of g.dims n) =
+    ap (λ (e : Desk). glyph_at e.scan at) is
+    ∙ ap (λ (p : Place). glyph_at (state_after_places rule n g now) p) here in
     rw (add-one, operator) refl
 
 -- every place was visited
-framed_sheet : (d : Desk) (g : Sheet) (now : Now) → d ≡ desk_after_places (places g) g now → IsLawful rule → IsSheet g
-    → (d.scan ≡ scan g now) × (d.listed ≡ written_places g now) × (residue d ≤ MAX_DEEDS * busy g now)
+framed_sheet : (d : Desk) (g : Sheet) (now : Now) → d ≡ desk_after_places (places g) g now
+    → IsLawful rule → IsSheet g
+    → (d.scan ≡ scan g now) × (d.listed ≡ written_places g now)
+    × (residue d ≤ MAX_DEEDS * busy g now)
 unfolding scan written_places busy
 framed_sheet d g now is lawful sheet = (
   ap (λ (e : Desk). e.scan) is,
   ap (λ (e : Desk). e.listed) is,
-  subst (λ (e : Desk). residue e ≤ MAX_DEEDS * busy_of (places g) g now) (sym is) (residue_desk (places g) g now lawful),
+  subst (λ (e : Desk). residue e ≤ MAX_DEEDS * busy_of (places g) g now) (sym is)
+      (residue_desk (places g) g now lawful),
 )
 
-pub framed : (d e : Desk) (n : ℕ) (now : Now) → IsDesk d → IsLawful rule → n ≡ cells_of d.scan.dims → e ≡ desk_after_places n (sheet_of d.scan) now → IsFramed d e now
+pub framed : (d e : Desk) (n : ℕ) (now : Now) → IsDesk d → IsLawful rule → n ≡ cells_of d.scan.dims
+    → e ≡ desk_after_places n (sheet_of d.scan) now → IsFramed d e now
 framed d e n now desk lawful all is =
     let g : Sheet = sheet_of d.scan in
-    let whole : e ≡ desk_after_places (places g) g now = is ∙ ap (λ (m : ℕ). desk_after_places m g now) all in
+    let whole : e ≡ desk_after_places (places g) g now =
+    is ∙ ap (λ (m : ℕ). desk_after_places m g now) all in
     let leaves = framed_sheet e g now whole lawful desk.state.sheet in
     let last : IsPlayed e (places g) =
-    subst (λ (x : Desk). IsPlayed x (places g)) (sym whole) (played (places g) g now lawful desk.state.sheet (omega arith)) in
+    subst (λ (x : Desk). IsPlayed x (places g)) (sym whole)
+    (played (places g) g now lawful desk.state.sheet (omega arith)) in
     record {
       scan = leaves.0;
       deeds = leaves.0 ∙ scan-deeds g now;
@@ -74,7 +91,8 @@ framed d e n now desk lawful all is =
       size = dims_desk e (places g) g now whole;
       listed = leaves.1;
       written = λ at.
-          subst (λ (listed : List Place). Contains listed at ↔ IsWritten g now at) (sym leaves.1) (written_places-exactly g now at);
+          subst (λ (listed : List Place). Contains listed at ↔ IsWritten g now at) (sym leaves.1)
+          (written_places-exactly g now at);
       desk = last.desk;
       events = last.events;
       residue = leaves.2;

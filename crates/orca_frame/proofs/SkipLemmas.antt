@@ -19,12 +19,14 @@ use Rattle.orca_frame.specs.Frames.{desk_after_places, most_ticks}
 use Rattle.orca_frame.specs.Skips.{HoldsNone}
 use Rattle.orca_frame.proofs.FrameLemmas.{dims_desk, inside_desk, visit_desk, busy_more}
 
-idle_if : (operator lock sleep waits : Bool) (deeds : List Deed) → operator ≡ false → (if not operator || lock || sleep || waits then [] else deeds) ≡ []
+idle_if : (operator lock sleep waits : Bool) (deeds : List Deed) → operator ≡ false
+    → (if not operator || lock || sleep || waits then [] else deeds) ≡ []
 idle_if true lock sleep waits deeds none = cc
 idle_if false lock sleep waits deeds none = refl
 
 -- a place that holds no operator has no deeds
-no_deeds : (rules : Rules) (s : State) (at : Place) (now : Now) → is_operator (glyph_at s at) ≡ false → visit_deeds rules s at now ≡ []
+no_deeds : (rules : Rules) (s : State) (at : Place) (now : Now)
+    → is_operator (glyph_at s at) ≡ false → visit_deeds rules s at now ≡ []
 unfolding visit_deeds is_idle
 no_deeds rules s at now none = idle_if _ _ _ _ (rules (glyph_at s at) s at now) none
 
@@ -32,19 +34,22 @@ after_none : (s : State) (deeds : List Deed) → deeds ≡ [] → after_all s de
 after_none s deeds none = ap (after_all s) none
 
 -- the state stays over places that hold no operator
-pub state-skip : (rules : Rules) (n many : ℕ) (g : Sheet) (now : Now) → HoldsNone rules n many g now → state_after_places rules (n + many) g now ≡ state_after_places rules n g now
+pub state-skip : (rules : Rules) (n many : ℕ) (g : Sheet) (now : Now) → HoldsNone rules n many g now
+    → state_after_places rules (n + many) g now ≡ state_after_places rules n g now
 state-skip rules n zero g now none = rw add-zero refl
 state-skip rules n (suc many) g now none =
     let s = state_after_places rules n g now in
     let at = place_of g.dims (n + many) in
-    let before : state_after_places rules (n + many) g now ≡ s = state-skip rules n many g now (λ i below. none i (omega arith)) in
+    let before : state_after_places rules (n + many) g now ≡ s = state-skip rules n many g now
+    (λ i below. none i (omega arith)) in
     let next : n + suc many ≡ suc (n + many) = omega arith in
     rw next (
     ap (λ (t : State). state_after_visit rules t at now) before
     ∙ after_none s (visit_deeds rules s at now) (no_deeds rules s at now (none many (omega arith))))
 
 -- so do the deeds of the frame
-deeds-skip : (n many : ℕ) (g : Sheet) (now : Now) → HoldsNone rule n many g now → scan_deeds (n + many) g now ≡ scan_deeds n g now
+deeds-skip : (n many : ℕ) (g : Sheet) (now : Now) → HoldsNone rule n many g now
+    → scan_deeds (n + many) g now ≡ scan_deeds n g now
 deeds-skip n zero g now none = rw add-zero refl
 deeds-skip n (suc many) g now none =
     let s = state_after_places rule n g now in
@@ -52,58 +57,86 @@ deeds-skip n (suc many) g now none =
     let less : HoldsNone rule n many g now = λ i below. none i (omega arith) in
     let before : scan_deeds (n + many) g now ≡ scan_deeds n g now = deeds-skip n many g now less in
     let here : visit_deeds rule (state_after_places rule (n + many) g now) at now ≡ [] =
-    ap (λ (t : State). visit_deeds rule t at now) (state-skip rule n many g now less) ∙ no_deeds rule s at now (none many (omega arith)) in
+    ap (λ (t : State). visit_deeds rule t at now) (state-skip rule n many g now less)
+    ∙ no_deeds rule s at now (none many (omega arith)) in
     let next : n + suc many ≡ suc (n + many) = omega arith in
     rw (next, before, here) (append-nil (scan_deeds n g now))
 
 -- and the count of busy places
-busy-skip : (n many : ℕ) (g : Sheet) (now : Now) → HoldsNone rule n many g now → busy_of (n + many) g now ≡ busy_of n g now
+busy-skip : (n many : ℕ) (g : Sheet) (now : Now) → HoldsNone rule n many g now
+    → busy_of (n + many) g now ≡ busy_of n g now
 busy-skip n zero g now none = rw add-zero refl
 busy-skip n (suc many) g now none =
     let at = place_of g.dims (n + many) in
     let less : HoldsNone rule n many g now = λ i below. none i (omega arith) in
     let before : busy_of (n + many) g now ≡ busy_of n g now = busy-skip n many g now less in
     let here : is_operator (glyph_at (state_after_places rule (n + many) g now) at) ≡ false =
-    ap (λ (t : State). is_operator (glyph_at t at)) (state-skip rule n many g now less) ∙ none many (omega arith) in
+    ap (λ (t : State). is_operator (glyph_at t at)) (state-skip rule n many g now less)
+    ∙ none many (omega arith) in
     let next : n + suc many ≡ suc (n + many) = omega arith in
     rw (next, here) (omega (arith, before))
 
-desk-skip : (n many : ℕ) (g : Sheet) (now : Now) → HoldsNone rule n many g now → desk_after_places (n + many) g now ≡ desk_after_places n g now
+desk-skip : (n many : ℕ) (g : Sheet) (now : Now) → HoldsNone rule n many g now
+    → desk_after_places (n + many) g now ≡ desk_after_places n g now
 desk-skip n many g now none =
-    ap (λ (s : State). record { scan = s; began = g; listed = list_after_all g.dims g.dims [] (scan_deeds (n + many) g now) }) (state-skip rule n many g now none)
-    ∙ ap (λ (deeds : List Deed). record { scan = state_after_places rule n g now; began = g; listed = list_after_all g.dims g.dims [] deeds }) (deeds-skip n many g now none)
+    ap (λ (s : State). record {
+      scan = s;
+      began = g;
+      listed = list_after_all g.dims g.dims []
+          (scan_deeds (n + many) g now);
+    }) (state-skip rule n many g now none)
+    ∙ ap (λ (deeds : List Deed). record {
+      scan = state_after_places rule n g now;
+      began = g;
+      listed = list_after_all g.dims g.dims [] deeds;
+    }) (deeds-skip n many g now none)
 
 -- ---- a row
 
 -- the place of a column of a row
-pub row_place : (d : Size) (row x : ℕ) → row < d.h → x < d.w → ◌≡◌ {A = Place} (record { y = row; x = x }) (place_of d (row * d.w + x))
-row_place d row x high wide = sym (place_of-index_of d (record { y = row; x = x }) (record { row = high; column = wide }))
+pub row_place : (d : Size) (row x : ℕ) → row < d.h → x < d.w
+    → ◌≡◌ {A = Place} (record { y = row; x = x }) (place_of d (row * d.w + x))
+row_place d row x high wide = sym (place_of-index_of d (record { y = row; x = x })
+    (record { row = high; column = wide }))
 
-not_live : (inside operator : Bool) → inside ≡ true → (inside && operator) ≡ false → operator ≡ false
+not_live : (inside operator : Bool) → inside ≡ true → (inside && operator) ≡ false
+    → operator ≡ false
 not_live true operator is none = none
 not_live false operator is none = cc
 
-none_in_row : (d : Desk) (g : Sheet) (now : Now) (row from to : ℕ) → d ≡ desk_after_places (row * g.dims.w + from) g now → row < g.dims.h → to ≤ g.dims.w → HasNoLive d.scan row from to → HoldsNone rule (row * g.dims.w + from) (to - from) g now
+none_in_row : (d : Desk) (g : Sheet) (now : Now) (row from to : ℕ)
+    → d ≡ desk_after_places (row * g.dims.w + from) g now → row < g.dims.h → to ≤ g.dims.w
+    → HasNoLive d.scan row from to → HoldsNone rule (row * g.dims.w + from) (to - from) g now
 none_in_row d g now row from to is high wide none i below =
     let x : ℕ = from + i in
     let inside : x < g.dims.w = omega arith in
     let here = row_place g.dims row x high inside in
     let number : row * g.dims.w + from + i ≡ row * g.dims.w + x = omega arith in
     let same : d.scan.dims ≡ g.dims = dims_desk d (row * g.dims.w + from) g now is in
-    let column : nat_lt x d.scan.dims.w ≡ true = ap (λ (e : Size). nat_lt x e.w) same ∙ lt-ltb x g.dims.w inside in
-    let dead : is_operator (glyph_at d.scan (record { y = row; x = x })) ≡ false = not_live _ _ column (none x (omega arith) (omega arith)) in
-    ap (λ (m : ℕ). is_operator (glyph_at (state_after_places rule (row * g.dims.w + from) g now) (place_of g.dims m))) number
-    ∙ (ap (λ (p : Place). is_operator (glyph_at (state_after_places rule (row * g.dims.w + from) g now) p)) (sym here)
-    ∙ (ap (λ (e : Desk). is_operator (glyph_at e.scan (record { y = row; x = x }))) (sym is) ∙ dead))
+    let column : nat_lt x d.scan.dims.w ≡ true = ap (λ (e : Size). nat_lt x e.w) same
+    ∙ lt-ltb x g.dims.w inside in
+    let dead : is_operator (glyph_at d.scan (record { y = row; x = x })) ≡ false =
+    not_live _ _ column (none x (omega arith) (omega arith)) in
+    ap (λ (m : ℕ). is_operator (glyph_at (state_after_places rule (row * g.dims.w + from) g now)
+    (place_of g.dims m))) number
+    ∙ (ap (λ (p : Place). is_operator
+    (glyph_at (state_after_places rule (row * g.dims.w + from) g now) p)) (sym here)
+    ∙ (ap (λ (e : Desk). is_operator (glyph_at e.scan (record { y = row; x = x }))) (sym is)
+    ∙ dead))
 
 -- the columns up to the next live one are passed over
-pub pass_over : (d : Desk) (g : Sheet) (now : Now) (row from to : ℕ) → d ≡ desk_after_places (row * g.dims.w + from) g now → row < g.dims.h → from ≤ to → to ≤ g.dims.w → HasNoLive d.scan row from to
-    → (d ≡ desk_after_places (row * g.dims.w + to) g now) × (busy_of (row * g.dims.w + to) g now ≡ busy_of (row * g.dims.w + from) g now)
+pub pass_over : (d : Desk) (g : Sheet) (now : Now) (row from to : ℕ)
+    → d ≡ desk_after_places (row * g.dims.w + from) g now → row < g.dims.h → from ≤ to
+    → to ≤ g.dims.w → HasNoLive d.scan row from to
+    → (d ≡ desk_after_places (row * g.dims.w + to) g now)
+    × (busy_of (row * g.dims.w + to) g now ≡ busy_of (row * g.dims.w + from) g now)
 pass_over d g now row from to is high grows wide none =
     let passed = none_in_row d g now row from to is high wide none in
     let number : row * g.dims.w + from + (to - from) ≡ row * g.dims.w + to = omega arith in (
-      is ∙ (sym (desk-skip (row * g.dims.w + from) (to - from) g now passed) ∙ ap (λ (m : ℕ). desk_after_places m g now) number),
-      ap (λ (m : ℕ). busy_of m g now) (sym number) ∙ busy-skip (row * g.dims.w + from) (to - from) g now passed,
+      is ∙ (sym (desk-skip (row * g.dims.w + from) (to - from) g now passed)
+          ∙ ap (λ (m : ℕ). desk_after_places m g now) number),
+      ap (λ (m : ℕ). busy_of m g now) (sym number) ∙ busy-skip (row * g.dims.w + from) (to - from) g
+          now passed,
     )
 
 live_inside : (inside operator : Bool) → (inside && operator) ≡ true → inside ≡ true
@@ -115,13 +148,15 @@ live_operator true operator live = live
 live_operator false operator live = cc
 
 -- a live column lies in the row, and holds an operator
-pub live_column : (d : Desk) (g : Sheet) (n : ℕ) (now : Now) (row x : ℕ) → d ≡ desk_after_places n g now → IsTrue (is_live d.scan row x) → x < g.dims.w
+pub live_column : (d : Desk) (g : Sheet) (n : ℕ) (now : Now) (row x : ℕ)
+    → d ≡ desk_after_places n g now → IsTrue (is_live d.scan row x) → x < g.dims.w
 live_column d g n now row x is live =
     let inside : nat_lt x d.scan.dims.w ≡ true = live_inside _ _ live in
     let same : d.scan.dims ≡ g.dims = dims_desk d n g now is in
     subst (λ (e : Size). x < e.w) same (ltb-true x d.scan.dims.w inside)
 
-pub live_glyph : (s : State) (row x : ℕ) → IsTrue (is_live s row x) → IsTrue (is_operator (glyph_at s (record { y = row; x = x })))
+pub live_glyph : (s : State) (row x : ℕ) → IsTrue (is_live s row x)
+    → IsTrue (is_operator (glyph_at s (record { y = row; x = x })))
 live_glyph s row x live = live_operator _ _ live
 
 -- ---- one operator of a row more
@@ -136,8 +171,10 @@ pub record Finds (d : Desk) (g : Sheet) (now : Now) (row from x : ℕ) : Type 0 
   pub reached : d ≡ desk_after_places (row * g.dims.w + x) g now
   pub busy : busy_of (row * g.dims.w + x) g now ≡ busy_of (row * g.dims.w + from) g now
 
-pub finds : (d : Desk) (g : Sheet) (now : Now) (row from x : ℕ) → d ≡ desk_after_places (row * g.dims.w + from) g now → row < g.dims.h
-    → from ≤ x → IsTrue (is_live d.scan row x) → HasNoLive d.scan row from x → Finds d g now row from x
+pub finds : (d : Desk) (g : Sheet) (now : Now) (row from x : ℕ)
+    → d ≡ desk_after_places (row * g.dims.w + from) g now → row < g.dims.h
+    → from ≤ x → IsTrue (is_live d.scan row x) → HasNoLive d.scan row from x
+    → Finds d g now row from x
 finds d g now row from x is high after live none =
     let column : x < g.dims.w = live_column d g (row * g.dims.w + from) now row x is live in
     let at : Place = record { y = row; x = x } in
@@ -158,8 +195,10 @@ pub record Visited (e : Desk) (g : Sheet) (now : Now) (row from x : ℕ) : Type 
   pub reached : e ≡ desk_after_places (row * g.dims.w + (x + 1)) g now
   pub busy : busy_of (row * g.dims.w + (x + 1)) g now ≡ busy_of (row * g.dims.w + from) g now + 1
 
-pub visited : (d e : Desk) (g : Sheet) (now : Now) (row from x : ℕ) → Finds d g now row from x → row < g.dims.h
-    → e ≡ desk_after_all d (visit_deeds rule d.scan (record { y = row; x = x }) now) → Visited e g now row from x
+pub visited : (d e : Desk) (g : Sheet) (now : Now) (row from x : ℕ) → Finds d g now row from x
+    → row < g.dims.h
+    → e ≡ desk_after_all d (visit_deeds rule d.scan (record { y = row; x = x }) now)
+    → Visited e g now row from x
 visited d e g now row from x finds high done =
     let n : ℕ = row * g.dims.w + x in
     let at : Place = record { y = row; x = x } in
@@ -167,23 +206,33 @@ visited d e g now row from x finds high done =
     let next : row * g.dims.w + (x + 1) ≡ n + 1 = omega arith in
     let one : (if is_operator (glyph_at d.scan at) then 1 else 0) ≡ 1 = rw finds.operator refl in
     record {
-      reached = visit_desk d e n g now at finds.reached here done ∙ ap (λ (m : ℕ). desk_after_places m g now) (sym next);
-      busy = rw next (busy_more d n g now at finds.reached here ∙ (ap (λ m. busy_of n g now + m) one ∙ ap (λ m. m + 1) finds.busy));
+      reached = visit_desk d e n g now at finds.reached here done
+          ∙ ap (λ (m : ℕ). desk_after_places m g now) (sym next);
+      busy = rw next (busy_more d n g now at finds.reached here
+          ∙ (ap (λ m. busy_of n g now + m) one ∙ ap (λ m. m + 1) finds.busy));
     }
 
 -- where no operator is left, the row is passed over
-pub row_over : (d : Desk) (g : Sheet) (now : Now) (row from : ℕ) → d ≡ desk_after_places (row * g.dims.w + from) g now → row < g.dims.h → from ≤ g.dims.w → HasNoLive d.scan row from d.scan.dims.w
-    → (d ≡ desk_after_places ((row + 1) * g.dims.w) g now) × (busy_of ((row + 1) * g.dims.w) g now ≡ busy_of (row * g.dims.w + from) g now)
+pub row_over : (d : Desk) (g : Sheet) (now : Now) (row from : ℕ)
+    → d ≡ desk_after_places (row * g.dims.w + from) g now → row < g.dims.h → from ≤ g.dims.w
+    → HasNoLive d.scan row from d.scan.dims.w
+    → (d ≡ desk_after_places ((row + 1) * g.dims.w) g now)
+    × (busy_of ((row + 1) * g.dims.w) g now ≡ busy_of (row * g.dims.w + from) g now)
 row_over d g now row from is high inside none =
-    let width : d.scan.dims.w ≡ g.dims.w = ap (λ (e : Size). e.w) (dims_desk d (row * g.dims.w + from) g now is) in
-    let all : HasNoLive d.scan row from g.dims.w = λ x low below. none x low (omega (arith, below, width)) in
+    let width : d.scan.dims.w ≡ g.dims.w =
+    ap (λ (e : Size). e.w) (dims_desk d (row * g.dims.w + from) g now is) in
+    let all : HasNoLive d.scan row from g.dims.w = λ x low below. none x low
+    (omega (arith, below, width)) in
     let passed = pass_over d g now row from g.dims.w is high inside (omega arith) all in
-    let next : (row + 1) * g.dims.w ≡ row * g.dims.w + g.dims.w = omega arith in
-    (passed.0 ∙ ap (λ (m : ℕ). desk_after_places m g now) (sym next), ap (λ (m : ℕ). busy_of m g now) next ∙ passed.1)
+    let next : (row + 1) * g.dims.w ≡ row * g.dims.w + g.dims.w = omega arith in (
+      passed.0 ∙ ap (λ (m : ℕ). desk_after_places m g now) (sym next),
+      ap (λ (m : ℕ). busy_of m g now) next ∙ passed.1,
+    )
 
 -- the ticks of all rows
 pub ticks_of_rows : (d : Desk) (rows : ℕ) (now : Now) (first last : ℕ) → rows ≡ d.scan.dims.h
-    → last ≤ first + 1 + residue d + rows + MAX_VISIT_TICKS * busy_of (rows * d.scan.dims.w) (sheet_of d.scan) now
+    → last ≤ first + 1 + residue d + rows + MAX_VISIT_TICKS * busy_of (rows * d.scan.dims.w)
+    (sheet_of d.scan) now
     → last ≤ first + most_ticks d now
 unfolding busy
 ticks_of_rows d rows now first last all so_far =

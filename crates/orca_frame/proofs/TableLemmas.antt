@@ -5,7 +5,8 @@ use Rattle.orca_op.specs.Kinds.{kind_of}
 use Rattle.orca_op.specs.Laws.{IsLawful}
 use Rattle.orca_op.specs.Rules.{rule, rule_of, rule_if}
 
-lawful_if : ((kind : Kind) → IsLawful (rule_of kind)) → (kind : Option Kind) → IsLawful (rule_if kind)
+lawful_if : ((kind : Kind) → IsLawful (rule_of kind)) → (kind : Option Kind)
+    → IsLawful (rule_if kind)
 lawful_if each None = record {
   few_deeds = λ g s at now. omega arith;
   one_event = λ g s at now. omega arith;

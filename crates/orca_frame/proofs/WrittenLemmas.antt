@@ -21,7 +21,9 @@ use Rattle.orca_frame.specs.Written.{WritesPlace, IsWritten}
 
 -- ---- the place of a spot lies in the grid
 
-placed_if : (d : Size) (y x : ℕ) (at : Place) (inside : Bool) → (nat_lt y d.h && nat_lt x d.w) ≡ inside → (if inside then Some (record { y = y; x = x }) else None) ≡ Some at → is_inside d at ≡ true
+placed_if : (d : Size) (y x : ℕ) (at : Place) (inside : Bool)
+    → (nat_lt y d.h && nat_lt x d.w) ≡ inside
+    → (if inside then Some (record { y = y; x = x }) else None) ≡ Some at → is_inside d at ≡ true
 placed_if d y x at true inside same = cc
 placed_if d y x at false inside same = cc
 
@@ -36,47 +38,60 @@ only_one : (at q : Place) → Contains (q ∷ []) at → Some q ≡ Some at
 only_one at q (zero, below, is) = ap (λ (p : Place). Some p) is
 only_one at q (suc k, below, is) = absurd (omega arith)
 
-listed_or : (listed : List Place) (at q : Place) → Contains listed at ⊎ Contains (q ∷ []) at → Contains listed at ⊎ (Some q ≡ Some at)
+listed_or : (listed : List Place) (at q : Place) → Contains listed at ⊎ Contains (q ∷ []) at
+    → Contains listed at ⊎ (Some q ≡ Some at)
 listed_or listed at q (inl before) = inl before
 listed_or listed at q (inr itself) = inr (only_one at q itself)
 
-from_if : (listed : List Place) (at q : Place) (adds : Bool) → Contains (if adds then listed ++ q ∷ [] else listed) at → Contains listed at ⊎ (Some q ≡ Some at)
+from_if : (listed : List Place) (at q : Place) (adds : Bool)
+    → Contains (if adds then listed ++ q ∷ [] else listed) at
+    → Contains listed at ⊎ (Some q ≡ Some at)
 from_if listed at q true is = listed_or listed at q (Contains-append_cases listed (q ∷ []) at is)
 from_if listed at q false is = inl is
 
 -- a listed place was listed before, or is the one that is written
-from_with : (d : Size) (listed : List Place) (p : Option Place) (at : Place) → Contains (list_with d listed p) at → Contains listed at ⊎ (p ≡ Some at)
+from_with : (d : Size) (listed : List Place) (p : Option Place) (at : Place)
+    → Contains (list_with d listed p) at → Contains listed at ⊎ (p ≡ Some at)
 from_with d listed None at is = inl is
-from_with d listed (Some q) at is = from_if listed at q (is_inside d q && not (list_any (is_place q) listed)) is
+from_with d listed (Some q) at is =
+    from_if listed at q (is_inside d q && not (list_any (is_place q) listed)) is
 
-kept_if : (listed : List Place) (at q : Place) (adds : Bool) → Contains listed at → Contains (if adds then listed ++ q ∷ [] else listed) at
+kept_if : (listed : List Place) (at q : Place) (adds : Bool) → Contains listed at
+    → Contains (if adds then listed ++ q ∷ [] else listed) at
 kept_if listed at q true is = Contains-append_left listed (q ∷ []) at is
 kept_if listed at q false is = is
 
 -- a listed place stays
-kept_with : (d : Size) (listed : List Place) (p : Option Place) (at : Place) → Contains listed at → Contains (list_with d listed p) at
+kept_with : (d : Size) (listed : List Place) (p : Option Place) (at : Place) → Contains listed at
+    → Contains (list_with d listed p) at
 kept_with d listed None at is = is
-kept_with d listed (Some q) at is = kept_if listed at q (is_inside d q && not (list_any (is_place q) listed)) is
+kept_with d listed (Some q) at is =
+    kept_if listed at q (is_inside d q && not (list_any (is_place q) listed)) is
 
-added_if : (listed : List Place) (at : Place) (inside found : Bool) → inside ≡ true → list_any (is_place at) listed ≡ found → Contains (if inside && not found then listed ++ at ∷ [] else listed) at
+added_if : (listed : List Place) (at : Place) (inside found : Bool) → inside ≡ true
+    → list_any (is_place at) listed ≡ found
+    → Contains (if inside && not found then listed ++ at ∷ [] else listed) at
 added_if listed at true false inside absent = Contains-push listed at
 added_if listed at true true inside present = Contains-from_any is_place-same at listed present
 added_if listed at false found inside test = cc
 
 -- a place of the grid that is written is listed
-added_with : (d : Size) (listed : List Place) (p : Option Place) (at : Place) → p ≡ Some at → is_inside d at ≡ true → Contains (list_with d listed p) at
+added_with : (d : Size) (listed : List Place) (p : Option Place) (at : Place) → p ≡ Some at
+    → is_inside d at ≡ true → Contains (list_with d listed p) at
 added_with d listed p at is inside =
     subst (λ (q : Option Place). Contains (list_with d listed q) at) (sym is)
     (added_if listed at (is_inside d at) (list_any (is_place at) listed) inside refl)
 
 -- ---- deeds in order
 
-distinct_all : (d : Size) (listed : List Place) (deeds : List Deed) → IsDistinct is_place listed → IsDistinct is_place (list_after_all d d listed deeds)
+distinct_all : (d : Size) (listed : List Place) (deeds : List Deed) → IsDistinct is_place listed
+    → IsDistinct is_place (list_after_all d d listed deeds)
 unfolding list_after
 distinct_all d listed [] distinct = distinct
 distinct_all d listed (Mark spot marks ∷ deeds) distinct = distinct_all d listed deeds distinct
 distinct_all d listed (Write spot glyph ∷ deeds) distinct =
-    distinct_all d (list_with d listed (place_in d spot)) deeds (IsDistinct-list_with d listed (place_in d spot) distinct)
+    distinct_all d (list_with d listed (place_in d spot)) deeds
+    (IsDistinct-list_with d listed (place_in d spot) distinct)
 distinct_all d listed (Set variable glyph ∷ deeds) distinct = distinct_all d listed deeds distinct
 distinct_all d listed (Emit event ∷ deeds) distinct = distinct_all d listed deeds distinct
 
@@ -86,36 +101,46 @@ later A B C (inr last) = inr (inr last)
 
 either : (A B C : Type 0) (E : Type 0) → (E → A ⊎ B) → E ⊎ C → A ⊎ (B ⊎ C)
 either A B C E cases (inr last) = inr (inr last)
-either A B C E cases (inl here) = elim (cases here) [ inl first ↦ inl first | inr mid ↦ inr (inl mid) ]
+either A B C E cases (inl here) =
+    elim (cases here) [ inl first ↦ inl first | inr mid ↦ inr (inl mid) ]
 
 -- a listed place was listed before, or a deed writes it
-from_all : (d : Size) (listed : List Place) (deeds : List Deed) (at : Place) → Contains (list_after_all d d listed deeds) at → Contains listed at ⊎ AnyDeed (WritesPlace d at) deeds
+from_all : (d : Size) (listed : List Place) (deeds : List Deed) (at : Place)
+    → Contains (list_after_all d d listed deeds) at
+    → Contains listed at ⊎ AnyDeed (WritesPlace d at) deeds
 unfolding list_after
 from_all d listed [] at is = inl is
 from_all d listed (Mark spot marks ∷ deeds) at is = later _ _ _ (from_all d listed deeds at is)
 from_all d listed (Write spot glyph ∷ deeds) at is =
-    either _ _ _ _ (from_with d listed (place_in d spot) at) (from_all d (list_with d listed (place_in d spot)) deeds at is)
+    either _ _ _ _ (from_with d listed (place_in d spot) at)
+    (from_all d (list_with d listed (place_in d spot)) deeds at is)
 from_all d listed (Set variable glyph ∷ deeds) at is = later _ _ _ (from_all d listed deeds at is)
 from_all d listed (Emit event ∷ deeds) at is = later _ _ _ (from_all d listed deeds at is)
 
-kept_all : (d : Size) (listed : List Place) (deeds : List Deed) (at : Place) → Contains listed at → Contains (list_after_all d d listed deeds) at
+kept_all : (d : Size) (listed : List Place) (deeds : List Deed) (at : Place) → Contains listed at
+    → Contains (list_after_all d d listed deeds) at
 unfolding list_after
 kept_all d listed [] at is = is
 kept_all d listed (Mark spot marks ∷ deeds) at is = kept_all d listed deeds at is
 kept_all d listed (Write spot glyph ∷ deeds) at is =
-    kept_all d (list_with d listed (place_in d spot)) deeds at (kept_with d listed (place_in d spot) at is)
+    kept_all d (list_with d listed (place_in d spot))
+    deeds at (kept_with d listed (place_in d spot) at is)
 kept_all d listed (Set variable glyph ∷ deeds) at is = kept_all d listed deeds at is
 kept_all d listed (Emit event ∷ deeds) at is = kept_all d listed deeds at is
 
 -- a place that a deed writes is listed
-added_all : (d : Size) (listed : List Place) (deeds : List Deed) (at : Place) → AnyDeed (WritesPlace d at) deeds → Contains (list_after_all d d listed deeds) at
+added_all : (d : Size) (listed : List Place) (deeds : List Deed) (at : Place)
+    → AnyDeed (WritesPlace d at) deeds → Contains (list_after_all d d listed deeds) at
 unfolding list_after
 added_all d listed [] at writes = absurd writes
 added_all d listed (Mark spot marks ∷ deeds) at (inl writes) = absurd writes
 added_all d listed (Mark spot marks ∷ deeds) at (inr more) = added_all d listed deeds at more
 added_all d listed (Write spot glyph ∷ deeds) at (inl writes) =
-    kept_all d (list_with d listed (place_in d spot)) deeds at (added_with d listed (place_in d spot) at writes (placed_at d spot.y spot.x at writes))
-added_all d listed (Write spot glyph ∷ deeds) at (inr more) = added_all d (list_with d listed (place_in d spot)) deeds at more
+    kept_all d (list_with d listed (place_in d spot))
+    deeds at (added_with d listed (place_in d spot) at writes
+    (placed_at d spot.y spot.x at writes))
+added_all d listed (Write spot glyph ∷ deeds) at (inr more) =
+    added_all d (list_with d listed (place_in d spot)) deeds at more
 added_all d listed (Set variable glyph ∷ deeds) at (inl writes) = absurd writes
 added_all d listed (Set variable glyph ∷ deeds) at (inr more) = added_all d listed deeds at more
 added_all d listed (Emit event ∷ deeds) at (inl writes) = absurd writes
@@ -133,20 +158,24 @@ unfolding written_places IsDistinct
 written_places-once g now = distinct_all g.dims [] (scan_deeds (places g) g now) tt
 
 -- and they are those that some deed writes
-pub written_places-exactly : (g : Sheet) (now : Now) (at : Place) → Contains (written_places g now) at ↔ IsWritten g now at
+pub written_places-exactly : (g : Sheet) (now : Now) (at : Place)
+    → Contains (written_places g now) at ↔ IsWritten g now at
 unfolding written_places
 written_places-exactly g now at = (
   λ is. nothing at _ (from_all g.dims [] (scan_deeds (places g) g now) at is),
   added_all g.dims [] (scan_deeds (places g) g now) at,
 )
 
-scanned-deeds : (n : ℕ) (g : Sheet) (now : Now) → state_after_places rule n g now ≡ after_all (fresh g) (scan_deeds n g now)
+scanned-deeds : (n : ℕ) (g : Sheet) (now : Now)
+    → state_after_places rule n g now ≡ after_all (fresh g) (scan_deeds n g now)
 scanned-deeds zero g now = refl
 scanned-deeds (suc n) g now =
     let deeds = visit_deeds rule (state_after_places rule n g now) (place_of g.dims n) now in
-    ap (λ (s : State). after_all s deeds) (scanned-deeds n g now) ∙ sym (after_all-append (fresh g) (scan_deeds n g now) deeds)
+    ap (λ (s : State). after_all s deeds) (scanned-deeds n g now)
+    ∙ sym (after_all-append (fresh g) (scan_deeds n g now) deeds)
 
 -- the state after a frame is the one after its deeds
-pub scan-deeds : (g : Sheet) (now : Now) → scan g now ≡ after_all (fresh g) (scan_deeds (places g) g now)
+pub scan-deeds : (g : Sheet) (now : Now)
+    → scan g now ≡ after_all (fresh g) (scan_deeds (places g) g now)
 unfolding scan
 scan-deeds g now = scanned-deeds (places g) g now

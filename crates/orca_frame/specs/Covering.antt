@@ -8,7 +8,8 @@ use Rattle.orca_base.specs.MarkSet.{has_mark}
 use Rattle.orca_op.specs.Scan.{Rules, is_idle, state_after_places, places}
 use Rattle.orca_op.specs.State.{State, glyph_at, marks_at}
 
--- a place that isn't idle when the scan reaches it holds the glyph that it held when the frame began
+-- a place that isn't idle when the scan reaches it holds the glyph that it held when the frame
+-- began
 abbrev pub IsCovering : Rules → Type 0
 IsCovering rules =
     (g : Sheet) (now : Now) (n : ℕ) → IsSheet g → n < places g
@@ -17,4 +18,5 @@ IsCovering rules =
 
 -- every mark that a place has in the first state it has in the second
 abbrev pub KeepsMarks : State → State → Type 0
-KeepsMarks s t = (at : Place) (mark : Mark) → IsTrue (has_mark (marks_at s at) mark) → IsTrue (has_mark (marks_at t at) mark)
+KeepsMarks s t = (at : Place) (mark : Mark) → IsTrue (has_mark (marks_at s at) mark)
+    → IsTrue (has_mark (marks_at t at) mark)

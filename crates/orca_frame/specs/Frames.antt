@@ -20,7 +20,8 @@ desk_after_places n g now = record {
   listed = list_after_all g.dims g.dims [] (scan_deeds n g now);
 }
 
--- what a frame leaves of a desk: the scan of its grid, that grid as the one before, and the places that the deeds of the
+-- what a frame leaves of a desk: the scan of its grid, that grid as the one before, and the places
+-- that the deeds of the
 -- scan write, each once; all other places are as before
 pub record IsFramed (old new : Desk) (now : Now) : Type 0 where
   pub scan : new.scan ≡ scan (sheet_of old.scan) now
@@ -37,12 +38,15 @@ pub record IsFramed (old new : Desk) (now : Now) : Type 0 where
 abbrev pub looks : ℕ
 looks = 6
 
--- the most ticks of a frame that visits every place: those of `begin`, the looks at each place, and those of the
+-- the most ticks of a frame that visits every place: those of `begin`, the looks at each place, and
+-- those of the
 -- operators that the scan reaches
 abbrev pub most_plain_ticks : Desk → Now → ℕ
-most_plain_ticks d now = 1 + residue d + looks * places (sheet_of d.scan) + MAX_TICKS * busy (sheet_of d.scan) now
+most_plain_ticks d now = 1 + residue d + looks * places (sheet_of d.scan) + MAX_TICKS * busy
+    (sheet_of d.scan) now
 
--- the most ticks of a frame that goes from one operator to the next: those of `begin`, one for each row, and those of
+-- the most ticks of a frame that goes from one operator to the next: those of `begin`, one for each
+-- row, and those of
 -- the visits of the operators that the scan reaches
 abbrev pub most_ticks : Desk → Now → ℕ
 most_ticks d now = 1 + residue d + d.scan.dims.h + MAX_VISIT_TICKS * busy (sheet_of d.scan) now

@@ -9,7 +9,8 @@ use Rattle.orca_op.specs.State.{glyph_at}
 -- after n places were visited, none of the next `many` holds an operator
 abbrev pub HoldsNone : Rules → ℕ → ℕ → Sheet → Now → Type 0
 HoldsNone rules n many g now =
-    (i : ℕ) → i < many → is_operator (glyph_at (state_after_places rules n g now) (place_of g.dims (n + i))) ≡ false
+    (i : ℕ) → i < many → is_operator
+    (glyph_at (state_after_places rules n g now) (place_of g.dims (n + i))) ≡ false
 
 -- the scan changes nothing over places that hold no operator, so a walk may pass over them
 abbrev pub IsSkipping : Rules → Type 0

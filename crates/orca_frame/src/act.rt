@@ -28,7 +28,8 @@ pub(crate) fn act<B: Bench, L: Ledger>(
     requires inside { IsInside (B.desk bench.old).scan.dims at }
     requires holds { glyph ≡ glyph_at (B.desk bench.old).scan at }
     requires room { HasRoom (B.desk bench.old) }
-    ensures deeds { B.desk bench.new ≡ desk_after_all (B.desk bench.old) (rule glyph (B.desk bench.old).scan at now) }
+    ensures deeds { B.desk bench.new ≡ desk_after_all (B.desk bench.old)
+        (rule glyph (B.desk bench.old).scan at now) }
     ensures ticks { steps.new ≤ steps.old + MAX_TICKS }
     ensures later { steps.old ≤ steps.new }
 {

@@ -18,7 +18,8 @@ pub fn covering_law()
     ensures table { IsCovering rule }
     ensures deeds { (s : State) (deeds : List Deed) → KeepsMarks s (after_all s deeds) }
     ensures marks { (rules : Rules) (n more : ℕ) (g : Sheet) (now : Now)
-        → KeepsMarks (state_after_places rules n g now) (state_after_places rules (n + more) g now) }
+        → KeepsMarks (state_after_places rules n g now)
+        (state_after_places rules (n + more) g now) }
 {
     table_laws();
 }

@@ -5,6 +5,7 @@ use Rattle.ops_grid.proofs.konkat.variables.Given as goal
 
 abbrev pub invariant-loop-i : goal.invariant-loop-i
 invariant-loop-i g l = record {
-  stored : (k : ℕ) → k < l.i → slice_index l.stored k ≡ var_at (g.B.Bench.desk l.bench).scan (value (slice_index l.names k));
+  stored : (k : ℕ) → k < l.i → slice_index l.stored k ≡ var_at (g.B.Bench.desk l.bench).scan
+      (value (slice_index l.names k));
   ticks : l.steps ≡ l.initial.steps + l.i;
 }

@@ -7,6 +7,7 @@ use Rattle.ops_grid.proofs.query.collect.Given as goal
 abbrev pub invariant-loop-i : goal.invariant-loop-i
 invariant-loop-i g l = record {
   deeds : g.B.Bench.desk l.bench
-      ≡ desk_after_all (g.B.Bench.desk l.initial.bench) (each l.i (λ i. query_one l.at l.y l.x l.length i (slice_index l.operands i)));
+      ≡ desk_after_all (g.B.Bench.desk l.initial.bench)
+      (each l.i (λ i. query_one l.at l.y l.x l.length i (slice_index l.operands i)));
   ticks : l.steps ≡ l.initial.steps + 3 * l.i;
 }

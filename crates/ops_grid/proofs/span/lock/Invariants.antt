@@ -6,6 +6,7 @@ use Rattle.ops_grid.proofs.span.lock.Given as goal
 
 abbrev pub invariant-loop-i : goal.invariant-loop-i
 invariant-loop-i g l = record {
-  deeds : g.B.Bench.desk l.bench ≡ desk_after_all (g.B.Bench.desk l.initial.bench) (each l.i (λ i. lock_at (off l.at (pos l.span.y) (pos (i + l.span.x))) ∷ []));
+  deeds : g.B.Bench.desk l.bench ≡ desk_after_all (g.B.Bench.desk l.initial.bench)
+      (each l.i (λ i. lock_at (off l.at (pos l.span.y) (pos (i + l.span.x))) ∷ []));
   ticks : l.steps ≡ l.initial.steps + l.i;
 }

@@ -3,4 +3,7 @@ use Rattle.orca_op.specs.LawFacts.{desk_after_all-each_more}
 use Rattle.ops_motion.proofs.chain.sleep_chain.Goals as goal
 
 pub loop-passed-preserved : goal.loop-passed-preserved
-loop-passed-preserved g c = record { deeds = rw desk_after_all-each_more (search rules); ticks = omega arith }
+loop-passed-preserved g c = record {
+  deeds = rw desk_after_all-each_more (search rules);
+  ticks = omega arith;
+}

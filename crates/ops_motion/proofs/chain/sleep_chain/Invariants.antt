@@ -7,6 +7,7 @@ use Rattle.ops_motion.proofs.chain.sleep_chain.Given as goal
 -- the places that were passed sleep
 abbrev pub invariant-loop-passed : goal.invariant-loop-passed
 invariant-loop-passed g l = record {
-  deeds : g.B.Bench.desk l.bench ≡ desk_after_all (g.B.Bench.desk l.initial.bench) (sleep_deeds (beyond_on l.way l.at) l.passed);
+  deeds : g.B.Bench.desk l.bench ≡ desk_after_all (g.B.Bench.desk l.initial.bench)
+      (sleep_deeds (beyond_on l.way l.at) l.passed);
   ticks : l.steps ≡ l.initial.steps + l.passed;
 }

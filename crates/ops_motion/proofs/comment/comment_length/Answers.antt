@@ -7,7 +7,8 @@ use Rattle.ops_motion.proofs.comment.comment_length.Goals as goal
 
 pub returns-then-byte-eq35-clause-length : goal.returns-then-byte-eq35-clause-length
 returns-then-byte-eq35-clause-length g c =
-    sym (comment_length-found _ c.args.at c.loop-column.column (omega arith) (omega arith) c.loop-column.invariant.none (search rules))
+    sym (comment_length-found _ c.args.at c.loop-column.column (omega arith) (omega arith)
+    c.loop-column.invariant.none (search rules))
 
 pub returns-clause-length : goal.returns-clause-length
 returns-clause-length g c =

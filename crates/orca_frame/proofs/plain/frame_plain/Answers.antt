@@ -7,29 +7,48 @@ use Rattle.orca_frame.proofs.plain.frame_plain.Goals.{After-loop-i}
 
 pub visit-requires-clause-inside : goal.visit-requires-clause-inside
 visit-requires-clause-inside g c =
-    inside_desk _ _ _ _ _ c.loop-i.invariant.desk (subst (λ (d : Size). IsInside d c.place.result) c.dims-dims.ensures.size c.place.ensures.inside)
+    inside_desk _ _ _ _ _ c.loop-i.invariant.desk
+    (subst (λ (d : Size). IsInside d c.place.result) c.dims-dims.ensures.size
+    c.place.ensures.inside)
 
 pub visit-requires-clause-room : goal.visit-requires-clause-room
 visit-requires-clause-room g c =
-    room_desk _ c.loop-i.i _ _ c.loop-i.invariant.desk c.table_laws.ensures c.dims-dims.ensures.desk.state.sheet
-    (omega (arith, c.loop-i-test.true, c.cells-places.ensures.cells, ap cells_of c.dims-dims.ensures.size))
+    room_desk _ c.loop-i.i _ _ c.loop-i.invariant.desk c.table_laws.ensures
+    c.dims-dims.ensures.desk.state.sheet
+    (omega (
+      arith,
+      c.loop-i-test.true,
+      c.cells-places.ensures.cells,
+      ap cells_of
+          c.dims-dims.ensures.size,
+    ))
 
 pub loop-i-preserved : goal.loop-i-preserved
 loop-i-preserved g c =
-    let here = c.place.ensures.place ∙ ap (λ (d : Size). place_of d c.loop-i.i) c.dims-dims.ensures.size in
+    let here = c.place.ensures.place ∙ ap (λ (d : Size). place_of d c.loop-i.i)
+    c.dims-dims.ensures.size in
     record {
       desk = visit_desk _ _ _ _ _ _ c.loop-i.invariant.desk here c.visit.ensures.deeds;
-      most = ticks_more _ _ _ _ _ _ _ _ c.loop-i.invariant.desk here c.loop-i.invariant.most c.visit.ensures.ticks;
+      most = ticks_more _ _ _ _ _ _ _ _ c.loop-i.invariant.desk here c.loop-i.invariant.most
+          c.visit.ensures.ticks;
       least = omega (arith, c.loop-i.invariant.least, c.visit.ensures.later);
     }
 
 -- every place was visited
-visited : (g : given.Over) (c : After-loop-i g) → c.loop-i.i ≡ cells_of (g.B.Bench.desk c.args.bench.now).scan.dims
-visited g c = omega (arith, c.loop-i.auto.i-end, c.loop-i-test.false, c.cells-places.ensures.cells, ap cells_of c.dims-dims.ensures.size)
+visited : (g : given.Over) (c : After-loop-i g)
+    → c.loop-i.i ≡ cells_of (g.B.Bench.desk c.args.bench.now).scan.dims
+visited g c = omega (
+  arith,
+  c.loop-i.auto.i-end,
+  c.loop-i-test.false,
+  c.cells-places.ensures.cells,
+  ap cells_of c.dims-dims.ensures.size,
+)
 
 pub returns-clause-framed : goal.returns-clause-framed
 returns-clause-framed g c =
-    framed _ _ _ _ c.dims-dims.ensures.desk c.table_laws.ensures (visited g c) c.loop-i.invariant.desk
+    framed _ _ _ _ c.dims-dims.ensures.desk c.table_laws.ensures (visited g c)
+    c.loop-i.invariant.desk
 
 pub returns-clause-most : goal.returns-clause-most
 returns-clause-most g c = ticks_all _ _ _ _ _ (visited g c) c.loop-i.invariant.most

@@ -7,13 +7,22 @@ use Rattle.orca_frame.proofs.sparse.frame.Goals as goal
 use Rattle.orca_frame.proofs.sparse.frame.Goals.{After-loop-row}
 
 -- every row was walked
-walked : (g : given.Over) (c : After-loop-row g) → c.loop-row.row ≡ (g.B.Bench.desk c.args.board.now).scan.dims.h
+walked : (g : given.Over) (c : After-loop-row g)
+    → c.loop-row.row ≡ (g.B.Bench.desk c.args.board.now).scan.dims.h
 walked g c =
-    omega (arith, c.loop-row.auto.row-end, c.loop-row-test.false, ap (λ (d : Size). d.h) c.dims.view_is, ap (λ (d : Size). d.h) c.dims-dims.ensures.size)
+    omega (
+      arith,
+      c.loop-row.auto.row-end,
+      c.loop-row-test.false,
+      ap (λ (d : Size). d.h)
+          c.dims.view_is,
+      ap (λ (d : Size). d.h) c.dims-dims.ensures.size,
+    )
 
 pub returns-clause-framed : goal.returns-clause-framed
 returns-clause-framed g c =
-    let all : c.loop-row.row * (g.B.Bench.desk c.args.board.now).scan.dims.w ≡ cells_of (g.B.Bench.desk c.args.board.now).scan.dims = rw (walked g c) refl in
+    let all : c.loop-row.row * (g.B.Bench.desk c.args.board.now).scan.dims.w ≡ cells_of
+    (g.B.Bench.desk c.args.board.now).scan.dims = rw (walked g c) refl in
     framed _ _ _ _ c.dims-dims.ensures.desk c.table_laws.ensures all c.loop-row.invariant.reached
 
 pub returns-clause-most : goal.returns-clause-most

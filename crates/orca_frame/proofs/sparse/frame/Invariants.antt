@@ -13,6 +13,7 @@ invariant-loop-row g l =
     let sheet = sheet_of old.scan in
     record {
       reached : g.B.Bench.desk l.board ≡ desk_after_places (l.row * sheet.dims.w) sheet l.now;
-      most : l.steps ≤ l.fn.steps + 1 + residue old + l.row + MAX_VISIT_TICKS * busy_of (l.row * sheet.dims.w) sheet l.now;
+      most : l.steps ≤ l.fn.steps + 1 + residue old + l.row + MAX_VISIT_TICKS * busy_of
+          (l.row * sheet.dims.w) sheet l.now;
       least : l.fn.steps + 1 + l.row ≤ l.steps;
     }

@@ -17,5 +17,6 @@ returns-clause-deeds g c =
     let y_is : y ≡ value (peek s (left at 2)) = cc in
     let length_is : length ≡ value (peek s (left at 1)) = cc in
     let same = each-by length (λ (i glyph : ℕ). generate_one at y x i glyph)
-    (λ (i : ℕ). slice_index c.read-operands.result i) (λ (i : ℕ). peek s (right at (i + 1))) c.read-operands.ensures.glyphs in
+    (λ (i : ℕ). slice_index c.read-operands.result i) (λ (i : ℕ). peek s (right at (i + 1)))
+    c.read-operands.ensures.glyphs in
     rw (← x_is, ← y_is, ← length_is, ← same) (search rules)

@@ -16,11 +16,14 @@ returns-clause-deeds g c =
     let names = c.read-names.result in
     let stored = c.variables-stored.result in
     let length_is : length ≡ value_or (peek s (left at 1)) 1 = cc in
-    let rule : ℕ → List Deed = λ i. konkat_one at i (peek s (right at (i + 1))) (var_at s (value (peek s (right at (i + 1))))) in
+    let rule : ℕ → List Deed = λ i. konkat_one at i (peek s (right at (i + 1)))
+    (var_at s (value (peek s (right at (i + 1))))) in
     let code : ℕ → List Deed = λ i. konkat_one at i (slice_index names i) (slice_index stored i) in
     let same : (i : ℕ) → i < length → rule i ≡ code i = λ i below.
-    let name : slice_index names i ≡ peek s (right at (i + 1)) = c.read-names.ensures.glyphs i below in
-    let held : slice_index stored i ≡ var_at s (value (slice_index names i)) = c.variables-stored.ensures.stored i below in
+    let name : slice_index names i ≡ peek s (right at (i + 1)) =
+    c.read-names.ensures.glyphs i below in
+    let held : slice_index stored i ≡ var_at s (value (slice_index names i)) =
+    c.variables-stored.ensures.stored i below in
     rw (← name, ← held) refl
     in
     rw (← length_is, each-same length rule code same) (search rules)

@@ -17,10 +17,12 @@ returns-clause-deeds g c =
     let x_is : x ≡ value (peek s (left at 3)) = cc in
     let y_is : y ≡ value (peek s (left at 2)) = cc in
     let length_is : length ≡ value (peek s (left at 1)) = cc in
-    let read : (i : ℕ) → i < length → slice_index c.read-operands.result i ≡ peek s (source at y (x + i)) = λ i below.
+    let read : (i : ℕ) → i < length
+    → slice_index c.read-operands.result i ≡ peek s (source at y (x + i)) = λ i below.
     let column : i + (x + 1) ≡ x + i + 1 = omega arith in
     c.read-operands.ensures.glyphs i below ∙ ap (λ (n : ℕ). peek s (off at (pos y) (pos n))) column
     in
     let same = each-by length (λ (i glyph : ℕ). query_one at y x length i glyph)
-    (λ (i : ℕ). slice_index c.read-operands.result i) (λ (i : ℕ). peek s (source at y (x + i))) read in
+    (λ (i : ℕ). slice_index c.read-operands.result i) (λ (i : ℕ). peek s (source at y (x + i)))
+    read in
     rw (← x_is, ← y_is, ← length_is, ← same) (search rules)

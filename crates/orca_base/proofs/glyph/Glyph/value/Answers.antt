@@ -4,4 +4,5 @@ use Rattle.orca_base.proofs.glyph.Glyph.value.Goals as goal
 
 pub returns-clause-range : goal.returns-clause-range
 returns-clause-range c =
-    let h = value_table_below c.self.inside.byte (omega (arith, c.self.invariant)) in rw c.from.ensures h
+    let h = value_table_below c.self.inside.byte (omega (arith, c.self.invariant)) in
+    rw c.from.ensures h

@@ -2,4 +2,5 @@ use Rattle.std.proofs.lemmas.Nat.{or_lt}
 use Rattle.orca_base.proofs.marks.Marks.union.Goals as goal
 
 pub invariant_of-result : goal.invariant_of-result
-invariant_of-result c = or_lt 5 c.self.inside.bits c.other.inside.bits c.self.invariant c.other.invariant
+invariant_of-result c = or_lt 5 c.self.inside.bits c.other.inside.bits c.self.invariant
+    c.other.invariant
