@@ -2,5 +2,6 @@ pub mod Commands
 pub mod Found
 pub mod Parses
 pub mod PlainForms
+pub mod PlainWalk
 pub mod PlainWords
 pub mod SimpleForms

@@ -9,11 +9,11 @@ use Rattle.clap.specs.declared.builder.action.ArgAction.TheVariants.{Set}
 use Rattle.orca_words.specs.declared.forms.Verb.{Verb}
 use Rattle.orca_words.specs.declared.forms.TheConstants.{FORMS}
 
--- a form: its first word, the names of the words that have to follow it, in order, the names of its
--- options, and what it asks for
+-- a form: its first word, the names of the positionals that have to follow it, in this order, the
+-- names of its options, and what it asks for
 pub record Form : Type 0 where
   pub word : Text
-  pub words : List Text
+  pub positionals : List Text
   pub options : List Text
   pub verb : Verb
 
@@ -21,7 +21,7 @@ pub record Form : Type 0 where
 abbrev pub form_in : Bor Text × Bor (List (Bor Text)) × Bor (List (Bor Text)) × Verb → Form
 form_in row = record {
   word = row.0.now;
-  words = texts row.1.now;
+  positionals = texts row.1.now;
   options = texts row.2.now;
   verb = row.3;
 }
@@ -30,7 +30,7 @@ form_in row = record {
 unfoldable pub forms : List Form
 forms = map (λ row. record {
   word = row.0.now;
-  words = map (λ name. name.now) row.1.now;
+  positionals = map (λ name. name.now) row.1.now;
   options = map (λ name. name.now) row.2.now;
   verb = row.3;
 }) FORMS
@@ -39,17 +39,17 @@ forms = map (λ row. record {
 abbrev pub form_by : Text → Option Form
 form_by first = find (λ form. bytes_eq form.word first) forms
 
--- a word that has to be there
-abbrev pub word_rule : Text → Rule
-word_rule name = record (new_rule name) { required = true; action = Some Set }
+-- a positional that has to be there
+abbrev pub positional_rule : Text → Rule
+positional_rule name = record (new_rule name) { required = true; action = Some Set }
 
 -- an option that sets one text: `--name text` or `--name=text`
 abbrev pub option_rule : Text → Rule
 option_rule name = record (new_rule name) { long = Some name }
 
--- the arguments of a form
+-- the rules of a form: those of its positionals, and then those of its options
 abbrev pub rules_of : Form → List Rule
-rules_of form = map word_rule form.words ++ map option_rule form.options
+rules_of form = map positional_rule form.positionals ++ map option_rule form.options
 
 -- a command with no help or version flag, over the words alone
 abbrev pub bare : Text → App

@@ -53,9 +53,9 @@ pub data Request : Type 0 where
 unfoldable pub option_text : List Row → Text → Option Text
 option_text found name = first_of name found
 
--- the text of a word that has to be there
-abbrev pub word_text : List Row → Text → Text
-word_text found name = unwrap_or (option_text found name) []
+-- the text of a positional; clap accepts no words without it
+abbrev pub positional_text : List Row → Text → Text
+positional_text found name = unwrap_or (option_text found name) []
 
 -- ---- numbers
 
@@ -68,9 +68,9 @@ unfoldable pub number_in : ℕ → ℕ → Text → Option ℕ
 number_in least most digits = option_and_then (λ number.
     if nat_le least number && nat_le number most then Some number else None) (number_of digits)
 
--- the number of a word
-abbrev pub word_number : List Row → Text → ℕ → ℕ → Option ℕ
-word_number found name least most = number_in least most (word_text found name)
+-- the number of a positional
+abbrev pub positional_number : List Row → Text → ℕ → ℕ → Option ℕ
+positional_number found name least most = number_in least most (positional_text found name)
 
 -- the number that an option sets, or its default where the words don't set it
 abbrev pub option_number : List Row → Text → ℕ → ℕ → ℕ → Option ℕ
@@ -89,7 +89,7 @@ setup_of found =
     with_number (option_number found (codes "seed") DEFAULT_SEED 0 greatest) (λ seed.
     with_number (option_number found (codes "limit") DEFAULT_HISTORY 1 MAX_HISTORY) (λ limit.
     Some (record {
-      grid = word_text found (codes "GRID");
+      grid = positional_text found (codes "GRID");
       seed = seed;
       limit = limit;
       midi = option_text found (codes "midi");
@@ -106,7 +106,7 @@ performance_of found =
     with_number (option_number found (codes "cols") DEFAULT_SCREEN_COLUMNS MIN_SCREEN_COLUMNS
     MAX_SCREEN_COLUMNS) (λ cols.
     Some (record {
-      address = word_text found (codes "ADDRESS");
+      address = positional_text found (codes "ADDRESS");
       bpm = bpm;
       rows = rows;
       cols = cols;
@@ -117,30 +117,32 @@ performance_of found =
 -- the four numbers of `make`
 unfoldable pub workload_of : List Row → Option Workload
 workload_of found =
-    with_number (word_number found (codes "SEED") 0 greatest) (λ seed.
-    with_number (word_number found (codes "HEIGHT") 1 MAX_ROWS) (λ height.
-    with_number (word_number found (codes "WIDTH") 1 MAX_COLUMNS) (λ width.
-    with_number (word_number found (codes "FRAMES") 0 MAX_MADE_FRAMES) (λ frames.
+    with_number (positional_number found (codes "SEED") 0 greatest) (λ seed.
+    with_number (positional_number found (codes "HEIGHT") 1 MAX_ROWS) (λ height.
+    with_number (positional_number found (codes "WIDTH") 1 MAX_COLUMNS) (λ width.
+    with_number (positional_number found (codes "FRAMES") 0 MAX_MADE_FRAMES) (λ frames.
     Some (record { seed = seed; height = height; width = width; frames = frames })))))
 
 -- how many frames are played
 abbrev pub frames_of : List Row → Option ℕ
-frames_of found = word_number found (codes "FRAMES") 0 greatest
+frames_of found = positional_number found (codes "FRAMES") 0 greatest
 
--- this work, on the grid and with the options that the words name
+-- the work, on the grid and with the options that the words name
 abbrev pub performed : List Row → Option Work → Option Request
-performed found = option_and_then (λ work. option_map (λ setup. Perform setup work) (setup_of found))
+performed found work =
+    option_and_then (λ w. option_map (λ setup. Perform setup w) (setup_of found)) work
 
 -- what a verb asks for, by what clap found
 unfoldable pub request_by : Verb → List Row → Option Request
 request_by verb.Run found = performed found (option_map Run (frames_of found))
 request_by verb.Events found = performed found (option_map Events (frames_of found))
-request_by verb.Replay found = performed found (Some (Replay (word_text found (codes "SCRIPT"))))
+request_by verb.Replay found =
+    performed found (Some (Replay (positional_text found (codes "SCRIPT"))))
 request_by verb.Play found = performed found (option_map Play (performance_of found))
 request_by verb.Make found = option_map Make (workload_of found)
 
--- what the words after the first ask for, by the form that it picked: they are accepted exactly where
--- the command of the form has no fault and the numbers are in their ranges
+-- what the words after the first ask for, by the form that it picked. They are accepted exactly
+-- where the command of the form has no fault and the numbers are in their ranges
 unfoldable pub request_in_form : Form → List Text → Option Request
 request_in_form form words =
     if is_empty (fault_of (command_of form) words)

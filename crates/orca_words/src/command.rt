@@ -3,7 +3,7 @@
 ghost use Rattle.std.specs.Prelude.{◌≡◌, ◌≢◌, ◌↔◌, [], false, fold, map, string_bytes, IfOk, IsErrOf};
 ghost use Rattle.clap.specs.Words.{app_of, fault_of, kind_of, matches_of, rule_of, with_rule};
 ghost use Rattle.clap.specs.Walk.{texts};
-ghost use Rattle.orca_words.specs.Forms.{bare, command_of, form_in, option_rule, word_rule};
+ghost use Rattle.orca_words.specs.Forms.{bare, command_of, form_in, option_rule, positional_rule};
 ghost use Rattle.orca_words.specs.RequestIn.{rows_in};
 
 use crate::WordsFault;
@@ -50,21 +50,21 @@ fn command_of<'a>(alloc: Global, form: &Form) -> Result<Command<'a>, AllocError>
     let command = Command::new(alloc, form.0)
         .no_binary_name(true)
         .disable_help_flag(true);
-    let command = with_words(alloc, command, form.1)?;
+    let command = with_positionals(alloc, command, form.1)?;
     with_options(alloc, command, form.2)
 }
 
-/// The command with words that have to be there, in this order.
-fn with_words<'a>(
+/// The command with these positionals, in this order.
+fn with_positionals<'a>(
     alloc: Global,
     mut command: Command<'a>,
     names: &'static [&'static str],
 ) -> Result<Command<'a>, AllocError>
-    ensures { IfOk result (λ full.
-        app_of full ≡ fold with_rule (app_of command.entry) (map word_rule (texts names.entry.now))) }
+    ensures { IfOk result (λ full. app_of full
+        ≡ fold with_rule (app_of command.entry) (map positional_rule (texts names.entry.now))) }
 {
     for name in names {
-        command = command.arg(word(alloc, name))?;
+        command = command.arg(positional(alloc, name))?;
     }
     Ok(command)
 }
@@ -75,8 +75,8 @@ fn with_options<'a>(
     mut command: Command<'a>,
     names: &'static [&'static str],
 ) -> Result<Command<'a>, AllocError>
-    ensures { IfOk result (λ full.
-        app_of full ≡ fold with_rule (app_of command.entry) (map option_rule (texts names.entry.now))) }
+    ensures { IfOk result (λ full. app_of full
+        ≡ fold with_rule (app_of command.entry) (map option_rule (texts names.entry.now))) }
 {
     for name in names {
         command = command.arg(option(alloc, name))?;
@@ -84,9 +84,9 @@ fn with_options<'a>(
     Ok(command)
 }
 
-/// A word that has to be there.
-fn word<'a>(alloc: Global, name: &'a str) -> Arg<'a>
-    ensures rule { rule_of result ≡ word_rule name.now }
+/// A positional that has to be there.
+fn positional<'a>(alloc: Global, name: &'a str) -> Arg<'a>
+    ensures rule { rule_of result ≡ positional_rule name.now }
     ensures global { result.global ≡ false }
 {
     Arg::new(alloc, name).required(true).action(ArgAction::Set)

@@ -3,8 +3,7 @@ use std::alloc::AllocError;
 /// Why words were not read.
 #[derive(Clone, Copy, Debug, PartialEq, Eq)]
 pub enum WordsFault {
-    /// They ask for nothing: they are not in the form of their first word, or a number is not in its
-    /// range.
+    /// They are not in the form of their first word, or a number is not in its form or range.
     Usage,
     /// Memory was refused.
     Memory,

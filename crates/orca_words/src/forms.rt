@@ -10,8 +10,8 @@ pub(crate) enum Verb {
     Make,
 }
 
-/// A form of the command line: its first word, the names of the words that have to follow it in this
-/// order, the names of its options, which may stand anywhere behind it, and what it asks for.
+/// A form of the command line: its first word, the names of the positionals that have to follow it,
+/// in this order, the names of its options, which may stand anywhere, and what it asks for.
 pub(crate) type Form = (
     &'static str,
     &'static [&'static str],

@@ -1,7 +1,7 @@
 //! The words of the command line, read into what they ask for.
 //!
-//! The first word picks a form from a table, and a simple `clap` command of that form reads the words
-//! after it.
+//! The first word picks a form from a table, and a simple `clap` command of that form reads the
+//! words after it.
 #![tactic(auto)]
 
 mod command;

@@ -2,14 +2,14 @@
 
 ghost use Rattle.std.specs.Prelude.{◌≡◌, None, Some, find, map, option_map, string_bytes, IfOk, IsErrOf, MatchOption};
 ghost use Rattle.std.specs.Str.{bytes_eq};
-ghost use Rattle.orca_words.specs.Requests.{frames_of, performance_of, performed, request_by, request_of, setup_of, workload_of};
+ghost use Rattle.orca_words.specs.Requests.{frames_of, performance_of, performed, request_by, request_in_form, request_of, setup_of, workload_of};
 ghost use Rattle.orca_words.specs.Forms.{form_by, form_in};
 ghost use Rattle.orca_words.specs.RequestIn.{performance_in, request_in, rows_in, setup_in, work_in, workload_in};
 
 use crate::command::parse;
 use crate::forms::{FORMS, Form, Verb};
 use crate::limits::{DEFAULT_SCREEN_COLUMNS, DEFAULT_SCREEN_ROWS, MAX_MADE_FRAMES};
-use crate::values::{option_number, option_text, small_option, word_number, word_text};
+use crate::values::{option_number, option_text, positional_number, positional_text, small_option};
 use crate::{Performance, Request, Setup, WordsFault, Work, Workload};
 use clap::ArgMatches;
 use orca_base::limits::{
@@ -22,7 +22,7 @@ use std::alloc::Global;
 ///
 /// The first word is compared as it is and picks a form. A simple `clap` command of that form reads
 /// the words after it. A number is 1 to 10 decimal digits with a value in its range.
-#[tactic(auto, unfolding(crate::specs::Requests::request_of, crate::specs::Requests::request_in_form))]
+#[tactic(auto, unfolding(crate::specs::Requests::request_of))]
 pub fn read_words<'a>(alloc: Global, words: &'a Vec<String>) -> Result<Request<'a>, WordsFault>
     ensures read { IfOk result (λ request.
         request_of (map string_bytes words.now.items) ≡ Some (request_in request)) }
@@ -35,7 +35,23 @@ pub fn read_words<'a>(alloc: Global, words: &'a Vec<String>) -> Result<Request<'
     let Some(form) = form_by(first.as_str()) else {
         return Err(WordsFault::Usage);
     };
-    let found = parse(alloc, form, others)?;
+    read_in_form(alloc, form, others)
+}
+
+/// What the words after the first one ask for, by the form that it picked.
+#[tactic(auto, unfolding(crate::specs::Requests::request_in_form))]
+fn read_in_form<'a>(
+    alloc: Global,
+    form: &Form,
+    words: &'a [String],
+) -> Result<Request<'a>, WordsFault>
+    ensures read { IfOk result (λ request.
+        request_in_form (form_in form.now) (map string_bytes words.now)
+        ≡ Some (request_in request)) }
+    ensures refused { IsErrOf result WordsFault.Usage
+        → request_in_form (form_in form.now) (map string_bytes words.now) ≡ None }
+{
+    let found = parse(alloc, form, words)?;
     request_by(form.3, &found).ok_or(WordsFault::Usage)
 }
 
@@ -75,7 +91,7 @@ fn request_by<'a>(verb: Verb, found: &ArgMatches<'a>) -> Option<Request<'a>>
             perform(found, Work::Events { frames })
         }
         Verb::Replay => {
-            let script = word_text(found, "SCRIPT");
+            let script = positional_text(found, "SCRIPT");
             perform(found, Work::Replay { script })
         }
         Verb::Play => perform(found, Work::Play(performance(found)?)),
@@ -87,12 +103,13 @@ fn request_by<'a>(verb: Verb, found: &ArgMatches<'a>) -> Option<Request<'a>>
 fn frames(found: &ArgMatches) -> Option<u32>
     ensures { result ≡ frames_of (rows_in found.now) }
 {
-    word_number(found, "FRAMES", 0, u32::MAX)
+    positional_number(found, "FRAMES", 0, u32::MAX)
 }
 
 /// This work, on the grid and with the options that the words name.
 fn perform<'a>(found: &ArgMatches<'a>, work: Work<'a>) -> Option<Request<'a>>
-    ensures { option_map request_in result ≡ performed (rows_in found.now) (Some (work_in work.entry)) }
+    ensures { option_map request_in result
+        ≡ performed (rows_in found.now) (Some (work_in work.entry)) }
 {
     let setup = setup(found)?;
     Some(Request::Perform { setup, work })
@@ -106,7 +123,7 @@ fn setup<'a>(found: &ArgMatches<'a>) -> Option<Setup<'a>>
     let seed = option_number(found, "seed", DEFAULT_SEED, 0, u32::MAX)?;
     let limit = option_number(found, "limit", DEFAULT_HISTORY, 1, MAX_HISTORY)?;
     Some(Setup {
-        grid: word_text(found, "GRID"),
+        grid: positional_text(found, "GRID"),
         seed,
         limit,
         midi: option_text(found, "midi"),
@@ -136,7 +153,7 @@ fn performance<'a>(found: &ArgMatches<'a>) -> Option<Performance<'a>>
         MAX_SCREEN_COLUMNS,
     )?;
     Some(Performance {
-        address: word_text(found, "ADDRESS"),
+        address: positional_text(found, "ADDRESS"),
         bpm,
         rows,
         cols,
@@ -150,10 +167,10 @@ fn performance<'a>(found: &ArgMatches<'a>) -> Option<Performance<'a>>
 fn workload(found: &ArgMatches) -> Option<Workload>
     ensures { option_map workload_in result ≡ workload_of (rows_in found.now) }
 {
-    let seed = word_number(found, "SEED", 0, u32::MAX)?;
-    let height = word_number(found, "HEIGHT", 1, u32::from(MAX_ROWS))? as u16;
-    let width = word_number(found, "WIDTH", 1, u32::from(MAX_COLUMNS))? as u16;
-    let frames = word_number(found, "FRAMES", 0, MAX_MADE_FRAMES)?;
+    let seed = positional_number(found, "SEED", 0, u32::MAX)?;
+    let height = positional_number(found, "HEIGHT", 1, u32::from(MAX_ROWS))? as u16;
+    let width = positional_number(found, "WIDTH", 1, u32::from(MAX_COLUMNS))? as u16;
+    let frames = positional_number(found, "FRAMES", 0, MAX_MADE_FRAMES)?;
     Some(Workload {
         seed,
         height,

@@ -44,7 +44,8 @@ pub enum Work<'a> {
     Play(Performance<'a>),
 }
 
-/// Where keys come from and pictures go to, how fast frames are played, and what is saved at the end.
+/// Where keys come from and pictures go to, how fast frames are played, and what is saved at the
+/// end.
 #[derive(Debug, PartialEq, Eq, Drop)]
 pub struct Performance<'a> {
     /// The address at which the keys arrive.

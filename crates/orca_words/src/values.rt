@@ -1,7 +1,7 @@
 //! The texts and the numbers that a parse found.
 
 ghost use Rattle.std.specs.Prelude.{◌≡◌, ◌≤◌, option_map, IfSome};
-ghost use Rattle.orca_words.specs.Requests.{number_in, option_number, option_text, word_number, word_text};
+ghost use Rattle.orca_words.specs.Requests.{number_in, option_number, option_text, positional_number, positional_text};
 ghost use Rattle.orca_words.specs.RequestIn.{rows_in, text_in};
 
 use clap::ArgMatches;
@@ -14,9 +14,9 @@ pub(crate) fn option_text<'a>(found: &ArgMatches<'a>, name: &str) -> Option<&'a 
     found.get_str(name)
 }
 
-/// The text of a word that has to be there.
-pub(crate) fn word_text<'a>(found: &ArgMatches<'a>, name: &str) -> &'a str
-    ensures { result.now ≡ word_text (rows_in found.now) name.now }
+/// The text of a positional. `clap` accepts no words without it, so it is never left out.
+pub(crate) fn positional_text<'a>(found: &ArgMatches<'a>, name: &str) -> &'a str
+    ensures { result.now ≡ positional_text (rows_in found.now) name.now }
 {
     option_text(found, name).unwrap_or("")
 }
@@ -58,12 +58,17 @@ pub(crate) fn small_option(
     Some(number as u16)
 }
 
-/// The number of a word that has to be there, where it lies in this range.
-pub(crate) fn word_number(found: &ArgMatches, name: &str, least: u32, most: u32) -> Option<u32>
-    ensures value { result ≡ word_number (rows_in found.now) name.now least most }
+/// The number of a positional, where it lies in this range.
+pub(crate) fn positional_number(
+    found: &ArgMatches,
+    name: &str,
+    least: u32,
+    most: u32,
+) -> Option<u32>
+    ensures value { result ≡ positional_number (rows_in found.now) name.now least most }
     ensures within { IfSome result (λ number. (least ≤ number) × (number ≤ most)) }
 {
-    number_in(word_text(found, name), least, most)
+    number_in(positional_text(found, name), least, most)
 }
 
 /// The value of 1 to 10 decimal digits, where it lies in this range.

@@ -10,9 +10,11 @@ returns-in-Ok-clause-accepted c =
 
 pub returns-in-Ok-clause-found : goal.returns-in-Ok-clause-found
 returns-in-Ok-clause-found c =
-    found_by (form_in c.args.form.now) _ _ c.in-Ok.found c.in_ok-command.ensures c.in-Ok.ensures.matches
+    found_by (form_in c.args.form.now) _ _ c.in-Ok.found c.in_ok-command.ensures
+    c.in-Ok.ensures.matches
 
 pub returns-in-Err-clause-refused : goal.returns-in-Err-clause-refused
 returns-in-Err-clause-refused c = λ usage.
     let same : c.fault.result ≡ Usage = cc in
-    refused_by (form_in c.args.form.now) _ _ c.in-Err.error c.fault.result c.in_ok-command.ensures c.in-Err.ensures.kinds c.fault.ensures same
+    refused_by (form_in c.args.form.now) _ _ c.in-Err.error c.fault.result
+    c.in_ok-command.ensures c.in-Err.ensures.kinds c.fault.ensures same
