@@ -5,3 +5,4 @@ pub mod PlainForms
 pub mod PlainWalk
 pub mod PlainWords
 pub mod SimpleForms
+mod WorkedWords

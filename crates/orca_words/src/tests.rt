@@ -453,8 +453,8 @@ fn refusals(rt: HostRuntime) -> Result<(), Fail> {
     Ok(())
 }
 
-/// Words with a number in the place of `#`, the texts that are read there, and those that are out of
-/// its range.
+/// Words with a number in the place of `#`, the texts that are read there, and those that are out
+/// of its range.
 static NUMBERS: [(&[&str], &[&str], &[&str]); 12] = [
     (
         &["run", "g", "#"],

@@ -1,0 +1,133 @@
+-- Command lines, computed by the definitions: all options of each first word, in one spelling or the
+-- other, and the corners. Single spaces stand between the words of a line.
+use Rattle.std.specs.Prelude.{⊤, ◌≡◌, ◌==◌, true, not, List, [], ◌∷◌, ◌++◌, Option, Some, None, is_some, codes, refl}
+use Rattle.std.specs.List.{list_all, slice_split}
+use Rattle.clap.specs.Words.{Text}
+use Rattle.clap.proofs.OnLiterals.{clap_on_literals}
+use Rattle.orca_base.specs.Ascii.{space}
+use Rattle.orca_base.specs.Numbers.{number_of}
+use Rattle.orca_words.specs.Forms.{command_of, forms}
+use Rattle.orca_words.specs.Requests.{Request, Setup, Performance, Perform, Make, Run, Events, Replay, Play, number_in, option_text, performance_of, request_by, request_in_form, request_of, setup_of, workload_of}
+
+-- what a line asks for
+unfoldable asked : Text → Option Request
+asked line = request_of (slice_split (λ byte. byte == space) line)
+
+unfoldable worked : ⊤
+unfolding asked request_of request_in_form request_by setup_of performance_of workload_of option_text number_in number_of forms command_of clap_on_literals
+worked = tt
+
+all_set : Setup
+all_set = record {
+  grid = codes "g";
+  seed = 7;
+  limit = 9;
+  midi = Some (codes "m");
+  udp = Some (codes "u");
+  osc = Some (codes "o");
+}
+
+none_set : Setup
+none_set = record {
+  grid = codes "g";
+  seed = 1;
+  limit = 1000000;
+  midi = None;
+  udp = None;
+  osc = None;
+}
+
+run_all : asked (codes "run --seed 7 g --limit=9 --midi m 3 --udp=u --osc o")
+    ≡ Some (Perform all_set (Run 3))
+unfolding worked all_set
+run_all = refl
+
+events_all : asked (codes "events g --osc=o --udp u 3 --midi=m --limit 9 --seed=7")
+    ≡ Some (Perform all_set (Events 3))
+unfolding worked all_set
+events_all = refl
+
+replay_all : asked (codes "replay --osc o --limit=9 --udp=u g s --midi m --seed 7")
+    ≡ Some (Perform all_set (Replay (codes "s")))
+unfolding worked all_set
+replay_all = refl
+
+play_all : asked (codes "play --midi=m --rows 9 g --udp u --osc=o --bpm=90 --save w --limit 9"
+    ++ codes " a --cols=8 --script=s --seed 7")
+    ≡ Some (Perform all_set (Play (record {
+      address = codes "a";
+      bpm = 90;
+      rows = 9;
+      cols = 8;
+      save = Some (codes "w");
+      script = Some (codes "s");
+    })))
+unfolding worked all_set
+play_all = refl
+
+play_none : asked (codes "play g a") ≡ Some (Perform none_set (Play (record {
+  address = codes "a";
+  bpm = 120;
+  rows = 24;
+  cols = 80;
+  save = None;
+  script = None;
+})))
+unfolding worked none_set
+play_none = refl
+
+make_some : asked (codes "make 5 64 32 200")
+    ≡ Some (Make (record { seed = 5; height = 64; width = 32; frames = 200 }))
+unfolding worked
+make_some = refl
+
+-- after `--` all words are positional, and a lone dash and an empty word are texts
+after_dashes : asked (codes "run --seed=7 -- --seed 3")
+    ≡ Some (Perform (record none_set { grid = codes "--seed"; seed = 7 }) (Run 3))
+unfolding worked none_set
+after_dashes = refl
+
+small_texts : asked (codes "run  3 --midi= --udp - --osc=-x")
+    ≡ Some (Perform (record none_set {
+      grid = [];
+      midi = Some [];
+      udp = Some (codes "-");
+      osc = Some (codes "-x");
+    }) (Run 3))
+unfolding worked none_set
+small_texts = refl
+
+-- too few words and too many, an option twice, without a text, unknown, shortened or of another first
+-- word, a dash before a positional, no help and no version, and numbers out of their form and range
+refused : list_all (λ line. not (is_some (asked line))) (codes ""
+    ∷ codes "sing g"
+    ∷ codes "run"
+    ∷ codes "run g"
+    ∷ codes "run g 3 x"
+    ∷ codes "run --seed 7 --seed=7 g 3"
+    ∷ codes "run g 3 --seed"
+    ∷ codes "run g 3 --midi --udp=u"
+    ∷ codes "run g --seed -- 3"
+    ∷ codes "run g 3 --tempo 7"
+    ∷ codes "run g 3 --se 7"
+    ∷ codes "run g 3 -s 7"
+    ∷ codes "run g 3 --bpm 90"
+    ∷ codes "run -g 3"
+    ∷ codes "run --help"
+    ∷ codes "run g 3 -h"
+    ∷ codes "run g 3 --version"
+    ∷ codes "run g +3"
+    ∷ codes "run g 00000000003"
+    ∷ codes "run g 4294967296"
+    ∷ codes "run g 3 --limit 0"
+    ∷ codes "run g 3 --limit=4000001"
+    ∷ codes "play g a --bpm 1000"
+    ∷ codes "play g a --rows 1"
+    ∷ codes "play g a --cols 257"
+    ∷ codes "make 1 0 3 4"
+    ∷ codes "make 1 2 257 4"
+    ∷ codes "make 1 2 3 100001"
+    ∷ codes "make 1 2 3 4 --seed 1"
+    ∷ []) ≡ true
+unfolding worked
+refused = refl
