@@ -13,7 +13,7 @@ use Rattle.clap.specs.declared.builder.value_parser.Reading.TheVariants.{AsWritt
 use Rattle.orca_words.specs.Forms.{Form, command_of, option_rule, rules_of}
 use Rattle.orca_words.specs.declared.forms.Verb.{Verb}
 use Rattle.orca_words.proofs.PlainWalk.{has_no_dash, idle_at, plain_turn, plain_walked}
-use Rattle.orca_words.proofs.SimpleForms.{built_option, built_options, built_positional, command_is, with_rules}
+use Rattle.orca_words.proofs.SimpleForms.{built_options, built_positional, command_is, with_rules}
 
 -- ---- options that no word sets
 

@@ -1,20 +1,24 @@
--- Command lines, computed by the definitions: all options of each first word, in one spelling or the
--- other, and the corners. Single spaces stand between the words of a line.
-use Rattle.std.specs.Prelude.{⊤, ◌≡◌, ◌==◌, true, not, List, [], ◌∷◌, ◌++◌, Option, Some, None, is_some, codes, refl}
+-- Command lines, computed by the definitions: all options of each first word, in one spelling or
+-- the other, and the corners. Single spaces stand between the words of a line.
+use Rattle.std.specs.Prelude.{⊤, ◌≡◌, ◌==◌, true, not, [], ◌∷◌, ◌++◌, Option, Some, None, is_some, codes, refl}
 use Rattle.std.specs.List.{list_all, slice_split}
 use Rattle.clap.specs.Words.{Text}
 use Rattle.clap.proofs.OnLiterals.{clap_on_literals}
 use Rattle.orca_base.specs.Ascii.{space}
 use Rattle.orca_base.specs.Numbers.{number_of}
 use Rattle.orca_words.specs.Forms.{command_of, forms}
-use Rattle.orca_words.specs.Requests.{Request, Setup, Performance, Perform, Make, Run, Events, Replay, Play, number_in, option_text, performance_of, request_by, request_in_form, request_of, setup_of, workload_of}
+use Rattle.orca_words.specs.Requests.{Request, Setup, Perform, Make, Run, Events, Replay, Play, number_in, option_text, performance_of, request_by, request_in_form, request_of, setup_of, workload_of}
 
 -- what a line asks for
 unfoldable asked : Text → Option Request
 asked line = request_of (slice_split (λ byte. byte == space) line)
 
+unfoldable values : ⊤
+unfolding setup_of performance_of workload_of option_text number_in number_of
+values = tt
+
 unfoldable worked : ⊤
-unfolding asked request_of request_in_form request_by setup_of performance_of workload_of option_text number_in number_of forms command_of clap_on_literals
+unfolding asked request_of request_in_form request_by values forms command_of clap_on_literals
 worked = tt
 
 all_set : Setup
@@ -97,8 +101,9 @@ small_texts : asked (codes "run  3 --midi= --udp - --osc=-x")
 unfolding worked none_set
 small_texts = refl
 
--- too few words and too many, an option twice, without a text, unknown, shortened or of another first
--- word, a dash before a positional, no help and no version, and numbers out of their form and range
+-- too few words and too many, an option twice, without a text, unknown, shortened or of another
+-- first word, a dash before a positional, no help and no version, and numbers out of their form and
+-- range
 refused : list_all (λ line. not (is_some (asked line))) (codes ""
     ∷ codes "sing g"
     ∷ codes "run"

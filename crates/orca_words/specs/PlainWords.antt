@@ -1,10 +1,10 @@
 -- The lists of words that were read before there were options.
-use Rattle.std.specs.Prelude.{ℕ, ◌≡◌, ◌==◌, not, Bool, false, true, IsTrue, List, [], ◌∷◌, Some, None, codes}
+use Rattle.std.specs.Prelude.{ℕ, ◌≡◌, ◌==◌, not, Bool, false, IsTrue, [], ◌∷◌, Some, None}
 use Rattle.clap.specs.Words.{Text}
 use Rattle.orca_base.specs.Ascii.{dash}
 use Rattle.orca_base.specs.Numbers.{number_of}
 use Rattle.orca_base.specs.declared.limits.TheConstants.{DEFAULT_SEED, DEFAULT_HISTORY}
-use Rattle.orca_words.specs.Requests.{Setup, Work, Run, Events, Perform, request_of}
+use Rattle.orca_words.specs.Requests.{Setup, Work, Perform, request_of}
 
 -- a name that isn't empty and doesn't begin with a dash
 abbrev pub is_plain_name : Text → Bool
