@@ -47,11 +47,12 @@ fn fault(error: &Error) -> WordsFault
 fn command_of<'a>(alloc: Global, form: &Form) -> Result<Command<'a>, AllocError>
     ensures { IfOk result (λ command. app_of command ≡ command_of (form_in form.now)) }
 {
-    let command = Command::new(alloc, form.0)
+    let &(word, positionals, options, _) = form;
+    let command = Command::new(alloc, word)
         .no_binary_name(true)
         .disable_help_flag(true);
-    let command = with_positionals(alloc, command, form.1)?;
-    with_options(alloc, command, form.2)
+    let command = with_positionals(alloc, command, positionals)?;
+    with_options(alloc, command, options)
 }
 
 /// The command with these positionals, in this order.

@@ -51,8 +51,9 @@ fn read_in_form<'a>(
     ensures refused { IsErrOf result WordsFault.Usage
         → request_in_form (form_in form.now) (map string_bytes words.now) ≡ None }
 {
+    let &(_, _, _, verb) = form;
     let found = parse(alloc, form, words)?;
-    request_by(form.3, &found).ok_or(WordsFault::Usage)
+    request_by(verb, &found).ok_or(WordsFault::Usage)
 }
 
 /// The form that a first word picks.
@@ -69,7 +70,8 @@ fn first_with<'t>(table: &'t [Form], word: &str) -> Option<&'t Form>
         ≡ find (λ form. bytes_eq form.word word.now) (map form_in table.now) }
 {
     for form in table {
-        if form.0 == word {
+        let &(first, ..) = form;
+        if first == word {
             return Some(form);
         }
     }
