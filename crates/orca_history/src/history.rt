@@ -57,6 +57,7 @@ impl History {
         requires { length self.old.entries < self.old.limit }
         ensures pushed { OnOk result (self.new ≡ trail_pushed self.old entry patch) }
         ensures err { OnErr result (self.new ≡ self.old) }
+        ensures trail { IsTrail self.new }
     {
         self.entries.push(entry)?;
         if self.patches.push_back(patch).is_some() {
@@ -69,7 +70,8 @@ impl History {
     /// `Hush` with this patch.
     pub fn jump(&mut self, moment: u32, patch: Patch)
         requires { moment < length self.old.entries }
-        ensures { self.new ≡ trail_jumped self.old moment patch }
+        ensures jumped { self.new ≡ trail_jumped self.old moment patch }
+        ensures trail { IsTrail self.new }
     {
         self.entries.truncate(moment as usize);
         self.patches

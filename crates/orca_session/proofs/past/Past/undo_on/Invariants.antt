@@ -1,0 +1,16 @@
+use Rattle.std.proofs.Common.{◌≡◌, ◌<◌, ◌≤◌, length}
+use Rattle.orca_op.specs.State.{sheet_of}
+use Rattle.orca_session.specs.Past.{moment_of}
+use Rattle.orca_session.proofs.past.Past.undo_on.Given as goal
+
+-- the board and the tick are those of the moment that was reached
+abbrev pub invariant-loop-at : goal.invariant-loop-at
+invariant-loop-at g l = record {
+  above : l.moment ≤ l.at;
+  within : l.at ≤ length l.self.trail.entries;
+  sheet : sheet_of l.board.scan ≡ (moment_of l.self l.at).sheet;
+  tick : l.at < length l.self.trail.entries → l.tick ≡ (moment_of l.self l.at).tick;
+}
+
+abbrev pub decreases-loop-at : goal.decreases-loop-at
+decreases-loop-at g l = l.at

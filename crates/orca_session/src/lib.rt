@@ -1,0 +1,4 @@
+//! A session: a piece that plays, is edited, and goes back in its history.
+#![tactic(auto)]
+
+mod past;
