@@ -1,4 +1,4 @@
-ghost use Rattle.std.specs.Prelude.{◌≡◌, ℕ, List, [], length};
+ghost use Rattle.std.specs.Prelude.{◌≡◌, ◌≤◌, ℕ, List, [], length, max};
 ghost use Rattle.orca_base.specs.declared.note.Note.{Note};
 ghost use Rattle.orca_edit.specs.Machines.{Acts, Closes, preview_of};
 ghost use Rattle.orca_edit.specs.Obeying.{MachineState, piece_of};
@@ -27,7 +27,9 @@ pub trait Machine: Look {
         steps: &mut Steps<L>,
     ) -> Result<Reply, Fault>
         requires { messages.old ≡ [] }
-        ensures { Acts (machine self.old) command.now result (machine self.new) messages.new };
+        ensures acts { Acts (machine self.old) command.now result (machine self.new) messages.new }
+        ensures peak { peak self.new
+            ≡ max (peak self.old) (length (machine self.new).history) };
 
     /// Ends all notes that sound, and gives the messages of it. The history stays.
     fn close(&mut self, messages: &mut Messages)
@@ -52,11 +54,13 @@ pub trait Machine: Look {
 
     /// The number of entries of the history, at most the limit.
     fn moments(&self) -> u32
-        ensures { result ≡ length (machine self.now).history };
+        ensures moments { result ≡ length (machine self.now).history }
+        ensures few { result ≤ (machine self.now).limit };
 
     /// The most entries that the history has had.
     fn peak(&self) -> u32
-        ensures { result ≡ peak self.now };
+        ensures peak { result ≡ peak self.now }
+        ensures most { length (machine self.now).history ≤ result };
 
     /// What is looked at is the grid of the piece as it stands.
     ghost shown: { (m : Self) → Self.sheet m ≡ (piece_of (machine m)).sheet };

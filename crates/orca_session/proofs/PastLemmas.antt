@@ -44,6 +44,14 @@ seed-moment p n =
     ap (λ (s : Piece). s.seed) (silence-piece_after p.opened p.seed (take n p.trail.entries) 0)
     ∙ seed-fold_entries (opened_piece p.opened p.seed) (take n p.trail.entries)
 
+pub seed-present : (p : PastState) → (present p).seed ≡ p.seed
+seed-present p =
+    ap (λ (s : Piece). s.seed) (silence-piece_after p.opened p.seed p.trail.entries p.closed)
+    ∙ seed-fold_entries (opened_piece p.opened p.seed) p.trail.entries
+
+pub tick-present : (p : PastState) → (present p).tick ≤ length p.trail.entries
+tick-present p = tick-piece_after p.opened p.seed p.trail.entries p.closed
+
 pub tick-moment : (p : PastState) (n : ℕ) → n ≤ length p.trail.entries → (moment_of p n).tick ≤ n
 tick-moment p n within =
     omega (

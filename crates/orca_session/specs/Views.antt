@@ -1,6 +1,8 @@
 -- What a contract sees of the parts of a session.
 use Rattle.orca_session.specs.declared.past.Past.TheInside.{Inside as PastInside}
-use Rattle.orca_session.specs.Past.{PastState}
+use Rattle.orca_session.specs.declared.session.Session.TheInside.{Inside as SessionInside}
+use Rattle.orca_session.specs.Past.{PastState, machine_of}
+use Rattle.orca_session.specs.Session.{SessionState}
 
 abbrev pub past_of : PastInside → PastState
 past_of p = record {
@@ -9,4 +11,11 @@ past_of p = record {
   trail = p.history;
   closed = p.closed;
   peak = p.peak;
+}
+
+abbrev pub session_of : SessionInside → SessionState
+session_of s = record {
+  machine = machine_of s.past s.clip;
+  peak = s.past.peak;
+  marks = s.board.scan.marks;
 }

@@ -1,4 +1,4 @@
-ghost use Rattle.std.specs.Prelude.{◌≡◌, ◌+◌, ◌<◌, ◌≤◌, ◌↔◌, length, slice_get, option_copied, IfOk, IfSome, IsSome, OnOk, OnErr};
+ghost use Rattle.std.specs.Prelude.{◌≡◌, ◌+◌, ◌<◌, ◌≤◌, ◌↔◌, length, max, slice_get, option_copied, IfOk, IfSome, IsSome, OnOk, OnErr};
 ghost use Rattle.orca_base.specs.Grids.{IsSheet};
 ghost use Rattle.orca_base.specs.Histories.{last_edit};
 ghost use Rattle.orca_edit.specs.Editing.{FitsIn};
@@ -65,8 +65,9 @@ impl Past {
 
     /// The first rule that stands against the command, of those on the history.
     pub fn rule_against(&self, command: &Command) -> Option<Rule>
-        ensures { result ≡ first_standing
+        ensures rule { result ≡ first_standing
             (history_tests self.now.trail.limit self.now.trail.entries command.now) }
+        ensures most { length self.now.trail.entries ≤ self.now.peak }
     {
         match *command {
             Command::Copy { .. } => None,
@@ -112,7 +113,9 @@ impl Past {
         ensures present { OnOk result
             (present self.new ≡ (apply (present self.old) entry).piece) }
         ensures board { OnOk result (board.new ≡ board.old) }
+        ensures early { OnOk result (tick < MAX_HISTORY) }
         ensures err { OnErr result (self.new ≡ self.old) }
+        ensures peak { self.new.peak ≡ max self.old.peak (length self.new.trail.entries) }
         ensures reverted { OnErr result (sheet_of board.new.scan ≡ (present self.old).sheet) }
     {
         let pushed = self.push_changes(entry, board, dims, tick);
@@ -140,7 +143,9 @@ impl Past {
             (self.new ≡ past_pushed self.old entry (before_of board.now tick)) }
         ensures present { OnOk result
             (present self.new ≡ (apply (present self.old) entry).piece) }
+        ensures early { OnOk result (tick < MAX_HISTORY) }
         ensures err { OnErr result (self.new ≡ self.old) }
+        ensures peak { self.new.peak ≡ max self.old.peak (length self.new.trail.entries) }
     {
         // By its size a contract sees what holds of the board.
         let _now = Bench::dims(board);
@@ -207,6 +212,7 @@ impl Past {
         ensures jumped { self.new
             ≡ past_jumped self.old moment (no_change board.now.scan.dims tick) }
         ensures present { present self.new ≡ silence (moment_of self.old moment) }
+        ensures peak { self.new.peak ≡ max self.old.peak (length self.new.trail.entries) }
     {
         let patch = Patch::empty(self.alloc, Look::dims(board), tick);
         self.history.jump(moment, patch);
@@ -223,7 +229,8 @@ impl Past {
 
     /// The number of entries.
     pub fn len(&self) -> u32
-        ensures { result ≡ length self.now.trail.entries }
+        ensures len { result ≡ length self.now.trail.entries }
+        ensures few { result ≤ self.now.trail.limit }
     {
         self.history.len()
     }
@@ -246,7 +253,7 @@ impl Past {
 
     /// The seed of random numbers.
     pub fn seed(&self) -> u32
-        ensures { result ≡ self.now.seed }
+        ensures { result ≡ (present self.now).seed }
     {
         self.seed
     }
@@ -260,9 +267,15 @@ impl Past {
 
     /// The most entries that there have been.
     pub fn peak(&self) -> u32
-        ensures { result ≡ self.now.peak }
+        ensures peak { result ≡ self.now.peak }
+        ensures most { length self.now.trail.entries ≤ result }
     {
         self.peak
+    }
+
+    /// Where its memory comes from.
+    pub fn allocator(&self) -> Global {
+        self.alloc
     }
 }
 

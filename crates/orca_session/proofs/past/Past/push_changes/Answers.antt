@@ -1,4 +1,4 @@
-use Rattle.std.proofs.Common.{◌≡◌, List, max, length, ◌+◌, ap, sym, ◌∙◌, subst}
+use Rattle.std.proofs.Common.{◌≡◌, List, max, length, ◌+◌, arith, ap, sym, ◌∙◌, subst}
 use Rattle.std.specs.Prelude.{All}
 use Rattle.std.specs.List.{IsDistinct}
 use Rattle.orca_base.specs.declared.change.Change.{Change}
@@ -11,7 +11,7 @@ use Rattle.orca_edit.specs.Pieces.{apply}
 use Rattle.orca_history.specs.Trails.{IsTrail}
 use Rattle.orca_session.specs.Past.{IsPast, PastState, Undoes, past_pushed, present}
 use Rattle.orca_session.specs.Views.{past_of}
-use Rattle.orca_session.proofs.PastLemmas.{IsPast-pushed, changes-parts, present-pushed, pushed-parts, undoes-changes}
+use Rattle.orca_session.proofs.PastLemmas.{IsPast-pushed, changes-parts, present-pushed, pushed-parts, tick-present, undoes-changes}
 use Rattle.orca_session.proofs.past.Past.push_changes.Goals as goal
 
 pub of_changes-requires-clause-inside : goal.of_changes-requires-clause-inside
@@ -72,3 +72,10 @@ returns-clause-present c =
     rw (← c.self.view_is)
     (ap present (parts c)
     ∙ present-pushed (past_of c.self.inside) c.args.entry c.in_ok-patch.patch c.self.invariant)
+
+pub returns-clause-early : goal.returns-clause-early
+returns-clause-early c =
+    let p : PastState = c.args.self.now in
+    let trail : IsTrail p.trail =
+    subst (λ (q : PastState). IsTrail q.trail) c.self.view_is c.self.invariant.trail in
+    omega (arith, c.requires.tick, tick-present p, c.requires.room, trail.most)

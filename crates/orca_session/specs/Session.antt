@@ -1,0 +1,41 @@
+-- What a contract sees of a session, and how its parts stand for the machine.
+use Rattle.std.specs.Prelude.{ℕ, ◌≡◌, List}
+use Rattle.orca_base.specs.declared.command.Command.{Command}
+use Rattle.orca_base.specs.declared.command.Command.TheVariants as command
+use Rattle.orca_base.specs.declared.note.Note.{Note}
+use Rattle.orca_base.specs.Grids.{Sheet}
+use Rattle.orca_base.specs.MarkSet.{MarkSet}
+use Rattle.orca_edit.specs.Obeying.{MachineState, machine_at_start}
+use Rattle.orca_op.specs.Desk.{Desk}
+use Rattle.orca_op.specs.State.{blank_marks, sheet_of}
+use Rattle.orca_session.specs.Past.{PastState, present}
+
+-- the machine that a session means, the most entries that its history has had, and the marks that
+-- it shows
+pub record SessionState : Type 0 where
+  pub machine : MachineState
+  pub peak : ℕ
+  pub marks : List MarkSet
+
+-- a session with an opened grid
+abbrev pub session_at_start : Sheet → ℕ → ℕ → SessionState
+session_at_start sheet seed limit = record {
+  machine = machine_at_start sheet seed limit;
+  peak = 0;
+  marks = blank_marks sheet.dims;
+}
+
+-- the board, the notes and the tick are those of the piece that the past leaves
+pub record KeepsSession (p : PastState) (d : Desk) (notes : List Note) (tick : ℕ) : Type 0 where
+  pub grid : sheet_of d.scan ≡ (present p).sheet
+  pub sounding : notes ≡ (present p).notes
+  pub next : tick ≡ (present p).tick
+
+-- a command that edits the grid by a block or takes the clip: any but a frame, a reset and the two
+-- that go back
+abbrev pub IsBlockEdit : Command → Type 0
+IsBlockEdit command.Frame = ⊥
+IsBlockEdit command.Reset = ⊥
+IsBlockEdit command.Undo = ⊥
+IsBlockEdit (command.Rewind moment) = ⊥
+IsBlockEdit _ = Unit {0}

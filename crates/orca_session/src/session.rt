@@ -1,0 +1,332 @@
+ghost use Rattle.std.specs.Prelude.{◌≡◌, ◌<◌, ◌≤◌, ◌↔◌, [], ◌∷◌, ◌++◌, length, max, slice_get, option_copied, All, None, Ok, IfOk, IfSome, IsSome, OnOk, OnErr};
+ghost use Rattle.std.specs.Option.{option_map};
+ghost use Rattle.orca_base.specs.Areas.{IsArea};
+ghost use Rattle.orca_base.specs.Edits.{block_of};
+ghost use Rattle.orca_base.specs.Ranges.{CarriesFewValues};
+ghost use Rattle.orca_base.specs.declared.command.Command.TheVariants as command_of;
+ghost use Rattle.orca_edit.specs.Editing.{FitsIn, IsGridEdit};
+ghost use Rattle.orca_edit.specs.Machines.{Acts, Obeys, obeyed};
+ghost use Rattle.orca_edit.specs.Obeying.{jump, piece_of, rule_against};
+ghost use Rattle.orca_notes.specs.Device.{Plays};
+ghost use Rattle.orca_session.specs.Session.{IsBlockEdit, session_at_start};
+
+use crate::past::Past;
+use orca_base::limits::MAX_HISTORY;
+use orca_base::{
+    Area, Block, Command, Dims, Entry, Fault, Look, Marks, Memory, Note, Now, Place, Reply, Rule,
+    Steps,
+};
+use orca_board::Board;
+use orca_edit::{Edit, Machine, apply, block_rule, copy, to_entry};
+use orca_frame::frame;
+use orca_grid::Grid;
+use orca_notes::{Messages, Notes};
+use orca_op::Bench;
+use std::alloc::Global;
+use std::marker::Model;
+use std::sync::ledger::Ledger;
+
+/// A piece that plays, with all that was done to it since its grid was opened. A contract sees the
+/// machine that it means, the most entries that its history has had, and the marks that it shows.
+#[derive(Drop)]
+pub struct Session {
+    past: Past,
+    board: Board,
+    notes: Notes,
+    clip: Option<Block>,
+    tick: u32,
+}
+
+impl Model for Session {
+    ghost use Rattle.orca_session.specs.Session.{SessionState, KeepsSession};
+
+    ghost Value = { SessionState };
+
+    ghost use Rattle.orca_session.specs.Views.{session_of};
+
+    ghost view = { session_of };
+
+    ghost invariant = { λ s. KeepsSession s.past s.board s.notes s.tick };
+}
+
+impl Session {
+    /// A session with an opened grid, whose history may have at most `limit` entries, from 1 to
+    /// [`MAX_HISTORY`]. It shows no marks. It takes the room for the grid, the notes and the
+    /// patches. [`Memory`] if that room is refused.
+    pub fn start(alloc: Global, grid: &Grid, seed: u32, limit: u32) -> Result<Session, Memory>
+        requires some { 1 ≤ limit }
+        requires most { limit ≤ MAX_HISTORY }
+        ensures { IfOk result (λ session. session ≡ session_at_start grid.now seed limit) }
+    {
+        Ok(Session {
+            past: Past::start(alloc, grid, seed, limit)?,
+            board: Board::start(alloc, grid)?,
+            notes: Notes::start(alloc)?,
+            clip: None,
+            tick: 0,
+        })
+    }
+
+    /// The entry of a number; none exactly from [`Machine::moments`] on.
+    pub fn entry(&self, index: u32) -> Option<&Entry>
+        ensures entry { option_copied result ≡ slice_get self.now.machine.history index }
+        ensures some { IsSome result ↔ (index < length self.now.machine.history) }
+    {
+        self.past.entry(index)
+    }
+
+    /// The most entries that the history may have.
+    pub fn limit(&self) -> u32
+        ensures { result ≡ self.now.machine.limit }
+    {
+        self.past.limit()
+    }
+
+    /// The clip: what was copied or cut last. None if nothing was so far.
+    pub fn clip(&self) -> Option<&Block>
+        ensures { option_copied result ≡ self.now.machine.clip }
+    {
+        self.clip.as_ref()
+    }
+
+    /// The first rule that stands against the command.
+    fn rule_against(&self, command: &Command) -> Option<Rule>
+        ensures rule { result ≡ rule_against self.now.machine command.now }
+        ensures most { length self.now.machine.history ≤ self.now.peak }
+    {
+        let late = self.past.rule_against(command);
+        let dims = Look::dims(&self.board);
+        match block_rule(command, dims, self.clip.as_ref()) {
+            Some(rule) => Some(rule),
+            None => late,
+        }
+    }
+
+    /// Plays a frame, and adds it to the history.
+    fn play<L: Ledger>(
+        &mut self,
+        messages: &mut Messages,
+        steps: &mut Steps<L>,
+    ) -> Result<Reply, Fault>
+        requires allowed { rule_against self.old.machine command_of.Frame ≡ None }
+        requires silent { messages.old ≡ [] }
+        ensures acts { Acts self.old.machine command_of.Frame result self.new.machine messages.new }
+        ensures peak { self.new.peak ≡ max self.old.peak (length self.new.machine.history) }
+    {
+        let tick = self.tick;
+        let now = Now {
+            tick,
+            seed: self.past.seed(),
+        };
+        let dims = Look::dims(&self.board);
+        frame(&mut self.board, now, steps);
+        let pushed = self
+            .past
+            .push(Entry::Frame, &mut self.board, dims, tick, steps);
+        if pushed.is_err() {
+            return Err(Fault::Memory);
+        }
+        self.notes.advance(tick, self.board.events(), messages);
+        self.tick = tick + 1;
+        Ok(Reply::Framed { tick })
+    }
+
+    /// Begins again at tick 0, ends every note, and adds that to the history.
+    fn reset<L: Ledger>(
+        &mut self,
+        messages: &mut Messages,
+        steps: &mut Steps<L>,
+    ) -> Result<Reply, Fault>
+        requires allowed { rule_against self.old.machine command_of.Reset ≡ None }
+        requires silent { messages.old ≡ [] }
+        ensures acts { Acts self.old.machine command_of.Reset result self.new.machine messages.new }
+        ensures peak { self.new.peak ≡ max self.old.peak (length self.new.machine.history) }
+    {
+        let dims = Look::dims(&self.board);
+        self.board.begin(steps);
+        let pushed = self
+            .past
+            .push(Entry::Reset, &mut self.board, dims, self.tick, steps);
+        if pushed.is_err() {
+            return Err(Fault::Memory);
+        }
+        self.tick = 0;
+        self.notes.hush(messages);
+        Ok(Reply::Edited)
+    }
+
+    /// Edits the grid by a block, or takes the clip, or both. The clip is copied before the grid
+    /// changes.
+    fn edit<L: Ledger>(
+        &mut self,
+        command: &Command,
+        steps: &mut Steps<L>,
+    ) -> Result<Reply, Fault>
+        requires editing { IsBlockEdit command.now }
+        requires allowed { rule_against self.old.machine command.now ≡ None }
+        requires most { length self.old.machine.history ≤ self.old.peak }
+        ensures obeys { Obeys self.old.machine command.now result self.new.machine [] }
+        ensures notes { (piece_of self.new.machine).notes ≡ (piece_of self.old.machine).notes }
+        ensures peak { self.new.peak ≡ max self.old.peak (length self.new.machine.history) }
+    {
+        let dims = Look::dims(&self.board);
+        let Edit { entry, take } = to_entry(command, dims, self.clip.as_ref())?;
+        let Ok(taken) = self.copy_of(take) else {
+            return Err(Fault::Memory);
+        };
+        let mut reply = Reply::Copied;
+        if let Some(entry) = entry {
+            if self.change(entry, steps).is_err() {
+                return Err(Fault::Memory);
+            }
+            reply = Reply::Edited;
+        }
+        if taken.is_some() {
+            self.clip = taken;
+        }
+        Ok(reply)
+    }
+
+    /// A copy of the glyphs of an area of the grid, if there is one. [`Memory`] if its room is
+    /// refused.
+    fn copy_of(&self, area: Option<Area>) -> Result<Option<Block>, Memory>
+        requires { IfSome area (IsArea (piece_of self.now.machine).sheet.dims) }
+        ensures { IfOk result (λ block.
+            block ≡ option_map (block_of (piece_of self.now.machine).sheet) area) }
+    {
+        match area {
+            Some(area) => Ok(Some(copy(self.past.allocator(), &self.board, area)?)),
+            None => Ok(None),
+        }
+    }
+
+    /// Does an entry that edits the grid, and adds it to the history. If memory is refused, nothing
+    /// was done.
+    fn change<L: Ledger>(&mut self, entry: Entry, steps: &mut Steps<L>) -> Result<(), Memory>
+        requires edit { IsGridEdit entry }
+        requires fits { FitsIn (piece_of self.old.machine).sheet.dims entry }
+        requires room { length self.old.machine.history < self.old.machine.limit }
+        ensures extended { OnOk result (self.new.machine
+            ≡ record self.old.machine { history = self.old.machine.history ++ entry ∷ [] }) }
+        ensures err { OnErr result (self.new.machine ≡ self.old.machine) }
+        ensures notes { (piece_of self.new.machine).notes ≡ (piece_of self.old.machine).notes }
+        ensures peak { self.new.peak ≡ max self.old.peak (length self.new.machine.history) }
+    {
+        let dims = Look::dims(&self.board);
+        self.board.begin(steps);
+        apply(&mut self.board, &entry, steps);
+        self.past
+            .push(entry, &mut self.board, dims, self.tick, steps)
+    }
+
+    /// Goes back to before the last edit.
+    fn undo<L: Ledger>(&mut self, messages: &mut Messages, steps: &mut Steps<L>) -> Reply
+        requires allowed { rule_against self.old.machine command_of.Undo ≡ None }
+        requires silent { messages.old ≡ [] }
+        ensures acts { Acts self.old.machine command_of.Undo (Ok result) self.new.machine
+            messages.new }
+        ensures peak { self.new.peak ≡ max self.old.peak (length self.new.machine.history) }
+    {
+        let moment = self.past.last_edit().unwrap();
+        self.jump(moment, messages, steps)
+    }
+
+    /// Goes back to a moment, and ends every note.
+    fn jump<L: Ledger>(
+        &mut self,
+        moment: u32,
+        messages: &mut Messages,
+        steps: &mut Steps<L>,
+    ) -> Reply
+        requires within { moment < length self.old.machine.history }
+        requires silent { messages.old ≡ [] }
+        ensures jumped { jump self.old.machine moment
+            ≡ obeyed (Ok result) self.new.machine messages.new }
+        ensures plays { Plays (piece_of self.old.machine).notes messages.new
+            (piece_of self.new.machine).notes }
+        ensures few_values { All CarriesFewValues messages.new }
+        ensures peak { self.new.peak ≡ max self.old.peak (length self.new.machine.history) }
+    {
+        let tick = self.past.go_back(&mut self.board, moment, steps);
+        self.past.jump(moment, &self.board, tick);
+        self.tick = tick;
+        self.notes.hush(messages);
+        Reply::Jumped { moment }
+    }
+}
+
+impl Look for Session {
+    ghost sheet = { λ s. (piece_of s.machine).sheet };
+
+    ghost marks = { λ s. s.marks };
+
+    fn dims(&self) -> Dims {
+        Look::dims(&self.board)
+    }
+
+    fn glyph_at(&self, at: Place) -> orca_base::Glyph {
+        self.board.glyph_at(at)
+    }
+
+    fn marks_at(&self, at: Place) -> Marks {
+        self.board.marks_at(at)
+    }
+}
+
+impl Machine for Session {
+    ghost use Rattle.std.specs.Prelude.{refl};
+
+    ghost machine = { λ s. s.machine };
+
+    ghost peak = { λ s. s.peak };
+
+    ghost shown = { λ _. refl };
+
+    fn act<L: Ledger>(
+        &mut self,
+        command: &Command,
+        messages: &mut Messages,
+        steps: &mut Steps<L>,
+    ) -> Result<Reply, Fault> {
+        if let Some(rule) = self.rule_against(command) {
+            return Err(Fault::Refused(rule));
+        }
+        match *command {
+            Command::Frame => self.play(messages, steps),
+            Command::Reset => self.reset(messages, steps),
+            Command::Undo => Ok(self.undo(messages, steps)),
+            Command::Rewind { moment } => Ok(self.jump(moment, messages, steps)),
+            _ => self.edit(command, steps),
+        }
+    }
+
+    fn close(&mut self, messages: &mut Messages) {
+        self.notes.hush(messages);
+        self.past.close();
+    }
+
+    fn preview_marks<L: Ledger>(&mut self, steps: &mut Steps<L>) {
+        let now = Now {
+            tick: self.tick,
+            seed: self.past.seed(),
+        };
+        frame(&mut self.board, now, steps);
+        self.board.revert(steps);
+    }
+
+    fn tick(&self) -> u32 {
+        self.tick
+    }
+
+    fn notes(&self) -> &[Note] {
+        self.notes.as_slice()
+    }
+
+    fn moments(&self) -> u32 {
+        self.past.len()
+    }
+
+    fn peak(&self) -> u32 {
+        self.past.peak()
+    }
+}
