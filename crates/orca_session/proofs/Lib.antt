@@ -1,1 +1,3 @@
+mod ObeyLemmas
 mod PastLemmas
+mod SessionLemmas

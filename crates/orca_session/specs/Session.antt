@@ -1,5 +1,5 @@
 -- What a contract sees of a session, and how its parts stand for the machine.
-use Rattle.std.specs.Prelude.{ℕ, ◌≡◌, List}
+use Rattle.std.specs.Prelude.{ℕ, ◌≡◌, List, Option, Some, None}
 use Rattle.orca_base.specs.declared.command.Command.{Command}
 use Rattle.orca_base.specs.declared.command.Command.TheVariants as command
 use Rattle.orca_base.specs.declared.note.Note.{Note}
@@ -39,3 +39,8 @@ IsBlockEdit command.Reset = ⊥
 IsBlockEdit command.Undo = ⊥
 IsBlockEdit (command.Rewind moment) = ⊥
 IsBlockEdit _ = Unit {0}
+
+-- the clip, once a block is kept or none
+abbrev pub clip_with : Option Sheet → Option Sheet → Option Sheet
+clip_with clip None = clip
+clip_with clip (Some block) = Some block

@@ -3,12 +3,13 @@ ghost use Rattle.std.specs.Option.{option_map};
 ghost use Rattle.orca_base.specs.Areas.{IsArea};
 ghost use Rattle.orca_base.specs.Edits.{block_of};
 ghost use Rattle.orca_base.specs.Ranges.{CarriesFewValues};
+ghost use Rattle.orca_base.specs.declared.command.Command.{Command};
 ghost use Rattle.orca_base.specs.declared.command.Command.TheVariants as command_of;
 ghost use Rattle.orca_edit.specs.Editing.{FitsIn, IsGridEdit};
 ghost use Rattle.orca_edit.specs.Machines.{Acts, Obeys, obeyed};
-ghost use Rattle.orca_edit.specs.Obeying.{jump, piece_of, rule_against};
+ghost use Rattle.orca_edit.specs.Obeying.{carry_out, clip_after, jump, piece_of, rule_against};
 ghost use Rattle.orca_notes.specs.Device.{Plays};
-ghost use Rattle.orca_session.specs.Session.{IsBlockEdit, session_at_start};
+ghost use Rattle.orca_session.specs.Session.{IsBlockEdit, clip_with, session_at_start};
 
 use crate::past::Past;
 use orca_base::limits::MAX_HISTORY;
@@ -103,6 +104,7 @@ impl Session {
     }
 
     /// Plays a frame, and adds it to the history.
+    #[tactic(auto, unfolding(orca_edit::specs::Pieces::apply))]
     fn play<L: Ledger>(
         &mut self,
         messages: &mut Messages,
@@ -123,15 +125,16 @@ impl Session {
         let pushed = self
             .past
             .push(Entry::Frame, &mut self.board, dims, tick, steps);
-        if pushed.is_err() {
+        let Ok(()) = pushed else {
             return Err(Fault::Memory);
-        }
+        };
         self.notes.advance(tick, self.board.events(), messages);
         self.tick = tick + 1;
         Ok(Reply::Framed { tick })
     }
 
     /// Begins again at tick 0, ends every note, and adds that to the history.
+    #[tactic(auto, unfolding(orca_edit::specs::Pieces::apply))]
     fn reset<L: Ledger>(
         &mut self,
         messages: &mut Messages,
@@ -147,16 +150,15 @@ impl Session {
         let pushed = self
             .past
             .push(Entry::Reset, &mut self.board, dims, self.tick, steps);
-        if pushed.is_err() {
+        let Ok(()) = pushed else {
             return Err(Fault::Memory);
-        }
+        };
         self.tick = 0;
         self.notes.hush(messages);
         Ok(Reply::Edited)
     }
 
-    /// Edits the grid by a block, or takes the clip, or both. The clip is copied before the grid
-    /// changes.
+    /// Edits the grid by a block, or takes the clip, or both.
     fn edit<L: Ledger>(
         &mut self,
         command: &Command,
@@ -171,20 +173,52 @@ impl Session {
     {
         let dims = Look::dims(&self.board);
         let Edit { entry, take } = to_entry(command, dims, self.clip.as_ref())?;
-        let Ok(taken) = self.copy_of(take) else {
-            return Err(Fault::Memory);
+        match self.carry_out(entry, take, steps) {
+            Ok(reply) => Ok(reply),
+            Err(Memory) => Err(Fault::Memory),
+        }
+    }
+
+    /// Takes an area of the grid as the clip, and does an entry that edits the grid, each if there
+    /// is one. The area is copied before the grid changes. If memory is refused, nothing was done.
+    fn carry_out<L: Ledger>(
+        &mut self,
+        entry: Option<Entry>,
+        take: Option<Area>,
+        steps: &mut Steps<L>,
+    ) -> Result<Reply, Memory>
+        requires edit { IfSome entry IsGridEdit }
+        requires fits { IfSome entry (FitsIn (piece_of self.old.machine).sheet.dims) }
+        requires inside { IfSome take (IsArea (piece_of self.old.machine).sheet.dims) }
+        requires room { IsSome entry → length self.old.machine.history < self.old.machine.limit }
+        requires most { length self.old.machine.history ≤ self.old.peak }
+        ensures done { IfOk result (λ reply. (c : Command) → IsBlockEdit c
+            → carry_out self.old.machine c
+                (clip_after self.old.machine.clip (piece_of self.old.machine).sheet take) entry
+            ≡ obeyed (Ok reply) self.new.machine []) }
+        ensures err { OnErr result (self.new.machine ≡ self.old.machine) }
+        ensures notes { (piece_of self.new.machine).notes ≡ (piece_of self.old.machine).notes }
+        ensures peak { self.new.peak ≡ max self.old.peak (length self.new.machine.history) }
+    {
+        let taken = self.copy_of(take)?;
+        let Some(entry) = entry else {
+            self.keep_clip(taken);
+            return Ok(Reply::Copied);
         };
-        let mut reply = Reply::Copied;
-        if let Some(entry) = entry {
-            if self.change(entry, steps).is_err() {
-                return Err(Fault::Memory);
-            }
-            reply = Reply::Edited;
+        self.change(entry, steps)?;
+        self.keep_clip(taken);
+        Ok(Reply::Edited)
+    }
+
+    /// Keeps a block as the clip, if there is one.
+    fn keep_clip(&mut self, block: Option<Block>)
+        ensures machine { self.new.machine
+            ≡ record self.old.machine { clip = clip_with self.old.machine.clip block } }
+        ensures peak { self.new.peak ≡ self.old.peak }
+    {
+        if block.is_some() {
+            self.clip = block;
         }
-        if taken.is_some() {
-            self.clip = taken;
-        }
-        Ok(reply)
     }
 
     /// A copy of the glyphs of an area of the grid, if there is one. [`Memory`] if its room is

@@ -1,0 +1,132 @@
+-- What the calls of a session leave, seen by its parts.
+use Rattle.std.proofs.Common.{◌≡◌, ℕ, ◌+◌, Bool, true, false, List, [], ◌∷◌, ◌++◌, Some, None, Ok, Err, refl, ap, sym, ◌∙◌, subst}
+use Rattle.std.specs.Prelude.{Option, Result, All, IsSome, is_none}
+use Rattle.std.proofs.lemmas.List.Elements.{All-nil}
+use Rattle.orca_base.specs.declared.command.Command.{Command}
+use Rattle.orca_base.specs.declared.command.Command.TheVariants as command
+use Rattle.orca_base.specs.declared.command.Entry.TheVariants as entry
+use Rattle.orca_base.specs.declared.command.Fault.TheVariants.{Refused, Memory}
+use Rattle.orca_base.specs.declared.command.Reply.TheVariants.{Edited, Framed, Jumped}
+use Rattle.orca_base.specs.declared.command.Reply.{Reply}
+use Rattle.orca_base.specs.declared.command.Fault.{Fault}
+use Rattle.orca_base.specs.declared.command.Rule.{Rule}
+use Rattle.orca_base.specs.declared.message.Message.{Message}
+use Rattle.orca_base.specs.declared.note.Note.{Note}
+use Rattle.orca_base.specs.Grids.{Sheet}
+use Rattle.orca_base.specs.Ranges.{CarriesFewValues}
+use Rattle.orca_edit.specs.Machines.{Acts, Obeys, goes_back, obeyed}
+use Rattle.orca_edit.specs.Obeying.{MachineState, jump, obey, piece_of, rule_against}
+use Rattle.orca_edit.specs.Pieces.{Piece, apply, opened_piece}
+use Rattle.orca_edit.proofs.FoldLemmas.{piece_after-zero}
+use Rattle.orca_notes.specs.Device.{Plays}
+use Rattle.orca_notes.specs.Sound.{ends}
+use Rattle.orca_notes.proofs.PlayFacts.{Plays-none}
+use Rattle.orca_op.specs.Desk.{Desk, desk_of_sheet}
+use Rattle.orca_op.specs.State.{sheet_of}
+use Rattle.orca_patch.specs.Patches.{Before}
+use Rattle.orca_session.specs.Past.{PastState, machine_of, past_at_start, past_jumped, past_pushed, present}
+use Rattle.orca_session.specs.Session.{KeepsSession}
+use Rattle.orca_session.proofs.ObeyLemmas.{given-up, obey-frame, obey-refused, obey-reset}
+
+-- ---- the start
+
+-- the piece of an opened grid
+pub opened-start : (sheet : Sheet) (seed limit : ℕ)
+    → present (past_at_start sheet seed limit) ≡ opened_piece sheet seed
+opened-start sheet seed limit = piece_after-zero sheet seed []
+
+pub keeps-start : (p : PastState) (d : Desk) (notes : List Note) (sheet : Sheet) (seed limit : ℕ)
+    → p ≡ past_at_start sheet seed limit → d ≡ desk_of_sheet sheet → notes ≡ []
+    → KeepsSession p d notes 0
+keeps-start p d notes sheet seed limit begun laid silent =
+    let piece : present p ≡ opened_piece sheet seed =
+    ap present begun ∙ opened-start sheet seed limit in
+    record {
+      grid = ap (λ (x : Desk). sheet_of x.scan) laid ∙ sym (ap (λ (x : Piece). x.sheet) piece);
+      sounding = silent ∙ sym (ap (λ (x : Piece). x.notes) piece);
+      next = sym (ap (λ (x : Piece). x.tick) piece);
+    }
+
+-- ---- nothing was done
+
+-- no message, and the notes stay
+pub acts-silent : (old new : MachineState) (c : Command) (answer : Result Reply Fault)
+    (messages : List Message) → messages ≡ [] → Obeys old c answer new []
+    → (piece_of new).notes ≡ (piece_of old).notes → Acts old c answer new messages
+acts-silent old new c answer messages silent obeys same =
+    rw silent
+    (record {
+      obeys = obeys;
+      plays = subst (λ (notes : List Note). Plays (piece_of old).notes [] notes) (sym same)
+          (Plays-none (piece_of old).notes);
+      few_values = All-nil CarriesFewValues;
+    })
+
+pub acts-refused : (m : MachineState) (c : Command) (r : Rule) (messages : List Message)
+    → messages ≡ [] → rule_against m c ≡ Some r → Acts m c (Err (Refused r)) m messages
+acts-refused m c r messages silent is =
+    acts-silent m m c (Err (Refused r)) messages silent (obey-refused m c r is) refl
+
+pub acts-given-up : (m : MachineState) (c : Command) → rule_against m c ≡ None
+    → goes_back c ≡ false → Acts m c (Err Memory) m []
+acts-given-up m c allowed forward =
+    acts-silent m m c (Err Memory) [] refl (given-up m c allowed forward) refl
+
+-- ---- a frame
+
+pub acts-frame : (p q : PastState) (clip : Option Sheet) (patch : Before) (tick : ℕ)
+    (messages : List Message) → rule_against (machine_of p clip) command.Frame ≡ None
+    → q ≡ past_pushed p entry.Frame patch → tick ≡ (present p).tick
+    → messages ≡ (apply (present p) entry.Frame).messages
+    → Plays (present p).notes messages (present q).notes → All CarriesFewValues messages
+    → Acts (machine_of p clip) command.Frame (Ok (Framed tick)) (machine_of q clip) messages
+acts-frame p q clip patch tick messages allowed pushed next said plays few = record {
+  obeys = obey-frame (machine_of p clip) allowed
+      ∙ (ap (λ (t : ℕ). obeyed (Ok (Framed t)) (machine_of (past_pushed p entry.Frame patch) clip)
+      (apply (present p) entry.Frame).messages) (sym next)
+      ∙ (ap (λ (x : PastState). obeyed (Ok (Framed tick)) (machine_of x clip)
+      (apply (present p) entry.Frame).messages) (sym pushed)
+      ∙ ap (λ (ms : List Message). obeyed (Ok (Framed tick)) (machine_of q clip) ms) (sym said)));
+  plays = plays;
+  few_values = few;
+}
+
+-- ---- a reset
+
+pub acts-reset : (p q : PastState) (clip : Option Sheet) (patch : Before)
+    (messages : List Message) → rule_against (machine_of p clip) command.Reset ≡ None
+    → q ≡ past_pushed p entry.Reset patch → messages ≡ ends (present p).notes
+    → Plays (present p).notes messages (present q).notes → All CarriesFewValues messages
+    → Acts (machine_of p clip) command.Reset (Ok Edited) (machine_of q clip) messages
+unfolding apply
+acts-reset p q clip patch messages allowed pushed said plays few = record {
+  obeys = obey-reset (machine_of p clip) allowed
+      ∙ (ap (λ (x : PastState). obeyed (Ok Edited) (machine_of x clip) (ends (present p).notes))
+      (sym pushed)
+      ∙ ap (λ (ms : List Message). obeyed (Ok Edited) (machine_of q clip) ms) (sym said));
+  plays = plays;
+  few_values = few;
+}
+
+-- no note sounds after it
+pub notes-reset : (p : Piece) → (apply p entry.Reset).piece.notes ≡ []
+unfolding apply
+notes-reset p = refl
+
+-- ---- a jump
+
+pub jump-parts : (p q : PastState) (clip : Option Sheet) (patch : Before) (moment : ℕ)
+    (messages : List Message) → q ≡ past_jumped p moment patch
+    → messages ≡ ends (present p).notes
+    → jump (machine_of p clip) moment
+    ≡ obeyed (Ok (Jumped moment)) (machine_of q clip) messages
+unfolding jump
+jump-parts p q clip patch moment messages jumped said =
+    ap (λ (x : PastState). obeyed (Ok (Jumped moment)) (machine_of x clip)
+    (ends (present p).notes)) (sym jumped)
+    ∙ ap (λ (ms : List Message). obeyed (Ok (Jumped moment)) (machine_of q clip) ms) (sym said)
+
+-- an option that isn't none is some
+pub some-not-none : (o : Option ℕ) → is_none o ≡ false → IsSome o
+some-not-none None is = absurd (cc)
+some-not-none (Some x) is = refl

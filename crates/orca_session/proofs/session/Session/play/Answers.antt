@@ -1,0 +1,68 @@
+use Rattle.std.proofs.Common.{◌≡◌, Ok, Err, List, None, ◌∙◌, ap, sym, refl, rules, subst}
+use Rattle.std.specs.Prelude.{All}
+use Rattle.orca_base.specs.declared.command.Command.TheVariants as command
+use Rattle.orca_base.specs.declared.event.Event.{Event}
+use Rattle.orca_base.specs.declared.note.Note.{Note}
+use Rattle.orca_base.specs.EventRanges.{IsInRange, HasFewValues-in_range}
+use Rattle.orca_base.specs.Ranges.{CarriesFewValues}
+use Rattle.orca_notes.specs.Device.{Plays}
+use Rattle.orca_op.specs.Desk.{Desk}
+use Rattle.orca_edit.specs.Obeying.{rule_against}
+use Rattle.orca_base.specs.declared.command.Entry.TheVariants as entry
+use Rattle.orca_edit.specs.Pieces.{apply}
+use Rattle.orca_session.proofs.session.Session.play.Given.{Over}
+use Rattle.orca_session.specs.Past.{PastState, machine_of, present}
+use Rattle.orca_session.specs.Session.{SessionState}
+use Rattle.orca_session.proofs.ObeyLemmas.{has-room}
+use Rattle.orca_session.proofs.SessionLemmas.{acts-frame, acts-given-up}
+use Rattle.orca_session.proofs.session.Session.play.Goals as goal
+
+pub push-pushed-requires-clause-room : goal.push-pushed-requires-clause-room
+push-pushed-requires-clause-room g c =
+    has-room (machine_of c.self.inside.past c.self.inside.clip) command.Frame
+    (subst (λ (s : SessionState). rule_against s.machine command.Frame ≡ None) (sym c.self.view_is)
+    c.requires.allowed) refl
+
+-- nothing was done
+pub returns-in_default-clause-acts : goal.returns-in_default-clause-acts
+returns-in_default-clause-acts g c =
+    let same : machine_of c.push-pushed.new.self c.self.inside.clip ≡ c.args.self.now.machine =
+    ap (λ (p : PastState). machine_of p c.self.inside.clip) c.in_default.ensures.err
+    ∙ ap (λ (s : SessionState). s.machine) c.self.view_is in
+    rw (same, c.requires.silent)
+    (acts-given-up c.args.self.now.machine command.Frame c.requires.allowed refl)
+
+-- the messages are those of the frame
+said : (g : Over) (c : goal.After-self-1 g)
+    → c.advance.new.messages ≡ (apply (present c.self.inside.past) entry.Frame).messages
+unfolding apply
+said g c = search rules
+
+-- and so are the notes
+sounding : (g : Over) (c : goal.After-self-1 g)
+    → c.advance.new.self ≡ (present c.push-pushed.new.self).notes
+unfolding apply
+sounding g c = search rules
+
+-- each of them carries few values
+few : (g : Over) (c : goal.After-self-1 g) → All CarriesFewValues c.advance.new.messages
+few g c =
+    let events : All IsInRange c.events.result.now =
+    subst (λ (es : List Event). All IsInRange es)
+    (sym (c.events.ensures.events ∙ ap (λ (d : Desk). d.scan.events) c.in-Ok.ensures.board))
+    c.frame.ensures.framed.events in
+    c.advance.ensures.few_values (λ k d below. HasFewValues-in_range _ (events k d below))
+
+pub returns-clause-acts : goal.returns-clause-acts
+returns-clause-acts g c =
+    rw (← c.self.view_is)
+    (acts-frame c.self.inside.past c.push-pushed.new.self c.self.inside.clip _ c.self.inside.tick
+    c.advance.new.messages
+    (subst (λ (s : SessionState). rule_against s.machine command.Frame ≡ None) (sym c.self.view_is)
+    c.requires.allowed)
+    c.in-Ok.ensures.pushed c.self.invariant.next (said g c)
+    (subst (λ (notes : List Note). Plays notes c.advance.new.messages
+    (present c.push-pushed.new.self).notes) c.self.invariant.sounding
+    (subst (λ (notes : List Note). Plays c.self.inside.notes c.advance.new.messages notes)
+    (sounding g c) c.advance.ensures.plays))
+    (few g c))

@@ -1,0 +1,7 @@
+use Rattle.orca_session.proofs.SessionLemmas.{keeps-start}
+use Rattle.orca_session.proofs.session.Session.start.Goals as goal
+
+pub invariant_of-result : goal.invariant_of-result
+invariant_of-result c =
+    keeps-start _ _ _ c.args.grid.now c.args.seed c.args.limit c.in_ok-start.ensures
+    c.in_ok-start-2.ensures c.in_ok-start-3.ensures
