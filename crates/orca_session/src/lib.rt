@@ -9,3 +9,6 @@ mod past;
 mod session;
 
 pub use session::Session;
+
+#[cfg(test)]
+mod tests;
