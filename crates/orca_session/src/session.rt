@@ -159,11 +159,7 @@ impl Session {
     }
 
     /// Edits the grid by a block, or takes the clip, or both.
-    fn edit<L: Ledger>(
-        &mut self,
-        command: &Command,
-        steps: &mut Steps<L>,
-    ) -> Result<Reply, Fault>
+    fn edit<L: Ledger>(&mut self, command: &Command, steps: &mut Steps<L>) -> Result<Reply, Fault>
         requires editing { IsBlockEdit command.now }
         requires allowed { rule_against self.old.machine command.now ≡ None }
         requires most { length self.old.machine.history ≤ self.old.peak }
@@ -194,7 +190,7 @@ impl Session {
         requires most { length self.old.machine.history ≤ self.old.peak }
         ensures done { IfOk result (λ reply. (c : Command) → IsBlockEdit c
             → carry_out self.old.machine c
-                (clip_after self.old.machine.clip (piece_of self.old.machine).sheet take) entry
+            (clip_after self.old.machine.clip (piece_of self.old.machine).sheet take) entry
             ≡ obeyed (Ok reply) self.new.machine []) }
         ensures err { OnErr result (self.new.machine ≡ self.old.machine) }
         ensures notes { (piece_of self.new.machine).notes ≡ (piece_of self.old.machine).notes }

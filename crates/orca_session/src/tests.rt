@@ -25,8 +25,6 @@ const EDITED: Answer = Ok(Reply::Edited);
 
 const COPIED: Answer = Ok(Reply::Copied);
 
-const FULL: Answer = Err(Fault::Refused(Rule::HistoryFull));
-
 fn framed(tick: u32) -> Answer {
     Ok(Reply::Framed { tick })
 }
@@ -99,12 +97,7 @@ fn obey<L: Ledger>(
 }
 
 /// The session shows this grid.
-fn expect_grid(
-    rt: &impl Abort,
-    alloc: Global,
-    session: &Session,
-    text: &[u8],
-) -> Result<(), Fail> {
+fn expect_grid(rt: &impl Abort, alloc: Global, session: &Session, text: &[u8]) -> Result<(), Fail> {
     let mut printed = Vec::new(alloc);
     Grid::print(session, &mut printed)?;
     assert!(rt; printed.as_slice() == text, "{printed:?}");

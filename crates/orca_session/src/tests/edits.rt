@@ -1,7 +1,7 @@
 //! Edits, clips and refusals.
 
-use super::{COPIED, EDITED, FULL, Play, expect, framed, jumped, rect, refused, write};
-use orca_base::{Command, Fault, Glyph, Rule};
+use super::{Answer, COPIED, EDITED, Play, expect, framed, jumped, rect, refused, write};
+use orca_base::{Command, Glyph, Rule};
 use std::alloc::Global;
 use std::process::Abort;
 use std::test::Fail;
@@ -43,66 +43,11 @@ fn resize(h: u32, w: u32) -> Command {
     Command::Resize { h, w }
 }
 
-/// An edit of the letters makes this grid, and an undo brings the letters back.
-fn expect_edit(
-    rt: &impl Abort,
-    alloc: Global,
-    command: Command,
-    after: &[u8],
-) -> Result<(), Fail> {
-    let edit = Play {
-        grid: LETTERS,
-        limit: 10,
-        commands: &[(command, EDITED)],
-        messages: &[],
-        after,
-        tick: 0,
-        moments: 1,
-        sounding: 0,
-    };
-    expect(rt, alloc, &edit)?;
-    let undo = Play {
-        commands: &[(command, EDITED), (Command::Undo, jumped(0))],
-        after: LETTERS,
-        ..edit
-    };
-    expect(rt, alloc, &undo)
-}
-
-#[test]
-fn each_edit_and_its_undo(rt: HostRuntime) -> Result<(), Fail> {
-    let alloc = rt.alloc();
-    let fill = Command::Fill {
-        rect: rect(2, 2, 9, 9),
-        glyph: Glyph::BANG,
-    };
-    expect_edit(&rt, alloc, fill, b"abcd\nefgh\nij**\nmn**\n")?;
-    for (command, after) in [
-        (write(3, 3, 7), b"abcd\nefgh\nijkl\nmno7\n"),
-        (erase(1, 0, 1, 4), b"abcd\n....\nijkl\nmnop\n"),
-        (erase(0, 1, 4, 1), b"a.cd\ne.gh\ni.kl\nm.op\n"),
-        (erase(0, 0, 4, 4), b"....\n....\n....\n....\n"),
-        (cut(3, 2, 5, u32::MAX), b"abcd\nefgh\nijkl\nmn..\n"),
-        (shift(1, 1, 2, 2, (1, 2)), b"abcd\ne.fg\ni.jk\nmnop\n"),
-        (shift(1, 1, 2, 2, (1, 0)), b"abcd\nfg.h\njk.l\nmnop\n"),
-        (shift(1, 1, 2, 2, (2, 1)), b"abcd\ne..h\nifgl\nmjkp\n"),
-        (shift(1, 1, 2, 2, (0, 1)), b"afgd\nejkh\ni..l\nmnop\n"),
-        (shift(1, 1, 2, 2, (2, 3)), b"abcd\ne..h\ni..f\nmnoj\n"),
-        (shift(1, 1, 2, 2, (3, 1)), b"abcd\ne..h\ni..l\nmfgp\n"),
-        (shift(1, 1, 2, 2, (3, 3)), b"abcd\ne..h\ni..l\nmnof\n"),
-    ] {
-        expect_edit(&rt, alloc, command, after)?;
-    }
-    expect_edit(&rt, alloc, resize(2, 2), b"ab\nef\n")?;
-    expect_edit(&rt, alloc, resize(1, 1), b"a\n")?;
-    expect_edit(&rt, alloc, resize(5, 3), b"abc\nefg\nijk\nmno\n...\n")
-}
-
 /// The commands on the letters have these answers, and leave this grid and so many moments.
 fn expect_letters(
     rt: &impl Abort,
     alloc: Global,
-    commands: &[(Command, Result<orca_base::Reply, Fault>)],
+    commands: &[(Command, Answer)],
     after: &[u8],
     moments: u32,
 ) -> Result<(), Fail> {
@@ -119,87 +64,145 @@ fn expect_letters(
     expect(rt, alloc, &play)
 }
 
+/// An edit of the letters makes this grid, and an undo brings the letters back.
+fn expect_edit(rt: &impl Abort, alloc: Global, command: Command, after: &[u8]) -> Result<(), Fail> {
+    expect_letters(rt, alloc, &[(command, EDITED)], after, 1)?;
+    let commands = [(command, EDITED), (Command::Undo, jumped(0))];
+    expect_letters(rt, alloc, &commands, LETTERS, 1)
+}
+
 #[test]
-fn clips(rt: HostRuntime) -> Result<(), Fail> {
-    let alloc = rt.alloc();
-    let square = (copy(0, 0, 2, 2), COPIED);
-    for (to, after) in [
-        (paste(2, 1), b"abcd\nefgh\niabl\nmefp\n"),
-        (paste(1, 3), b"abcd\nefga\nijke\nmnop\n"),
-        (paste(3, 1), b"abcd\nefgh\nijkl\nmabp\n"),
-        (paste(3, 3), b"abcd\nefgh\nijkl\nmnoa\n"),
+fn each_edit_and_its_undo(rt: HostRuntime) -> Result<(), Fail> {
+    let fill = Command::Fill {
+        rect: rect(2, 2, 9, 9),
+        glyph: Glyph::BANG,
+    };
+    for (command, after) in [
+        (fill, b"abcd\nefgh\nij**\nmn**\n"),
+        (write(3, 3, 7), b"abcd\nefgh\nijkl\nmno7\n"),
+        (erase(1, 0, 1, 4), b"abcd\n....\nijkl\nmnop\n"),
+        (erase(0, 1, 4, 1), b"a.cd\ne.gh\ni.kl\nm.op\n"),
+        (erase(0, 0, 4, 4), b"....\n....\n....\n....\n"),
+        (cut(3, 2, 5, u32::MAX), b"abcd\nefgh\nijkl\nmn..\n"),
     ] {
-        expect_letters(&rt, alloc, &[square, (to, EDITED)], after, 1)?;
+        expect_edit(&rt, rt.alloc(), command, after)?;
     }
-    let older = [square, (cut(3, 2, 1, 2), EDITED), (paste(0, 0), EDITED)];
-    expect_letters(&rt, alloc, &older, b"opcd\nefgh\nijkl\nmn..\n", 2)?;
-    let undone = [
+    Ok(())
+}
+
+#[test]
+fn each_resize_and_its_undo(rt: HostRuntime) -> Result<(), Fail> {
+    let alloc = rt.alloc();
+    expect_edit(&rt, alloc, resize(2, 2), b"ab\nef\n")?;
+    expect_edit(&rt, alloc, resize(1, 1), b"a\n")?;
+    expect_edit(&rt, alloc, resize(5, 3), b"abc\nefg\nijk\nmno\n...\n")
+}
+
+/// The square `fg` over `jk`, moved onto itself by a row or a column, and partly outside.
+#[test]
+fn each_move_and_its_undo(rt: HostRuntime) -> Result<(), Fail> {
+    for (y, x, after) in [
+        (1, 2, b"abcd\ne.fg\ni.jk\nmnop\n"),
+        (1, 0, b"abcd\nfg.h\njk.l\nmnop\n"),
+        (2, 1, b"abcd\ne..h\nifgl\nmjkp\n"),
+        (0, 1, b"afgd\nejkh\ni..l\nmnop\n"),
+        (2, 3, b"abcd\ne..h\ni..f\nmnoj\n"),
+        (3, 1, b"abcd\ne..h\ni..l\nmfgp\n"),
+        (3, 3, b"abcd\ne..h\ni..l\nmnof\n"),
+    ] {
+        expect_edit(&rt, rt.alloc(), shift(1, 1, 2, 2, (y, x)), after)?;
+    }
+    Ok(())
+}
+
+/// The square `ab` over `ef`, pasted.
+fn expect_paste(rt: &impl Abort, alloc: Global, y: u32, x: u32, after: &[u8]) -> Result<(), Fail> {
+    let commands = [(copy(0, 0, 2, 2), COPIED), (paste(y, x), EDITED)];
+    expect_letters(rt, alloc, &commands, after, 1)
+}
+
+/// Inside, over the right edge, over the lower edge, and at the last place.
+#[test]
+fn paste_at_the_edges(rt: HostRuntime) -> Result<(), Fail> {
+    let alloc = rt.alloc();
+    expect_paste(&rt, alloc, 2, 1, b"abcd\nefgh\niabl\nmefp\n")?;
+    expect_paste(&rt, alloc, 1, 3, b"abcd\nefga\nijke\nmnop\n")?;
+    expect_paste(&rt, alloc, 3, 1, b"abcd\nefgh\nijkl\nmabp\n")?;
+    expect_paste(&rt, alloc, 3, 3, b"abcd\nefgh\nijkl\nmnoa\n")
+}
+
+#[test]
+fn cut_replaces_an_older_clip(rt: HostRuntime) -> Result<(), Fail> {
+    let commands = [
+        (copy(0, 0, 2, 2), COPIED),
+        (cut(3, 2, 1, 2), EDITED),
+        (paste(0, 0), EDITED),
+    ];
+    let after = b"opcd\nefgh\nijkl\nmn..\n";
+    expect_letters(&rt, rt.alloc(), &commands, after, 2)
+}
+
+#[test]
+fn undo_leaves_the_clip(rt: HostRuntime) -> Result<(), Fail> {
+    let commands = [
         (cut(0, 0, 1, 1), EDITED),
         (Command::Undo, jumped(0)),
         (paste(0, 1), EDITED),
     ];
-    expect_letters(&rt, alloc, &undone, b"aacd\nefgh\nijkl\nmnop\n", 2)?;
-    let larger = [
+    let after = b"aacd\nefgh\nijkl\nmnop\n";
+    expect_letters(&rt, rt.alloc(), &commands, after, 2)
+}
+
+#[test]
+fn clip_larger_than_the_grid(rt: HostRuntime) -> Result<(), Fail> {
+    let commands = [
         (copy(0, 0, 4, 4), COPIED),
         (resize(2, 2), EDITED),
         (erase(0, 0, 2, 2), EDITED),
         (paste(0, 1), EDITED),
     ];
-    expect_letters(&rt, alloc, &larger, b".a\n.e\n", 3)
+    expect_letters(&rt, rt.alloc(), &commands, b".a\n.e\n", 3)
 }
 
 /// The first row and the first column outside, for each place that a command names.
 #[test]
 fn places_outside(rt: HostRuntime) -> Result<(), Fail> {
     let glyph = Glyph::BANG;
+    let outside = refused(Rule::OutOfGrid);
     for (y, x) in [(4, 0), (0, 4)] {
         let fill = Command::Fill {
             rect: rect(y, x, 1, 1),
             glyph,
         };
-        let outside = refused(Rule::OutOfGrid);
-        let commands = [
-            (Command::Write { y, x, glyph }, outside),
-            (fill, outside),
-            (erase(y, x, 1, 1), outside),
-            (copy(y, x, 1, 1), outside),
-            (cut(y, x, 1, 1), outside),
-            (paste(y, x), outside),
-            (shift(y, x, 1, 1, (0, 0)), outside),
-            (shift(0, 0, 1, 1, (y, x)), outside),
-        ];
-        expect_letters(&rt, rt.alloc(), &commands, LETTERS, 0)?;
+        for command in [
+            Command::Write { y, x, glyph },
+            fill,
+            erase(y, x, 1, 1),
+            copy(y, x, 1, 1),
+            cut(y, x, 1, 1),
+            paste(y, x),
+            shift(y, x, 1, 1, (0, 0)),
+            shift(0, 0, 1, 1, (y, x)),
+        ] {
+            expect_letters(&rt, rt.alloc(), &[(command, outside)], LETTERS, 0)?;
+        }
     }
     Ok(())
 }
 
-/// Where several rules stand, the first decides. A full history refuses each command that adds an
-/// entry, once no other rule does.
-#[test]
-fn rules_in_order(rt: HostRuntime) -> Result<(), Fail> {
+/// At a history of one entry, a write, a copy and then the command.
+fn expect_at_full_history(
+    rt: &impl Abort,
+    alloc: Global,
+    command: Command,
+    answer: Answer,
+) -> Result<(), Fail> {
     let commands = [
-        (paste(0, 0), refused(Rule::EmptyClip)),
-        (erase(0, 0, 0, 1), refused(Rule::EmptyBlock)),
-        (resize(0, 4), refused(Rule::BadSize)),
-        (Command::Undo, refused(Rule::NothingToUndo)),
         (write(0, 0, 33), EDITED),
-        (paste(0, 0), refused(Rule::EmptyClip)),
         (copy(0, 0, 1, 2), COPIED),
-        (Command::Frame, FULL),
-        (write(0, 0, 5), FULL),
-        (erase(0, 0, 1, 1), FULL),
-        (cut(0, 0, 1, 1), FULL),
-        (paste(0, 0), FULL),
-        (shift(0, 0, 1, 1, (0, 1)), FULL),
-        (resize(1, 1), FULL),
-        (Command::Reset, FULL),
-        (paste(0, 2), refused(Rule::OutOfGrid)),
-        (
-            Command::Rewind { moment: 1 },
-            refused(Rule::NoSuchMoment { kept: 1 }),
-        ),
+        (command, answer),
     ];
-    let full = Play {
+    let play = Play {
         grid: b"ab\n",
         limit: 1,
         commands: &commands,
@@ -209,40 +212,68 @@ fn rules_in_order(rt: HostRuntime) -> Result<(), Fail> {
         moments: 1,
         sounding: 0,
     };
-    expect(&rt, rt.alloc(), &full)?;
-    let room = [
-        (write(0, 0, 33), EDITED),
-        (Command::Frame, FULL),
-        (Command::Undo, jumped(0)),
+    expect(rt, alloc, &play)
+}
+
+/// A full history refuses each command that adds an entry, and another rule comes before it.
+#[test]
+fn full_history(rt: HostRuntime) -> Result<(), Fail> {
+    let alloc = rt.alloc();
+    for command in [
+        Command::Frame,
+        write(0, 0, 5),
+        erase(0, 0, 1, 1),
+        cut(0, 0, 1, 1),
+        paste(0, 0),
+        shift(0, 0, 1, 1, (0, 1)),
+        resize(1, 1),
+        Command::Reset,
+    ] {
+        expect_at_full_history(&rt, alloc, command, refused(Rule::HistoryFull))?;
+    }
+    expect_at_full_history(&rt, alloc, paste(0, 2), refused(Rule::OutOfGrid))?;
+    let rewind = Command::Rewind { moment: 1 };
+    let kept = refused(Rule::NoSuchMoment { kept: 1 });
+    expect_at_full_history(&rt, alloc, rewind, kept)
+}
+
+/// Rules before there is an entry or a clip.
+#[test]
+fn rules_of_a_fresh_session(rt: HostRuntime) -> Result<(), Fail> {
+    let commands = [
+        (paste(0, 0), refused(Rule::EmptyClip)),
+        (erase(0, 0, 0, 1), refused(Rule::EmptyBlock)),
+        (resize(0, 4), refused(Rule::BadSize)),
         (Command::Undo, refused(Rule::NothingToUndo)),
-        (Command::Frame, FULL),
+        (
+            Command::Rewind { moment: 0 },
+            refused(Rule::NoSuchMoment { kept: 0 }),
+        ),
     ];
-    expect(
-        &rt,
-        rt.alloc(),
-        &Play {
-            commands: &room,
-            after: b"ab\n",
-            ..full
-        },
-    )?;
-    let rewound = [
+    expect_letters(&rt, rt.alloc(), &commands, LETTERS, 0)
+}
+
+/// A rewind and an undo make room in a full history.
+#[test]
+fn room_in_a_full_history(rt: HostRuntime) -> Result<(), Fail> {
+    let commands = [
         (Command::Frame, framed(0)),
         (Command::Frame, framed(1)),
         (Command::Frame, framed(2)),
-        (Command::Frame, FULL),
-        (write(0, 0, 5), FULL),
+        (Command::Frame, refused(Rule::HistoryFull)),
         (Command::Rewind { moment: 1 }, jumped(1)),
+        (write(0, 0, 5), EDITED),
+        (Command::Undo, jumped(2)),
     ];
-    let frames = Play {
+    let play = Play {
         grid: b".\n",
         limit: 3,
-        commands: &rewound,
+        commands: &commands,
         messages: &[],
         after: b".\n",
         tick: 1,
-        moments: 2,
+        moments: 3,
         sounding: 0,
     };
-    expect(&rt, rt.alloc(), &frames)
+    expect(&rt, rt.alloc(), &play)
 }

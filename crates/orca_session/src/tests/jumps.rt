@@ -2,7 +2,7 @@
 
 ghost use Rattle.std.specs.Prelude.{◌≡◌, ◌<◌};
 
-use super::{EDITED, Play, expect, expect_grid, framed, jumped, obey, open, rect, write};
+use super::{Answer, EDITED, Play, expect, expect_grid, framed, jumped, obey, open, rect, write};
 use crate::Session;
 use orca_base::{Command, Dims, Glyph, Look, Place, Reply, Steps};
 use orca_edit::Machine;
@@ -14,28 +14,42 @@ use std::process::Abort;
 use std::sync::ledger::{Blank, Ledger};
 use std::test::Fail;
 
+/// The commands on four empty cells have these answers, and leave this grid, tick and moments.
+fn expect_cells(
+    rt: &impl Abort,
+    alloc: Global,
+    commands: &[(Command, Answer)],
+    after: &[u8],
+    left: (u32, u32),
+) -> Result<(), Fail> {
+    let play = Play {
+        grid: b"....\n",
+        limit: 100,
+        commands,
+        messages: &[],
+        after,
+        tick: left.0,
+        moments: left.1,
+        sounding: 0,
+    };
+    expect(rt, alloc, &play)
+}
+
 #[test]
-fn jumps_and_what_is_left(rt: HostRuntime) -> Result<(), Fail> {
-    let alloc = rt.alloc();
-    let undo_twice = [
+fn undo_twice(rt: HostRuntime) -> Result<(), Fail> {
+    let commands = [
         (write(0, 0, 1), EDITED),
         (write(0, 0, 2), EDITED),
         (Command::Undo, jumped(1)),
         (Command::Undo, jumped(0)),
     ];
-    let play = Play {
-        grid: b"....\n",
-        limit: 100,
-        commands: &undo_twice,
-        messages: &[],
-        after: b"....\n",
-        tick: 0,
-        moments: 1,
-        sounding: 0,
-    };
-    expect(&rt, alloc, &play)?;
-    // Two edits with frames behind each, and a rewind between the two undos.
-    let across_a_rewind = [
+    expect_cells(&rt, rt.alloc(), &commands, b"....\n", (0, 1))
+}
+
+/// Two edits with frames behind each, and a rewind between the two undos.
+#[test]
+fn undo_across_a_rewind(rt: HostRuntime) -> Result<(), Fail> {
+    let commands = [
         (Command::Frame, framed(0)),
         (write(0, 0, 1), EDITED),
         (Command::Frame, framed(1)),
@@ -46,34 +60,19 @@ fn jumps_and_what_is_left(rt: HostRuntime) -> Result<(), Fail> {
         (Command::Frame, framed(2)),
         (Command::Undo, jumped(1)),
     ];
-    let commands = across_a_rewind;
-    expect(
-        &rt,
-        alloc,
-        &Play {
-            commands: &commands,
-            tick: 1,
-            moments: 2,
-            ..play
-        },
-    )?;
-    // To the last moment, which drops the last entry, and to the first.
-    let to_the_ends = [
+    expect_cells(&rt, rt.alloc(), &commands, b"....\n", (1, 2))
+}
+
+/// To the last moment, which drops the last entry, twice.
+#[test]
+fn rewind_to_the_last_moment(rt: HostRuntime) -> Result<(), Fail> {
+    let commands = [
         (write(0, 0, 1), EDITED),
         (write(0, 1, 2), EDITED),
         (Command::Rewind { moment: 1 }, jumped(1)),
         (Command::Rewind { moment: 1 }, jumped(1)),
     ];
-    expect(
-        &rt,
-        alloc,
-        &Play {
-            commands: &to_the_ends,
-            after: b"1...\n",
-            moments: 2,
-            ..play
-        },
-    )
+    expect_cells(&rt, rt.alloc(), &commands, b"1...\n", (0, 2))
 }
 
 /// Plays so many frames.
@@ -161,7 +160,13 @@ fn undo_large<L: Ledger>(
         x: (w - 1) as u16,
     };
     assert_eq!(rt; session.glyph_at(last), Glyph::BANG);
-    obey(rt, alloc, &mut session, &[(Command::Undo, jumped(0))], &mut steps)?;
+    obey(
+        rt,
+        alloc,
+        &mut session,
+        &[(Command::Undo, jumped(0))],
+        &mut steps,
+    )?;
     expect_grid(rt, alloc, &session, &empty)
 }
 

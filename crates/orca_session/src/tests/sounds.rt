@@ -52,29 +52,47 @@ fn expect_clock(
 }
 
 #[test]
-fn notes_end(rt: HostRuntime) -> Result<(), Fail> {
-    let alloc = rt.alloc();
-    let first = (Command::Frame, framed(0));
-    let undo_over_frames = [
-        first,
+fn undo_over_frames_while_a_note_sounds(rt: HostRuntime) -> Result<(), Fail> {
+    let commands = [
+        (Command::Frame, framed(0)),
         (write(0, 7, 9), EDITED),
         (Command::Frame, framed(1)),
         (Command::Frame, framed(2)),
         (Command::Undo, jumped(1)),
     ];
-    expect_clock(&rt, alloc, &undo_over_frames, &[ON, OFF], (1, 2, 0))?;
-    let reset = [first, (Command::Reset, EDITED), first];
-    expect_clock(&rt, alloc, &reset, &[ON, OFF, ON], (1, 3, 1))?;
-    let undo_of_a_reset = [first, (Command::Reset, EDITED), (Command::Undo, jumped(1))];
-    expect_clock(&rt, alloc, &undo_of_a_reset, &[ON, OFF], (1, 2, 0))?;
-    // The second rewind goes to where the history ends in Hush, and keeps it.
-    let to_the_hush = [
-        first,
+    expect_clock(&rt, rt.alloc(), &commands, &[ON, OFF], (1, 2, 0))
+}
+
+#[test]
+fn reset_while_a_note_sounds(rt: HostRuntime) -> Result<(), Fail> {
+    let commands = [
+        (Command::Frame, framed(0)),
+        (Command::Reset, EDITED),
+        (Command::Frame, framed(0)),
+    ];
+    expect_clock(&rt, rt.alloc(), &commands, &[ON, OFF, ON], (1, 3, 1))
+}
+
+#[test]
+fn undo_of_a_reset(rt: HostRuntime) -> Result<(), Fail> {
+    let commands = [
+        (Command::Frame, framed(0)),
+        (Command::Reset, EDITED),
+        (Command::Undo, jumped(1)),
+    ];
+    expect_clock(&rt, rt.alloc(), &commands, &[ON, OFF], (1, 2, 0))
+}
+
+/// The second rewind goes to where the history ends in Hush.
+#[test]
+fn rewind_to_the_hush(rt: HostRuntime) -> Result<(), Fail> {
+    let commands = [
+        (Command::Frame, framed(0)),
         (Command::Frame, framed(1)),
         (Command::Rewind { moment: 1 }, jumped(1)),
         (Command::Rewind { moment: 1 }, jumped(1)),
     ];
-    expect_clock(&rt, alloc, &to_the_hush, &[ON, OFF], (1, 2, 0))
+    expect_clock(&rt, rt.alloc(), &commands, &[ON, OFF], (1, 2, 0))
 }
 
 /// A close ends the notes, and the session goes on.
@@ -85,7 +103,13 @@ fn close_and_go_on<L: Ledger>(rt: &impl Abort, alloc: Global, blank: Blank) -> R
 {
     let mut steps = Steps::<L>::start(blank);
     let mut session = open(rt, alloc, CLOCK, 10)?;
-    obey(rt, alloc, &mut session, &[(Command::Frame, framed(0))], &mut steps)?;
+    obey(
+        rt,
+        alloc,
+        &mut session,
+        &[(Command::Frame, framed(0))],
+        &mut steps,
+    )?;
     let mut messages = Messages::start(alloc)?;
     session.close(&mut messages);
     assert!(rt; messages.as_slice() == [OFF].as_slice());
@@ -126,7 +150,13 @@ fn preview<L: Ledger>(rt: &impl Abort, alloc: Global, blank: Blank) -> Result<()
     assert!(rt; session.marks_at(Place { y: 0, x: 2 }).is_empty());
     expect_grid(rt, alloc, &session, b"D4.E\n....\n")?;
     assert!(rt; session.tick() == 0 && session.moments() == 0);
-    obey(rt, alloc, &mut session, &[(Command::Frame, framed(0))], &mut steps)?;
+    obey(
+        rt,
+        alloc,
+        &mut session,
+        &[(Command::Frame, framed(0))],
+        &mut steps,
+    )?;
     expect_grid(rt, alloc, &session, b"D4.*\n*...\n")
 }
 
@@ -205,7 +235,11 @@ fn expect_fourth<L: Ledger>(rt: &impl Abort, alloc: Global, blank: Blank) -> Res
         (9, 0, b'.'),
         (9, 4, b'A'),
     ] {
-        assert_eq!(rt; session.glyph_at(Place { y, x }).byte(), byte, "row {y}, column {x}");
+        assert_eq!(rt;
+            session.glyph_at(Place { y, x }).byte(),
+            byte,
+            "row {y}, column {x}"
+        );
     }
     assert!(rt; session.tick() == 4 && session.moments() == 5 && session.notes().is_empty());
     Ok(())
