@@ -66,7 +66,13 @@ fn expect_letters(
 
 /// An edit of the letters makes this grid, and an undo brings the letters back.
 fn expect_edit(rt: &impl Abort, alloc: Global, command: Command, after: &[u8]) -> Result<(), Fail> {
-    expect_letters(rt, alloc, &[(command, EDITED)], after, 1)?;
+    let edit = [(command, EDITED)];
+    expect_letters(rt, alloc, &edit, after, 1)?;
+    expect_undo(rt, alloc, command)
+}
+
+/// An undo of the edit brings the letters back.
+fn expect_undo(rt: &impl Abort, alloc: Global, command: Command) -> Result<(), Fail> {
     let commands = [(command, EDITED), (Command::Undo, jumped(0))];
     expect_letters(rt, alloc, &commands, LETTERS, 1)
 }
