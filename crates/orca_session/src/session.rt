@@ -14,8 +14,8 @@ ghost use Rattle.orca_session.specs.Session.{IsBlockEdit, clip_with, session_at_
 use crate::past::Past;
 use orca_base::limits::MAX_HISTORY;
 use orca_base::{
-    Area, Block, Command, Dims, Entry, Fault, Look, Marks, Memory, Note, Now, Place, Reply, Rule,
-    Steps,
+    Area, Block, Command, Dims, Entry, Fault, Glyph, Look, Marks, Memory, Note, Now, Place, Reply,
+    Rule, Steps,
 };
 use orca_board::Board;
 use orca_edit::{Edit, Machine, apply, block_rule, copy, to_entry};
@@ -294,7 +294,7 @@ impl Look for Session {
         Look::dims(&self.board)
     }
 
-    fn glyph_at(&self, at: Place) -> orca_base::Glyph {
+    fn glyph_at(&self, at: Place) -> Glyph {
         self.board.glyph_at(at)
     }
 

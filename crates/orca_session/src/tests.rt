@@ -104,6 +104,28 @@ fn expect_grid(rt: &impl Abort, alloc: Global, session: &Session, text: &[u8]) -
     Ok(())
 }
 
+/// This tick, so many moments, and so many notes that sound are left.
+fn expect_left(rt: &impl Abort, session: &Session, tick: u32, moments: u32, sounding: usize) {
+    assert_eq!(rt; session.tick(), tick);
+    assert_eq!(rt; session.moments(), moments);
+    assert_eq!(rt; session.notes().len(), sounding);
+}
+
+/// Does the commands of a list, and compares what comes of it.
+fn expect_play<L: Ledger>(
+    rt: &impl Abort,
+    alloc: Global,
+    session: &mut Session,
+    play: &Play,
+    steps: &mut Steps<L>,
+) -> Result<(), Fail> {
+    let messages = obey(rt, alloc, session, play.commands, steps)?;
+    assert!(rt; messages.as_slice() == play.messages, "{messages:?}");
+    expect_grid(rt, alloc, session, play.after)?;
+    expect_left(rt, session, play.tick, play.moments, play.sounding);
+    Ok(())
+}
+
 fn play_with<L: Ledger>(
     rt: &impl Abort,
     alloc: Global,
@@ -114,15 +136,8 @@ fn play_with<L: Ledger>(
     requires parts { blank.parts ≡ L.parts }
     requires some { 0 < blank.parts }
 {
-    let mut steps = Steps::<L>::start(blank);
     let mut session = open(rt, alloc, play.grid, play.limit)?;
-    let messages = obey(rt, alloc, &mut session, play.commands, &mut steps)?;
-    assert!(rt; messages.as_slice() == play.messages, "{messages:?}");
-    expect_grid(rt, alloc, &session, play.after)?;
-    assert_eq!(rt; session.tick(), play.tick);
-    assert_eq!(rt; session.moments(), play.moments);
-    assert_eq!(rt; session.notes().len(), play.sounding);
-    Ok(())
+    expect_play(rt, alloc, &mut session, play, &mut Steps::<L>::start(blank))
 }
 
 /// What is wanted comes of it.

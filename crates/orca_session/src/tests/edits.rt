@@ -65,16 +65,15 @@ fn expect_letters(
 }
 
 /// An edit of the letters makes this grid, and an undo brings the letters back.
-fn expect_edit(rt: &impl Abort, alloc: Global, command: Command, after: &[u8]) -> Result<(), Fail> {
-    let edit = [(command, EDITED)];
-    expect_letters(rt, alloc, &edit, after, 1)?;
-    expect_undo(rt, alloc, command)
-}
-
-/// An undo of the edit brings the letters back.
-fn expect_undo(rt: &impl Abort, alloc: Global, command: Command) -> Result<(), Fail> {
-    let commands = [(command, EDITED), (Command::Undo, jumped(0))];
-    expect_letters(rt, alloc, &commands, LETTERS, 1)
+fn expect_edit(
+    rt: &impl Abort,
+    alloc: Global,
+    command: &Command,
+    after: &[u8],
+) -> Result<(), Fail> {
+    expect_letters(rt, alloc, &[(*command, EDITED)], after, 1)?;
+    let undone = [(*command, EDITED), (Command::Undo, jumped(0))];
+    expect_letters(rt, alloc, &undone, LETTERS, 1)
 }
 
 #[test]
@@ -91,7 +90,7 @@ fn each_edit_and_its_undo(rt: HostRuntime) -> Result<(), Fail> {
         (erase(0, 0, 4, 4), b"....\n....\n....\n....\n"),
         (cut(3, 2, 5, u32::MAX), b"abcd\nefgh\nijkl\nmn..\n"),
     ] {
-        expect_edit(&rt, rt.alloc(), command, after)?;
+        expect_edit(&rt, rt.alloc(), &command, after)?;
     }
     Ok(())
 }
@@ -99,9 +98,9 @@ fn each_edit_and_its_undo(rt: HostRuntime) -> Result<(), Fail> {
 #[test]
 fn each_resize_and_its_undo(rt: HostRuntime) -> Result<(), Fail> {
     let alloc = rt.alloc();
-    expect_edit(&rt, alloc, resize(2, 2), b"ab\nef\n")?;
-    expect_edit(&rt, alloc, resize(1, 1), b"a\n")?;
-    expect_edit(&rt, alloc, resize(5, 3), b"abc\nefg\nijk\nmno\n...\n")
+    expect_edit(&rt, alloc, &resize(2, 2), b"ab\nef\n")?;
+    expect_edit(&rt, alloc, &resize(1, 1), b"a\n")?;
+    expect_edit(&rt, alloc, &resize(5, 3), b"abc\nefg\nijk\nmno\n...\n")
 }
 
 /// The square `fg` over `jk`, moved onto itself by a row or a column, and partly outside.
@@ -116,7 +115,7 @@ fn each_move_and_its_undo(rt: HostRuntime) -> Result<(), Fail> {
         (3, 1, b"abcd\ne..h\ni..l\nmfgp\n"),
         (3, 3, b"abcd\ne..h\ni..l\nmnof\n"),
     ] {
-        expect_edit(&rt, rt.alloc(), shift(1, 1, 2, 2, (y, x)), after)?;
+        expect_edit(&rt, rt.alloc(), &shift(1, 1, 2, 2, (y, x)), after)?;
     }
     Ok(())
 }

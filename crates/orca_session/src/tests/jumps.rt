@@ -4,7 +4,7 @@ ghost use Rattle.std.specs.Prelude.{◌≡◌, ◌<◌};
 
 use super::{Answer, EDITED, Play, expect, expect_grid, framed, jumped, obey, open, rect, write};
 use crate::Session;
-use orca_base::{Command, Dims, Glyph, Look, Place, Reply, Steps};
+use orca_base::{Command, Dims, Glyph, Steps};
 use orca_edit::Machine;
 use orca_grid::Grid;
 use orca_notes::Messages;
@@ -86,13 +86,29 @@ fn play_frames<L: Ledger>(
     for tick in 0..count {
         messages.clear();
         let answer = session.act(&Command::Frame, messages, steps);
-        assert_eq!(rt; answer, Ok(Reply::Framed { tick }));
+        assert_eq!(rt; answer, framed(tick));
     }
 }
 
-/// After 2,000 frames of a clock, a rewind brings the glyph of its moment. The patches of the last
-/// 1,024 frames are kept, from moment 976 on.
-fn rewind_a_clock<L: Ledger>(
+/// Plays 2,000 frames, of which the last 1,024 keep their patches, from moment 976 on. Then it goes
+/// back to a moment.
+fn play_and_rewind<L: Ledger>(
+    rt: &impl Abort,
+    alloc: Global,
+    session: &mut Session,
+    moment: u32,
+    steps: &mut Steps<L>,
+) -> Result<(), Fail> {
+    let mut messages = Messages::start(alloc)?;
+    play_frames(rt, session, &mut messages, 2_000, steps);
+    messages.clear();
+    let answer = session.act(&Command::Rewind { moment }, &mut messages, steps);
+    assert_eq!(rt; answer, jumped(moment));
+    assert_eq!(rt; session.peak(), 2_000);
+    Ok(())
+}
+
+fn rewind_with<L: Ledger>(
     rt: &impl Abort,
     alloc: Global,
     moment: u32,
@@ -103,78 +119,62 @@ fn rewind_a_clock<L: Ledger>(
     requires parts { blank.parts ≡ L.parts }
     requires some { 0 < blank.parts }
 {
-    let mut steps = Steps::<L>::start(blank);
     let mut session = open(rt, alloc, b".Cz\n...\n", 4_000)?;
-    let mut messages = Messages::start(alloc)?;
-    play_frames(rt, &mut session, &mut messages, 2_000, &mut steps);
-    messages.clear();
-    let answer = session.act(&Command::Rewind { moment }, &mut messages, &mut steps);
-    assert_eq!(rt; answer, jumped(moment));
-    expect_grid(rt, alloc, &session, text)?;
-    assert!(rt; session.tick() == moment && session.moments() == moment + 1);
-    assert_eq!(rt; session.peak(), 2_000);
-    Ok(())
+    play_and_rewind(
+        rt,
+        alloc,
+        &mut session,
+        moment,
+        &mut Steps::<L>::start(blank),
+    )?;
+    assert_eq!(rt; session.tick(), moment);
+    expect_grid(rt, alloc, &session, text)
 }
 
-/// A clock of 35 values.
+/// After 2,000 frames of a clock of 35 values, a rewind brings the glyph of its moment.
+fn expect_clock(rt: &impl Abort, alloc: Global, moment: u32, text: &[u8]) -> Result<(), Fail> {
+    rewind_with::<Brand>(rt, alloc, moment, text, Blank::new(1))
+}
+
+/// Within the ring of patches, to its oldest moment, one below it, and far below it.
 #[test]
 fn rewinds_around_the_ring(rt: HostRuntime) -> Result<(), Fail> {
-    for (moment, text) in [
-        (1_999, b".Cz\n.3.\n"),
-        (1_500, b".Cz\n.t.\n"),
-        (976, b".Cz\n.u.\n"),
-        (975, b".Cz\n.t.\n"),
-        (10, b".Cz\n.9.\n"),
-        (0, b".Cz\n...\n"),
-    ] {
-        rewind_a_clock::<Brand>(&rt, rt.alloc(), moment, text, Blank::new(1))?;
-    }
-    Ok(())
+    let alloc = rt.alloc();
+    expect_clock(&rt, alloc, 1_999, b".Cz\n.3.\n")?;
+    expect_clock(&rt, alloc, 1_500, b".Cz\n.t.\n")?;
+    expect_clock(&rt, alloc, 976, b".Cz\n.u.\n")?;
+    expect_clock(&rt, alloc, 975, b".Cz\n.t.\n")?;
+    expect_clock(&rt, alloc, 10, b".Cz\n.9.\n")?;
+    expect_clock(&rt, alloc, 0, b".Cz\n...\n")
 }
 
 /// The largest grid is filled in part, and an undo empties it again.
-fn undo_large<L: Ledger>(
-    rt: &impl Abort,
-    alloc: Global,
-    h: u32,
-    w: u32,
-    blank: Blank,
-) -> Result<(), Fail>
-    requires name { blank.name ≡ L.name }
-    requires parts { blank.parts ≡ L.parts }
-    requires some { 0 < blank.parts }
-{
-    let mut steps = Steps::<L>::start(blank);
-    let grid = Grid::blank(alloc, Dims::largest())?;
-    let mut session = Session::start(alloc, &grid, 1, 10)?;
-    let mut empty = Vec::new(alloc);
-    Grid::print(&session, &mut empty)?;
+fn undo_of_a_fill(rt: &impl Abort, alloc: Global, h: u32, w: u32) -> Result<(), Fail> {
     let fill = Command::Fill {
         rect: rect(0, 0, h, w),
         glyph: Glyph::BANG,
     };
-    obey(rt, alloc, &mut session, &[(fill, EDITED)], &mut steps)?;
-    assert!(rt; session.dims() == Dims::largest() && 1 <= h && h <= 256 && 1 <= w && w <= 256);
-    let last = Place {
-        y: (h - 1) as u16,
-        x: (w - 1) as u16,
+    let mut empty = Vec::new(alloc);
+    Grid::print(&Grid::blank(alloc, Dims::largest())?, &mut empty)?;
+    let play = Play {
+        grid: &empty,
+        limit: 10,
+        commands: &[(fill, EDITED), (Command::Undo, jumped(0))],
+        messages: &[],
+        after: &empty,
+        tick: 0,
+        moments: 1,
+        sounding: 0,
     };
-    assert_eq!(rt; session.glyph_at(last), Glyph::BANG);
-    obey(
-        rt,
-        alloc,
-        &mut session,
-        &[(Command::Undo, jumped(0))],
-        &mut steps,
-    )?;
-    expect_grid(rt, alloc, &session, &empty)
+    expect(rt, alloc, &play)
 }
 
 /// Entries of 1, 8, 9 and 65,536 changes.
 #[test]
 fn undo_of_many_changes(rt: HostRuntime) -> Result<(), Fail> {
-    for (h, w) in [(1, 1), (1, 8), (3, 3), (256, 256)] {
-        undo_large::<Brand>(&rt, rt.alloc(), h, w, Blank::new(1))?;
-    }
-    Ok(())
+    let alloc = rt.alloc();
+    undo_of_a_fill(&rt, alloc, 1, 1)?;
+    undo_of_a_fill(&rt, alloc, 1, 8)?;
+    undo_of_a_fill(&rt, alloc, 3, 3)?;
+    undo_of_a_fill(&rt, alloc, 256, 256)
 }

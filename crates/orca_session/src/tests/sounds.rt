@@ -2,8 +2,11 @@
 
 ghost use Rattle.std.specs.Prelude.{◌≡◌, ◌<◌};
 
-use super::{Answer, EDITED, Play, expect, expect_grid, framed, jumped, obey, open, write};
-use orca_base::{Command, Entry, Look, Message, Place, Steps};
+use super::{
+    Answer, EDITED, Play, expect, expect_grid, expect_left, framed, jumped, obey, open, write,
+};
+use crate::Session;
+use orca_base::{Command, Look, Message, Place, Steps};
 use orca_edit::Machine;
 use orca_notes::Messages;
 use std::alloc::Global;
@@ -96,112 +99,103 @@ fn rewind_to_the_hush(rt: HostRuntime) -> Result<(), Fail> {
 }
 
 /// A close ends the notes, and the session goes on.
-fn close_and_go_on<L: Ledger>(rt: &impl Abort, alloc: Global, blank: Blank) -> Result<(), Fail>
+fn close_and_go_on<L: Ledger>(
+    rt: &impl Abort,
+    alloc: Global,
+    session: &mut Session,
+    steps: &mut Steps<L>,
+) -> Result<(), Fail> {
+    let _said = obey(rt, alloc, session, &[(Command::Frame, framed(0))], steps)?;
+    let mut messages = Messages::start(alloc)?;
+    session.close(&mut messages);
+    assert!(rt; messages.as_slice() == [OFF].as_slice());
+    let said = obey(rt, alloc, session, &[(Command::Frame, framed(1))], steps)?;
+    assert!(rt; said.is_empty());
+    expect_left(rt, session, 2, 2, 0);
+    Ok(())
+}
+
+fn close_with<L: Ledger>(rt: &impl Abort, alloc: Global, blank: Blank) -> Result<(), Fail>
     requires name { blank.name ≡ L.name }
     requires parts { blank.parts ≡ L.parts }
     requires some { 0 < blank.parts }
 {
-    let mut steps = Steps::<L>::start(blank);
     let mut session = open(rt, alloc, CLOCK, 10)?;
-    obey(
-        rt,
-        alloc,
-        &mut session,
-        &[(Command::Frame, framed(0))],
-        &mut steps,
-    )?;
-    let mut messages = Messages::start(alloc)?;
-    session.close(&mut messages);
-    assert!(rt; messages.as_slice() == [OFF].as_slice());
-    assert_eq!(rt; session.notes().len(), 0);
-    let next = [
-        (Command::Frame, framed(1)),
-        (Command::Rewind { moment: 1 }, jumped(1)),
-    ];
-    let said = obey(rt, alloc, &mut session, &next, &mut steps)?;
-    assert!(rt; said.is_empty());
-    expect_grid(rt, alloc, &session, AFTER_A_FRAME)?;
-    assert!(rt; matches!(session.entry(0), Some(Entry::Frame)));
-    assert!(rt; matches!(session.entry(1), Some(Entry::Hush)));
-    assert!(rt; session.entry(2).is_none());
-    assert_eq!(rt; session.peak(), 2);
-    Ok(())
+    close_and_go_on(rt, alloc, &mut session, &mut Steps::<L>::start(blank))
 }
 
 #[test]
 fn close(rt: HostRuntime) -> Result<(), Fail> {
-    close_and_go_on::<Brand>(&rt, rt.alloc(), Blank::new(1))
+    close_with::<Brand>(&rt, rt.alloc(), Blank::new(1))
+}
+
+/// The place in the first row holds marks.
+fn is_marked(rt: &impl Abort, session: &Session, x: u16) -> bool {
+    assert!(rt; session.dims().h == 2 && x < session.dims().w);
+    !session.marks_at(Place { y: 0, x }).is_empty()
 }
 
 /// The marks of the next frame are shown, and nothing else changes.
-fn preview<L: Ledger>(rt: &impl Abort, alloc: Global, blank: Blank) -> Result<(), Fail>
+fn preview_with<L: Ledger>(rt: &impl Abort, alloc: Global, blank: Blank) -> Result<(), Fail>
     requires name { blank.name ≡ L.name }
     requires parts { blank.parts ≡ L.parts }
     requires some { 0 < blank.parts }
 {
-    let mut steps = Steps::<L>::start(blank);
     let mut session = open(rt, alloc, b"D4.E\n....\n", 10)?;
-    let at = Place { y: 0, x: 1 };
-    assert!(rt; session.dims().h == 2 && session.dims().w == 4);
-    assert!(rt; session.marks_at(at).is_empty());
-    session.preview_marks(&mut steps);
-    assert!(rt; session.dims().h == 2 && session.dims().w == 4);
-    assert!(rt; !session.marks_at(at).is_empty());
-    assert!(rt; session.marks_at(Place { y: 0, x: 2 }).is_empty());
-    expect_grid(rt, alloc, &session, b"D4.E\n....\n")?;
-    assert!(rt; session.tick() == 0 && session.moments() == 0);
-    obey(
-        rt,
-        alloc,
-        &mut session,
-        &[(Command::Frame, framed(0))],
-        &mut steps,
-    )?;
-    expect_grid(rt, alloc, &session, b"D4.*\n*...\n")
+    assert!(rt; !is_marked(rt, &session, 1));
+    session.preview_marks(&mut Steps::<L>::start(blank));
+    assert!(rt; is_marked(rt, &session, 1) && !is_marked(rt, &session, 2));
+    expect_left(rt, &session, 0, 0, 0);
+    expect_grid(rt, alloc, &session, b"D4.E\n....\n")
 }
 
 #[test]
 fn previewed_marks(rt: HostRuntime) -> Result<(), Fail> {
-    preview::<Brand>(&rt, rt.alloc(), Blank::new(1))
+    preview_with::<Brand>(&rt, rt.alloc(), Blank::new(1))
+}
+
+fn on(channel: u8, key: u8, velocity: u8) -> Message {
+    Message::On {
+        channel,
+        key,
+        velocity,
+    }
+}
+
+fn off(channel: u8, key: u8) -> Message {
+    Message::Off { channel, key }
 }
 
 /// Two drums, and a melody that is read from a row of letters.
-const PIECE: &[u8] = b".........................................................
-.D4
-..:92Cf1
-
-.3U8
+const PIECE: &[u8] = b".........
+.D4......
+..:92Cf1.
+.........
+.3U8.....
 ...:92Fc1
-
-..C4
+.........
+..C4.....
 D2.4TCEGA
-.:04.82
-
-
-
-
-
-
-
-
-
-
-
-
-
-
-
+.:04.82..
 ";
 
 /// The piece after four frames.
-fn expect_fourth<L: Ledger>(rt: &impl Abort, alloc: Global, blank: Blank) -> Result<(), Fail>
-    requires name { blank.name ≡ L.name }
-    requires parts { blank.parts ≡ L.parts }
-    requires some { 0 < blank.parts }
-{
-    let mut steps = Steps::<L>::start(blank);
-    let mut session = open(rt, alloc, PIECE, 100)?;
-    let edited = [
+const FOURTH: &[u8] = b".........
+.D4......
+..:92Cf1.
+.........
+.3U8.....
+..*:92Fc1
+.........
+..C4.....
+D234TCEGA
+.:04A82..
+";
+
+/// The first drum plays twice as often after the write, and the rewind takes that back.
+#[test]
+fn piece_edited_while_it_plays(rt: HostRuntime) -> Result<(), Fail> {
+    let commands = [
         (Command::Frame, framed(0)),
         (Command::Frame, framed(1)),
         (Command::Frame, framed(2)),
@@ -211,41 +205,42 @@ fn expect_fourth<L: Ledger>(rt: &impl Abort, alloc: Global, blank: Blank) -> Res
         (Command::Frame, framed(5)),
         (Command::Frame, framed(6)),
         (Command::Frame, framed(7)),
+        (Command::Rewind { moment: 4 }, jumped(4)),
     ];
-    let said = obey(rt, alloc, &mut session, &edited, &mut steps)?;
-    let drum = Message::On {
-        channel: 9,
-        key: 24,
-        velocity: 119,
+    let messages = [
+        // The ticks 0 to 3.
+        on(9, 24, 119),
+        on(9, 29, 95),
+        on(0, 48, 63),
+        off(9, 24),
+        off(9, 29),
+        off(0, 48),
+        on(0, 55, 63),
+        on(9, 29, 95),
+        // The ticks 4 to 7, after the write.
+        off(0, 55),
+        off(9, 29),
+        on(9, 24, 119),
+        on(0, 48, 63),
+        off(9, 24),
+        off(0, 48),
+        on(9, 24, 119),
+        on(9, 29, 95),
+        on(0, 55, 63),
+        off(9, 24),
+        off(9, 29),
+        // The rewind.
+        off(0, 55),
+    ];
+    let play = Play {
+        grid: PIECE,
+        limit: 100,
+        commands: &commands,
+        messages: &messages,
+        after: FOURTH,
+        tick: 4,
+        moments: 5,
+        sounding: 0,
     };
-    assert_eq!(rt; said.iter().filter(|message| **message == drum).count(), 3);
-    let back = [(Command::Rewind { moment: 4 }, jumped(4))];
-    let ends = obey(rt, alloc, &mut session, &back, &mut steps)?;
-    let off = Message::Off {
-        channel: 0,
-        key: 55,
-    };
-    assert!(rt; ends.as_slice() == [off].as_slice(), "{ends:?}");
-    assert!(rt; session.dims().h == 25 && session.dims().w == 57);
-    for (y, x, byte) in [
-        (1, 2, b'4'),
-        (2, 1, b'.'),
-        (5, 2, b'*'),
-        (8, 2, b'3'),
-        (9, 0, b'.'),
-        (9, 4, b'A'),
-    ] {
-        assert_eq!(rt;
-            session.glyph_at(Place { y, x }).byte(),
-            byte,
-            "row {y}, column {x}"
-        );
-    }
-    assert!(rt; session.tick() == 4 && session.moments() == 5 && session.notes().is_empty());
-    Ok(())
-}
-
-#[test]
-fn piece_edited_while_it_plays(rt: HostRuntime) -> Result<(), Fail> {
-    expect_fourth::<Brand>(&rt, rt.alloc(), Blank::new(1))
+    expect(&rt, rt.alloc(), &play)
 }
