@@ -402,6 +402,16 @@ impl Bench for Board {
         self.events.push_reserved(event);
     }
 
+    fn peek_here<L: Ledger>(&self, at: Place, steps: &mut Steps<L>) -> Glyph {
+        steps.tick();
+        self.cells[Dims::largest().index(at)]
+    }
+
+    fn marked_here<L: Ledger>(&self, at: Place, steps: &mut Steps<L>) -> Marks {
+        steps.tick();
+        self.marks.at(at)
+    }
+
     #[tactic(auto, unfolding(orca_op::specs::Desk::residue))]
     fn begin<L: Ledger>(&mut self, steps: &mut Steps<L>) {
         let dims = self.dims;

@@ -7,7 +7,7 @@ ghost use Rattle.orca_frame.specs.Frames.{IsFramed, desk_after_places, most_tick
 use crate::laws::table_laws;
 use crate::visit::visit_operator;
 use orca_base::{Now, Place, Steps};
-use orca_op::{Walk, next_live};
+use orca_op::{Cursor, Walk};
 use std::sync::ledger::Ledger;
 
 /// Works a frame by going from one operator to the next, as the grid stands at each moment. It leaves what a
@@ -45,9 +45,8 @@ fn walk_row<B: Walk, L: Ledger>(board: &mut B, row: u16, now: Now, steps: &mut S
     ensures least { steps.old + 1 ≤ steps.new }
 {
     table_laws();
-    let mut from = 0;
-    while let Some(x) = next_live(board, row, from, steps) {
+    let mut cursor = Cursor::start();
+    while let Some(x) = cursor.next(board, row, steps) {
         visit_operator(board, Place { y: row, x }, now, steps);
-        from = x + 1;
     }
 }

@@ -50,7 +50,7 @@ pub(crate) fn visit_operator<B: Bench, L: Ledger>(
     if is_still(bench, at, steps) {
         return;
     }
-    let glyph = bench.peek(at.here(), steps);
+    let glyph = bench.peek_here(at, steps);
     if waits(bench, at, glyph, steps) {
         return;
     }
@@ -65,7 +65,7 @@ fn is_still<B: Bench, L: Ledger>(bench: &B, at: Place, steps: &mut Steps<L>) -> 
         || (marks_at (B.desk bench.now).scan at).sleep) }
     ensures ticks { steps.new ≡ steps.old + 1 }
 {
-    let marks = bench.marked(at.here(), steps);
+    let marks = bench.marked_here(at, steps);
     marks.has(Mark::Lock) || marks.has(Mark::Sleep)
 }
 

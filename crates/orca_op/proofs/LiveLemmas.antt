@@ -2,12 +2,14 @@
 use Rattle.std.proofs.Common.{◌≡◌, ℕ, ◌+◌, ◌-◌, ◌*◌, ◌/◌, ◌%◌, ◌^◌, ◌<◌, ◌≤◌, List, length, Some, None, false, refl, arith, ap, subst, sym, ◌∙◌, inl, inr, bit_and}
 use Rattle.std.specs.Prelude.{◌==◌, nat_lt, slice_index, Bool, true, Option, IfSome, IsTrue, unwrap_or}
 use Rattle.std.specs.Int.{bit_at, trailing_zeros, w64}
-use Rattle.std.proofs.lemmas.Nat.{and_le_l}
-use Rattle.std.proofs.lemmas.Nat.Bits.{bit_at_and, bit_at_mask_inside, bit_at_mask_below, bit_at-lt, bit_at-zero, bit_at-trailing_zeros}
+use Rattle.std.proofs.Math.Pow.{pow_mono}
+use Rattle.std.proofs.lemmas.Grind.{pow_more}
+use Rattle.std.proofs.lemmas.Nat.{and_le_l, pow_pos}
+use Rattle.std.proofs.lemmas.Nat.Bits.{bit_at_and, bit_at_mask_inside, bit_at_mask_below, ones_shl, bit_at-lt, bit_at-zero, bit_at-trailing_zeros}
 use Rattle.std.proofs.lemmas.Bool.{cases_lt, le-ltb}
 use Rattle.orca_op.specs.First.{first_where}
 use Rattle.orca_op.specs.FirstFacts.{first_where-found, first_where-missing, first_where-same, first_where-longer, first_where-range, first_where-passes, first_where-before}
-use Rattle.orca_op.specs.Live.{is_live, has_bit, IsLiveRow, next_live, HasNoLive, IsLeastBit}
+use Rattle.orca_op.specs.Live.{is_live, has_bit, IsLiveRow, next_live, HasNoLive, IsCursor, IsLeastBit}
 use Rattle.orca_op.specs.State.{State}
 
 -- a word without its low bits
@@ -42,12 +44,31 @@ least_bit-some word from fits some =
           sym (bit_inside word from k above (omega (arith, least.0))) ∙ least.2 k below,
     )
 
+-- the lowest bit of a word is the least of all
+pub least_bit-whole : (word : ℕ) → word < 2 ^ 64 → 0 < word → IsLeastBit word 0 (Some (trailing_zeros w64 word))
+least_bit-whole word fits some =
+    let least = bit_at-trailing_zeros w64 word some fits in
+    (omega arith, least.0, least.1, λ k low below. least.2 k below)
+
 -- the bit of a column is one of the word that it stands in
 has_bit-word : (words : List ℕ) (i k : ℕ) → i * 64 ≤ k → k < i * 64 + 64 → has_bit words k ≡ (bit_at (slice_index words i) (k - i * 64) == 1)
 has_bit-word words i k low high =
     let word : k / 64 ≡ i = omega arith in
     let bit : k % 64 ≡ k - i * 64 = omega arith in
     rw (word, bit) refl
+
+-- a word whose bits from a column on are all off
+pub passed-first : (words : List ℕ) (from i : ℕ) → i * 64 ≤ from → from_bit (slice_index words i) (from - i * 64) ≡ 0 → (k : ℕ) → from ≤ k → k < (i + 1) * 64 → has_bit words k ≡ false
+passed-first words from i reached none k low high =
+    has_bit-word words i k (omega (arith, reached, low)) (omega arith)
+    ∙ ap (λ n. n == 1) (least_bit-none (slice_index words i) (from - i * 64) none (k - i * 64) (omega arith) (omega arith))
+
+-- one word more without a bit
+pub passed-more : (words : List ℕ) (from i : ℕ) → ((k : ℕ) → from ≤ k → k < i * 64 → has_bit words k ≡ false) → slice_index words i ≡ 0 → (k : ℕ) → from ≤ k → k < (i + 1) * 64 → has_bit words k ≡ false
+passed-more words from i before none k low high = elim (cases_lt k (i * 64)) [
+  | inl below ↦ before k low below
+  | inr here ↦ has_bit-word words i k here (omega arith) ∙ ap (λ n. n == 1) (ap (λ n. bit_at n (k - i * 64)) none ∙ bit_at-zero (k - i * 64))
+]
 
 -- the least bit of a word is the first of the row, where no word before it has one
 pub next_bit-found : (words : List ℕ) (from i low bit : ℕ) → i < length words → low ≡ from - i * 64 → IsLeastBit (slice_index words i) low (Some bit) → ((k : ℕ) → from ≤ k → k < i * 64 → has_bit words k ≡ false) → first_where (has_bit words) from (64 * length words - from) ≡ Some (i * 64 + bit)
@@ -102,3 +123,17 @@ next_live-passed s row from inside x low high =
     let whole : s.dims.w ≡ from + (s.dims.w - from) = omega arith in
     first_where-before (is_live s row) from (s.dims.w - from) x low
     (subst (λ (w : ℕ). x < unwrap_or (first_where (is_live s row) from (s.dims.w - from)) w) whole high)
+
+-- ---- a cursor
+
+-- the bits above a bit, as they are computed
+pub ahead_of : (bit : ℕ) → bit < 64 → (2 ^ 64 - 1) * 2 ^ bit % 2 ^ 64 * 2 % 2 ^ 64 ≡ 2 ^ 64 - 2 ^ (bit + 1)
+ahead_of bit few =
+    let low = pow_mono {i = bit} {j = 63} (omega (arith, few)) in
+    rw (ones_shl 64 bit (omega (arith, few))) (omega (arith, low, pow_pos bit, pow_more 2 bit))
+
+-- it stands behind a bit of a word
+pub cursor_behind : (word bit ahead : ℕ) → bit < 64 → ahead ≡ 2 ^ 64 - 2 ^ (bit + 1) → IsCursor (word * 64 + bit + 1) word ahead
+cursor_behind word bit ahead few bits =
+    let same : word * 64 + bit + 1 - word * 64 ≡ bit + 1 = omega arith in
+    record { word = omega (arith, few); bits = rw same bits }

@@ -1,5 +1,5 @@
 -- Live places: those that hold an operator.
-use Rattle.std.specs.Prelude.{ℕ, ◌+◌, ◌-◌, ◌/◌, ◌%◌, ◌≡◌, ◌≤◌, ◌<◌, ◌==◌, ◌&&◌, Bool, false, nat_lt, List, length, Option, Some, None, slice_index}
+use Rattle.std.specs.Prelude.{ℕ, ◌+◌, ◌-◌, ◌*◌, ◌^◌, ◌/◌, ◌%◌, ◌≡◌, ◌≤◌, ◌<◌, ◌==◌, ◌&&◌, Bool, false, nat_lt, List, length, Option, Some, None, slice_index}
 use Rattle.std.specs.Int.{bit_at}
 use Rattle.orca_base.specs.declared.limits.TheConstants.{WORD_COLUMNS}
 use Rattle.orca_base.specs.Glyphs.{is_operator}
@@ -32,3 +32,8 @@ abbrev pub IsLeastBit : ℕ → ℕ → Option ℕ → Type 0
 IsLeastBit word from None = (k : ℕ) → from ≤ k → k < WORD_COLUMNS → bit_at word k ≡ 0
 IsLeastBit word from (Some bit) =
     (from ≤ bit) × (bit < WORD_COLUMNS) × (bit_at word bit ≡ 1) × ((k : ℕ) → from ≤ k → k < bit → bit_at word k ≡ 0)
+
+-- a cursor before a column has reached the word of the column before it, and its bits from the column on lie ahead
+pub record IsCursor (column reached ahead : ℕ) : Type 0 where
+  pub word : reached ≡ (column - 1) / WORD_COLUMNS
+  pub bits : ahead ≡ 2 ^ 64 - 2 ^ (column - reached * WORD_COLUMNS)

@@ -1,10 +1,11 @@
 ghost use Rattle.std.specs.Prelude.{◌≡◌, ◌+◌, ◌<◌};
-ghost use Rattle.orca_op.specs.State.{peek, marked, var_at};
+ghost use Rattle.orca_base.specs.Grids.{IsInside};
+ghost use Rattle.orca_op.specs.State.{peek, marked, glyph_at, marks_at, var_at};
 ghost use Rattle.orca_op.specs.Deeds.{Mark as mark_deed, Write as write_deed, Set as set_deed, Emit as emit_deed, input_at, param_at, output_at, far_at, lock_at, sleep_at, show_at};
 ghost use Rattle.orca_op.specs.Desk.{Desk, IsDesk, HasRoom, desk_after, desk_at_begin, residue};
 
 use orca_base::limits::BASE;
-use orca_base::{Dims, Event, Glyph, Mark, Marks, Spot, Steps};
+use orca_base::{Dims, Event, Glyph, Mark, Marks, Place, Spot, Steps};
 use std::sync::ledger::Ledger;
 
 /// Where a frame is worked: the grid with its marks, variables and events. Each call but `dims` ticks
@@ -55,6 +56,26 @@ pub trait Bench {
         requires { HasRoom (desk self.old) }
         ensures deed { desk self.new ≡ desk_after (desk self.old) (emit_deed event) }
         ensures ticks { steps.new ≡ steps.old + 1 };
+
+    /// The glyph of a place of the grid.
+    #[tactic(auto, using(crate::specs::HereFacts::peek_here))]
+    fn peek_here<L: Ledger>(&self, at: Place, steps: &mut Steps<L>) -> Glyph
+        requires { IsInside (desk self.now).scan.dims at }
+        ensures glyph { result ≡ glyph_at (desk self.now).scan at }
+        ensures ticks { steps.new ≡ steps.old + 1 }
+    {
+        self.peek(at.here(), steps)
+    }
+
+    /// The marks of a place of the grid.
+    #[tactic(auto, using(crate::specs::HereFacts::marked_here))]
+    fn marked_here<L: Ledger>(&self, at: Place, steps: &mut Steps<L>) -> Marks
+        requires { IsInside (desk self.now).scan.dims at }
+        ensures marks { result ≡ marks_at (desk self.now).scan at }
+        ensures ticks { steps.new ≡ steps.old + 1 }
+    {
+        self.marked(at.here(), steps)
+    }
 
     /// Begins a frame: nothing is marked or listed, the variables are empty, and there is no event.
     fn begin<L: Ledger>(&mut self, steps: &mut Steps<L>)

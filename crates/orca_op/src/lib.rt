@@ -3,6 +3,7 @@
 
 mod bangs;
 mod bench;
+mod cursor;
 mod kind;
 mod live;
 mod operator;
@@ -11,6 +12,7 @@ mod walk;
 
 pub use bangs::has_bang;
 pub use bench::Bench;
+pub use cursor::Cursor;
 pub use kind::Kind;
 pub use live::next_live;
 pub use operator::Operator;

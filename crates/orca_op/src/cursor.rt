@@ -1,0 +1,106 @@
+ghost use Rattle.std.specs.Prelude.{◌≡◌, ℕ, ◌+◌, ◌-◌, ◌*◌, ◌/◌, ◌<◌, ◌≤◌, length, IfSome, IsTrue, unwrap_or};
+ghost use Rattle.std.specs.Int.{trailing_zeros, w64};
+ghost use Rattle.orca_base.specs.declared.limits.TheConstants.{WORD_COLUMNS, MAX_COLUMNS};
+ghost use Rattle.orca_op.specs.First.{first_where};
+ghost use Rattle.orca_op.specs.Live.{is_live, has_bit, next_live, HasNoLive};
+
+use crate::Walk;
+use orca_base::Steps;
+use orca_base::limits::WORD_COLUMNS;
+use std::marker::Model;
+use std::sync::ledger::Ledger;
+
+/// Where the walk of a row stands: before a column. It keeps the word that it has reached, and which bits
+/// of it lie ahead, so that the next operator is a matter of one word. A contract sees the column.
+#[derive(Drop)]
+pub struct Cursor {
+    column: u16,
+    word: usize,
+    /// The bits of the word that stand for the column and for those at its right.
+    ahead: u64,
+}
+
+impl Model for Cursor {
+    ghost use Rattle.std.specs.Prelude.{ℕ};
+    ghost use Rattle.orca_op.specs.Live.{IsCursor};
+
+    ghost Value = { ℕ };
+
+    ghost view = { λ c. c.column };
+
+    ghost invariant = { λ c. IsCursor c.column c.word c.ahead };
+}
+
+impl Cursor {
+    /// Before the first column.
+    pub fn start() -> Cursor
+        ensures { result ≡ 0 }
+    {
+        Cursor {
+            column: 0,
+            word: 0,
+            ahead: u64::MAX,
+        }
+    }
+
+    /// The next column of a row that holds an operator as the grid stands now; none exactly where there is
+    /// none. The cursor then stands behind it. It ticks once.
+    #[inline(always)]
+    pub fn next<B: Walk, L: Ledger>(
+        &mut self,
+        bench: &B,
+        row: u16,
+        steps: &mut Steps<L>,
+    ) -> Option<u16>
+        requires row { row < (B.desk bench.now).scan.dims.h }
+        requires column { self.old ≤ (B.desk bench.now).scan.dims.w }
+        ensures least { result ≡ next_live (B.desk bench.now).scan row self.old }
+        ensures found { IfSome result (λ x. (self.old ≤ x) × IsTrue (is_live (B.desk bench.now).scan row x)) }
+        ensures passed { HasNoLive (B.desk bench.now).scan row self.old (unwrap_or result (B.desk bench.now).scan.dims.w) }
+        ensures behind { IfSome result (λ x. self.new ≡ x + 1) }
+        ensures ticks { steps.new ≡ steps.old + 1 }
+    {
+        self.find(bench.live_words(row, steps))
+    }
+
+    /// The least bit of a row's words, at the column or behind it, that is set. The cursor then stands behind
+    /// it.
+    #[inline(always)]
+    fn find(&mut self, words: &[u64]) -> Option<u16>
+        requires some { (self.old - 1) / WORD_COLUMNS < length words.now }
+        requires few { length words.now ≤ MAX_COLUMNS }
+        ensures least { result ≡ first_where (has_bit words.now) self.old (WORD_COLUMNS * length words.now - self.old) }
+        ensures behind { IfSome result (λ x. self.new ≡ x + 1) }
+    {
+        let first = self.word;
+        // Most operators stand in the word of the one before, so it is looked at apart from the others.
+        let bits = words[first] & self.ahead;
+        if bits != 0 {
+            return Some(self.stop(first, bits));
+        }
+        for i in first + 1..words.len() {
+            if words[i] != 0 {
+                return Some(self.stop(i, words[i]));
+            }
+        }
+        None
+    }
+
+    /// The column of the least bit of a word. The cursor then stands behind it.
+    #[inline(always)]
+    fn stop(&mut self, word: usize, bits: u64) -> u16
+        requires some { 0 < bits }
+        requires few { word < MAX_COLUMNS }
+        ensures column { result ≡ word * WORD_COLUMNS + trailing_zeros w64 bits }
+        ensures behind { self.new ≡ result + 1 }
+    {
+        let bit = bits.trailing_zeros();
+        let column = word as u16 * WORD_COLUMNS + bit as u16;
+        *self = Cursor {
+            column: column + 1,
+            word,
+            ahead: (u64::MAX << bit) << 1,
+        };
+        column
+    }
+}
