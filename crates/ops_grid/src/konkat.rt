@@ -8,9 +8,9 @@ ghost use Rattle.orca_op.specs.Desk.{desk_after_all};
 ghost use Rattle.orca_op.specs.GridRules.{konkat_one};
 ghost use Rattle.ops_grid.specs.GridLaws.{lawful-konkat};
 
-use crate::span::{self, ROOM, Span};
+use crate::span::{self, ROOM};
 use orca_base::{Glyph, Now, Place, Steps};
-use orca_op::{Bench, Operator, value_or};
+use orca_op::{Bench, Operator, Span, value_or};
 use std::sync::ledger::Ledger;
 
 /// `K`: reads multiple variables.

@@ -1,9 +1,8 @@
 ghost use Rattle.orca_op.specs.declared.kind.Kind.TheVariants.{Push as push_kind};
 ghost use Rattle.ops_grid.specs.GridLaws.{lawful-push};
 
-use crate::span::{self, Span};
 use orca_base::{Glyph, Now, Place, Steps};
-use orca_op::{Bench, Operator, value_or};
+use orca_op::{Bench, Operator, Span, value_or};
 use std::sync::ledger::Ledger;
 
 /// `P`: writes an eastward operand.
@@ -37,7 +36,7 @@ impl Operator for Push {
         let chosen = at.off(1, i32::from(key % length));
         bench.param(at.left(2), steps);
         bench.param(at.left(1), steps);
-        span::lock(bench, at, Span { y: 1, x: 0, length }, steps);
+        bench.lock_span(at, Span { y: 1, x: 0, length }, steps);
         bench.input(at.right(1), steps);
         bench.output(chosen, steps);
         bench.write(chosen, operand, steps);

@@ -6,9 +6,9 @@ ghost use Rattle.orca_op.specs.Desk.{desk_after_all};
 ghost use Rattle.orca_op.specs.GridRules.{query_one};
 ghost use Rattle.ops_grid.specs.GridLaws.{lawful-query};
 
-use crate::span::{self, ROOM, Span};
+use crate::span::{self, ROOM};
 use orca_base::{Glyph, Now, Place, Steps};
-use orca_op::{Bench, Operator};
+use orca_op::{Bench, Operator, Span};
 use std::sync::ledger::Ledger;
 
 /// `Q`: reads operands with an offset.

@@ -1,9 +1,8 @@
 ghost use Rattle.orca_op.specs.declared.kind.Kind.TheVariants.{Track as track_kind};
 ghost use Rattle.ops_grid.specs.GridLaws.{lawful-track};
 
-use crate::span::{self, Span};
 use orca_base::{Glyph, Now, Place, Steps};
-use orca_op::{Bench, Operator, value_or};
+use orca_op::{Bench, Operator, Span, value_or};
 use std::sync::ledger::Ledger;
 
 /// `T`: reads an eastward operand.
@@ -36,7 +35,7 @@ impl Operator for Track {
         let operand = bench.peek(chosen, steps);
         bench.param(at.left(2), steps);
         bench.param(at.left(1), steps);
-        span::lock(bench, at, Span { y: 0, x: 1, length }, steps);
+        bench.lock_span(at, Span { y: 0, x: 1, length }, steps);
         bench.input(chosen, steps);
         bench.output(at.below(), steps);
         bench.write(at.below(), operand, steps);

@@ -5,7 +5,7 @@ use crate::note_ports::NotePorts;
 use crate::ports;
 use crate::sending::send;
 use orca_base::{Glyph, Now, Place, Steps};
-use orca_op::{Bench, Operator, has_bang};
+use orca_op::{Bench, Operator};
 use std::sync::ledger::Ledger;
 
 /// `:`: sends a MIDI note.
@@ -35,7 +35,7 @@ impl Operator for Midi {
         _now: Now,
         steps: &mut Steps<L>,
     ) {
-        if !has_bang(bench, at, steps) {
+        if !bench.beside_bang(at, steps) {
             ports::inputs(bench, at, 1, 5, steps);
             return;
         }

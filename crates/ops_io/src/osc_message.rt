@@ -8,7 +8,7 @@ ghost use Rattle.ops_io.specs.EventLaws.{lawful-osc_message};
 use crate::ports;
 use crate::sending::send;
 use orca_base::{Event, Glyph, Now, Place, Short, Steps};
-use orca_op::{Bench, Operator, has_bang};
+use orca_op::{Bench, Operator};
 use std::sync::ledger::Ledger;
 
 /// `=`: sends an OSC message.
@@ -39,7 +39,7 @@ impl Operator for OscMessage {
     ) {
         let path = bench.peek(at.right(1), steps);
         let length = bench.peek(at.right(2), steps).value();
-        let bang = has_bang(bench, at, steps);
+        let bang = bench.beside_bang(at, steps);
         let values = if bang {
             read_values(bench, at, length, steps)
         } else {

@@ -8,7 +8,7 @@ use crate::scaled::scaled;
 use crate::sending::send;
 use orca_base::limits::MAX_CHANNEL;
 use orca_base::{Event, Glyph, Now, Place, Steps};
-use orca_op::{Bench, Operator, has_bang};
+use orca_op::{Bench, Operator};
 use std::sync::ledger::Ledger;
 
 /// `?`: sends a MIDI pitch bend.
@@ -37,7 +37,7 @@ impl Operator for PitchBend {
         _now: Now,
         steps: &mut Steps<L>,
     ) {
-        if !has_bang(bench, at, steps) {
+        if !bench.beside_bang(at, steps) {
             ports::inputs(bench, at, 1, 3, steps);
             return;
         }

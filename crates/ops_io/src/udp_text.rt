@@ -8,7 +8,7 @@ use crate::ports;
 use crate::sending::send;
 use orca_base::limits::MAX_TEXT;
 use orca_base::{Event, Glyph, Now, Place, Short, Steps};
-use orca_op::{Bench, Operator, has_bang};
+use orca_op::{Bench, Operator};
 use std::sync::ledger::Ledger;
 
 /// `;`: sends a datagram of plain text.
@@ -38,7 +38,7 @@ impl Operator for UdpText {
     ) {
         let text = read_text(bench, at, steps);
         let length = text.as_slice().len() as u8;
-        let bang = has_bang(bench, at, steps);
+        let bang = bench.beside_bang(at, steps);
         ports::lock(bench, at, length, steps);
         if bang {
             send(bench, at, text_event(text), steps);

@@ -1,3 +1,1 @@
 mod ChainLemmas
-mod EdgeLemmas
-mod ReachLemmas

@@ -9,3 +9,4 @@ mod LiveBitsLemmas
 mod SizeLemmas
 mod CutLemmas
 mod RevertLemmas
+mod SpanLemmas

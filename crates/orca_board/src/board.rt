@@ -1,7 +1,7 @@
 ghost use Rattle.std.specs.Prelude.{ℕ, All, true, ◌≤◌, ◌≡◌, ◌+◌, ◌*◌, ◌<◌, false, length, count_by, slice_index, slice_set, IfOk};
 ghost use Rattle.orca_base.specs.Areas.{IsArea};
 ghost use Rattle.orca_base.specs.Edits.{sheet_after_fill, sheet_after_put, sheet_after_move, sheet_after_resize};
-ghost use Rattle.orca_base.specs.Grids.{IsInside, IsSize, by_place, cells_of, is_inside, largest};
+ghost use Rattle.orca_base.specs.Grids.{IsInside, IsSize, above, below, by_place, cells_of, is_inside, largest, left, right};
 ghost use Rattle.orca_base.specs.declared.place.Place.{Place};
 ghost use Rattle.orca_board.specs.Listing.{places_of};
 ghost use Rattle.orca_board.specs.Sizes.{cut_places, desk_after_resize, desk_reverted, whole, with_sheet};
@@ -12,16 +12,16 @@ ghost use Rattle.orca_base.specs.declared.limits.TheConstants.{MAX_CELLS};
 ghost use Rattle.orca_board.specs.Board.{AreLive, IsEmptyOutside, glyph_in, marks_in};
 ghost use Rattle.orca_op.specs.Live.{has_bit};
 ghost use Rattle.orca_op.specs.Desk.{changes_of, desk_of_sheet, is_listed};
-ghost use Rattle.orca_op.specs.State.{glyph_at, sheet_of};
+ghost use Rattle.orca_op.specs.State.{glyph_at, peek, sheet_of};
 
 use crate::blocks;
 use crate::listing::Listing;
 use crate::live_bits::LiveBits;
-use orca_base::limits::{BASE, MAX_CELLS, MAX_EVENTS};
+use orca_base::limits::{BASE, MAX_CELLS, MAX_COLUMNS, MAX_EVENTS, MAX_ROWS};
 use orca_base::{Area, Block, Change, Dims, Event, Glyph, Look, Marks, Memory, Place, Spot, Steps};
 use orca_grid::Grid;
 use orca_marks::MarkPlane;
-use orca_op::{Bench, Walk};
+use orca_op::{Bench, Span, Walk};
 use std::alloc::Global;
 use std::marker::Model;
 use std::snapshot::Snapshot;
@@ -187,6 +187,58 @@ impl Board {
             self.events.clear();
             self.dims = dims;
         }
+    }
+
+    /// The glyph above a place of the grid.
+    fn above(&self, at: Place) -> Glyph
+        requires { IsInside self.now.scan.dims at }
+        ensures { result ≡ peek self.now.scan (above at) }
+    {
+        let _cells = &self.cells;
+        let i = Dims::largest().index(at);
+        if at.y == 0 {
+            return Glyph::EMPTY;
+        }
+        self.cells[i - usize::from(MAX_COLUMNS)]
+    }
+
+    /// The glyph at the left of a place of the grid.
+    fn left(&self, at: Place) -> Glyph
+        requires { IsInside self.now.scan.dims at }
+        ensures { result ≡ peek self.now.scan (left at 1) }
+    {
+        let _cells = &self.cells;
+        let i = Dims::largest().index(at);
+        if at.x == 0 {
+            return Glyph::EMPTY;
+        }
+        self.cells[i - 1]
+    }
+
+    /// The glyph at the right of a place of the grid.
+    fn right(&self, at: Place) -> Glyph
+        requires { IsInside self.now.scan.dims at }
+        ensures { result ≡ peek self.now.scan (right at 1) }
+    {
+        let _cells = &self.cells;
+        let i = Dims::largest().index(at);
+        if at.x == MAX_COLUMNS - 1 {
+            return Glyph::EMPTY;
+        }
+        self.cells[i + 1]
+    }
+
+    /// The glyph below a place of the grid.
+    fn below(&self, at: Place) -> Glyph
+        requires { IsInside self.now.scan.dims at }
+        ensures { result ≡ peek self.now.scan (below at) }
+    {
+        let _cells = &self.cells;
+        let i = Dims::largest().index(at);
+        if at.y == MAX_ROWS - 1 {
+            return Glyph::EMPTY;
+        }
+        self.cells[i + usize::from(MAX_COLUMNS)]
     }
 
     /// The events, in the order in which they were emitted.
@@ -410,6 +462,51 @@ impl Bench for Board {
     fn marked_here<L: Ledger>(&self, at: Place, steps: &mut Steps<L>) -> Marks {
         steps.tick();
         self.marks.at(at)
+    }
+
+    // It stands apart, so that the walk of a row keeps its registers.
+    #[inline(never)]
+    #[tactic(auto, unfolding(orca_op::specs::State::has_bang))]
+    fn beside_bang<L: Ledger>(&self, at: Place, steps: &mut Steps<L>) -> bool {
+        tick_times(4, steps);
+        self.above(at) == Glyph::BANG
+            || self.left(at) == Glyph::BANG
+            || self.right(at) == Glyph::BANG
+            || self.below(at) == Glyph::BANG
+    }
+
+    fn find_right<L: Ledger>(
+        &self,
+        at: Place,
+        byte: u8,
+        reach: u8,
+        steps: &mut Steps<L>,
+    ) -> Option<u16> {
+        let dims = self.dims;
+        let first = Dims::largest().index(at);
+        let end = (u16::from(reach) + 1).min(dims.w - at.x);
+        for column in 1..end {
+            steps.tick();
+            if self.cells[first + usize::from(column)].byte() == byte {
+                return Some(column);
+            }
+        }
+        None
+    }
+
+    fn mark_span<L: Ledger>(&mut self, at: Place, span: Span, marks: Marks, steps: &mut Steps<L>) {
+        tick_times(usize::from(span.length), steps);
+        let y = u32::from(at.y) + u32::from(span.y);
+        let x = u32::from(at.x) + u32::from(span.x);
+        let dims = self.dims;
+        if y < u32::from(dims.h) && x < u32::from(dims.w) {
+            let first = Place {
+                y: y as u16,
+                x: x as u16,
+            };
+            let count = u16::from(span.length).min(dims.w - first.x);
+            self.marks.add_run(first, count, marks);
+        }
     }
 
     #[tactic(auto, unfolding(orca_op::specs::Desk::residue))]

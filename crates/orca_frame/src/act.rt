@@ -18,6 +18,7 @@ use std::sync::ledger::Ledger;
 
 /// Does the deeds of the operator that the glyph stands for, and nothing where it is none.
 #[tactic(auto, unfolding(orca_op::specs::Rules::rule))]
+#[inline(never)]
 pub(crate) fn act<B: Bench, L: Ledger>(
     bench: &mut B,
     at: Place,

@@ -51,7 +51,7 @@ pub(crate) fn visit_operator<B: Bench, L: Ledger>(
         return;
     }
     let glyph = bench.peek_here(at, steps);
-    if waits(bench, at, glyph, steps) {
+    if glyph.needs_bang() && !bench.beside_bang(at, steps) {
         return;
     }
     act(bench, at, glyph, now, steps);

@@ -1,10 +1,10 @@
 -- Deeds: what an operator does, one thing at a time.
-use Rattle.std.specs.Prelude.{ℕ, zero, suc, List, [], ◌∷◌, ◌++◌, Option, Some, None, slice_set}
+use Rattle.std.specs.Prelude.{ℕ, zero, suc, List, [], ◌∷◌, ◌++◌, Option, Some, None, slice_set, pos, ◌+◌}
 use Rattle.orca_base.specs.declared.event.Event.{Event}
 use Rattle.orca_base.specs.declared.marks.Mark.TheVariants.{Lock, Input, Param, Output, Sleep}
 use Rattle.orca_base.specs.declared.place.Place.{Place}
 use Rattle.orca_base.specs.declared.place.Spot.{Spot}
-use Rattle.orca_base.specs.Grids.{index_of, place_in}
+use Rattle.orca_base.specs.Grids.{index_of, off, place_in}
 use Rattle.orca_base.specs.MarkSet.{MarkSet, no_marks, with_mark, all_marks}
 use Rattle.orca_op.specs.State.{State, marks_at}
 
@@ -62,3 +62,7 @@ show_at at = Mark at (with_mark no_marks Output)
 abbrev pub each : ℕ → (ℕ → List Deed) → List Deed
 each zero deeds = []
 each (suc n) deeds = each n deeds ++ deeds n
+
+-- n places of a row, y rows below a place, get marks: the first of them lies x columns to its right
+abbrev pub span_deeds : Place → ℕ → ℕ → ℕ → MarkSet → List Deed
+span_deeds at y x n marks = each n (λ i. Mark (off at (pos y) (pos (i + x))) marks ∷ [])

@@ -1,9 +1,12 @@
-ghost use Rattle.std.specs.Prelude.{◌≡◌, ◌+◌, ◌<◌};
-ghost use Rattle.orca_base.specs.Grids.{IsInside};
-ghost use Rattle.orca_op.specs.State.{peek, marked, glyph_at, marks_at, var_at};
-ghost use Rattle.orca_op.specs.Deeds.{Mark as mark_deed, Write as write_deed, Set as set_deed, Emit as emit_deed, input_at, param_at, output_at, far_at, lock_at, sleep_at, show_at};
-ghost use Rattle.orca_op.specs.Desk.{Desk, IsDesk, HasRoom, desk_after, desk_at_begin, residue};
+ghost use Rattle.std.specs.Prelude.{◌≡◌, ◌≢◌, ◌==◌, ◌+◌, ◌<◌, ◌≤◌, pos, ◌∷◌, [], IfSome};
+ghost use Rattle.orca_base.specs.Glyphs.{empty};
+ghost use Rattle.orca_op.specs.First.{first_where};
+ghost use Rattle.orca_base.specs.Grids.{IsInside, off, right};
+ghost use Rattle.orca_op.specs.State.{peek, marked, glyph_at, marks_at, has_bang, var_at};
+ghost use Rattle.orca_op.specs.Deeds.{Mark as mark_deed, Write as write_deed, Set as set_deed, Emit as emit_deed, input_at, param_at, output_at, far_at, lock_at, sleep_at, show_at, each, span_deeds};
+ghost use Rattle.orca_op.specs.Desk.{Desk, IsDesk, HasRoom, desk_after, desk_after_all, desk_at_begin, residue};
 
+use crate::Span;
 use orca_base::limits::BASE;
 use orca_base::{Dims, Event, Glyph, Mark, Marks, Place, Spot, Steps};
 use std::sync::ledger::Ledger;
@@ -77,6 +80,60 @@ pub trait Bench {
         self.marked(at.here(), steps)
     }
 
+    /// Whether a bang stands next to a place of the grid: above it, below it, at its left or at its right. It
+    /// ticks for each of the four.
+    #[tactic(auto, unfolding(crate::specs::State::has_bang))]
+    fn beside_bang<L: Ledger>(&self, at: Place, steps: &mut Steps<L>) -> bool
+        requires { IsInside (desk self.now).scan.dims at }
+        ensures bang { result ≡ has_bang (desk self.now).scan at }
+        ensures ticks { steps.new ≡ steps.old + 4 }
+    {
+        let above = self.peek(at.above(), steps);
+        let left = self.peek(at.left(1), steps);
+        let right = self.peek(at.right(1), steps);
+        let below = self.peek(at.below(), steps);
+        above == Glyph::BANG || left == Glyph::BANG || right == Glyph::BANG || below == Glyph::BANG
+    }
+
+    /// The first of `reach` columns at the right of a place of the grid that holds the glyph of a byte; none
+    /// exactly where none does. Beyond the edge there is only `.`, which is not asked for.
+    fn find_right<L: Ledger>(
+        &self,
+        at: Place,
+        byte: u8,
+        reach: u8,
+        steps: &mut Steps<L>,
+    ) -> Option<u16>
+        requires inside { IsInside (desk self.now).scan.dims at }
+        requires visible { byte ≢ empty }
+        ensures first { result
+            ≡ first_where (λ i. peek (desk self.now).scan (right at i) == byte) 1 reach }
+        ensures range { IfSome result (λ column. (1 ≤ column) × (column ≤ reach)) }
+        ensures ticks { steps.new ≤ steps.old + reach }
+        ensures later { steps.old ≤ steps.new }
+    {
+        for column in 1..u16::from(reach) + 1 {
+            if self.peek(at.right(column), steps).byte() == byte {
+                return Some(column);
+            }
+        }
+        None
+    }
+
+    /// Adds the marks to each place of a span. It ticks for each.
+    #[tactic(auto, unfolding(crate::specs::Deeds::after))]
+    fn mark_span<L: Ledger>(&mut self, at: Place, span: Span, marks: Marks, steps: &mut Steps<L>)
+        ensures deeds { desk self.new
+            ≡ desk_after_all (desk self.old) (span_deeds at span.y span.x span.length marks) }
+        ensures room { HasRoom (desk self.old) → HasRoom (desk self.new) }
+        ensures ticks { steps.new ≡ steps.old + span.length }
+    {
+        for i in 0..span.length {
+            let spot = at.off(i32::from(span.y), i32::from(i) + i32::from(span.x));
+            self.mark(spot, marks, steps);
+        }
+    }
+
     /// Begins a frame: nothing is marked or listed, the variables are empty, and there is no event.
     fn begin<L: Ledger>(&mut self, steps: &mut Steps<L>)
         ensures desk { desk self.new ≡ desk_at_begin (desk self.old) }
@@ -131,6 +188,31 @@ pub trait Bench {
         ensures ticks { steps.new ≡ steps.old + 1 }
     {
         self.mark(at, Marks::none().with(Mark::Lock), steps);
+    }
+
+    /// Marks each place of a span as an input.
+    final fn input_span<L: Ledger>(&mut self, at: Place, span: Span, steps: &mut Steps<L>)
+        ensures deeds { desk self.new ≡ desk_after_all (desk self.old)
+            (each span.length (λ i. input_at (off at (pos span.y) (pos (i + span.x))) ∷ [])) }
+        ensures room { HasRoom (desk self.old) → HasRoom (desk self.new) }
+        ensures ticks { steps.new ≡ steps.old + span.length }
+    {
+        self.mark_span(
+            at,
+            span,
+            Marks::none().with(Mark::Input).with(Mark::Lock),
+            steps,
+        );
+    }
+
+    /// Locks each place of a span.
+    final fn lock_span<L: Ledger>(&mut self, at: Place, span: Span, steps: &mut Steps<L>)
+        ensures deeds { desk self.new ≡ desk_after_all (desk self.old)
+            (each span.length (λ i. lock_at (off at (pos span.y) (pos (i + span.x))) ∷ [])) }
+        ensures room { HasRoom (desk self.old) → HasRoom (desk self.new) }
+        ensures ticks { steps.new ≡ steps.old + span.length }
+    {
+        self.mark_span(at, span, Marks::none().with(Mark::Lock), steps);
     }
 
     /// Puts a place to sleep: it is not evaluated before the next frame.

@@ -7,6 +7,7 @@ mod cursor;
 mod kind;
 mod live;
 mod operator;
+mod span;
 mod values;
 mod walk;
 
@@ -16,5 +17,6 @@ pub use cursor::Cursor;
 pub use kind::Kind;
 pub use live::next_live;
 pub use operator::Operator;
+pub use span::Span;
 pub use values::{rate_of, value_or};
 pub use walk::Walk;

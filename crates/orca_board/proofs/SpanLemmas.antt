@@ -1,0 +1,202 @@
+-- Marks of the places of a span, and the glyphs beside a place.
+use Rattle.std.proofs.Common.{◌≡◌, ℕ, zero, suc, ◌+◌, ◌*◌, ◌<◌, ◌≤◌, ◌==◌, ◌&&◌, Bool, true, false, List, ◌∷◌, [], length, get_or, add-zero, arith, ap, sym, ◌∙◌, refl, subst}
+use Rattle.std.specs.Prelude.{◌≢◌, pos, negsuc, ◌+ℤ◌, ◌-◌, slice_index_or, Some, None, if◌then◌else◌, min, nat_lt, nat_le}
+use Rattle.std.proofs.Math.IntN.{+ℤ-neg_ℤ_cancel}
+use Rattle.std.proofs.Math.ListN.{set}
+use Rattle.std.proofs.lemmas.Bool.{both_ways, le-ltb}
+use Rattle.std.proofs.lemmas.Bool.Decides.{nat_tests}
+use Rattle.orca_base.specs.declared.change.Change.{Change}
+use Rattle.orca_base.specs.declared.limits.TheConstants.{MAX_CELLS, MAX_COLUMNS, MAX_ROWS}
+use Rattle.orca_base.specs.declared.place.Place.{Place}
+use Rattle.orca_base.specs.Grids.{IsSize, IsInside, Size, above, by_place, index_of, is_inside, is_place, largest, left, off, place_in, right}
+use Rattle.orca_base.specs.MarkSet.{MarkSet, all_marks, no_marks}
+use Rattle.orca_base.proofs.PlaceFacts.{inside-is_inside, is_inside-inside, is_place-same}
+use Rattle.orca_base.proofs.SheetFacts.{index-by_place, same-by_place, set-by_place}
+use Rattle.orca_base.specs.declared.place.Spot.{Spot}
+use Rattle.orca_base.specs.Glyphs.{empty}
+use Rattle.orca_op.specs.State.{State, peek}
+use Rattle.orca_op.specs.Deeds.{Deed, Mark, after, marks_after, span_deeds}
+use Rattle.orca_op.specs.Desk.{Desk, desk_after, desk_after_all, list_after}
+use Rattle.orca_op.specs.LawFacts.{desk_after_all-append}
+use Rattle.orca_board.specs.Board.{IsEmptyOutside, glyph_in, marks_in}
+use Rattle.orca_board.proofs.LargestLemmas.{peek-none, peek-some}
+use Rattle.orca_board.specs.Listing.{ListsChanges}
+use Rattle.orca_board.proofs.DeskLemmas.{lists-mark}
+
+-- the place is one of n in a row
+abbrev pub is_among : ℕ → ℕ → ℕ → Place → Bool
+is_among y x n at = (at.y == y) && (nat_le x at.x && nat_lt at.x (x + n))
+
+-- the marks of a place, and those that are added to the places of a span
+abbrev pub span_marks : List MarkSet → ℕ → ℕ → ℕ → MarkSet → Place → MarkSet
+span_marks plane y x n marks at = if is_among y x n at then all_marks (marks_in plane at) marks else marks_in plane at
+
+among_none : (y x : ℕ) (at : Place) → is_among y x 0 at ≡ false
+among_none y x at = grind (arith, nat_tests)
+
+among_here : (y x n : ℕ) → is_among y x (n + 1) (record { y = y; x = x + n }) ≡ true
+among_here y x n = grind (arith, nat_tests)
+
+not_yet : (y x n : ℕ) → is_among y x n (record { y = y; x = x + n }) ≡ false
+not_yet y x n = grind (arith, nat_tests)
+
+among_other : (y x n : ℕ) (at : Place) → is_place at (record { y = y; x = x + n }) ≡ false → is_among y x (n + 1) at ≡ is_among y x n at
+among_other y x n at other = grind (arith, nat_tests)
+
+-- ---- the desk after the marks of a span
+
+-- one place more
+span_more : (d : Size) (plane : List MarkSet) (y x n : ℕ) (marks : MarkSet) → IsSize d → (inside : Bool) → is_inside d (record { y = y; x = x + n }) ≡ inside
+    → (if inside then set (by_place d (span_marks plane y x n marks)) (index_of d (record { y = y; x = x + n })) (all_marks (slice_index_or (by_place d (span_marks plane y x n marks)) (index_of d (record { y = y; x = x + n })) no_marks) marks) else by_place d (span_marks plane y x n marks))
+    ≡ by_place d (span_marks plane y x (n + 1) marks)
+span_more d plane y x n marks size true inside =
+    let at : Place = record { y = y; x = x + n } in
+    let there = inside-is_inside d at inside in
+    rw (index-by_place d (span_marks plane y x n marks) at no_marks there)
+    (set-by_place d (span_marks plane y x n marks) (span_marks plane y x (n + 1) marks) at _ no_marks size there
+    (rw (among_here y x n, not_yet y x n) refl)
+    (λ q inside_q other. rw (among_other y x n q other) refl))
+span_more d plane y x n marks size false outside =
+    same-by_place d (span_marks plane y x n marks) (span_marks plane y x (n + 1) marks) no_marks size
+    (λ q inside. rw (among_other y x n q (apart q inside (is_place q (record { y = y; x = x + n })) refl)) refl)
+  where
+    apart : (q : Place) → IsInside d q → (b : Bool) → is_place q (record { y = y; x = x + n }) ≡ b → b ≡ false
+    apart q inside true same = absurd (both_ways _ outside (ap (is_inside d) (sym (is_place-same q (record { y = y; x = x + n }) same)) ∙ is_inside-inside d q inside))
+    apart q inside false same = refl
+
+marked_if : (s : State) (at : Place) (marks : MarkSet) (inside : Bool) → marks_after s (if inside then Some at else None) marks ≡ (if inside then set s.marks (index_of s.dims at) (all_marks (slice_index_or s.marks (index_of s.dims at) no_marks) marks) else s.marks)
+marked_if s at marks true = refl
+marked_if s at marks false = refl
+
+-- the desk after them
+pub marked_span : (d : Desk) (plane : List MarkSet) (at : Place) (y x n : ℕ) (marks : MarkSet) → IsSize d.scan.dims → d.scan.marks ≡ by_place d.scan.dims (marks_in plane)
+    → desk_after_all d (span_deeds at y x n marks) ≡ record d { scan = record d.scan { marks = by_place d.scan.dims (span_marks plane (at.y + y) (at.x + x) n marks) } }
+unfolding after list_after
+marked_span d plane at y x zero marks size is =
+    let none = same-by_place d.scan.dims (marks_in plane) (span_marks plane (at.y + y) (at.x + x) 0 marks) no_marks size (λ q inside. rw (among_none (at.y + y) (at.x + x) q) refl) in
+    ap (λ (m : List MarkSet). record d { scan = record d.scan { marks = m } }) (is ∙ none)
+marked_span d plane at y x (suc n) marks size is =
+    let column : at.x + (n + x) ≡ at.x + x + n = omega arith in
+    let next : n + 1 ≡ suc n = omega arith in
+    let more = span_more d.scan.dims plane (at.y + y) (at.x + x) n marks size (is_inside d.scan.dims (record { y = at.y + y; x = at.x + x + n })) refl in
+    let before = marked_span d plane at y x n marks size is in
+    let last : Deed = Mark (off at (pos y) (pos (n + x))) marks in
+    desk_after_all-append d (span_deeds at y x n marks) (last ∷ [])
+    ∙ (ap (λ (e : Desk). desk_after e last) before
+    ∙ rw (column, marked_if) (ap (λ (m : List MarkSet). record d { scan = record d.scan { marks = m } }) (rw next at more)))
+
+-- its changes stay
+pub lists-span : (d : Desk) (at : Place) (y x n : ℕ) (marks : MarkSet) (known : List Change) → ListsChanges d known → ListsChanges (desk_after_all d (span_deeds at y x n marks)) known
+lists-span d at y x zero marks known lists = lists
+lists-span d at y x (suc n) marks known lists =
+    rw (desk_after_all-append d (span_deeds at y x n marks) (Mark (off at (pos y) (pos (n + x))) marks ∷ []))
+    (lists-mark (desk_after_all d (span_deeds at y x n marks)) _ (off at (pos y) (pos (n + x))) marks known (lists-span d at y x n marks known lists) refl)
+
+-- the numbers of a span in the largest grid, as far as the grid's edge
+among_number : (w y x n count first : ℕ) (at : Place) → at.x < w → w ≤ MAX_COLUMNS → x < w → first ≡ y * MAX_COLUMNS + x → count ≡ min n (w - x)
+    → (nat_le first (index_of largest at) && nat_lt (index_of largest at) (first + count)) ≡ is_among y x n at
+among_number w y x n count first at inside most wide number few = grind (arith, nat_tests)
+
+-- the marks of a grid after those of a span
+pub span_plane : (d : Size) (plane new : List MarkSet) (y x n count first : ℕ) (marks : MarkSet) → IsSize d → x < d.w → first ≡ y * MAX_COLUMNS + x → count ≡ min n (d.w - x)
+    → ((i : ℕ) → get_or new i no_marks ≡ (if nat_le first i && nat_lt i (first + count) then all_marks (get_or plane i no_marks) marks else get_or plane i no_marks))
+    → by_place d (marks_in new) ≡ by_place d (span_marks plane y x n marks)
+span_plane d plane new y x n count first marks size wide number few each =
+    same-by_place d (marks_in new) (span_marks plane y x n marks) no_marks size
+    (λ q inside.
+    each (index_of largest q)
+    ∙ ap (λ (b : Bool). if b then all_marks (marks_in plane q) marks else marks_in plane q) (among_number d.w y x n count first q inside.column size.few_columns wide number few))
+
+-- a span that begins outside the grid
+beyond_none : (h w y x n : ℕ) (at : Place) → at.y < h → at.x < w → (y < h → w ≤ x) → is_among y x n at ≡ false
+beyond_none h w y x n at row column beyond = grind (arith, nat_tests)
+
+pub span_beyond : (d : Size) (plane : List MarkSet) (y x n : ℕ) (marks : MarkSet) → IsSize d → (y < d.h → d.w ≤ x) → by_place d (marks_in plane) ≡ by_place d (span_marks plane y x n marks)
+span_beyond d plane y x n marks size beyond =
+    same-by_place d (marks_in plane) (span_marks plane y x n marks) no_marks size
+    (λ q inside. rw (beyond_none d.h d.w y x n q inside.row inside.column beyond) refl)
+
+-- the desk of a board after the marks of a span
+pub spanned : (d : Desk) (plane new : List MarkSet) (at : Place) (y x n : ℕ) (marks : MarkSet) → IsSize d.scan.dims → d.scan.marks ≡ by_place d.scan.dims (marks_in plane)
+    → by_place d.scan.dims (marks_in new) ≡ by_place d.scan.dims (span_marks plane (at.y + y) (at.x + x) n marks)
+    → record d { scan = record d.scan { marks = by_place d.scan.dims (marks_in new) } } ≡ desk_after_all d (span_deeds at y x n marks)
+spanned d plane new at y x n marks size is same =
+    ap (λ (m : List MarkSet). record d { scan = record d.scan { marks = m } }) same ∙ sym (marked_span d plane at y x n marks size is)
+
+pub lists-spanned : (d : Desk) (plane new : List MarkSet) (at : Place) (y x n : ℕ) (marks : MarkSet) (known : List Change) → IsSize d.scan.dims → d.scan.marks ≡ by_place d.scan.dims (marks_in plane)
+    → by_place d.scan.dims (marks_in new) ≡ by_place d.scan.dims (span_marks plane (at.y + y) (at.x + x) n marks) → ListsChanges d known
+    → ListsChanges (record d { scan = record d.scan { marks = by_place d.scan.dims (marks_in new) } }) known
+lists-spanned d plane new at y x n marks known size is same lists =
+    subst (λ (e : Desk). ListsChanges e known) (sym (spanned d plane new at y x n marks size is same)) (lists-span d at y x n marks known lists)
+
+-- ---- the glyphs beside a place
+
+-- a cell of the largest grid is what its spot shows
+pub peek_cell : (s : State) (cells : List ℕ) (spot : Spot) (y x i read : ℕ) → IsSize s.dims → s.cells ≡ by_place s.dims (glyph_in cells) → IsEmptyOutside s.dims cells → length cells ≡ MAX_CELLS
+    → spot.y ≡ pos y → spot.x ≡ pos x → y < MAX_ROWS → x < MAX_COLUMNS → i ≡ y * MAX_COLUMNS + x → read ≡ get_or cells i read → read ≡ peek s spot
+peek_cell s cells spot y x i read size is outside whole row column high wide number shown =
+    let at : Place = record { y = y; x = x } in
+    let there : IsInside largest at = record { row = high; column = wide } in
+    let place : Some at ≡ place_in largest spot = rw (row, column, is_inside-inside largest at there) refl in
+    peek-some s largest cells spot at i read size is outside refl place there number (omega (arith, number, high, wide)) whole shown
+
+-- a spot outside the largest grid shows none
+pub peek_beyond : (s : State) (spot : Spot) (y x : ℕ) → IsSize s.dims → spot.y ≡ pos y → spot.x ≡ pos x → is_inside largest (record { y = y; x = x }) ≡ false → empty ≡ peek s spot
+peek_beyond s spot y x size row column outside =
+    let none : place_in largest spot ≡ None = rw (row, column, outside) refl in
+    peek-none s largest spot size refl (sym none)
+
+and_false : (b : Bool) → (b && false) ≡ false
+and_false true = refl
+and_false false = refl
+
+pub outside_below : (x : ℕ) → is_inside largest (record { y = MAX_ROWS; x = x }) ≡ false
+outside_below x = refl
+
+pub outside_right : (y : ℕ) → is_inside largest (record { y = y; x = MAX_COLUMNS }) ≡ false
+outside_right y = and_false (nat_lt y MAX_ROWS)
+
+-- above the first row, and at the left of the first column
+pub peek_above : (s : State) (at : Place) → IsSize s.dims → at.y ≡ 0 → empty ≡ peek s (above at)
+peek_above s at size first =
+    let none : place_in largest (above at) ≡ None = rw first refl in
+    peek-none s largest (above at) size refl (sym none)
+
+pub peek_left : (s : State) (at : Place) → IsSize s.dims → at.x ≡ 0 → empty ≡ peek s (left at 1)
+peek_left s at size first =
+    let none : place_in largest (left at 1) ≡ None = rw first refl in
+    peek-none s largest (left at 1) size refl (sym none)
+
+-- one row or column less
+pub one_less : (n : ℕ) → 0 < n → pos n +ℤ negsuc 0 ≡ pos (n - 1)
+one_less n some =
+    let next : n ≡ n - 1 + 1 = omega (arith, some) in
+    ap (λ (k : ℕ). pos k +ℤ negsuc 0) next ∙ +ℤ-neg_ℤ_cancel (pos (n - 1)) (pos 1)
+
+pub still : (n : ℕ) → pos n +ℤ pos 0 ≡ pos n
+still n = ap pos (add-zero n)
+
+-- ---- a glyph at the right
+
+pub holds_it : (glyph byte : ℕ) → glyph ≡ byte → (glyph == byte) ≡ true
+holds_it glyph byte same = grind (arith, nat_tests)
+
+pub holds_other : (glyph byte : ℕ) → (glyph ≡ byte → ⊥) → (glyph == byte) ≡ false
+holds_other glyph byte other = grind (arith, nat_tests)
+
+-- beyond the edge there is no glyph but `.`
+pub none_beyond : (s : State) (at : Place) (k byte : ℕ) → s.dims.w ≤ at.x + k → byte ≢ empty → (peek s (right at k) == byte) ≡ false
+unfolding peek
+none_beyond s at k byte beyond visible =
+    let none : place_in s.dims (right at k) ≡ None = rw (le-ltb (at.x + k) s.dims.w beyond) (none_if (nat_lt (at.y + 0) s.dims.h) (record { y = at.y + 0; x = at.x + k })) in
+    rw none (holds_other empty byte (λ same. visible (sym same)))
+  where
+    none_if : (row : Bool) (place : Place) → (if row && false then Some place else None) ≡ None
+    none_if true place = refl
+    none_if false place = refl
+
+-- a cell of the row
+pub peek_right : (s : State) (cells : List ℕ) (at : Place) (k first i read : ℕ) → IsSize s.dims → s.cells ≡ by_place s.dims (glyph_in cells) → IsEmptyOutside s.dims cells → length cells ≡ MAX_CELLS
+    → IsInside s.dims at → at.x + k < MAX_COLUMNS → first ≡ at.y * MAX_COLUMNS + at.x → i ≡ first + k → read ≡ get_or cells i read → read ≡ peek s (right at k)
+peek_right s cells at k first i read size is outside whole inside wide number step shown =
+    peek_cell s cells (right at k) at.y (at.x + k) i read size is outside whole (still at.y) refl (omega (arith, inside.row, size.few_rows)) wide (omega (arith, number, step)) shown
