@@ -1,20 +1,21 @@
 -- Marks of the places of a span, and the glyphs beside a place.
 use Rattle.std.proofs.Common.{◌≡◌, ℕ, zero, suc, ◌+◌, ◌*◌, ◌<◌, ◌≤◌, ◌==◌, ◌&&◌, Bool, true, false, List, ◌∷◌, [], length, get_or, add-zero, arith, ap, sym, ◌∙◌, refl, subst}
-use Rattle.std.specs.Prelude.{◌≢◌, pos, negsuc, ◌+ℤ◌, ◌-◌, slice_index_or, Some, None, if◌then◌else◌, min, nat_lt, nat_le}
+use Rattle.std.specs.Prelude.{◌≢◌, pos, negsuc, ◌+ℤ◌, ◌-◌, slice_index_or, Some, None, if◌then◌else◌, min, nat_lt, nat_le, ◌||◌, slice_index}
 use Rattle.std.proofs.Math.IntN.{+ℤ-neg_ℤ_cancel}
 use Rattle.std.proofs.Math.ListN.{set}
 use Rattle.std.proofs.lemmas.Bool.{both_ways, le-ltb}
+use Rattle.std.proofs.lemmas.List.{get_or_default}
 use Rattle.std.proofs.lemmas.Bool.Decides.{nat_tests}
 use Rattle.orca_base.specs.declared.change.Change.{Change}
 use Rattle.orca_base.specs.declared.limits.TheConstants.{MAX_CELLS, MAX_COLUMNS, MAX_ROWS}
 use Rattle.orca_base.specs.declared.place.Place.{Place}
-use Rattle.orca_base.specs.Grids.{IsSize, IsInside, Size, above, by_place, index_of, is_inside, is_place, largest, left, off, place_in, right}
+use Rattle.orca_base.specs.Grids.{IsSize, IsInside, Size, above, below, by_place, index_of, is_inside, is_place, largest, left, off, place_in, right}
 use Rattle.orca_base.specs.MarkSet.{MarkSet, all_marks, no_marks}
 use Rattle.orca_base.proofs.PlaceFacts.{inside-is_inside, is_inside-inside, is_place-same}
 use Rattle.orca_base.proofs.SheetFacts.{index-by_place, same-by_place, set-by_place}
 use Rattle.orca_base.specs.declared.place.Spot.{Spot}
-use Rattle.orca_base.specs.Glyphs.{empty}
-use Rattle.orca_op.specs.State.{State, peek}
+use Rattle.orca_base.specs.Glyphs.{bang, empty}
+use Rattle.orca_op.specs.State.{State, has_bang, peek}
 use Rattle.orca_op.specs.Deeds.{Deed, Mark, after, marks_after, span_deeds}
 use Rattle.orca_op.specs.Desk.{Desk, desk_after, desk_after_all, list_after}
 use Rattle.orca_op.specs.LawFacts.{desk_after_all-append}
@@ -200,3 +201,23 @@ pub peek_right : (s : State) (cells : List ℕ) (at : Place) (k first i read : �
     → IsInside s.dims at → at.x + k < MAX_COLUMNS → first ≡ at.y * MAX_COLUMNS + at.x → i ≡ first + k → read ≡ get_or cells i read → read ≡ peek s (right at k)
 peek_right s cells at k first i read size is outside whole inside wide number step shown =
     peek_cell s cells (right at k) at.y (at.x + k) i read size is outside whole (still at.y) refl (omega (arith, inside.row, size.few_rows)) wide (omega (arith, number, step)) shown
+
+-- ---- a bang beside a place
+
+-- a cell as a list shows it
+cell_shown : (s : State) (cells : List ℕ) (spot : Spot) (y x i : ℕ) → IsSize s.dims → s.cells ≡ by_place s.dims (glyph_in cells) → IsEmptyOutside s.dims cells → length cells ≡ MAX_CELLS
+    → spot.y ≡ pos y → spot.x ≡ pos x → y < MAX_ROWS → x < MAX_COLUMNS → i ≡ y * MAX_COLUMNS + x → slice_index cells i ≡ peek s spot
+cell_shown s cells spot y x i size is outside whole row column high wide number =
+    peek_cell s cells spot y x i (slice_index cells i) size is outside whole row column high wide number (sym (get_or_default cells i (slice_index cells i) 0 (omega (arith, whole, number, high, wide))))
+
+-- the four cells beside one at no edge
+pub bang_inner : (s : State) (cells : List ℕ) (at : Place) (i : ℕ) → IsSize s.dims → s.cells ≡ by_place s.dims (glyph_in cells) → IsEmptyOutside s.dims cells → length cells ≡ MAX_CELLS
+    → 0 < at.y → at.y + 1 < MAX_ROWS → 0 < at.x → at.x + 1 < MAX_COLUMNS → i ≡ at.y * MAX_COLUMNS + at.x
+    → ((slice_index cells (i - MAX_COLUMNS) == bang) || (slice_index cells (i - 1) == bang) || (slice_index cells (i + 1) == bang) || (slice_index cells (i + MAX_COLUMNS) == bang)) ≡ has_bang s at
+unfolding has_bang
+bang_inner s cells at i size is outside whole low high first last number =
+    let up = cell_shown s cells (above at) (at.y - 1) at.x (i - MAX_COLUMNS) size is outside whole (one_less at.y low) (still at.x) (omega (arith, high)) (omega (arith, last)) (omega (arith, number, low)) in
+    let back = cell_shown s cells (left at 1) at.y (at.x - 1) (i - 1) size is outside whole (still at.y) (one_less at.x first) (omega (arith, high)) (omega (arith, last)) (omega (arith, number, first)) in
+    let on = cell_shown s cells (right at 1) at.y (at.x + 1) (i + 1) size is outside whole (still at.y) refl (omega (arith, high)) last (omega (arith, number)) in
+    let down = cell_shown s cells (below at) (at.y + 1) at.x (i + MAX_COLUMNS) size is outside whole refl (still at.x) high (omega (arith, last)) (omega (arith, number)) in
+    rw (up, back, on, down) refl

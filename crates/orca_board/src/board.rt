@@ -1,4 +1,4 @@
-ghost use Rattle.std.specs.Prelude.{ℕ, All, true, ◌≤◌, ◌≡◌, ◌+◌, ◌*◌, ◌<◌, false, length, count_by, slice_index, slice_set, IfOk};
+ghost use Rattle.std.specs.Prelude.{ℕ, All, true, ◌≤◌, ◌≡◌, ◌==◌, ◌||◌, ◌+◌, ◌-◌, ◌*◌, ◌<◌, false, length, count_by, slice_index, slice_set, IfOk};
 ghost use Rattle.orca_base.specs.Areas.{IsArea};
 ghost use Rattle.orca_base.specs.Edits.{sheet_after_fill, sheet_after_put, sheet_after_move, sheet_after_resize};
 ghost use Rattle.orca_base.specs.Grids.{IsInside, IsSize, above, below, by_place, cells_of, is_inside, largest, left, right};
@@ -6,9 +6,9 @@ ghost use Rattle.orca_base.specs.declared.place.Place.{Place};
 ghost use Rattle.orca_board.specs.Listing.{places_of};
 ghost use Rattle.orca_board.specs.Sizes.{cut_places, desk_after_resize, desk_reverted, whole, with_sheet};
 ghost use Rattle.orca_board.specs.Blocks.{IsInLargest, desk_after_edit, fill_places, put_places, shift_places};
-ghost use Rattle.orca_base.specs.Glyphs.{AreGlyphs, IsGlyph, empty};
+ghost use Rattle.orca_base.specs.Glyphs.{AreGlyphs, IsGlyph, bang, empty};
 ghost use Rattle.orca_base.specs.MarkSet.{is_marked};
-ghost use Rattle.orca_base.specs.declared.limits.TheConstants.{MAX_CELLS};
+ghost use Rattle.orca_base.specs.declared.limits.TheConstants.{MAX_CELLS, MAX_COLUMNS};
 ghost use Rattle.orca_board.specs.Board.{AreLive, IsEmptyOutside, glyph_in, marks_in};
 ghost use Rattle.orca_op.specs.Live.{has_bit};
 ghost use Rattle.orca_op.specs.Desk.{changes_of, desk_of_sheet, is_listed};
@@ -365,8 +365,28 @@ fn renew(cells: &mut [Glyph], live: &mut LiveBits, i: usize, old: Glyph, glyph: 
     let _byte = glyph.byte();
     if glyph != old {
         glyph.put(cells, i);
-        live.set(i, glyph.is_operator());
+        let operator = glyph.is_operator();
+        if operator != old.is_operator() {
+            live.set(i, operator);
+        }
     }
+}
+
+/// Whether a bang stands above, at the left, at the right or below a cell that lies at no edge of the
+/// largest grid.
+fn bang_around(cells: &[Glyph], i: usize) -> bool
+    requires above { MAX_COLUMNS ≤ i }
+    requires below { i + MAX_COLUMNS < length cells.now }
+    ensures { result ≡ ((slice_index cells.now (i - MAX_COLUMNS) == bang)
+        || (slice_index cells.now (i - 1) == bang)
+        || (slice_index cells.now (i + 1) == bang)
+        || (slice_index cells.now (i + MAX_COLUMNS) == bang)) }
+{
+    let row = usize::from(MAX_COLUMNS);
+    cells[i - row] == Glyph::BANG
+        || cells[i - 1] == Glyph::BANG
+        || cells[i + 1] == Glyph::BANG
+        || cells[i + row] == Glyph::BANG
 }
 
 /// Ticks once for each place of a grid that is marked.
@@ -469,6 +489,10 @@ impl Bench for Board {
     #[tactic(auto, unfolding(orca_op::specs::State::has_bang))]
     fn beside_bang<L: Ledger>(&self, at: Place, steps: &mut Steps<L>) -> bool {
         tick_times(4, steps);
+        let cells = &self.cells;
+        if at.y > 0 && at.y < MAX_ROWS - 1 && at.x > 0 && at.x < MAX_COLUMNS - 1 {
+            return bang_around(cells, Dims::largest().index(at));
+        }
         self.above(at) == Glyph::BANG
             || self.left(at) == Glyph::BANG
             || self.right(at) == Glyph::BANG

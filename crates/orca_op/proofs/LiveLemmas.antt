@@ -133,7 +133,7 @@ ahead_of bit few =
     rw (ones_shl 64 bit (omega (arith, few))) (omega (arith, low, pow_pos bit, pow_more 2 bit))
 
 -- it stands behind a bit of a word
-pub cursor_behind : (word bit ahead : ℕ) → bit < 64 → ahead ≡ 2 ^ 64 - 2 ^ (bit + 1) → IsCursor (word * 64 + bit + 1) word ahead
-cursor_behind word bit ahead few bits =
-    let same : word * 64 + bit + 1 - word * 64 ≡ bit + 1 = omega arith in
-    record { word = omega (arith, few); bits = rw same bits }
+pub cursor_behind : (word base bit ahead : ℕ) → bit < 64 → base ≡ word * 64 → ahead ≡ 2 ^ 64 - 2 ^ (bit + 1) → IsCursor (base + bit + 1) word base ahead
+cursor_behind word base bit ahead few first bits =
+    let same : base + bit + 1 - word * 64 ≡ bit + 1 = omega (arith, first) in
+    record { word = omega (arith, few, first); base = first; bits = rw same bits }

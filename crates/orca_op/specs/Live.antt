@@ -34,6 +34,7 @@ IsLeastBit word from (Some bit) =
     (from ≤ bit) × (bit < WORD_COLUMNS) × (bit_at word bit ≡ 1) × ((k : ℕ) → from ≤ k → k < bit → bit_at word k ≡ 0)
 
 -- a cursor before a column has reached the word of the column before it, and its bits from the column on lie ahead
-pub record IsCursor (column reached ahead : ℕ) : Type 0 where
+pub record IsCursor (column reached first ahead : ℕ) : Type 0 where
   pub word : reached ≡ (column - 1) / WORD_COLUMNS
+  pub base : first ≡ reached * WORD_COLUMNS
   pub bits : ahead ≡ 2 ^ 64 - 2 ^ (column - reached * WORD_COLUMNS)

@@ -16,6 +16,8 @@ use std::sync::ledger::Ledger;
 pub struct Cursor {
     column: u16,
     word: usize,
+    /// The column of the word's first bit.
+    base: u16,
     /// The bits of the word that stand for the column and for those at its right.
     ahead: u64,
 }
@@ -28,7 +30,7 @@ impl Model for Cursor {
 
     ghost view = { λ c. c.column };
 
-    ghost invariant = { λ c. IsCursor c.column c.word c.ahead };
+    ghost invariant = { λ c. IsCursor c.column c.word c.base c.ahead };
 }
 
 impl Cursor {
@@ -39,6 +41,7 @@ impl Cursor {
         Cursor {
             column: 0,
             word: 0,
+            base: 0,
             ahead: u64::MAX,
         }
     }
@@ -73,32 +76,36 @@ impl Cursor {
         ensures behind { IfSome result (λ x. self.new ≡ x + 1) }
     {
         let first = self.word;
+        let base = self.base;
         // Most operators stand in the word of the one before, so it is looked at apart from the others.
         let bits = words[first] & self.ahead;
         if bits != 0 {
-            return Some(self.stop(first, bits));
+            return Some(self.stop(first, base, bits));
         }
         for i in first + 1..words.len() {
             if words[i] != 0 {
-                return Some(self.stop(i, words[i]));
+                return Some(self.stop(i, i as u16 * WORD_COLUMNS, words[i]));
             }
         }
         None
     }
 
-    /// The column of the least bit of a word. The cursor then stands behind it.
+    /// The column of the least bit of a word, whose first bit stands for the column `base`. The cursor then
+    /// stands behind it.
     #[inline(always)]
-    fn stop(&mut self, word: usize, bits: u64) -> u16
+    fn stop(&mut self, word: usize, base: u16, bits: u64) -> u16
         requires some { 0 < bits }
         requires few { word < MAX_COLUMNS }
+        requires base { base ≡ word * WORD_COLUMNS }
         ensures column { result ≡ word * WORD_COLUMNS + trailing_zeros w64 bits }
         ensures behind { self.new ≡ result + 1 }
     {
         let bit = bits.trailing_zeros();
-        let column = word as u16 * WORD_COLUMNS + bit as u16;
+        let column = base + bit as u16;
         *self = Cursor {
             column: column + 1,
             word,
+            base,
             ahead: (u64::MAX << bit) << 1,
         };
         column
