@@ -1,14 +1,13 @@
-ghost use Rattle.std.specs.Prelude.{◌≡◌, ◌+◌, ◌*◌, ◌<◌, slice_index};
+ghost use Rattle.std.specs.Prelude.{◌≡◌, ◌+◌, ◌*◌, ◌<◌};
 ghost use Rattle.orca_base.specs.declared.limits.TheConstants.{BASE};
 ghost use Rattle.orca_op.specs.declared.kind.Kind.TheVariants.{Generator as generator_kind};
 ghost use Rattle.orca_op.specs.Deeds.{each};
 ghost use Rattle.orca_op.specs.Desk.{desk_after_all};
-ghost use Rattle.orca_op.specs.GridRules.{generate_one};
+ghost use Rattle.ops_grid.specs.Each.{generate_at};
 ghost use Rattle.ops_grid.specs.GridLaws.{lawful-generator};
 
-use crate::span::{self, ROOM};
 use orca_base::{Glyph, Now, Place, Steps};
-use orca_op::{Bench, Operator, Span};
+use orca_op::{Bench, Operator};
 use std::sync::ledger::Ledger;
 
 /// `G`: writes operands with an offset.
@@ -38,33 +37,33 @@ impl Operator for Generator {
         let x = bench.peek(at.left(3), steps).value();
         let y = bench.peek(at.left(2), steps).value();
         let length = bench.peek(at.left(1), steps).value();
-        let operands = span::read(bench, at, Span { y: 0, x: 1, length }, steps);
         bench.param(at.left(3), steps);
         bench.param(at.left(2), steps);
         bench.param(at.left(1), steps);
-        generate(bench, at, y, x, length, &operands, steps);
+        generate(bench, at, y, x, length, steps);
     }
 }
 
-/// Writes the first `length` operands at the target.
+/// Writes the first `length` operands at the target. The operands stand in a row above it, so each is read
+/// as it was before the first was written.
 fn generate<B: Bench, L: Ledger>(
     bench: &mut B,
     at: Place,
     y: u8,
     x: u8,
     length: u8,
-    operands: &[Glyph; ROOM],
     steps: &mut Steps<L>,
 )
-    requires { length < BASE }
-    ensures deeds { B.desk bench.new ≡ desk_after_all (B.desk bench.old)
-        (each length (λ i. generate_one at y x i (slice_index operands.now i))) }
-    ensures ticks { steps.new ≡ steps.old + 3 * length }
+    requires { (y < BASE) × (x < BASE) × (length < BASE) }
+    ensures deeds { B.desk bench.new
+        ≡ desk_after_all (B.desk bench.old) (each length (generate_at (B.desk bench.old).scan at y x)) }
+    ensures ticks { steps.new ≡ steps.old + 4 * length }
 {
     for i in 0..length {
         let target = at.off(i32::from(y) + 1, i32::from(x) + i32::from(i));
+        let operand = bench.peek(at.right(u16::from(i) + 1), steps);
         bench.input(at.right(u16::from(i) + 1), steps);
         bench.far(target, steps);
-        bench.write(target, operands[usize::from(i)], steps);
+        bench.write(target, operand, steps);
     }
 }

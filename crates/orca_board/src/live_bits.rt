@@ -56,7 +56,8 @@ impl LiveBits {
             → has_bit result.now x ≡ has_bit self.now (row * MAX_COLUMNS + x) }
     {
         let first = usize::from(row) * ROW_WORDS;
-        let many = usize::from(w + (WORD_COLUMNS - 1)) / usize::from(WORD_COLUMNS);
+        let columns = usize::from(WORD_COLUMNS);
+        let many = (usize::from(w) + (columns - 1)) / columns;
         &self.words[first..first + many]
     }
 }

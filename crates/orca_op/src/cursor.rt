@@ -17,7 +17,7 @@ pub struct Cursor {
     column: u16,
     word: usize,
     /// The column of the word's first bit.
-    base: u16,
+    base: usize,
     /// The bits of the word that stand for the column and for those at its right.
     ahead: u64,
 }
@@ -84,7 +84,7 @@ impl Cursor {
         }
         for i in first + 1..words.len() {
             if words[i] != 0 {
-                return Some(self.stop(i, i as u16 * WORD_COLUMNS, words[i]));
+                return Some(self.stop(i, i * usize::from(WORD_COLUMNS), words[i]));
             }
         }
         None
@@ -93,7 +93,7 @@ impl Cursor {
     /// The column of the least bit of a word, whose first bit stands for the column `base`. The cursor then
     /// stands behind it.
     #[inline(always)]
-    fn stop(&mut self, word: usize, base: u16, bits: u64) -> u16
+    fn stop(&mut self, word: usize, base: usize, bits: u64) -> u16
         requires some { 0 < bits }
         requires few { word < MAX_COLUMNS }
         requires base { base ≡ word * WORD_COLUMNS }
@@ -101,7 +101,7 @@ impl Cursor {
         ensures behind { self.new ≡ result + 1 }
     {
         let bit = bits.trailing_zeros();
-        let column = base + bit as u16;
+        let column = (base + bit as usize) as u16;
         *self = Cursor {
             column: column + 1,
             word,

@@ -1,10 +1,9 @@
-use Rattle.std.proofs.Common.{arith}
-use Rattle.std.proofs.lemmas.Grind.{common_steps}
-use Rattle.orca_op.specs.LawFacts.{desk_after_all-each_more}
+use Rattle.std.proofs.Common.{arith, rules}
+use Rattle.ops_grid.proofs.RowLemmas.{generate_more}
 use Rattle.ops_grid.proofs.generator.generate.Goals as goal
 
 pub loop-i-preserved : goal.loop-i-preserved
 loop-i-preserved g c = record {
-  deeds = rw desk_after_all-each_more (grind (arith, common_steps));
+  deeds = generate_more _ _ _ c.args.at c.args.y c.args.x c.loop-i.i c.loop-i.invariant.deeds (search rules);
   ticks = omega arith;
 }

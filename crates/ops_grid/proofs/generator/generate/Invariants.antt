@@ -1,13 +1,12 @@
-use Rattle.std.proofs.Common.{◌≡◌, ◌+◌, ◌*◌, slice_index}
+use Rattle.std.proofs.Common.{◌≡◌, ◌+◌, ◌*◌}
 use Rattle.orca_op.specs.Deeds.{each}
 use Rattle.orca_op.specs.Desk.{desk_after_all}
-use Rattle.orca_op.specs.GridRules.{generate_one}
+use Rattle.ops_grid.specs.Each.{generate_at}
 use Rattle.ops_grid.proofs.generator.generate.Given as goal
 
+-- the places that were passed are done
 abbrev pub invariant-loop-i : goal.invariant-loop-i
 invariant-loop-i g l = record {
-  deeds : g.B.Bench.desk l.bench
-      ≡ desk_after_all (g.B.Bench.desk l.initial.bench)
-      (each l.i (λ i. generate_one l.at l.y l.x i (slice_index l.operands i)));
-  ticks : l.steps ≡ l.initial.steps + 3 * l.i;
+  deeds : g.B.Bench.desk l.bench ≡ desk_after_all (g.B.Bench.desk l.initial.bench) (each l.i (generate_at (g.B.Bench.desk l.initial.bench).scan l.at l.y l.x));
+  ticks : l.steps ≡ l.initial.steps + 4 * l.i;
 }

@@ -1,11 +1,10 @@
 use Rattle.std.proofs.Common.{arith}
-use Rattle.std.proofs.lemmas.Grind.{common_steps}
-use Rattle.orca_op.specs.LawFacts.{desk_after_all-each_more}
+use Rattle.ops_grid.proofs.RowLemmas.{konkat_more}
 use Rattle.ops_grid.proofs.konkat.concatenate.Goals as goal
 
 pub loop-i-preserved : goal.loop-i-preserved
 loop-i-preserved g c = record {
-  deeds = rw desk_after_all-each_more (grind (arith, common_steps));
+  deeds = konkat_more _ _ _ c.args.at c.loop-i.i c.loop-i.invariant.deeds c.write_below.ensures.deeds;
   ticks = omega arith;
   later = omega arith;
 }

@@ -1,22 +1,34 @@
-use Rattle.std.proofs.Common.{◌≡◌, ℕ, ◌+◌, slice_index, rules}
+use Rattle.std.proofs.Common.{◌≡◌, ap, ◌∙◌}
 use Rattle.orca_base.specs.Glyphs.{value}
-use Rattle.orca_op.specs.State.{peek}
 use Rattle.orca_base.specs.Grids.{left, right}
-use Rattle.orca_op.specs.GridRules.{generate_one}
-use Rattle.orca_op.specs.LawFacts.{each-by}
+use Rattle.orca_op.specs.Deeds.{each, param_at}
+use Rattle.orca_op.specs.Desk.{Desk, desk_after, desk_after_all}
+use Rattle.orca_op.specs.State.{peek}
+use Rattle.ops_grid.specs.Each.{generate_at}
+use Rattle.ops_grid.proofs.RowLemmas.{generate-same, peek-marked}
 use Rattle.ops_grid.proofs.generator.GeneratorOperator.act.Goals as goal
 
 pub returns-clause-deeds : goal.returns-clause-deeds
 returns-clause-deeds g c =
-    let s = (g.B.Bench.desk c.args.bench.now).scan in
+    let d = g.B.Bench.desk c.args.bench.now in
+    let once = g.B.Bench.desk c.param.new.self in
+    let twice = g.B.Bench.desk c.param-2.new.self in
+    let marked = g.B.Bench.desk c.param-3.new.self in
     let at = c.args.at in
+    let first = rw c.left-4.ensures at c.param.ensures.deed in
+    let second = rw c.left-5.ensures at c.param-2.ensures.deed in
+    let third = rw c.left-6.ensures at c.param-3.ensures.deed in
     let x = c.value-x.result in
     let y = c.value-y.result in
     let length = c.value-length.result in
-    let x_is : x ≡ value (peek s (left at 3)) = cc in
-    let y_is : y ≡ value (peek s (left at 2)) = cc in
-    let length_is : length ≡ value (peek s (left at 1)) = cc in
-    let same = each-by length (λ (i glyph : ℕ). generate_one at y x i glyph)
-    (λ (i : ℕ). slice_index c.read-operands.result i) (λ (i : ℕ). peek s (right at (i + 1)))
-    c.read-operands.ensures.glyphs in
-    rw (← x_is, ← y_is, ← length_is, ← same) (search rules)
+    let x_is : x ≡ value (peek d.scan (left at 3)) = cc in
+    let y_is : y ≡ value (peek d.scan (left at 2)) = cc in
+    let length_is : length ≡ value (peek d.scan (left at 1)) = cc in
+    let same = generate-same d.scan marked.scan at y x length
+    (λ k.
+    peek-marked twice marked _ (right at k) _ third
+    ∙ (peek-marked once twice _ (right at k) _ second ∙ peek-marked d once _ (right at k) _ first)) in
+    let ports = third
+    ∙ ap (λ (e : Desk). desk_after e (param_at (left at 1))) (second ∙ ap (λ (e : Desk). desk_after e (param_at (left at 2))) first) in
+    rw (← x_is, ← y_is, ← length_is)
+    (c.generate.ensures.deeds ∙ (ap (desk_after_all marked) same ∙ ap (λ (e : Desk). desk_after_all e (each length (generate_at d.scan at y x))) ports))
