@@ -12,7 +12,10 @@ use orca_base::{Dims, Event, Glyph, Mark, Marks, Place, Spot, Steps};
 use std::sync::ledger::Ledger;
 
 /// Where a frame is worked: the grid with its marks, variables and events. Each call but `dims` ticks
-/// once, and `begin` once more for each marked place and for each listed one. No call takes memory.
+/// once, and `begin` once more for each marked place and for each listed one. A call that stands for several
+/// ticks as they do. No call takes memory.
+///
+/// The calls that stand for others have bodies, and a bench that can do them faster has its own.
 pub trait Bench {
     /// The state of the scan, the grid at the last `begin`, and the places that were written since.
     ghost desk: { Self → Desk };
