@@ -4,3 +4,4 @@ mod blocks;
 mod live;
 mod plain;
 mod sizes;
+mod spans;

@@ -16,7 +16,8 @@ use orca_base::{Glyph, Now, Place, Steps};
 use orca_op::{Bench, Kind, Operator};
 use std::sync::ledger::Ledger;
 
-/// Does the deeds of the operator that the glyph stands for, and nothing where it is none.
+/// Does the deeds of the operator that the glyph stands for, and nothing where it is none. It stands apart, so
+/// that the walk of a row keeps its registers.
 #[tactic(auto, unfolding(orca_op::specs::Rules::rule))]
 #[inline(never)]
 pub(crate) fn act<B: Bench, L: Ledger>(
