@@ -1,0 +1,79 @@
+ghost use Rattle.std.specs.Prelude.{◌≡◌, ◌<◌, ◌++◌, [], ◌∷◌, OnOk};
+ghost use Rattle.std.specs.Fmt.{decimal};
+ghost use Rattle.std.specs.List.{flat_map};
+ghost use Rattle.orca_send.specs.Lines.{hex_digit, hex_byte, label_of, line_of};
+
+use orca_base::{Memory, Port};
+
+/// What a line of a message begins with.
+#[derive(Clone, Copy, Debug, PartialEq, Eq)]
+pub enum Label {
+    /// The tick of the frame.
+    Tick(u32),
+    /// The messages of the close.
+    End,
+}
+
+/// Makes `line` the line of a message's port and bytes.
+#[tactic(auto, unfolding(crate::specs::Lines::line_of))]
+pub fn write_line(
+    line: &mut Vec<u8>,
+    label: Label,
+    port: Port,
+    bytes: &[u8],
+) -> Result<(), Memory>
+    ensures { OnOk result (line.new.items ≡ line_of label (record { port = port; bytes = bytes.now })) }
+{
+    line.clear();
+    push_label(line, label)?;
+    line.push(b' ')?;
+    line.extend_from_slice(port.name().as_bytes())?;
+    push_hex(line, bytes)?;
+    line.push(b'\n')?;
+    Ok(())
+}
+
+/// Appends the label.
+fn push_label(line: &mut Vec<u8>, label: Label) -> Result<(), Memory>
+    ensures { OnOk result (line.new.items ≡ line.old.items ++ label_of label) }
+{
+    match label {
+        Label::Tick(tick) => push_decimal(line, tick),
+        Label::End => {
+            line.extend_from_slice(b"end")?;
+            Ok(())
+        }
+    }
+}
+
+/// Appends a number in decimal digits.
+#[tactic(auto, using(std::proofs::lemmas::Fmt::decimal_digit))]
+pub fn push_decimal(line: &mut Vec<u8>, n: u32) -> Result<(), Memory>
+    ensures { OnOk result (line.new.items ≡ line.old.items ++ decimal n) }
+{
+    if n < 10 {
+        line.push(b'0' + n as u8)?;
+        return Ok(());
+    }
+    push_decimal(line, n / 10)?;
+    line.push(b'0' + (n % 10) as u8)?;
+    Ok(())
+}
+
+/// Appends a space and two hexadecimal digits for each byte.
+fn push_hex(line: &mut Vec<u8>, bytes: &[u8]) -> Result<(), Memory>
+    ensures { OnOk result (line.new.items ≡ line.old.items ++ flat_map hex_byte bytes.now) }
+{
+    for byte in bytes {
+        line.extend_from_slice(&[b' ', hex_digit(byte / 16), hex_digit(byte % 16)])?;
+    }
+    Ok(())
+}
+
+/// The upper-case hexadecimal digit of a value below 16.
+fn hex_digit(n: u8) -> u8
+    requires { n < 16 }
+    ensures { result ≡ hex_digit n }
+{
+    if n < 10 { b'0' + n } else { b'A' + (n - 10) }
+}
