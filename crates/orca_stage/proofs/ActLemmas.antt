@@ -1,0 +1,26 @@
+-- Acts after acts, and what is read off them.
+use Rattle.std.proofs.Common.{◌≡◌, List, [], ◌∷◌, ◌++◌, refl, ap}
+use Rattle.orca_base.specs.Ports.{Sent}
+use Rattle.orca_stage.specs.Acts.{Act, given, gives, stand_after}
+use Rattle.orca_stage.specs.Acts.Act.{Give, Stand}
+use Rattle.orca_stage.specs.Standings.{Standing}
+
+pub given-append : (xs ys : List Act) → given (xs ++ ys) ≡ given xs ++ given ys
+given-append [] ys = refl
+given-append (Give sent ∷ xs) ys = ap (λ (sends : List Sent). sent ∷ sends) (given-append xs ys)
+given-append (_ ∷ xs) ys = given-append xs ys
+
+pub stand_after-append : (s : Standing) (xs ys : List Act)
+    → stand_after s (xs ++ ys) ≡ stand_after (stand_after s xs) ys
+stand_after-append s [] ys = refl
+stand_after-append s (Stand t ∷ xs) ys = stand_after-append t xs ys
+stand_after-append s (_ ∷ xs) ys = stand_after-append s xs ys
+
+pub given-gives : (sends : List Sent) → given (gives sends) ≡ sends
+given-gives [] = refl
+given-gives (sent ∷ sends) = ap (λ (more : List Sent). sent ∷ more) (given-gives sends)
+
+-- a send leaves a run where it stands
+pub stand_after-gives : (s : Standing) (sends : List Sent) → stand_after s (gives sends) ≡ s
+stand_after-gives s [] = refl
+stand_after-gives s (sent ∷ sends) = stand_after-gives s sends

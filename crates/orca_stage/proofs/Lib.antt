@@ -1,0 +1,5 @@
+pub mod ActLemmas
+pub mod FollowLemmas
+pub mod RunLemmas
+pub mod PlanLemmas
+pub mod CommandLemmas

@@ -1,0 +1,54 @@
+-- What a run does on the outside, in order, and what is read off it.
+use Rattle.std.specs.Prelude.{List, [], ◌∷◌, map}
+use Rattle.orca_base.specs.Ports.{Sent}
+use Rattle.orca_rig.specs.Arrived.{Poll}
+use Rattle.orca_rig.specs.Handed.{Attached}
+use Rattle.orca_rig.specs.Outside.{Ask}
+use Rattle.orca_stage.specs.Standings.{Standing}
+
+-- one call on the outside; and, between calls, where the run stands
+pub data Act : Type 0 where
+  -- a port is attached to a name
+  Attach : Attached → Act
+  -- a file is loaded or saved
+  Store : Ask → Act
+  -- a poll of the inbox, with its answer
+  Await : Poll → Act
+  -- bytes are given to a port
+  Give : Sent → Act
+  -- the run stands so, between two commands; no call
+  Stand : Standing → Act
+
+-- the sends among acts
+abbrev pub given : List Act → List Sent
+given [] = []
+given (Give sent ∷ acts) = sent ∷ given acts
+given (_ ∷ acts) = given acts
+
+-- the attached ports among acts
+abbrev pub attached_in : List Act → List Attached
+attached_in [] = []
+attached_in (Attach attached ∷ acts) = attached ∷ attached_in acts
+attached_in (_ ∷ acts) = attached_in acts
+
+-- the loads and saves among acts
+abbrev pub asked_in : List Act → List Ask
+asked_in [] = []
+asked_in (Store ask ∷ acts) = ask ∷ asked_in acts
+asked_in (_ ∷ acts) = asked_in acts
+
+-- the polls among acts
+abbrev pub polls_in : List Act → List Poll
+polls_in [] = []
+polls_in (Await poll ∷ acts) = poll ∷ polls_in acts
+polls_in (_ ∷ acts) = polls_in acts
+
+-- where a run stands after acts
+abbrev pub stand_after : Standing → List Act → Standing
+stand_after s [] = s
+stand_after s (Stand t ∷ acts) = stand_after t acts
+stand_after s (_ ∷ acts) = stand_after s acts
+
+-- these sends, one by one
+abbrev pub gives : List Sent → List Act
+gives = map Give

@@ -1,0 +1,6 @@
+pub mod Acts
+pub mod Following
+pub mod Manners
+pub mod Plans
+pub mod Runs
+pub mod Standings
