@@ -32,7 +32,8 @@ label_of End = codes "end"
 
 -- the label, the port and the bytes
 unfoldable pub line_of : Label → Sent → List ℕ
-line_of label sent = label_of label ++ space ∷ port_name sent.port ++ flat_map hex_byte sent.bytes ++ line_feed ∷ []
+line_of label sent =
+    label_of label ++ space ∷ port_name sent.port ++ flat_map hex_byte sent.bytes ++ line_feed ∷ []
 
 -- the line of a message, on the text port
 abbrev pub line_sent : Label → Message → Sent

@@ -16,13 +16,9 @@ pub enum Label {
 
 /// Makes `line` the line of a message's port and bytes.
 #[tactic(auto, unfolding(crate::specs::Lines::line_of))]
-pub fn write_line(
-    line: &mut Vec<u8>,
-    label: Label,
-    port: Port,
-    bytes: &[u8],
-) -> Result<(), Memory>
-    ensures { OnOk result (line.new.items ≡ line_of label (record { port = port; bytes = bytes.now })) }
+pub fn write_line(line: &mut Vec<u8>, label: Label, port: Port, bytes: &[u8]) -> Result<(), Memory>
+    ensures { OnOk result (line.new.items
+        ≡ line_of label (record { port = port; bytes = bytes.now })) }
 {
     line.clear();
     push_label(line, label)?;

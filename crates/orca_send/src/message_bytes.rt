@@ -4,7 +4,8 @@ ghost use Rattle.orca_send.specs.Sending.{sent_of};
 
 use orca_base::{Message, Port, Wire};
 
-/// Writes the bytes of a message, as MIDI 1.0 and OSC 1.0 have them, and answers the port that they go to.
+/// Writes the bytes of a message, as MIDI 1.0 and OSC 1.0 have them, and answers the port that they
+/// go to.
 pub fn wire(message: &Message, into: &mut Wire) -> Port
     requires empty { into.old ≡ [] }
     requires in_range { HasDataInRange message.now }

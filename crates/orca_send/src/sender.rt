@@ -69,12 +69,7 @@ impl Sender {
     }
 
     /// Sends the bytes to a port, as one piece. A failure is recorded, and nothing is sent again.
-    pub fn send<O: Outs>(
-        &mut self,
-        outs: &mut O,
-        port: Port,
-        bytes: &[u8],
-    ) -> Result<(), NoMemory>
+    pub fn send<O: Outs>(&mut self, outs: &mut O, port: Port, bytes: &[u8]) -> Result<(), NoMemory>
         ensures says { Says (record { port = port; bytes = bytes.now } ∷ [])
             result (O.handed outs.old) (O.handed outs.new) }
         ensures recorded { RecordsFaults
@@ -162,12 +157,7 @@ impl Sender {
 }
 
 /// Sends the bytes. A failure is recorded.
-fn give<O: Outs>(
-    outs: &mut O,
-    failed: &mut bool,
-    port: Port,
-    bytes: &[u8],
-) -> Result<(), NoMemory>
+fn give<O: Outs>(outs: &mut O, failed: &mut bool, port: Port, bytes: &[u8]) -> Result<(), NoMemory>
     ensures says { Says (record { port = port; bytes = bytes.now } ∷ [])
         result (O.handed outs.old) (O.handed outs.new) }
     ensures recorded { RecordsFaults failed.old failed.new (O.faults outs.old) (O.faults outs.new) }
@@ -185,11 +175,7 @@ fn give<O: Outs>(
 }
 
 /// Sends a message.
-fn give_message<O: Outs>(
-    outs: &mut O,
-    failed: &mut bool,
-    message: &Message,
-) -> Result<(), NoMemory>
+fn give_message<O: Outs>(outs: &mut O, failed: &mut bool, message: &Message) -> Result<(), NoMemory>
     requires in_range { HasDataInRange message.now }
     requires few_values { CarriesFewValues message.now }
     ensures says { Says (sent_of message.now ∷ [])
