@@ -1,7 +1,7 @@
 -- What a session does with a command: the rules in their order, and each kind of command.
-use Rattle.std.proofs.Common.{◌≡◌, ℕ, ◌+◌, ◌<◌, ◌≤◌, Bool, true, false, List, [], ◌∷◌, ◌++◌, length, take, min, max, Some, None, Ok, Err, refl, arith, ap, sym, ◌∙◌, inl, inr}
-use Rattle.std.specs.Prelude.{Option, ◌&&◌, nat_le, IfSome, IsSome, is_none}
-use Rattle.std.specs.Option.{option_map, option_map_or}
+use Rattle.std.proofs.Common.{◌≡◌, ℕ, ◌<◌, true, false, List, [], ◌∷◌, ◌++◌, length, take, Some, None, Ok, Err, refl, ap, sym, ◌∙◌, inl, inr}
+use Rattle.std.specs.Prelude.{Option, IfSome, IsSome, is_none}
+use Rattle.std.specs.Option.{option_map}
 use Rattle.std.proofs.lemmas.Bool.{cases_Bool, leb-false}
 use Rattle.orca_base.specs.declared.area.Area.{Area}
 use Rattle.orca_base.specs.declared.command.Command.{Command}
@@ -16,8 +16,8 @@ use Rattle.orca_base.specs.declared.command.Rule.TheVariants.{HistoryFull, NoSuc
 use Rattle.orca_base.specs.Edits.{block_of}
 use Rattle.orca_base.specs.Grids.{Size, Sheet}
 use Rattle.orca_base.specs.Histories.{last_edit}
-use Rattle.orca_edit.specs.Editing.{IsEditing, IsGridEdit, IsPaste}
-use Rattle.orca_edit.specs.Machines.{IsGivenUp, Obeys, goes_back, obeyed}
+use Rattle.orca_edit.specs.Editing.{IsGridEdit}
+use Rattle.orca_edit.specs.Machines.{Obeys, goes_back, obeyed}
 use Rattle.orca_edit.specs.Obeying.{MachineState, Test, accept, adds_entry, block_rule, block_tests, carry_out, clip_after, entry_of, extend, first_standing, has_no_room, history_tests, jump, obey, piece_of, refuse, reply_of, rule_against, taken_area, test, undoes_nothing, rewinds_too_far}
 use Rattle.orca_edit.specs.Pieces.{Piece, apply}
 use Rattle.orca_session.specs.Session.{IsBlockEdit, clip_with}

@@ -1,13 +1,13 @@
 -- The past of a session: what a push and a jump keep, and how a board goes back.
 use Rattle.std.proofs.Common.{◌≡◌, ℕ, ◌+◌, ◌-◌, ◌<◌, ◌≤◌, List, [], ◌∷◌, ◌++◌, length, take, min, max, Some, None, refl, arith, ap, sym, ◌∙◌, inl, inr, subst, length-append}
-use Rattle.std.specs.Prelude.{slice_get, nat_lt}
+use Rattle.std.specs.Prelude.{slice_get}
 use Rattle.std.proofs.lemmas.Bool.{cases_lt, lt-ltb}
 use Rattle.std.proofs.lemmas.List.{length-take-le, take-append-le, take-take, take_all}
 use Rattle.orca_base.specs.declared.change.Change.{Change}
 use Rattle.orca_base.specs.declared.command.Entry.{Entry}
 use Rattle.orca_base.specs.declared.command.Entry.TheVariants.{Hush}
 use Rattle.orca_base.specs.Grids.{Size, Sheet, IsSheet}
-use Rattle.orca_edit.specs.Editing.{AllFit, FitsIn}
+use Rattle.orca_edit.specs.Editing.{FitsIn}
 use Rattle.orca_edit.specs.Pieces.{Piece, apply, opened_piece, piece_after, silence}
 use Rattle.orca_edit.proofs.FitLemmas.{AllFit-push, AllFit-take, fits-moment}
 use Rattle.orca_edit.proofs.FoldLemmas.{apply-same, piece_after-closed, piece_after-hush, piece_after-next, piece_after-push, piece_after-zero, seed-fold_entries, silence-closes, silence-piece_after, tick-piece_after}
@@ -17,7 +17,7 @@ use Rattle.orca_op.specs.Desk.{Desk, IsDesk, changes_of}
 use Rattle.orca_op.specs.State.{sheet_of}
 use Rattle.orca_patch.specs.Patches.{Before, CoversCut, before_of, no_change, sheet_before}
 use Rattle.orca_patch.proofs.Inverse.{covers-cut, covers-no_change, sheet-back, sheet-no_change}
-use Rattle.orca_session.specs.Past.{PastState, IsPast, KeepsPatches, Undoes, moment_of, past_closed, past_jumped, past_pushed, present}
+use Rattle.orca_session.specs.Past.{PastState, IsPast, Undoes, moment_of, past_closed, past_jumped, past_pushed, present}
 
 -- ---- moments
 

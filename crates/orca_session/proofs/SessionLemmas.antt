@@ -1,5 +1,5 @@
 -- What the calls of a session leave, seen by its parts.
-use Rattle.std.proofs.Common.{◌≡◌, ℕ, ◌+◌, Bool, true, false, List, [], ◌∷◌, ◌++◌, Some, None, Ok, Err, refl, ap, sym, ◌∙◌, subst}
+use Rattle.std.proofs.Common.{◌≡◌, ℕ, false, List, [], Some, None, Ok, Err, refl, ap, sym, ◌∙◌, subst}
 use Rattle.std.specs.Prelude.{Option, Result, All, IsSome, is_none}
 use Rattle.std.proofs.lemmas.List.Elements.{All-nil}
 use Rattle.orca_base.specs.declared.command.Command.{Command}
@@ -15,7 +15,7 @@ use Rattle.orca_base.specs.declared.note.Note.{Note}
 use Rattle.orca_base.specs.Grids.{Sheet}
 use Rattle.orca_base.specs.Ranges.{CarriesFewValues}
 use Rattle.orca_edit.specs.Machines.{Acts, Obeys, goes_back, obeyed}
-use Rattle.orca_edit.specs.Obeying.{MachineState, jump, obey, piece_of, rule_against}
+use Rattle.orca_edit.specs.Obeying.{MachineState, jump, piece_of, rule_against}
 use Rattle.orca_edit.specs.Pieces.{Piece, apply, opened_piece}
 use Rattle.orca_edit.proofs.FoldLemmas.{piece_after-zero}
 use Rattle.orca_notes.specs.Device.{Plays}

@@ -1,5 +1,5 @@
 -- The past of a session: the opened grid, what was done since, and the patches of the newest of it.
-use Rattle.std.specs.Prelude.{ℕ, ◌+◌, ◌<◌, ◌≤◌, ◌≡◌, List, [], ◌∷◌, length, take, min, max, Option, Some}
+use Rattle.std.specs.Prelude.{ℕ, ◌+◌, ◌<◌, ◌≤◌, ◌≡◌, length, take, min, max, Option, Some}
 use Rattle.orca_base.specs.declared.command.Entry.{Entry}
 use Rattle.orca_base.specs.Grids.{Sheet}
 use Rattle.orca_edit.specs.Editing.{AllFit}

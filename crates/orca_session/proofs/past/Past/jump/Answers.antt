@@ -1,6 +1,6 @@
 use Rattle.std.proofs.Common.{◌≡◌, ◌<◌, length, ap, sym, ◌∙◌, subst}
 use Rattle.orca_base.specs.Grids.{Size}
-use Rattle.orca_history.specs.Trails.{IsTrail, trail_jumped}
+use Rattle.orca_history.specs.Trails.{IsTrail}
 use Rattle.orca_op.specs.State.{sheet_of}
 use Rattle.orca_patch.specs.Patches.{Before, no_change}
 use Rattle.orca_session.specs.Past.{IsPast, PastState, Undoes, moment_of, past_jumped, present}

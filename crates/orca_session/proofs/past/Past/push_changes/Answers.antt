@@ -1,4 +1,4 @@
-use Rattle.std.proofs.Common.{◌≡◌, List, max, length, ◌+◌, arith, ap, sym, ◌∙◌, subst}
+use Rattle.std.proofs.Common.{◌≡◌, List, max, arith, ap, sym, ◌∙◌, subst}
 use Rattle.std.specs.Prelude.{All}
 use Rattle.std.specs.List.{IsDistinct}
 use Rattle.orca_base.specs.declared.change.Change.{Change}

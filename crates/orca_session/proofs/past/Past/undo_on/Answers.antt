@@ -1,5 +1,5 @@
 use Rattle.std.proofs.Common.{◌≡◌, length, arith, ap, sym, ◌∙◌}
-use Rattle.orca_session.specs.Past.{PastState, Undoes, moment_of}
+use Rattle.orca_session.specs.Past.{PastState, moment_of}
 use Rattle.orca_session.specs.Views.{past_of}
 use Rattle.orca_session.proofs.PastLemmas.{covers-grid, sheet-present, sheet-undone, undoes-kept}
 use Rattle.orca_session.proofs.past.Past.undo_on.Goals as goal

@@ -1,4 +1,4 @@
-use Rattle.std.proofs.Common.{◌≡◌, Some, sym, ◌∙◌, subst}
+use Rattle.std.proofs.Common.{subst}
 use Rattle.std.specs.Prelude.{IfSome, Option}
 use Rattle.orca_base.specs.declared.command.Entry.{Entry}
 use Rattle.orca_edit.specs.Editing.{IsGridEdit}

@@ -1,5 +1,4 @@
-use Rattle.std.proofs.Common.{◌≡◌, ap, ◌∙◌}
-use Rattle.orca_base.specs.declared.note.Note.{Note}
+use Rattle.std.proofs.Common.{ap, ◌∙◌}
 use Rattle.orca_notes.specs.Sound.{ends}
 use Rattle.orca_session.proofs.SessionLemmas.{jump-parts}
 use Rattle.orca_session.proofs.session.Session.jump.Goals as goal

@@ -1,4 +1,4 @@
-use Rattle.std.proofs.Common.{◌≡◌, Ok, Err, List, None, ◌∙◌, ap, sym, refl, rules, subst}
+use Rattle.std.proofs.Common.{◌≡◌, List, None, ◌∙◌, ap, sym, refl, rules, subst}
 use Rattle.std.specs.Prelude.{All}
 use Rattle.orca_base.specs.declared.command.Command.TheVariants as command
 use Rattle.orca_base.specs.declared.event.Event.{Event}

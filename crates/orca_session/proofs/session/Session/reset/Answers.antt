@@ -1,10 +1,8 @@
-use Rattle.std.proofs.Common.{◌≡◌, Ok, Err, List, None, ◌∙◌, ap, sym, refl, rules, subst}
-use Rattle.std.specs.Prelude.{All}
+use Rattle.std.proofs.Common.{◌≡◌, List, None, ◌∙◌, ap, sym, refl, subst}
 use Rattle.orca_base.specs.declared.command.Command.TheVariants as command
 use Rattle.orca_base.specs.declared.note.Note.{Note}
-use Rattle.orca_edit.specs.Machines.{Acts}
 use Rattle.orca_edit.specs.Obeying.{rule_against}
-use Rattle.orca_edit.specs.Pieces.{Piece, apply}
+use Rattle.orca_edit.specs.Pieces.{Piece}
 use Rattle.orca_notes.specs.Device.{Plays}
 use Rattle.orca_notes.specs.Sound.{ends}
 use Rattle.orca_session.specs.Past.{PastState, machine_of, present}

@@ -1,9 +1,7 @@
-use Rattle.std.proofs.Common.{◌≡◌, Some, None, ap, sym, ◌∙◌}
-use Rattle.std.specs.Prelude.{Option}
-use Rattle.orca_base.specs.Grids.{Size, Sheet}
-use Rattle.orca_edit.specs.Obeying.{MachineState, block_rule, piece_of}
+use Rattle.std.proofs.Common.{ap, sym, ◌∙◌}
+use Rattle.orca_base.specs.Grids.{Sheet}
+use Rattle.orca_edit.specs.Obeying.{MachineState}
 use Rattle.orca_session.specs.Past.{machine_of}
-use Rattle.orca_session.specs.Session.{SessionState}
 use Rattle.orca_session.proofs.ObeyLemmas.{rule-of-block, rule-of-history, rule-of-parts}
 use Rattle.orca_session.proofs.session.Session.rule_against.Goals as goal
 

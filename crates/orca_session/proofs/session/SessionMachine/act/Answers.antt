@@ -1,6 +1,5 @@
-use Rattle.std.proofs.Common.{◌≡◌, ◌<◌, None, Ok, length, sym, ◌∙◌, subst}
+use Rattle.std.proofs.Common.{◌≡◌, None, sym, ◌∙◌, subst}
 use Rattle.orca_base.specs.declared.command.Command.{Command}
-use Rattle.orca_edit.specs.Machines.{Acts}
 use Rattle.orca_edit.specs.Obeying.{rule_against}
 use Rattle.orca_session.proofs.ObeyLemmas.{obey-rewind, some-moment}
 use Rattle.orca_session.proofs.SessionLemmas.{acts-refused, acts-silent}
