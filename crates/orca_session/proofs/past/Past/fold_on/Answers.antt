@@ -12,8 +12,10 @@ use Rattle.orca_session.proofs.past.Past.fold_on.Goals as goal
 pub loop-at-init : goal.loop-at-init
 loop-at-init g c =
     let zero = moment-zero c.args.self.now in
-    let size = ap (λ (d : Size). record { dims = d; cells = c.cells.result.now }) c.dims.ensures.size in
-    let cells = ap (λ (l : List ℕ). record { dims = c.self.inside.opened.dims; cells = l }) c.cells.ensures in
+    let size = ap (λ (d : Size). record { dims = d; cells = c.cells.result.now })
+    c.dims.ensures.size in
+    let cells = ap (λ (l : List ℕ). record { dims = c.self.inside.opened.dims; cells = l })
+    c.cells.ensures in
     record {
       sheet = ap (λ (d : Desk). sheet_of d.scan) c.load.ensures.desk ∙ (size ∙ (cells
           ∙ (ap (λ (p : PastState). p.opened) c.self.view_is

@@ -16,11 +16,12 @@ use Rattle.orca_session.proofs.past.Past.push_changes.Goals as goal
 
 pub of_changes-requires-clause-inside : goal.of_changes-requires-clause-inside
 of_changes-requires-clause-inside c =
-    let size : c.args.board.now.began.dims ≡ c.args.dims =
+    let old : Size = c.args.board.now.began.dims in
+    let size : old ≡ c.args.dims =
     ap (λ (s : Sheet). s.dims) c.requires.began ∙ sym c.requires.size in
     let listed : All (IsInside c.args.dims) (places_of c.changes.result.now) =
     subst (λ (d : Size). All (IsInside d) (places_of c.changes.result.now)) size
-    (subst (λ (changes : List Change). All (IsInside c.args.board.now.began.dims) (places_of changes))
+    (subst (λ (changes : List Change). All (IsInside old) (places_of changes))
     (sym c.changes.ensures) (inside-listed c.args.board.now c.dims-now.ensures.desk)) in
     listed
 

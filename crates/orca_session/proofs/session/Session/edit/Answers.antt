@@ -12,7 +12,8 @@ use Rattle.orca_session.proofs.session.Session.edit.Goals as goal
 pub returns-in_err-entry-clause-obeys : goal.returns-in_err-entry-clause-obeys
 returns-in_err-entry-clause-obeys g c =
     let p = err_from_is_err_and c.from_residual.result c.from_residual.ensures.1 in
-    let grid = c.self.invariant.grid ∙ ap (λ (s : SessionState). (piece_of s.machine).sheet) c.self.view_is in
+    let grid = c.self.invariant.grid
+    ∙ ap (λ (s : SessionState). (piece_of s.machine).sheet) c.self.view_is in
     rw (p.1, p.2)
     (only-memory c.args.self.now.machine c.dims-dims.result _ c.args.command.now
     c.in_err-entry.field-0.0
