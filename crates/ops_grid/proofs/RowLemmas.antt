@@ -1,4 +1,5 @@
--- Deeds that write in other rows leave what a row shows: so a row may be read while rows below it are written.
+-- Deeds that write in other rows leave what a row shows: so a row may be read while rows below it
+-- are written.
 use Rattle.std.proofs.Common.{◌≡◌, ℕ, ◌+◌, ◌<◌, Bool, true, false, List, [], ◌∷◌, arith, ap, sym, ◌∙◌, refl, subst}
 use Rattle.std.specs.Prelude.{ℤ, pos, negsuc, Option, Some, None, IfSome, if◌then◌else◌, ◌==◌}
 use Rattle.std.proofs.lemmas.List.{get_or-set_other}
@@ -32,14 +33,19 @@ row_if false at p is = cc
 row_of : (d : Size) (y x : ℤ) (p : Place) → place_at d y x ≡ Some p → y ≡ pos p.y
 row_of d (negsuc y) x p is = cc
 row_of d (pos y) (negsuc x) p is = cc
-row_of d (pos y) (pos x) p is = ap (λ (at : Place). pos at.y) (row_if (is_inside d (record { y = y; x = x })) (record { y = y; x = x }) p is)
+row_of d (pos y) (pos x) p is =
+    ap (λ (at : Place). pos at.y) (row_if (is_inside d (record { y = y; x = x }))
+    (record { y = y; x = x }) p is)
 
 -- ---- one deed
 
 inside_some : (d : Size) (spot : Spot) (p : Place) → place_in d spot ≡ Some p → IsInside d p
-inside_some d spot p is = subst (λ (o : Option Place). IfSome o (IsInside d)) is (inside-place_in d spot)
+inside_some d spot p is =
+    subst (λ (o : Option Place). IfSome o (IsInside d)) is (inside-place_in d spot)
 
-spared : (s : State) (at spot : Spot) (glyph : ℕ) → (at.y ≡ spot.y → ⊥) → (a b : Option Place) → place_in s.dims at ≡ a → place_in s.dims spot ≡ b → glyph_in (record s { cells = cells_after s a glyph }) b ≡ glyph_in s b
+spared : (s : State) (at spot : Spot) (glyph : ℕ) → (at.y ≡ spot.y → ⊥) → (a b : Option Place)
+    → place_in s.dims at ≡ a → place_in s.dims spot ≡ b
+    → glyph_in (record s { cells = cells_after s a glyph }) b ≡ glyph_in s b
 spared s at spot glyph apart None None here there = refl
 spared s at spot glyph apart None (Some q) here there = refl
 spared s at spot glyph apart (Some p) None here there = refl
@@ -49,16 +55,20 @@ spared s at spot glyph apart (Some p) (Some q) here there =
     get_or-set_other s.cells (index_of s.dims p) (index_of s.dims q) glyph 0
     (λ same.
     let rows = index-injective s.dims.w q.y q.x p.y p.x q_in.column p_in.column same in
-    apart (row_of s.dims at.y at.x p here ∙ (ap pos (sym rows.0) ∙ sym (row_of s.dims spot.y spot.x q there))))
+    apart (row_of s.dims at.y at.x p here ∙
+    (ap pos (sym rows.0) ∙ sym (row_of s.dims spot.y spot.x q there))))
 
-pub peek-spared : (s : State) (deed : Deed) (spot : Spot) → Spares spot.y deed → peek (after s deed) spot ≡ peek s spot
+pub peek-spared : (s : State) (deed : Deed) (spot : Spot) → Spares spot.y deed
+    → peek (after s deed) spot ≡ peek s spot
 unfolding peek after
 peek-spared s (Mark at marks) spot spares = refl
-peek-spared s (Write at glyph) spot spares = spared s at spot glyph spares (place_in s.dims at) (place_in s.dims spot) refl refl
+peek-spared s (Write at glyph) spot spares =
+    spared s at spot glyph spares (place_in s.dims at) (place_in s.dims spot) refl refl
 peek-spared s (Set name glyph) spot spares = absurd spares
 peek-spared s (Emit event) spot spares = refl
 
-pub var-spared : (s : State) (deed : Deed) (row : ℤ) (name : ℕ) → Spares row deed → var_at (after s deed) name ≡ var_at s name
+pub var-spared : (s : State) (deed : Deed) (row : ℤ) (name : ℕ) → Spares row deed
+    → var_at (after s deed) name ≡ var_at s name
 unfolding var_at after
 var-spared s (Mark at marks) row name spares = refl
 var-spared s (Write at glyph) row name spares = refl
@@ -66,21 +76,29 @@ var-spared s (Set set_name glyph) row name spares = absurd spares
 var-spared s (Emit event) row name spares = refl
 
 -- marks change no glyph and no variable
-pub peek-marked : (d e : Desk) (at spot : Spot) (marks : MarkSet) → e ≡ desk_after d (Mark at marks) → peek e.scan spot ≡ peek d.scan spot
-peek-marked d e at spot marks is = ap (λ (x : Desk). peek x.scan spot) is ∙ peek-spared d.scan (Mark at marks) spot tt
+pub peek-marked : (d e : Desk) (at spot : Spot) (marks : MarkSet) → e ≡ desk_after d (Mark at marks)
+    → peek e.scan spot ≡ peek d.scan spot
+peek-marked d e at spot marks is =
+    ap (λ (x : Desk). peek x.scan spot) is ∙ peek-spared d.scan (Mark at marks) spot tt
 
-pub var-marked : (d e : Desk) (at : Spot) (marks : MarkSet) (name : ℕ) → e ≡ desk_after d (Mark at marks) → var_at e.scan name ≡ var_at d.scan name
-var-marked d e at marks name is = ap (λ (x : Desk). var_at x.scan name) is ∙ var-spared d.scan (Mark at marks) (pos 0) name tt
+pub var-marked : (d e : Desk) (at : Spot) (marks : MarkSet) (name : ℕ)
+    → e ≡ desk_after d (Mark at marks) → var_at e.scan name ≡ var_at d.scan name
+var-marked d e at marks name is =
+    ap (λ (x : Desk). var_at x.scan name) is ∙ var-spared d.scan (Mark at marks) (pos 0) name tt
 
 -- ---- deeds in order
 
-peek-all : (d : Desk) (deeds : List Deed) (spot : Spot) → Every (Spares spot.y) deeds → peek (desk_after_all d deeds).scan spot ≡ peek d.scan spot
+peek-all : (d : Desk) (deeds : List Deed) (spot : Spot) → Every (Spares spot.y) deeds
+    → peek (desk_after_all d deeds).scan spot ≡ peek d.scan spot
 peek-all d [] spot spares = refl
-peek-all d (deed ∷ deeds) spot spares = peek-all (desk_after d deed) deeds spot spares.1 ∙ peek-spared d.scan deed spot spares.0
+peek-all d (deed ∷ deeds) spot spares =
+    peek-all (desk_after d deed) deeds spot spares.1 ∙ peek-spared d.scan deed spot spares.0
 
-var-all : (d : Desk) (deeds : List Deed) (row : ℤ) (name : ℕ) → Every (Spares row) deeds → var_at (desk_after_all d deeds).scan name ≡ var_at d.scan name
+var-all : (d : Desk) (deeds : List Deed) (row : ℤ) (name : ℕ) → Every (Spares row) deeds
+    → var_at (desk_after_all d deeds).scan name ≡ var_at d.scan name
 var-all d [] row name spares = refl
-var-all d (deed ∷ deeds) row name spares = var-all (desk_after d deed) deeds row name spares.1 ∙ var-spared d.scan deed row name spares.0
+var-all d (deed ∷ deeds) row name spares =
+    var-all (desk_after d deed) deeds row name spares.1 ∙ var-spared d.scan deed row name spares.0
 
 number_of : ℤ → ℕ
 number_of (pos n) = n
@@ -89,46 +107,71 @@ number_of (negsuc n) = 0
 -- a row further down is another
 lower : (y rows : ℕ) → 0 < rows → pos (y + rows) ≡ pos (y + 0) → ⊥
 unfolding number_of
-lower y rows some same = let numbers : y + rows ≡ y + 0 = ap number_of same in omega (arith, some, numbers)
+lower y rows some same =
+    let numbers : y + rows ≡ y + 0 = ap number_of same in omega (arith, some, numbers)
 
 -- ---- K
 
-store_spares : (at : Place) (i name stored : ℕ) → Every (Spares (pos (at.y + 0))) (store_deeds at i name stored)
+store_spares : (at : Place) (i name stored : ℕ)
+    → Every (Spares (pos (at.y + 0))) (store_deeds at i name stored)
 unfolding store_deeds
 store_spares at i name stored = by (name == empty)
   where
-    by : (missing : Bool) → Every (Spares (pos (at.y + 0))) (if missing then [] else output_at (off at (pos 1) (pos i)) ∷ Write (off at (pos 1) (pos i)) stored ∷ [])
+    by : (missing : Bool)
+        → Every (Spares (pos (at.y + 0)))
+        (if missing then [] else output_at (off at (pos 1) (pos i))
+        ∷ Write (off at (pos 1) (pos i)) stored ∷ [])
     by true = tt
     by false = (tt, (lower at.y 1 (omega arith), tt))
 
 -- one name more
-pub konkat_more : (d e f : Desk) (at : Place) (i : ℕ) → e ≡ desk_after_all d (each i (konkat_at d.scan at)) → f ≡ desk_after_all e (konkat_at e.scan at i) → f ≡ desk_after_all d (each (i + 1) (konkat_at d.scan at))
+pub konkat_more : (d e f : Desk) (at : Place) (i : ℕ)
+    → e ≡ desk_after_all d (each i (konkat_at d.scan at))
+    → f ≡ desk_after_all e (konkat_at e.scan at i)
+    → f ≡ desk_after_all d (each (i + 1) (konkat_at d.scan at))
 konkat_more d e f at i before done =
     let deeds : List Deed = each i (konkat_at d.scan at) in
-    let spares : Every (Spares (pos (at.y + 0))) deeds = Every-each (Spares (pos (at.y + 0))) i (konkat_at d.scan at) (λ k below. (tt, store_spares at (k + 1) _ _)) in
+    let spares : Every (Spares (pos (at.y + 0))) deeds =
+    Every-each (Spares (pos (at.y + 0))) i (konkat_at d.scan at)
+    (λ k below. (tt, store_spares at (k + 1) _ _)) in
     let name = peek-all d deeds (right at (i + 1)) spares in
     let stored = var-all d deeds (pos (at.y + 0)) (value (peek d.scan (right at (i + 1)))) spares in
-    let same : konkat_at (desk_after_all d deeds).scan at i ≡ konkat_at d.scan at i = rw (name, stored) refl in
+    let same : konkat_at (desk_after_all d deeds).scan at i ≡ konkat_at d.scan at i =
+    rw (name, stored) refl in
     rw (desk_after_all-each_more d i (konkat_at d.scan at))
-    (done ∙ (ap (λ (x : Desk). desk_after_all x (konkat_at x.scan at i)) before ∙ ap (desk_after_all (desk_after_all d deeds)) same))
+    (done ∙ (ap (λ (x : Desk). desk_after_all x (konkat_at x.scan at i)) before
+    ∙ ap (desk_after_all (desk_after_all d deeds)) same))
 
 -- ---- G
 
 -- one operand more
-pub generate_more : (d e f : Desk) (at : Place) (y x i : ℕ) → e ≡ desk_after_all d (each i (generate_at d.scan at y x)) → f ≡ desk_after_all e (generate_at e.scan at y x i) → f ≡ desk_after_all d (each (i + 1) (generate_at d.scan at y x))
+pub generate_more : (d e f : Desk) (at : Place) (y x i : ℕ)
+    → e ≡ desk_after_all d (each i (generate_at d.scan at y x))
+    → f ≡ desk_after_all e (generate_at e.scan at y x i)
+    → f ≡ desk_after_all d (each (i + 1) (generate_at d.scan at y x))
 generate_more d e f at y x i before done =
     let deeds : List Deed = each i (generate_at d.scan at y x) in
-    let spares : Every (Spares (pos (at.y + 0))) deeds = Every-each (Spares (pos (at.y + 0))) i (generate_at d.scan at y x) (λ k below. (tt, (tt, (lower at.y (y + 1) (omega arith), tt)))) in
+    let spares : Every (Spares (pos (at.y + 0))) deeds =
+    Every-each (Spares (pos (at.y + 0))) i (generate_at d.scan at y x)
+    (λ k below. (tt, (tt, (lower at.y (y + 1) (omega arith), tt)))) in
     let operand = peek-all d deeds (right at (i + 1)) spares in
-    let same : generate_at (desk_after_all d deeds).scan at y x i ≡ generate_at d.scan at y x i = rw operand refl in
+    let same : generate_at (desk_after_all d deeds).scan at y x i ≡ generate_at d.scan at y x i =
+    rw operand refl in
     rw (desk_after_all-each_more d i (generate_at d.scan at y x))
-    (done ∙ (ap (λ (z : Desk). desk_after_all z (generate_at z.scan at y x i)) before ∙ ap (desk_after_all (desk_after_all d deeds)) same))
+    (done ∙ (ap (λ (z : Desk). desk_after_all z (generate_at z.scan at y x i)) before
+    ∙ ap (desk_after_all (desk_after_all d deeds)) same))
 
 -- states that show the same
-pub konkat-same : (s t : State) (at : Place) (n : ℕ) → ((k : ℕ) → peek t (right at k) ≡ peek s (right at k)) → ((name : ℕ) → var_at t name ≡ var_at s name) → each n (konkat_at t at) ≡ each n (konkat_at s at)
+pub konkat-same : (s t : State) (at : Place) (n : ℕ)
+    → ((k : ℕ) → peek t (right at k) ≡ peek s (right at k))
+    → ((name : ℕ) → var_at t name ≡ var_at s name)
+    → each n (konkat_at t at) ≡ each n (konkat_at s at)
 konkat-same s t at n shown stored =
-    each-same n (konkat_at t at) (konkat_at s at) (λ i below. rw (shown (i + 1), stored (value (peek s (right at (i + 1))))) refl)
+    each-same n (konkat_at t at) (konkat_at s at)
+    (λ i below. rw (shown (i + 1), stored (value (peek s (right at (i + 1))))) refl)
 
-pub generate-same : (s t : State) (at : Place) (y x n : ℕ) → ((k : ℕ) → peek t (right at k) ≡ peek s (right at k)) → each n (generate_at t at y x) ≡ each n (generate_at s at y x)
+pub generate-same : (s t : State) (at : Place) (y x n : ℕ)
+    → ((k : ℕ) → peek t (right at k) ≡ peek s (right at k))
+    → each n (generate_at t at y x) ≡ each n (generate_at s at y x)
 generate-same s t at y x n shown =
     each-same n (generate_at t at y x) (generate_at s at y x) (λ i below. rw (shown (i + 1)) refl)

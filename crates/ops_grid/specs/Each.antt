@@ -9,7 +9,9 @@ use Rattle.orca_op.specs.State.{State, peek, var_at}
 
 -- the deeds for the i-th name
 abbrev pub konkat_at : State → Place → ℕ → List Deed
-konkat_at s at i = konkat_one at i (peek s (right at (i + 1))) (var_at s (value (peek s (right at (i + 1)))))
+konkat_at s at i =
+    let name = peek s (right at (i + 1)) in
+    konkat_one at i name (var_at s (value name))
 
 -- the deeds for the i-th operand
 abbrev pub generate_at : State → Place → ℕ → ℕ → ℕ → List Deed

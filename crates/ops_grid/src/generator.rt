@@ -55,8 +55,8 @@ fn generate<B: Bench, L: Ledger>(
     steps: &mut Steps<L>,
 )
     requires { (y < BASE) × (x < BASE) × (length < BASE) }
-    ensures deeds { B.desk bench.new
-        ≡ desk_after_all (B.desk bench.old) (each length (generate_at (B.desk bench.old).scan at y x)) }
+    ensures deeds { let old = B.desk bench.old in
+        B.desk bench.new ≡ desk_after_all old (each length (generate_at old.scan at y x)) }
     ensures ticks { steps.new ≡ steps.old + 4 * length }
 {
     for i in 0..length {

@@ -11,18 +11,29 @@ use Rattle.orca_op.specs.FirstFacts.{first_where-found, first_where-missing}
 use Rattle.orca_op.specs.MotionRules.{chain_end, sleep_deeds, jump}
 
 -- the first other glyph ends the chain
-pub chain_end-found : (g : ℕ) (s : State) (beyond : ℕ → Spot) (i : ℕ) → 1 ≤ i → i ≤ JUMP_REACH → ((k : ℕ) → 1 ≤ k → k < i → not (peek s (beyond k) == g) ≡ false) → not (peek s (beyond i) == g) ≡ true → chain_end g s beyond ≡ Some i
+pub chain_end-found : (g : ℕ) (s : State) (beyond : ℕ → Spot) (i : ℕ) → 1 ≤ i → i ≤ JUMP_REACH
+    → ((k : ℕ) → 1 ≤ k → k < i → not (peek s (beyond k) == g) ≡ false)
+    → not (peek s (beyond i) == g) ≡ true → chain_end g s beyond ≡ Some i
 unfolding chain_end
-chain_end-found g s beyond i low high before here = first_where-found _ 1 JUMP_REACH i low (omega arith) before here
+chain_end-found g s beyond i low high before here =
+    first_where-found _ 1 JUMP_REACH i low (omega arith) before here
 
 -- with no other glyph the chain has no end
-pub chain_end-missing : (g : ℕ) (s : State) (beyond : ℕ → Spot) → ((k : ℕ) → 1 ≤ k → k < 1 + JUMP_REACH → not (peek s (beyond k) == g) ≡ false) → chain_end g s beyond ≡ None
+pub chain_end-missing : (g : ℕ) (s : State) (beyond : ℕ → Spot)
+    → ((k : ℕ) → 1 ≤ k → k < 1 + JUMP_REACH → not (peek s (beyond k) == g) ≡ false)
+    → chain_end g s beyond ≡ None
 unfolding chain_end
 chain_end-missing g s beyond before = first_where-missing _ 1 JUMP_REACH before
 
 -- the deeds of a jumper that acts, one after another
-pub jump-desk_after : (d : Desk) (g : ℕ) (source : Spot) (beyond : ℕ → Spot) (i : ℕ) → (peek d.scan source == g) ≡ false → chain_end g d.scan beyond ≡ Some i
-    → desk_after_all d (jump g d.scan source beyond) ≡ desk_after (desk_after (desk_after_all (desk_after d (input_at source)) (sleep_deeds beyond (i - 1))) (output_at (beyond i))) (Write (beyond i) (peek d.scan source))
+pub jump-desk_after : (d : Desk) (g : ℕ) (source : Spot) (beyond : ℕ → Spot) (i : ℕ)
+    → (peek d.scan source == g) ≡ false → chain_end g d.scan beyond ≡ Some i
+    → desk_after_all d (jump g d.scan source beyond)
+    ≡ desk_after (desk_after (desk_after_all (desk_after d (input_at source))
+    (sleep_deeds beyond (i - 1))) (output_at (beyond i))) (Write (beyond i) (peek d.scan
+    source))
 unfolding jump
 jump-desk_after d g source beyond i first end =
-    rw (first, end) (desk_after_all-append (desk_after d (input_at source)) (sleep_deeds beyond (i - 1)) (output_at (beyond i) ∷ Write (beyond i) (peek d.scan source) ∷ []))
+    rw (first, end) (desk_after_all-append (desk_after d (input_at source))
+    (sleep_deeds beyond (i - 1))
+    (output_at (beyond i) ∷ Write (beyond i) (peek d.scan source) ∷ []))

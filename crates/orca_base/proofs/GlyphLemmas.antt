@@ -43,5 +43,17 @@ upper_high n below = leb-true (slice_index UPPER n) 126
     (agree_below_at (λ k. nat_le (slice_index UPPER k) 126) (λ k. true) 36 n refl below)
 
 pub value_table_below : (g : ℕ) → g < 128 → slice_index VALUES g < 36
-value_table_below g below = let v = value_table g below in let h =
-    value-below g in omega (arith, v, h)
+value_table_below g below =
+    let v = value_table g below in
+    let h = value-below g in
+    omega (arith, v, h)
+
+-- what the table of values holds
+pub ruleset glyph_values = (value_table, value_table_below)
+
+-- what the table of lower-case glyphs holds
+pub ruleset lower_glyphs = (lower_table, lower_low, lower_high)
+
+-- what the tables of the glyphs of values hold, in both cases
+pub ruleset cased_glyphs =
+    (lower_table, upper_table, lower_low, lower_high, upper_low, upper_high)

@@ -1,8 +1,7 @@
 -- The limits with their numbers, so that none changes unseen. What the reaches and the ranges of
--- MIDI are for
--- is said by the laws of src/laws.rt.
-use Rattle.std.specs.Prelude.{◌≡◌, ◌+◌, ◌^◌, max, refl}
-use Rattle.orca_base.specs.declared.limits.TheConstants.{MAX_ROWS, MAX_COLUMNS, BASE, MAX_OCTAVE, MIN_VELOCITY, MAX_TEXT, MAX_VALUES, JUMP_REACH, COMMENT_REACH, MAX_DEEDS, MAX_TICKS, MAX_VISIT_TICKS, MAX_EVENTS, MAX_NOTES, MAX_MESSAGES, MAX_DIGITS, DEFAULT_SEED, MAX_FILE_BYTES, MAX_HISTORY, DEFAULT_HISTORY, KEPT_PATCHES, BACK_MOMENTS, MIN_SCREEN_ROWS, MAX_SCREEN_ROWS, MIN_SCREEN_COLUMNS, MAX_SCREEN_COLUMNS, MAX_BPM, DEFAULT_BPM, BEAT_FRAMES, MINUTE_MICROSECONDS, MAX_POLLS}
+-- MIDI are for is said by the laws of src/laws.rt.
+use Rattle.std.specs.Prelude.{◌≡◌, ◌+◌, ◌^◌, max, pos, refl}
+use Rattle.orca_base.specs.declared.limits.TheConstants.{MAX_ROWS, MAX_COLUMNS, MAX_CELLS, WORD_COLUMNS, BASE, MAX_OCTAVE, MIN_VELOCITY, MAX_TEXT, MAX_VALUES, SHORT_BYTES, WIRE_BYTES, MAX_OSC_BYTES, MAX_REACH, INLINE_CHANGES, ARRIVAL_BYTES, SEQUENCE_BYTES, JUMP_REACH, COMMENT_REACH, MAX_DEEDS, MAX_TICKS, MAX_VISIT_TICKS, MAX_EVENTS, MAX_NOTES, MAX_MESSAGES, MAX_DIGITS, DEFAULT_SEED, MAX_FILE_BYTES, MAX_HISTORY, DEFAULT_HISTORY, KEPT_PATCHES, BACK_MOMENTS, MIN_SCREEN_ROWS, MAX_SCREEN_ROWS, MIN_SCREEN_COLUMNS, MAX_SCREEN_COLUMNS, MAX_BPM, DEFAULT_BPM, BEAT_FRAMES, MINUTE_MICROSECONDS, MAX_POLLS}
 
 -- grids
 most_rows : MAX_ROWS ≡ 256
@@ -10,6 +9,12 @@ most_rows = refl
 
 most_columns : MAX_COLUMNS ≡ 256
 most_columns = refl
+
+most_cells : MAX_CELLS ≡ 65536
+most_cells = refl
+
+columns_of_a_word : WORD_COLUMNS ≡ 64
+columns_of_a_word = refl
 
 -- values, and what operators make of them
 values_of_a_glyph : BASE ≡ 36
@@ -27,12 +32,24 @@ longest_text = refl
 most_values : MAX_VALUES ≡ 35
 most_values = refl
 
+most_bytes_of_a_short : SHORT_BYTES ≡ 36
+most_bytes_of_a_short = refl
+
+most_bytes_of_a_wire : WIRE_BYTES ≡ 192
+most_bytes_of_a_wire = refl
+
+most_bytes_of_a_datagram : MAX_OSC_BYTES ≡ 184
+most_bytes_of_a_datagram = refl
+
 -- the reaches are as long as the longest grid needs, and no longer
 jump_past_the_last_place : JUMP_REACH ≡ max MAX_ROWS MAX_COLUMNS
 jump_past_the_last_place = refl
 
 comment_to_the_last_place : COMMENT_REACH + 1 ≡ MAX_COLUMNS
 comment_to_the_last_place = refl
+
+farthest_deed : MAX_REACH ≡ pos 65536
+farthest_deed = refl
 
 -- a frame
 most_deeds : MAX_DEEDS ≡ 512
@@ -73,8 +90,18 @@ history_that_is_not_given = refl
 newest_entries : KEPT_PATCHES ≡ 1024
 newest_entries = refl
 
+changes_without_memory : INLINE_CHANGES ≡ 8
+changes_without_memory = refl
+
 moments_of_a_key : BACK_MOMENTS ≡ 16
 moments_of_a_key = refl
+
+-- what comes in
+longest_arrival : ARRIVAL_BYTES ≡ 64
+longest_arrival = refl
+
+longest_sequence : SEQUENCE_BYTES ≡ 8
+longest_sequence = refl
 
 -- screens, and the pace
 fewest_screen_rows : MIN_SCREEN_ROWS ≡ 2

@@ -10,8 +10,8 @@ use Rattle.orca_base.specs.Grids.{Size, Sheet, glyph_at, is_inside, sheet_by}
 -- the place lies in the block of this size whose first place is `corner`
 abbrev pub is_within : Place → Size → Place → Bool
 is_within corner d at =
-    nat_le corner.y at.y && nat_lt at.y (corner.y + d.h) && nat_le corner.x at.x && nat_lt at.x
-    (corner.x + d.w)
+    nat_le corner.y at.y && nat_lt at.y (corner.y + d.h)
+    && nat_le corner.x at.x && nat_lt at.x (corner.x + d.w)
 
 -- the place lies in the area
 abbrev pub is_in_area : Area → Place → Bool
@@ -34,8 +34,8 @@ sheet_after_fill g area glyph =
 -- that is in the grid
 abbrev pub sheet_after_put : Sheet → Place → Sheet → Sheet
 sheet_after_put g to block =
-    sheet_by g.dims (λ at. if is_within to block.dims at then glyph_at block
-    (moved to origin at) else glyph_at g at)
+    sheet_by g.dims (λ at.
+    if is_within to block.dims at then glyph_at block (moved to origin at) else glyph_at g at)
 
 -- Move: the area's image holds what the area held, and the rest of the area is empty
 abbrev pub sheet_after_move : Sheet → Area → Place → Sheet

@@ -36,11 +36,11 @@ is_lower g = nat_le 97 g && nat_le g 122
 abbrev pub upper : ℕ → ℕ
 upper g = if is_lower g then g - 32 else g
 
--- the value of a glyph: of a digit 0 to 9, of a letter in either case 10 to 35, of any other glyph
--- 0
+-- the value of a glyph: of a digit 0 to 9, of a letter in either case 10 to 35, of others 0
 unfoldable pub value : ℕ → ℕ
-value g = if is_digit g then g -
-    48 else (if is_upper g then g - 55 else (if is_lower g then g - 87 else 0))
+value g =
+    if is_digit g then g - 48
+    else (if is_upper g then g - 55 else (if is_lower g then g - 87 else 0))
 
 -- the digit or lower-case letter of a value below 36
 unfoldable pub from_value : ℕ → ℕ
@@ -77,5 +77,5 @@ natural_note letter = 12 * (degree letter / 7) + slice_index semitones (degree l
 -- the note number of a letter, a lower-case one being a semitone higher; other glyphs have none
 unfoldable pub note_number : ℕ → Option ℕ
 note_number g =
-    if is_upper g then Some (natural_note g) else (if is_lower g then Some
-    (natural_note (upper g) + 1) else None)
+    if is_upper g then Some (natural_note g)
+    else (if is_lower g then Some (natural_note (upper g) + 1) else None)

@@ -48,8 +48,8 @@ abbrev pub place_of : Size → ℕ → Place
 place_of d n = record { y = n / d.w; x = n % d.w }
 
 abbrev pub place_at : Size → ℤ → ℤ → Option Place
-place_at d (pos y) (pos x) = if nat_lt y d.h && nat_lt x d.w then Some
-    (record { y = y; x = x }) else None
+place_at d (pos y) (pos x) =
+    if nat_lt y d.h && nat_lt x d.w then Some (record { y = y; x = x }) else None
 place_at d (pos y) (negsuc x) = None
 place_at d (negsuc y) x = None
 

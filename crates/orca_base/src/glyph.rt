@@ -90,7 +90,7 @@ impl Glyph {
 
     /// The value in base 36: 0 to 9 of a digit, 10 to 35 of a letter in either case, 0 of any other
     /// glyph.
-    #[tactic(auto, using(crate::proofs::GlyphLemmas::value_table, crate::proofs::GlyphLemmas::value_table_below))]
+    #[tactic(auto, using(crate::proofs::GlyphLemmas::glyph_values))]
     pub fn value(self) -> u8
         ensures value { result ≡ value self }
         ensures range { result < BASE }
@@ -99,7 +99,7 @@ impl Glyph {
     }
 
     /// The digit or the lower-case letter of a value below the base.
-    #[tactic(auto, using(crate::proofs::GlyphLemmas::lower_table, crate::proofs::GlyphLemmas::lower_low, crate::proofs::GlyphLemmas::lower_high))]
+    #[tactic(auto, using(crate::proofs::GlyphLemmas::lower_glyphs))]
     pub fn from_value(n: u8) -> Glyph
         requires { n < BASE }
         ensures { result ≡ from_value n }
@@ -109,9 +109,9 @@ impl Glyph {
         }
     }
 
-    /// The glyph of a value below the base. A letter is in upper case exactly where `by` is one of `A` to `Z`;
-    /// a digit has no case.
-    #[tactic(auto, using(crate::proofs::GlyphLemmas::lower_table, crate::proofs::GlyphLemmas::upper_table, crate::proofs::GlyphLemmas::lower_low, crate::proofs::GlyphLemmas::lower_high, crate::proofs::GlyphLemmas::upper_low, crate::proofs::GlyphLemmas::upper_high), unfolding(crate::specs::Glyphs::cased))]
+    /// The glyph of a value below the base. A letter is in upper case exactly where `by` is one of `A`
+    /// to `Z`; a digit has no case.
+    #[tactic(auto, using(crate::proofs::GlyphLemmas::cased_glyphs), unfolding(crate::specs::Glyphs::cased))]
     pub fn cased(n: u8, by: Glyph) -> Glyph
         requires { n < BASE }
         ensures { result ≡ cased n by }

@@ -1,4 +1,5 @@
--- Lists for the largest grid, seen as those of a grid: what a place holds, one place changed, and the marked places.
+-- Lists for the largest grid, seen as those of a grid: what a place holds, one place changed, and
+-- the marked places.
 use Rattle.std.proofs.Common.{◌≡◌, ℕ, zero, suc, ◌+◌, ◌*◌, ◌/◌, ◌-◌, ◌%◌, ◌<◌, ◌≤◌, ◌==◌, Bool, true, false, ◌&&◌, List, [], length, get_or, replicate, refl, arith, ap, sym, ◌∙◌, subst, inl, inr}
 use Rattle.std.proofs.Math.ListN.{set}
 use Rattle.std.specs.Prelude.{Some, nat_lt, slice_index, if◌then◌else◌}
@@ -26,37 +27,55 @@ use Rattle.orca_board.proofs.DeskLemmas.{lists-of_sheet}
 
 -- a place of a grid is one of the largest
 pub inside-largest : (d : Size) (at : Place) → IsSize d → IsInside d at → IsInside largest at
-inside-largest d at size inside = record { row = omega (arith, inside.row, size.few_rows); column = omega (arith, inside.column, size.few_columns) }
+inside-largest d at size inside =
+    record {
+      row = omega (arith, inside.row, size.few_rows);
+      column = omega
+          (arith, inside.column, size.few_columns);
+    }
 
 -- a cell as it is read
-pub read-cell : (d most : Size) (cells : List ℕ) (at : Place) (i read : ℕ) → IsInside d at → most ≡ largest → i ≡ index_of most at → i < MAX_CELLS → length cells ≡ MAX_CELLS
+pub read-cell : (d most : Size) (cells : List ℕ) (at : Place) (i read : ℕ) → IsInside d at
+    → most ≡ largest → i ≡ index_of most at → i < MAX_CELLS → length cells ≡ MAX_CELLS
     → read ≡ get_or cells i read → read ≡ slice_index (by_place d (glyph_in cells)) (index_of d at)
 read-cell d most cells at i read inside is_most number below whole is =
     is ∙ (get_or_default cells i read 0 (omega (arith, below, whole))
-    ∙ (ap (λ (n : ℕ). get_or cells n 0) (number ∙ ap (λ (m : Size). index_of m at) is_most) ∙ sym (index-by_place d (glyph_in cells) at 0 inside)))
+    ∙ (ap (λ (n : ℕ). get_or cells n 0) (number ∙ ap (λ (m : Size). index_of m at) is_most)
+    ∙ sym (index-by_place d (glyph_in cells) at 0 inside)))
 
 -- one place changed
-pub set-plane : {A : Type 0} (d : Size) (xs : List A) (at : Place) (y x : A) → IsSize d → IsInside d at → length xs ≡ MAX_CELLS
-    → by_place d (λ q. get_or (set xs (index_of largest at) y) (index_of largest q) x) ≡ set (by_place d (λ q. get_or xs (index_of largest q) x)) (index_of d at) y
+pub set-plane : {A : Type 0} (d : Size) (xs : List A) (at : Place) (y x : A) → IsSize d
+    → IsInside d at → length xs ≡ MAX_CELLS
+    → by_place d (λ q. get_or (set xs (index_of largest at) y) (index_of largest q) x)
+    ≡ set (by_place d (λ q. get_or xs (index_of largest q) x)) (index_of d at) y
 set-plane {A} d xs at y x size inside whole =
     let here : IsInside largest at = inside-largest d at size inside in
-    sym (set-by_place d (λ q. get_or xs (index_of largest q) x) (λ q. get_or (set xs (index_of largest at) y) (index_of largest q) x) at y x size inside
-    (get_or-set_same xs (index_of largest at) y x (omega (arith, index_of-below largest at here, whole)))
-    (λ q inside_q apart. get_or-set_other xs (index_of largest at) (index_of largest q) y x (index-apart largest q at (inside-largest d q size inside_q) here apart)))
+    sym (set-by_place d (λ q. get_or xs (index_of largest q) x)
+    (λ q. get_or (set xs (index_of largest at) y) (index_of largest q) x) at y x size inside
+    (get_or-set_same xs (index_of largest at) y x
+    (omega (arith, index_of-below largest at here, whole)))
+    (λ q inside_q apart. get_or-set_other xs (index_of largest at) (index_of largest q) y x
+    (index-apart largest q at (inside-largest d q size inside_q) here apart)))
 
 -- a place outside the grid keeps what it holds
-pub set-outside : {A : Type 0} (d : Size) (xs : List A) (at q : Place) (y x : A) → IsSize d → IsInside d at → IsInside largest q → is_inside d q ≡ false
-    → get_or (set xs (index_of largest at) y) (index_of largest q) x ≡ get_or xs (index_of largest q) x
+pub set-outside : {A : Type 0} (d : Size) (xs : List A) (at q : Place) (y x : A) → IsSize d
+    → IsInside d at → IsInside largest q → is_inside d q ≡ false
+    → get_or (set xs (index_of largest at) y) (index_of largest q) x
+    ≡ get_or xs (index_of largest q) x
 set-outside d xs at q y x size inside inside_q outside =
     get_or-set_other xs (index_of largest at) (index_of largest q) y x
-    (index-apart largest q at inside_q (inside-largest d at size inside) (other (is_place q at) refl))
+    (index-apart largest q at inside_q (inside-largest d at size inside)
+    (other (is_place q at) refl))
   where
     other : (b : Bool) → is_place q at ≡ b → b ≡ false
-    other true is = absurd (both_ways _ outside (subst (λ (p : Place). is_inside d p ≡ true) (sym (is_place-same q at is)) (is_inside-inside d at inside)))
+    other true is =
+        absurd (both_ways _ outside (subst (λ (p : Place). is_inside d p ≡ true)
+        (sym (is_place-same q at is)) (is_inside-inside d at inside)))
     other false is = refl
 
 -- the bits after one cell was written
-pub live-set : (bits new cells : List ℕ) (i glyph : ℕ) → i < length cells → length cells ≡ MAX_CELLS → ((n : ℕ) → n < MAX_CELLS → has_bit bits n ≡ is_operator (slice_index cells n))
+pub live-set : (bits new cells : List ℕ) (i glyph : ℕ) → i < length cells → length cells ≡ MAX_CELLS
+    → ((n : ℕ) → n < MAX_CELLS → has_bit bits n ≡ is_operator (slice_index cells n))
     → ((n : ℕ) → has_bit new n ≡ (if n == i then is_operator glyph else has_bit bits n))
     → (n : ℕ) → n < MAX_CELLS → has_bit new n ≡ is_operator (slice_index (set cells i glyph) n)
 live-set bits new cells i glyph below whole live written n few =
@@ -66,17 +85,30 @@ live-set bits new cells i glyph below whole live written n few =
     ])
 
 -- the desk after marks in the grid
-pub marked-plane : (d : Desk) (plane : List MarkSet) (spot : Spot) (at : Place) (marks : MarkSet) → IsSize d.scan.dims → IsInside d.scan.dims at → place_in d.scan.dims spot ≡ Some at
+pub marked-plane : (d : Desk) (plane : List MarkSet) (spot : Spot) (at : Place) (marks : MarkSet)
+    → IsSize d.scan.dims → IsInside d.scan.dims at → place_in d.scan.dims spot ≡ Some at
     → d.scan.marks ≡ by_place d.scan.dims (marks_in plane) → length plane ≡ MAX_CELLS
-    → record d { scan = record d.scan { marks = by_place d.scan.dims (marks_in (set plane (index_of largest at) (all_marks (marks_in plane at) marks))) } } ≡ desk_after d (Mark spot marks)
+    → record d {
+      scan = record d.scan {
+        marks = by_place d.scan.dims
+            (marks_in (set plane (index_of largest at) (all_marks (marks_in plane at) marks)));
+      };
+    } ≡ desk_after d (Mark spot marks)
 unfolding after list_after
 marked-plane d plane spot at marks size inside place is whole =
-    rw (place, is, index-by_place d.scan.dims (marks_in plane) at no_marks inside, set-plane d.scan.dims plane at (all_marks (marks_in plane at) marks) no_marks size inside whole) refl
+    rw (
+      place,
+      is,
+      index-by_place d.scan.dims (marks_in plane) at no_marks inside,
+      set-plane
+          d.scan.dims plane at (all_marks (marks_in plane at) marks) no_marks size inside whole,
+    ) refl
 
 -- no marks
 pub blank-by_place : (d : Size) → IsSize d → by_place d (marks_in blank) ≡ blank_marks d
 blank-by_place d size =
-    sym (list-by_place d (blank_marks d) (marks_in blank) no_marks size (long (cells_of d)) (λ at inside. none (cells_of d) (index_of d at) ∙ sym (index-blank (index_of largest at))))
+    sym (list-by_place d (blank_marks d) (marks_in blank) no_marks size (long (cells_of d))
+    (λ at inside. none (cells_of d) (index_of d at) ∙ sym (index-blank (index_of largest at))))
   where
     long : (n : ℕ) → length (replicate n no_marks) ≡ n
     long zero = refl
@@ -94,11 +126,13 @@ and_false false = refl
 -- no bit stands beyond the words
 no_word : (words : List ℕ) (x : ℕ) → WORD_COLUMNS * length words ≤ x → has_bit words x ≡ false
 no_word words x beyond =
-    let none : slice_index words (x / WORD_COLUMNS) ≡ 0 = get_or_past words (x / WORD_COLUMNS) 0 (omega arith) in
+    let none : slice_index words (x / WORD_COLUMNS) ≡ 0 =
+    get_or_past words (x / WORD_COLUMNS) 0 (omega arith) in
     rw (none, bit_at-zero (x % WORD_COLUMNS)) refl
 
 -- a column's bit in the words of a row, as many as the row needs
-pub live-row : (s : State) (cells bits words : List ℕ) (row x : ℕ) → IsSize s.dims → row < s.dims.h → s.cells ≡ by_place s.dims (glyph_in cells)
+pub live-row : (s : State) (cells bits words : List ℕ) (row x : ℕ) → IsSize s.dims → row < s.dims.h
+    → s.cells ≡ by_place s.dims (glyph_in cells)
     → ((at : Place) → IsInside largest at → is_inside s.dims at ≡ false → glyph_in cells at ≡ empty)
     → ((n : ℕ) → n < MAX_CELLS → has_bit bits n ≡ is_operator (slice_index cells n))
     → length words ≡ (s.dims.w + (WORD_COLUMNS - 1)) / WORD_COLUMNS
@@ -108,27 +142,42 @@ unfolding is_operator
 live-row s cells bits words row x size below is outside live long read =
     elim (cases_lt x s.dims.w) [
       | inl inside ↦
-          let there : IsInside s.dims (record { y = row; x = x }) = record { row = below; column = inside } in
-          let same : glyph_at s (record { y = row; x = x }) ≡ glyph_in cells (record { y = row; x = x }) =
-          ap (λ (xs : List ℕ). slice_index xs (row * s.dims.w + x)) is ∙ index-by_place s.dims (glyph_in cells) (record { y = row; x = x }) 0 there in
+          let there : IsInside s.dims (record { y = row; x = x }) =
+          record { row = below; column = inside } in
+          let same : glyph_at s (record { y = row; x = x })
+          ≡ glyph_in cells (record { y = row; x = x }) =
+          ap (λ (xs : List ℕ). slice_index xs (row * s.dims.w + x)) is
+          ∙ index-by_place s.dims (glyph_in cells) (record { y = row; x = x }) 0 there in
           let column : nat_lt x s.dims.w ≡ true = lt-ltb x s.dims.w inside in
-          read (omega (arith, long)) ∙ (live (row * MAX_COLUMNS + x) (omega (arith, size.few_rows, size.few_columns)) ∙ (rw (column, same) refl))
+          read (omega (arith, long)) ∙
+          (live (row * MAX_COLUMNS + x) (omega (arith, size.few_rows, size.few_columns))
+          ∙ (rw (column, same) refl))
       | inr past ↦
           let column : nat_lt x s.dims.w ≡ false = le-ltb x s.dims.w past in
           rw column (elim (cases_lt x (WORD_COLUMNS * length words)) [
             | inl short ↦
                 let few : x < MAX_COLUMNS = omega (arith, long, size.few_columns) in
                 read short ∙ (live (row * MAX_COLUMNS + x) (omega (arith, few, size.few_rows))
-                ∙ ap is_operator (outside (record { y = row; x = x }) (record { row = omega (arith, size.few_rows); column = few }) (past_edge row x past)))
+                ∙ ap is_operator (outside (record { y = row; x = x })
+                (record { row = omega (arith, size.few_rows); column = few })
+                (past_edge row x past)))
             | inr beyond ↦ no_word words x beyond
           ])
     ]
   where
     past_edge : (row x : ℕ) → s.dims.w ≤ x → (nat_lt row s.dims.h && nat_lt x s.dims.w) ≡ false
-    past_edge row x past = let column : nat_lt x s.dims.w ≡ false = le-ltb x s.dims.w past in rw column (and_false (nat_lt row s.dims.h))
+    past_edge row x past =
+        let column : nat_lt x s.dims.w ≡ false =
+        le-ltb x s.dims.w past in rw column (and_false (nat_lt row s.dims.h))
 
 most_size : IsSize largest
-most_size = record { rows = omega arith; few_rows = omega arith; columns = omega arith; few_columns = omega arith }
+most_size = record {
+  rows = omega arith;
+  few_rows = omega arith;
+  columns = omega arith;
+  few_columns
+      = omega arith;
+}
 
 -- ---- cells that are written one after the other
 
@@ -137,18 +186,29 @@ abbrev pub IsLaid : Size → ℕ → List ℕ → (ℕ → ℕ) → Type 0
 IsLaid d n cells glyph = (k : ℕ) → k < n → glyph_in cells (place_of d k) ≡ glyph k
 
 -- one more
-pub laid-more : (d : Size) (n : ℕ) (cells : List ℕ) (glyph : ℕ → ℕ) → IsSize d → n < cells_of d → length cells ≡ MAX_CELLS → IsLaid d n cells glyph
+pub laid-more : (d : Size) (n : ℕ) (cells : List ℕ) (glyph : ℕ → ℕ) → IsSize d → n < cells_of d
+    → length cells ≡ MAX_CELLS → IsLaid d n cells glyph
     → IsLaid d (n + 1) (set cells (index_of largest (place_of d n)) (glyph n)) glyph
 laid-more d n cells glyph size few whole laid k below =
     elim (eqb_tells k n) [
-      | inl same ↦ rw same.1 (get_or-set_same cells (index_of largest (place_of d n)) (glyph n) 0 (omega (arith, index_of-below largest (place_of d n) (inside-largest d _ size there), whole)))
+      | inl same ↦ rw same.1 (get_or-set_same cells (index_of largest (place_of d n)) (glyph n) 0
+          (omega (
+            arith,
+            index_of-below largest (place_of d n) (inside-largest d _ size there),
+            whole,
+          )))
       | inr other ↦
           let before : k < n = below_other k n below other.1 in
-          let here : IsInside d (place_of d k) = inside-place_of d k size (omega (arith, before, few)) in
-          get_or-set_other cells (index_of largest (place_of d n)) (index_of largest (place_of d k)) (glyph n) 0
+          let here : IsInside d (place_of d k) =
+          inside-place_of d k size (omega (arith, before, few)) in
+          get_or-set_other cells (index_of largest (place_of d n)) (index_of largest (place_of d k))
+          (glyph n) 0
           (λ same. other.1 (
-          let parts = index-injective MAX_COLUMNS (k / d.w) (k % d.w) (n / d.w) (n % d.w) (omega (arith, here.column, size.few_columns)) (omega (arith, there.column, size.few_columns)) same in
-          sym (index_of-place_of d k size) ∙ (same_number parts.0 parts.1 ∙ index_of-place_of d n size)))
+          let parts = index-injective MAX_COLUMNS (k / d.w) (k % d.w) (n / d.w) (n % d.w)
+          (omega (arith, here.column, size.few_columns))
+          (omega (arith, there.column, size.few_columns)) same in
+          sym (index_of-place_of d k size) ∙
+          (same_number parts.0 parts.1 ∙ index_of-place_of d n size)))
           ∙ laid k before
     ]
   where
@@ -161,45 +221,60 @@ laid-more d n cells glyph size few whole laid k below =
       | inr more ↦ absurd (other (omega (arith, below, more)))
     ]
 
-    same_number : (k / d.w) ≡ (n / d.w) → (k % d.w) ≡ (n % d.w) → index_of d (place_of d k) ≡ index_of d (place_of d n)
-    same_number row column = ap (λ (y : ℕ). y * d.w + k % d.w) row ∙ ap (λ (x : ℕ). (n / d.w) * d.w + x) column
+    same_number : (k / d.w) ≡ (n / d.w) → (k % d.w) ≡ (n % d.w)
+        → index_of d (place_of d k) ≡ index_of d (place_of d n)
+    same_number row column =
+        ap (λ (y : ℕ). y * d.w + k % d.w) row ∙ ap (λ (x : ℕ). (n / d.w) * d.w + x) column
 
 -- all of them
-pub laid-at : (d : Size) (cells : List ℕ) (glyph : ℕ → ℕ) (at : Place) → IsInside d at → IsLaid d (cells_of d) cells glyph → glyph_in cells at ≡ glyph (index_of d at)
+pub laid-at : (d : Size) (cells : List ℕ) (glyph : ℕ → ℕ) (at : Place) → IsInside d at
+    → IsLaid d (cells_of d) cells glyph → glyph_in cells at ≡ glyph (index_of d at)
 laid-at d cells glyph at inside laid =
-    ap (glyph_in cells) (sym (place_of-index_of d at inside)) ∙ laid (index_of d at) (index_of-below d at inside)
+    ap (glyph_in cells) (sym (place_of-index_of d at inside))
+    ∙ laid (index_of d at) (index_of-below d at inside)
 
 -- cells that are empty in the grid and outside it
-pub empty-cells : (d : Size) (cells : List ℕ) → IsSize d → IsLaid d (cells_of d) cells (λ _. empty) → IsEmptyOutside d cells → (n : ℕ) → n < MAX_CELLS → slice_index cells n ≡ empty
+pub empty-cells : (d : Size) (cells : List ℕ) → IsSize d → IsLaid d (cells_of d) cells (λ _. empty)
+    → IsEmptyOutside d cells → (n : ℕ) → n < MAX_CELLS → slice_index cells n ≡ empty
 empty-cells d cells size laid outside n few =
     ap (λ (k : ℕ). slice_index cells k) (sym (index_of-place_of largest n most_size))
     ∙ (elim (cases_Bool (is_inside d (place_of largest n))) [
-      | inl inside ↦ laid-at d cells (λ _. empty) (place_of largest n) (inside-is_inside d (place_of largest n) inside) laid
+      | inl inside ↦ laid-at d cells (λ _. empty) (place_of largest n)
+          (inside-is_inside d (place_of largest n) inside) laid
       | inr past ↦ outside (place_of largest n) (inside-place_of largest n most_size few) past
     ])
 
 -- no bit is set for them
-pub off-cells : (cells bits : List ℕ) → AreLive cells bits → ((n : ℕ) → n < MAX_CELLS → slice_index cells n ≡ empty) → (n : ℕ) → n < MAX_CELLS → has_bit bits n ≡ false
+pub off-cells : (cells bits : List ℕ) → AreLive cells bits
+    → ((n : ℕ) → n < MAX_CELLS → slice_index cells n ≡ empty) → (n : ℕ) → n < MAX_CELLS
+    → has_bit bits n ≡ false
 unfolding is_operator
 off-cells cells bits live none n few = live n few ∙ ap is_operator (none n few)
 
 -- cells that are all empty, and bits that are all off
-pub live-none : (cells bits : List ℕ) → ((n : ℕ) → n < MAX_CELLS → slice_index cells n ≡ empty) → ((n : ℕ) → n < MAX_CELLS → has_bit bits n ≡ false) → AreLive cells bits
+pub live-none : (cells bits : List ℕ) → ((n : ℕ) → n < MAX_CELLS → slice_index cells n ≡ empty)
+    → ((n : ℕ) → n < MAX_CELLS → has_bit bits n ≡ false) → AreLive cells bits
 unfolding is_operator
 live-none cells bits none off n few = off n few ∙ ap is_operator (sym (none n few))
 
-pub outside-none : (d : Size) (cells : List ℕ) → ((n : ℕ) → n < MAX_CELLS → slice_index cells n ≡ empty) → IsEmptyOutside d cells
-outside-none d cells none at inside past = none (index_of largest at) (index_of-below largest at inside)
+pub outside-none : (d : Size) (cells : List ℕ)
+    → ((n : ℕ) → n < MAX_CELLS → slice_index cells n ≡ empty) → IsEmptyOutside d cells
+outside-none d cells none at inside past =
+    none (index_of largest at) (index_of-below largest at inside)
 
 -- ---- a grid at the start of a frame
 
-pub keeps-of_sheet : (d : Desk) (g : Sheet) (known : List Change) (cells : List ℕ) (marks : List MarkSet) (bits : List ℕ) (room : ℕ) → IsSheet g → d ≡ desk_of_sheet g → known ≡ []
-    → length cells ≡ MAX_CELLS → length marks ≡ MAX_CELLS → IsEmptyOutside g.dims cells → AreLive cells bits → MAX_EVENTS ≤ room → KeepsBoard d known cells marks bits room
-keeps-of_sheet d g known cells marks bits room sheet is none whole marks_whole outside live roomy = rw (is, none) (record {
-  lists = lists-of_sheet (desk_of_sheet g) g [] sheet refl refl;
-  whole = whole;
-  marks_whole = marks_whole;
-  outside = outside;
-  live = live;
-  events_roomy = roomy;
-})
+pub keeps-of_sheet : (d : Desk) (g : Sheet) (known : List Change) (cells : List ℕ)
+    (marks : List MarkSet) (bits : List ℕ) (room : ℕ)
+    → IsSheet g → d ≡ desk_of_sheet g → known ≡ []
+    → length cells ≡ MAX_CELLS → length marks ≡ MAX_CELLS → IsEmptyOutside g.dims cells
+    → AreLive cells bits → MAX_EVENTS ≤ room → KeepsBoard d known cells marks bits room
+keeps-of_sheet d g known cells marks bits room sheet is none whole marks_whole outside live roomy =
+    rw (is, none) (record {
+      lists = lists-of_sheet (desk_of_sheet g) g [] sheet refl refl;
+      whole = whole;
+      marks_whole = marks_whole;
+      outside = outside;
+      live = live;
+      events_roomy = roomy;
+    })

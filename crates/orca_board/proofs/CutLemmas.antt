@@ -23,35 +23,45 @@ and_true false = refl
 -- the places of a whole grid are those that lie in it
 in-whole : (d : Size) (at : Place) → is_in_area (whole d) at ≡ is_inside d at
 in-whole d at =
-    rw (zero-add d.h, zero-add d.w, le-leb 0 at.y (omega arith), le-leb 0 at.x (omega arith)) (ap (λ (b : Bool). b && nat_lt at.x d.w) (and_true (nat_lt at.y d.h)))
+    rw (zero-add d.h, zero-add d.w, le-leb 0 at.y (omega arith), le-leb 0 at.x (omega arith))
+    (ap (λ (b : Bool). b && nat_lt at.x d.w) (and_true (nat_lt at.y d.h)))
 
 -- a place of the grid is cut off where it doesn't lie in the other size
-pub listed-cut : (d to : Size) (at : Place) → IsInside d at → is_listed (cut_places d to) at ≡ not (is_inside to at)
+pub listed-cut : (d to : Size) (at : Place) → IsInside d at
+    → is_listed (cut_places d to) at ≡ not (is_inside to at)
 listed-cut d to at inside =
     is_listed-places_outside (whole d) (whole to) at
-    ∙ (rw (in-whole to at, in-whole d at, is_inside-inside d at inside) (and_true (not (is_inside to at))))
+    ∙ (rw (in-whole to at, in-whole d at, is_inside-inside d at inside)
+    (and_true (not (is_inside to at))))
 
 -- what a place holds once those that are cut off are empty
 abbrev pub left_glyph : Desk → Size → Place → ℕ
 left_glyph d to at = if is_inside to at then glyph_at d.scan at else empty
 
 pub cut-away : (d : Desk) (to : Size) → IsDesk d
-    → desk_after_all d (write_each (λ at. empty) (cut_places d.scan.dims to)) ≡ desk_after_edit d (sheet_by d.scan.dims (left_glyph d to)) (cut_places d.scan.dims to)
+    → desk_after_all d (write_each (λ at. empty) (cut_places d.scan.dims to))
+    ≡ desk_after_edit d (sheet_by d.scan.dims (left_glyph d to)) (cut_places d.scan.dims to)
 cut-away d to desk =
-    after_writes d (λ at. empty) (cut_places d.scan.dims to) (left_glyph d to) desk.state.sheet.size desk.state.sheet.whole
+    after_writes d (λ at. empty) (cut_places d.scan.dims to) (left_glyph d to) desk.state.sheet.size
+    desk.state.sheet.whole
     (inside-places_outside d.scan.dims (whole d.scan.dims) (whole to) (omega arith) (omega arith))
-    (λ at inside. rw (listed-cut d.scan.dims to at inside) (swap (is_inside to at) (glyph_at d.scan at)))
+    (λ at inside. rw (listed-cut d.scan.dims to at inside)
+    (swap (is_inside to at) (glyph_at d.scan at)))
   where
     swap : (b : Bool) (g : ℕ) → (if not b then empty else g) ≡ (if b then g else empty)
     swap true g = refl
     swap false g = refl
 
 -- a place that is cut off is empty then
-pub cut-empty : (d : Desk) (to : Size) (at : Place) → IsInside d.scan.dims at → is_inside to at ≡ false → glyph_on (sheet_by d.scan.dims (left_glyph d to)) at ≡ empty
-cut-empty d to at inside out = glyph_at-sheet_by d.scan.dims (left_glyph d to) at inside ∙ (rw out refl)
+pub cut-empty : (d : Desk) (to : Size) (at : Place) → IsInside d.scan.dims at
+    → is_inside to at ≡ false → glyph_on (sheet_by d.scan.dims (left_glyph d to)) at ≡ empty
+cut-empty d to at inside out =
+    glyph_at-sheet_by d.scan.dims (left_glyph d to) at inside ∙ (rw out refl)
 
 -- what isn't listed in the end was neither listed before nor among the places
-absent-each : (began : Size) (listed places : List Place) (q : Place) → IsInside began q → is_listed (list_each began listed places) q ≡ false → (is_listed listed q ≡ false) × (is_listed places q ≡ false)
+absent-each : (began : Size) (listed places : List Place) (q : Place) → IsInside began q
+    → is_listed (list_each began listed places) q ≡ false
+    → (is_listed listed q ≡ false) × (is_listed places q ≡ false)
 absent-each began listed [] q inside absent = (absent, refl)
 absent-each began listed (p ∷ places) q inside absent =
     let rest = absent-each began (list_with began listed (Some p)) places q inside absent in
@@ -59,35 +69,49 @@ absent-each began listed (p ∷ places) q inside absent =
     (one.0, rw (one.1, rest.1) refl)
 
 -- a place of the last `begin` that lies in no grid of the other size is listed then
-pub cut-listed : (d : Desk) (to : Size) (at : Place) → IsDesk d → IsInside d.began.dims at → is_inside to at ≡ false → is_listed (list_each d.began.dims d.listed (cut_places d.scan.dims to)) at ≡ true
-cut-listed d to at desk inside out = elim (cases_Bool (is_listed (list_each d.began.dims d.listed (cut_places d.scan.dims to)) at)) [
-  | inl is ↦ is
-  | inr absent ↦
-      let before = absent-each d.began.dims d.listed (cut_places d.scan.dims to) at inside absent in
-      let there = (desk.kept at inside before.0).0 in
-      absurd (both_ways _ before.1 (listed-cut d.scan.dims to at there ∙ (rw out refl)))
-]
+pub cut-listed : (d : Desk) (to : Size) (at : Place) → IsDesk d → IsInside d.began.dims at
+    → is_inside to at ≡ false
+    → is_listed (list_each d.began.dims d.listed (cut_places d.scan.dims to)) at ≡ true
+cut-listed d to at desk inside out =
+    elim (cases_Bool (is_listed (list_each d.began.dims d.listed (cut_places d.scan.dims to)) at)) [
+      | inl is ↦ is
+      | inr absent ↦
+          let cut = cut_places d.scan.dims to in
+          let before = absent-each d.began.dims d.listed cut at inside absent in
+          let there = (desk.kept at inside before.0).0 in
+          absurd (both_ways _ before.1 (listed-cut d.scan.dims to at there ∙ (rw out refl)))
+    ]
 
 -- the other size of a grid from which it cuts nothing but empty places is that of the grid before
-pub resize-cut : (d : Desk) (to : Size) → IsSize to → sheet_after_resize (sheet_by d.scan.dims (left_glyph d to)) to ≡ sheet_after_resize (sheet_of d.scan) to
+pub resize-cut : (d : Desk) (to : Size) → IsSize to
+    → sheet_after_resize (sheet_by d.scan.dims (left_glyph d to)) to
+    ≡ sheet_after_resize (sheet_of d.scan) to
 resize-cut d to size =
     ap (λ (cells : List ℕ). record { dims = to; cells = cells })
-    (same-by_place to (λ at. if is_inside d.scan.dims at then glyph_on (sheet_by d.scan.dims (left_glyph d to)) at else empty)
-    (λ at. if is_inside d.scan.dims at then glyph_at d.scan at else empty) 0 size (λ at inside. each at inside (is_inside d.scan.dims at) refl))
+    (same-by_place to (λ at. if is_inside d.scan.dims at then glyph_on
+    (sheet_by d.scan.dims (left_glyph d to)) at else empty)
+    (λ at. if is_inside d.scan.dims at then glyph_at d.scan at else empty) 0 size
+    (λ at inside. each at inside (is_inside d.scan.dims at) refl))
   where
     each : (at : Place) → IsInside to at → (b : Bool) → is_inside d.scan.dims at ≡ b
-        → (if b then glyph_on (sheet_by d.scan.dims (left_glyph d to)) at else empty) ≡ (if b then glyph_at d.scan at else empty)
+        → (if b then glyph_on (sheet_by d.scan.dims (left_glyph d to)) at else empty)
+        ≡ (if b then glyph_at d.scan at else empty)
     each at inside true here =
-        glyph_at-sheet_by d.scan.dims (left_glyph d to) at (inside-is_inside d.scan.dims at here) ∙ (rw (is_inside-inside to at inside) refl)
+        glyph_at-sheet_by d.scan.dims (left_glyph d to) at (inside-is_inside d.scan.dims at here)
+        ∙ (rw (is_inside-inside to at inside) refl)
     each at inside false here = refl
 
 -- a place outside the grid of the last `begin` isn't listed
-pub cut-unlisted : (began : Size) (listed places : List Place) → list_each began listed (filter (λ at. not (is_in_area (whole began) at)) places) ≡ listed
+pub cut-unlisted : (began : Size) (listed places : List Place)
+    → list_each began listed (filter (λ at. not (is_in_area (whole began) at)) places) ≡ listed
 cut-unlisted began listed [] = refl
-cut-unlisted began listed (p ∷ places) = step (is_in_area (whole began) p) refl (cut-unlisted began listed places)
+cut-unlisted began listed (p ∷ places) =
+    step (is_in_area (whole began) p) refl (cut-unlisted began listed places)
   where
-    step : (b : Bool) → is_in_area (whole began) p ≡ b → list_each began listed (filter (λ at. not (is_in_area (whole began) at)) places) ≡ listed
-        → list_each began listed (filter (λ at. not (is_in_area (whole began) at)) (p ∷ places)) ≡ listed
+    step : (b : Bool) → is_in_area (whole began) p ≡ b
+        → list_each began listed (filter (λ at. not (is_in_area (whole began) at)) places) ≡ listed
+        → list_each began listed (filter (λ at. not (is_in_area (whole began) at)) (p ∷ places))
+        ≡ listed
     step true is rest = rw is rest
     step false is rest =
         let out : is_inside began p ≡ false = sym (in-whole began p) ∙ is in

@@ -17,47 +17,85 @@ use Rattle.orca_board.specs.Listing.{ListsChanges, changes_with, places_of}
 use Rattle.orca_board.proofs.ListingLemmas.{changes-written}
 
 -- the parts of a board at the start of a frame
-pub started : (d : Desk) (g : Sheet) → d.scan.dims ≡ g.dims → d.scan.cells ≡ g.cells → d.scan.marks ≡ blank_marks g.dims → d.scan.vars ≡ replicate BASE empty
+pub started : (d : Desk) (g : Sheet) → d.scan.dims ≡ g.dims → d.scan.cells ≡ g.cells
+    → d.scan.marks ≡ blank_marks g.dims → d.scan.vars ≡ replicate BASE empty
     → d.scan.events ≡ [] → d.began ≡ g → d.listed ≡ [] → d ≡ desk_of_sheet g
-started d g dims cells marks vars events began listed = parts d.scan d.began d.listed dims cells marks vars events began listed
+started d g dims cells marks vars events began listed =
+    parts d.scan d.began d.listed dims cells marks vars events began listed
   where
-    parts : (s : State) (began : Sheet) (listed : List Place) → s.dims ≡ g.dims → s.cells ≡ g.cells → s.marks ≡ blank_marks g.dims → s.vars ≡ replicate BASE empty
-        → s.events ≡ [] → began ≡ g → listed ≡ [] → ◌≡◌ {A = Desk} (record { scan = record { dims = s.dims; cells = s.cells; marks = s.marks; vars = s.vars; events = s.events }; began = began; listed = listed }) (desk_of_sheet g)
-    parts s began listed dims cells marks vars events same none = rw (dims, cells, marks, vars, events, same, none) refl
+    parts : (s : State) (began : Sheet) (listed : List Place) → s.dims ≡ g.dims → s.cells ≡ g.cells
+        → s.marks ≡ blank_marks g.dims → s.vars ≡ replicate BASE empty
+        → s.events ≡ [] → began ≡ g → listed ≡ []
+        → ◌≡◌ {A = Desk} (record {
+          scan = record {
+            dims = s.dims;
+            cells = s.cells;
+            marks = s.marks;
+            vars = s.vars;
+            events
+                = s.events;
+          };
+          began = began;
+          listed = listed;
+        }) (desk_of_sheet g)
+    parts s began listed dims cells marks vars events same none =
+        rw (dims, cells, marks, vars, events, same, none) refl
 
 -- it is a desk, and has no changes
-pub lists-of_sheet : (d : Desk) (g : Sheet) (known : List Change) → IsSheet g → d ≡ desk_of_sheet g → known ≡ [] → ListsChanges d known
-lists-of_sheet d g known sheet is none = rw (is, none) (record { desk = IsDesk-of_sheet g sheet; changes = refl })
+pub lists-of_sheet : (d : Desk) (g : Sheet) (known : List Change) → IsSheet g → d ≡ desk_of_sheet g
+    → known ≡ [] → ListsChanges d known
+lists-of_sheet d g known sheet is none =
+    rw (is, none) (record { desk = IsDesk-of_sheet g sheet; changes = refl })
 
 -- the parts after a glyph is written in the grid
-pub written : (d d' : Desk) (spot : Spot) (at : Place) (glyph : ℕ) → place_in d.scan.dims spot ≡ Some at → d'.scan ≡ record d.scan { cells = set d.scan.cells (index_of d.scan.dims at) glyph }
-    → d'.began ≡ d.began → d'.listed ≡ list_with d.began.dims d.listed (Some at) → d' ≡ desk_after d (Write spot glyph)
+pub written : (d d' : Desk) (spot : Spot) (at : Place) (glyph : ℕ) → place_in d.scan.dims spot
+    ≡ Some at → d'.scan ≡ record d.scan { cells = set d.scan.cells (index_of d.scan.dims at) glyph }
+    → d'.began ≡ d.began → d'.listed ≡ list_with d.began.dims d.listed (Some at) → d'
+    ≡ desk_after d (Write spot glyph)
 unfolding after list_after
-written d d' spot at glyph place scan began listed = rw place (parts d'.scan d'.began d'.listed scan began listed)
+written d d' spot at glyph place scan began listed =
+    rw place (parts d'.scan d'.began d'.listed scan began listed)
   where
-    parts : (s : State) (b : Sheet) (l : List Place) → s ≡ record d.scan { cells = set d.scan.cells (index_of d.scan.dims at) glyph } → b ≡ d.began → l ≡ list_with d.began.dims d.listed (Some at)
-        → ◌≡◌ {A = Desk} (record { scan = s; began = b; listed = l }) (record { scan = record d.scan { cells = set d.scan.cells (index_of d.scan.dims at) glyph }; began = d.began; listed = list_with d.began.dims d.listed (Some at) })
+    parts : (s : State) (b : Sheet) (l : List Place) → s
+        ≡ record d.scan { cells = set d.scan.cells (index_of d.scan.dims at) glyph } → b ≡ d.began
+        → l ≡ list_with d.began.dims d.listed (Some at)
+        → ◌≡◌ {A = Desk} (record { scan = s; began = b; listed = l })
+        (record {
+          scan = record d.scan
+              { cells = set d.scan.cells (index_of d.scan.dims at) glyph };
+          began =
+              d.began;
+          listed = list_with d.began.dims d.listed (Some at);
+        })
     parts s b l scan began listed = rw (scan, began, listed) refl
 
 -- it is a desk, and its changes are one more at most
-pub lists-write : (d d' : Desk) (spot : Spot) (at : Place) (glyph : ℕ) (known known' : List Change) → ListsChanges d known
-    → IsInside d.scan.dims at → place_in d.scan.dims spot ≡ Some at → IsGlyph glyph → d' ≡ desk_after d (Write spot glyph) → places_of known ≡ d.listed
+pub lists-write : (d d' : Desk) (spot : Spot) (at : Place) (glyph : ℕ) (known known' : List Change)
+    → ListsChanges d known
+    → IsInside d.scan.dims at → place_in d.scan.dims spot ≡ Some at → IsGlyph glyph → d'
+    ≡ desk_after d (Write spot glyph) → places_of known ≡ d.listed
     → known' ≡ changes_with d.began.dims known at (glyph_at d.scan at) → ListsChanges d' known'
 unfolding list_after
 lists-write d d' spot at glyph known known' lists inside place is after_it places more =
     rw after_it (record {
-      desk = IsDesk-after d (Write spot glyph) lists.desk is (omega (arith, lists.desk.state.events));
-      changes = more ∙ (changes-written d known at lists.desk.kept places lists.changes ∙ listed place);
+      desk = IsDesk-after d (Write spot glyph) lists.desk is
+          (omega (arith, lists.desk.state.events));
+      changes = more ∙ (changes-written d known at lists.desk.kept places lists.changes
+          ∙ listed place);
     })
   where
-    listed : place_in d.scan.dims spot ≡ Some at → changes_of (record d { listed = list_with d.began.dims d.listed (Some at) }) ≡ changes_of (desk_after d (Write spot glyph))
+    listed : place_in d.scan.dims spot ≡ Some at
+        → changes_of (record d { listed = list_with d.began.dims d.listed (Some at) })
+        ≡ changes_of (desk_after d (Write spot glyph))
     listed here = rw here refl
 
 -- a desk after marks has the same changes
-pub lists-mark : (d d' : Desk) (spot : Spot) (marks : MarkSet) (known : List Change) → ListsChanges d known → d' ≡ desk_after d (Mark spot marks) → ListsChanges d' known
+pub lists-mark : (d d' : Desk) (spot : Spot) (marks : MarkSet) (known : List Change)
+    → ListsChanges d known → d' ≡ desk_after d (Mark spot marks) → ListsChanges d' known
 unfolding list_after
 lists-mark d d' spot marks known lists after_it =
     rw after_it (record {
-      desk = IsDesk-after d (Mark spot marks) lists.desk tt (omega (arith, lists.desk.state.events));
+      desk = IsDesk-after d (Mark spot marks) lists.desk tt
+          (omega (arith, lists.desk.state.events));
       changes = lists.changes;
     })

@@ -1,4 +1,5 @@
--- Spots of the largest grid, seen in a grid: what a place holds, and the marks that are added, counted and taken away.
+-- Spots of the largest grid, seen in a grid: what a place holds, and the marks that are added,
+-- counted and taken away.
 use Rattle.std.proofs.Common.{◌≡◌, ℕ, ◌+◌, ◌*◌, ◌<◌, Bool, true, false, List, length, take, get_or, arith, ap, sym, ◌∙◌, refl, inl, inr}
 use Rattle.std.proofs.Math.ListN.{set}
 use Rattle.std.specs.Prelude.{ℤ, pos, negsuc, Option, Some, None, count_by, if◌then◌else◌, nat_lt}
@@ -26,9 +27,11 @@ abbrev part_in : Size → Option Place → Option Place
 part_in d None = None
 part_in d (Some at) = if is_inside d at then Some at else None
 
-outside_largest : (d : Size) (at : Place) → IsSize d → is_inside largest at ≡ false → is_inside d at ≡ false
+outside_largest : (d : Size) (at : Place) → IsSize d → is_inside largest at ≡ false
+    → is_inside d at ≡ false
 outside_largest d at size outside = elim (cases_Bool (is_inside d at)) [
-  | inl inside ↦ absurd (both_ways _ outside (is_inside-inside largest at (inside-largest d at size (inside-is_inside d at inside))))
+  | inl inside ↦ absurd (both_ways _ outside
+      (is_inside-inside largest at (inside-largest d at size (inside-is_inside d at inside))))
   | inr none ↦ none
 ]
 
@@ -37,86 +40,132 @@ place_at-part d (negsuc y) x size = refl
 place_at-part d (pos y) (negsuc x) size = refl
 place_at-part d (pos y) (pos x) size = each (is_inside largest (record { y = y; x = x })) refl
   where
-    each : (b : Bool) → is_inside largest (record { y = y; x = x }) ≡ b → place_at d (pos y) (pos x) ≡ part_in d (place_at largest (pos y) (pos x))
+    each : (b : Bool) → is_inside largest (record { y = y; x = x }) ≡ b → place_at d (pos y) (pos x)
+        ≡ part_in d (place_at largest (pos y) (pos x))
     each true inside = rw inside refl
     each false outside = rw (outside, outside_largest d (record { y = y; x = x }) size outside) refl
 
-pub place_in-part : (d : Size) (spot : Spot) → IsSize d → place_in d spot ≡ part_in d (place_in largest spot)
+pub place_in-part : (d : Size) (spot : Spot) → IsSize d
+    → place_in d spot ≡ part_in d (place_in largest spot)
 place_in-part d spot size = place_at-part d spot.y spot.x size
 
-pub place_in-none : (d : Size) (spot : Spot) → IsSize d → place_in largest spot ≡ None → place_in d spot ≡ None
+pub place_in-none : (d : Size) (spot : Spot) → IsSize d → place_in largest spot ≡ None
+    → place_in d spot ≡ None
 place_in-none d spot size none = place_in-part d spot size ∙ ap (part_in d) none
 
 -- ---- what a spot shows
 
 -- a cell of the largest grid, as a spot of a grid shows it
-glyph_of_part : (s : State) (cells : List ℕ) (spot : Spot) (at : Place) → IsSize s.dims → s.cells ≡ by_place s.dims (glyph_in cells) → IsEmptyOutside s.dims cells
+glyph_of_part : (s : State) (cells : List ℕ) (spot : Spot) (at : Place) → IsSize s.dims
+    → s.cells ≡ by_place s.dims (glyph_in cells) → IsEmptyOutside s.dims cells
     → place_in largest spot ≡ Some at → IsInside largest at → glyph_in cells at ≡ peek s spot
 unfolding peek
 glyph_of_part s cells spot at size is outside place there =
     rw (place_in-part s.dims spot size, place) (each (is_inside s.dims at) refl)
   where
-    each : (b : Bool) → is_inside s.dims at ≡ b → glyph_in cells at ≡ Rattle.orca_op.specs.State.glyph_in s (if is_inside s.dims at then Some at else None)
+    each : (b : Bool) → is_inside s.dims at ≡ b
+        → glyph_in cells at ≡ Rattle.orca_op.specs.State.glyph_in s
+        (if is_inside s.dims at then Some at else None)
     each true inside =
-        rw inside (sym (ap (λ (xs : List ℕ). get_or xs (index_of s.dims at) 0) is ∙ index-by_place s.dims (glyph_in cells) at 0 (inside-is_inside s.dims at inside)))
+        rw inside (sym (ap (λ (xs : List ℕ). get_or xs (index_of s.dims at) 0) is
+        ∙ index-by_place s.dims (glyph_in cells) at 0 (inside-is_inside s.dims at inside)))
     each false past = rw past (outside at there past)
 
-pub peek-some : (s : State) (most : Size) (cells : List ℕ) (spot : Spot) (at : Place) (i read : ℕ) → IsSize s.dims → s.cells ≡ by_place s.dims (glyph_in cells) → IsEmptyOutside s.dims cells
-    → most ≡ largest → Some at ≡ place_in most spot → IsInside most at → i ≡ index_of most at → i < MAX_CELLS → length cells ≡ MAX_CELLS → read ≡ get_or cells i read → read ≡ peek s spot
+pub peek-some : (s : State) (most : Size) (cells : List ℕ) (spot : Spot) (at : Place) (i read : ℕ)
+    → IsSize s.dims → s.cells ≡ by_place s.dims (glyph_in cells) → IsEmptyOutside s.dims cells
+    → most ≡ largest → Some at ≡ place_in most spot → IsInside most at → i ≡ index_of most at → i
+    < MAX_CELLS → length cells ≡ MAX_CELLS → read ≡ get_or cells i read → read ≡ peek s spot
 peek-some s most cells spot at i read size is outside is_most place there number below whole shown =
     let in_largest : IsInside largest at = rw is_most at there in
     shown ∙ (get_or_default cells i read 0 (omega (arith, below, whole))
     ∙ (ap (λ (n : ℕ). get_or cells n 0) (number ∙ ap (λ (m : Size). index_of m at) is_most)
-    ∙ glyph_of_part s cells spot at size is outside (sym (place ∙ ap (λ (m : Size). place_in m spot) is_most)) in_largest))
+    ∙ glyph_of_part s cells spot at size is outside
+    (sym (place ∙ ap (λ (m : Size). place_in m spot) is_most)) in_largest))
 
-pub peek-none : (s : State) (most : Size) (spot : Spot) → IsSize s.dims → most ≡ largest → None ≡ place_in most spot → empty ≡ peek s spot
+pub peek-none : (s : State) (most : Size) (spot : Spot) → IsSize s.dims → most ≡ largest
+    → None ≡ place_in most spot → empty ≡ peek s spot
 unfolding peek
 peek-none s most spot size is_most none =
-    rw (place_in-none s.dims spot size (sym (none ∙ ap (λ (m : Size). place_in m spot) is_most))) refl
+    rw (place_in-none s.dims spot size (sym (none ∙ ap (λ (m : Size). place_in m spot) is_most)))
+    refl
 
 -- ---- marks that are added
 
 -- a place outside the grid changes none of the grid's marks
-marks_beside : (d : Size) (plane : List MarkSet) (at : Place) (m : MarkSet) → IsSize d → IsInside largest at → is_inside d at ≡ false
+marks_beside : (d : Size) (plane : List MarkSet) (at : Place) (m : MarkSet) → IsSize d
+    → IsInside largest at → is_inside d at ≡ false
     → by_place d (marks_in (set plane (index_of largest at) m)) ≡ by_place d (marks_in plane)
 marks_beside d plane at m size there past =
     same-by_place d (marks_in (set plane (index_of largest at) m)) (marks_in plane) no_marks size
-    (λ q inside. get_or-set_other plane (index_of largest at) (index_of largest q) m no_marks (index-apart largest q at (inside-largest d q size inside) there (apart q inside (is_place q at) refl)))
+    (λ q inside. get_or-set_other plane (index_of largest at) (index_of largest q) m no_marks
+    (index-apart largest q at (inside-largest d q size inside) there
+    (apart q inside (is_place q at) refl)))
   where
     apart : (q : Place) → IsInside d q → (b : Bool) → is_place q at ≡ b → b ≡ false
-    apart q inside true same = absurd (both_ways _ past (ap (is_inside d) (sym (is_place-same q at same)) ∙ is_inside-inside d q inside))
+    apart q inside true same =
+        absurd (both_ways _ past (ap (is_inside d) (sym (is_place-same q at same))
+        ∙ is_inside-inside d q inside))
     apart q inside false same = refl
 
 -- the desk after marks of a place of the largest grid
-pub marked-part : (d : Desk) (most : Size) (plane : List MarkSet) (spot : Spot) (at : Place) (marks : MarkSet) → IsSize d.scan.dims → d.scan.marks ≡ by_place d.scan.dims (marks_in plane) → length plane ≡ MAX_CELLS
+pub marked-part : (d : Desk) (most : Size) (plane : List MarkSet) (spot : Spot) (at : Place)
+    (marks : MarkSet)
+    → IsSize d.scan.dims → d.scan.marks ≡ by_place d.scan.dims (marks_in plane)
+    → length plane ≡ MAX_CELLS
     → most ≡ largest → Some at ≡ place_in most spot → IsInside most at
-    → record d { scan = record d.scan { marks = by_place d.scan.dims (marks_in (set plane (index_of largest at) (all_marks (marks_in plane at) marks))) } } ≡ desk_after d (Mark spot marks)
+    → record d {
+      scan = record d.scan {
+        marks = by_place d.scan.dims
+            (marks_in (set plane (index_of largest at) (all_marks (marks_in plane at) marks)));
+      };
+    } ≡ desk_after d (Mark spot marks)
 unfolding after list_after
 marked-part d most plane spot at marks size is whole is_most place there =
     let there_largest : IsInside largest at = rw is_most at there in
-    let found : place_in largest spot ≡ Some at = sym (place ∙ ap (λ (m : Size). place_in m spot) is_most) in
+    let found : place_in largest spot ≡ Some at =
+    sym (place ∙ ap (λ (m : Size). place_in m spot) is_most) in
     each there_largest found (is_inside d.scan.dims at) refl
   where
-    each : IsInside largest at → place_in largest spot ≡ Some at → (b : Bool) → is_inside d.scan.dims at ≡ b
-        → record d { scan = record d.scan { marks = by_place d.scan.dims (marks_in (set plane (index_of largest at) (all_marks (marks_in plane at) marks))) } } ≡ desk_after d (Mark spot marks)
+    each : IsInside largest at → place_in largest spot ≡ Some at → (b : Bool)
+        → is_inside d.scan.dims at ≡ b
+        → record d {
+          scan = record d.scan {
+            marks = by_place d.scan.dims
+                (marks_in (set plane (index_of largest at) (all_marks (marks_in plane at) marks)));
+          };
+        } ≡ desk_after d (Mark spot marks)
     each in_largest found true inside =
-        marked-plane d plane spot at marks size (inside-is_inside d.scan.dims at inside) (place_in-part d.scan.dims spot size ∙ (rw (found, inside) refl)) is whole
+        marked-plane d plane spot at marks size (inside-is_inside d.scan.dims at inside)
+        (place_in-part d.scan.dims spot size ∙ (rw (found, inside) refl)) is whole
     each in_largest found false past =
-        rw (place_in-part d.scan.dims spot size, found, past, marks_beside d.scan.dims plane at (all_marks (marks_in plane at) marks) size in_largest past, is) refl
+        rw (
+          place_in-part d.scan.dims spot size,
+          found,
+          past,
+          marks_beside d.scan.dims plane at
+              (all_marks (marks_in plane at) marks) size in_largest past,
+          is,
+        ) refl
 
-pub marked-none : (d : Desk) (most : Size) (spot : Spot) (marks : MarkSet) → IsSize d.scan.dims → most ≡ largest → None ≡ place_in most spot → d ≡ desk_after d (Mark spot marks)
+pub marked-none : (d : Desk) (most : Size) (spot : Spot) (marks : MarkSet) → IsSize d.scan.dims
+    → most ≡ largest → None ≡ place_in most spot → d ≡ desk_after d (Mark spot marks)
 unfolding after list_after
 marked-none d most spot marks size is_most none =
-    rw (place_in-none d.scan.dims spot size (sym (none ∙ ap (λ (m : Size). place_in m spot) is_most))) refl
+    rw (place_in-none d.scan.dims spot size
+    (sym (none ∙ ap (λ (m : Size). place_in m spot) is_most))) refl
 
 -- ---- marks that are taken away, and counted
 
 -- no marks in the rows of a grid
 pub cleared-by_place : (d : Size) (marks old : List MarkSet) → IsSize d
-    → ((i : ℕ) → get_or marks i no_marks ≡ (if nat_lt i (d.h * MAX_COLUMNS) then no_marks else get_or old i no_marks)) → by_place d (marks_in marks) ≡ blank_marks d
+    → ((i : ℕ) → get_or marks i no_marks ≡
+    (if nat_lt i (d.h * MAX_COLUMNS) then no_marks else get_or old i no_marks))
+    → by_place d (marks_in marks) ≡ blank_marks d
 cleared-by_place d marks old size each =
-    sym (list-by_place d (blank_marks d) (marks_in marks) no_marks size (length-replicate (cells_of d) no_marks) (λ at inside.
-    get_or-replicate (cells_of d) (index_of d at) no_marks no_marks (index_of-below d at inside) ∙ sym (cleared at inside)))
+    sym (list-by_place d (blank_marks d) (marks_in marks) no_marks size
+    (length-replicate (cells_of d) no_marks) (λ at inside.
+    get_or-replicate (cells_of d) (index_of d at) no_marks no_marks (index_of-below d at inside)
+    ∙ sym (cleared at inside)))
   where
     row_below : (h y x : ℕ) → y < h → x < MAX_COLUMNS → y * MAX_COLUMNS + x < h * MAX_COLUMNS
     row_below h y x row column = omega arith
@@ -124,21 +173,32 @@ cleared-by_place d marks old size each =
     cleared : (at : Place) → IsInside d at → marks_in marks at ≡ no_marks
     cleared at inside =
         each (index_of largest at)
-        ∙ (rw (lt-ltb (index_of largest at) (d.h * MAX_COLUMNS) (row_below d.h at.y at.x inside.row (omega (arith, inside.column, size.few_columns)))) refl)
+        ∙ (rw (lt-ltb (index_of largest at) (d.h * MAX_COLUMNS)
+        (row_below d.h at.y at.x inside.row
+        (omega (arith, inside.column, size.few_columns)))) refl)
 
 -- one place more of a grid is counted
-pub counted_yes : (d : Size) (marks : List MarkSet) (n : ℕ) → n < cells_of d → is_marked (marks_in marks (place_of d n)) ≡ true
-    → count_by is_marked (take (n + 1) (by_place d (marks_in marks))) ≡ count_by is_marked (take n (by_place d (marks_in marks))) + 1
+pub counted_yes : (d : Size) (marks : List MarkSet) (n : ℕ) → n < cells_of d
+    → is_marked (marks_in marks (place_of d n)) ≡ true
+    → count_by is_marked (take (n + 1) (by_place d (marks_in marks)))
+    ≡ count_by is_marked (take n (by_place d (marks_in marks))) + 1
 counted_yes d marks n below is =
-    count_by_more_yes is_marked (by_place d (marks_in marks)) n no_marks (omega (arith, length-by_place d (marks_in marks), below))
+    count_by_more_yes is_marked (by_place d (marks_in marks)) n no_marks
+    (omega (arith, length-by_place d (marks_in marks), below))
     (ap is_marked (number-by_place d (marks_in marks) n no_marks below) ∙ is)
 
-pub counted_no : (d : Size) (marks : List MarkSet) (n : ℕ) → n < cells_of d → is_marked (marks_in marks (place_of d n)) ≡ false
-    → count_by is_marked (take (n + 1) (by_place d (marks_in marks))) ≡ count_by is_marked (take n (by_place d (marks_in marks)))
+pub counted_no : (d : Size) (marks : List MarkSet) (n : ℕ) → n < cells_of d
+    → is_marked (marks_in marks (place_of d n)) ≡ false
+    → count_by is_marked (take (n + 1) (by_place d (marks_in marks)))
+    ≡ count_by is_marked (take n (by_place d (marks_in marks)))
 counted_no d marks n below is =
-    count_by_more_no is_marked (by_place d (marks_in marks)) n no_marks (omega (arith, length-by_place d (marks_in marks), below))
+    count_by_more_no is_marked (by_place d (marks_in marks)) n no_marks
+    (omega (arith, length-by_place d (marks_in marks), below))
     (ap is_marked (number-by_place d (marks_in marks) n no_marks below) ∙ is)
 
 -- all of them
-pub counted_all : (d : Size) (marks : List MarkSet) → take (cells_of d) (by_place d (marks_in marks)) ≡ by_place d (marks_in marks)
-counted_all d marks = take_all (cells_of d) (by_place d (marks_in marks)) (omega (arith, length-by_place d (marks_in marks)))
+pub counted_all : (d : Size) (marks : List MarkSet)
+    → take (cells_of d) (by_place d (marks_in marks)) ≡ by_place d (marks_in marks)
+counted_all d marks =
+    take_all (cells_of d) (by_place d (marks_in marks))
+    (omega (arith, length-by_place d (marks_in marks)))

@@ -18,27 +18,43 @@ use Rattle.orca_op.specs.Desk.{Desk, KeepsUnlisted, changes_of, is_listed, list_
 use Rattle.orca_board.specs.Listing.{IsFlagged, has_number, places_of, changes_with}
 
 -- a flag more counts one more
-count_more : (flags : List Bool) (i : ℕ) → i < length flags → get_or flags i false ≡ false → count_by (λ flag. flag) (set flags i true) ≡ count_by (λ flag. flag) flags + 1
+count_more : (flags : List Bool) (i : ℕ) → i < length flags → get_or flags i false ≡ false
+    → count_by (λ flag. flag) (set flags i true) ≡ count_by (λ flag. flag) flags + 1
 count_more flags i below off =
     let sums = sum_by-set (λ (flag : Bool). cond flag 1 0) flags i true false below in
     let plain = rw off at sums in
     omega (arith, plain)
 
 -- there is room for one more where a flag is off
-pub is_roomy : (changes : List Change) (flags : List Bool) (room i : ℕ) → IsFlagged changes flags room → i < length flags → get_or flags i false ≡ false → length changes < room
+pub is_roomy : (changes : List Change) (flags : List Bool) (room i : ℕ)
+    → IsFlagged changes flags room → i < length flags → get_or flags i false ≡ false
+    → length changes < room
 is_roomy changes flags room i kept below off =
-    omega (arith, count_more flags i below off, count_by-le-length (λ (flag : Bool). flag) (set flags i true), length-set flags i true, kept.counted, kept.size, kept.roomy)
+    omega (
+      arith,
+      count_more flags i below off,
+      count_by-le-length (λ (flag : Bool). flag)
+          (set flags i true),
+      length-set flags i true,
+      kept.counted,
+      kept.size,
+      kept.roomy,
+    )
 
 -- a place is listed where its number is
-numbered : (places : List Place) (at : Place) → IsInside largest at → All (IsInside largest) places → has_number places (index_of largest at) ≡ is_listed places at
+numbered : (places : List Place) (at : Place) → IsInside largest at → All (IsInside largest) places
+    → has_number places (index_of largest at) ≡ is_listed places at
 numbered places at inside all = by places (recursion_from_All (IsInside largest) places all)
   where
-    by : (places : List Place) → AllByRecursion (IsInside largest) places → has_number places (index_of largest at) ≡ is_listed places at
+    by : (places : List Place) → AllByRecursion (IsInside largest) places
+        → has_number places (index_of largest at) ≡ is_listed places at
     by [] all = refl
     by (p ∷ places) all = rw (is_place-index largest at p inside all.0, by places all.1) refl
 
 -- a flag is that of the listed place
-pub flag_listed : (changes : List Change) (flags : List Bool) (room : ℕ) (at : Place) → IsFlagged changes flags room → IsInside largest at → get_or flags (index_of largest at) false ≡ is_listed (places_of changes) at
+pub flag_listed : (changes : List Change) (flags : List Bool) (room : ℕ) (at : Place)
+    → IsFlagged changes flags room → IsInside largest at
+    → get_or flags (index_of largest at) false ≡ is_listed (places_of changes) at
 flag_listed changes flags room at kept inside =
     kept.only (index_of largest at) ∙ numbered (places_of changes) at inside kept.inside
 
@@ -47,46 +63,65 @@ or_false true = refl
 or_false false = refl
 
 -- a flag that is on stands for the place that was listed, or for an earlier one
-flag_at : (flags : List Bool) (i j : ℕ) → i < length flags → get_or flags i false ≡ false → get_or (set flags i true) j false ≡ (get_or flags j false || (j == i))
+flag_at : (flags : List Bool) (i j : ℕ) → i < length flags → get_or flags i false ≡ false
+    → get_or (set flags i true) j false ≡ (get_or flags j false || (j == i))
 flag_at flags i j below off =
     elim (eqb_tells j i) [
       | inl same ↦ rw (same.0, same.1, get_or-set_same flags i true false below, off) refl
-      | inr other ↦ rw (get_or-set_other flags i j true false other.1, other.0) (or_false (get_or flags j false))
+      | inr other ↦ rw (get_or-set_other flags i j true false other.1, other.0)
+          (or_false (get_or flags j false))
     ]
 
-pub flagged_more : (changes new : List Change) (flags : List Bool) (room room' i : ℕ) (change : Change) → IsInside largest change.at → IsFlagged changes flags room → i ≡ index_of largest change.at → get_or flags i false ≡ false → i < length flags → new ≡ changes ++ change ∷ [] → room ≤ room' → IsFlagged new (set flags i true) room'
+pub flagged_more : (changes new : List Change) (flags : List Bool) (room room' i : ℕ)
+    (change : Change)
+    → IsInside largest change.at → IsFlagged changes flags room → i ≡ index_of largest change.at
+    → get_or flags i false ≡ false → i < length flags → new ≡ changes ++ change ∷ [] → room ≤ room'
+    → IsFlagged new (set flags i true) room'
 flagged_more changes new flags room room' i change inside kept number off below pushed grows =
-    let places : places_of (changes ++ change ∷ []) ≡ places_of changes ++ change.at ∷ [] = map_push (λ (c : Change). c.at) changes change in
+    let places : places_of (changes ++ change ∷ []) ≡ places_of changes ++ change.at ∷ [] =
+    map_push (λ (c : Change). c.at) changes change in
     rw pushed (record {
       size = length-set flags i true ∙ kept.size;
-      counted = omega (arith, length-append changes (change ∷ []), count_more flags i below off, kept.counted);
+      counted = omega (
+        arith,
+        length-append changes (change ∷ []),
+        count_more flags i below off,
+        kept.counted,
+      );
       only = λ j.
           flag_at flags i j below off
           ∙ (ap (λ (b : Bool). b || (j == i)) (kept.only j)
           ∙ (ap (λ (n : ℕ). has_number (places_of changes) j || (j == n)) number
-          ∙ (ap (λ (b : Bool). has_number (places_of changes) j || b) (or_false (j == index_of largest change.at))
-          ∙ (sym (list_any-append (λ place. j == index_of largest place) (places_of changes) (change.at ∷ []))
+          ∙ (ap (λ (b : Bool). has_number (places_of changes) j || b)
+          (or_false (j == index_of largest change.at))
+          ∙ (sym (list_any-append (λ place. j == index_of largest place) (places_of changes)
+          (change.at ∷ []))
           ∙ ap (λ (p : List Place). has_number p j) (sym places)))));
-      inside = subst (λ (p : List Place). All (IsInside largest) p) (sym places) (All-push (IsInside largest) (places_of changes) change.at kept.inside inside);
+      inside = subst (λ (p : List Place). All (IsInside largest) p) (sym places)
+          (All-push (IsInside largest) (places_of changes) change.at kept.inside inside);
       roomy = omega (arith, kept.roomy);
     })
 
 -- the place of a change
-pub inside_there : (d : Size) (changes : List Change) (i : ℕ) (default : Change) → All (IsInside d) (places_of changes) → i < length changes → IsInside d (get_or changes i default).at
+pub inside_there : (d : Size) (changes : List Change) (i : ℕ) (default : Change)
+    → All (IsInside d) (places_of changes) → i < length changes
+    → IsInside d (get_or changes i default).at
 inside_there d changes i default all below =
     subst (IsInside d) (get_or-map (λ (c : Change). c.at) changes i default default.at below)
     (all i default.at (omega (arith, below, length-map changes (λ (c : Change). c.at))))
 
 -- ---- no change any more
 
-no_flag : (flags : List Bool) → ((i : ℕ) → get_or flags i false ≡ false) → count_by (λ flag. flag) flags ≡ 0
+no_flag : (flags : List Bool) → ((i : ℕ) → get_or flags i false ≡ false)
+    → count_by (λ flag. flag) flags ≡ 0
 no_flag [] off = refl
 no_flag (flag ∷ flags) off =
     let first : flag ≡ false = off zero in
     rw first (no_flag flags (λ i. off (suc i)))
 
 -- no flag is set for no changes
-pub flagged_none : (flags : List Bool) (room : ℕ) → length flags ≡ MAX_CELLS → ((i : ℕ) → get_or flags i false ≡ false) → MAX_CELLS ≤ room → IsFlagged [] flags room
+pub flagged_none : (flags : List Bool) (room : ℕ) → length flags ≡ MAX_CELLS
+    → ((i : ℕ) → get_or flags i false ≡ false) → MAX_CELLS ≤ room → IsFlagged [] flags room
 flagged_none flags room size off roomy = record {
   size = size;
   counted = sym (no_flag flags off);
@@ -100,24 +135,39 @@ both true = refl
 both false = refl
 
 -- a flag that is set only for listed places is off once their flags are
-pub lowered_off : (changes : List Change) (old new : List Bool) (i : ℕ) → get_or old i false ≡ has_number (places_of changes) i → get_or new i false ≡ (get_or old i false && not (has_number (places_of changes) i)) → get_or new i false ≡ false
+pub lowered_off : (changes : List Change) (old new : List Bool) (i : ℕ)
+    → get_or old i false ≡ has_number (places_of changes) i
+    → get_or new i false ≡ (get_or old i false && not (has_number (places_of changes) i))
+    → get_or new i false ≡ false
 lowered_off changes old new i only lowered =
-    lowered ∙ (ap (λ (b : Bool). b && not (has_number (places_of changes) i)) only ∙ both (has_number (places_of changes) i))
+    lowered ∙ (ap (λ (b : Bool). b && not (has_number (places_of changes) i)) only
+    ∙ both (has_number (places_of changes) i))
 
 -- one flag more is down
-pub lowered_more : (old flags : List Bool) (changes : List Change) (change : Change) (i j : ℕ) → i ≡ index_of largest change.at → i < length flags
+pub lowered_more : (old flags : List Bool) (changes : List Change) (change : Change) (i j : ℕ)
+    → i ≡ index_of largest change.at → i < length flags
     → get_or flags j false ≡ (get_or old j false && not (has_number (places_of changes) j))
-    → get_or (set flags i false) j false ≡ (get_or old j false && not (has_number (places_of (changes ++ change ∷ [])) j))
+    → get_or (set flags i false) j false ≡
+    (get_or old j false && not (has_number (places_of (changes ++ change ∷ [])) j))
 lowered_more old flags changes change i j number below before =
-    let places : has_number (places_of (changes ++ change ∷ [])) j ≡ (has_number (places_of changes) j || (j == index_of largest change.at || false)) =
-    ap (λ (p : List Place). has_number p j) (map_push (λ (c : Change). c.at) changes change) ∙ list_any-append (λ place. j == index_of largest place) (places_of changes) (change.at ∷ []) in
+    let places : has_number (places_of (changes ++ change ∷ [])) j
+    ≡ (has_number (places_of changes) j || (j == index_of largest change.at || false)) =
+    ap (λ (p : List Place). has_number p j) (map_push (λ (c : Change). c.at) changes change)
+    ∙ list_any-append (λ place. j == index_of largest place) (places_of changes)
+    (change.at ∷ []) in
     elim (eqb_tells j i) [
       | inl same ↦
-          let here : (j == index_of largest change.at) ≡ true = ap (λ (n : ℕ). j == n) (sym number) ∙ same.0 in
-          rw same.1 (get_or-set_same flags i false false below) ∙ down (get_or old j false) (has_number (places_of (changes ++ change ∷ [])) j) (places ∙ or_true _ _ here)
+          let here : (j == index_of largest change.at) ≡ true =
+          ap (λ (n : ℕ). j == n) (sym number) ∙ same.0 in
+          rw same.1 (get_or-set_same flags i false false below)
+          ∙ down (get_or old j false) (has_number (places_of (changes ++ change ∷ [])) j)
+          (places ∙ or_true _ _ here)
       | inr other ↦
-          let there : (j == index_of largest change.at) ≡ false = ap (λ (n : ℕ). j == n) (sym number) ∙ other.0 in
-          get_or-set_other flags i j false false other.1 ∙ (before ∙ ap (λ (b : Bool). get_or old j false && not b) (sym (places ∙ or_none _ _ there)))
+          let there : (j == index_of largest change.at) ≡ false =
+          ap (λ (n : ℕ). j == n) (sym number) ∙ other.0 in
+          get_or-set_other flags i j false false other.1
+          ∙ (before ∙ ap (λ (b : Bool). get_or old j false && not b)
+          (sym (places ∙ or_none _ _ there)))
     ]
   where
     down : (a b : Bool) → b ≡ true → false ≡ (a && not b)
@@ -134,53 +184,73 @@ lowered_more old flags changes change i j number below before =
 
 -- ---- the places of the changes
 
-places_if : (changes : List Change) (at : Place) (old : ℕ) (adds : Bool) → places_of (cond adds (changes ++ record { at = at; old = old } ∷ []) changes) ≡ cond adds (places_of changes ++ at ∷ []) (places_of changes)
-places_if changes at old true = map_push (λ (c : Change). c.at) changes (record { at = at; old = old })
+places_if : (changes : List Change) (at : Place) (old : ℕ) (adds : Bool)
+    → places_of (cond adds (changes ++ record { at = at; old = old } ∷ []) changes)
+    ≡ cond adds (places_of changes ++ at ∷ []) (places_of changes)
+places_if changes at old true =
+    map_push (λ (c : Change). c.at) changes (record { at = at; old = old })
 places_if changes at old false = refl
 
 -- they are those of the desk
-pub places-changes_with : (began : Size) (changes : List Change) (at : Place) (old : ℕ) → places_of (changes_with began changes at old) ≡ list_with began (places_of changes) (Some at)
-places-changes_with began changes at old = places_if changes at old (is_inside began at && not (is_listed (places_of changes) at))
+pub places-changes_with : (began : Size) (changes : List Change) (at : Place) (old : ℕ)
+    → places_of (changes_with began changes at old) ≡ list_with began (places_of changes) (Some at)
+places-changes_with began changes at old =
+    places_if changes at old (is_inside began at && not (is_listed (places_of changes) at))
 
 -- a place that is new
-pub with_new : (began : Size) (changes : List Change) (at : Place) (old : ℕ) → IsInside began at → is_listed (places_of changes) at ≡ false → changes_with began changes at old ≡ changes ++ record { at = at; old = old } ∷ []
+pub with_new : (began : Size) (changes : List Change) (at : Place) (old : ℕ) → IsInside began at
+    → is_listed (places_of changes) at ≡ false → changes_with began changes at old ≡ changes
+    ++ record { at = at; old = old } ∷ []
 with_new began changes at old inside absent = rw (is_inside-inside began at inside, absent) refl
 
 -- a place that is listed
-pub with_listed : (began : Size) (changes : List Change) (at : Place) (old : ℕ) → is_listed (places_of changes) at ≡ true → changes_with began changes at old ≡ changes
-with_listed began changes at old present = by (is_inside began at) (is_listed (places_of changes) at) present
+pub with_listed : (began : Size) (changes : List Change) (at : Place) (old : ℕ)
+    → is_listed (places_of changes) at ≡ true → changes_with began changes at old ≡ changes
+with_listed began changes at old present =
+    by (is_inside began at) (is_listed (places_of changes) at) present
   where
-    never : (inside : Bool) → cond (inside && false) (changes ++ record { at = at; old = old } ∷ []) changes ≡ changes
+    never : (inside : Bool) → cond (inside && false) (changes ++ record { at = at; old = old } ∷ [])
+        changes ≡ changes
     never true = refl
     never false = refl
 
-    by : (inside found : Bool) → found ≡ true → cond (inside && not found) (changes ++ record { at = at; old = old } ∷ []) changes ≡ changes
+    by : (inside found : Bool) → found ≡ true → cond (inside && not found)
+        (changes ++ record { at = at; old = old } ∷ []) changes ≡ changes
     by inside true is = never inside
     by inside false is = cc
 
--- what a write in the grid adds to the changes: its glyph of the last `begin`, for a place that isn't listed still holds it
-pub changes-written : (d : Desk) (changes : List Change) (at : Place) → KeepsUnlisted d → places_of changes ≡ d.listed → changes ≡ changes_of d
-    → changes_with d.began.dims changes at (glyph_at d.scan at) ≡ changes_of (record d { listed = list_with d.began.dims d.listed (Some at) })
+-- what a write in the grid adds to the changes: its glyph of the last `begin`, for a place that
+-- isn't listed still holds it
+pub changes-written : (d : Desk) (changes : List Change) (at : Place) → KeepsUnlisted d
+    → places_of changes ≡ d.listed → changes ≡ changes_of d
+    → changes_with d.began.dims changes at (glyph_at d.scan at)
+    ≡ changes_of (record d { listed = list_with d.began.dims d.listed (Some at) })
 changes-written d changes at kept places is =
-    rw places (by (is_inside d.began.dims at) (is_listed d.listed at) (inside-is_inside d.began.dims at) (λ inside absent. (kept at inside absent).1))
+    rw places (by (is_inside d.began.dims at) (is_listed d.listed at)
+    (inside-is_inside d.began.dims at) (λ inside absent. (kept at inside absent).1))
   where
     change : Place → Change
     change q = record { at = q; old = glyph_on d.began q }
 
-    by : (inside found : Bool) → (inside ≡ true → IsInside d.began.dims at) → (IsInside d.began.dims at → found ≡ false → glyph_at d.scan at ≡ glyph_on d.began at)
-        → cond (inside && not found) (changes ++ record { at = at; old = glyph_at d.scan at } ∷ []) changes ≡ map change (cond (inside && not found) (d.listed ++ at ∷ []) d.listed)
+    by : (inside found : Bool) → (inside ≡ true → IsInside d.began.dims at)
+        → (IsInside d.began.dims at → found ≡ false → glyph_at d.scan at ≡ glyph_on d.began at)
+        → cond (inside && not found) (changes ++ record { at = at; old = glyph_at d.scan at } ∷ [])
+        changes ≡ map change (cond (inside && not found) (d.listed ++ at ∷ []) d.listed)
     by true false in_began holds =
-        rw (holds (in_began refl) refl) (ap (λ (c : List Change). c ++ change at ∷ []) is ∙ sym (map_push change d.listed at))
+        rw (holds (in_began refl) refl)
+        (ap (λ (c : List Change). c ++ change at ∷ []) is ∙ sym (map_push change d.listed at))
     by true true in_began holds = is
     by false found in_began holds = is
 
 -- ---- one call
 
-off_there : (flags : List Bool) (i : ℕ) (read : Bool) → i < length flags → read ≡ get_or flags i read → get_or flags i false ≡ read
+off_there : (flags : List Bool) (i : ℕ) (read : Bool) → i < length flags
+    → read ≡ get_or flags i read → get_or flags i false ≡ read
 off_there flags i read below is = get_or_default flags i false read below ∙ sym is
 
 -- what is known where a place is added
-pub record Adds (changes : List Change) (flags : List Bool) (room : ℕ) (at : Place) (i : ℕ) (read : Bool) : Type 0 where
+pub record Adds (changes : List Change) (flags : List Bool) (room : ℕ) (at : Place) (i : ℕ)
+    (read : Bool) : Type 0 where
   pub inside : IsInside largest at
   pub kept : IsFlagged changes flags room
   pub number : i ≡ index_of largest at
@@ -188,7 +258,10 @@ pub record Adds (changes : List Change) (flags : List Bool) (room : ℕ) (at : P
   pub flag : get_or flags i false ≡ read
   pub listed : is_listed (places_of changes) at ≡ read
 
-pub adds : (dims : Size) (changes : List Change) (flags : List Bool) (room : ℕ) (at : Place) (i : ℕ) (read : Bool) → IsFlagged changes flags room → IsInside largest at → dims ≡ largest → i ≡ index_of dims at → i < MAX_CELLS → read ≡ get_or flags i read → Adds changes flags room at i read
+pub adds : (dims : Size) (changes : List Change) (flags : List Bool) (room : ℕ) (at : Place) (i : ℕ)
+    (read : Bool)
+    → IsFlagged changes flags room → IsInside largest at → dims ≡ largest → i ≡ index_of dims at
+    → i < MAX_CELLS → read ≡ get_or flags i read → Adds changes flags room at i read
 adds dims changes flags room at i read kept inside most number below is =
     let index : i ≡ index_of largest at = number ∙ ap (λ (d : Size). index_of d at) most in
     let small : i < length flags = omega (arith, below, kept.size) in
@@ -199,5 +272,6 @@ adds dims changes flags room at i read kept inside most number below is =
       number = index;
       below = small;
       flag = flag;
-      listed = sym (flag_listed changes flags room at kept inside) ∙ (ap (λ (n : ℕ). get_or flags n false) (sym index) ∙ flag);
+      listed = sym (flag_listed changes flags room at kept inside)
+          ∙ (ap (λ (n : ℕ). get_or flags n false) (sym index) ∙ flag);
     }

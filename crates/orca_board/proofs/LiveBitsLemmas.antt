@@ -18,28 +18,50 @@ apart i k other same = elim (eqb_tells i k) [
 -- with the bit
 pub with_here : (word k : ℕ) → (bit_at (bit_or word (2 ^ k)) k == 1) ≡ true
 with_here word k =
-    let one : bit_at (bit_or word (2 ^ k)) k ≡ 1 = omega (arith, bit_at_or word (2 ^ k) k, bit_at-pow_same k, bit_at-lt word k) in
+    let one : bit_at (bit_or word (2 ^ k)) k ≡ 1 =
+    omega (arith, bit_at_or word (2 ^ k) k, bit_at-pow_same k, bit_at-lt word k) in
     rw one refl
 
 pub with_other : (word k i : ℕ) → (i == k) ≡ false → bit_at (bit_or word (2 ^ k)) i ≡ bit_at word i
 with_other word k i other =
-    omega (arith, bit_at_or word (2 ^ k) i, bit_at-pow_other k i (apart i k other), bit_at-lt word i)
+    omega (
+      arith,
+      bit_at_or word (2 ^ k) i,
+      bit_at-pow_other k i (apart i k other),
+      bit_at-lt word
+          i,
+    )
 
 -- without it
 pub without_here : (word k : ℕ) → (bit_at (bit_xor (bit_or word (2 ^ k)) (2 ^ k)) k == 1) ≡ false
 without_here word k =
     let none : bit_at (bit_xor (bit_or word (2 ^ k)) (2 ^ k)) k ≡ 0 =
-    omega (arith, bit_at_xor (bit_or word (2 ^ k)) (2 ^ k) k, bit_at_or word (2 ^ k) k, bit_at-pow_same k, bit_at-lt word k) in
+    omega (
+      arith,
+      bit_at_xor (bit_or word (2 ^ k)) (2 ^ k) k,
+      bit_at_or word (2 ^ k) k,
+      bit_at-pow_same k,
+      bit_at-lt word k,
+    ) in
     rw none refl
 
-pub without_other : (word k i : ℕ) → (i == k) ≡ false → bit_at (bit_xor (bit_or word (2 ^ k)) (2 ^ k)) i ≡ bit_at word i
+pub without_other : (word k i : ℕ) → (i == k) ≡ false
+    → bit_at (bit_xor (bit_or word (2 ^ k)) (2 ^ k)) i ≡ bit_at word i
 without_other word k i other =
-    omega (arith, bit_at_xor (bit_or word (2 ^ k)) (2 ^ k) i, with_other word k i other, bit_at-pow_other k i (apart i k other), bit_at-lt word i)
+    omega (
+      arith,
+      bit_at_xor (bit_or word (2 ^ k)) (2 ^ k) i,
+      with_other word k i other,
+      bit_at-pow_other k i (apart i k other),
+      bit_at-lt word i,
+    )
 
 -- no bit of no bits
 pub off-none : (n : ℕ) → has_bit no_bits n ≡ false
 unfolding no_bits
-off-none n = let none : slice_index no_bits (n / 64) ≡ 0 = zeros LIVE_WORDS (n / 64) in rw (none, bit_at-zero (n % 64)) refl
+off-none n =
+    let none : slice_index no_bits (n / 64) ≡ 0 =
+    zeros LIVE_WORDS (n / 64) in rw (none, bit_at-zero (n % 64)) refl
   where
     zeros : (k i : ℕ) → slice_index (replicate k 0) i ≡ 0
     zeros zero i = refl

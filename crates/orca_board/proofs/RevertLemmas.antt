@@ -21,39 +21,56 @@ use Rattle.orca_board.proofs.BoardLemmas.{inside-largest}
 -- what is known of cells in which the changes of a board were put back
 pub record Restores (known : List Change) (cells new : List ℕ) : Type 0 where
   pub whole : length new ≡ MAX_CELLS
-  pub olds : (old : Place → ℕ) → All (λ change. change.old ≡ old change.at) known → (at : Place) → IsInside largest at → is_listed (places_of known) at ≡ true → glyph_in new at ≡ old at
-  pub others : (at : Place) → IsInside largest at → is_listed (places_of known) at ≡ false → glyph_in new at ≡ glyph_in cells at
+  pub olds : (old : Place → ℕ) → All (λ change. change.old ≡ old change.at) known → (at : Place)
+      → IsInside largest at → is_listed (places_of known) at ≡ true → glyph_in new at ≡ old at
+  pub others : (at : Place) → IsInside largest at → is_listed (places_of known) at ≡ false
+      → glyph_in new at ≡ glyph_in cells at
 
 -- the changes of a desk have their glyphs of the last `begin`
-have_olds : (e : Desk) (known : List Change) → known ≡ changes_of e → All (λ change. change.old ≡ glyph_on e.began change.at) known
-have_olds e known is = rw is (All-map (λ (change : Change). change.old ≡ glyph_on e.began change.at) (λ (at : Place). record { at = at; old = glyph_on e.began at }) e.listed (λ k at below. refl))
+have_olds : (e : Desk) (known : List Change) → known ≡ changes_of e
+    → All (λ change. change.old ≡ glyph_on e.began change.at) known
+have_olds e known is =
+    rw is (All-map (λ (change : Change). change.old ≡ glyph_on e.began change.at)
+    (λ (at : Place). record { at = at; old = glyph_on e.began at }) e.listed (λ k at below. refl))
 
 -- so each place holds its glyph of then
-pub back : (e : Desk) (known : List Change) (cells new : List ℕ) (marks : List MarkSet) (bits : List ℕ) (room : ℕ) → KeepsBoard e known cells marks bits room → Restores known cells new
-    → e.scan.cells ≡ by_place e.scan.dims (glyph_in cells) → e.listed ≡ places_of known → by_place e.began.dims (glyph_in new) ≡ e.began.cells
+pub back : (e : Desk) (known : List Change) (cells new : List ℕ) (marks : List MarkSet)
+    (bits : List ℕ) (room : ℕ)
+    → KeepsBoard e known cells marks bits room → Restores known cells new
+    → e.scan.cells ≡ by_place e.scan.dims (glyph_in cells) → e.listed ≡ places_of known
+    → by_place e.began.dims (glyph_in new) ≡ e.began.cells
 back e known cells new marks bits room kept restored is listed =
     let began = kept.lists.desk.began in
-    sym (list-by_place e.began.dims e.began.cells (glyph_in new) 0 began.size began.whole (λ at inside.
+    sym (list-by_place e.began.dims e.began.cells (glyph_in new) 0 began.size began.whole
+    (λ at inside.
     let there : IsInside largest at = inside-largest e.began.dims at began.size inside in
     elim (cases_Bool (is_listed (places_of known) at)) [
-      | inl changed ↦ sym (restored.olds (glyph_on e.began) (have_olds e known kept.lists.changes) at there changed)
+      | inl changed ↦ sym (restored.olds (glyph_on e.began) (have_olds e known kept.lists.changes)
+          at there changed)
       | inr absent ↦
           let same = kept.lists.desk.kept at inside (rw listed absent) in
           sym same.1
           ∙ (ap (λ (xs : List ℕ). slice_index xs (index_of e.scan.dims at)) is
-          ∙ (index-by_place e.scan.dims (glyph_in cells) at 0 same.0 ∙ sym (restored.others at there absent)))
+          ∙ (index-by_place e.scan.dims (glyph_in cells) at 0 same.0
+          ∙ sym (restored.others at there absent)))
     ]))
 
 -- the grid is that of the last `begin`
-pub sheet-back : (e : Desk) (new : List ℕ) → e.scan.dims ≡ e.began.dims → by_place e.began.dims (glyph_in new) ≡ e.began.cells → ◌≡◌ {A = Sheet} (record { dims = e.scan.dims; cells = by_place e.scan.dims (glyph_in new) }) e.began
+pub sheet-back : (e : Desk) (new : List ℕ) → e.scan.dims ≡ e.began.dims
+    → by_place e.began.dims (glyph_in new) ≡ e.began.cells
+    → ◌≡◌ {A = Sheet} (record { dims = e.scan.dims; cells = by_place e.scan.dims (glyph_in new) })
+    e.began
 sheet-back e new same is =
-    ap (λ (d : Size). record { dims = d; cells = by_place d (glyph_in new) }) same ∙ ap (λ (cells : List ℕ). record { dims = e.began.dims; cells = cells }) is
+    ap (λ (d : Size). record { dims = d; cells = by_place d (glyph_in new) }) same
+    ∙ ap (λ (cells : List ℕ). record { dims = e.began.dims; cells = cells }) is
 
 -- a listed place lies in the grid of the last `begin`
-listed-inside : (d : Size) (places : List Place) (at : Place) → All (IsInside d) places → is_listed places at ≡ true → IsInside d at
+listed-inside : (d : Size) (places : List Place) (at : Place) → All (IsInside d) places
+    → is_listed places at ≡ true → IsInside d at
 listed-inside d places at all is = by places (recursion_from_All (IsInside d) places all) is
   where
-    by : (places : List Place) → AllByRecursion (IsInside d) places → is_listed places at ≡ true → IsInside d at
+    by : (places : List Place) → AllByRecursion (IsInside d) places → is_listed places at ≡ true
+        → IsInside d at
     by [] all is = absurd (both_ways _ refl is)
     by (p ∷ places) all is = elim (cases_Bool (is_place at p)) [
       | inl same ↦ subst (IsInside d) (sym (is_place-same at p same)) all.0
@@ -61,12 +78,20 @@ listed-inside d places at all is = by places (recursion_from_All (IsInside d) pl
     ]
 
 -- what the parts of a board keep then
-pub keeps-revert : (e : Desk) (known : List Change) (cells new : List ℕ) (marks : List MarkSet) (bits more : List ℕ) (room : ℕ) → KeepsBoard e known cells marks bits room → Restores known cells new → AreLive new more
-    → e.scan.dims ≡ e.began.dims → e.scan.cells ≡ by_place e.scan.dims (glyph_in cells) → e.listed ≡ places_of known
-    → KeepsBoard (record { scan = record e.scan { cells = by_place e.scan.dims (glyph_in new) }; began = e.began; listed = [] }) [] new marks more room
+pub keeps-revert : (e : Desk) (known : List Change) (cells new : List ℕ) (marks : List MarkSet)
+    (bits more : List ℕ) (room : ℕ)
+    → KeepsBoard e known cells marks bits room → Restores known cells new → AreLive new more
+    → e.scan.dims ≡ e.began.dims → e.scan.cells ≡ by_place e.scan.dims (glyph_in cells) → e.listed
+    ≡ places_of known
+    → KeepsBoard (record {
+      scan = record e.scan { cells = by_place e.scan.dims (glyph_in new) };
+      began = e.began;
+      listed = [];
+    }) [] new marks more room
 unfolding IsDistinct
 keeps-revert e known cells new marks bits more room kept restored live same is listed =
-    let grid = sheet-back e new same (back e known cells new marks bits room kept restored is listed) in
+    let grid = sheet-back e new same
+    (back e known cells new marks bits room kept restored is listed) in
     record {
       lists = record {
         desk = record {
@@ -80,36 +105,52 @@ keeps-revert e known cells new marks bits more room kept restored live same is l
           began = kept.lists.desk.began;
           inside = All-nil (IsInside e.began.dims);
           once = tt;
-          kept = λ at inside absent. (subst (λ (d : Size). IsInside d at) (sym same) inside, ap (λ (g : Sheet). glyph_on g at) grid);
+          kept = λ at inside absent. (
+            subst (λ (d : Size). IsInside d at) (sym same) inside,
+            ap
+                (λ (g : Sheet). glyph_on g at) grid,
+          );
         };
         changes = refl;
       };
       whole = restored.whole;
       marks_whole = kept.marks_whole;
-      outside = λ at inside past. restored.others at inside (unlisted at past (is_listed (places_of known) at) refl) ∙ kept.outside at inside past;
+      outside = λ at inside past. restored.others at inside
+          (unlisted at past (is_listed (places_of known) at) refl) ∙ kept.outside at inside past;
       live = live;
       events_roomy = kept.events_roomy;
     }
   where
-    unlisted : (at : Place) → is_inside e.scan.dims at ≡ false → (b : Bool) → is_listed (places_of known) at ≡ b → b ≡ false
+    unlisted : (at : Place) → is_inside e.scan.dims at ≡ false → (b : Bool)
+        → is_listed (places_of known) at ≡ b → b ≡ false
     unlisted at past false here = refl
     unlisted at past true here =
-        let inside : IsInside e.began.dims at = listed-inside e.began.dims e.listed at kept.lists.desk.inside (rw listed here) in
-        absurd (both_ways _ past (subst (λ (d : Size). is_inside d at ≡ true) (sym same) (is_inside-inside e.began.dims at inside)))
+        let inside : IsInside e.began.dims at =
+        listed-inside e.began.dims e.listed at kept.lists.desk.inside (rw listed here) in
+        absurd (both_ways _ past (subst (λ (d : Size). is_inside d at ≡ true) (sym same)
+        (is_inside-inside e.began.dims at inside)))
 
 -- the state with a grid, whatever its cells were in between
-pub sheeted : (s : State) (d : Size) (cells : List ℕ) (g : Sheet) → d ≡ g.dims → record (with_sheet s (record { dims = d; cells = cells })) { cells = g.cells } ≡ with_sheet s g
+pub sheeted : (s : State) (d : Size) (cells : List ℕ) (g : Sheet) → d ≡ g.dims
+    → record (with_sheet s (record { dims = d; cells = cells })) { cells = g.cells }
+    ≡ with_sheet s g
 sheeted s d cells g same = rw same (by (is_size g.dims s.dims))
   where
     by : (b : Bool) → ◌≡◌ {A = State}
-        (record (if b then record s { dims = g.dims; cells = cells } else record s { dims = g.dims; cells = cells; marks = blank_marks g.dims; events = [] }) { cells = g.cells })
-        (if b then record s { dims = g.dims; cells = g.cells } else record s { dims = g.dims; cells = g.cells; marks = blank_marks g.dims; events = [] })
+        (record (if b then record s { dims = g.dims; cells = cells } else record s
+        { dims = g.dims; cells = cells; marks = blank_marks g.dims; events = [] }) {
+          cells =
+              g.cells;
+        })
+        (if b then record s { dims = g.dims; cells = g.cells } else record s
+        { dims = g.dims; cells = g.cells; marks = blank_marks g.dims; events = [] })
     by true = refl
     by false = refl
 
 pub dims-with_sheet : (s : State) (g : Sheet) → (with_sheet s g).dims ≡ g.dims
 dims-with_sheet s g = by (is_size g.dims s.dims)
   where
-    by : (b : Bool) → (if b then record s { dims = g.dims; cells = g.cells } else record s { dims = g.dims; cells = g.cells; marks = blank_marks g.dims; events = [] }).dims ≡ g.dims
+    by : (b : Bool) → (if b then record s { dims = g.dims; cells = g.cells } else record s
+        { dims = g.dims; cells = g.cells; marks = blank_marks g.dims; events = [] }).dims ≡ g.dims
     by true = refl
     by false = refl

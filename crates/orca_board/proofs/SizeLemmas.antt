@@ -29,35 +29,55 @@ use Rattle.orca_board.proofs.BoardLemmas.{blank-by_place, inside-largest}
 -- a grid that keeps its size
 pub resize-same : (g : Sheet) → IsSheet g → sheet_after_resize g g.dims ≡ g
 resize-same g sheet =
-    sym (sheet-same g (λ at. if is_inside g.dims at then glyph_on g at else empty) sheet.size sheet.whole (λ at inside. rw (is_inside-inside g.dims at inside) refl))
+    sym (sheet-same g (λ at. if is_inside g.dims at then glyph_on g at else empty) sheet.size
+    sheet.whole (λ at inside. rw (is_inside-inside g.dims at inside) refl))
 
 -- a grid of another size is a grid
-pub IsSheet-resize : (g : Sheet) (d : Size) → IsSheet g → IsSize d → IsSheet (sheet_after_resize g d)
+pub IsSheet-resize : (g : Sheet) (d : Size) → IsSheet g → IsSize d
+    → IsSheet (sheet_after_resize g d)
 IsSheet-resize g d sheet size =
-    IsSheet-sheet_by d (λ at. if is_inside g.dims at then glyph_on g at else empty) size (λ at inside. each at (is_inside g.dims at) (inside-is_inside g.dims at))
+    IsSheet-sheet_by d (λ at. if is_inside g.dims at then glyph_on g at else empty) size
+    (λ at inside. each at (is_inside g.dims at) (inside-is_inside g.dims at))
   where
-    each : (at : Place) (b : Bool) → (b ≡ true → IsInside g.dims at) → IsGlyph (if b then glyph_on g at else empty)
+    each : (at : Place) (b : Bool) → (b ≡ true → IsInside g.dims at)
+        → IsGlyph (if b then glyph_on g at else empty)
     each at true in_grid = IsGlyph-glyph_at g at sheet (in_grid refl)
     each at false in_grid = (omega arith, omega arith)
 
 -- cells of the largest grid that are empty outside a grid are those of the grid in another size
-pub cells-resize : (d to : Size) (cells : List ℕ) → IsSize d → IsSize to → IsEmptyOutside d cells → by_place to (glyph_in cells) ≡ (sheet_after_resize (sheet_by d (glyph_in cells)) to).cells
+pub cells-resize : (d to : Size) (cells : List ℕ) → IsSize d → IsSize to → IsEmptyOutside d cells
+    → by_place to (glyph_in cells) ≡ (sheet_after_resize (sheet_by d (glyph_in cells)) to).cells
 cells-resize d to cells size other outside =
-    same-by_place to (glyph_in cells) (λ at. if is_inside d at then glyph_on (sheet_by d (glyph_in cells)) at else empty) 0 other (λ at inside. each at inside (is_inside d at) refl)
+    same-by_place to (glyph_in cells)
+    (λ at. if is_inside d at then glyph_on (sheet_by d (glyph_in cells)) at else empty) 0 other
+    (λ at inside. each at inside (is_inside d at) refl)
   where
-    each : (at : Place) → IsInside to at → (b : Bool) → is_inside d at ≡ b → glyph_in cells at ≡ (if b then glyph_on (sheet_by d (glyph_in cells)) at else empty)
-    each at inside true is = sym (glyph_at-sheet_by d (glyph_in cells) at (inside-is_inside d at is))
+    each : (at : Place) → IsInside to at → (b : Bool) → is_inside d at ≡ b
+        → glyph_in cells at ≡ (if b then glyph_on (sheet_by d (glyph_in cells)) at else empty)
+    each at inside true is =
+        sym (glyph_at-sheet_by d (glyph_in cells) at (inside-is_inside d at is))
     each at inside false is = outside at (inside-largest to at other inside) is
 
 -- a place of a grid of another size holds what it held
-pub glyph-resize : (g : Sheet) (to : Size) (at : Place) → IsInside g.dims at → IsInside to at → glyph_on (sheet_after_resize g to) at ≡ glyph_on g at
+pub glyph-resize : (g : Sheet) (to : Size) (at : Place) → IsInside g.dims at → IsInside to at
+    → glyph_on (sheet_after_resize g to) at ≡ glyph_on g at
 glyph-resize g to at inside there =
-    glyph_at-sheet_by to (λ at. if is_inside g.dims at then glyph_on g at else empty) at there ∙ (rw (is_inside-inside g.dims at inside) refl)
+    glyph_at-sheet_by to (λ at. if is_inside g.dims at then glyph_on g at else empty) at there
+    ∙ (rw (is_inside-inside g.dims at inside) refl)
 
 -- a desk in another size
 IsDesk-resize : (d : Desk) (to : Size) → IsDesk d → IsSize to → is_size to d.scan.dims ≡ false
-    → ((at : Place) → IsInside d.began.dims at → is_inside to at ≡ false → is_listed d.listed at ≡ true)
-    → IsDesk (record d { scan = record d.scan { dims = to; cells = (sheet_after_resize (sheet_of d.scan) to).cells; marks = blank_marks to; events = [] } })
+    → ((at : Place) → IsInside d.began.dims at → is_inside to at ≡ false → is_listed d.listed at
+    ≡ true)
+    → IsDesk (record d {
+      scan = record d.scan {
+        dims = to;
+        cells = (sheet_after_resize (sheet_of d.scan) to).cells;
+        marks = blank_marks
+            to;
+        events = [];
+      };
+    })
 IsDesk-resize d to desk size other listed = record {
   state = record {
     sheet = IsSheet-resize (sheet_of d.scan) to desk.state.sheet size;
@@ -71,25 +91,44 @@ IsDesk-resize d to desk size other listed = record {
   once = desk.once;
   kept = λ at in_began absent.
       let before = desk.kept at in_began absent in
-      let there : IsInside to at = inside-is_inside to at (stays at (is_inside to at) refl (listed at in_began) absent) in
+      let there : IsInside to at =
+      inside-is_inside to at (stays at (is_inside to at) refl (listed at in_began) absent) in
       (there, glyph-resize (sheet_of d.scan) to at before.0 there ∙ before.1);
 }
   where
-    stays : (at : Place) (b : Bool) → b ≡ is_inside to at → (is_inside to at ≡ false → is_listed d.listed at ≡ true) → is_listed d.listed at ≡ false → is_inside to at ≡ true
+    stays : (at : Place) (b : Bool) → b ≡ is_inside to at
+        → (is_inside to at ≡ false → is_listed d.listed at ≡ true) → is_listed d.listed at ≡ false
+        → is_inside to at ≡ true
     stays at true is wanted absent = sym is
     stays at false is wanted absent = absurd (both_ways _ absent (wanted (sym is)))
 
 -- the state in another size, by the parts of a board
-pub sized : (d to : Size) (cells : List ℕ) (marks : List MarkSet) (vars : List ℕ) (events : List Event) → IsSize d → IsSize to → IsEmptyOutside d cells → is_size to d ≡ false
-    → ◌≡◌ {A = State} (record { dims = to; cells = by_place to (glyph_in cells); marks = by_place to (marks_in blank); vars = vars; events = [] })
-    (with_sheet (record { dims = d; cells = by_place d (glyph_in cells); marks = marks; vars = vars; events = events }) (sheet_after_resize (sheet_by d (glyph_in cells)) to))
+pub sized : (d to : Size) (cells : List ℕ) (marks : List MarkSet) (vars : List ℕ)
+    (events : List Event)
+    → IsSize d → IsSize to → IsEmptyOutside d cells → is_size to d ≡ false
+    → ◌≡◌ {A = State} (record {
+      dims = to;
+      cells = by_place to (glyph_in cells);
+      marks = by_place to
+          (marks_in blank);
+      vars = vars;
+      events = [];
+    })
+    (with_sheet (record {
+      dims = d;
+      cells = by_place d (glyph_in cells);
+      marks = marks;
+      vars = vars;
+      events = events;
+    }) (sheet_after_resize (sheet_by d (glyph_in cells)) to))
 sized d to cells marks vars events size other_size outside other =
     rw (other, cells-resize d to cells size other_size outside, blank-by_place to other_size) refl
 
 same_size : (a b : Size) → is_size a b ≡ true → a ≡ b
 same_size a b is =
     let parts = and_parts (a.h == b.h) (a.w == b.w) is in
-    ap (λ (h : ℕ). record { h = h; w = a.w }) (number a.h b.h parts.0) ∙ ap (λ (w : ℕ). record { h = b.h; w = w }) (number a.w b.w parts.1)
+    ap (λ (h : ℕ). record { h = h; w = a.w }) (number a.h b.h parts.0)
+    ∙ ap (λ (w : ℕ). record { h = b.h; w = w }) (number a.w b.w parts.1)
   where
     number : (i j : ℕ) → (i == j) ≡ true → i ≡ j
     number i j same = elim (eqb_tells i j) [
@@ -98,21 +137,41 @@ same_size a b is =
     ]
 
 -- the state in its own size
-pub unsized : (s : State) (to : Size) → IsSheet (sheet_of s) → is_size to s.dims ≡ true → s ≡ with_sheet s (sheet_after_resize (sheet_of s) to)
+pub unsized : (s : State) (to : Size) → IsSheet (sheet_of s) → is_size to s.dims ≡ true
+    → s ≡ with_sheet s (sheet_after_resize (sheet_of s) to)
 unsized s to sheet is =
-    rw (is, same_size to s.dims is) (ap (λ (g : Sheet). record s { dims = g.dims; cells = g.cells }) (sym (resize-same (sheet_of s) sheet)))
+    rw (is, same_size to s.dims is) (ap (λ (g : Sheet). record s { dims = g.dims; cells = g.cells })
+    (sym (resize-same (sheet_of s) sheet)))
 
 -- what the parts of a board keep in another size
-pub keeps-resize : (d : Desk) (to : Size) (known : List Change) (cells : List ℕ) (marks : List MarkSet) (bits : List ℕ) (room more : ℕ) → KeepsBoard d known cells marks bits room → IsSize to → is_size to d.scan.dims ≡ false
+pub keeps-resize : (d : Desk) (to : Size) (known : List Change) (cells : List ℕ)
+    (marks : List MarkSet) (bits : List ℕ) (room more : ℕ)
+    → KeepsBoard d known cells marks bits room → IsSize to → is_size to d.scan.dims ≡ false
     → d.scan.cells ≡ by_place d.scan.dims (glyph_in cells)
-    → ((at : Place) → IsInside d.scan.dims at → is_inside to at ≡ false → glyph_at d.scan at ≡ empty)
-    → ((at : Place) → IsInside d.began.dims at → is_inside to at ≡ false → is_listed d.listed at ≡ true) → room ≤ more
-    → KeepsBoard (record d { scan = record d.scan { dims = to; cells = by_place to (glyph_in cells); marks = by_place to (marks_in blank); events = [] } }) known cells blank bits more
+    → ((at : Place) → IsInside d.scan.dims at → is_inside to at ≡ false → glyph_at d.scan at
+    ≡ empty)
+    → ((at : Place) → IsInside d.began.dims at → is_inside to at ≡ false → is_listed d.listed at
+    ≡ true)
+    → room ≤ more
+    → KeepsBoard (record d {
+      scan = record d.scan {
+        dims = to;
+        cells = by_place to (glyph_in cells);
+        marks = by_place to (marks_in blank);
+        events = [];
+      };
+    }) known cells blank bits more
 keeps-resize d to known cells marks bits room more kept size other is cut listed grows =
     let here : (sheet_after_resize (sheet_of d.scan) to).cells ≡ by_place to (glyph_in cells) =
-    ap (λ (xs : List ℕ). (sheet_after_resize (record { dims = d.scan.dims; cells = xs }) to).cells) is ∙ sym (cells-resize d.scan.dims to cells kept.lists.desk.state.sheet.size size kept.outside) in
+    ap (λ (xs : List ℕ). (sheet_after_resize (record { dims = d.scan.dims; cells = xs }) to).cells)
+    is ∙ sym (cells-resize d.scan.dims to cells kept.lists.desk.state.sheet.size size
+    kept.outside) in
     rw (← here, blank-by_place to size) (record {
-      lists = record { desk = IsDesk-resize d to kept.lists.desk size other listed; changes = kept.lists.changes };
+      lists = record {
+        desk = IsDesk-resize d to kept.lists.desk size other listed;
+        changes =
+            kept.lists.changes;
+      };
       whole = kept.whole;
       marks_whole = length-blank;
       outside = λ at inside past. each at inside past (is_inside d.scan.dims at) refl;
@@ -120,29 +179,38 @@ keeps-resize d to known cells marks bits room more kept size other is cut listed
       events_roomy = omega (arith, kept.events_roomy, grows);
     })
   where
-    each : (at : Place) → IsInside largest at → is_inside to at ≡ false → (b : Bool) → is_inside d.scan.dims at ≡ b → glyph_in cells at ≡ empty
+    each : (at : Place) → IsInside largest at → is_inside to at ≡ false → (b : Bool)
+        → is_inside d.scan.dims at ≡ b → glyph_in cells at ≡ empty
     each at inside past true here =
         let there : IsInside d.scan.dims at = inside-is_inside d.scan.dims at here in
-        sym (ap (λ (xs : List ℕ). slice_index xs (index_of d.scan.dims at)) is ∙ index-by_place d.scan.dims (glyph_in cells) at 0 there) ∙ cut at there past
+        sym (ap (λ (xs : List ℕ). slice_index xs (index_of d.scan.dims at)) is
+        ∙ index-by_place d.scan.dims (glyph_in cells) at 0 there) ∙ cut at there past
     each at inside past false here = kept.outside at inside here
 
 -- ---- changes that are put back
 
 -- what is listed with one place more
-listed_more : (places : List Place) (at q : Place) → is_listed (places ++ at ∷ []) q ≡ (is_listed places q || (is_place q at || false))
+listed_more : (places : List Place) (at q : Place)
+    → is_listed (places ++ at ∷ []) q ≡ (is_listed places q || (is_place q at || false))
 listed_more places at q = list_any-append (is_place q) places (at ∷ [])
 
 -- a changed place holds the old glyph
-pub restored-old : (cells : List ℕ) (places : List Place) (at q : Place) (glyph : ℕ) (old : Place → ℕ) → length cells ≡ MAX_CELLS → IsInside largest at → IsInside largest q → glyph ≡ old at
-    → (is_listed places q ≡ true → glyph_in cells q ≡ old q) → is_listed (places ++ at ∷ []) q ≡ true → glyph_in (set cells (index_of largest at) glyph) q ≡ old q
+pub restored-old : (cells : List ℕ) (places : List Place) (at q : Place) (glyph : ℕ)
+    (old : Place → ℕ)
+    → length cells ≡ MAX_CELLS → IsInside largest at → IsInside largest q → glyph ≡ old at
+    → (is_listed places q ≡ true → glyph_in cells q ≡ old q) → is_listed (places ++ at ∷ []) q
+    ≡ true → glyph_in (set cells (index_of largest at) glyph) q ≡ old q
 restored-old cells places at q glyph old whole here there is before listed =
     elim (cases_Bool (is_place q at)) [
       | inl same ↦
           let one : q ≡ at = is_place-same q at same in
-          rw one (get_or-set_same cells (index_of largest at) glyph 0 (omega (arith, index_of-below largest at here, whole)) ∙ is)
+          rw one (get_or-set_same cells (index_of largest at) glyph 0
+          (omega (arith, index_of-below largest at here, whole)) ∙ is)
       | inr apart ↦
-          get_or-set_other cells (index_of largest at) (index_of largest q) glyph 0 (index-apart largest q at there here apart)
-          ∙ before (earlier (is_listed places q) (is_place q at) apart (sym (listed_more places at q) ∙ listed))
+          get_or-set_other cells (index_of largest at) (index_of largest q) glyph 0
+          (index-apart largest q at there here apart)
+          ∙ before (earlier (is_listed places q) (is_place q at) apart
+          (sym (listed_more places at q) ∙ listed))
     ]
   where
     earlier : (a b : Bool) → b ≡ false → (a || (b || false)) ≡ true → a ≡ true
@@ -150,8 +218,14 @@ restored-old cells places at q glyph old whole here there is before listed =
     earlier false b none any = absurd (both_ways _ (rw none refl) any)
 
 -- another place stays as it was
-pub restored-other : (cells : List ℕ) (places : List Place) (at q : Place) (glyph : ℕ) → IsInside largest at → IsInside largest q
-    → is_listed (places ++ at ∷ []) q ≡ false → (is_listed places q ≡ false) × (glyph_in (set cells (index_of largest at) glyph) q ≡ glyph_in cells q)
+pub restored-other : (cells : List ℕ) (places : List Place) (at q : Place) (glyph : ℕ)
+    → IsInside largest at → IsInside largest q
+    → is_listed (places ++ at ∷ []) q ≡ false → (is_listed places q ≡ false)
+    × (glyph_in (set cells (index_of largest at) glyph) q ≡ glyph_in cells q)
 restored-other cells places at q glyph here there absent =
-    let parts = or_parts (is_listed places q) (is_place q at || false) (sym (listed_more places at q) ∙ absent) in
-    (parts.0, get_or-set_other cells (index_of largest at) (index_of largest q) glyph 0 (index-apart largest q at there here (or_parts (is_place q at) false parts.1).0))
+    let parts = or_parts (is_listed places q) (is_place q at || false)
+    (sym (listed_more places at q) ∙ absent) in (
+      parts.0,
+      get_or-set_other cells (index_of largest at) (index_of largest q) glyph 0
+          (index-apart largest q at there here (or_parts (is_place q at) false parts.1).0),
+    )

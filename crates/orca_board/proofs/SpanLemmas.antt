@@ -30,7 +30,8 @@ is_among y x n at = (at.y == y) && (nat_le x at.x && nat_lt at.x (x + n))
 
 -- the marks of a place, and those that are added to the places of a span
 abbrev pub span_marks : List MarkSet → ℕ → ℕ → ℕ → MarkSet → Place → MarkSet
-span_marks plane y x n marks at = if is_among y x n at then all_marks (marks_in plane at) marks else marks_in plane at
+span_marks plane y x n marks at =
+    if is_among y x n at then all_marks (marks_in plane at) marks else marks_in plane at
 
 among_none : (y x : ℕ) (at : Place) → is_among y x 0 at ≡ false
 among_none y x at = grind (arith, nat_tests)
@@ -41,108 +42,160 @@ among_here y x n = grind (arith, nat_tests)
 not_yet : (y x n : ℕ) → is_among y x n (record { y = y; x = x + n }) ≡ false
 not_yet y x n = grind (arith, nat_tests)
 
-among_other : (y x n : ℕ) (at : Place) → is_place at (record { y = y; x = x + n }) ≡ false → is_among y x (n + 1) at ≡ is_among y x n at
+among_other : (y x n : ℕ) (at : Place) → is_place at (record { y = y; x = x + n }) ≡ false
+    → is_among y x (n + 1) at ≡ is_among y x n at
 among_other y x n at other = grind (arith, nat_tests)
 
 -- ---- the desk after the marks of a span
 
 -- one place more
-span_more : (d : Size) (plane : List MarkSet) (y x n : ℕ) (marks : MarkSet) → IsSize d → (inside : Bool) → is_inside d (record { y = y; x = x + n }) ≡ inside
-    → (if inside then set (by_place d (span_marks plane y x n marks)) (index_of d (record { y = y; x = x + n })) (all_marks (slice_index_or (by_place d (span_marks plane y x n marks)) (index_of d (record { y = y; x = x + n })) no_marks) marks) else by_place d (span_marks plane y x n marks))
+span_more : (d : Size) (plane : List MarkSet) (y x n : ℕ) (marks : MarkSet) → IsSize d
+    → (inside : Bool) → is_inside d (record { y = y; x = x + n }) ≡ inside
+    → (if inside then set (by_place d (span_marks plane y x n marks))
+    (index_of d (record { y = y; x = x + n }))
+    (all_marks (slice_index_or (by_place d (span_marks plane y x n marks))
+    (index_of d (record { y = y; x = x + n }))
+    no_marks) marks) else by_place d (span_marks plane y x n marks))
     ≡ by_place d (span_marks plane y x (n + 1) marks)
 span_more d plane y x n marks size true inside =
     let at : Place = record { y = y; x = x + n } in
     let there = inside-is_inside d at inside in
     rw (index-by_place d (span_marks plane y x n marks) at no_marks there)
-    (set-by_place d (span_marks plane y x n marks) (span_marks plane y x (n + 1) marks) at _ no_marks size there
+    (set-by_place d (span_marks plane y x n marks) (span_marks plane y x (n + 1) marks) at _
+    no_marks size there
     (rw (among_here y x n, not_yet y x n) refl)
     (λ q inside_q other. rw (among_other y x n q other) refl))
 span_more d plane y x n marks size false outside =
-    same-by_place d (span_marks plane y x n marks) (span_marks plane y x (n + 1) marks) no_marks size
-    (λ q inside. rw (among_other y x n q (apart q inside (is_place q (record { y = y; x = x + n })) refl)) refl)
+    same-by_place d (span_marks plane y x n marks) (span_marks plane y x (n + 1) marks) no_marks
+    size
+    (λ q inside. rw (among_other y x n q
+    (apart q inside (is_place q (record { y = y; x = x + n })) refl)) refl)
   where
-    apart : (q : Place) → IsInside d q → (b : Bool) → is_place q (record { y = y; x = x + n }) ≡ b → b ≡ false
-    apart q inside true same = absurd (both_ways _ outside (ap (is_inside d) (sym (is_place-same q (record { y = y; x = x + n }) same)) ∙ is_inside-inside d q inside))
+    apart : (q : Place) → IsInside d q → (b : Bool) → is_place q (record { y = y; x = x + n }) ≡ b
+        → b ≡ false
+    apart q inside true same =
+        absurd (both_ways _ outside (ap (is_inside d)
+        (sym (is_place-same q (record { y = y; x = x + n }) same)) ∙ is_inside-inside d q inside))
     apart q inside false same = refl
 
-marked_if : (s : State) (at : Place) (marks : MarkSet) (inside : Bool) → marks_after s (if inside then Some at else None) marks ≡ (if inside then set s.marks (index_of s.dims at) (all_marks (slice_index_or s.marks (index_of s.dims at) no_marks) marks) else s.marks)
+marked_if : (s : State) (at : Place) (marks : MarkSet) (inside : Bool)
+    → marks_after s (if inside then Some at else None) marks
+    ≡ (if inside then set s.marks (index_of s.dims at)
+    (all_marks (slice_index_or s.marks (index_of s.dims at) no_marks) marks) else s.marks)
 marked_if s at marks true = refl
 marked_if s at marks false = refl
 
 -- the desk after them
-pub marked_span : (d : Desk) (plane : List MarkSet) (at : Place) (y x n : ℕ) (marks : MarkSet) → IsSize d.scan.dims → d.scan.marks ≡ by_place d.scan.dims (marks_in plane)
-    → desk_after_all d (span_deeds at y x n marks) ≡ record d { scan = record d.scan { marks = by_place d.scan.dims (span_marks plane (at.y + y) (at.x + x) n marks) } }
+pub marked_span : (d : Desk) (plane : List MarkSet) (at : Place) (y x n : ℕ) (marks : MarkSet)
+    → IsSize d.scan.dims → d.scan.marks ≡ by_place d.scan.dims (marks_in plane)
+    → desk_after_all d (span_deeds at y x n marks)
+    ≡ record d {
+      scan = record d.scan
+          { marks = by_place d.scan.dims (span_marks plane (at.y + y) (at.x + x) n marks) };
+    }
 unfolding after list_after
 marked_span d plane at y x zero marks size is =
-    let none = same-by_place d.scan.dims (marks_in plane) (span_marks plane (at.y + y) (at.x + x) 0 marks) no_marks size (λ q inside. rw (among_none (at.y + y) (at.x + x) q) refl) in
+    let none = same-by_place d.scan.dims (marks_in plane)
+    (span_marks plane (at.y + y) (at.x + x) 0 marks) no_marks size
+    (λ q inside. rw (among_none (at.y + y) (at.x + x) q) refl) in
     ap (λ (m : List MarkSet). record d { scan = record d.scan { marks = m } }) (is ∙ none)
 marked_span d plane at y x (suc n) marks size is =
     let column : at.x + (n + x) ≡ at.x + x + n = omega arith in
     let next : n + 1 ≡ suc n = omega arith in
-    let more = span_more d.scan.dims plane (at.y + y) (at.x + x) n marks size (is_inside d.scan.dims (record { y = at.y + y; x = at.x + x + n })) refl in
+    let more = span_more d.scan.dims plane (at.y + y) (at.x + x) n marks size
+    (is_inside d.scan.dims (record { y = at.y + y; x = at.x + x + n })) refl in
     let before = marked_span d plane at y x n marks size is in
     let last : Deed = Mark (off at (pos y) (pos (n + x))) marks in
     desk_after_all-append d (span_deeds at y x n marks) (last ∷ [])
     ∙ (ap (λ (e : Desk). desk_after e last) before
-    ∙ rw (column, marked_if) (ap (λ (m : List MarkSet). record d { scan = record d.scan { marks = m } }) (rw next at more)))
+    ∙ rw (column, marked_if) (ap (λ (m : List MarkSet). record d
+    { scan = record d.scan { marks = m } }) (rw next at more)))
 
 -- its changes stay
-pub lists-span : (d : Desk) (at : Place) (y x n : ℕ) (marks : MarkSet) (known : List Change) → ListsChanges d known → ListsChanges (desk_after_all d (span_deeds at y x n marks)) known
+pub lists-span : (d : Desk) (at : Place) (y x n : ℕ) (marks : MarkSet) (known : List Change)
+    → ListsChanges d known → ListsChanges (desk_after_all d (span_deeds at y x n marks)) known
 lists-span d at y x zero marks known lists = lists
 lists-span d at y x (suc n) marks known lists =
-    rw (desk_after_all-append d (span_deeds at y x n marks) (Mark (off at (pos y) (pos (n + x))) marks ∷ []))
-    (lists-mark (desk_after_all d (span_deeds at y x n marks)) _ (off at (pos y) (pos (n + x))) marks known (lists-span d at y x n marks known lists) refl)
+    rw (desk_after_all-append d (span_deeds at y x n marks)
+    (Mark (off at (pos y) (pos (n + x))) marks ∷ []))
+    (lists-mark (desk_after_all d (span_deeds at y x n marks)) _ (off at (pos y) (pos (n + x)))
+    marks known (lists-span d at y x n marks known lists) refl)
 
 -- the numbers of a span in the largest grid, as far as the grid's edge
-among_number : (w y x n count first : ℕ) (at : Place) → at.x < w → w ≤ MAX_COLUMNS → x < w → first ≡ y * MAX_COLUMNS + x → count ≡ min n (w - x)
-    → (nat_le first (index_of largest at) && nat_lt (index_of largest at) (first + count)) ≡ is_among y x n at
+among_number : (w y x n count first : ℕ) (at : Place) → at.x < w → w ≤ MAX_COLUMNS → x < w
+    → first ≡ y * MAX_COLUMNS + x → count ≡ min n (w - x)
+    → (nat_le first (index_of largest at) && nat_lt (index_of largest at) (first + count))
+    ≡ is_among y x n at
 among_number w y x n count first at inside most wide number few = grind (arith, nat_tests)
 
 -- the marks of a grid after those of a span
-pub span_plane : (d : Size) (plane new : List MarkSet) (y x n count first : ℕ) (marks : MarkSet) → IsSize d → x < d.w → first ≡ y * MAX_COLUMNS + x → count ≡ min n (d.w - x)
-    → ((i : ℕ) → get_or new i no_marks ≡ (if nat_le first i && nat_lt i (first + count) then all_marks (get_or plane i no_marks) marks else get_or plane i no_marks))
+pub span_plane : (d : Size) (plane new : List MarkSet) (y x n count first : ℕ) (marks : MarkSet)
+    → IsSize d → x < d.w → first ≡ y * MAX_COLUMNS + x → count ≡ min n (d.w - x)
+    → ((i : ℕ) → get_or new i no_marks ≡
+    (if nat_le first i && nat_lt i (first + count) then all_marks (get_or plane i no_marks)
+    marks else get_or plane i no_marks))
     → by_place d (marks_in new) ≡ by_place d (span_marks plane y x n marks)
 span_plane d plane new y x n count first marks size wide number few each =
     same-by_place d (marks_in new) (span_marks plane y x n marks) no_marks size
     (λ q inside.
     each (index_of largest q)
-    ∙ ap (λ (b : Bool). if b then all_marks (marks_in plane q) marks else marks_in plane q) (among_number d.w y x n count first q inside.column size.few_columns wide number few))
+    ∙ ap (λ (b : Bool). if b then all_marks (marks_in plane q) marks else marks_in plane q)
+    (among_number d.w y x n count first q inside.column size.few_columns wide number few))
 
 -- a span that begins outside the grid
-beyond_none : (h w y x n : ℕ) (at : Place) → at.y < h → at.x < w → (y < h → w ≤ x) → is_among y x n at ≡ false
+beyond_none : (h w y x n : ℕ) (at : Place) → at.y < h → at.x < w → (y < h → w ≤ x)
+    → is_among y x n at ≡ false
 beyond_none h w y x n at row column beyond = grind (arith, nat_tests)
 
-pub span_beyond : (d : Size) (plane : List MarkSet) (y x n : ℕ) (marks : MarkSet) → IsSize d → (y < d.h → d.w ≤ x) → by_place d (marks_in plane) ≡ by_place d (span_marks plane y x n marks)
+pub span_beyond : (d : Size) (plane : List MarkSet) (y x n : ℕ) (marks : MarkSet) → IsSize d
+    → (y < d.h → d.w ≤ x) → by_place d (marks_in plane) ≡ by_place d (span_marks plane y x n marks)
 span_beyond d plane y x n marks size beyond =
     same-by_place d (marks_in plane) (span_marks plane y x n marks) no_marks size
     (λ q inside. rw (beyond_none d.h d.w y x n q inside.row inside.column beyond) refl)
 
 -- the desk of a board after the marks of a span
-pub spanned : (d : Desk) (plane new : List MarkSet) (at : Place) (y x n : ℕ) (marks : MarkSet) → IsSize d.scan.dims → d.scan.marks ≡ by_place d.scan.dims (marks_in plane)
-    → by_place d.scan.dims (marks_in new) ≡ by_place d.scan.dims (span_marks plane (at.y + y) (at.x + x) n marks)
-    → record d { scan = record d.scan { marks = by_place d.scan.dims (marks_in new) } } ≡ desk_after_all d (span_deeds at y x n marks)
+pub spanned : (d : Desk) (plane new : List MarkSet) (at : Place) (y x n : ℕ) (marks : MarkSet)
+    → IsSize d.scan.dims → d.scan.marks ≡ by_place d.scan.dims (marks_in plane)
+    → by_place d.scan.dims (marks_in new) ≡ by_place d.scan.dims
+    (span_marks plane (at.y + y) (at.x + x) n marks)
+    → record d { scan = record d.scan { marks = by_place d.scan.dims (marks_in new) } }
+    ≡ desk_after_all d (span_deeds at y x n marks)
 spanned d plane new at y x n marks size is same =
-    ap (λ (m : List MarkSet). record d { scan = record d.scan { marks = m } }) same ∙ sym (marked_span d plane at y x n marks size is)
+    ap (λ (m : List MarkSet). record d { scan = record d.scan { marks = m } }) same
+    ∙ sym (marked_span d plane at y x n marks size is)
 
-pub lists-spanned : (d : Desk) (plane new : List MarkSet) (at : Place) (y x n : ℕ) (marks : MarkSet) (known : List Change) → IsSize d.scan.dims → d.scan.marks ≡ by_place d.scan.dims (marks_in plane)
-    → by_place d.scan.dims (marks_in new) ≡ by_place d.scan.dims (span_marks plane (at.y + y) (at.x + x) n marks) → ListsChanges d known
-    → ListsChanges (record d { scan = record d.scan { marks = by_place d.scan.dims (marks_in new) } }) known
+pub lists-spanned : (d : Desk) (plane new : List MarkSet) (at : Place) (y x n : ℕ) (marks : MarkSet)
+    (known : List Change)
+    → IsSize d.scan.dims → d.scan.marks ≡ by_place d.scan.dims (marks_in plane)
+    → by_place d.scan.dims (marks_in new) ≡ by_place d.scan.dims
+    (span_marks plane (at.y + y) (at.x + x) n marks) → ListsChanges d known
+    → ListsChanges (record d {
+      scan = record d.scan { marks = by_place d.scan.dims (marks_in new) };
+    }) known
 lists-spanned d plane new at y x n marks known size is same lists =
-    subst (λ (e : Desk). ListsChanges e known) (sym (spanned d plane new at y x n marks size is same)) (lists-span d at y x n marks known lists)
+    subst (λ (e : Desk). ListsChanges e known)
+    (sym (spanned d plane new at y x n marks size is same))
+    (lists-span d at y x n marks known lists)
 
 -- ---- the glyphs beside a place
 
 -- a cell of the largest grid is what its spot shows
-pub peek_cell : (s : State) (cells : List ℕ) (spot : Spot) (y x i read : ℕ) → IsSize s.dims → s.cells ≡ by_place s.dims (glyph_in cells) → IsEmptyOutside s.dims cells → length cells ≡ MAX_CELLS
-    → spot.y ≡ pos y → spot.x ≡ pos x → y < MAX_ROWS → x < MAX_COLUMNS → i ≡ y * MAX_COLUMNS + x → read ≡ get_or cells i read → read ≡ peek s spot
+pub peek_cell : (s : State) (cells : List ℕ) (spot : Spot) (y x i read : ℕ) → IsSize s.dims
+    → s.cells ≡ by_place s.dims (glyph_in cells) → IsEmptyOutside s.dims cells
+    → length cells ≡ MAX_CELLS
+    → spot.y ≡ pos y → spot.x ≡ pos x → y < MAX_ROWS → x < MAX_COLUMNS → i ≡ y * MAX_COLUMNS + x
+    → read ≡ get_or cells i read → read ≡ peek s spot
 peek_cell s cells spot y x i read size is outside whole row column high wide number shown =
     let at : Place = record { y = y; x = x } in
     let there : IsInside largest at = record { row = high; column = wide } in
-    let place : Some at ≡ place_in largest spot = rw (row, column, is_inside-inside largest at there) refl in
-    peek-some s largest cells spot at i read size is outside refl place there number (omega (arith, number, high, wide)) whole shown
+    let place : Some at ≡ place_in largest spot =
+    rw (row, column, is_inside-inside largest at there) refl in
+    peek-some s largest cells spot at i read size is outside refl place there number
+    (omega (arith, number, high, wide)) whole shown
 
 -- a spot outside the largest grid shows none
-pub peek_beyond : (s : State) (spot : Spot) (y x : ℕ) → IsSize s.dims → spot.y ≡ pos y → spot.x ≡ pos x → is_inside largest (record { y = y; x = x }) ≡ false → empty ≡ peek s spot
+pub peek_beyond : (s : State) (spot : Spot) (y x : ℕ) → IsSize s.dims → spot.y ≡ pos y → spot.x
+    ≡ pos x → is_inside largest (record { y = y; x = x }) ≡ false → empty ≡ peek s spot
 peek_beyond s spot y x size row column outside =
     let none : place_in largest spot ≡ None = rw (row, column, outside) refl in
     peek-none s largest spot size refl (sym none)
@@ -186,10 +239,13 @@ pub holds_other : (glyph byte : ℕ) → (glyph ≡ byte → ⊥) → (glyph == 
 holds_other glyph byte other = grind (arith, nat_tests)
 
 -- beyond the edge there is no glyph but `.`
-pub none_beyond : (s : State) (at : Place) (k byte : ℕ) → s.dims.w ≤ at.x + k → byte ≢ empty → (peek s (right at k) == byte) ≡ false
+pub none_beyond : (s : State) (at : Place) (k byte : ℕ) → s.dims.w ≤ at.x + k → byte ≢ empty
+    → (peek s (right at k) == byte) ≡ false
 unfolding peek
 none_beyond s at k byte beyond visible =
-    let none : place_in s.dims (right at k) ≡ None = rw (le-ltb (at.x + k) s.dims.w beyond) (none_if (nat_lt (at.y + 0) s.dims.h) (record { y = at.y + 0; x = at.x + k })) in
+    let none : place_in s.dims (right at k) ≡ None =
+    rw (le-ltb (at.x + k) s.dims.w beyond)
+    (none_if (nat_lt (at.y + 0) s.dims.h) (record { y = at.y + 0; x = at.x + k })) in
     rw none (holds_other empty byte (λ same. visible (sym same)))
   where
     none_if : (row : Bool) (place : Place) → (if row && false then Some place else None) ≡ None
@@ -197,27 +253,47 @@ none_beyond s at k byte beyond visible =
     none_if false place = refl
 
 -- a cell of the row
-pub peek_right : (s : State) (cells : List ℕ) (at : Place) (k first i read : ℕ) → IsSize s.dims → s.cells ≡ by_place s.dims (glyph_in cells) → IsEmptyOutside s.dims cells → length cells ≡ MAX_CELLS
-    → IsInside s.dims at → at.x + k < MAX_COLUMNS → first ≡ at.y * MAX_COLUMNS + at.x → i ≡ first + k → read ≡ get_or cells i read → read ≡ peek s (right at k)
+pub peek_right : (s : State) (cells : List ℕ) (at : Place) (k first i read : ℕ) → IsSize s.dims
+    → s.cells ≡ by_place s.dims (glyph_in cells) → IsEmptyOutside s.dims cells
+    → length cells ≡ MAX_CELLS
+    → IsInside s.dims at → at.x + k < MAX_COLUMNS → first ≡ at.y * MAX_COLUMNS + at.x → i ≡ first
+    + k → read ≡ get_or cells i read → read ≡ peek s (right at k)
 peek_right s cells at k first i read size is outside whole inside wide number step shown =
-    peek_cell s cells (right at k) at.y (at.x + k) i read size is outside whole (still at.y) refl (omega (arith, inside.row, size.few_rows)) wide (omega (arith, number, step)) shown
+    peek_cell s cells (right at k) at.y (at.x + k) i read size is outside whole (still at.y) refl
+    (omega (arith, inside.row, size.few_rows)) wide (omega (arith, number, step)) shown
 
 -- ---- a bang beside a place
 
 -- a cell as a list shows it
-cell_shown : (s : State) (cells : List ℕ) (spot : Spot) (y x i : ℕ) → IsSize s.dims → s.cells ≡ by_place s.dims (glyph_in cells) → IsEmptyOutside s.dims cells → length cells ≡ MAX_CELLS
-    → spot.y ≡ pos y → spot.x ≡ pos x → y < MAX_ROWS → x < MAX_COLUMNS → i ≡ y * MAX_COLUMNS + x → slice_index cells i ≡ peek s spot
+cell_shown : (s : State) (cells : List ℕ) (spot : Spot) (y x i : ℕ) → IsSize s.dims
+    → s.cells ≡ by_place s.dims (glyph_in cells) → IsEmptyOutside s.dims cells
+    → length cells ≡ MAX_CELLS
+    → spot.y ≡ pos y → spot.x ≡ pos x → y < MAX_ROWS → x < MAX_COLUMNS → i ≡ y * MAX_COLUMNS + x
+    → slice_index cells i ≡ peek s spot
 cell_shown s cells spot y x i size is outside whole row column high wide number =
-    peek_cell s cells spot y x i (slice_index cells i) size is outside whole row column high wide number (sym (get_or_default cells i (slice_index cells i) 0 (omega (arith, whole, number, high, wide))))
+    peek_cell s cells spot y x i (slice_index cells i) size is outside whole row column high wide
+    number (sym (get_or_default cells i (slice_index cells i) 0
+    (omega (arith, whole, number, high, wide))))
 
 -- the four cells beside one at no edge
-pub bang_inner : (s : State) (cells : List ℕ) (at : Place) (i : ℕ) → IsSize s.dims → s.cells ≡ by_place s.dims (glyph_in cells) → IsEmptyOutside s.dims cells → length cells ≡ MAX_CELLS
-    → 0 < at.y → at.y + 1 < MAX_ROWS → 0 < at.x → at.x + 1 < MAX_COLUMNS → i ≡ at.y * MAX_COLUMNS + at.x
-    → ((slice_index cells (i - MAX_COLUMNS) == bang) || (slice_index cells (i - 1) == bang) || (slice_index cells (i + 1) == bang) || (slice_index cells (i + MAX_COLUMNS) == bang)) ≡ has_bang s at
+pub bang_inner : (s : State) (cells : List ℕ) (at : Place) (i : ℕ) → IsSize s.dims
+    → s.cells ≡ by_place s.dims (glyph_in cells) → IsEmptyOutside s.dims cells
+    → length cells ≡ MAX_CELLS
+    → 0 < at.y → at.y + 1 < MAX_ROWS → 0 < at.x → at.x + 1 < MAX_COLUMNS → i ≡ at.y * MAX_COLUMNS
+    + at.x
+    → ((slice_index cells (i - MAX_COLUMNS) == bang) || (slice_index cells (i - 1) == bang)
+    || (slice_index cells (i + 1) == bang)
+    || (slice_index cells (i + MAX_COLUMNS) == bang)) ≡ has_bang s at
 unfolding has_bang
 bang_inner s cells at i size is outside whole low high first last number =
-    let up = cell_shown s cells (above at) (at.y - 1) at.x (i - MAX_COLUMNS) size is outside whole (one_less at.y low) (still at.x) (omega (arith, high)) (omega (arith, last)) (omega (arith, number, low)) in
-    let back = cell_shown s cells (left at 1) at.y (at.x - 1) (i - 1) size is outside whole (still at.y) (one_less at.x first) (omega (arith, high)) (omega (arith, last)) (omega (arith, number, first)) in
-    let on = cell_shown s cells (right at 1) at.y (at.x + 1) (i + 1) size is outside whole (still at.y) refl (omega (arith, high)) last (omega (arith, number)) in
-    let down = cell_shown s cells (below at) (at.y + 1) at.x (i + MAX_COLUMNS) size is outside whole refl (still at.x) high (omega (arith, last)) (omega (arith, number)) in
+    let up = cell_shown s cells (above at) (at.y - 1) at.x (i - MAX_COLUMNS) size is outside whole
+    (one_less at.y low) (still at.x) (omega (arith, high)) (omega (arith, last))
+    (omega (arith, number, low)) in
+    let back = cell_shown s cells (left at 1) at.y (at.x - 1) (i - 1) size is outside whole
+    (still at.y) (one_less at.x first) (omega (arith, high)) (omega (arith, last))
+    (omega (arith, number, first)) in
+    let on = cell_shown s cells (right at 1) at.y (at.x + 1) (i + 1) size is outside whole
+    (still at.y) refl (omega (arith, high)) last (omega (arith, number)) in
+    let down = cell_shown s cells (below at) (at.y + 1) at.x (i + MAX_COLUMNS) size is outside whole
+    refl (still at.x) high (omega (arith, last)) (omega (arith, number)) in
     rw (up, back, on, down) refl

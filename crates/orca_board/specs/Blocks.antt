@@ -1,4 +1,5 @@
--- Edits of a block of cells on a desk: the places that each writes, in order, and the desk that it leaves.
+-- Edits of a block of cells on a desk: the places that each writes, in order, and the desk that it
+-- leaves.
 use Rattle.std.specs.Prelude.{ℕ, ◌+◌, ◌/◌, ◌≤◌, not, List, [], ◌∷◌, ◌++◌, length, map, filter, Some}
 use Rattle.orca_base.specs.declared.area.Area.{Area}
 use Rattle.orca_base.specs.declared.limits.TheConstants.{MAX_ROWS, MAX_COLUMNS}
@@ -14,7 +15,8 @@ abbrev pub list_each : Size → List Place → List Place → List Place
 list_each began listed [] = listed
 list_each began listed (at ∷ more) = list_each began (list_with began listed (Some at)) more
 
--- what a block edit leaves: the glyphs of a grid of the same size, and the written places listed in order
+-- what a block edit leaves: the glyphs of a grid of the same size, and the written places listed in
+-- order
 abbrev pub desk_after_edit : Desk → Sheet → List Place → Desk
 desk_after_edit d g places = record {
   scan = record d.scan { cells = g.cells };
@@ -46,7 +48,8 @@ put_places d to size = places_in (image d to size)
 abbrev pub places_outside : Area → Area → List Place
 places_outside area other = filter (λ at. not (is_in_area other at)) (places_in area)
 
--- Move writes the places of the area outside its image, which become empty, and then each place of the image
+-- Move writes the places of the area outside its image, which become empty, and then each place of
+-- the image
 abbrev pub shift_places : Size → Area → Place → List Place
 shift_places d area to =
     places_outside area (image d to (size_of area)) ++ places_in (image d to (size_of area))
@@ -57,7 +60,8 @@ write_each glyph places = map (λ at. Write (here at) (glyph at)) places
 
 -- rows of this width, one after the other
 abbrev pub rows_of : ℕ → List ℕ → Sheet
-rows_of width cells = record { dims = record { h = length cells / width; w = width }; cells = cells }
+rows_of width cells =
+    record { dims = record { h = length cells / width; w = width }; cells = cells }
 
 -- the glyph that such rows have for a place, where they begin at `corner`
 abbrev pub glyph_from : Sheet → Place → Place → ℕ

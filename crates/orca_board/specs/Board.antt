@@ -33,7 +33,8 @@ desk_of b = record {
 
 -- a cell outside the grid is empty
 abbrev pub IsEmptyOutside : Size → List ℕ → Type 0
-IsEmptyOutside d cells = (at : Place) → IsInside largest at → is_inside d at ≡ false → glyph_in cells at ≡ empty
+IsEmptyOutside d cells =
+    (at : Place) → IsInside largest at → is_inside d at ≡ false → glyph_in cells at ≡ empty
 
 -- a bit is set exactly where its cell holds an operator
 abbrev pub AreLive : List ℕ → List ℕ → Type 0
@@ -41,7 +42,8 @@ AreLive cells bits = (n : ℕ) → n < MAX_CELLS → has_bit bits n ≡ is_opera
 
 -- the parts are a desk with its changes; a cell outside the grid is empty; a bit is set exactly where
 -- a cell holds an operator; and there is room for every event
-pub record KeepsBoard (d : Desk) (known : List Change) (cells : List ℕ) (marks : List MarkSet) (bits : List ℕ) (room : ℕ) : Type 0 where
+pub record KeepsBoard (d : Desk) (known : List Change) (cells : List ℕ) (marks : List MarkSet)
+    (bits : List ℕ) (room : ℕ) : Type 0 where
   pub lists : ListsChanges d known
   pub whole : length cells ≡ MAX_CELLS
   pub marks_whole : length marks ≡ MAX_CELLS

@@ -7,7 +7,8 @@ use Rattle.orca_base.specs.declared.place.Place.{Place}
 use Rattle.orca_base.specs.Grids.{Size, IsInside, index_of, is_inside, largest}
 use Rattle.orca_op.specs.Desk.{Desk, IsDesk, changes_of, is_listed}
 
--- the size at the last `begin`, and the changes since, in the order in which their places were first written
+-- the size at the last `begin`, and the changes since, in the order in which their places were
+-- first written
 pub record Listed : Type 0 where
   pub began : Size
   pub changes : List Change
@@ -19,7 +20,9 @@ places_of changes = map (λ change. change.at) changes
 -- a change is listed once, where its place lay in the grid at the last `begin`
 abbrev pub changes_with : Size → List Change → Place → ℕ → List Change
 changes_with began changes at old =
-    if is_inside began at && not (is_listed (places_of changes) at) then changes ++ record { at = at; old = old } ∷ [] else changes
+    if is_inside began at && not (is_listed (places_of changes) at)
+    then changes ++ record { at = at; old = old } ∷ []
+    else changes
 
 -- a place among these has this number in the largest grid
 abbrev pub has_number : List Place → ℕ → Bool

@@ -52,7 +52,8 @@ impl Model for Board {
 
     ghost view = { desk_of };
 
-    ghost invariant = { λ b. KeepsBoard (desk_of b) b.listing.changes b.cells.items b.marks b.live (vec_capacity b.events) };
+    ghost invariant = { λ b. KeepsBoard (desk_of b) b.listing.changes
+        b.cells.items b.marks b.live (vec_capacity b.events) };
 }
 
 impl Board {
@@ -336,9 +337,11 @@ fn restore<L: Ledger>(
     requires inside { All (IsInside largest) (places_of changes.now) }
     requires live { AreLive cells.old live.old }
     ensures whole { length cells.new ≡ MAX_CELLS }
-    ensures olds { (old : Place → ℕ) → All (λ change. change.old ≡ old change.at) changes.now → (at : Place)
-        → IsInside largest at → is_listed (places_of changes.now) at ≡ true → glyph_in cells.new at ≡ old at }
-    ensures others { (at : Place) → IsInside largest at → is_listed (places_of changes.now) at ≡ false
+    ensures olds { (old : Place → ℕ) → All (λ change. change.old ≡ old change.at) changes.now
+        → (at : Place) → IsInside largest at → is_listed (places_of changes.now) at ≡ true
+        → glyph_in cells.new at ≡ old at }
+    ensures others { (at : Place) → IsInside largest at
+        → is_listed (places_of changes.now) at ≡ false
         → glyph_in cells.new at ≡ glyph_in cells.old at }
     ensures live { AreLive cells.new live.new }
     ensures ticks { steps.new ≡ steps.old + length changes.now }
@@ -361,9 +364,7 @@ fn renew(cells: &mut [Glyph], live: &mut LiveBits, i: usize, old: Glyph, glyph: 
     ensures glyph { IsGlyph glyph }
     ensures live { AreLive cells.new live.new }
 {
-    // By its byte a contract sees that it is a glyph.
-    let _byte = glyph.byte();
-    if glyph != old {
+    if glyph.byte() != old.byte() {
         glyph.put(cells, i);
         let operator = glyph.is_operator();
         if operator != old.is_operator() {

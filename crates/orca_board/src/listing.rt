@@ -59,7 +59,9 @@ impl Listing {
     /// Lists a place with its glyph before it is written, where the place lay in the grid at the last
     /// `begin` and isn't listed yet.
     pub fn add(&mut self, at: Place, old: Glyph)
-        ensures { self.new ≡ record self.old { changes = changes_with self.old.began self.old.changes at old } }
+        ensures { self.new ≡ record self.old {
+          changes = changes_with self.old.began self.old.changes at old;
+        } }
     {
         let began = self.began;
         if at.y >= began.h || at.x >= began.w {

@@ -3,5 +3,6 @@
 mod blocks;
 mod live;
 mod plain;
+mod reverts;
 mod sizes;
 mod spans;

@@ -39,7 +39,8 @@ pub record IsGivenUp (old : MachineState) (c : Command) (new : MachineState)
   pub silent : messages ≡ []
 
 -- what a session did with a command: it obeyed, or memory was refused
-abbrev pub Obeys : MachineState → Command → Result Reply Fault → MachineState → List Message → Type 0
+abbrev pub Obeys : MachineState → Command → Result Reply Fault → MachineState → List Message
+    → Type 0
 Obeys old c (Ok reply) new messages = obey old c ≡ obeyed (Ok reply) new messages
 Obeys old c (Err (Refused rule)) new messages = obey old c ≡ obeyed (Err rule) new messages
 Obeys old c (Err Memory) new messages = IsGivenUp old c new messages

@@ -1,4 +1,5 @@
 ghost use Rattle.std.specs.Prelude.{◌≡◌, ◌≤◌, ℕ, List, [], length, max};
+ghost use Rattle.orca_base.specs.declared.limits.TheConstants.{MAX_NOTES};
 ghost use Rattle.orca_base.specs.declared.note.Note.{Note};
 ghost use Rattle.orca_edit.specs.Machines.{Acts, Closes, preview_of};
 ghost use Rattle.orca_edit.specs.Obeying.{MachineState, piece_of};
@@ -50,12 +51,17 @@ pub trait Machine: Look {
 
     /// The notes that sound, in the order in which they started.
     fn notes(&self) -> &[Note]
-        ensures { result.now ≡ (piece_of (machine self.now)).notes };
+        ensures notes { result.now ≡ (piece_of (machine self.now)).notes }
+        ensures few { length result.now ≤ MAX_NOTES };
 
     /// The number of entries of the history, at most the limit.
     fn moments(&self) -> u32
         ensures moments { result ≡ length (machine self.now).history }
         ensures few { result ≤ (machine self.now).limit };
+
+    /// The most entries that the history may have.
+    fn limit(&self) -> u32
+        ensures { result ≡ (machine self.now).limit };
 
     /// The most entries that the history has had.
     fn peak(&self) -> u32

@@ -4,6 +4,7 @@ pub mod FrameLemmas
 pub mod MarkLemmas
 pub mod RangeLemmas
 pub mod ResidueLemmas
+pub mod RestLemmas
 pub mod SkipLemmas
 pub mod TableLemmas
 pub mod WrittenLemmas

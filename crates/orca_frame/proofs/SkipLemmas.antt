@@ -48,7 +48,7 @@ state-skip rules n (suc many) g now none =
     ∙ after_none s (visit_deeds rules s at now) (no_deeds rules s at now (none many (omega arith))))
 
 -- so do the deeds of the frame
-deeds-skip : (n many : ℕ) (g : Sheet) (now : Now) → HoldsNone rule n many g now
+pub deeds-skip : (n many : ℕ) (g : Sheet) (now : Now) → HoldsNone rule n many g now
     → scan_deeds (n + many) g now ≡ scan_deeds n g now
 deeds-skip n zero g now none = rw add-zero refl
 deeds-skip n (suc many) g now none =
@@ -63,7 +63,7 @@ deeds-skip n (suc many) g now none =
     rw (next, before, here) (append-nil (scan_deeds n g now))
 
 -- and the count of busy places
-busy-skip : (n many : ℕ) (g : Sheet) (now : Now) → HoldsNone rule n many g now
+pub busy-skip : (n many : ℕ) (g : Sheet) (now : Now) → HoldsNone rule n many g now
     → busy_of (n + many) g now ≡ busy_of n g now
 busy-skip n zero g now none = rw add-zero refl
 busy-skip n (suc many) g now none =

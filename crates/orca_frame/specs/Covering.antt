@@ -8,8 +8,7 @@ use Rattle.orca_base.specs.MarkSet.{has_mark}
 use Rattle.orca_op.specs.Scan.{Rules, is_idle, state_after_places, places}
 use Rattle.orca_op.specs.State.{State, glyph_at, marks_at}
 
--- a place that isn't idle when the scan reaches it holds the glyph that it held when the frame
--- began
+-- a place that isn't idle when the scan reaches it holds the glyph that it held as the frame began
 abbrev pub IsCovering : Rules → Type 0
 IsCovering rules =
     (g : Sheet) (now : Now) (n : ℕ) → IsSheet g → n < places g

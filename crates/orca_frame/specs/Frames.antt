@@ -21,8 +21,7 @@ desk_after_places n g now = record {
 }
 
 -- what a frame leaves of a desk: the scan of its grid, that grid as the one before, and the places
--- that the deeds of the
--- scan write, each once; all other places are as before
+-- that the deeds of the scan write, each once; all other places are as before
 pub record IsFramed (old new : Desk) (now : Now) : Type 0 where
   pub scan : new.scan ≡ scan (sheet_of old.scan) now
   pub deeds : new.scan ≡ after_all (fresh (sheet_of old.scan)) (frame_deeds (sheet_of old.scan) now)
@@ -39,14 +38,13 @@ abbrev pub looks : ℕ
 looks = 6
 
 -- the most ticks of a frame that visits every place: those of `begin`, the looks at each place, and
--- those of the
--- operators that the scan reaches
+-- those of the operators that the scan reaches
 abbrev pub most_plain_ticks : Desk → Now → ℕ
-most_plain_ticks d now = 1 + residue d + looks * places (sheet_of d.scan) + MAX_TICKS * busy
-    (sheet_of d.scan) now
+most_plain_ticks d now =
+    let g = sheet_of d.scan in
+    1 + residue d + looks * places g + MAX_TICKS * busy g now
 
 -- the most ticks of a frame that goes from one operator to the next: those of `begin`, one for each
--- row, and those of
--- the visits of the operators that the scan reaches
+-- row, and those of the visits of the operators that the scan reaches
 abbrev pub most_ticks : Desk → Now → ℕ
 most_ticks d now = 1 + residue d + d.scan.dims.h + MAX_VISIT_TICKS * busy (sheet_of d.scan) now

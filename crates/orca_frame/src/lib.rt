@@ -11,5 +11,5 @@ mod visit;
 
 pub use covering::covering_law;
 pub use plain::frame_plain;
-pub use skipping::skipping_law;
+pub use skipping::{rest_law, skipping_law};
 pub use sparse::frame;

@@ -1,8 +1,16 @@
-ghost use Rattle.orca_frame.specs.Skips.{IsSkipping};
+ghost use Rattle.orca_base.specs.declared.now.Now.{Now};
+ghost use Rattle.orca_base.specs.Grids.{IsSheet, Sheet};
+ghost use Rattle.orca_frame.specs.Skips.{IsAtRest, IsInert, IsSkipping};
 ghost use Rattle.orca_op.specs.Scan.{Rules};
 
 /// Over places that hold no operator the scan changes nothing, whatever the rules are. So a walk that goes
 /// from one operator to the next leaves what a visit of every place leaves. It does nothing.
 pub fn skipping_law()
     ensures { (rules : Rules) → IsSkipping rules }
+{}
+
+/// A grid that holds no operator is at rest: a frame that begins on it anew leaves it as it is, and
+/// takes one tick for each row and one more. It does nothing.
+pub fn rest_law()
+    ensures { (g : Sheet) (now : Now) → IsSheet g → IsInert g → IsAtRest g now }
 {}

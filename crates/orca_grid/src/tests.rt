@@ -91,6 +91,27 @@ fn texts_that_are_refused(rt: HostRuntime) -> Result<(), Fail> {
     Ok(())
 }
 
+/// The text of each refusal.
+#[test]
+fn refusals_are_shown(rt: HostRuntime) -> Result<(), Fail> {
+    for (refusal, want) in [
+        (GridRefusal::BadByte { offset: 0 }, "bad byte at 0"),
+        (
+            GridRefusal::BadByte { offset: u32::MAX },
+            "bad byte at 4294967295",
+        ),
+        (GridRefusal::NoCells, "no cells"),
+        (GridRefusal::TooWide { row: 1 }, "row 1 too wide"),
+        (GridRefusal::TooWide { row: 256 }, "row 256 too wide"),
+        (GridRefusal::TooHigh, "too many rows"),
+        (GridRefusal::Memory, "memory was refused"),
+    ] {
+        let text = format!(in rt.alloc(); "{refusal}")?;
+        assert!(rt; text.as_str() == want, "{text} and not {want}");
+    }
+    Ok(())
+}
+
 /// A piece some times over, and then another.
 fn text_of(
     alloc: Global,

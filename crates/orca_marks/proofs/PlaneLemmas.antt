@@ -34,14 +34,19 @@ unfolding blank
 count-blank = none_marked MAX_CELLS
 
 -- an empty list that was filled up with no marks
-pub filled_blank : (n len : ℕ) (marks start : List MarkSet) (m : MarkSet) → n ≡ MAX_CELLS → start ≡ [] → len ≡ 0 → m ≡ no_marks → marks ≡ take n start ++ replicate (n - len) m → marks ≡ blank
+pub filled_blank : (n len : ℕ) (marks start : List MarkSet) (m : MarkSet) → n ≡ MAX_CELLS
+    → start ≡ [] → len ≡ 0 → m ≡ no_marks → marks ≡ take n start ++ replicate (n - len) m
+    → marks ≡ blank
 unfolding blank
 filled_blank n len marks start m most none zero_long unmarked is =
-    resized n len marks start m none zero_long is ∙ (rw unmarked (ap (λ (k : ℕ). replicate k no_marks) most))
+    resized n len marks start m none zero_long is
+    ∙ (rw unmarked (ap (λ (k : ℕ). replicate k no_marks) most))
 
 -- where each place has no marks, nothing is marked
 pub all_blank : (marks old : List MarkSet) → length marks ≡ MAX_CELLS
-    → ((i : ℕ) → get_or marks i no_marks ≡ (if nat_lt i (MAX_ROWS * MAX_COLUMNS) then no_marks else get_or old i no_marks)) → marks ≡ blank
+    → ((i : ℕ) → get_or marks i no_marks ≡
+    (if nat_lt i (MAX_ROWS * MAX_COLUMNS) then no_marks else get_or old i no_marks))
+    → marks ≡ blank
 all_blank marks old size each =
     ext_get_or no_marks marks blank (size ∙ sym length-blank) (λ i below.
     each i ∙ (rw (lt-ltb i (MAX_ROWS * MAX_COLUMNS) (omega (arith, size))) (sym (index-blank i))))
@@ -49,15 +54,18 @@ all_blank marks old size each =
 -- ---- one place marked
 
 -- the row of a place that is marked is touched
-pub plane_set : (marks : List MarkSet) (touched : List Bool) (y x i : ℕ) (m : MarkSet) → IsPlane marks touched → y < MAX_ROWS → x < MAX_COLUMNS → i ≡ y * MAX_COLUMNS + x
+pub plane_set : (marks : List MarkSet) (touched : List Bool) (y x i : ℕ) (m : MarkSet)
+    → IsPlane marks touched → y < MAX_ROWS → x < MAX_COLUMNS → i ≡ y * MAX_COLUMNS + x
     → IsPlane (set marks i m) (set touched y true)
 plane_set marks touched y x i m plane row column number = record {
   size = length-set marks i m ∙ plane.size;
   rows = length-set touched y true ∙ plane.rows;
   clean = λ k quiet. elim (eqb_tells (k / MAX_COLUMNS) y) [
-    | inl same ↦ absurd (both_ways _ quiet (rw same.1 (get_or-set_same touched y true false (omega (arith, plane.rows)))))
+    | inl same ↦ absurd (both_ways _ quiet
+        (rw same.1 (get_or-set_same touched y true false (omega (arith, plane.rows)))))
     | inr other ↦
         get_or-set_other marks i k m no_marks (λ is. other.1 (omega arith))
-        ∙ plane.clean k (sym (get_or-set_other touched y (k / MAX_COLUMNS) true false other.1) ∙ quiet)
+        ∙ plane.clean k (sym (get_or-set_other touched y (k / MAX_COLUMNS) true false other.1)
+        ∙ quiet)
   ];
 }

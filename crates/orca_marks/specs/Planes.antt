@@ -11,4 +11,5 @@ blank = replicate MAX_CELLS no_marks
 pub record IsPlane (marks : List MarkSet) (touched : List Bool) : Type 0 where
   pub size : length marks ≡ MAX_CELLS
   pub rows : length touched ≡ MAX_ROWS
-  pub clean : (i : ℕ) → slice_index_or touched (i / MAX_COLUMNS) false ≡ false → slice_index_or marks i no_marks ≡ no_marks
+  pub clean : (i : ℕ) → slice_index_or touched (i / MAX_COLUMNS) false ≡ false
+      → slice_index_or marks i no_marks ≡ no_marks

@@ -108,7 +108,8 @@ impl MarkPlane {
         requires { rows ≤ MAX_ROWS }
         ensures size { length self.new ≡ MAX_CELLS }
         ensures marks { (i : ℕ) → slice_index_or self.new i no_marks
-            ≡ (if nat_lt i (rows * MAX_COLUMNS) then no_marks else slice_index_or self.old i no_marks) }
+            ≡ (if nat_lt i (rows * MAX_COLUMNS) then no_marks
+            else slice_index_or self.old i no_marks) }
     {
         let _marks = &self.marks;
         for row in 0..rows {

@@ -26,32 +26,46 @@ dims_after_all s [] = refl
 dims_after_all s (deed ∷ deeds) = dims_after_all (after s deed) deeds ∙ dims_after s deed
 
 -- marks and glyphs are put where others stood
-pub length-marks_after : (s : State) (at : Option Place) (marks : MarkSet) → length (marks_after s at marks) ≡ length s.marks
+pub length-marks_after : (s : State) (at : Option Place) (marks : MarkSet)
+    → length (marks_after s at marks) ≡ length s.marks
 length-marks_after s None marks = refl
-length-marks_after s (Some at) marks = length-set s.marks (index_of s.dims at) (all_marks (marks_at s at) marks)
+length-marks_after s (Some at) marks =
+    length-set s.marks (index_of s.dims at) (all_marks (marks_at s at) marks)
 
-pub length-cells_after : (s : State) (at : Option Place) (glyph : ℕ) → length (cells_after s at glyph) ≡ length s.cells
+pub length-cells_after : (s : State) (at : Option Place) (glyph : ℕ)
+    → length (cells_after s at glyph) ≡ length s.cells
 length-cells_after s None glyph = refl
 length-cells_after s (Some at) glyph = length-set s.cells (index_of s.dims at) glyph
 
-AreGlyphs-cells_after : (s : State) (at : Option Place) (glyph : ℕ) → AreGlyphs s.cells → IsGlyph glyph → AreGlyphs (cells_after s at glyph)
+AreGlyphs-cells_after : (s : State) (at : Option Place) (glyph : ℕ) → AreGlyphs s.cells
+    → IsGlyph glyph → AreGlyphs (cells_after s at glyph)
 AreGlyphs-cells_after s None glyph all is = all
-AreGlyphs-cells_after s (Some at) glyph all is = AreGlyphs-set s.cells (index_of s.dims at) glyph all is
+AreGlyphs-cells_after s (Some at) glyph all is =
+    AreGlyphs-set s.cells (index_of s.dims at) glyph all is
 
 -- a deed adds an event, or none
-pub events_after : (s : State) (deed : Deed) → length (after s deed).events ≡ length s.events + count_by is_emit (deed ∷ [])
+pub events_after : (s : State) (deed : Deed)
+    → length (after s deed).events ≡ length s.events + count_by is_emit (deed ∷ [])
 unfolding after
 events_after s (Mark at marks) = omega arith
 events_after s (Write at glyph) = omega arith
 events_after s (Set variable glyph) = omega arith
 events_after s (Emit event) = omega (arith, length-append s.events (event ∷ []))
 
-pub events_after_all : (s : State) (deeds : List Deed) → length (after_all s deeds).events ≡ length s.events + count_by is_emit deeds
+pub events_after_all : (s : State) (deeds : List Deed)
+    → length (after_all s deeds).events ≡ length s.events + count_by is_emit deeds
 events_after_all s [] = omega arith
 events_after_all s (deed ∷ deeds) =
-    omega (arith, events_after_all (after s deed) deeds, events_after s deed, count_by-append is_emit (deed ∷ []) deeds)
+    omega (
+      arith,
+      events_after_all (after s deed) deeds,
+      events_after s deed,
+      count_by-append
+          is_emit (deed ∷ []) deeds,
+    )
 
-sheet_after : (s : State) (at : Option Place) (glyph : ℕ) → IsSheet (sheet_of s) → IsGlyph glyph → IsSheet (record { dims = s.dims; cells = cells_after s at glyph })
+sheet_after : (s : State) (at : Option Place) (glyph : ℕ) → IsSheet (sheet_of s) → IsGlyph glyph
+    → IsSheet (record { dims = s.dims; cells = cells_after s at glyph })
 sheet_after s at glyph sheet is = record {
   size = sheet.size;
   whole = length-cells_after s at glyph ∙ sheet.whole;
@@ -59,7 +73,8 @@ sheet_after s at glyph sheet is = record {
 }
 
 -- a deed that writes a glyph leaves a state, where there is room for its event
-pub IsState-after : (s : State) (deed : Deed) → IsState s → WritesGlyph deed → length s.events + count_by is_emit (deed ∷ []) ≤ cells_of s.dims → IsState (after s deed)
+pub IsState-after : (s : State) (deed : Deed) → IsState s → WritesGlyph deed
+    → length s.events + count_by is_emit (deed ∷ []) ≤ cells_of s.dims → IsState (after s deed)
 unfolding after
 IsState-after s (Mark at marks) state is room = record {
   sheet = state.sheet;
@@ -91,12 +106,14 @@ IsState-after s (Emit event) state is room = record {
 }
 
 -- so do deeds in order
-pub IsState-after_all : (s : State) (deeds : List Deed) → IsState s → Every WritesGlyph deeds → length s.events + count_by is_emit deeds ≤ cells_of s.dims → IsState (after_all s deeds)
+pub IsState-after_all : (s : State) (deeds : List Deed) → IsState s → Every WritesGlyph deeds
+    → length s.events + count_by is_emit deeds ≤ cells_of s.dims → IsState (after_all s deeds)
 IsState-after_all s [] state all room = state
 IsState-after_all s (deed ∷ deeds) state all room =
     let count = count_by-append is_emit (deed ∷ []) deeds in
     let same : cells_of (after s deed).dims ≡ cells_of s.dims = ap cells_of (dims_after s deed) in
-    IsState-after_all (after s deed) deeds (IsState-after s deed state all.0 (omega (arith, room, count))) all.1
+    IsState-after_all (after s deed) deeds
+    (IsState-after s deed state all.0 (omega (arith, room, count))) all.1
     (omega (arith, room, count, events_after s deed, same))
 
 pub AreGlyphs-empty : (n : ℕ) → AreGlyphs (replicate n empty)

@@ -17,7 +17,8 @@ pub data Deed : Type 0 where
 -- marks are added; outside the grid nothing changes
 abbrev pub marks_after : State → Option Place → MarkSet → List MarkSet
 marks_after s None marks = s.marks
-marks_after s (Some at) marks = slice_set s.marks (index_of s.dims at) (all_marks (marks_at s at) marks)
+marks_after s (Some at) marks =
+    slice_set s.marks (index_of s.dims at) (all_marks (marks_at s at) marks)
 
 -- the glyph is written; outside the grid nothing changes
 abbrev pub cells_after : State → Option Place → ℕ → List ℕ

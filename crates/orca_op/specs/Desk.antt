@@ -1,5 +1,5 @@
--- A desk is what a contract sees of a bench: the state of the scan, the grid at the last `begin`, and the places that
--- were written since.
+-- A desk is what a contract sees of a bench: the state of the scan, the grid at the last `begin`,
+-- and the places that were written since.
 use Rattle.std.specs.Prelude.{ℕ, ◌+◌, ◌≡◌, ◌<◌, Bool, false, not, ◌&&◌, if◌then◌else◌, List, [], ◌∷◌, ◌++◌, length, map, count_by, Option, Some, None, All}
 use Rattle.std.specs.List.{list_any, IsDistinct}
 use Rattle.orca_base.specs.declared.change.Change.{Change}
@@ -34,7 +34,8 @@ list_after began dims listed (Emit event) = listed
 -- the places listed after deeds, in order
 abbrev pub list_after_all : Size → Size → List Place → List Deed → List Place
 list_after_all began dims listed [] = listed
-list_after_all began dims listed (deed ∷ deeds) = list_after_all began dims (list_after began dims listed deed) deeds
+list_after_all began dims listed (deed ∷ deeds) =
+    list_after_all began dims (list_after began dims listed deed) deeds
 
 -- the desk after a deed
 abbrev pub desk_after : Desk → Deed → Desk

@@ -43,16 +43,23 @@ key_of octave number = min MAX_DATA (12 * min MAX_OCTAVE (value octave) + number
 abbrev pub velocity_of : ℕ → ℕ
 velocity_of glyph = if glyph == empty then MAX_DATA else min MAX_DATA (8 * value glyph - 1)
 
+-- the channel of a note: the greatest where the value is greater
+abbrev pub channel_of : ℕ → ℕ
+channel_of glyph = min MAX_CHANNEL (value glyph)
+
 -- a note has an octave and a number, and no velocity of value 0
 abbrev pub note_with : Bool → ℕ → ℕ → ℕ → ℕ → Option ℕ → Option Event
 note_with mono channel octave velocity frames None = None
 note_with mono channel octave velocity frames (Some number) =
     if (octave == empty) || (not (velocity == empty) && (value velocity == 0)) then None
-    else Some (Note (min MAX_CHANNEL (value channel)) (key_of octave number) (velocity_of velocity) (value_or frames 1) mono)
+    else Some (Note (channel_of channel) (key_of octave number)
+    (velocity_of velocity) (value_or frames 1) mono)
 
 -- the note of the ports channel, octave, note, velocity and length
 unfoldable pub note_of : Bool → State → Place → Option Event
-note_of mono s at = note_with mono (port s at 1) (port s at 2) (port s at 4) (port s at 5) (note_number (port s at 3))
+note_of mono s at =
+    note_with mono (port s at 1) (port s at 2) (port s at 4) (port s at 5)
+    (note_number (port s at 3))
 
 -- `:`: a note
 abbrev pub midi : ℕ → State → Place → Now → List Deed
@@ -111,7 +118,8 @@ udp_text g s at now =
     lock_deeds at (length text) ++ send_deeds at (beside_bang s at (text_event text))
 
 abbrev pub osc_with : ℕ → List ℕ → Option Event
-osc_with path values = if is_digit path || is_upper path || is_lower path then Some (Osc path values) else None
+osc_with path values =
+    if is_digit path || is_upper path || is_lower path then Some (Osc path values) else None
 
 -- the OSC message of the ports path and length, and of the values of the `length` ports after them
 unfoldable pub osc_of : State → Place → Option Event

@@ -2,10 +2,11 @@
 use Rattle.std.specs.Prelude.{ℕ, zero, suc, ◌+◌, ◌<◌, ◌≤◌, ◌≡◌, Bool, true, false, if◌then◌else◌, Option, Some, None, IfSome, unwrap_or, refl}
 use Rattle.std.proofs.Common.{inl, inr, arith, ap, ◌∙◌, sym, zero-add, suc-add}
 use Rattle.std.proofs.Math.Nat.{eq-or-lt_of_le}
-use Rattle.orca_op.specs.First.{first_where}
+use Rattle.orca_op.specs.First.{first_where, NonePasses, IsCounted}
 
 -- a number that passes, where none before it does, is the first
-pub first_where-found : (test : ℕ → Bool) (from many i : ℕ) → from ≤ i → i < from + many → ((k : ℕ) → from ≤ k → k < i → test k ≡ false) → test i ≡ true → first_where test from many ≡ Some i
+pub first_where-found : (test : ℕ → Bool) (from many i : ℕ) → from ≤ i → i < from + many
+    → NonePasses test from i → test i ≡ true → first_where test from many ≡ Some i
 unfolding first_where
 first_where-found test from zero i low high before here = absurd (omega arith)
 first_where-found test from (suc many) i low high before here =
@@ -13,61 +14,88 @@ first_where-found test from (suc many) i low high before here =
       | inl same ↦ let passes : test from ≡ true = ap test same ∙ here in rw passes (ap Some same)
       | inr less ↦
           let fails : test from ≡ false = before from (omega arith) less in
-          rw fails (first_where-found test (from + 1) many i (omega arith) (omega arith) (λ k above below. before k (omega arith) below) here)
+          let later : NonePasses test (from + 1) i =
+          λ k above below. before k (omega arith) below
+          in
+          rw fails (first_where-found test (from + 1) many i (omega arith) (omega arith) later here)
     ]
 
 -- where no number passes, there is no first
-pub first_where-missing : (test : ℕ → Bool) (from many : ℕ) → ((k : ℕ) → from ≤ k → k < from + many → test k ≡ false) → first_where test from many ≡ None
+pub first_where-missing : (test : ℕ → Bool) (from many : ℕ)
+    → NonePasses test from (from + many) → first_where test from many ≡ None
 unfolding first_where
 first_where-missing test from zero before = refl
 first_where-missing test from (suc many) before =
     let fails : test from ≡ false = before from (omega arith) (omega arith) in
-    rw fails (first_where-missing test (from + 1) many (λ k above below. before k (omega arith) (omega arith)))
+    let later : NonePasses test (from + 1) (from + 1 + many) =
+    λ k above below. before k (omega arith) (omega arith)
+    in
+    rw fails (first_where-missing test (from + 1) many later)
 
-range_if : (here : Bool) (later : Option ℕ) (from many : ℕ) → IfSome later (λ i. (from + 1 ≤ i) × (i < from + 1 + many)) → IfSome (if here then Some from else later) (λ i. (from ≤ i) × (i < from + suc many))
+range_if : (here : Bool) (later : Option ℕ) (from many : ℕ)
+    → IfSome later (IsCounted (from + 1) many)
+    → IfSome (if here then Some from else later) (IsCounted from (suc many))
 range_if true later from many within = (omega arith, omega arith)
 range_if false None from many within = within
 range_if false (Some i) from many within = (omega arith, omega arith)
 
 -- the first is one of the numbers that are tested
-pub first_where-range : (test : ℕ → Bool) (from many : ℕ) → IfSome (first_where test from many) (λ i. (from ≤ i) × (i < from + many))
+pub first_where-range : (test : ℕ → Bool) (from many : ℕ)
+    → IfSome (first_where test from many) (IsCounted from many)
 unfolding first_where
 first_where-range test from zero = tt
-first_where-range test from (suc many) = range_if (test from) _ from many (first_where-range test (from + 1) many)
+first_where-range test from (suc many) =
+    range_if (test from) _ from many (first_where-range test (from + 1) many)
 
-passes_if : (test : ℕ → Bool) (from : ℕ) (here : Bool) (later : Option ℕ) → here ≡ test from → IfSome later (λ i. test i ≡ true) → IfSome (if here then Some from else later) (λ i. test i ≡ true)
+passes_if : (test : ℕ → Bool) (from : ℕ) (here : Bool) (later : Option ℕ) → here ≡ test from
+    → IfSome later (λ i. test i ≡ true)
+    → IfSome (if here then Some from else later) (λ i. test i ≡ true)
 passes_if test from true later is within = sym is
 passes_if test from false later is within = within
 
 -- the first passes the test
-pub first_where-passes : (test : ℕ → Bool) (from many : ℕ) → IfSome (first_where test from many) (λ i. test i ≡ true)
+pub first_where-passes : (test : ℕ → Bool) (from many : ℕ)
+    → IfSome (first_where test from many) (λ i. test i ≡ true)
 unfolding first_where
 first_where-passes test from zero = tt
-first_where-passes test from (suc many) = passes_if test from (test from) _ refl (first_where-passes test (from + 1) many)
+first_where-passes test from (suc many) =
+    passes_if test from (test from) _ refl (first_where-passes test (from + 1) many)
 
-fails_if : (test : ℕ → Bool) (from many k : ℕ) (here : Bool) (later : Option ℕ) → here ≡ test from → ((k : ℕ) → from + 1 ≤ k → k < unwrap_or later (from + 1 + many) → test k ≡ false) → from ≤ k → k < unwrap_or (if here then Some from else later) (from + suc many) → test k ≡ false
+fails_if : (test : ℕ → Bool) (from many k : ℕ) (here : Bool) (later : Option ℕ) → here ≡ test from
+    → NonePasses test (from + 1) (unwrap_or later (from + 1 + many)) → from ≤ k
+    → k < unwrap_or (if here then Some from else later) (from + suc many) → test k ≡ false
 fails_if test from many k true later is rest low high = absurd (omega arith)
 fails_if test from many k false None is rest low high =
-    elim (eq-or-lt_of_le low) [ inl same ↦ ap test (sym same) ∙ sym is | inr less ↦ rest k (omega arith) (omega arith) ]
+    elim (eq-or-lt_of_le low) [
+      | inl same ↦ ap test (sym same) ∙ sym is
+      | inr less ↦ rest k (omega arith) (omega arith)
+    ]
 fails_if test from many k false (Some i) is rest low high =
-    elim (eq-or-lt_of_le low) [ inl same ↦ ap test (sym same) ∙ sym is | inr less ↦ rest k (omega arith) high ]
+    elim (eq-or-lt_of_le low) [
+      | inl same ↦ ap test (sym same) ∙ sym is
+      | inr less ↦ rest k (omega arith) high
+    ]
 
 -- none before the first passes, and none at all where there is no first
-pub first_where-before : (test : ℕ → Bool) (from many k : ℕ) → from ≤ k → k < unwrap_or (first_where test from many) (from + many) → test k ≡ false
+pub first_where-before : (test : ℕ → Bool) (from many k : ℕ) → from ≤ k
+    → k < unwrap_or (first_where test from many) (from + many) → test k ≡ false
 unfolding first_where
 first_where-before test from zero k low high = absurd (omega arith)
 first_where-before test from (suc many) k low high =
     fails_if test from many k (test from) _ refl (first_where-before test (from + 1) many) low high
 
 -- tests that agree have the same first
-pub first_where-same : (p q : ℕ → Bool) (from many : ℕ) → ((k : ℕ) → p k ≡ q k) → first_where p from many ≡ first_where q from many
+pub first_where-same : (p q : ℕ → Bool) (from many : ℕ) → ((k : ℕ) → p k ≡ q k)
+    → first_where p from many ≡ first_where q from many
 unfolding first_where
 first_where-same p q from zero agree = refl
 first_where-same p q from (suc many) agree =
     rw (agree from, first_where-same p q (from + 1) many agree) refl
 
 -- numbers that fail change nothing at the end
-pub first_where-longer : (test : ℕ → Bool) (from many more : ℕ) → ((k : ℕ) → from + many ≤ k → test k ≡ false) → first_where test from (many + more) ≡ first_where test from many
+pub first_where-longer : (test : ℕ → Bool) (from many more : ℕ)
+    → ((k : ℕ) → from + many ≤ k → test k ≡ false)
+    → first_where test from (many + more) ≡ first_where test from many
 unfolding first_where
 first_where-longer test from zero more fails =
     rw zero-add (first_where-missing test from more (λ k low high. fails k (omega arith)))

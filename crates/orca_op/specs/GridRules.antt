@@ -19,7 +19,9 @@ source at y x = off at (pos y) (pos (x + 1))
 
 -- the i-th place at the right is read, and its glyph is written at the i-th place of the target
 abbrev pub generate_one : Place → ℕ → ℕ → ℕ → ℕ → List Deed
-generate_one at y x i glyph = input_at (right at (i + 1)) ∷ far_at (target at y (x + i)) ∷ Write (target at y (x + i)) glyph ∷ []
+generate_one at y x i glyph =
+    input_at (right at (i + 1)) ∷ far_at (target at y (x + i))
+    ∷ Write (target at y (x + i)) glyph ∷ []
 
 -- G: the glyphs at its right are written at the target
 abbrev pub generator : ℕ → State → Place → Now → List Deed
@@ -53,7 +55,8 @@ below_by at n i = off at (pos 1) (pos (i + 1) -ℤ pos n)
 -- the i-th place of the source is read, and its glyph is written below
 abbrev pub query_one : Place → ℕ → ℕ → ℕ → ℕ → ℕ → List Deed
 query_one at y x length i glyph =
-    input_at (source at y (x + i)) ∷ output_at (below_by at length i) ∷ Write (below_by at length i) glyph ∷ []
+    input_at (source at y (x + i)) ∷ output_at (below_by at length i)
+    ∷ Write (below_by at length i) glyph ∷ []
 
 -- Q: the glyphs at the source are written below
 abbrev pub query : ℕ → State → Place → Now → List Deed
@@ -84,20 +87,24 @@ push g s at now =
     ∷ each length (λ i. lock_at (off at (pos 1) (pos i)) ∷ [])
     ++ input_at (right at 1) ∷ output_at chosen ∷ Write chosen (peek s (right at 1)) ∷ []
 
--- V: sets the variable that is named at its left; where none is, writes below it the one that is named at its right
+-- V: sets the variable that is named at its left; where none is, writes below it the one that is
+-- named at its right
 abbrev pub variable : ℕ → State → Place → Now → List Deed
 variable g s at now =
     let write = peek s (left at 1) in
     let read = peek s (right at 1) in
     param_at (left at 1) ∷ input_at (right at 1)
     ∷ (if write == empty
-    then (if read == empty then [] else output_at (below at) ∷ Write (below at) (var_at s (value read)) ∷ [])
+    then (if read == empty then []
+    else output_at (below at) ∷ Write (below at) (var_at s (value read)) ∷ [])
     else Set (value write) read ∷ [])
 
--- the variable is written below its name, the i-th at the right; nothing is written where the name is missing
+-- the variable is written below its name, the i-th at the right; nothing is written where the name
+-- is missing
 unfoldable pub store_deeds : Place → ℕ → ℕ → ℕ → List Deed
 store_deeds at i name stored =
-    if name == empty then [] else output_at (off at (pos 1) (pos i)) ∷ Write (off at (pos 1) (pos i)) stored ∷ []
+    if name == empty then []
+    else output_at (off at (pos 1) (pos i)) ∷ Write (off at (pos 1) (pos i)) stored ∷ []
 
 -- the i-th place at the right is read, and the variable that it names is written below it
 abbrev pub konkat_one : Place → ℕ → ℕ → ℕ → List Deed
@@ -108,4 +115,5 @@ abbrev pub konkat : ℕ → State → Place → Now → List Deed
 konkat g s at now =
     let name : ℕ → ℕ = λ i. peek s (right at (i + 1)) in
     param_at (left at 1)
-    ∷ each (value_or (peek s (left at 1)) 1) (λ i. konkat_one at i (name i) (var_at s (value (name i))))
+    ∷ each (value_or (peek s (left at 1)) 1)
+    (λ i. konkat_one at i (name i) (var_at s (value (name i))))

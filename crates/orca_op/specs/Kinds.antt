@@ -7,11 +7,13 @@ use Rattle.orca_op.specs.declared.kind.Kind.TheVariants.{Add, Subtract, Clock, D
 -- the letters A to Z and the signs `* # : % ! ? ; =`
 abbrev pub kinds : List (ℕ × Kind)
 kinds =
-    (65, Add) ∷ (66, Subtract) ∷ (67, Clock) ∷ (68, Delay) ∷ (69, East) ∷ (70, IfEqual) ∷ (71, Generator)
-    ∷ (72, Halt) ∷ (73, Increment) ∷ (74, Jumper) ∷ (75, Konkat) ∷ (76, Lesser) ∷ (77, Multiply) ∷ (78, North)
-    ∷ (79, ReadAt) ∷ (80, Push) ∷ (81, Query) ∷ (82, Random) ∷ (83, South) ∷ (84, Track) ∷ (85, Uclid)
-    ∷ (86, Variable) ∷ (87, West) ∷ (88, WriteAt) ∷ (89, Jymper) ∷ (90, Lerp) ∷ (42, Bang) ∷ (35, Comment)
-    ∷ (58, Midi) ∷ (37, Mono) ∷ (33, ControlChange) ∷ (63, PitchBend) ∷ (59, UdpText) ∷ (61, OscMessage) ∷ []
+    (65, Add) ∷ (66, Subtract) ∷ (67, Clock) ∷ (68, Delay) ∷ (69, East) ∷ (70, IfEqual)
+    ∷ (71, Generator) ∷ (72, Halt) ∷ (73, Increment) ∷ (74, Jumper) ∷ (75, Konkat) ∷ (76, Lesser)
+    ∷ (77, Multiply) ∷ (78, North) ∷ (79, ReadAt) ∷ (80, Push) ∷ (81, Query) ∷ (82, Random)
+    ∷ (83, South) ∷ (84, Track) ∷ (85, Uclid) ∷ (86, Variable) ∷ (87, West) ∷ (88, WriteAt)
+    ∷ (89, Jymper) ∷ (90, Lerp)
+    ∷ (42, Bang) ∷ (35, Comment) ∷ (58, Midi) ∷ (37, Mono) ∷ (33, ControlChange)
+    ∷ (63, PitchBend) ∷ (59, UdpText) ∷ (61, OscMessage) ∷ []
 
 abbrev pub kind_in : List (ℕ × Kind) → ℕ → Option Kind
 kind_in [] g = None

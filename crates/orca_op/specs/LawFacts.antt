@@ -20,7 +20,8 @@ use Rattle.orca_op.specs.Desk.{Desk, desk_after, desk_after_all}
 use Rattle.orca_op.specs.ValueRules.{value_or}
 use Rattle.orca_op.specs.Laws.{is_emit, Every, AnyDeed, EmitsInRange}
 
-glyph_if : (s : State) (at : Option Place) → IsState s → IfSome at (IsInside s.dims) → IsGlyph (glyph_in s at)
+glyph_if : (s : State) (at : Option Place) → IsState s → IfSome at (IsInside s.dims)
+    → IsGlyph (glyph_in s at)
 glyph_if s None whole inside = (lit≤ tt, lit≤ tt)
 glyph_if s (Some at) whole inside = IsGlyph-glyph_at (sheet_of s) at whole.sheet inside
 
@@ -29,10 +30,14 @@ pub IsGlyph-peek : (s : State) (spot : Spot) → IsState s → IsGlyph (peek s s
 unfolding peek
 IsGlyph-peek s spot whole = glyph_if s (place_in s.dims spot) whole (inside-place_in s.dims spot)
 
--- a value, or another where it is 0, is at most the greater of the last value and the other, and 0 only where the other is
-pub value_or-range : (glyph other : ℕ) → (value_or glyph other ≤ max (BASE - 1) other) × (0 < other → 0 < value_or glyph other)
+-- a value, or another where it is 0, is at most the greater of the last value and the other, and 0
+-- only where the other is
+pub value_or-range : (glyph other : ℕ)
+    → (value_or glyph other ≤ max (BASE - 1) other) × (0 < other → 0 < value_or glyph other)
 unfolding value_or
-value_or-range glyph other = let below = value-below glyph in (grind (arith, nat_tests), λ some. grind (arith, nat_tests))
+value_or-range glyph other =
+    let below = value-below glyph in
+    (grind (arith, nat_tests), λ some. grind (arith, nat_tests))
 
 -- what a variable holds is a glyph
 pub IsGlyph-var_at : (s : State) (n : ℕ) → IsState s → n < BASE → IsGlyph (var_at s n)
@@ -40,28 +45,37 @@ unfolding var_at
 IsGlyph-var_at s n whole below = IsGlyph-index s.vars n whole.glyphs (omega (arith, whole.vars))
 
 -- at most `size` deeds for each of n numbers
-pub length-each : (n size : ℕ) (deeds : ℕ → List Deed) → ((i : ℕ) → length (deeds i) ≤ size) → length (each n deeds) ≤ n * size
+pub length-each : (n size : ℕ) (deeds : ℕ → List Deed) → ((i : ℕ) → length (deeds i) ≤ size)
+    → length (each n deeds) ≤ n * size
 length-each zero size deeds bound = omega arith
 length-each (suc n) size deeds bound =
-    rw length-append (let front = length-each n size deeds bound in let last = bound n in grind arith)
+    let front = length-each n size deeds bound in
+    let last = bound n in
+    rw length-append (grind arith)
 
-pub count_by-append : (p : Deed → Bool) (xs ys : List Deed) → count_by p (xs ++ ys) ≡ count_by p xs + count_by p ys
+pub count_by-append : (p : Deed → Bool) (xs ys : List Deed)
+    → count_by p (xs ++ ys) ≡ count_by p xs + count_by p ys
 count_by-append p xs ys = sum_by-append (λ x. if p x then 1 else 0) xs ys
 
 -- no event for any number
-pub no_event-each : (n : ℕ) (deeds : ℕ → List Deed) → ((i : ℕ) → count_by is_emit (deeds i) ≡ 0) → count_by is_emit (each n deeds) ≡ 0
+pub no_event-each : (n : ℕ) (deeds : ℕ → List Deed) → ((i : ℕ) → count_by is_emit (deeds i) ≡ 0)
+    → count_by is_emit (each n deeds) ≡ 0
 no_event-each zero deeds none = refl
-no_event-each (suc n) deeds none = rw (count_by-append is_emit (each n deeds) (deeds n), no_event-each n deeds none, none n) refl
+no_event-each (suc n) deeds none =
+    rw (count_by-append is_emit (each n deeds) (deeds n), no_event-each n deeds none, none n) refl
 
-pub Every-append : (P : Deed → Type 0) (xs ys : List Deed) → Every P xs → Every P ys → Every P (xs ++ ys)
+pub Every-append : (P : Deed → Type 0) (xs ys : List Deed) → Every P xs → Every P ys
+    → Every P (xs ++ ys)
 Every-append P [] ys first second = second
 Every-append P (x ∷ xs) ys first second = (first.0, Every-append P xs ys first.1 second)
 
 -- what holds of the deeds of each number holds of all of them
-pub Every-each : (P : Deed → Type 0) (n : ℕ) (deeds : ℕ → List Deed) → ((i : ℕ) → i < n → Every P (deeds i)) → Every P (each n deeds)
+pub Every-each : (P : Deed → Type 0) (n : ℕ) (deeds : ℕ → List Deed)
+    → ((i : ℕ) → i < n → Every P (deeds i)) → Every P (each n deeds)
 Every-each P zero deeds all = tt
 Every-each P (suc n) deeds all =
-    Every-append P (each n deeds) (deeds n) (Every-each P n deeds (λ i below. all i (omega arith))) (all n (omega arith))
+    let front = Every-each P n deeds (λ i below. all i (omega arith)) in
+    Every-append P (each n deeds) (deeds n) front (all n (omega arith))
 
 pub AnyDeed-left : (P : Deed → Type 0) (xs ys : List Deed) → AnyDeed P xs → AnyDeed P (xs ++ ys)
 AnyDeed-left P [] ys some = absurd some
@@ -73,29 +87,35 @@ AnyDeed-right P [] ys some = some
 AnyDeed-right P (x ∷ xs) ys some = inr (AnyDeed-right P xs ys some)
 
 -- a deed of some number is among all of them
-pub AnyDeed-each : (P : Deed → Type 0) (n i : ℕ) (deeds : ℕ → List Deed) → i < n → AnyDeed P (deeds i) → AnyDeed P (each n deeds)
+pub AnyDeed-each : (P : Deed → Type 0) (n i : ℕ) (deeds : ℕ → List Deed) → i < n
+    → AnyDeed P (deeds i) → AnyDeed P (each n deeds)
 AnyDeed-each P zero i deeds below some = absurd (omega arith)
 AnyDeed-each P (suc n) i deeds below some =
     let at_most : i ≤ n = omega arith in
     elim (eq-or-lt_of_le at_most) [
-      | inl same ↦ AnyDeed-right P (each n deeds) (deeds n) (subst (λ (k : ℕ). AnyDeed P (deeds k)) same some)
+      | inl same ↦
+          let last = subst (λ (k : ℕ). AnyDeed P (deeds k)) same some in
+          AnyDeed-right P (each n deeds) (deeds n) last
       | inr less ↦ AnyDeed-left P (each n deeds) (deeds n) (AnyDeed-each P n i deeds less some)
     ]
 
 -- deeds one after another
-pub desk_after_all-append : (d : Desk) (xs ys : List Deed) → desk_after_all d (xs ++ ys) ≡ desk_after_all (desk_after_all d xs) ys
+pub desk_after_all-append : (d : Desk) (xs ys : List Deed)
+    → desk_after_all d (xs ++ ys) ≡ desk_after_all (desk_after_all d xs) ys
 desk_after_all-append d [] ys = refl
 desk_after_all-append d (x ∷ xs) ys = desk_after_all-append (desk_after d x) xs ys
 
 -- deeds one after another add up
 pub ruleset added_up = (desk_after_all-append)
 
-pub after_all-append : (s : State) (xs ys : List Deed) → after_all s (xs ++ ys) ≡ after_all (after_all s xs) ys
+pub after_all-append : (s : State) (xs ys : List Deed)
+    → after_all s (xs ++ ys) ≡ after_all (after_all s xs) ys
 after_all-append s [] ys = refl
 after_all-append s (x ∷ xs) ys = after_all-append (after s x) xs ys
 
 -- the state of a desk after deeds is the state after them
-pub scan-desk_after_all : (d : Desk) (deeds : List Deed) → (desk_after_all d deeds).scan ≡ after_all d.scan deeds
+pub scan-desk_after_all : (d : Desk) (deeds : List Deed)
+    → (desk_after_all d deeds).scan ≡ after_all d.scan deeds
 scan-desk_after_all d [] = refl
 scan-desk_after_all d (deed ∷ deeds) = scan-desk_after_all (desk_after d deed) deeds
 
@@ -104,18 +124,24 @@ pub each-more : (n : ℕ) (deeds : ℕ → List Deed) → each (n + 1) deeds ≡
 each-more n deeds = rw add-one refl
 
 -- the deeds of one number more come after those of the numbers before
-pub desk_after_all-each_more : (d : Desk) (n : ℕ) (deeds : ℕ → List Deed) → desk_after_all d (each (n + 1) deeds) ≡ desk_after_all (desk_after_all d (each n deeds)) (deeds n)
-desk_after_all-each_more d n deeds = rw (each-more n deeds, desk_after_all-append d (each n deeds) (deeds n)) refl
+pub desk_after_all-each_more : (d : Desk) (n : ℕ) (deeds : ℕ → List Deed)
+    → desk_after_all d (each (n + 1) deeds)
+    ≡ desk_after_all (desk_after_all d (each n deeds)) (deeds n)
+desk_after_all-each_more d n deeds =
+    rw (each-more n deeds, desk_after_all-append d (each n deeds) (deeds n)) refl
 
 -- the same deeds for each number below n
-pub each-same : (n : ℕ) (deeds others : ℕ → List Deed) → ((i : ℕ) → i < n → deeds i ≡ others i) → each n deeds ≡ each n others
+pub each-same : (n : ℕ) (deeds others : ℕ → List Deed) → ((i : ℕ) → i < n → deeds i ≡ others i)
+    → each n deeds ≡ each n others
 each-same zero deeds others same = refl
 each-same (suc n) deeds others same =
     rw (each-same n deeds others (λ i below. same i (omega arith)), same n (omega arith)) refl
 
 -- deeds by a number that is the same for each number below n
-pub each-by : (n : ℕ) (deeds : ℕ → ℕ → List Deed) (f h : ℕ → ℕ) → ((i : ℕ) → i < n → f i ≡ h i) → each n (λ i. deeds i (f i)) ≡ each n (λ i. deeds i (h i))
-each-by n deeds f h same = each-same n (λ i. deeds i (f i)) (λ i. deeds i (h i)) (λ i below. rw (same i below) refl)
+pub each-by : (n : ℕ) (deeds : ℕ → ℕ → List Deed) (f h : ℕ → ℕ) → ((i : ℕ) → i < n → f i ≡ h i)
+    → each n (λ i. deeds i (f i)) ≡ each n (λ i. deeds i (h i))
+each-by n deeds f h same =
+    each-same n (λ i. deeds i (f i)) (λ i. deeds i (h i)) (λ i below. rw (same i below) refl)
 
 -- deeds that send no event send none out of range
 pub quiet : (deeds : List Deed) → count_by is_emit deeds ≡ 0 → Every EmitsInRange deeds
@@ -123,14 +149,21 @@ quiet [] none = tt
 quiet (Mark at marks ∷ deeds) none = (tt, quiet deeds (omega arith))
 quiet (Write at glyph ∷ deeds) none = (tt, quiet deeds (omega arith))
 quiet (Set variable glyph ∷ deeds) none = (tt, quiet deeds (omega arith))
-quiet (Emit event ∷ deeds) none = absurd (omega (arith, none, sum_by-cons (λ (deed : Deed). if is_emit deed then 1 else 0) (Emit event) deeds))
+quiet (Emit event ∷ deeds) none =
+    let counted = sum_by-cons (λ (deed : Deed). if is_emit deed then 1 else 0) (Emit event) deeds in
+    absurd (omega (arith, none, counted))
 
 -- events in range stay so after deeds that send events in range
-pub in_range-after_all : (s : State) (deeds : List Deed) → All IsInRange s.events → Every EmitsInRange deeds → All IsInRange (after_all s deeds).events
+pub in_range-after_all : (s : State) (deeds : List Deed) → All IsInRange s.events
+    → Every EmitsInRange deeds → All IsInRange (after_all s deeds).events
 unfolding after
 in_range-after_all s [] before all = before
-in_range-after_all s (Mark at marks ∷ deeds) before all = in_range-after_all (after s (Mark at marks)) deeds before all.1
-in_range-after_all s (Write at glyph ∷ deeds) before all = in_range-after_all (after s (Write at glyph)) deeds before all.1
-in_range-after_all s (Set variable glyph ∷ deeds) before all = in_range-after_all (after s (Set variable glyph)) deeds before all.1
+in_range-after_all s (Mark at marks ∷ deeds) before all =
+    in_range-after_all (after s (Mark at marks)) deeds before all.1
+in_range-after_all s (Write at glyph ∷ deeds) before all =
+    in_range-after_all (after s (Write at glyph)) deeds before all.1
+in_range-after_all s (Set variable glyph ∷ deeds) before all =
+    in_range-after_all (after s (Set variable glyph)) deeds before all.1
 in_range-after_all s (Emit event ∷ deeds) before all =
-    in_range-after_all (after s (Emit event)) deeds (All-push IsInRange s.events event before all.0) all.1
+    let grown = All-push IsInRange s.events event before all.0 in
+    in_range-after_all (after s (Emit event)) deeds grown all.1

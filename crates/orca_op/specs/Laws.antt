@@ -56,8 +56,13 @@ IsCovered at deeds (Emit event) = Unit {0}
 
 -- the laws of a rule
 pub record IsLawful (rule : ℕ → State → Place → Now → List Deed) : Type 0 where
-  pub few_deeds : (g : ℕ) (s : State) (at : Place) (now : Now) → length (rule g s at now) ≤ MAX_DEEDS
-  pub one_event : (g : ℕ) (s : State) (at : Place) (now : Now) → count_by is_emit (rule g s at now) ≤ 1
-  pub glyphs : (g : ℕ) (s : State) (at : Place) (now : Now) → IsState s → IsGlyph g → Every WritesGlyph (rule g s at now)
-  pub covered : (g : ℕ) (s : State) (at : Place) (now : Now) → Every (IsCovered at (rule g s at now)) (rule g s at now)
-  pub events : (g : ℕ) (s : State) (at : Place) (now : Now) → IsState s → Every EmitsInRange (rule g s at now)
+  pub few_deeds : (g : ℕ) (s : State) (at : Place) (now : Now)
+      → length (rule g s at now) ≤ MAX_DEEDS
+  pub one_event : (g : ℕ) (s : State) (at : Place) (now : Now)
+      → count_by is_emit (rule g s at now) ≤ 1
+  pub glyphs : (g : ℕ) (s : State) (at : Place) (now : Now) → IsState s → IsGlyph g
+      → Every WritesGlyph (rule g s at now)
+  pub covered : (g : ℕ) (s : State) (at : Place) (now : Now)
+      → Every (IsCovered at (rule g s at now)) (rule g s at now)
+  pub events : (g : ℕ) (s : State) (at : Place) (now : Now) → IsState s
+      → Every EmitsInRange (rule g s at now)

@@ -1,10 +1,10 @@
 -- Live places: those that hold an operator.
-use Rattle.std.specs.Prelude.{ℕ, ◌+◌, ◌-◌, ◌*◌, ◌^◌, ◌/◌, ◌%◌, ◌≡◌, ◌≤◌, ◌<◌, ◌==◌, ◌&&◌, Bool, false, nat_lt, List, length, Option, Some, None, slice_index}
+use Rattle.std.specs.Prelude.{ℕ, ◌+◌, ◌-◌, ◌*◌, ◌^◌, ◌/◌, ◌%◌, ◌≡◌, ◌≤◌, ◌<◌, ◌==◌, ◌&&◌, Bool, nat_lt, List, length, Option, Some, None, slice_index}
 use Rattle.std.specs.Int.{bit_at}
 use Rattle.orca_base.specs.declared.limits.TheConstants.{WORD_COLUMNS}
 use Rattle.orca_base.specs.Glyphs.{is_operator}
 use Rattle.orca_op.specs.State.{State, glyph_at}
-use Rattle.orca_op.specs.First.{first_where}
+use Rattle.orca_op.specs.First.{first_where, NonePasses}
 
 -- the column lies in the grid, and its place of the row holds an operator
 abbrev pub is_live : State → ℕ → ℕ → Bool
@@ -14,7 +14,7 @@ is_live s row x = nat_lt x s.dims.w && is_operator (glyph_at s (record { y = row
 abbrev pub has_bit : List ℕ → ℕ → Bool
 has_bit words x = bit_at (slice_index words (x / WORD_COLUMNS)) (x % WORD_COLUMNS) == 1
 
--- the words of a row: as many as its columns need, and a bit is set exactly where its column is live
+-- the words of a row: as many as its columns need, and the bits of its live columns are set
 pub record IsLiveRow (s : State) (row : ℕ) (words : List ℕ) : Type 0 where
   pub size : length words ≡ (s.dims.w + (WORD_COLUMNS - 1)) / WORD_COLUMNS
   pub bits : (x : ℕ) → has_bit words x ≡ is_live s row x
@@ -25,15 +25,17 @@ next_live s row from = first_where (is_live s row) from (s.dims.w - from)
 
 -- no column from `from` up to `to` is live
 abbrev pub HasNoLive : State → ℕ → ℕ → ℕ → Type 0
-HasNoLive s row from to = (x : ℕ) → from ≤ x → x < to → is_live s row x ≡ false
+HasNoLive s row from to = NonePasses (is_live s row) from to
 
 -- the least bit of a word, at least `from`, that is set; none where none is
 abbrev pub IsLeastBit : ℕ → ℕ → Option ℕ → Type 0
 IsLeastBit word from None = (k : ℕ) → from ≤ k → k < WORD_COLUMNS → bit_at word k ≡ 0
 IsLeastBit word from (Some bit) =
-    (from ≤ bit) × (bit < WORD_COLUMNS) × (bit_at word bit ≡ 1) × ((k : ℕ) → from ≤ k → k < bit → bit_at word k ≡ 0)
+    (from ≤ bit) × (bit < WORD_COLUMNS) × (bit_at word bit ≡ 1)
+    × ((k : ℕ) → from ≤ k → k < bit → bit_at word k ≡ 0)
 
--- a cursor before a column has reached the word of the column before it, and its bits from the column on lie ahead
+-- a cursor before a column has reached the word of the column before it, and its bits from the
+-- column on lie ahead
 pub record IsCursor (column reached first ahead : ℕ) : Type 0 where
   pub word : reached ≡ (column - 1) / WORD_COLUMNS
   pub base : first ≡ reached * WORD_COLUMNS

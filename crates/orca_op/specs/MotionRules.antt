@@ -10,7 +10,8 @@ use Rattle.orca_base.specs.Grids.{above, below, down, here, left, right}
 use Rattle.orca_op.specs.Deeds.{Deed, Write, input_at, param_at, output_at, lock_at, sleep_at, each}
 use Rattle.orca_op.specs.First.{first_where}
 
--- a mover goes on to the target where that is an empty place of the grid, and becomes a bang otherwise
+-- a mover goes on to the target where that is an empty place of the grid, and becomes a bang
+-- otherwise
 unfoldable pub move_to : ℕ → State → Place → Spot → List Deed
 move_to g s at target =
     if holds s target && (peek s target == empty)
@@ -47,7 +48,8 @@ hash = 35
 
 -- how many places a comment locks: up to and with the next `#`, and at most its reach
 unfoldable pub comment_length : State → Place → ℕ
-comment_length s at = unwrap_or (first_where (λ i. peek s (right at i) == hash) 1 COMMENT_REACH) COMMENT_REACH
+comment_length s at =
+    unwrap_or (first_where (λ i. peek s (right at i) == hash) 1 COMMENT_REACH) COMMENT_REACH
 
 -- n places to the right are locked
 abbrev pub lock_deeds : Place → ℕ → List Deed
@@ -57,7 +59,8 @@ lock_deeds at n = each n (λ i. lock_at (right at (i + 1)) ∷ [])
 abbrev pub comment : ℕ → State → Place → Now → List Deed
 comment g s at now = lock_deeds at (comment_length s at)
 
--- where the chain of a jumper's glyph ends: the number of the first place beyond it that holds another
+-- where the chain of a jumper's glyph ends: the number of the first place beyond it that holds
+-- another
 unfoldable pub chain_end : ℕ → State → (ℕ → Spot) → Option ℕ
 chain_end g s beyond = first_where (λ i. not (peek s (beyond i) == g)) 1 JUMP_REACH
 
@@ -69,7 +72,8 @@ sleep_deeds beyond n = each n (λ k. sleep_at (beyond (k + 1)) ∷ [])
 abbrev pub jump_by : ℕ → State → Spot → (ℕ → Spot) → Option ℕ → List Deed
 jump_by g s source beyond None = input_at source ∷ []
 jump_by g s source beyond (Some i) =
-    input_at source ∷ sleep_deeds beyond (i - 1) ++ output_at (beyond i) ∷ Write (beyond i) (peek s source) ∷ []
+    input_at source ∷ sleep_deeds beyond (i - 1)
+    ++ output_at (beyond i) ∷ Write (beyond i) (peek s source) ∷ []
 
 -- only the first of a chain acts
 unfoldable pub jump : ℕ → State → Spot → (ℕ → Spot) → List Deed

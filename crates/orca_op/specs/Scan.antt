@@ -9,7 +9,8 @@ use Rattle.orca_op.specs.Deeds.{Deed, after_all}
 use Rattle.orca_op.specs.Desk.{list_after_all}
 use Rattle.orca_op.specs.Rules.{rule}
 
--- a place is idle where it holds no operator, is locked or asleep, or holds a lower-case letter without a bang
+-- a place is idle where it holds no operator, is locked or asleep, or holds a lower-case letter
+-- without a bang
 unfoldable pub is_idle : State → Place → Bool
 is_idle s at =
     not (is_operator (glyph_at s at)) || (marks_at s at).lock || (marks_at s at).sleep
@@ -30,18 +31,22 @@ state_after_visit rules s at now = after_all s (visit_deeds rules s at now)
 -- the state after the first n places were visited
 abbrev pub state_after_places : Rules → ℕ → Sheet → Now → State
 state_after_places rules zero g now = fresh g
-state_after_places rules (suc n) g now = state_after_visit rules (state_after_places rules n g now) (place_of g.dims n) now
+state_after_places rules (suc n) g now =
+    state_after_visit rules (state_after_places rules n g now) (place_of g.dims n) now
 
 -- the deeds of the first n visits
 abbrev pub scan_deeds : ℕ → Sheet → Now → List Deed
 scan_deeds zero g now = []
-scan_deeds (suc n) g now = scan_deeds n g now ++ visit_deeds rule (state_after_places rule n g now) (place_of g.dims n) now
+scan_deeds (suc n) g now =
+    scan_deeds n g now
+    ++ visit_deeds rule (state_after_places rule n g now) (place_of g.dims n) now
 
 -- how many of the first n places hold an operator when the scan reaches them
 abbrev pub busy_of : ℕ → Sheet → Now → ℕ
 busy_of zero g now = 0
 busy_of (suc n) g now =
-    busy_of n g now + (if is_operator (glyph_at (state_after_places rule n g now) (place_of g.dims n)) then 1 else 0)
+    let reached = state_after_places rule n g now in
+    busy_of n g now + (if is_operator (glyph_at reached (place_of g.dims n)) then 1 else 0)
 
 abbrev pub places : Sheet → ℕ
 places g = cells_of g.dims

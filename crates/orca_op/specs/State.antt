@@ -76,4 +76,5 @@ holds s spot = is_some (place_in s.dims spot)
 -- a bang stands at one of the four neighbours
 unfoldable pub has_bang : State → Place → Bool
 has_bang s at =
-    (peek s (above at) == bang) || (peek s (left at 1) == bang) || (peek s (right at 1) == bang) || (peek s (below at) == bang)
+    (peek s (above at) == bang) || (peek s (left at 1) == bang)
+    || (peek s (right at 1) == bang) || (peek s (below at) == bang)

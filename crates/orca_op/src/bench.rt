@@ -11,9 +11,9 @@ use orca_base::limits::BASE;
 use orca_base::{Dims, Event, Glyph, Mark, Marks, Place, Spot, Steps};
 use std::sync::ledger::Ledger;
 
-/// Where a frame is worked: the grid with its marks, variables and events. Each call but `dims` ticks
-/// once, and `begin` once more for each marked place and for each listed one. A call that stands for several
-/// ticks as they do. No call takes memory.
+/// Where a frame is worked: the grid with its marks, variables and events. Each call but `dims`
+/// ticks once, and `begin` once more for each marked place and for each listed one. A call that
+/// stands for several ticks as they do. No call takes memory.
 ///
 /// The calls that stand for others have bodies, and a bench that can do them faster has its own.
 pub trait Bench {
@@ -83,8 +83,8 @@ pub trait Bench {
         self.marked(at.here(), steps)
     }
 
-    /// Whether a bang stands next to a place of the grid: above it, below it, at its left or at its right. It
-    /// ticks for each of the four.
+    /// Whether a bang stands next to a place of the grid: above it, below it, at its left or at its
+    /// right. It ticks for each of the four.
     #[tactic(auto, unfolding(crate::specs::State::has_bang))]
     fn beside_bang<L: Ledger>(&self, at: Place, steps: &mut Steps<L>) -> bool
         requires { IsInside (desk self.now).scan.dims at }
@@ -98,8 +98,9 @@ pub trait Bench {
         above == Glyph::BANG || left == Glyph::BANG || right == Glyph::BANG || below == Glyph::BANG
     }
 
-    /// The first of `reach` columns at the right of a place of the grid that holds the glyph of a byte; none
-    /// exactly where none does. Beyond the edge there is only `.`, which is not asked for.
+    /// The first of `reach` columns at the right of a place of the grid that holds the glyph of a
+    /// byte; none exactly where none does. Beyond the edge there is only `.`, which is not asked
+    /// for.
     fn find_right<L: Ledger>(
         &self,
         at: Place,

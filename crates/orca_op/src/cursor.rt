@@ -10,8 +10,9 @@ use orca_base::limits::WORD_COLUMNS;
 use std::marker::Model;
 use std::sync::ledger::Ledger;
 
-/// Where the walk of a row stands: before a column. It keeps the word that it has reached, and which bits
-/// of it lie ahead, so that the next operator is a matter of one word. A contract sees the column.
+/// Where the walk of a row stands: before a column. It keeps the word that it has reached, and
+/// which bits of it lie ahead, so that the next operator is a matter of one word. A contract sees
+/// the column.
 #[derive(Drop)]
 pub struct Cursor {
     column: u16,
@@ -46,8 +47,8 @@ impl Cursor {
         }
     }
 
-    /// The next column of a row that holds an operator as the grid stands now; none exactly where there is
-    /// none. The cursor then stands behind it. It ticks once.
+    /// The next column of a row that holds an operator as the grid stands now; none exactly where
+    /// there is none. The cursor then stands behind it. It ticks once.
     #[inline(always)]
     pub fn next<B: Walk, L: Ledger>(
         &mut self,
@@ -58,26 +59,29 @@ impl Cursor {
         requires row { row < (B.desk bench.now).scan.dims.h }
         requires column { self.old ≤ (B.desk bench.now).scan.dims.w }
         ensures least { result ≡ next_live (B.desk bench.now).scan row self.old }
-        ensures found { IfSome result (λ x. (self.old ≤ x) × IsTrue (is_live (B.desk bench.now).scan row x)) }
-        ensures passed { HasNoLive (B.desk bench.now).scan row self.old (unwrap_or result (B.desk bench.now).scan.dims.w) }
+        ensures found { IfSome result (λ x.
+            (self.old ≤ x) × IsTrue (is_live (B.desk bench.now).scan row x)) }
+        ensures passed { let s = (B.desk bench.now).scan in
+            HasNoLive s row self.old (unwrap_or result s.dims.w) }
         ensures behind { IfSome result (λ x. self.new ≡ x + 1) }
         ensures ticks { steps.new ≡ steps.old + 1 }
     {
         self.find(bench.live_words(row, steps))
     }
 
-    /// The least bit of a row's words, at the column or behind it, that is set. The cursor then stands behind
-    /// it.
+    /// The least bit of a row's words, at the column or behind it, that is set. The cursor then
+    /// stands behind it.
     #[inline(always)]
     fn find(&mut self, words: &[u64]) -> Option<u16>
         requires some { (self.old - 1) / WORD_COLUMNS < length words.now }
         requires few { length words.now ≤ MAX_COLUMNS }
-        ensures least { result ≡ first_where (has_bit words.now) self.old (WORD_COLUMNS * length words.now - self.old) }
+        ensures least { result ≡ first_where (has_bit words.now) self.old
+            (WORD_COLUMNS * length words.now - self.old) }
         ensures behind { IfSome result (λ x. self.new ≡ x + 1) }
     {
         let first = self.word;
         let base = self.base;
-        // Most operators stand in the word of the one before, so it is looked at apart from the others.
+        // Most operators stand in the word of the one before, so it is looked at by itself.
         let bits = words[first] & self.ahead;
         if bits != 0 {
             return Some(self.stop(first, base, bits));
@@ -90,8 +94,8 @@ impl Cursor {
         None
     }
 
-    /// The column of the least bit of a word, whose first bit stands for the column `base`. The cursor then
-    /// stands behind it.
+    /// The column of the least bit of a word, whose first bit stands for the column `base`. The
+    /// cursor then stands behind it.
     #[inline(always)]
     fn stop(&mut self, word: usize, base: usize, bits: u64) -> u16
         requires some { 0 < bits }

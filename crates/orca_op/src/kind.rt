@@ -79,7 +79,8 @@ pub enum Kind {
 impl Kind {
     ghost use Rattle.orca_op.specs.Kinds.{kind_of};
 
-    /// The kind of an operator glyph, a letter being of one kind in either case; none of any other glyph.
+    /// The kind of an operator glyph, a letter being of one kind in either case; none of any other
+    /// glyph.
     #[tactic(auto, unfolding(crate::specs::Kinds::kind_of, orca_base::specs::Glyphs::is_operator))]
     pub fn of(glyph: Glyph) -> Option<Kind>
         ensures kind { result ≡ kind_of glyph }

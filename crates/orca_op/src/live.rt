@@ -18,8 +18,10 @@ pub fn next_live<B: Walk, L: Ledger>(
     requires row { row < (B.desk bench.now).scan.dims.h }
     requires column { from ≤ (B.desk bench.now).scan.dims.w }
     ensures least { result ≡ next_live (B.desk bench.now).scan row from }
-    ensures found { IfSome result (λ x. (from ≤ x) × IsTrue (is_live (B.desk bench.now).scan row x)) }
-    ensures passed { HasNoLive (B.desk bench.now).scan row from (unwrap_or result (B.desk bench.now).scan.dims.w) }
+    ensures found { IfSome result (λ x.
+        (from ≤ x) × IsTrue (is_live (B.desk bench.now).scan row x)) }
+    ensures passed { let s = (B.desk bench.now).scan in
+        HasNoLive s row from (unwrap_or result s.dims.w) }
     ensures ticks { steps.new ≡ steps.old + 1 }
 {
     next_bit(bench.live_words(row, steps), from)
@@ -28,7 +30,8 @@ pub fn next_live<B: Walk, L: Ledger>(
 /// The least bit of a row's words, at least `from`, that is set.
 fn next_bit(words: &[u64], from: u16) -> Option<u16>
     requires { length words.now ≤ MAX_COLUMNS }
-    ensures { result ≡ first_where (has_bit words.now) from (WORD_COLUMNS * length words.now - from) }
+    ensures { result
+        ≡ first_where (has_bit words.now) from (WORD_COLUMNS * length words.now - from) }
 {
     for i in usize::from(from / WORD_COLUMNS)..words.len() {
         let start = i as u16 * WORD_COLUMNS;

@@ -17,7 +17,8 @@ use std::sync::ledger::Ledger;
 
 /// An operator: a rule of deeds that is lawful, and the code that does them.
 pub trait Operator {
-    /// Which operator it is: it serves the glyphs of this kind, and follows their rule in the operator table.
+    /// Which operator it is: it serves the glyphs of this kind, and follows their rule in the
+    /// operator table.
     ghost kind: { Kind };
 
     /// Does the deeds of its rule in the operator table, in order, in at most `MAX_TICKS` ticks.
@@ -33,12 +34,13 @@ pub trait Operator {
         requires holds { glyph ≡ glyph_at (B.desk bench.old).scan at }
         requires served { kind_of glyph ≡ Some kind }
         requires room { HasRoom (B.desk bench.old) }
-        ensures deeds { B.desk bench.new ≡ desk_after_all (B.desk bench.old) (rule_of kind glyph (B.desk bench.old).scan at now) }
+        ensures deeds { B.desk bench.new ≡ desk_after_all (B.desk bench.old)
+            (rule_of kind glyph (B.desk bench.old).scan at now) }
         ensures ticks { steps.new ≤ steps.old + MAX_TICKS }
         ensures later { steps.old ≤ steps.new };
 
-    /// At most `MAX_DEEDS` deeds and one event, glyphs alone are written, each write to another place comes with
-    /// Lock or Sleep on it, and each event is in range.
+    /// At most `MAX_DEEDS` deeds and one event, glyphs alone are written, each write to another
+    /// place comes with Lock or Sleep on it, and each event is in range.
     ghost laws: { IsLawful (rule_of kind) };
 
     /// The laws of the operator's rule.

@@ -8,9 +8,9 @@ use std::sync::ledger::Ledger;
 
 /// A bench that keeps, for each row, which of its places hold an operator.
 pub trait Walk: Bench {
-    /// The words of a row as the grid stands now. The bit of a column is bit `x % 64` of word `x / 64`,
-    /// counted from the least significant bit. It is set exactly where the column lies in the grid and
-    /// that place holds an operator. It ticks once.
+    /// The words of a row as the grid stands now. The bit of a column `x` is bit `x % 64` of word
+    /// `x / 64`, counted from the least significant bit. It is set exactly where the column lies in
+    /// the grid and that place holds an operator. It ticks once.
     fn live_words<L: Ledger>(&self, row: u16, steps: &mut Steps<L>) -> &[u64]
         requires { row < (Self.desk self.now).scan.dims.h }
         ensures live { IsLiveRow (Self.desk self.now).scan row result.now }

@@ -189,8 +189,9 @@ fn print_fault<R: Eprint>(rt: &R, bytes: &[u8]) -> io::Result<()> {
 
 #[cfg(test)]
 mod tests {
-    use super::print_fault;
+    use super::{open_sink, print_fault};
     use crate::SendFault;
+    use crate::tests::refused::Refused;
     use std::fmt::Display;
     use std::io;
     use std::io::ErrorKind;
@@ -206,6 +207,20 @@ mod tests {
 
         fn eprintln<D: Display + Drop>(&self, _: D) -> io::Result<()> {
             Err(io::Error::from(self.0))
+        }
+    }
+
+    #[test]
+    fn memory_that_is_refused_at_an_open_is_told_apart(rt: HostRuntime) {
+        let ends = [
+            (ErrorKind::OutOfMemory, SendFault::Memory),
+            (ErrorKind::PermissionDenied, SendFault::Failed),
+        ];
+        for (end, fault) in ends {
+            let told = open_sink(&Refused(end), "midi")
+                .err()
+                .map(|error| SendFault::from(error));
+            assert_eq!(rt; told, Some(fault));
         }
     }
 

@@ -1,4 +1,5 @@
 mod files;
 mod inbox;
 mod outs;
+pub(crate) mod refused;
 mod tcp;

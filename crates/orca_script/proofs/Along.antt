@@ -21,7 +21,8 @@ use Rattle.orca_script.proofs.Words.{is_plain, front, later_words, words-plain, 
 -- what bytes give in the end
 abbrev pub final : List ℕ → Next → LineValues → Option LineValues
 final [] next values = values_at_end next values
-final (b ∷ bytes) next values = option_and_then (λ s. final bytes s.next s.values) (step next values b)
+final (b ∷ bytes) next values =
+    option_and_then (λ s. final bytes s.next s.values) (step next values b)
 
 -- what bytes give by the grammar, from each state on
 pub record Agrees (bytes : List ℕ) : Type 0 where
@@ -52,7 +53,8 @@ blank_nil (Number ∷ kinds) values = rw words-none refl
 blank_nil (Glyph ∷ kinds) values = rw words-none refl
 
 digits_nil : (ds : List ℕ) (kinds : List Kind) (values : LineValues) → is_number ds ≡ true →
-    final [] (Digits (length ds) (digits_value 10 ds) kinds) values ≡ values_by values (Number ∷ kinds)
+    final [] (Digits (length ds) (digits_value 10 ds) kinds) values
+    ≡ values_by values (Number ∷ kinds)
     ((ds ++ []) ∷ later_words [])
 unfolding values_at_end values_by
 digits_nil ds [] values number = rw (append-nil ds, number_of-number ds number, later-none) refl
@@ -71,7 +73,8 @@ module _ (b : ℕ) (bytes : List ℕ) (ih : Agrees bytes) (space : is_space b �
       ≡ (if bytes_eq (front (b ∷ bytes)) word then values_by values kinds (later_words (b ∷ bytes))
       else None)
   unfolding step
-  letters_space [] kinds values plain = rw (later-space b bytes space, space) (ih.blank kinds values)
+  letters_space [] kinds values plain =
+      rw (later-space b bytes space, space) (ih.blank kinds values)
   letters_space (c ∷ word) kinds values plain =
       let apart : eqb b c ≡ false =
       ne_eqb b c (λ e. let at : b ≡ 32 = eqb-true b 32 space in let no : is_space c ≡ false =
@@ -92,8 +95,10 @@ module _ (b : ℕ) (bytes : List ℕ) (ih : Agrees bytes) (space : is_space b �
       (ih.blank kinds (with_number values (digits_value 10 ds)))
 
 -- a glyph is one byte, so a space or the end has to come behind it
-glyph_alone : (b : ℕ) (f : List ℕ) (kinds : List Kind) (values : LineValues) (words : List (List ℕ)) →
-    is_glyph b ≡ true → (if bytes_eq f [] then values_by (with_glyph values b) kinds words else None)
+glyph_alone : (b : ℕ) (f : List ℕ) (kinds : List Kind) (values : LineValues) (words : List (List ℕ))
+    →
+    is_glyph b ≡ true → (if bytes_eq f [] then values_by (with_glyph values b) kinds words else
+    None)
     ≡ values_by values (Glyph ∷ kinds) ((b ∷ f) ∷ words)
 unfolding values_by
 glyph_alone b [] kinds values words glyph = rw glyph refl
@@ -208,7 +213,8 @@ module _ (b : ℕ) (bytes : List ℕ) (ih : Agrees bytes) (plain : is_space b �
       ≡ values_by values (Glyph ∷ kinds) ((b ∷ front bytes) ∷ later_words bytes)
   unfolding values_by
   first_glyph true kinds values e =
-      rw e (ih.letters [] kinds (with_glyph values b) refl ∙ glyph_alone b (front bytes) kinds values
+      rw e (ih.letters [] kinds (with_glyph values b) refl
+      ∙ glyph_alone b (front bytes) kinds values
       (later_words bytes) e)
   first_glyph false kinds values e = rw (e, no_glyph b (front bytes) e) refl
 

@@ -47,8 +47,8 @@ line_by-nil line = none_spaced (slice_index line 0 == space)
 abbrev far : Form → List ℕ → ℕ
 far form line = reach line (Letters form.word form.kinds) none
 
--- a line has no command by the forms, and so many of its bytes, or at most so many as before, begin one
--- that has
+-- a line has no command by the forms, and so many of its bytes, or at most so many as before, begin
+-- one that has
 pub record Stops (table : List Form) (line : List ℕ) (most count : ℕ) : Type 0 where
   pub none : line_by table line ≡ None
   pub least : most ≤ count
@@ -114,7 +114,8 @@ module _ (form : Form) (table : List Form) (line : List ℕ) (sound : IsSound fo
       let found = some_or (by_form form (take k line ++ rest)) command in
       (rest, (found.0, line_by-cons form table (take k line ++ rest) ∙ rw e found.1))
 
-  behind_either : (o : Option LineValues) (most count : ℕ) (k : ℕ) (rest : List ℕ) (command : Command) →
+  behind_either : (o : Option LineValues) (most count : ℕ) (k : ℕ) (rest : List ℕ)
+      (command : Command) →
       Stops table line (max most (far form line)) count → k ≤ length line →
       line_values form (take k line ++ rest) ≡ o →
       option_or (option_map (command_of form.verb) o) (line_by table (take k line ++ rest))

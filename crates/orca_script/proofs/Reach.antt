@@ -32,7 +32,8 @@ pub read_on-is : (bytes : List ℕ) (i : ℕ) (s : State) →
     read_on bytes i s ≡ ok_or (final bytes s.next s.values) (i + reach bytes s.next s.values)
 unfolding read_on
 read_on-is [] i s = ap (ok_or (values_at_end s.next s.values)) (omega arith)
-read_on-is (b ∷ bytes) i s = read_on_step (step s.next s.values b) bytes i (read_on-is bytes (i + 1))
+read_on-is (b ∷ bytes) i s =
+    read_on_step (step s.next s.values b) bytes i (read_on-is bytes (i + 1))
 
 -- a shortest end of a line
 abbrev sample : Kind → ℕ
@@ -53,7 +54,8 @@ Ends bytes next values = (last : LineValues) × (final bytes next values ≡ Som
 
 record Completes (kinds : List Kind) : Type 0 where
   gap : (values : LineValues) → Ends (samples kinds) (Letters [] kinds) values
-  digits : (count value : ℕ) (values : LineValues) → Ends (samples kinds) (Digits count value kinds) values
+  digits : (count value : ℕ) (values : LineValues)
+      → Ends (samples kinds) (Digits count value kinds) values
 
 completes : (kinds : List Kind) → Completes kinds
 unfolding step values_at_end
@@ -108,7 +110,8 @@ along_step None k bytes rest last ih e = absurd (none-some last e)
 along_step (Some s) k bytes rest last ih e = let h = ih s e in omega (arith, h)
 
 -- the bytes so far begin a line of the form
-pub begins : (k : ℕ) (bytes : List ℕ) (next : Next) (values : LineValues) → k ≤ reach bytes next values →
+pub begins : (k : ℕ) (bytes : List ℕ) (next : Next) (values : LineValues)
+    → k ≤ reach bytes next values →
     (rest : List ℕ) × Ends (take k bytes ++ rest) next values
 begins zero bytes next values h = (ending next, ends next values)
 begins (suc k) [] next values h = absurd (omega arith)

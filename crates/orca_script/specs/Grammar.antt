@@ -59,7 +59,8 @@ values_by_form form (word ∷ words) =
 abbrev pub command_by : List Form → List (List ℕ) → Option Command
 command_by [] words = None
 command_by (form ∷ others) words =
-    option_or (option_map (command_of form.verb) (values_by_form form words)) (command_by others words)
+    option_or (option_map (command_of form.verb) (values_by_form form words))
+    (command_by others words)
 
 -- the command that a line asks for: no space stands before its first word
 unfoldable pub line_command : List ℕ → Option Command

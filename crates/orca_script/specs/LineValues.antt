@@ -39,10 +39,12 @@ command_of Fill values = command.Fill (rect_of values) values.glyph
 command_of Erase values = command.Erase (rect_of values)
 command_of Copy values = command.Copy (rect_of values)
 command_of Cut values = command.Cut (rect_of values)
-command_of Paste values = command.Paste (slice_index values.numbers 0) (slice_index values.numbers 1)
+command_of Paste values =
+    command.Paste (slice_index values.numbers 0) (slice_index values.numbers 1)
 command_of Move values =
     command.Move (rect_of values) (slice_index values.numbers 4) (slice_index values.numbers 5)
-command_of Resize values = command.Resize (slice_index values.numbers 0) (slice_index values.numbers 1)
+command_of Resize values =
+    command.Resize (slice_index values.numbers 0) (slice_index values.numbers 1)
 command_of Reset values = command.Reset
 command_of Undo values = command.Undo
 command_of Rewind values = command.Rewind (slice_index values.numbers 0)

@@ -43,7 +43,8 @@ impl<'a> Model for Reader<'a> {
 
     ghost view = { λ r. record { next = next_of r.next; values = r.values } };
 
-    ghost invariant = { λ r. length r.values.numbers + values_left (next_of r.next) ≤ MAX_LINE_VALUES };
+    ghost invariant = { λ r.
+        length r.values.numbers + values_left (next_of r.next) ≤ MAX_LINE_VALUES };
 }
 
 impl<'a> Reader<'a> {

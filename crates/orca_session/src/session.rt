@@ -76,13 +76,6 @@ impl Session {
         self.past.entry(index)
     }
 
-    /// The most entries that the history may have.
-    pub fn limit(&self) -> u32
-        ensures { result ≡ self.now.machine.limit }
-    {
-        self.past.limit()
-    }
-
     /// The clip: what was copied or cut last. None if nothing was so far.
     pub fn clip(&self) -> Option<&Block>
         ensures { option_copied result ≡ self.now.machine.clip }
@@ -354,6 +347,10 @@ impl Machine for Session {
 
     fn moments(&self) -> u32 {
         self.past.len()
+    }
+
+    fn limit(&self) -> u32 {
+        self.past.limit()
     }
 
     fn peak(&self) -> u32 {

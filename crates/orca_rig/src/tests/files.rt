@@ -1,11 +1,11 @@
+use super::refused::Refused;
 use crate::{Files, MemFiles, RealFiles, StoreFault, names_differ};
 use orca_base::limits::MAX_FILE_BYTES;
-use std::alloc::{AllocError, Allocator, Global};
-use std::fs::{File, Metadata, OpenOptions};
+use std::alloc::{AllocError, Global};
+use std::fs;
 use std::io::ErrorKind;
 use std::process::Abort;
 use std::test::Fail;
-use std::{fs, io, rt};
 
 type Loaded<'a> = (&'a str, Result<(), StoreFault>, &'a [u8]);
 
@@ -166,62 +166,6 @@ fn a_long_file_of_the_system_is_refused(rt: HostRuntime) -> Result<(), Fail> {
     assert_eq!(rt; into.len(), MAX_FILE_BYTES);
     fs::remove_file(&rt, name)?;
     Ok(())
-}
-
-/// Files that fail in this way when they are opened.
-#[derive(Drop)]
-struct Refused(ErrorKind);
-
-impl Refused {
-    fn fail<T>(&self) -> io::Result<T> {
-        Err(io::Error::from(self.0))
-    }
-}
-
-impl rt::Files for Refused {
-    type File = File;
-
-    type Dir = File;
-
-    fn open_file(&self, _how: &OpenOptions, _path: &str) -> io::Result<File> {
-        self.fail()
-    }
-
-    fn open_dir(&self, _path: &str) -> io::Result<File> {
-        self.fail()
-    }
-
-    fn metadata(&self, _path: &str) -> io::Result<Metadata> {
-        self.fail()
-    }
-
-    fn symlink_metadata(&self, _path: &str) -> io::Result<Metadata> {
-        self.fail()
-    }
-
-    fn copy(&self, _from: &str, _to: &str) -> io::Result<u64> {
-        self.fail()
-    }
-
-    fn rename(&self, _from: &str, _to: &str) -> io::Result<()> {
-        self.fail()
-    }
-
-    fn remove_file(&self, _path: &str) -> io::Result<()> {
-        self.fail()
-    }
-
-    fn create_dir(&self, _path: &str) -> io::Result<()> {
-        self.fail()
-    }
-
-    fn remove_dir(&self, _path: &str) -> io::Result<()> {
-        self.fail()
-    }
-
-    fn remove_dir_all<B: Allocator>(&self, _alloc: B, _path: &str) -> io::Result<()> {
-        self.fail()
-    }
 }
 
 #[test]

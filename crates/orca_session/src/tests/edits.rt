@@ -1,8 +1,9 @@
 //! Edits, clips and refusals.
 
 use super::{Answer, COPIED, EDITED, Play, expect, framed, jumped, rect, refused, write};
+use orca_base::limits::{MAX_COLUMNS, MAX_ROWS};
 use orca_base::{Command, Glyph, Rule};
-use std::alloc::Global;
+use std::alloc::{AllocError, Global};
 use std::process::Abort;
 use std::test::Fail;
 
@@ -95,12 +96,39 @@ fn each_edit_and_its_undo(rt: HostRuntime) -> Result<(), Fail> {
     Ok(())
 }
 
+/// The letters in the first corner of the largest grid.
+fn largest_text(alloc: Global) -> Result<Vec<u8>, AllocError> {
+    let mut text = Vec::new(alloc);
+    for front in [b"abcd", b"efgh", b"ijkl", b"mnop"] {
+        text.extend_from_slice(front)?;
+        for _ in 4..MAX_COLUMNS {
+            text.push(b'.')?;
+        }
+        text.push(b'\n')?;
+    }
+    for _ in 4..MAX_ROWS {
+        for _ in 0..MAX_COLUMNS {
+            text.push(b'.')?;
+        }
+        text.push(b'\n')?;
+    }
+    Ok(text)
+}
+
+/// Smaller and larger, to the smallest grid and to the largest.
 #[test]
 fn each_resize_and_its_undo(rt: HostRuntime) -> Result<(), Fail> {
     let alloc = rt.alloc();
     expect_edit(&rt, alloc, &resize(2, 2), b"ab\nef\n")?;
     expect_edit(&rt, alloc, &resize(1, 1), b"a\n")?;
-    expect_edit(&rt, alloc, &resize(5, 3), b"abc\nefg\nijk\nmno\n...\n")
+    expect_edit(&rt, alloc, &resize(5, 3), b"abc\nefg\nijk\nmno\n...\n")?;
+    expect_edit(
+        &rt,
+        alloc,
+        &resize(4, 6),
+        b"abcd..\nefgh..\nijkl..\nmnop..\n",
+    )?;
+    expect_edit(&rt, alloc, &resize(256, 256), &largest_text(alloc)?)
 }
 
 /// The square `fg` over `jk`, moved onto itself by a row or a column, and partly outside.
@@ -224,9 +252,14 @@ fn expect_at_full_history(
 #[test]
 fn full_history(rt: HostRuntime) -> Result<(), Fail> {
     let alloc = rt.alloc();
+    let fill = Command::Fill {
+        rect: rect(0, 0, 1, 1),
+        glyph: Glyph::BANG,
+    };
     for command in [
         Command::Frame,
         write(0, 0, 5),
+        fill,
         erase(0, 0, 1, 1),
         cut(0, 0, 1, 1),
         paste(0, 0),
@@ -278,6 +311,81 @@ fn room_in_a_full_history(rt: HostRuntime) -> Result<(), Fail> {
         after: b".\n",
         tick: 1,
         moments: 3,
+        sounding: 0,
+    };
+    expect(&rt, rt.alloc(), &play)
+}
+
+/// A grid that is made smaller comes back whole, and a paste is cut off at its last place.
+#[test]
+fn paste_after_an_undone_resize(rt: HostRuntime) -> Result<(), Fail> {
+    let commands = [
+        (resize(2, 2), EDITED),
+        (Command::Undo, jumped(0)),
+        (copy(0, 0, 2, 2), COPIED),
+        (paste(3, 3), EDITED),
+        (paste(4, 0), refused(Rule::OutOfGrid)),
+    ];
+    let play = Play {
+        grid: b"0123\n4567\n89..\n....\n",
+        limit: 10,
+        commands: &commands,
+        messages: &[],
+        after: b"0123\n4567\n89..\n...0\n",
+        tick: 0,
+        moments: 2,
+        sounding: 0,
+    };
+    expect(&rt, rt.alloc(), &play)
+}
+
+/// Three refusals, each by its own rule, and then a move.
+#[test]
+fn move_after_refusals(rt: HostRuntime) -> Result<(), Fail> {
+    let fill = Command::Fill {
+        rect: rect(0, 0, 0, 1),
+        glyph: Glyph::BANG,
+    };
+    let commands = [
+        (paste(0, 0), refused(Rule::EmptyClip)),
+        (fill, refused(Rule::EmptyBlock)),
+        (resize(0, 4), refused(Rule::BadSize)),
+        (shift(0, 0, 1, 2, (0, 1)), EDITED),
+    ];
+    let play = Play {
+        grid: b"12..\n",
+        limit: 10,
+        commands: &commands,
+        messages: &[],
+        after: b".12.\n",
+        tick: 0,
+        moments: 1,
+        sounding: 0,
+    };
+    expect(&rt, rt.alloc(), &play)
+}
+
+/// Three frames are all that a history of three entries takes, and a write is refused there too.
+#[test]
+fn history_of_three_entries(rt: HostRuntime) -> Result<(), Fail> {
+    let full = refused(Rule::HistoryFull);
+    let commands = [
+        (Command::Frame, framed(0)),
+        (Command::Frame, framed(1)),
+        (Command::Frame, framed(2)),
+        (Command::Frame, full),
+        (Command::Frame, full),
+        (write(0, 0, 5), full),
+        (Command::Rewind { moment: 1 }, jumped(1)),
+    ];
+    let play = Play {
+        grid: b".\n",
+        limit: 3,
+        commands: &commands,
+        messages: &[],
+        after: b".\n",
+        tick: 1,
+        moments: 2,
         sounding: 0,
     };
     expect(&rt, rt.alloc(), &play)

@@ -136,7 +136,9 @@ fn expect_clock(rt: &impl Abort, alloc: Global, moment: u32, text: &[u8]) -> Res
     rewind_with::<Brand>(rt, alloc, moment, text, Blank::new(1))
 }
 
-/// Within the ring of patches, to its oldest moment, one below it, and far below it.
+/// Within the ring of patches, to its oldest moment, one below it, and far below it. A frame of few
+/// changes takes no memory but for its entry, and a rewind takes none, so this passes with the 1,000th
+/// allocation refused too (`rt try --test --fail-alloc 1000`).
 #[test]
 fn rewinds_around_the_ring(rt: HostRuntime) -> Result<(), Fail> {
     let alloc = rt.alloc();

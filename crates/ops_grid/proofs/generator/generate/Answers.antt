@@ -4,6 +4,7 @@ use Rattle.ops_grid.proofs.generator.generate.Goals as goal
 
 pub loop-i-preserved : goal.loop-i-preserved
 loop-i-preserved g c = record {
-  deeds = generate_more _ _ _ c.args.at c.args.y c.args.x c.loop-i.i c.loop-i.invariant.deeds (search rules);
+  deeds = generate_more _ _ _ c.args.at c.args.y c.args.x c.loop-i.i c.loop-i.invariant.deeds
+      (search rules);
   ticks = omega arith;
 }

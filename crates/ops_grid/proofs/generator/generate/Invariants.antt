@@ -7,6 +7,7 @@ use Rattle.ops_grid.proofs.generator.generate.Given as goal
 -- the places that were passed are done
 abbrev pub invariant-loop-i : goal.invariant-loop-i
 invariant-loop-i g l = record {
-  deeds : g.B.Bench.desk l.bench ≡ desk_after_all (g.B.Bench.desk l.initial.bench) (each l.i (generate_at (g.B.Bench.desk l.initial.bench).scan l.at l.y l.x));
+  deeds : g.B.Bench.desk l.bench ≡ desk_after_all (g.B.Bench.desk l.initial.bench)
+      (each l.i (generate_at (g.B.Bench.desk l.initial.bench).scan l.at l.y l.x));
   ticks : l.steps ≡ l.initial.steps + 4 * l.i;
 }

@@ -7,7 +7,8 @@ use Rattle.ops_grid.proofs.konkat.concatenate.Given as goal
 -- the places that were passed are done
 abbrev pub invariant-loop-i : goal.invariant-loop-i
 invariant-loop-i g l = record {
-  deeds : g.B.Bench.desk l.bench ≡ desk_after_all (g.B.Bench.desk l.initial.bench) (each l.i (konkat_at (g.B.Bench.desk l.initial.bench).scan l.at));
+  deeds : g.B.Bench.desk l.bench ≡ desk_after_all (g.B.Bench.desk l.initial.bench)
+      (each l.i (konkat_at (g.B.Bench.desk l.initial.bench).scan l.at));
   ticks : l.steps ≤ l.initial.steps + 5 * l.i;
   later : l.initial.steps ≤ l.steps;
 }

@@ -15,5 +15,6 @@ returns-clause-ticks g c =
       arith,
       c.write_block.ensures.ticks,
       length-put _ c.dims.result c.args.to c.args.block.now.dims c.h.result c.w.result
-          c.image-area.result c.dims.ensures.size c.h.ensures c.w.ensures c.image-area.ensures.image,
+          c.image-area.result c.dims.ensures.size c.h.ensures c.w.ensures
+          c.image-area.ensures.image,
     )

@@ -15,9 +15,14 @@ loop-n-init c = record {
 
 pub returns-clause-glyphs : goal.returns-clause-glyphs
 returns-clause-glyphs c =
-    AreGlyphs-each c.args.glyphs.now (λ k below. c.loop-n.invariant.glyphs k (omega (arith, below, c.loop-n-test.false, c.cells-n-end.ensures.cells, c.requires.size)))
+    AreGlyphs-each c.args.glyphs.now
+    (λ k below. c.loop-n.invariant.glyphs k
+    (omega (arith, below, c.loop-n-test.false, c.cells-n-end.ensures.cells, c.requires.size)))
 
 pub returns-clause-inside : goal.returns-clause-inside
 returns-clause-inside c =
-    sym (list-by_place c.args.dims c.args.glyphs.now (glyph_in c.loop-n.cells) 0 c.cells-n-end.ensures.size c.requires.size (λ at inside.
-    sym (laid-at c.args.dims c.loop-n.cells _ at inside (λ k below. c.loop-n.invariant.laid k (omega (arith, below, c.loop-n-test.false, c.cells-n-end.ensures.cells))))))
+    sym (list-by_place c.args.dims c.args.glyphs.now (glyph_in c.loop-n.cells) 0
+    c.cells-n-end.ensures.size c.requires.size (λ at inside.
+    sym (laid-at c.args.dims c.loop-n.cells _ at inside
+    (λ k below. c.loop-n.invariant.laid k
+    (omega (arith, below, c.loop-n-test.false, c.cells-n-end.ensures.cells))))))

@@ -12,9 +12,13 @@ use Rattle.orca_board.proofs.board.restore.Given as goal
 abbrev pub invariant-loop-change : goal.invariant-loop-change
 invariant-loop-change g l = record {
   whole : length l.cells ≡ MAX_CELLS;
-  olds : (old : Place → ℕ) → All (λ change. change.old ≡ old change.at) l.changes → (at : Place) → IsInside largest at
-      → is_listed (places_of (take l.change-index l.changes)) at ≡ true → glyph_in l.cells at ≡ old at;
-  others : (at : Place) → IsInside largest at → is_listed (places_of (take l.change-index l.changes)) at ≡ false → glyph_in l.cells at ≡ glyph_in l.fn.cells at;
+  olds : (old : Place → ℕ) → All (λ change. change.old ≡ old change.at) l.changes → (at : Place)
+      → IsInside largest at
+      → is_listed (places_of (take l.change-index l.changes)) at ≡ true → glyph_in l.cells at
+      ≡ old at;
+  others : (at : Place) → IsInside largest at
+      → is_listed (places_of (take l.change-index l.changes)) at ≡ false
+      → glyph_in l.cells at ≡ glyph_in l.fn.cells at;
   live : AreLive l.cells l.live;
   ticks : l.steps ≡ l.initial.steps + l.change-index;
 }

@@ -17,13 +17,17 @@ flip_true b false is holds = refl
 
 pub loop-n-preserved : goal.loop-n-preserved
 loop-n-preserved g c =
-    let here : is_marked c.at.result ≡ is_marked (marks_in c.args.marks.now (place_of c.args.dims c.loop-n.n)) = rw (c.at.ensures, c.place.ensures.place) refl in
+    let here : is_marked c.at.result ≡ is_marked
+    (marks_in c.args.marks.now (place_of c.args.dims c.loop-n.n)) =
+    rw (c.at.ensures, c.place.ensures.place) refl in
     elim c.if-not-is_empty.branch [
       | then-not-is_empty w ↦
-          let more = counted_yes c.args.dims c.args.marks.now c.loop-n.n (omega arith) (sym here ∙ flip_false _ _ c.is_empty.ensures w.if-not-is_empty.true) in
+          let more = counted_yes c.args.dims c.args.marks.now c.loop-n.n (omega arith)
+          (sym here ∙ flip_false _ _ c.is_empty.ensures w.if-not-is_empty.true) in
           omega (arith, more, w.steps-is, w.tick.ensures, c.loop-n.invariant)
       | else-not-is_empty w ↦
-          let same = counted_no c.args.dims c.args.marks.now c.loop-n.n (omega arith) (sym here ∙ flip_true _ _ c.is_empty.ensures w.if-not-is_empty.false) in
+          let same = counted_no c.args.dims c.args.marks.now c.loop-n.n (omega arith)
+          (sym here ∙ flip_true _ _ c.is_empty.ensures w.if-not-is_empty.false) in
           omega (arith, same, w.steps-is, c.loop-n.invariant)
     ]
 
@@ -31,4 +35,5 @@ pub returns : goal.returns
 returns g c =
     let all : c.loop-n.n ≡ cells_of c.args.dims = omega (arith, c.cells-n-end.ensures.cells) in
     c.loop-n.invariant ∙ ap (λ (xs : List MarkSet). c.args.steps.now + count_by is_marked xs)
-    (ap (λ n. take n (by_place c.args.dims (marks_in c.args.marks.now))) all ∙ counted_all c.args.dims c.args.marks.now)
+    (ap (λ n. take n (by_place c.args.dims (marks_in c.args.marks.now))) all
+    ∙ counted_all c.args.dims c.args.marks.now)

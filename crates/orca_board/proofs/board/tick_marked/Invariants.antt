@@ -7,4 +7,5 @@ use Rattle.orca_board.proofs.board.tick_marked.Given as goal
 
 -- the marked places before `n` ticked
 abbrev pub invariant-loop-n : goal.invariant-loop-n
-invariant-loop-n g l = l.steps ≡ l.initial.steps + count_by is_marked (take l.n (by_place l.dims (marks_in l.marks)))
+invariant-loop-n g l =
+    l.steps ≡ l.initial.steps + count_by is_marked (take l.n (by_place l.dims (marks_in l.marks)))

@@ -5,4 +5,5 @@ use Rattle.orca_board.proofs.listing.lower.Goals as goal
 pub index-requires : goal.index-requires
 index-requires c =
     rw (c.largest.ensures, c.change-item.is)
-    (inside_there largest c.args.changes.now c.loop-change.change-index c.change-item.result c.requires.inside c.loop-change-test.true)
+    (inside_there largest c.args.changes.now c.loop-change.change-index c.change-item.result
+    c.requires.inside c.loop-change-test.true)

@@ -7,5 +7,7 @@ use Rattle.orca_board.proofs.listing.lower.Given as goal
 abbrev pub invariant-loop-change : goal.invariant-loop-change
 invariant-loop-change l = record {
   size : length l.flags ≡ MAX_CELLS;
-  flags : (i : ℕ) → get_or l.flags i false ≡ (get_or l.fn.flags i false && not (has_number (places_of (take l.change-index l.changes)) i));
+  flags : (i : ℕ)
+      → get_or l.flags i false ≡ (get_or l.fn.flags i false
+      && not (has_number (places_of (take l.change-index l.changes)) i));
 }

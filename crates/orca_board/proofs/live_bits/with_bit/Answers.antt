@@ -13,7 +13,8 @@ returns-then-on-clause-other c k other =
 
 pub returns-else-on-clause-here : goal.returns-else-on-clause-here
 returns-else-on-clause-here c =
-    rw (one_shl c.args.bit 64 (omega arith)) (without_here c.args.word c.args.bit ∙ sym c.if-on.false)
+    rw (one_shl c.args.bit 64 (omega arith))
+    (without_here c.args.word c.args.bit ∙ sym c.if-on.false)
 
 pub returns-else-on-clause-other : goal.returns-else-on-clause-other
 returns-else-on-clause-other c k other =

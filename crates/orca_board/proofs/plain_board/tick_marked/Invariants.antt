@@ -5,4 +5,5 @@ use Rattle.orca_board.proofs.plain_board.tick_marked.Given as goal
 
 -- a tick for each marked place so far
 abbrev pub invariant-loop-place : goal.invariant-loop-place
-invariant-loop-place g l = l.steps ≡ l.initial.steps + count_by is_marked (take l.place-index l.marks)
+invariant-loop-place g l =
+    l.steps ≡ l.initial.steps + count_by is_marked (take l.place-index l.marks)

@@ -12,7 +12,8 @@ invariant-loop-x g l =
     record {
       inside : l.cursor ≤ sheet.dims.w;
       reached : g.B.Bench.desk l.board ≡ desk_after_places (start + l.cursor) sheet l.now;
-      most : l.steps + MAX_VISIT_TICKS * busy_of start sheet l.now ≤ l.initial.steps + MAX_VISIT_TICKS * busy_of (start + l.cursor) sheet l.now;
+      most : l.steps + MAX_VISIT_TICKS * busy_of start sheet l.now ≤ l.initial.steps
+          + MAX_VISIT_TICKS * busy_of (start + l.cursor) sheet l.now;
       least : l.initial.steps ≤ l.steps;
     }
 

@@ -13,4 +13,5 @@ returns-then-rest-eq0 c =
 pub returns : goal.returns
 returns c =
     let mask = ones_shl 64 c.args.from (omega arith) in
-    rw mask (least_bit-some c.args.word c.args.from (omega arith) (omega (arith, rw mask at c.if-rest-eq0.false)))
+    rw mask (least_bit-some c.args.word c.args.from (omega arith)
+    (omega (arith, rw mask at c.if-rest-eq0.false)))

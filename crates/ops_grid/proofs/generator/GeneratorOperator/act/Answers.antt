@@ -27,8 +27,11 @@ returns-clause-deeds g c =
     let same = generate-same d.scan marked.scan at y x length
     (λ k.
     peek-marked twice marked _ (right at k) _ third
-    ∙ (peek-marked once twice _ (right at k) _ second ∙ peek-marked d once _ (right at k) _ first)) in
+    ∙ (peek-marked once twice _ (right at k) _ second
+    ∙ peek-marked d once _ (right at k) _ first)) in
     let ports = third
-    ∙ ap (λ (e : Desk). desk_after e (param_at (left at 1))) (second ∙ ap (λ (e : Desk). desk_after e (param_at (left at 2))) first) in
+    ∙ ap (λ (e : Desk). desk_after e (param_at (left at 1)))
+    (second ∙ ap (λ (e : Desk). desk_after e (param_at (left at 2))) first) in
     rw (← x_is, ← y_is, ← length_is)
-    (c.generate.ensures.deeds ∙ (ap (desk_after_all marked) same ∙ ap (λ (e : Desk). desk_after_all e (each length (generate_at d.scan at y x))) ports))
+    (c.generate.ensures.deeds ∙ (ap (desk_after_all marked) same
+    ∙ ap (λ (e : Desk). desk_after_all e (each length (generate_at d.scan at y x))) ports))

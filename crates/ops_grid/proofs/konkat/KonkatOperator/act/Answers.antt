@@ -19,4 +19,5 @@ returns-clause-deeds g c =
     let same = konkat-same d.scan marked.scan at length
     (λ k. peek-marked d marked _ (right at k) _ port) (λ name. var-marked d marked _ _ name port) in
     rw (← length_is)
-    (c.concatenate.ensures.deeds ∙ (ap (desk_after_all marked) same ∙ ap (λ (e : Desk). desk_after_all e (each length (konkat_at d.scan at))) port))
+    (c.concatenate.ensures.deeds ∙ (ap (desk_after_all marked) same
+    ∙ ap (λ (e : Desk). desk_after_all e (each length (konkat_at d.scan at))) port))

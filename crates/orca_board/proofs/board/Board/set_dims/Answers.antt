@@ -9,17 +9,37 @@ use Rattle.orca_board.proofs.board.Board.set_dims.Goals as goal
 pub take_dims-requires-clause-empty : goal.take_dims-requires-clause-empty
 take_dims-requires-clause-empty g c =
     let d : Desk = desk_of c.self.inside in
-    rw (c.clear_outside.ensures.desk, ← c.self.view_is, c.whole.ensures.whole, c.whole-2.ensures.whole, cut-away d c.args.dims c.self.invariant.lists.desk)
+    rw (
+      c.clear_outside.ensures.desk,
+      ← c.self.view_is,
+      c.whole.ensures.whole,
+      c.whole-2.ensures.whole,
+      cut-away d c.args.dims c.self.invariant.lists.desk,
+    )
     (λ at inside out. cut-empty d c.args.dims at inside out)
 
 pub take_dims-requires-clause-listed : goal.take_dims-requires-clause-listed
 take_dims-requires-clause-listed g c =
     let d : Desk = desk_of c.self.inside in
-    rw (c.clear_outside.ensures.desk, ← c.self.view_is, c.whole.ensures.whole, c.whole-2.ensures.whole, cut-away d c.args.dims c.self.invariant.lists.desk)
+    rw (
+      c.clear_outside.ensures.desk,
+      ← c.self.view_is,
+      c.whole.ensures.whole,
+      c.whole-2.ensures.whole,
+      cut-away d c.args.dims c.self.invariant.lists.desk,
+    )
     (λ at inside out. cut-listed d c.args.dims at c.self.invariant.lists.desk inside out)
 
 pub returns-clause-desk : goal.returns-clause-desk
 returns-clause-desk g c =
     let d : Desk = desk_of c.self.inside in
-    rw (c.take_dims.ensures, c.clear_outside.ensures.desk, ← c.self.view_is, c.whole.ensures.whole, c.whole-2.ensures.whole, cut-away d c.args.dims c.self.invariant.lists.desk)
-    (ap (λ (s : Sheet). record (desk_after_resize d c.args.dims) { scan = with_sheet d.scan s }) (resize-cut d c.args.dims c.whole-2.ensures.size))
+    rw (
+      c.take_dims.ensures,
+      c.clear_outside.ensures.desk,
+      ← c.self.view_is,
+      c.whole.ensures.whole,
+      c.whole-2.ensures.whole,
+      cut-away d c.args.dims c.self.invariant.lists.desk,
+    )
+    (ap (λ (s : Sheet). record (desk_after_resize d c.args.dims) { scan = with_sheet d.scan s })
+    (resize-cut d c.args.dims c.whole-2.ensures.size))

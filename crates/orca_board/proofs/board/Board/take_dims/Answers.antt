@@ -16,18 +16,25 @@ on false is = is
 pub invariant_of-self : goal.invariant_of-self
 invariant_of-self c =
     rw (c.clear.ensures, c.clear-then-ne.ensures.items)
-    (keeps-resize (desk_of c.self.inside) c.args.dims c.self.inside.listing.changes c.self.inside.cells.items c.self.inside.marks c.self.inside.live _ _ c.self.invariant c.requires.size
-    (off (is_size c.args.dims c.self.inside.dims) c.if-ne.ensures) refl (rw (← c.self.view_is) at c.requires.empty) (rw (← c.self.view_is) at c.requires.listed) (omega (arith, c.clear-then-ne.ensures.capacity)))
+    (keeps-resize (desk_of c.self.inside) c.args.dims c.self.inside.listing.changes
+    c.self.inside.cells.items c.self.inside.marks c.self.inside.live _ _ c.self.invariant
+    c.requires.size
+    (off (is_size c.args.dims c.self.inside.dims) c.if-ne.ensures) refl
+    (rw (← c.self.view_is) at c.requires.empty) (rw (← c.self.view_is) at c.requires.listed)
+    (omega (arith, c.clear-then-ne.ensures.capacity)))
 
 pub returns-then-ne : goal.returns-then-ne
 returns-then-ne c =
     rw (← c.self.view_is, c.clear.ensures, c.clear-then-ne.ensures.items)
     (ap (λ (s : State). record (desk_of c.self.inside) { scan = s })
-    (sized c.self.inside.dims c.args.dims c.self.inside.cells.items _ c.self.inside.vars.items c.self.inside.events.items c.self.invariant.lists.desk.state.sheet.size c.requires.size c.self.invariant.outside
+    (sized c.self.inside.dims c.args.dims c.self.inside.cells.items _ c.self.inside.vars.items
+    c.self.inside.events.items c.self.invariant.lists.desk.state.sheet.size c.requires.size
+    c.self.invariant.outside
     (off (is_size c.args.dims c.self.inside.dims) c.if-ne.ensures)))
 
 pub returns-else-ne : goal.returns-else-ne
 returns-else-ne c =
     rw (← c.self.view_is)
     (ap (λ (s : State). record (desk_of c.self.inside) { scan = s })
-    (unsized (desk_of c.self.inside).scan c.args.dims c.self.invariant.lists.desk.state.sheet (on (is_size c.args.dims c.self.inside.dims) c.if-ne.ensures)))
+    (unsized (desk_of c.self.inside).scan c.args.dims c.self.invariant.lists.desk.state.sheet
+    (on (is_size c.args.dims c.self.inside.dims) c.if-ne.ensures)))

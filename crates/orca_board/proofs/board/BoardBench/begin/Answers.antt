@@ -10,14 +10,26 @@ use Rattle.orca_board.proofs.board.BoardBench.begin.Goals as goal
 
 pub invariant_of-self : goal.invariant_of-self
 invariant_of-self g c =
-    keeps-of_sheet _ (sheet_of (desk_of c.self.inside).scan) _ _ _ _ _ c.self.invariant.lists.desk.state.sheet
-    (started _ (sheet_of (desk_of c.self.inside).scan) refl refl (cleared-by_place c.self.inside.dims _ c.self.inside.marks c.self.invariant.lists.desk.state.sheet.size (rw (ap (λ (d : Size). d.h) c.dims.view_is) at c.clear_rows.ensures.marks)) (search rules) c.clear.ensures.items
-    (rw (c.begin.ensures, c.of.ensures) refl) (ap (λ (l : Listed). places_of l.changes) c.begin.ensures))
-    (ap (λ (l : Listed). l.changes) c.begin.ensures) c.self.invariant.whole c.clear_rows.ensures.size c.self.invariant.outside c.self.invariant.live
+    keeps-of_sheet _ (sheet_of (desk_of c.self.inside).scan) _ _ _ _ _
+    c.self.invariant.lists.desk.state.sheet
+    (started _ (sheet_of (desk_of c.self.inside).scan) refl refl
+    (cleared-by_place c.self.inside.dims _ c.self.inside.marks
+    c.self.invariant.lists.desk.state.sheet.size
+    (rw (ap (λ (d : Size). d.h) c.dims.view_is) at c.clear_rows.ensures.marks)) (search
+    rules) c.clear.ensures.items
+    (rw (c.begin.ensures, c.of.ensures) refl)
+    (ap (λ (l : Listed). places_of l.changes) c.begin.ensures))
+    (ap (λ (l : Listed). l.changes) c.begin.ensures) c.self.invariant.whole
+    c.clear_rows.ensures.size c.self.invariant.outside c.self.invariant.live
     (omega (arith, c.clear.ensures.capacity, c.self.invariant.events_roomy))
 
 pub returns-clause-desk : goal.returns-clause-desk
 returns-clause-desk g c =
     rw (← c.self.view_is)
-    (started _ (sheet_of (desk_of c.self.inside).scan) refl refl (cleared-by_place c.self.inside.dims _ c.self.inside.marks c.self.invariant.lists.desk.state.sheet.size (rw (ap (λ (d : Size). d.h) c.dims.view_is) at c.clear_rows.ensures.marks)) (search rules) c.clear.ensures.items
-    (rw (c.begin.ensures, c.of.ensures) refl) (ap (λ (l : Listed). places_of l.changes) c.begin.ensures))
+    (started _ (sheet_of (desk_of c.self.inside).scan) refl refl
+    (cleared-by_place c.self.inside.dims _ c.self.inside.marks
+    c.self.invariant.lists.desk.state.sheet.size
+    (rw (ap (λ (d : Size). d.h) c.dims.view_is) at c.clear_rows.ensures.marks)) (search
+    rules) c.clear.ensures.items
+    (rw (c.begin.ensures, c.of.ensures) refl)
+    (ap (λ (l : Listed). places_of l.changes) c.begin.ensures))

@@ -12,27 +12,61 @@ pub returns-then-byte-clause-first : goal.returns-then-byte-clause-first
 returns-then-byte-clause-first g c =
     let width = ap (λ (d : Size). d.w) c.dims.view_is in
     let inside = rw (← c.self.view_is) at c.requires.inside in
-    let number = c.index-first.ensures.index ∙ ap (λ (d : Size). index_of d c.args.at) c.largest.ensures in
-    let shown = peek_right (desk_of c.self.inside).scan c.self.inside.cells.items c.args.at c.loop-column.column c.index-first.result _ c.index.result.now c.self.invariant.lists.desk.state.sheet.size refl
-    c.self.invariant.outside c.self.invariant.whole inside (omega (arith, c.loop-column-test.true, c.min-end.ensures, width, c.self.invariant.lists.desk.state.sheet.size.few_columns)) number (omega (arith, c.from-in-loop-column.ensures)) c.index.ensures in
-    let here : peek (desk_of c.self.inside).scan (right c.args.at c.loop-column.column) ≡ c.args.byte = sym shown ∙ (sym c.byte.ensures.byte ∙ c.if-byte.true) in
-    sym (first_where-found _ 1 c.args.reach c.loop-column.column (omega arith) (omega (arith, c.loop-column-test.true, c.min-end.ensures, width, c.from.ensures)) c.loop-column.invariant.none
-    (subst (λ (d : Desk). (peek d.scan (right c.args.at c.loop-column.column) == c.args.byte) ≡ true) c.self.view_is (holds_it _ _ here)))
+    let number =
+    c.index-first.ensures.index ∙ ap (λ (d : Size). index_of d c.args.at) c.largest.ensures in
+    let shown = peek_right (desk_of c.self.inside).scan c.self.inside.cells.items c.args.at
+    c.loop-column.column c.index-first.result _ c.index.result.now
+    c.self.invariant.lists.desk.state.sheet.size refl
+    c.self.invariant.outside c.self.invariant.whole inside
+    (omega (
+      arith,
+      c.loop-column-test.true,
+      c.min-end.ensures,
+      width,
+      c.self.invariant.lists.desk.state.sheet.size.few_columns,
+    )) number (omega (
+      arith,
+      c.from-in-loop-column.ensures,
+    )) c.index.ensures in
+    let here : peek (desk_of c.self.inside).scan (right c.args.at c.loop-column.column)
+    ≡ c.args.byte = sym shown ∙ (sym c.byte.ensures.byte ∙ c.if-byte.true) in
+    sym (first_where-found _ 1 c.args.reach c.loop-column.column (omega arith)
+    (omega (arith, c.loop-column-test.true, c.min-end.ensures, width, c.from.ensures))
+    c.loop-column.invariant.none
+    (subst (λ (d : Desk). (peek d.scan (right c.args.at c.loop-column.column) == c.args.byte)
+    ≡ true) c.self.view_is (holds_it _ _ here)))
 
 pub loop-column-preserved : goal.loop-column-preserved
 loop-column-preserved g c =
     let width = ap (λ (d : Size). d.w) c.dims.view_is in
     let inside = rw (← c.self.view_is) at c.requires.inside in
-    let number = c.index-first.ensures.index ∙ ap (λ (d : Size). index_of d c.args.at) c.largest.ensures in
-    let shown = peek_right (desk_of c.self.inside).scan c.self.inside.cells.items c.args.at c.loop-column.column c.index-first.result _ c.index.result.now c.self.invariant.lists.desk.state.sheet.size refl
-    c.self.invariant.outside c.self.invariant.whole inside (omega (arith, c.loop-column-test.true, c.min-end.ensures, width, c.self.invariant.lists.desk.state.sheet.size.few_columns)) number (omega (arith, c.from-in-loop-column.ensures)) c.index.ensures in
-    let other : (peek (desk_of c.self.inside).scan (right c.args.at c.loop-column.column) == c.args.byte) ≡ false = holds_other _ _ (λ same. c.if-byte.false (c.byte.ensures.byte ∙ (shown ∙ same))) in
+    let number =
+    c.index-first.ensures.index ∙ ap (λ (d : Size). index_of d c.args.at) c.largest.ensures in
+    let shown = peek_right (desk_of c.self.inside).scan c.self.inside.cells.items c.args.at
+    c.loop-column.column c.index-first.result _ c.index.result.now
+    c.self.invariant.lists.desk.state.sheet.size refl
+    c.self.invariant.outside c.self.invariant.whole inside
+    (omega (
+      arith,
+      c.loop-column-test.true,
+      c.min-end.ensures,
+      width,
+      c.self.invariant.lists.desk.state.sheet.size.few_columns,
+    )) number (omega (
+      arith,
+      c.from-in-loop-column.ensures,
+    )) c.index.ensures in
+    let other : (peek (desk_of c.self.inside).scan (right c.args.at c.loop-column.column)
+    == c.args.byte) ≡ false = holds_other _ _ (λ same. c.if-byte.false
+    (c.byte.ensures.byte ∙ (shown ∙ same))) in
     record {
       none = λ k low high. elim (cases_lt k c.loop-column.column) [
         | inl before ↦ c.loop-column.invariant.none k low before
         | inr last ↦
             let same : c.loop-column.column ≡ k = omega (arith, high, last) in
-            rw (← same) (subst (λ (d : Desk). (peek d.scan (right c.args.at c.loop-column.column) == c.args.byte) ≡ false) c.self.view_is other)
+            rw (← same) (subst (λ (d : Desk).
+            (peek d.scan (right c.args.at c.loop-column.column) == c.args.byte)
+            ≡ false) c.self.view_is other)
       ];
       few = omega (arith, c.loop-column-test.true, c.min-end.ensures, width, c.from.ensures);
       ticks = omega (arith, c.loop-column.invariant.ticks, c.tick.ensures);
@@ -41,10 +75,20 @@ loop-column-preserved g c =
 pub returns-clause-first : goal.returns-clause-first
 returns-clause-first g c =
     let width = ap (λ (d : Size). d.w) c.dims.view_is in
-    sym (first_where-missing _ 1 c.args.reach (λ k low high. elim (cases_lt k c.loop-column.column) [
+    sym (first_where-missing _ 1 c.args.reach
+    (λ k low high. elim (cases_lt k c.loop-column.column) [
       | inl before ↦ c.loop-column.invariant.none k low before
       | inr beyond ↦
-          subst (λ (d : Desk). (peek d.scan (right c.args.at k) == c.args.byte) ≡ false) c.self.view_is
+          subst (λ (d : Desk). (peek d.scan (right c.args.at k) == c.args.byte) ≡ false)
+          c.self.view_is
           (none_beyond (desk_of c.self.inside).scan c.args.at k c.args.byte
-          (omega (arith, beyond, high, c.loop-column-test.false, c.min-end.ensures, width, c.from.ensures)) c.requires.visible)
+          (omega (
+            arith,
+            beyond,
+            high,
+            c.loop-column-test.false,
+            c.min-end.ensures,
+            width,
+            c.from.ensures,
+          )) c.requires.visible)
     ]))

@@ -8,4 +8,5 @@ pub returns-in-Some-clause-marks : goal.returns-in-Some-clause-marks
 unfolding Rattle.orca_op.specs.State.marked
 returns-in-Some-clause-marks g c =
     rw (← c.self.view_is, ← c.in-Some.ensures.place)
-    (c.at.ensures ∙ sym (index-by_place c.self.inside.dims (marks_in c.self.inside.marks) c.in-Some.place no_marks c.in-Some.ensures.inside))
+    (c.at.ensures ∙ sym (index-by_place c.self.inside.dims (marks_in c.self.inside.marks)
+    c.in-Some.place no_marks c.in-Some.ensures.inside))

@@ -7,4 +7,5 @@ use Rattle.orca_board.proofs.board.BoardBench.marked_here.Goals as goal
 pub returns-clause-marks : goal.returns-clause-marks
 returns-clause-marks g c =
     rw (← c.self.view_is)
-    (c.at.ensures ∙ sym (index-by_place c.self.inside.dims (marks_in c.self.inside.marks) c.args.at no_marks (rw (← c.self.view_is) at c.requires)))
+    (c.at.ensures ∙ sym (index-by_place c.self.inside.dims (marks_in c.self.inside.marks) c.args.at
+    no_marks (rw (← c.self.view_is) at c.requires)))

@@ -7,4 +7,5 @@ use Rattle.orca_board.proofs.board.BoardLook.marks_at.Goals as goal
 pub returns : goal.returns
 returns c =
     rw (← c.self.view_is)
-    (c.at.ensures ∙ sym (index-by_place c.self.inside.dims (marks_in c.self.inside.marks) c.args.at no_marks (rw (← c.self.view_is) at c.requires)))
+    (c.at.ensures ∙ sym (index-by_place c.self.inside.dims (marks_in c.self.inside.marks) c.args.at
+    no_marks (rw (← c.self.view_is) at c.requires)))

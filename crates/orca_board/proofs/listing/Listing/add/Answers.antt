@@ -15,8 +15,13 @@ push_reserved-requires c =
       row = omega (arith, c.if-at-began.false, c.began.invariant.few_rows);
       column = omega (arith, c.if-at-began-2.false, c.began.invariant.few_columns);
     } in
-    let add = adds _ _ _ _ _ _ _ c.self.invariant large c.largest.ensures c.index-i.ensures.index c.index-i.ensures.most c.index.ensures in
-    omega (arith, is_roomy _ _ _ _ add.kept add.below (add.flag ∙ c.if-not-index.true), c.self.inside.changes.ok.0)
+    let add = adds _ _ _ _ _ _ _ c.self.invariant large c.largest.ensures c.index-i.ensures.index
+    c.index-i.ensures.most c.index.ensures in
+    omega (
+      arith,
+      is_roomy _ _ _ _ add.kept add.below (add.flag ∙ c.if-not-index.true),
+      c.self.inside.changes.ok.0,
+    )
 
 -- the flag that is set stands for the place that is added
 pub invariant_of-self : goal.invariant_of-self
@@ -29,8 +34,10 @@ invariant_of-self c =
       row = omega (arith, c.if-at-began.false, c.began.invariant.few_rows);
       column = omega (arith, c.if-at-began-2.false, c.began.invariant.few_columns);
     } in
-    let add = adds _ _ _ _ _ _ _ c.self.invariant large c.largest.ensures c.index-i.ensures.index c.index-i.ensures.most c.index.ensures in
-    flagged_more _ _ _ _ _ _ _ add.inside add.kept add.number (add.flag ∙ c.if-not-index.true) add.below c.push_reserved.ensures.items (omega (arith, c.push_reserved.ensures.capacity))
+    let add = adds _ _ _ _ _ _ _ c.self.invariant large c.largest.ensures c.index-i.ensures.index
+    c.index-i.ensures.most c.index.ensures in
+    flagged_more _ _ _ _ _ _ _ add.inside add.kept add.number (add.flag ∙ c.if-not-index.true)
+    add.below c.push_reserved.ensures.items (omega (arith, c.push_reserved.ensures.capacity))
 
 pub returns-then-not-index : goal.returns-then-not-index
 returns-then-not-index c =
@@ -42,10 +49,12 @@ returns-then-not-index c =
       row = omega (arith, c.if-at-began.false, c.began.invariant.few_rows);
       column = omega (arith, c.if-at-began-2.false, c.began.invariant.few_columns);
     } in
-    let add = adds _ _ _ _ _ _ _ c.self.invariant large c.largest.ensures c.index-i.ensures.index c.index-i.ensures.most c.index.ensures in
+    let add = adds _ _ _ _ _ _ _ c.self.invariant large c.largest.ensures c.index-i.ensures.index
+    c.index-i.ensures.most c.index.ensures in
     rw (← c.self.view_is)
     (ap (λ (changes : List Change). record { began = c.self.inside.began; changes = changes })
-    (c.push_reserved.ensures.items ∙ sym (with_new _ _ _ c.args.old inside (add.listed ∙ c.if-not-index.true))))
+    (c.push_reserved.ensures.items ∙ sym
+    (with_new _ _ _ c.args.old inside (add.listed ∙ c.if-not-index.true))))
 
 pub returns-else-not-index : goal.returns-else-not-index
 returns-else-not-index c =
@@ -57,7 +66,8 @@ returns-else-not-index c =
       row = omega (arith, c.if-at-began.false, c.began.invariant.few_rows);
       column = omega (arith, c.if-at-began-2.false, c.began.invariant.few_columns);
     } in
-    let add = adds _ _ _ _ _ _ _ c.self.invariant large c.largest.ensures c.index-i.ensures.index c.index-i.ensures.most c.index.ensures in
+    let add = adds _ _ _ _ _ _ _ c.self.invariant large c.largest.ensures c.index-i.ensures.index
+    c.index-i.ensures.most c.index.ensures in
     rw (← c.self.view_is)
     (ap (λ (changes : List Change). record { began = c.self.inside.began; changes = changes })
     (sym (with_listed _ _ _ c.args.old (add.listed ∙ c.if-not-index.false))))

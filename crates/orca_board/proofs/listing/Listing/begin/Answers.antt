@@ -10,6 +10,14 @@ lower-requires-clause-inside c = rw c.deref.ensures.value c.self.invariant.insid
 pub invariant_of-self : goal.invariant_of-self
 invariant_of-self c =
     let lowered : (i : ℕ) → get_or c.lower.new.flags i false ≡ false =
-    (λ i. lowered_off c.self.inside.changes.items c.self.inside.flags.items c.lower.new.flags i (c.self.invariant.only i) (rw (c.deref_mut.ensures.value, c.deref.ensures.value) at (c.lower.ensures.flags i))) in
-    rw (c.clear.ensures.items, put_over c.lower.new.flags c.self.inside.flags.items c.self.inside.flags.len (c.lower.ensures.size ∙ sym c.self.invariant.size) (omega (arith, c.self.inside.flags.ok.0)))
-    (flagged_none c.lower.new.flags _ c.lower.ensures.size lowered (omega (arith, c.clear.ensures.capacity, c.self.invariant.roomy)))
+    (λ i. lowered_off c.self.inside.changes.items c.self.inside.flags.items c.lower.new.flags i
+    (c.self.invariant.only i) (rw (c.deref_mut.ensures.value, c.deref.ensures.value) at
+    (c.lower.ensures.flags i))) in
+    rw (
+      c.clear.ensures.items,
+      put_over c.lower.new.flags c.self.inside.flags.items
+          c.self.inside.flags.len (c.lower.ensures.size ∙ sym c.self.invariant.size)
+          (omega (arith, c.self.inside.flags.ok.0)),
+    )
+    (flagged_none c.lower.new.flags _ c.lower.ensures.size lowered
+    (omega (arith, c.clear.ensures.capacity, c.self.invariant.roomy)))

@@ -4,4 +4,5 @@ use Rattle.orca_board.proofs.live_bits.LiveBits.start.Goals as goal
 
 pub returns : goal.returns
 unfolding Rattle.orca_board.specs.LiveBits.no_bits
-returns c = resized LIVE_WORDS _ _ _ 0 c.new-words.ensures.items c.new-words.ensures.len c.in_ok-resize.ensures.items
+returns c = resized LIVE_WORDS _ _ _ 0 c.new-words.ensures.items c.new-words.ensures.len
+    c.in_ok-resize.ensures.items

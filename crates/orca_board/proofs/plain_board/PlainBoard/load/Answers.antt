@@ -17,7 +17,8 @@ invariant_of-self over c =
     rw c.unmark.ensures.items (rw c.cells-places.ensures.cells refl) in
     record {
       lists = lists-of_sheet _ g _ sheet
-          (started _ g refl c.copy_into.ensures.items unmarked (search rules) c.clear.ensures.items (search rules)
+          (started _ g refl c.copy_into.ensures.items unmarked (search rules) c.clear.ensures.items
+          (search rules)
           (ap (λ (l : Listed). places_of l.changes) c.begin.ensures))
           (ap (λ (l : Listed). l.changes) c.begin.ensures);
       cells_roomy = omega (arith, c.copy_into.ensures.capacity, c.self.invariant.cells_roomy);
@@ -30,5 +31,6 @@ returns-clause-desk over c =
     let g : Sheet = record { dims = c.args.dims; cells = c.args.cells.now } in
     let unmarked : c.unmark.new.list.items ≡ blank_marks c.args.dims =
     rw c.unmark.ensures.items (rw c.cells-places.ensures.cells refl) in
-    started _ g refl c.copy_into.ensures.items unmarked (search rules) c.clear.ensures.items (search rules)
+    started _ g refl c.copy_into.ensures.items unmarked (search rules) c.clear.ensures.items
+    (search rules)
     (ap (λ (l : Listed). places_of l.changes) c.begin.ensures)

@@ -8,8 +8,11 @@ use Rattle.orca_board.proofs.plain_board.PlainBoardBench.begin.Goals as goal
 pub invariant_of-self : goal.invariant_of-self
 invariant_of-self g c =
     record {
-      lists = lists-of_sheet _ (sheet_of (desk_of c.self.inside).scan) _ c.self.invariant.lists.desk.state.sheet
-          (started _ (sheet_of (desk_of c.self.inside).scan) refl refl (search rules) (search rules) c.clear.ensures.items (search rules) (ap (λ (l : Listed). places_of l.changes) c.begin.ensures))
+      lists = lists-of_sheet _ (sheet_of (desk_of c.self.inside).scan) _
+          c.self.invariant.lists.desk.state.sheet
+          (started _ (sheet_of (desk_of c.self.inside).scan) refl refl (search rules) (search rules)
+          c.clear.ensures.items (search rules)
+          (ap (λ (l : Listed). places_of l.changes) c.begin.ensures))
           (ap (λ (l : Listed). l.changes) c.begin.ensures);
       cells_roomy = c.self.invariant.cells_roomy;
       marks_roomy = omega (arith, c.fill.ensures.capacity, c.self.invariant.marks_roomy);

@@ -7,5 +7,8 @@ use Rattle.orca_marks.proofs.plane.MarkPlane.clear_rows.Given as goal
 abbrev pub invariant-loop-row : goal.invariant-loop-row
 invariant-loop-row l = record {
   size : length l.self ≡ MAX_CELLS;
-  marks : (i : ℕ) → slice_index_or l.self i no_marks ≡ (if nat_lt i (l.row * MAX_COLUMNS) then no_marks else slice_index_or l.initial.self i no_marks);
+  marks : (i : ℕ)
+      → slice_index_or l.self i no_marks ≡
+      (if nat_lt i (l.row * MAX_COLUMNS) then no_marks else slice_index_or l.initial.self i
+      no_marks);
 }

@@ -7,7 +7,8 @@ use Rattle.orca_op.proofs.bench.Bench.find_right.Given as goal
 -- no column before this one holds the glyph, and each was looked at once
 abbrev pub invariant-loop-column : goal.invariant-loop-column
 invariant-loop-column g l = record {
-  none : (k : ℕ) → 1 ≤ k → k < l.column → (peek (g.Self.Bench.desk l.self).scan (right l.at k) == l.byte) ≡ false;
+  none : (k : ℕ) → 1 ≤ k → k < l.column
+      → (peek (g.Self.Bench.desk l.self).scan (right l.at k) == l.byte) ≡ false;
   few : l.column ≤ l.reach + 1;
   ticks : l.steps + 1 ≡ l.initial.steps + l.column;
 }

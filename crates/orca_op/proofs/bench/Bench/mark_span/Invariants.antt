@@ -6,7 +6,8 @@ use Rattle.orca_op.proofs.bench.Bench.mark_span.Given as goal
 -- the places that were passed are marked
 abbrev pub invariant-loop-i : goal.invariant-loop-i
 invariant-loop-i g l = record {
-  deeds : g.Self.Bench.desk l.self ≡ desk_after_all (g.Self.Bench.desk l.initial.self) (span_deeds l.at l.span.y l.span.x l.i l.marks);
+  deeds : g.Self.Bench.desk l.self ≡ desk_after_all (g.Self.Bench.desk l.initial.self)
+      (span_deeds l.at l.span.y l.span.x l.i l.marks);
   room : HasRoom (g.Self.Bench.desk l.initial.self) → HasRoom (g.Self.Bench.desk l.self);
   ticks : l.steps ≡ l.initial.steps + l.i;
 }

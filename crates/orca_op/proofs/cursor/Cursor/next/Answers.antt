@@ -9,10 +9,12 @@ returns-clause-least g c =
 
 pub returns-clause-found : goal.returns-clause-found
 returns-clause-found g c =
-    let same = c.find.ensures.least ∙ next_live-bit _ _ _ _ c.live_words.ensures.live c.requires.column in
+    let same = c.find.ensures.least ∙ next_live-bit _ _ _ _ c.live_words.ensures.live
+    c.requires.column in
     rw same (next_live-found _ _ _)
 
 pub returns-clause-passed : goal.returns-clause-passed
 returns-clause-passed g c =
-    let same = c.find.ensures.least ∙ next_live-bit _ _ _ _ c.live_words.ensures.live c.requires.column in
+    let same = c.find.ensures.least ∙ next_live-bit _ _ _ _ c.live_words.ensures.live
+    c.requires.column in
     rw same (next_live-passed _ _ _ c.requires.column)
