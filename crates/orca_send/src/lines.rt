@@ -34,7 +34,7 @@ fn push_label(line: &mut Vec<u8>, label: Label) -> Result<(), Memory>
     ensures { OnOk result (line.new.items ≡ line.old.items ++ label_of label) }
 {
     match label {
-        Label::Tick(tick) => push_decimal(line, tick),
+        Label::Tick(tick) => push_decimal(line, u64::from(tick)),
         Label::End => {
             line.extend_from_slice(b"end")?;
             Ok(())
@@ -44,7 +44,7 @@ fn push_label(line: &mut Vec<u8>, label: Label) -> Result<(), Memory>
 
 /// Appends a number in decimal digits.
 #[tactic(auto, using(std::proofs::lemmas::Fmt::decimal_digit))]
-pub fn push_decimal(line: &mut Vec<u8>, n: u32) -> Result<(), Memory>
+pub fn push_decimal(line: &mut Vec<u8>, n: u64) -> Result<(), Memory>
     ensures { OnOk result (line.new.items ≡ line.old.items ++ decimal n) }
 {
     if n < 10 {

@@ -156,7 +156,7 @@ fn a_port_that_fails_is_recorded_and_the_rest_is_sent(rt: HostRuntime) -> Result
 
 /// Sends a number, and then prints it on a line of its own. Each of the three ways in which memory
 /// is refused is one.
-fn print_number(sender: &mut Sender, outs: &mut MemOuts, n: u32) -> Result<(), NoMemory> {
+fn print_number(sender: &mut Sender, outs: &mut MemOuts, n: u64) -> Result<(), NoMemory> {
     sender.line.clear();
     push_decimal(&mut sender.line, n)?;
     sender.line.extend_from_slice(b" frames")?;
@@ -175,6 +175,7 @@ fn a_kept_line_is_sent_as_it_stands(rt: HostRuntime) -> Result<(), Fail> {
     );
     assert_eq!(rt; sender.send_line(&mut outs), Ok(()));
     assert_eq!(rt; print_number(&mut sender, &mut outs, 60), Ok(()));
+    assert_eq!(rt; print_number(&mut sender, &mut outs, u64::MAX), Ok(()));
     assert_eq!(rt; sender.send(&mut outs, Port::View, b"\x1b[0m"), Ok(()));
     assert_eq!(rt;
         outs.handed_at(0),
@@ -186,6 +187,10 @@ fn a_kept_line_is_sent_as_it_stands(rt: HostRuntime) -> Result<(), Fail> {
     );
     assert_eq!(rt;
         outs.handed_at(2),
+        Some((Port::Text, b"18446744073709551615 frames\n".as_slice()))
+    );
+    assert_eq!(rt;
+        outs.handed_at(3),
         Some((Port::View, b"\x1b[0m".as_slice()))
     );
     Ok(())

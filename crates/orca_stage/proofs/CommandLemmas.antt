@@ -1,5 +1,5 @@
 -- A command, and the end of a run: messages are handed out, the run stands, and then it is printed.
-use Rattle.std.proofs.Common.{◌≡◌, ◌≢◌, ◌⊎◌, inl, inr, ℕ, Bool, List, [], ◌∷◌, ◌++◌, refl, sym, ◌∙◌, ap, subst, append_assoc, append-nil}
+use Rattle.std.proofs.Common.{◌≡◌, ◌≢◌, ◌⊎◌, inl, inr, ℕ, Bool, true, List, [], ◌∷◌, ◌++◌, refl, sym, ◌∙◌, ap, subst, append_assoc, append-nil}
 use Rattle.std.specs.Prelude.{Option, Result, Ok, Err}
 use Rattle.std.proofs.lemmas.List.{map-append}
 use Rattle.orca_base.specs.declared.command.Command.{Command}
@@ -12,20 +12,21 @@ use Rattle.orca_base.specs.Ports.{Sent}
 use Rattle.orca_cues.specs.declared.source.Cue.{Cue}
 use Rattle.orca_edit.specs.Machines.{Acts, Closes, obeyed}
 use Rattle.orca_edit.specs.Obeying.{MachineState, Obeyed, machine_closed, obey, piece_of}
-use Rattle.orca_notes.specs.Device.{Plays}
+use Rattle.orca_notes.specs.Device.{Plays, voices}
 use Rattle.orca_send.specs.Sending.{Begins, added}
 use Rattle.orca_send.specs.declared.sender.NoMemory.{NoMemory}
 use Rattle.orca_send.specs.declared.sender.NoMemory.TheVariants.{InSend, Elsewhere}
 use Rattle.orca_stage.specs.Acts.{Act, given, gives}
 use Rattle.orca_stage.specs.Acts.Act.{Give, Stand}
+use Rattle.orca_stage.specs.Following.{Follows}
 use Rattle.orca_stage.specs.Manners.{AreQuiet, IsQuiet, Manner}
 use Rattle.orca_stage.specs.Plans.{Plan, close_plan, command_plan, final_of, flow_of, handed_of, joined, last_plan, list_plan, over, run_plan}
 use Rattle.orca_stage.specs.Runs.{Did, SoFar, answer_of}
 use Rattle.orca_stage.specs.Standings.{Standing, notes_of, standing, standing_after, tally_after}
 use Rattle.orca_stage.specs.declared.flow.Flow.{Flow}
 use Rattle.orca_stage.specs.declared.flow.Flow.TheVariants.{Goes, Drops, Ends}
-use Rattle.orca_stage.proofs.ActLemmas.{given-append, given-gives, stand_after-append}
-use Rattle.orca_stage.proofs.FollowLemmas.{accompanies_handed}
+use Rattle.orca_stage.proofs.ActLemmas.{AreSends-gives, AreSends-standing, given-append, given-gives, stand_after-append}
+use Rattle.orca_stage.proofs.FollowLemmas.{Follows-front, accompanies_handed}
 use Rattle.orca_stage.proofs.PlanLemmas.{joined_cut, joined_done}
 use Rattle.orca_stage.proofs.RunLemmas.{did_after, did_all, did_cut, printed_all, printed_cut, printing, so_far_none, so_far_twice}
 
@@ -60,6 +61,7 @@ handed_so_far {hands = hands} {s = s} {t = t} {messages = ms} {said = said} x y 
       stands = sym (stand_after-append s (gives sends) (Stand t ∷ []));
       standing = is.standing;
       flow = refl;
+      sends = AreSends-standing sends t;
       accompanies = λ on. accompanies_handed hands s t ms is.plays on;
     }
 
@@ -71,21 +73,37 @@ handed_done {p = p} {hands = hands} {t = t} {said = said} x y z is quiet made to
     did_all (so_far_twice (handed_so_far x y is made)
     (printed_all hands p.flow t said y z quiet told))
 
+-- a device follows a beginning of the messages
+follows_handed : (hands : Bool) (s t : Standing) (messages : List Message) (done left : List Sent)
+    → Plays (notes_of s) messages (notes_of t) → handed_of hands messages ≡ done ++ left
+    → hands ≡ true → Follows (voices (notes_of s)) (gives done)
+follows_handed hands s t messages done left plays splits on =
+    let keys = voices (notes_of s) in
+    let all : gives (handed_of hands messages) ≡ gives done ++ gives left =
+    ap gives splits ∙ map-append Give done left in
+    Follows-front keys (gives done) (gives left)
+    (subst (Follows keys) all
+    (Follows-front keys (gives (handed_of hands messages)) (Stand t ∷ [])
+    (accompanies_handed hands s t messages plays on).follows))
+
 -- a send of a message was refused memory
 cut_handing : {p : Plan} {hands : Bool} {s t : Standing} {messages : List Message}
     {said : List Sent} (u : Standing) (x y : Option (List Sent)) (e : NoMemory)
     → IsHanded p hands s t messages said → e ≢ Elsewhere
     → Begins (handed_of hands messages) x y → Did hands p s x (Err e) u y
 unfolding Did
-cut_handing {t = t} {said = said} u x y InSend is other some = record {
-  done = gives some.1.done;
-  left = gives some.0 ++ Stand t ∷ gives said;
-  splits = is.acts
-      ∙ (ap (λ (sends : List Sent). gives sends ++ Stand t ∷ gives said) some.1.splits
-      ∙ (ap (λ (acts : List Act). acts ++ Stand t ∷ gives said) (map-append Give some.1.done some.0)
-      ∙ append_assoc (gives some.1.done) (gives some.0) (Stand t ∷ gives said)));
-  made = some.1.made ∙ ap (added x) (sym (given-gives some.1.done));
-}
+cut_handing {hands = hands} {s = s} {t = t} {messages = ms} {said = said} u x y InSend is other
+    some = record {
+      done = gives some.1.done;
+      left = gives some.0 ++ Stand t ∷ gives said;
+      splits = is.acts
+          ∙ (ap (λ (sends : List Sent). gives sends ++ Stand t ∷ gives said) some.1.splits
+          ∙ (ap (λ (acts : List Act). acts ++ Stand t ∷ gives said) (map-append Give some.1.done some.0)
+          ∙ append_assoc (gives some.1.done) (gives some.0) (Stand t ∷ gives said)));
+      made = some.1.made ∙ ap (added x) (sym (given-gives some.1.done));
+      sends = AreSends-gives some.1.done;
+      follows = follows_handed hands s t ms some.1.done some.0 is.plays some.1.splits;
+    }
 cut_handing u x y Elsewhere is other some = absurd (other refl)
 
 -- memory was refused in what is printed

@@ -37,6 +37,14 @@ Follows-append on (Stand s ∷ xs) ys first second =
     (first.0, Follows-append on xs ys first.1 second)
 Follows-append on (_ ∷ xs) ys first second = Follows-append on xs ys first second
 
+-- a beginning of what a device follows
+pub Follows-front : (on : List Voice) (xs ys : List Act) → Follows on (xs ++ ys) → Follows on xs
+Follows-front on [] ys follows = tt
+Follows-front on (Give sent ∷ xs) ys follows =
+    (follows.0, Follows-front (keys_after on (turn_given sent)) xs ys follows.1)
+Follows-front on (Stand s ∷ xs) ys follows = (follows.0, Follows-front on xs ys follows.1)
+Follows-front on (_ ∷ xs) ys follows = Follows-front on xs ys follows
+
 -- a device that reads the MIDI messages of acts
 
 -- one send more, by whether it goes to the MIDI port
@@ -177,6 +185,13 @@ accompanies_twice {r = r} {s = s} {t = t} {xs = xs} {ys = ys} first second =
       keys = keys-append on xs ys
           ∙ (ap (λ (now : List Voice). keys_after_acts now ys) first.keys ∙ second.keys);
     }
+
+-- a device follows acts, and then others from where they lead
+pub follows_later : {r s : Standing} {xs : List Act} (ys : List Act) → Accompanies r xs s
+    → Follows (voices (notes_of s)) ys → Follows (voices (notes_of r)) (xs ++ ys)
+follows_later {r = r} {xs = xs} ys first second =
+    Follows-append (voices (notes_of r)) xs ys first.follows
+    (subst (λ (now : List Voice). Follows now ys) (sym first.keys) second)
 
 -- what is printed does nothing to the device
 pub accompanies_quiet : (s : Standing) (sends : List Sent) → AreQuiet sends

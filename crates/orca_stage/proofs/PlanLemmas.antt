@@ -115,6 +115,7 @@ settled_so_far done = record {
   stands = done.stands;
   standing = done.standing;
   flow = ap after_cue done.flow;
+  sends = done.sends;
   accompanies = done.accompanies;
 }
 
@@ -125,8 +126,14 @@ settled_done f done = did_all (settled_so_far done)
 pub settled_cut : (hands : Bool) (p : Plan) (s t : Standing) (x y : Option (List Sent))
     (e : NoMemory) → Did hands p s x (Err e) t y → Did hands (settled p) s x (Err e) t y
 unfolding Did
-settled_cut hands p s t x y InSend cut =
-    record { done = cut.done; left = cut.left; splits = cut.splits; made = cut.made }
+settled_cut hands p s t x y InSend cut = record {
+  done = cut.done;
+  left = cut.left;
+  splits = cut.splits;
+  made = cut.made;
+  sends = cut.sends;
+  follows = cut.follows;
+}
 settled_cut hands p s t x y Elsewhere cut = (settled cut.0, settled_so_far cut.1)
 
 -- all cues

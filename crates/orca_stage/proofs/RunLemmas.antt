@@ -14,13 +14,13 @@ use Rattle.orca_stage.specs.Plans.{Plan, followed, over}
 use Rattle.orca_stage.specs.Runs.{Begun, Did, SoFar}
 use Rattle.orca_stage.specs.Standings.{Standing}
 use Rattle.orca_stage.specs.declared.flow.Flow.{Flow}
-use Rattle.orca_stage.proofs.ActLemmas.{given-append, given-gives, stand_after-append, stand_after-gives}
-use Rattle.orca_stage.proofs.FollowLemmas.{accompanies_none, accompanies_quiet, accompanies_twice, quiet_beginning}
+use Rattle.orca_stage.proofs.ActLemmas.{AreSends-append, AreSends-gives, given-append, given-gives, stand_after-append, stand_after-gives}
+use Rattle.orca_stage.proofs.FollowLemmas.{accompanies_none, accompanies_quiet, accompanies_twice, follows_later, quiet_beginning}
 
 -- two parts of a plan
 
 -- acts that were handed after others
-made_twice : (done more : List Act) (x y z : Option (List Sent)) → y ≡ added x (given done)
+pub made_twice : (done more : List Act) (x y z : Option (List Sent)) → y ≡ added x (given done)
     → z ≡ added y (given more) → z ≡ added x (given (done ++ more))
 made_twice done more x y z first second =
     second
@@ -43,6 +43,7 @@ so_far_none hands p s x = record {
   stands = refl;
   standing = refl;
   flow = refl;
+  sends = tt;
   accompanies = λ on. accompanies_none s;
 }
 
@@ -57,33 +58,45 @@ so_far_twice {a = a} {b = b} {c = c} {r = r} {x = x} {y = y} {z = z} first secon
       ∙ sym (stand_after-append r first.done second.done));
   standing = first.standing ∙ second.standing;
   flow = first.flow ∙ second.flow;
+  sends = AreSends-append first.done second.done first.sends second.sends;
   accompanies = λ on. accompanies_twice (first.accompanies on) (second.accompanies on);
 }
 
 -- what was done so far is a beginning
 begun_so_far : {hands : Bool} {p q : Plan} {s t : Standing} {x y : Option (List Sent)}
-    → SoFar hands p q s t x y → Begun p x y
-begun_so_far {q = q} some =
-    record { done = some.done; left = q.acts; splits = some.splits; made = some.made }
+    → SoFar hands p q s t x y → Begun hands p s x y
+begun_so_far {q = q} some = record {
+  done = some.done;
+  left = q.acts;
+  splits = some.splits;
+  made = some.made;
+  sends = some.sends;
+  follows = λ on. (some.accompanies on).follows;
+}
 
 -- what was done, and a beginning of what comes next
 begun_later : {hands : Bool} {p q : Plan} {s t : Standing} {x y z : Option (List Sent)}
-    → SoFar hands p q s t x y → Begun q y z → Begun p x z
+    → SoFar hands p q s t x y → Begun hands q t y z → Begun hands p s x z
 begun_later {p = p} {q = q} {x = x} {y = y} {z = z} first second = record {
   done = first.done ++ second.done;
   left = second.left;
   splits = split_twice p.acts q.acts first.done second.done second.left first.splits second.splits;
   made = made_twice first.done second.done x y z first.made second.made;
+  sends = AreSends-append first.done second.done first.sends second.sends;
+  follows = λ on. follows_later second.done (first.accompanies on) (second.follows on);
 }
 
 -- a beginning of a plan is one of any that goes on as it
-begun_in : (p q : Plan) (x y : Option (List Sent)) → Begun p x y → Begun (followed p q) x y
-begun_in p q x y some = record {
+begun_in : (hands : Bool) (p q : Plan) (s : Standing) (x y : Option (List Sent))
+    → Begun hands p s x y → Begun hands (followed p q) s x y
+begun_in hands p q s x y some = record {
   done = some.done;
   left = some.left ++ q.acts;
   splits = ap (λ (acts : List Act). acts ++ q.acts) some.splits
       ∙ append_assoc some.done some.left q.acts;
   made = some.made;
+  sends = some.sends;
+  follows = some.follows;
 }
 
 -- what was done of a call
@@ -141,6 +154,7 @@ first_done q done = record {
   stands = done.stands;
   standing = refl;
   flow = refl;
+  sends = done.sends;
   accompanies = done.accompanies;
 }
 
@@ -148,7 +162,7 @@ first_done q done = record {
 pub first_cut : (hands : Bool) (p q : Plan) (s t : Standing) (x y : Option (List Sent))
     (e : NoMemory) → Did hands p s x (Err e) t y → Did hands (followed p q) s x (Err e) t y
 unfolding Did
-first_cut hands p q s t x y InSend cut = begun_in p q x y cut
+first_cut hands p q s t x y InSend cut = begun_in hands p q s x y cut
 first_cut hands p q s t x y Elsewhere cut =
     let some = cut.1 in (
       followed cut.0 q,
@@ -160,6 +174,7 @@ first_cut hands p q s t x y Elsewhere cut =
         stands = some.stands;
         standing = refl;
         flow = refl;
+        sends = some.sends;
         accompanies = some.accompanies;
       },
     )
@@ -180,6 +195,7 @@ printed_so_far hands flow s said left x y quiet some = record {
   stands = sym (stand_after-gives s some.done);
   standing = refl;
   flow = refl;
+  sends = AreSends-gives some.done;
   accompanies = λ on.
       accompanies_quiet s some.done
       (quiet_beginning some.done left (subst AreQuiet some.splits quiet));

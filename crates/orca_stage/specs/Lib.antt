@@ -4,3 +4,4 @@ pub mod Manners
 pub mod Plans
 pub mod Runs
 pub mod Standings
+pub mod Told
