@@ -1,0 +1,4 @@
+pub mod Manners
+pub mod Quiet
+pub mod Sums
+pub mod Texts

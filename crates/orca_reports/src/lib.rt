@@ -1,0 +1,17 @@
+//! What is printed of a run: a report for each of the words whose commands are a list. No report
+//! prints anything on the MIDI port.
+#![tactic(auto)]
+
+mod events;
+mod figures;
+mod make;
+mod replay;
+mod run;
+
+pub use events::EventsReport;
+pub use make::MakeReport;
+pub use replay::ReplayReport;
+pub use run::RunReport;
+
+#[cfg(test)]
+mod tests;
