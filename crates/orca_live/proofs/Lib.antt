@@ -1,0 +1,15 @@
+pub mod AnswerLemmas
+pub mod AppendingLaw
+pub mod CourseLemmas
+pub mod CuttingLaw
+pub mod DisplayLemmas
+pub mod DoingLemmas
+pub mod EndLemmas
+pub mod LiveLemmas
+pub mod LostLemmas
+pub mod PaintLemmas
+pub mod PlanCourses
+pub mod PollLemmas
+pub mod ReachLemmas
+pub mod SaveLemmas
+pub mod ScriptLaw

@@ -1,0 +1,9 @@
+pub mod Courses
+pub mod Doing
+pub mod Items
+pub mod Laws
+pub mod Paintings
+pub mod Performing
+pub mod Quiet
+pub mod Starting
+pub mod States

@@ -1,0 +1,97 @@
+-- Where a performance stands: the session, the keys, the editor, the pacer, what is shown, and the
+-- commands that are kept for the script.
+use Rattle.std.specs.Prelude.{ℕ, Bool, nat_le, if◌then◌else◌, List, length, Option, Some, None, unwrap_or}
+use Rattle.std.specs.Option.{option_map}
+use Rattle.orca_base.specs.declared.command.Command.{Command}
+use Rattle.orca_base.specs.Areas.{IsArea}
+use Rattle.orca_base.specs.Grids.{Size}
+use Rattle.orca_edit.specs.Obeying.{MachineState, piece_of}
+use Rattle.orca_edit.specs.Pieces.{Piece}
+use Rattle.orca_stage.specs.Standings.{Standing, notes_of, standing}
+use Rattle.orca_term.specs.Editing.{area_of}
+use Rattle.orca_term.specs.Pacing.{Pace}
+use Rattle.orca_term.specs.declared.cell.Cell.{Cell}
+use Rattle.orca_term.specs.declared.cell.ScreenSize.{ScreenSize}
+use Rattle.orca_term.specs.declared.editor.Editor.{Editor}
+use Rattle.orca_term.specs.declared.keys.Pending.{Pending}
+use Rattle.orca_term.specs.declared.status.StatusLine.{StatusLine}
+use Rattle.orca_live.specs.declared.live.Live.{Live}
+use Rattle.orca_live.specs.declared.setting.Setting.{Setting as HeldSetting}
+
+-- the tempo in beats a minute, the name of the grid's file, and the names under which the grid and
+-- the script are saved at the end
+pub record Setting : Type 0 where
+  pub bpm : ℕ
+  pub grid : List ℕ
+  pub save : Option (List ℕ)
+  pub script : Option (List ℕ)
+
+-- the same as the code holds it
+abbrev pub setting_in : HeldSetting → Setting
+setting_in set = record {
+  bpm = set.bpm;
+  grid = set.grid.now;
+  save = option_map (λ name. name.now) set.save;
+  script = option_map (λ name. name.now) set.script;
+}
+
+-- the name under which the key saves the grid
+abbrev pub key_name : Setting → List ℕ
+key_name set = unwrap_or set.save set.grid
+
+pub record LiveState : Type 0 where
+  pub standing : Standing
+  pub pending : Pending
+  pub editor : Editor
+  pub pace : Pace
+  pub screen : ScreenSize
+  pub shown : Option (List Cell)
+  pub given : Option (List Command)
+  -- the moment of the last answer of the inbox
+  pub at : ℕ
+
+-- the state of a performance, whose session means this machine
+abbrev pub state_of : {M : Type 0} → MachineState → Live M → LiveState
+state_of machine live = record {
+  standing = standing machine live.stage.tally;
+  pending = live.keys;
+  editor = live.editor;
+  pace = live.pacer;
+  screen = live.view.size;
+  shown = live.view.last;
+  given = option_map (λ commands. commands.items) live.given;
+  at = live.at;
+}
+
+-- the piece as it stands
+abbrev pub piece_at : LiveState → Piece
+piece_at s = piece_of s.standing.machine
+
+-- the size of its grid
+abbrev pub dims_at : LiveState → Size
+dims_at s = (piece_at s).sheet.dims
+
+-- the number of entries of its history
+abbrev pub moments_at : LiveState → ℕ
+moments_at s = length s.standing.machine.history
+
+-- the selection lies in the grid
+abbrev pub IsPlaced : LiveState → Type 0
+IsPlaced s = IsArea (dims_at s) (area_of s.editor)
+
+-- the history has as many entries as it may have
+abbrev pub is_full : LiveState → Bool
+is_full s = nat_le s.standing.machine.limit (moments_at s)
+
+-- what the status line tells besides the editor
+abbrev pub line_at : LiveState → StatusLine
+line_at s = record {
+  tick = (piece_at s).tick;
+  moments = moments_at s;
+  sounding = length (notes_of s.standing);
+  note = s.standing.tally.note;
+}
+
+-- the moment that a poll waits for: that of the next frame, and none while paused
+abbrev pub until_at : LiveState → Option ℕ
+until_at s = if s.editor.paused then None else Some s.pace.due

@@ -1,0 +1,28 @@
+ghost use Rattle.std.specs.Prelude.{◌≡◌, ◌≤◌};
+ghost use Rattle.orca_base.specs.declared.limits.TheConstants.{MAX_BPM};
+
+/// How fast a performance plays, and the files that it is saved to.
+#[derive(Clone, Copy, Debug, PartialEq, Eq)]
+pub struct Setting<'a> {
+    /// The tempo in beats a minute: 1 to [`MAX_BPM`](orca_base::limits::MAX_BPM).
+    pub bpm: u16,
+    /// The name of the grid's file. The key Save saves the grid there, unless `save` is given.
+    pub grid: &'a str,
+    /// The file that the grid is saved to, by the key Save and at the end.
+    pub save: Option<&'a str>,
+    /// The file that the script of the commands is saved to at the end.
+    pub script: Option<&'a str>,
+    ghost some_bpm: { 1 ≤ bpm },
+    ghost few_bpm: { bpm ≤ MAX_BPM },
+}
+
+impl<'a> Setting<'a> {
+    ghost use Rattle.orca_live.specs.States.{key_name, setting_in};
+
+    /// The name under which the key Save saves the grid.
+    pub(crate) fn key_name(&self) -> &'a str
+        ensures { result.now ≡ key_name (setting_in self.now) }
+    {
+        self.save.unwrap_or(self.grid)
+    }
+}
