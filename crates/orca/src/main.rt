@@ -5,20 +5,20 @@ ghost use Rattle.std.specs.Prelude.{◌≡◌, ◌<◌};
 
 use orca_base::{Memory, Port, Steps};
 use orca_player::{Status, run};
-use orca_rig::{Outs, RealFiles, RealOuts};
+use orca_rig::{Outs, RealFiles, RealOuts, TcpInbox};
 use std::env;
 use std::io::ErrorKind;
 use std::marker::Brand;
-use std::net::Net;
+use std::net::{Net, TcpStream};
 use std::process::ExitCode;
-use std::rt::{Env, Files};
+use std::rt::{Clock, Env, Files};
 use std::sync::ledger::{Blank, Ledger};
 
 /// Runs the words over the system's files and streams. It counts its steps in a new ledger.
-fn start<R: AllocGlobal + Env + Files + Net + Print + Eprint, L: Ledger>(
-    rt: &R,
-    blank: Blank,
-) -> Status
+fn start<
+    R: AllocGlobal + Clock + Env + Files + Net<Stream = TcpStream> + Print + Eprint,
+    L: Ledger,
+>(rt: &R, blank: Blank) -> Status
     requires name { blank.name ≡ L.name }
     requires parts { blank.parts ≡ L.parts }
     requires some { 0 < blank.parts }
@@ -26,8 +26,16 @@ fn start<R: AllocGlobal + Env + Files + Net + Print + Eprint, L: Ledger>(
     let mut steps = Steps::<L>::start(blank);
     let mut files = RealFiles::new(rt);
     let mut outs = RealOuts::new(rt);
+    let mut inbox = TcpInbox::new(rt);
     match words(rt) {
-        Ok(words) => run(rt.alloc(), &words, &mut files, &mut outs, &mut steps),
+        Ok(words) => run(
+            rt.alloc(),
+            &words,
+            &mut files,
+            &mut outs,
+            &mut inbox,
+            &mut steps,
+        ),
         Err(Memory) => {
             let _ = outs.send(Port::Fault, b"no memory\n");
             Status::Memory

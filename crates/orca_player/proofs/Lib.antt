@@ -1,4 +1,7 @@
-pub mod WordLemmas
-pub mod PlayingLemmas
-pub mod FaultLemmas
+pub mod CallLemmas
+pub mod WentLemmas
+pub mod ConcertLemmas
 pub mod EndingLemmas
+pub mod OutlineLemmas
+pub mod LiveLemmas
+pub mod RunLemmas

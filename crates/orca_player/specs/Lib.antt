@@ -1,8 +1,3 @@
-pub mod Words
-pub mod Sending
-pub mod Lines
-pub mod Playing
 pub mod Statuses
-pub mod Machine
-pub mod Out
-pub mod RequestOf
+pub mod Outlines
+pub mod Running

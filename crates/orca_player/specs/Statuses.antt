@@ -3,11 +3,11 @@ use Rattle.std.specs.Prelude.{ℕ, List, [], ◌∷◌, ◌++◌, codes}
 use Rattle.std.specs.Fmt.{decimal}
 use Rattle.orca_base.specs.declared.port.Port.TheVariants as port
 use Rattle.orca_base.specs.Ascii.{line_feed}
+use Rattle.orca_base.specs.Ports.{Sent}
 use Rattle.orca_grid.specs.declared.refusal.GridRefusal.{GridRefusal}
 use Rattle.orca_grid.specs.declared.refusal.GridRefusal.TheVariants as refusal
 use Rattle.orca_player.specs.declared.status.Status.{Status}
-use Rattle.orca_player.specs.declared.status.Status.TheVariants.{Done, Usage, GridRefused, OutFault, FileFault, Memory}
-use Rattle.orca_base.specs.Ports.{Sent}
+use Rattle.orca_player.specs.declared.status.Status.TheVariants.{Done, Usage, GridRefused, OutFault, FileFault, ScriptRefused, HistoryFull, InboxFault, TurnsSpent, Memory}
 
 abbrev pub number_of_status : Status → ℕ
 number_of_status Done = 0
@@ -15,9 +15,13 @@ number_of_status Usage = 1
 number_of_status (GridRefused refusal) = 2
 number_of_status OutFault = 3
 number_of_status FileFault = 4
+number_of_status (ScriptRefused line column) = 5
+number_of_status HistoryFull = 6
+number_of_status InboxFault = 7
+number_of_status TurnsSpent = 8
 number_of_status Memory = 9
 
--- why a grid text is refused; want of memory is a status of its own
+-- why a grid text is refused; out of memory is a status of its own
 unfoldable pub refusal_text : GridRefusal → List ℕ
 refusal_text (refusal.BadByte offset) = codes "bad byte at " ++ decimal offset
 refusal_text refusal.NoCells = codes "no cells"
@@ -32,6 +36,11 @@ status_text Usage = codes "usage: orca run|events|replay|make|play"
 status_text (GridRefused refusal) = codes "grid refused: " ++ refusal_text refusal
 status_text OutFault = codes "output fault"
 status_text FileFault = codes "file fault"
+status_text (ScriptRefused line column) =
+    codes "script refused: line " ++ decimal line ++ codes " column " ++ decimal column
+status_text HistoryFull = codes "history full"
+status_text InboxFault = codes "inbox fault"
+status_text TurnsSpent = codes "turns spent"
 status_text Memory = codes "no memory"
 
 -- the line of a status, on the fault port
@@ -39,6 +48,6 @@ abbrev pub fault_sends : Status → List Sent
 fault_sends status = record { port = port.Fault; bytes = status_text status ++ line_feed ∷ [] } ∷ []
 
 -- a status other than 0 sends its line, as the last send
-abbrev pub status_sends : Status → List Sent
+unfoldable pub status_sends : Status → List Sent
 status_sends Done = []
 status_sends status = fault_sends status

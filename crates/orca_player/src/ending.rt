@@ -1,41 +1,51 @@
+//! The line of a status.
+
 ghost use Rattle.std.specs.Prelude.{◌≡◌, ◌≢◌, ◌≤◌, ◌⊎◌, [], ◌∷◌, ◌++◌, IfOk};
 ghost use Rattle.orca_base.specs.Ascii.{line_feed};
-ghost use Rattle.orca_player.specs.Sending.{added};
-ghost use Rattle.orca_player.specs.Statuses.{refusal_text, status_text, status_sends};
+ghost use Rattle.orca_player.specs.Running.{SaysLast};
+ghost use Rattle.orca_player.specs.Statuses.{refusal_text, status_text};
 
 use crate::Status;
-use crate::lines::push_decimal;
 use orca_base::{Memory, Port};
 use orca_grid::GridRefusal;
 use orca_rig::{Outs, SendFault};
+use orca_send::push_decimal;
 use std::alloc::Global;
 
-/// Sends the line of a status that is no success, and answers the status; or `Memory` where memory is
-/// refused for it.
+/// Sends the line of a status that is no success, and answers the status; or
+/// [`Status::Memory`] if memory is refused for it.
 #[tactic(auto, unfolding(crate::specs::Statuses::status_text))]
 pub(crate) fn end<O: Outs>(alloc: Global, outs: &mut O, status: Status) -> Status
     ensures status { (result ≡ status) ⊎ (result ≡ Status.Memory) }
-    ensures told { result ≢ Status.Memory → O.handed outs.new ≡ added (O.handed outs.old) (status_sends result) }
+    ensures said { SaysLast result (O.handed outs.old) (O.handed outs.new) }
+    ensures attached { O.attached outs.new ≡ O.attached outs.old }
     ensures count { O.faults outs.old ≤ O.faults outs.new }
-    ensures done { status ≡ Status.Done → (result ≡ Status.Done) × (O.faults outs.new ≡ O.faults outs.old) }
+    ensures done { status ≡ Status.Done
+        → (result ≡ Status.Done) × (O.faults outs.new ≡ O.faults outs.old) }
 {
     match status {
         Status::Done => Status::Done,
         Status::Usage => say(outs, status, b"usage: orca run|events|replay|make|play\n"),
-        Status::GridRefused(refusal) => match refusal_line(alloc, refusal) {
-            Ok(line) => say(outs, status, line.as_slice()),
-            Err(Memory) => say(outs, Status::Memory, b"no memory\n"),
-        },
+        Status::GridRefused(refusal) => say_line(outs, status, refusal_line(alloc, refusal)),
         Status::OutFault => say(outs, status, b"output fault\n"),
         Status::FileFault => say(outs, status, b"file fault\n"),
+        Status::ScriptRefused { line, column } => {
+            say_line(outs, status, script_line(alloc, line, column))
+        }
+        Status::HistoryFull => say(outs, status, b"history full\n"),
+        Status::InboxFault => say(outs, status, b"inbox fault\n"),
+        Status::TurnsSpent => say(outs, status, b"turns spent\n"),
         Status::Memory => say(outs, status, b"no memory\n"),
     }
 }
 
 /// Sends the last line of a run. A failed send of it changes nothing: the status is decided.
 fn say<O: Outs>(outs: &mut O, status: Status, line: &[u8]) -> Status
+    requires line { line.now ≡ status_text status ++ line_feed ∷ [] }
+    requires some { status ≢ Status.Done }
     ensures status { (result ≡ status) ⊎ (result ≡ Status.Memory) }
-    ensures told { result ≢ Status.Memory → O.handed outs.new ≡ added (O.handed outs.old) (record { port = Port.Fault; bytes = line.now } ∷ []) }
+    ensures said { SaysLast result (O.handed outs.old) (O.handed outs.new) }
+    ensures attached { O.attached outs.new ≡ O.attached outs.old }
     ensures count { O.faults outs.old ≤ O.faults outs.new }
 {
     match outs.send(Port::Fault, line) {
@@ -45,28 +55,60 @@ fn say<O: Outs>(outs: &mut O, status: Status, line: &[u8]) -> Status
     }
 }
 
+/// Sends the last line of a run, unless memory was refused for it.
+#[tactic(auto, unfolding(crate::specs::Statuses::status_text))]
+fn say_line<O: Outs>(outs: &mut O, status: Status, line: Result<Vec<u8>, Memory>) -> Status
+    requires line { IfOk line (λ line. line.items ≡ status_text status ++ line_feed ∷ []) }
+    requires some { status ≢ Status.Done }
+    ensures status { (result ≡ status) ⊎ (result ≡ Status.Memory) }
+    ensures said { SaysLast result (O.handed outs.old) (O.handed outs.new) }
+    ensures attached { O.attached outs.new ≡ O.attached outs.old }
+    ensures count { O.faults outs.old ≤ O.faults outs.new }
+{
+    match line {
+        Ok(line) => say(outs, status, line.as_slice()),
+        Err(Memory) => say(outs, Status::Memory, b"no memory\n"),
+    }
+}
+
 /// The line of a refused grid.
 #[tactic(auto, unfolding(crate::specs::Statuses::status_text, crate::specs::Statuses::refusal_text))]
 fn refusal_line(alloc: Global, refusal: GridRefusal) -> Result<Vec<u8>, Memory>
-    ensures { IfOk result (λ line. line.items ≡ status_text (Status.GridRefused refusal) ++ line_feed ∷ []) }
+    ensures { IfOk result (λ line. line.items
+        ≡ status_text (Status.GridRefused refusal) ++ line_feed ∷ []) }
 {
     let mut line = Vec::new(alloc);
     line.extend_from_slice(b"grid refused: ")?;
     match refusal {
         GridRefusal::BadByte { offset } => {
             line.extend_from_slice(b"bad byte at ")?;
-            push_decimal(&mut line, offset)?;
+            push_decimal(&mut line, u64::from(offset))?;
         }
         GridRefusal::NoCells => line.extend_from_slice(b"no cells")?,
         GridRefusal::TooWide { row } => {
             line.extend_from_slice(b"row ")?;
-            push_decimal(&mut line, row)?;
+            push_decimal(&mut line, u64::from(row))?;
             line.extend_from_slice(b" too wide")?;
         }
         GridRefusal::TooHigh => line.extend_from_slice(b"too many rows")?,
-        // Never told: it is a status of its own.
+        // Never sent: it is a status of its own.
         GridRefusal::Memory => {}
     }
     line.push(b'\n')?;
     Ok(line)
+}
+
+/// The line of a refused script.
+#[tactic(auto, unfolding(crate::specs::Statuses::status_text))]
+fn script_line(alloc: Global, line: u32, column: u32) -> Result<Vec<u8>, Memory>
+    ensures { IfOk result (λ text. text.items
+        ≡ status_text (Status.ScriptRefused line column) ++ line_feed ∷ []) }
+{
+    let mut text = Vec::new(alloc);
+    text.extend_from_slice(b"script refused: line ")?;
+    push_decimal(&mut text, u64::from(line))?;
+    text.extend_from_slice(b" column ")?;
+    push_decimal(&mut text, u64::from(column))?;
+    text.push(b'\n')?;
+    Ok(text)
 }

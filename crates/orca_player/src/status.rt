@@ -14,9 +14,19 @@ pub enum Status {
     GridRefused(GridRefusal),
     /// A port failed, and all else was done.
     OutFault,
-    /// The file of the grid could not be loaded: it is missing, unreadable, or more than
-    /// [`MAX_FILE_BYTES`](orca_base::limits::MAX_FILE_BYTES) bytes.
+    /// A file could not be loaded: it is missing, unreadable, or more than
+    /// [`MAX_FILE_BYTES`](orca_base::limits::MAX_FILE_BYTES) bytes. Or a file could not be saved,
+    /// and all else was done.
     FileFault,
+    /// The script has a line outside its grammar: the first such line and the column where it
+    /// leaves the grammar, both counted from 1.
+    ScriptRefused { line: u32, column: u32 },
+    /// A frame was to be played, and the history had as many entries as it may have.
+    HistoryFull,
+    /// The inbox failed.
+    InboxFault,
+    /// As many polls were answered as may be.
+    TurnsSpent,
     /// Memory was refused.
     Memory,
 }
@@ -32,6 +42,10 @@ impl Status {
             Status::GridRefused(_) => 2,
             Status::OutFault => 3,
             Status::FileFault => 4,
+            Status::ScriptRefused { .. } => 5,
+            Status::HistoryFull => 6,
+            Status::InboxFault => 7,
+            Status::TurnsSpent => 8,
             Status::Memory => 9,
         }
     }

@@ -1,17 +1,17 @@
-//! Whole runs at want of memory.
+//! Whole runs, out of memory.
 
-ghost use Rattle.std.specs.Prelude.{◌≡◌, ◌<◌, Some, length};
+ghost use Rattle.std.specs.Prelude.{◌≡◌, ◌<◌, Some, false, length};
 
 use crate::Status;
 use orca_base::{Port, Steps};
-use orca_rig::{MemFiles, MemOuts, Outs, SendFault, names_differ};
+use orca_rig::{MemFiles, MemInbox, MemOuts, Outs, SendFault, names_differ};
 use std::alloc::Global;
 use std::marker::Brand;
 use std::process::Abort;
 use std::sync::ledger::{Blank, Ledger};
 use std::test::Fail;
 
-/// Ports in memory that want memory at their second send, and keep the others.
+/// Ports in memory that are refused memory at their second send, and keep the others.
 #[derive(Drop)]
 struct Tight {
     kept: MemOuts,
@@ -52,14 +52,17 @@ fn run<L: Ledger>(
     words: &Vec<String>,
     files: &mut MemFiles,
     outs: &mut Tight,
+    inbox: &mut MemInbox,
     blank: Blank,
 ) -> Status
+    requires fresh { inbox.old.listened ≡ false }
+    requires open { inbox.old.ended ≡ false }
     requires name { blank.name ≡ L.name }
     requires parts { blank.parts ≡ L.parts }
     requires some { 0 < blank.parts }
 {
     let mut steps = Steps::<L>::start(blank);
-    crate::run(alloc, words, files, outs, &mut steps)
+    crate::run(alloc, words, files, outs, inbox, &mut steps)
 }
 
 /// A store of one file: a banged text operator, whose message is sent at the first frame.
@@ -74,7 +77,7 @@ fn greeting(rt: &impl Abort, alloc: Global) -> Result<MemFiles, Fail> {
 }
 
 #[test]
-fn a_send_that_wants_memory_ends_the_run(rt: HostRuntime) -> Result<(), Fail> {
+fn a_send_that_is_refused_memory_ends_the_run(rt: HostRuntime) -> Result<(), Fail> {
     let alloc = rt.alloc();
     let mut words = Vec::new(alloc);
     for word in ["events", "hi.orca", "2"] {
@@ -85,8 +88,16 @@ fn a_send_that_wants_memory_ends_the_run(rt: HostRuntime) -> Result<(), Fail> {
         kept: MemOuts::new(Vec::new(alloc))?,
         sends: 0,
     };
-    // The line of the message wants memory, so that only the line of the status follows.
-    let status = run::<Brand>(alloc, &words, &mut files, &mut outs, Blank::new(1));
+    // The line of the message is refused memory, so that only the line of the status follows.
+    let mut inbox = MemInbox::new(0, Vec::new(alloc), Vec::new(alloc))?;
+    let status = run::<Brand>(
+        alloc,
+        &words,
+        &mut files,
+        &mut outs,
+        &mut inbox,
+        Blank::new(1),
+    );
     assert_eq!(rt; status, Status::Memory);
     assert_eq!(rt; outs.kept.handed_at(0), Some((Port::Udp, b"hi".as_slice())));
     assert_eq!(rt;

@@ -1,5 +1,0 @@
-use Rattle.orca_player.proofs.tests.a_send_that_wants_memory_ends_the_run.Given as goal
-
--- the ledger of the steps is the new one
-abbrev pub ghosts-run : goal.ghosts-run
-ghosts-run g a = record { name = a.blank.name; parts = a.blank.parts }
