@@ -3,7 +3,9 @@
 use crate::bytes::read_bytes;
 use crate::step::{Step, read_step};
 use anyhow::{Context, Result, anyhow, bail, ensure};
-use orca_base::{Now, Port};
+use orca_base::limits::ARRIVAL_BYTES;
+use orca_base::{Now, Port, Wire};
+use orca_rig::MemAnswer;
 use std::alloc::Global;
 
 /// The ports at which sends can fail.
@@ -34,6 +36,12 @@ pub(crate) struct Case {
     pub failing_calls: Vec<u64>,
     /// The sends that are to fail, counted from 1 at each port.
     pub failing_sends: Vec<(Port, u64)>,
+    /// The moment that the inbox answers when the run listens.
+    pub start: u64,
+    /// What the inbox answers after that, in order.
+    pub answers: Vec<MemAnswer>,
+    /// The calls of the inbox that are to fail, counted from 1.
+    pub failing_polls: Vec<u64>,
 }
 
 impl Case {
@@ -48,6 +56,9 @@ impl Case {
             wanted: Vec::new(alloc),
             failing_calls: Vec::new(alloc),
             failing_sends: Vec::new(alloc),
+            start: 0,
+            answers: Vec::new(alloc),
+            failing_polls: Vec::new(alloc),
         })
     }
 
@@ -62,6 +73,11 @@ impl Case {
             "file" => self.files.push(read_file(alloc, rest)?)?,
             "want" => self.wanted.push(String::from_str(alloc, rest)?)?,
             "fail" => self.add_failure(rest)?,
+            "start" => self.start = rest.parse::<u64>()?,
+            "bytes" => self.answers.push(read_arrival(alloc, rest)?)?,
+            "due" => self.answers.push(MemAnswer::Due {
+                at: rest.parse::<u64>()?,
+            })?,
             _ => bail!("these cases have no line {key:?}"),
         }
         Ok(())
@@ -71,10 +87,10 @@ impl Case {
     fn add_failure(&mut self, rest: &str) -> Result<()> {
         let (who, number) = halves(rest)?;
         let number = number.parse::<u64>()?;
-        if who == "files" {
-            self.failing_calls.push(number)?;
-        } else {
-            self.failing_sends.push((read_port(who)?, number))?;
+        match who {
+            "files" => self.failing_calls.push(number)?,
+            "inbox" => self.failing_polls.push(number)?,
+            _ => self.failing_sends.push((read_port(who)?, number))?,
         }
         Ok(())
     }
@@ -125,6 +141,21 @@ fn read_file(alloc: Global, rest: &str) -> Result<(String, Vec<u8>)> {
     Ok((String::from_str(alloc, name)?, read_bytes(alloc, bytes)?))
 }
 
+/// The hand, the moment and the bytes of an arrival.
+fn read_arrival(alloc: Global, rest: &str) -> Result<MemAnswer> {
+    let (hand, rest) = halves(rest)?;
+    let (at, bytes) = halves(rest)?;
+    let came = read_bytes(alloc, bytes)?;
+    ensure!(came.len() <= ARRIVAL_BYTES, "an arrival is too long");
+    let mut bytes = Wire::empty();
+    bytes.extend(came.as_slice());
+    Ok(MemAnswer::Bytes {
+        hand: hand.parse::<u8>()?,
+        bytes,
+        at: at.parse::<u64>()?,
+    })
+}
+
 /// The port of that name.
 fn read_port(name: &str) -> Result<Port> {
     for port in PORTS {
@@ -143,16 +174,22 @@ mod tests {
     #[test]
     fn faulty_lines_are_refused(rt: HostRuntime) -> Result<(), Fail> {
         let faulty = [
+            "bytes 0 1",
+            "bytes 256 1 61",
             "case again",
+            "due",
+            "due x",
             "end of it",
             "fail",
-            "fail inbox 1",
+            "fail inbox",
+            "fail outbox 1",
             "fail text x",
             "file g",
             "file g 2",
             "scan 1",
             "scan 1 4294967296",
             "sing g",
+            "start -1",
             "step",
             "step frame 1",
             "step resize 0 1",

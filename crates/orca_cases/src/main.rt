@@ -10,7 +10,11 @@
 //! | `file NAME BYTES` | a file that is held at the start |
 //! | `want NAME` | a file that is told at the end |
 //! | `fail files N` | the Nth call of the files is to fail, counted from 1 |
-//! | `fail PORT N` | the Nth send to a port is to fail: `midi`, `udp`, `osc`, `text`, `fault` or `view` |
+//! | `fail PORT N` | the Nth call of a port is to fail: `midi`, `udp`, `osc`, `text`, `fault` or `view` |
+//! | `fail inbox N` | the Nth call of the inbox is to fail |
+//! | `start MOMENT` | the moment at which the run listens, 0 if there is no such line |
+//! | `bytes HAND MOMENT BYTES` | the inbox's next answer: 1 to 64 bytes of a hand |
+//! | `due MOMENT` | the inbox's next answer: a moment that was waited for has come |
 //!
 //! The answer is `case NAME`, then `send PORT BYTES` for each send, `file NAME BYTES` or
 //! `file NAME none` for each file that is told, and `status N`.

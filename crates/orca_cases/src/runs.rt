@@ -1,13 +1,13 @@
 //! A whole run, over files and ports in memory.
 
-ghost use Rattle.std.specs.Prelude.{◌≡◌, ◌<◌};
+ghost use Rattle.std.specs.Prelude.{◌≡◌, ◌<◌, false};
 
 use crate::bytes::{tell_bytes, write_bytes};
 use crate::case::Case;
 use anyhow::{Result, bail, ensure};
 use orca_base::Steps;
 use orca_player::Status;
-use orca_rig::{MemFiles, MemOuts, names_differ};
+use orca_rig::{MemFiles, MemInbox, MemOuts, are_arrivals, is_in_order, names_differ};
 use std::alloc::Global;
 use std::marker::Brand;
 use std::sync::ledger::{Blank, Ledger};
@@ -23,15 +23,26 @@ pub(crate) fn tell(alloc: Global, case: Case, into: &mut String) -> Result<()> {
         wanted,
         failing_calls,
         failing_sends,
+        start,
+        answers,
+        failing_polls,
     } = case;
     ensure!(names_differ(&files), "two files have one name");
+    ensure!(
+        is_in_order(start, &answers),
+        "a moment is below an earlier one"
+    );
+    ensure!(are_arrivals(&answers), "an arrival has no bytes");
     let Ok(mut files) = MemFiles::new(files, failing_calls) else {
         bail!("memory was refused");
     };
     let Ok(mut outs) = MemOuts::new(failing_sends) else {
         bail!("memory was refused");
     };
-    let status = run::<Brand>(alloc, &words, &mut files, &mut outs, Blank::new(1));
+    let Ok(inbox) = MemInbox::new(start, answers, failing_polls) else {
+        bail!("memory was refused");
+    };
+    let status = run::<Brand>(alloc, &words, &mut files, &mut outs, inbox, Blank::new(1));
     tell_sends(alloc, &outs, into)?;
     for name in &wanted {
         tell_file(alloc, &files, name.as_str(), into)?;
@@ -47,14 +58,18 @@ fn run<L: Ledger>(
     words: &Vec<String>,
     files: &mut MemFiles,
     outs: &mut MemOuts,
+    inbox: MemInbox,
     blank: Blank,
 ) -> Status
+    requires fresh { inbox.listened ≡ false }
+    requires open { inbox.ended ≡ false }
     requires name { blank.name ≡ L.name }
     requires parts { blank.parts ≡ L.parts }
     requires some { 0 < blank.parts }
 {
+    let mut inbox = inbox;
     let mut steps = Steps::<L>::start(blank);
-    orca_player::run(alloc, words, files, outs, &mut steps)
+    orca_player::run(alloc, words, files, outs, &mut inbox, &mut steps)
 }
 
 /// Adds a line for each send.
