@@ -40,8 +40,8 @@ IsEmptyOutside d cells =
 abbrev pub AreLive : List ℕ → List ℕ → Type 0
 AreLive cells bits = (n : ℕ) → n < MAX_CELLS → has_bit bits n ≡ is_operator (slice_index cells n)
 
--- the parts are a desk with its changes; a cell outside the grid is empty; a bit is set exactly where
--- a cell holds an operator; and there is room for every event
+-- the parts are a desk with its changes; a cell outside the grid is empty; a bit is set exactly
+-- where a cell holds an operator; and there is room for every event
 pub record KeepsBoard (d : Desk) (known : List Change) (cells : List ℕ) (marks : List MarkSet)
     (bits : List ℕ) (room : ℕ) : Type 0 where
   pub lists : ListsChanges d known

@@ -28,7 +28,7 @@ changes_with began changes at old =
 abbrev pub has_number : List Place → ℕ → Bool
 has_number places i = list_any (λ place. i == index_of largest place) places
 
--- the flags that are set are those of the listed places, and there is room for every place of a grid
+-- the flags that are set are those of the listed places; there is room for every place of a grid
 pub record IsFlagged (changes : List Change) (flags : List Bool) (room : ℕ) : Type 0 where
   pub size : length flags ≡ MAX_CELLS
   pub counted : length changes ≡ count_by (λ flag. flag) flags

@@ -1,5 +1,5 @@
--- The canonical line of a command: single spaces between its words, no leading zeros, and no space at
--- its end.
+-- The canonical line of a command: single spaces between its words, no leading zeros, and no space
+-- at its end.
 use Rattle.std.specs.Prelude.{ℕ, ◌^◌, ◌<◌, ◌≡◌, IfSome, List, [], ◌∷◌, ◌++◌, Option, Some, None, codes}
 use Rattle.std.specs.List.{flat_map, All}
 use Rattle.std.specs.Option.{option_to_list}

@@ -51,8 +51,8 @@ abbrev pub or_else_read : (ℕ → Result Command ℕ) → Result Command ℕ �
 or_else_read others (Ok command) = Ok command
 or_else_read others (Err count) = others count
 
--- the command of the first of these forms that fits the line; else how many of its bytes go along one
--- of them, or this number if it is larger
+-- the command of the first of these forms that fits the line; else how many of its bytes go along
+-- one of them, or this number if it is larger
 unfoldable pub read_by : List Form → List ℕ → ℕ → Result Command ℕ
 read_by [] line most = Err most
 read_by (form ∷ others) line most =
