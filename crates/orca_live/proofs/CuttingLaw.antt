@@ -50,12 +50,12 @@ alike_twice r s t first second = record {
 }
 
 -- a state with the parts of another one that matter
-abbrev mixed : LiveState → Standing → Pending → Editor → Option (List Command) → LiveState
+abbrev pub mixed : LiveState → Standing → Pending → Editor → Option (List Command) → LiveState
 mixed t standing pending editor given =
     record t { standing = standing; pending = pending; editor = editor; given = given }
 
 -- a fact of each state with the same parts holds of a state that is alike
-along : (P : LiveState → Type 0) (s t : LiveState) → AreAlike s t
+pub along : (P : LiveState → Type 0) (s t : LiveState) → AreAlike s t
     → P (mixed t s.standing s.pending s.editor s.given) → P t
 along P s t same holds =
     subst (λ (given : Option (List Command)). P (mixed t t.standing t.pending t.editor given))
@@ -68,13 +68,13 @@ along P s t same holds =
 -- courses
 
 -- the same commands, and the same ending, if any
-record Same (c d : Course) : Type 0 where
+pub record Same (c d : Course) : Type 0 where
   pub states : AreAlike c.state d.state
   pub commands : commands_in c.acts ≡ commands_in d.acts
   pub ending : c.ending ≡ d.ending
 
 -- from states that are alike
-abbrev SameAll : (LiveState → Course) → Type 0
+abbrev pub SameAll : (LiveState → Course) → Type 0
 SameAll f = (s t : LiveState) → AreAlike s t → Same (f s) (f t)
 
 commands_twice : (p q c d : Course) → commands_in p.acts ≡ commands_in q.acts
@@ -116,7 +116,7 @@ play_by None p q f g first more =
 play_by (Some ending) p q f g first more =
     record { states = first.states; commands = first.commands }
 
-play_onward : (p q : Course) (f g : LiveState → Course) → Same p q
+pub play_onward : (p q : Course) (f g : LiveState → Course) → Same p q
     → ((s t : LiveState) → AreAlike s t → PlayAlike (f s) (g t))
     → PlayAlike (onward p f) (onward q g)
 play_onward p q f g first more =
@@ -124,7 +124,7 @@ play_onward p q f g first more =
     (play_by p.ending p q f g first more)
 
 -- a course and its own copy from a state that is alike, where both compute
-same_record : (c d : Course) → c.state.standing ≡ d.state.standing
+pub same_record : (c d : Course) → c.state.standing ≡ d.state.standing
     → c.state.pending ≡ d.state.pending → c.state.editor ≡ d.state.editor
     → c.state.given ≡ d.state.given → commands_in c.acts ≡ commands_in d.acts
     → c.ending ≡ d.ending → Same c d
@@ -134,7 +134,7 @@ same_record c d standing pending editor given commands ending = record {
   ending = ending;
 }
 
-same_still : SameAll still
+pub same_still : SameAll still
 same_still s t same = record { states = same; commands = refl; ending = refl }
 
 same_ended : (ending : Ending) → SameAll (ended ending)
@@ -184,7 +184,7 @@ same_toggle set s t same = record {
   ending = refl;
 }
 
-same_save : (name : List ℕ) → SameAll (save_course name)
+pub same_save : (name : List ℕ) → SameAll (save_course name)
 unfolding save_course
 same_save name s t same = record { states = same; commands = refl; ending = refl }
 

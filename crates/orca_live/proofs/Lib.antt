@@ -13,3 +13,4 @@ pub mod PollLemmas
 pub mod ReachLemmas
 pub mod SaveLemmas
 pub mod ScriptLaw
+pub mod WholeLaws

@@ -47,7 +47,7 @@ commands_in-append (Obey command ∷ xs) ys =
     ap (λ (more : List Command). command ∷ more) (commands_in-append xs ys)
 commands_in-append (_ ∷ xs) ys = commands_in-append xs ys
 
-no_commands : (sends : List Sent) → commands_in (gives sends) ≡ []
+pub no_commands : (sends : List Sent) → commands_in (gives sends) ≡ []
 no_commands [] = refl
 no_commands (sent ∷ sends) = no_commands sends
 

@@ -1,6 +1,6 @@
 -- What the reader of keys is given by polls.
-use Rattle.std.specs.Prelude.{ℕ, ◌==◌, if◌then◌else◌, List, [], ◌∷◌, ◌++◌, map}
-use Rattle.orca_rig.specs.Arrived.{Poll}
+use Rattle.std.specs.Prelude.{ℕ, ◌==◌, not, if◌then◌else◌, List, [], ◌∷◌, ◌++◌, map, count_by}
+use Rattle.orca_rig.specs.Arrived.{Poll, is_ending}
 use Rattle.orca_rig.specs.declared.inbox.Answer.{Answer}
 use Rattle.orca_rig.specs.declared.inbox.Answer.TheVariants as answer
 use Rattle.orca_term.specs.Keys.{Byte, Due, Item}
@@ -17,3 +17,7 @@ items_by answer.Failed bytes rest = []
 abbrev pub items_of : List Poll → List Item
 items_of [] = []
 items_of (poll ∷ polls) = items_by poll.answer poll.bytes (items_of polls)
+
+-- how many polls were answered by bytes or a due frame
+abbrev pub turns_of : List Poll → ℕ
+turns_of polls = count_by (λ poll. not (is_ending poll.answer)) polls

@@ -1,38 +1,34 @@
 -- A list of commands, as the outline of a run.
-use Rattle.std.proofs.Common.{◌≡◌, ◌≢◌, ◌⊎◌, inl, inr, ℕ, Bool, true, false, List, [], ◌∷◌, ◌++◌, length, refl, sym, ◌∙◌, ap, subst, append_assoc, append-nil, arith}
+use Rattle.std.proofs.Common.{◌≡◌, ◌≢◌, ℕ, Bool, true, false, List, [], ◌∷◌, ◌++◌, length, refl, sym, ◌∙◌, ap, subst, append-nil, arith}
 use Rattle.std.specs.Prelude.{Option, Result, Ok, Err}
 use Rattle.std.proofs.lemmas.List.{map-append}
 use Rattle.orca_base.specs.declared.note.Note.{Note}
 use Rattle.orca_base.specs.Grids.{Sheet}
 use Rattle.orca_base.specs.Ports.{Sent}
 use Rattle.orca_cues.specs.declared.source.Cue.{Cue}
-use Rattle.orca_edit.specs.Obeying.{MachineState, machine_closed, piece_of}
 use Rattle.orca_edit.specs.Pieces.{Piece, piece_after}
 use Rattle.orca_edit.proofs.FoldLemmas.{piece_after-closed}
 use Rattle.orca_notes.specs.Device.{Voice, voices}
 use Rattle.orca_notes.specs.Sound.{ends}
-use Rattle.orca_send.specs.Sending.{Begins, Says, added, sends_of}
-use Rattle.orca_send.proofs.SendLemmas.{added_none}
-use Rattle.orca_send.specs.declared.sender.NoMemory.{NoMemory}
+use Rattle.orca_send.specs.Sending.{Says, added, sends_of}
 use Rattle.orca_send.specs.declared.sender.NoMemory.TheVariants.{InSend, Elsewhere}
-use Rattle.orca_stage.specs.Acts.{Act, AreSends, given, gives, stand_after}
+use Rattle.orca_stage.specs.Acts.{Act, gives, stand_after}
 use Rattle.orca_stage.specs.Acts.Act.{Give, Stand}
-use Rattle.orca_stage.specs.Following.{Accompanies, Follows, Silences, keys_after_acts}
+use Rattle.orca_stage.specs.Following.{Follows, Silences, keys_after_acts}
 use Rattle.orca_stage.specs.Manners.{Manner}
 use Rattle.orca_stage.specs.Plans.{Plan, close_plan, handed_of, joined, last_plan, list_plan, over, run_plan}
-use Rattle.orca_stage.specs.Runs.{Begun, Did, SoFar}
+use Rattle.orca_stage.specs.Runs.{Did, SoFar}
 use Rattle.orca_stage.specs.Standings.{Standing, notes_of, standing_closed}
 use Rattle.orca_stage.specs.Told.{Made, Told, told_with_sends}
 use Rattle.orca_stage.specs.declared.flow.Flow.{Flow}
 use Rattle.orca_stage.specs.declared.flow.Flow.TheVariants.{Goes, Drops, Ends}
-use Rattle.orca_stage.proofs.ActLemmas.{AreSends-append, AreSends-gives, given-append, given-gives}
+use Rattle.orca_stage.proofs.ActLemmas.{AreSends-append, AreSends-gives, given-gives}
 use Rattle.orca_stage.proofs.FollowLemmas.{Follows-front, follows_later}
 use Rattle.orca_stage.proofs.RunLemmas.{all_done, made_twice as handed_twice}
-use Rattle.orca_stage.proofs.ToldLemmas.{made_sends, made_twice}
-use Rattle.orca_player.specs.Outlines.{Outline, concert, standing_at, status_of_flow}
+use Rattle.orca_stage.proofs.ToldLemmas.{made_sends}
+use Rattle.orca_player.specs.Outlines.{concert, standing_at, status_of_flow}
 use Rattle.orca_player.specs.Running.{EndsAs, IsCutShort, IsWhole, Went, sounding_after, status_of}
-use Rattle.orca_player.specs.declared.status.Status.{Status}
-use Rattle.orca_player.specs.declared.status.Status.TheVariants.{Done, OutFault, HistoryFull, Memory}
+use Rattle.orca_player.specs.declared.status.Status.TheVariants.{Memory}
 use Rattle.orca_player.proofs.WentLemmas.{went_cut, went_whole}
 
 -- no note sounds at the start, and none after a close

@@ -1,5 +1,5 @@
 -- The line of a status, after what was done.
-use Rattle.std.proofs.Common.{◌≡◌, ◌≢◌, ◌⊎◌, inl, inr, ℕ, List, [], ◌∷◌, ◌++◌, refl, sym, ◌∙◌, ap, subst, append_assoc, append-nil}
+use Rattle.std.proofs.Common.{◌≡◌, ◌≢◌, inr, List, refl}
 use Rattle.std.specs.Prelude.{Option}
 use Rattle.orca_base.specs.Ports.{Sent}
 use Rattle.orca_send.specs.Sending.{added}

@@ -5,3 +5,5 @@ pub mod EndingLemmas
 pub mod OutlineLemmas
 pub mod LiveLemmas
 pub mod RunLemmas
+pub mod ReadyLemmas
+pub mod LawLemmas

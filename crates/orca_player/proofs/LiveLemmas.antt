@@ -26,7 +26,7 @@ use Rattle.orca_rig.specs.Outside.{Rose}
 use Rattle.orca_send.specs.Sending.{RecordsFaults, added, sends_of}
 use Rattle.orca_send.proofs.SendLemmas.{added_none}
 use Rattle.orca_send.specs.declared.sender.NoMemory.TheVariants.{InSend, Elsewhere}
-use Rattle.orca_stage.specs.Acts.{Act, gives, log_after, stand_after}
+use Rattle.orca_stage.specs.Acts.{Act, gives}
 use Rattle.orca_stage.specs.Acts.Act.{Give, Listen}
 use Rattle.orca_stage.specs.Following.{Follows, Silences, keys_after_acts}
 use Rattle.orca_stage.specs.Plans.{close_plan}
@@ -34,12 +34,12 @@ use Rattle.orca_stage.specs.Standings.{Standing, notes_of}
 use Rattle.orca_stage.specs.Told.{Made, Told, told_with_sends}
 use Rattle.orca_stage.proofs.ActLemmas.{AreSends-gives, given-gives}
 use Rattle.orca_stage.proofs.FollowLemmas.{Follows-front, follows_later}
-use Rattle.orca_stage.proofs.ToldLemmas.{log_none, made_none, made_sends, made_twice, told_none}
+use Rattle.orca_stage.proofs.ToldLemmas.{made_sends, made_twice, told_none}
 use Rattle.orca_words.specs.Requests.{Performance}
-use Rattle.orca_player.specs.Outlines.{Outline, live_outline, outline_of, play_outline, saved_commands, screen_of, setting_of, started_outline, status_of_ending, stopped}
+use Rattle.orca_player.specs.Outlines.{live_outline, outline_of, play_outline, saved_commands, screen_of, setting_of, started_outline, status_of_ending, stopped}
 use Rattle.orca_player.specs.Running.{AreBegun, EndsAs, IsCaused, IsCutShort, IsWhole, ReadsBack, Went, counts, sounding_after, status_at}
 use Rattle.orca_player.specs.declared.status.Status.{Status}
-use Rattle.orca_player.specs.declared.status.Status.TheVariants.{Done, FileFault, HistoryFull, InboxFault, Memory, OutFault, TurnsSpent}
+use Rattle.orca_player.specs.declared.status.Status.TheVariants.{InboxFault, Memory}
 use Rattle.orca_player.proofs.WentLemmas.{went_after, went_cut, went_none, went_stopped, went_whole}
 use Rattle.orca_player.proofs.ConcertLemmas.{ClosedEarly, notes-standing_closed, sounding-stand}
 

@@ -1,9 +1,8 @@
 -- The line of a status, after all that was done.
-use Rattle.std.proofs.Common.{◌≡◌, ◌≢◌, ◌⊎◌, inl, inr, ℕ, ◌<◌, ◌≤◌, List, [], ◌∷◌, ◌++◌, refl, sym, ◌∙◌, ap, subst, append_assoc, append-nil, arith}
-use Rattle.std.specs.Prelude.{Option, IfSome}
+use Rattle.std.proofs.Common.{◌≡◌, ◌≢◌, ◌⊎◌, inl, inr, ℕ, ◌<◌, ◌≤◌, List, [], ◌++◌, refl, sym, ◌∙◌, ap, subst, append_assoc, append-nil, arith}
+use Rattle.std.specs.Prelude.{Option}
 use Rattle.std.proofs.lemmas.List.{map-append}
 use Rattle.orca_base.specs.Ports.{Sent}
-use Rattle.orca_grid.specs.declared.refusal.GridRefusal.{GridRefusal}
 use Rattle.orca_notes.specs.Sound.{ends}
 use Rattle.orca_rig.specs.Outside.{Rose, last_count}
 use Rattle.orca_send.specs.Sending.{added, sends_of}
@@ -16,11 +15,11 @@ use Rattle.orca_stage.specs.Told.{Made, Told, told_with_sends}
 use Rattle.orca_stage.proofs.ActLemmas.{AreSends-gives, given-gives}
 use Rattle.orca_stage.proofs.ToldLemmas.{made_sends, made_twice}
 use Rattle.orca_player.specs.Outlines.{Outline}
-use Rattle.orca_player.specs.Running.{AreLow, Counts, IsCaused, IsCutShort, IsLast, IsWhole, ReportsNoFault, SaysLast, Went, counts, sounding_after}
+use Rattle.orca_player.specs.Running.{AreLow, Counts, IsCaused, IsCutShort, IsLast, IsWhole, ReportsNoFault, SaysLast, Went, sounding_after}
 use Rattle.orca_player.specs.Statuses.{fault_sends, status_sends}
 use Rattle.orca_player.specs.declared.status.Status.{Status}
 use Rattle.orca_player.specs.declared.status.Status.TheVariants.{Done, Usage, GridRefused, OutFault, FileFault, ScriptRefused, HistoryFull, InboxFault, TurnsSpent, Memory}
-use Rattle.orca_player.proofs.WentLemmas.{cut_went, went_cut, went_whole, whole_went}
+use Rattle.orca_player.proofs.WentLemmas.{went_cut, went_whole}
 
 -- sends more, after what was done
 said_after : (acts : List Act) (said : List Sent) (x y : Told) (z : Option (List Sent))

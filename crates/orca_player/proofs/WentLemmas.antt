@@ -1,16 +1,12 @@
 -- How much of an outline was done.
-use Rattle.std.proofs.Common.{◌≡◌, ◌≢◌, ◌⊎◌, inl, inr, ℕ, Bool, true, false, List, [], ◌∷◌, ◌++◌, refl, sym, ◌∙◌, ap, subst, append_assoc, append-nil}
-use Rattle.std.specs.Prelude.{Option, Some, None, IfSome, Result, Ok, Err}
-use Rattle.std.proofs.lemmas.List.{map-append}
+use Rattle.std.proofs.Common.{◌≢◌, List, [], ◌++◌, refl, sym, ◌∙◌, ap, subst, append_assoc, append-nil}
+use Rattle.std.specs.Prelude.{Option, Some, None, IfSome}
 use Rattle.orca_base.specs.declared.note.Note.{Note}
 use Rattle.orca_base.specs.Ports.{Sent}
-use Rattle.orca_notes.specs.Device.{Voice, voices}
 use Rattle.orca_notes.specs.Sound.{ends}
-use Rattle.orca_send.specs.Sending.{Says, added, sends_of}
-use Rattle.orca_stage.specs.Acts.{Act, gives, stand_after}
-use Rattle.orca_stage.specs.Acts.Act.{Give, Stand}
-use Rattle.orca_stage.specs.Following.{Follows, keys_after_acts}
-use Rattle.orca_stage.specs.Standings.{Standing, notes_of}
+use Rattle.orca_send.specs.Sending.{sends_of}
+use Rattle.orca_stage.specs.Acts.{Act, gives}
+use Rattle.orca_stage.specs.Following.{Follows}
 use Rattle.orca_stage.specs.Told.{Made, Told}
 use Rattle.orca_stage.proofs.ToldLemmas.{made_none, made_twice}
 use Rattle.orca_live.specs.Paintings.{ShowsPictures}

@@ -1,3 +1,5 @@
 pub mod Statuses
 pub mod Outlines
+pub mod Ready
 pub mod Running
+pub mod Laws

@@ -12,7 +12,7 @@ use Rattle.orca_cues.specs.Made.{made_cues, made_sheet}
 use Rattle.orca_cues.specs.Scripts.{script_of}
 use Rattle.orca_cues.specs.declared.fault.ScriptFault.{ScriptFault}
 use Rattle.orca_cues.specs.declared.source.Cue.{Cue}
-use Rattle.orca_edit.specs.Obeying.{machine_at_start}
+use Rattle.orca_edit.specs.Obeying.{MachineState, machine_at_start}
 use Rattle.orca_grid.specs.GridText.{grid_text}
 use Rattle.orca_grid.specs.declared.refusal.GridRefusal.{GridRefusal}
 use Rattle.orca_live.specs.Courses.{Course}
@@ -54,21 +54,29 @@ heard grid script = record { grid = grid; script = script; start = None; polls =
 abbrev pub with_grid : Option (List ℕ) → Heard → Heard
 with_grid grid h = record h { grid = grid }
 
--- what a run does on the outside; how it ends, unless the answers of its inbox break off; the
--- screen that it paints on, and the commands of the script that it saves, where it has them
+-- what a run does on the outside; how it ends, unless the answers of its inbox break off; where
+-- its session stands at last; the screen that it paints on, and the commands of the script that it
+-- saves, where it has them
 pub record Outline : Type 0 where
   pub acts : List Act
   pub status : Option Status
+  pub session : Option MachineState
   pub screen : Option ScreenSize
   pub given : Option (List Command)
 
--- acts, and an end, without a screen and a script
-abbrev pub plain : List Act → Status → Outline
-plain acts status = record { acts = acts; status = Some status; screen = None; given = None }
+-- without a screen and a script
+abbrev pub plain : List Act → Status → Option MachineState → Outline
+plain acts status session = record {
+  acts = acts;
+  status = Some status;
+  session = session;
+  screen = None;
+  given = None;
+}
 
 -- nothing more is done, and the run ends so
 abbrev pub stopped : Status → Outline
-stopped status = plain [] status
+stopped status = plain [] status None
 
 -- acts, and then the rest of a run
 abbrev pub after : List Act → Outline → Outline
@@ -88,7 +96,9 @@ status_of_flow Ends = HistoryFull
 
 -- all cues are done, and the run closes
 unfoldable pub concert : Manner → List Cue → Standing → Outline
-concert m cues s = plain (run_plan m cues s).acts (status_of_flow (run_plan m cues s).flow)
+concert m cues s =
+    let p = run_plan m cues s in
+    plain p.acts (status_of_flow p.flow) (Some p.standing.machine)
 
 -- ---- a script
 
@@ -133,6 +143,7 @@ abbrev pub outline_of : Performance → Course → Outline
 outline_of performance c = record {
   acts = c.acts;
   status = option_map status_of_ending c.ending;
+  session = Some c.state.standing.machine;
   screen = Some (screen_of performance);
   given = saved_commands performance.script c.state.given;
 }

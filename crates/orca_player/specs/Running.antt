@@ -1,5 +1,5 @@
 -- What a run did of its outline, and what caused its status.
-use Rattle.std.specs.Prelude.{◌≡◌, ◌≢◌, ◌⊎◌, ◌<◌, ◌≤◌, ℕ, Bool, if◌then◌else◌, List, [], ◌∷◌, ◌++◌, length, Option, Some, None, IfSome, IsSomeAnd, Result, Ok, Err}
+use Rattle.std.specs.Prelude.{◌≡◌, ◌≢◌, ◌⊎◌, ◌<◌, ◌≤◌, ℕ, Bool, if◌then◌else◌, List, [], ◌∷◌, ◌++◌, length, Option, Some, IfSome, IsSomeAnd, Result, Ok, Err}
 use Rattle.std.specs.FinMap.{get}
 use Rattle.std.specs.List.{flat_map}
 use Rattle.orca_base.specs.declared.limits.TheConstants.{MAX_FILE_BYTES}
@@ -26,6 +26,7 @@ use Rattle.orca_stage.specs.declared.flow.Flow.{Flow}
 use Rattle.orca_stage.specs.declared.flow.Flow.TheVariants.{Goes, Drops, Ends}
 use Rattle.orca_words.specs.Requests.{Make, Perform, Replay, Request, Work, request_of}
 use Rattle.orca_player.specs.Outlines.{Heard, Outline, outline, request_outline}
+use Rattle.orca_player.specs.Ready.{IsReady}
 use Rattle.orca_player.specs.Statuses.{fault_sends, status_sends}
 use Rattle.orca_player.specs.declared.status.Status.{Status}
 use Rattle.orca_player.specs.declared.status.Status.TheVariants.{Done, Usage, GridRefused, OutFault, FileFault, ScriptRefused, HistoryFull, InboxFault, TurnsSpent, Memory}
@@ -212,7 +213,15 @@ WentSo words said before status now =
     × IfSome (request_of words) (λ request. Hears request before.shelf.contents heard)
     × Went (outline words heard) said before status now
 
--- a whole run: what its words ask for, by what it heard of the files, and the line of its status
-abbrev pub Ran : List (List ℕ) → Told → Status → Told → Type 0
-Ran words before status now =
-    (said : List Sent) × IsLast status said × WentSo words said before status now
+-- a whole run: what its words ask for, by what it heard of the files, and the line of its status.
+-- Where all that the words ask for can be done, and nothing outside failed, all was done, unless
+-- memory was refused
+pub record Ran (words : List (List ℕ)) (before : Told) (old : Counts) (status : Status)
+    (now : Told) (new : Counts) : Type 0 where
+  pub heard : Heard
+  pub hears : IfSome (request_of words) (λ request. Hears request before.shelf.contents heard)
+  pub said : List Sent
+  pub last : IsLast status said
+  pub went : Went (outline words heard) said before status now
+  pub complete : IsSomeAnd (request_of words) (λ request. IsReady request heard)
+      → new ≡ old → AreLow old → (status ≡ Done) ⊎ (status ≡ Memory)

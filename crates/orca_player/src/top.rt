@@ -3,7 +3,8 @@ ghost use Rattle.orca_base.specs.declared.limits.TheConstants.{MAX_FILE_BYTES};
 ghost use Rattle.orca_cues.specs.Scripts.{script_of};
 ghost use Rattle.orca_grid.specs.GridText.{grid_text};
 ghost use Rattle.orca_player.specs.Outlines.{Heard, after, grid_outline, loaded_script, made_outline, script_outline, standing_at, with_grid, work_outline};
-ghost use Rattle.orca_player.specs.Running.{AreLow, HearsScript, IsCaused, IsTextOf, Ran, ReportsNoFault, Went, WentFor, WentSo, counts, refused_status};
+ghost use Rattle.orca_player.specs.Laws.{CutsAlike, ReplaysAlike};
+ghost use Rattle.orca_player.specs.Running.{HearsScript, IsCaused, IsTextOf, Ran, Went, WentFor, WentSo, counts, refused_status};
 ghost use Rattle.orca_rig.specs.Outside.Ask.{Load};
 ghost use Rattle.orca_send.specs.Sending.{RecordsFaults};
 ghost use Rattle.orca_stage.specs.Acts.Act.{Store};
@@ -64,19 +65,24 @@ pub fn run<F: Files, O: Outs, I: Inbox, L: Ledger>(
     // All of the outline of the words was done, in order, and how it ended: every grid is that of a
     // full scan of every cell, folded over what the history keeps, and every message is of its
     // events. A device that is sent all MIDI messages has exactly the keys of the notes that sound.
+    // Without a fault of the outside it is done whole wherever that can be.
     ensures ran { Ran (map string_bytes words.now.items)
         (told (O.handed outs.old) (O.attached outs.old) (F.asked files.old) (F.contents files.old)
-        (F.faults files.old) (I.log inbox.old)) result
+        (F.faults files.old) (I.log inbox.old))
+        (counts (F.faults files.old) (O.faults outs.old) (I.faults inbox.old)) result
         (told (O.handed outs.new) (O.attached outs.new) (F.asked files.new) (F.contents files.new)
-        (F.faults files.new) (I.log inbox.new)) }
+        (F.faults files.new) (I.log inbox.new))
+        (counts (F.faults files.new) (O.faults outs.new) (I.faults inbox.new)) }
 
-    // A fault of the outside is reported only if its count rose, and without one none is.
+    // A fault of the outside is reported only if its count rose.
     ensures causes { IsCaused result
         (counts (F.faults files.old) (O.faults outs.old) (I.faults inbox.old))
         (counts (F.faults files.new) (O.faults outs.new) (I.faults inbox.new)) }
-    ensures complete { let old = counts (F.faults files.old) (O.faults outs.old) (I.faults inbox.old) in
-        counts (F.faults files.new) (O.faults outs.new) (I.faults inbox.new) ≡ old
-        → AreLow old → ReportsNoFault result }
+
+    // How the bytes of a performance are cut into answers changes no command, no state at last, and
+    // no saved script; and a replay of that script ends in the same session.
+    ensures cutting { CutsAlike (map string_bytes words.now.items) }
+    ensures replays { ReplaysAlike (map string_bytes words.now.items) }
 {
     let status = work(alloc, words, files, outs, inbox, steps);
     end(alloc, outs, status)

@@ -98,7 +98,8 @@ cut_handing {hands = hands} {s = s} {t = t} {messages = ms} {said = said} u x y 
       left = gives some.0 ++ Stand t ∷ gives said;
       splits = is.acts
           ∙ (ap (λ (sends : List Sent). gives sends ++ Stand t ∷ gives said) some.1.splits
-          ∙ (ap (λ (acts : List Act). acts ++ Stand t ∷ gives said) (map-append Give some.1.done some.0)
+          ∙ (ap (λ (acts : List Act). acts ++ Stand t ∷ gives said)
+          (map-append Give some.1.done some.0)
           ∙ append_assoc (gives some.1.done) (gives some.0) (Stand t ∷ gives said)));
       made = some.1.made ∙ ap (added x) (sym (given-gives some.1.done));
       sends = AreSends-gives some.1.done;

@@ -97,11 +97,13 @@ pub made_twice : {xs ys : List Act} {r s t : Told} → Made xs r s → Made ys s
 made_twice {xs = xs} {ys = ys} {r = r} {s = s} {t = t} first second = record {
   handed = second.handed
       ∙ (ap (λ (h : Option (List Sent)). added h (given ys)) first.handed
-      ∙ (added_twice r.handed (given xs) (given ys) ∙ ap (added r.handed) (sym (given-append xs ys))));
+      ∙ (added_twice r.handed (given xs) (given ys)
+      ∙ ap (added r.handed) (sym (given-append xs ys))));
   attached = second.attached
       ∙ (ap (option_map (λ (names : List Attached). names ++ attached_in ys)) first.attached
       ∙ (told_twice r.attached (attached_in xs) (attached_in ys)
-      ∙ ap (λ (more : List Attached). option_map (λ (names : List Attached). names ++ more) r.attached)
+      ∙ ap (λ (more : List Attached).
+      option_map (λ (names : List Attached). names ++ more) r.attached)
       (sym (attached_in-append xs ys))));
   asked = second.asked
       ∙ (ap (option_map (λ (asks : List Ask). asks ++ asked_in ys)) first.asked
@@ -175,10 +177,11 @@ made_sends acts told handed sends made =
     record {
       handed = made;
       attached = told_none told.attached
-          ∙ ap (λ (more : List Attached). option_map (λ (names : List Attached). names ++ more) told.attached)
-          (sym no_name);
+          ∙ ap (λ (more : List Attached).
+          option_map (λ (names : List Attached). names ++ more) told.attached) (sym no_name);
       asked = told_none told.asked
-          ∙ ap (λ (more : List Ask). option_map (λ (asks : List Ask). asks ++ more) told.asked) (sym no_ask);
+          ∙ ap (λ (more : List Ask).
+          option_map (λ (asks : List Ask). asks ++ more) told.asked) (sym no_ask);
       shelf = subst (λ (asks : List Ask). AreLeft asks told.shelf told.shelf) (sym no_ask) refl;
       log = log_of_sends acts told.log sends;
       counted = counted_sends told.handed acts sends;

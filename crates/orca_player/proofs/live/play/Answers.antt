@@ -1,4 +1,4 @@
-use Rattle.std.proofs.Common.{ap, refl, sym, ◌∙◌}
+use Rattle.std.proofs.Common.{ap, refl, ◌∙◌}
 use Rattle.std.specs.Prelude.{Some, None, Ok, []}
 use Rattle.orca_live.specs.States.{setting_in, state_of}
 use Rattle.orca_send.proofs.FaultLemmas.{recorded_twice}

@@ -1,4 +1,4 @@
-use Rattle.std.proofs.Common.{refl, ap, ◌∙◌}
+use Rattle.std.proofs.Common.{refl}
 use Rattle.orca_player.proofs.CallLemmas.{attach_made, calls_given_up, calls_made, calls_none}
 use Rattle.orca_player.proofs.opening.attach.Goals as goal
 

@@ -6,7 +6,8 @@ use Rattle.orca_stage.proofs.stage.do_command.Goals as goal
 pub returns-in_err-answer-clause-did : goal.returns-in_err-answer-clause-did
 returns-in_err-answer-clause-did g c =
     did_err _ _ _ _ _ _ _ _ c.from_residual.ensures.1
-    (command_given_up _ _ _ _ _ _ (given_up_by _ _ c.act-acted.ensures.acts c.in_err-answer.ensures))
+    (command_given_up _ _ _ _ _ _
+    (given_up_by _ _ c.act-acted.ensures.acts c.in_err-answer.ensures))
 
 -- a send of a message was
 pub returns-in_err-hand-clause-did : goal.returns-in_err-hand-clause-did
