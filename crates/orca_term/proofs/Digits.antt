@@ -12,7 +12,8 @@ decimal_short n small = length-decimal-le 10 n (omega arith) (omega arith) (omeg
 -- the same without its last digit
 pub decimal_front : (n : ℕ) → n < 2 ^ 32 → length (decimal (n / 10)) < MAX_DIGITS
 decimal_front n small =
-    let fits : length (decimal (n / 10)) ≤ 9 = length-decimal-le 9 (n / 10) (omega arith) (omega arith) (omega arith) in
+    let fits : length (decimal (n / 10)) ≤ 9 =
+    length-decimal-le 9 (n / 10) (omega arith) (omega arith) (omega arith) in
     omega arith
 
 -- a number of a form

@@ -30,20 +30,28 @@ nothing_first : (o : Option (List Form)) → o ≡ option_map (λ rest. [] ++ re
 nothing_first None = refl
 nothing_first (Some forms) = refl
 
-one_first : (form : Form) (forms : List Form) (o : Option (List Form)) → option_map (λ rest. form ∷ rest) (option_map (λ rest. forms ++ rest) o) ≡ option_map (λ rest. (form ∷ forms) ++ rest) o
+one_first : (form : Form) (forms : List Form) (o : Option (List Form))
+    → option_map (λ rest. form ∷ rest) (option_map (λ rest. forms ++ rest) o) ≡ option_map
+    (λ rest. (form ∷ forms) ++ rest) o
 one_first form forms None = refl
 one_first form forms (Some rest) = refl
 
-step-append : (s : Step) (a b : List ℕ) (forms : List Form) → ((r : Reading) (fs : List Form) → forms_from r a ≡ Some fs → forms_from r (a ++ b) ≡ Follows fs b) → forms_after s (λ next. forms_from next a) ≡ Some forms → forms_after s (λ next. forms_from next (a ++ b)) ≡ Follows forms b
+step-append : (s : Step) (a b : List ℕ) (forms : List Form)
+    → ((r : Reading) (fs : List Form) → forms_from r a ≡ Some fs
+    → forms_from r (a ++ b) ≡ Follows fs b) → forms_after s (λ next. forms_from next a) ≡ Some forms
+    → forms_after s (λ next. forms_from next (a ++ b)) ≡ Follows forms b
 step-append (Goes next) a b forms rest e = rest next forms e
 step-append (Gives form) a b forms rest e =
     let parts = unmapped form (forms_from Ready a) forms e in
-    ap (option_map (λ fs. form ∷ fs)) (rest Ready parts.0 parts.1) ∙ (one_first form parts.0 (forms_of b) ∙ ap (λ fs. Follows fs b) (sym parts.2))
+    ap (option_map (λ fs. form ∷ fs)) (rest Ready parts.0 parts.1)
+    ∙ (one_first form parts.0 (forms_of b) ∙ ap (λ fs. Follows fs b) (sym parts.2))
 step-append Breaks a b forms rest e = cc
 
-forms-append : (a b : List ℕ) (r : Reading) (forms : List Form) → forms_from r a ≡ Some forms → forms_from r (a ++ b) ≡ Follows forms b
+forms-append : (a b : List ℕ) (r : Reading) (forms : List Form) → forms_from r a ≡ Some forms
+    → forms_from r (a ++ b) ≡ Follows forms b
 unfolding forms_from
-forms-append [] b Ready forms e = nothing_first (forms_of b) ∙ ap (λ fs. Follows fs b) (ready_none forms e)
+forms-append [] b Ready forms e =
+    nothing_first (forms_of b) ∙ ap (λ fs. Follows fs b) (ready_none forms e)
   where
     ready_none : (forms : List Form) → Some [] ≡ Some forms → [] ≡ forms
     ready_none forms e = cc
@@ -51,20 +59,25 @@ forms-append [] b Escaped forms e = cc
 forms-append [] b (First number) forms e = cc
 forms-append [] b (Second row number) forms e = cc
 forms-append (x ∷ a) b r forms e =
-    forms_from-more r x (a ++ b) ∙ step-append (read r x) a b forms (λ next fs h. forms-append a b next fs h) (sym (forms_from-more r x a) ∙ e)
+    forms_from-more r x (a ++ b)
+    ∙ step-append (read r x) a b forms (λ next fs h. forms-append a b next fs h)
+    (sym (forms_from-more r x a) ∙ e)
 
 -- forms leave the size and the number of cells
-size-after_form : (t : Terminal) (form : Form) → ((after_form t form).size ≡ t.size) × (length (after_form t form).cells ≡ length t.cells)
+size-after_form : (t : Terminal) (form : Form)
+    → ((after_form t form).size ≡ t.size) × (length (after_form t form).cells ≡ length t.cells)
 unfolding after_form
 size-after_form t (GoTo row column) = (refl, refl)
 size-after_form t (Style style) = (refl, refl)
 size-after_form t (Show byte) = by_place (is_on_cell t)
   where
-    by_place : (b : Bool) → ((cond b (with_byte t byte) t).size ≡ t.size) × (length (cond b (with_byte t byte) t).cells ≡ length t.cells)
+    by_place : (b : Bool) → ((cond b (with_byte t byte) t).size ≡ t.size)
+        × (length (cond b (with_byte t byte) t).cells ≡ length t.cells)
     by_place true = (refl, length-set t.cells _ _)
     by_place false = (refl, refl)
 
-size-after : (t : Terminal) (forms : List Form) → ((after_forms t forms).size ≡ t.size) × (length (after_forms t forms).cells ≡ length t.cells)
+size-after : (t : Terminal) (forms : List Form)
+    → ((after_forms t forms).size ≡ t.size) × (length (after_forms t forms).cells ≡ length t.cells)
 unfolding after_forms
 size-after t [] = (refl, refl)
 size-after t (form ∷ forms) =
@@ -80,20 +93,25 @@ cell_same : (a b : Cell) → Decides (is_same_cell a b) (a ≡ b)
 cell_same a b = (
   λ e.
       let parts = and_parts _ _ e in
-      ap (λ (n : ℕ). let c : Cell = record { byte = n; style = a.style } in c) (eqb-true a.byte b.byte parts.0)
-      ∙ ap (λ (n : ℕ). let c : Cell = record { byte = b.byte; style = n } in c) (eqb-true a.style b.style parts.1),
-  λ e. and_from _ _ (eq-eqb a.byte b.byte (ap (λ (c : Cell). c.byte) e)) (eq-eqb a.style b.style (ap (λ (c : Cell). c.style) e)),
+      ap (λ (n : ℕ). let c : Cell = record { byte = n; style = a.style } in c)
+      (eqb-true a.byte b.byte parts.0)
+      ∙ ap (λ (n : ℕ). let c : Cell = record { byte = b.byte; style = n } in c)
+      (eqb-true a.style b.style parts.1),
+  λ e. and_from _ _ (eq-eqb a.byte b.byte (ap (λ (c : Cell). c.byte) e))
+      (eq-eqb a.style b.style (ap (λ (c : Cell). c.style) e)),
 )
 
 pub rows_same : (xs ys : List Cell) → Decides (pointwise is_same_cell xs ys) (xs ≡ ys)
 rows_same xs ys = slice_eq-Decides cell_same xs ys (pointwise is_same_cell xs ys) refl
 
 -- a row that isn't painted is the same in the last picture
-pub unpainted : (d : ScreenSize) (old cells : List Cell) (y : ℕ) → is_painted d (Some old) cells y ≡ false → row_of d old y ≡ row_of d cells y
+pub unpainted : (d : ScreenSize) (old cells : List Cell) (y : ℕ)
+    → is_painted d (Some old) cells y ≡ false → row_of d old y ≡ row_of d cells y
 unpainted d old cells y kept = (rows_same (row_of d old y) (row_of d cells y)).0 (not-false _ kept)
 
 -- after these forms the fresh terminal holds what has to be covered
-record Ready_for (d : ScreenSize) (last : Option (List Cell)) (cells : List Cell) (sent : List ℕ) : Type 0 where
+record Ready_for (d : ScreenSize) (last : Option (List Cell)) (cells : List Cell)
+    (sent : List ℕ) : Type 0 where
   forms : List Form
   old : List Cell
   whole : forms_of sent ≡ Some forms
@@ -101,7 +119,8 @@ record Ready_for (d : ScreenSize) (last : Option (List Cell)) (cells : List Cell
   holds : Holds (after_forms (fresh d) forms) d old
   covers : Covers d last old cells
 
-ready : (d : ScreenSize) (last : Option (List Cell)) (cells : List Cell) (sent : List ℕ) → Shows d sent last → Ready_for d last cells sent
+ready : (d : ScreenSize) (last : Option (List Cell)) (cells : List Cell) (sent : List ℕ)
+    → Shows d sent last → Ready_for d last cells sent
 unfolding after_forms forms_from
 ready d None cells sent nothing = record {
   forms = [];
@@ -114,7 +133,9 @@ ready d None cells sent nothing = record {
 ready d (Some old) cells sent shows =
     let some = some_of (forms_of sent) shows.0 in
     let size = size-after (fresh d) some.0 in
-    let cells_are : (after_forms (fresh d) some.0).cells ≡ old = ap (λ (o : Option (List Form)). (after_forms (fresh d) (unwrap_or o [])).cells) (sym some.1) ∙ shows.1 in
+    let cells_are : (after_forms (fresh d) some.0).cells ≡ old =
+    ap (λ (o : Option (List Form)). (after_forms (fresh d) (unwrap_or o [])).cells) (sym some.1)
+    ∙ shows.1 in
     record {
       forms = some.0;
       old = old;
@@ -125,12 +146,21 @@ ready d (Some old) cells sent shows =
     }
 
 -- after one more painting the terminal shows its picture
-pub sent-more : (d : ScreenSize) (last : Option (List Cell)) (cells : List Cell) (sent : List ℕ) → length cells ≡ screen_cells d → forms_of (painting_bytes d last cells) ≡ Some (painting d last cells) → Shows d sent last → Shows d (sent ++ painting_bytes d last cells) (Some cells)
+pub sent-more : (d : ScreenSize) (last : Option (List Cell)) (cells : List Cell) (sent : List ℕ)
+    → length cells ≡ screen_cells d
+    → forms_of (painting_bytes d last cells) ≡ Some (painting d last cells) → Shows d sent last
+    → Shows d (sent ++ painting_bytes d last cells) (Some cells)
 sent-more d last cells sent whole read shows =
     let before = ready d last cells sent shows in
-    let forms : forms_of (sent ++ painting_bytes d last cells) ≡ Some (before.forms ++ painting d last cells) =
-    forms-append sent (painting_bytes d last cells) Ready before.forms before.whole ∙ ap (option_map (λ rest. before.forms ++ rest)) read in
-    let after = after-painting d last before.old cells (after_forms (fresh d) before.forms) before.len whole before.covers before.holds in (
+    let forms : forms_of (sent ++ painting_bytes d last cells) ≡ Some
+    (before.forms ++ painting d last cells) =
+    forms-append sent (painting_bytes d last cells) Ready before.forms before.whole
+    ∙ ap (option_map (λ rest. before.forms ++ rest)) read in
+    let after =
+    after-painting d last before.old cells (after_forms (fresh d) before.forms) before.len whole
+    before.covers before.holds in (
       ap is_some forms,
-      ap (λ (o : Option (List Form)). (after_forms (fresh d) (unwrap_or o [])).cells) forms ∙ (ap (λ (t : Terminal). t.cells) (after-append (fresh d) before.forms (painting d last cells)) ∙ after.cells),
+      ap (λ (o : Option (List Form)). (after_forms (fresh d) (unwrap_or o [])).cells) forms
+          ∙ (ap (λ (t : Terminal). t.cells)
+          (after-append (fresh d) before.forms (painting d last cells)) ∙ after.cells),
     )

@@ -41,7 +41,8 @@ editor_inside d e = cut_to_grid d (with_cursor e (min e.y (d.h - 1)) (min e.x (d
 
 -- the selection of this size where that stays in the grid, and the same one otherwise
 abbrev pub with_selection_inside : Size → Editor → ℕ → ℕ → Editor
-with_selection_inside d e h w = if nat_le (e.y + h) d.h && nat_le (e.x + w) d.w then with_selection e h w else e
+with_selection_inside d e h w =
+    if nat_le (e.y + h) d.h && nat_le (e.x + w) d.w then with_selection e h w else e
 
 -- what a key makes of the editor in a grid of this size. The cursor moves by one inside the grid
 abbrev pub editor_after : Key → Size → Editor → Editor

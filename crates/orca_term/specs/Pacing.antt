@@ -15,8 +15,9 @@ interval bpm = MINUTE_MICROSECONDS / (BEAT_FRAMES * bpm)
 abbrev pub due_from : ℕ → ℕ → ℕ
 due_from interval at = min (at + interval) (2 ^ 64 - 1)
 
--- after a frame that was played at a moment: an interval after the moment at which it was due, or, where that isn't after
--- `at`, an interval after `at`
+-- after a frame that was played at a moment: an interval after the moment at which it was due, or,
+-- where that isn't after `at`, an interval after `at`
 abbrev pub due_after : Pace → ℕ → ℕ
 due_after pace at =
-    if nat_lt at (due_from pace.interval pace.due) then due_from pace.interval pace.due else due_from pace.interval at
+    let next = due_from pace.interval pace.due in
+    if nat_lt at next then next else due_from pace.interval at

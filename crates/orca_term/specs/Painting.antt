@@ -1,5 +1,5 @@
--- The painting: what a terminal is sent so that it shows a new picture. The rows that differ from the last picture are painted,
--- from the first down, and all rows where there was none.
+-- The painting: what a terminal is sent so that it shows a new picture. The rows that differ from
+-- the last picture are painted, from the first down, and all rows where there was none.
 use Rattle.std.specs.Prelude.{ℕ, ◌+◌, ◌*◌, ◌==◌, Bool, true, not, ◌&&◌, if◌then◌else◌, Option, Some, None, List, [], ◌∷◌, ◌++◌, take, drop}
 use Rattle.std.specs.Cmp.Lexicographic.{pointwise}
 use Rattle.std.specs.List.{flat_map, range_with_len}
@@ -23,14 +23,18 @@ abbrev pub is_painted : ScreenSize → Option (List Cell) → List Cell → ℕ 
 is_painted d None cells y = true
 is_painted d (Some last) cells y = not (pointwise is_same_cell (row_of d last y) (row_of d cells y))
 
--- what changes the style that is in force: nothing where it stays, and else no style and then the new one
+-- what changes the style that is in force: nothing where it stays, and else no style and then the
+-- new one
 unfoldable pub style_change : ℕ → ℕ → List Form
-style_change old new = if old == new then [] else (if new == plain then Style plain ∷ [] else Style plain ∷ Style new ∷ [])
+style_change old new =
+    if old == new then []
+    else (if new == plain then Style plain ∷ [] else Style plain ∷ Style new ∷ [])
 
 -- cells, from the left, where a style is in force before them
 unfoldable pub painted_cells : ℕ → List Cell → List Form
 painted_cells style [] = []
-painted_cells style (cell ∷ cells) = style_change style cell.style ++ Show cell.byte ∷ painted_cells cell.style cells
+painted_cells style (cell ∷ cells) =
+    style_change style cell.style ++ Show cell.byte ∷ painted_cells cell.style cells
 
 -- row y, counted from 0, with these cells
 unfoldable pub painted_row : ℕ → List Cell → List Form
@@ -38,7 +42,8 @@ painted_row y cells = GoTo (y + 1) 1 ∷ Style plain ∷ painted_cells plain cel
 
 -- row y where it is painted
 abbrev pub forms_of_row : ScreenSize → Option (List Cell) → List Cell → ℕ → List Form
-forms_of_row d last cells y = if is_painted d last cells y then painted_row y (row_of d cells y) else []
+forms_of_row d last cells y =
+    if is_painted d last cells y then painted_row y (row_of d cells y) else []
 
 -- the painting of these cells after the last picture, or after none
 unfoldable pub painting : ScreenSize → Option (List Cell) → List Cell → List Form

@@ -1,5 +1,5 @@
--- The picture: of each cell of the screen its byte and its style. The last row is the status line, and the others are a window
--- on the grid. Styles are those of ECMA-48, select graphic rendition.
+-- The picture: of each cell of the screen its byte and its style. The last row is the status line,
+-- and the others are a window on the grid. Styles are those of ECMA-48, select graphic rendition.
 use Rattle.std.specs.Prelude.{ℕ, ◌+◌, ◌-◌, ◌*◌, ◌/◌, ◌%◌, ◌≤◌, ◌==◌, Bool, true, false, ◌||◌, if◌then◌else◌, Option, Some, None, List, ◌++◌, map, codes, slice_index_or}
 use Rattle.std.specs.Fmt.{decimal}
 use Rattle.std.specs.List.{range_with_len}
@@ -72,8 +72,8 @@ blank = record { byte = space; style = plain }
 abbrev pub marks_at : Scene → Place → MarkSet
 marks_at scene at = slice_index_or scene.marks (index_of scene.sheet.dims at) no_marks
 
--- the style of a place with these marks and this glyph: the first of these that holds. It lies in the selection; it carries
--- Output; it carries Input; it carries Lock or Sleep, or is empty
+-- the style of a place with these marks and this glyph: the first of these that holds. It lies in
+-- the selection; it carries Output; it carries Input; it carries Lock or Sleep, or is empty
 abbrev pub style_by : Bool → MarkSet → ℕ → ℕ
 style_by selected marks glyph =
     if selected then reversed
@@ -81,21 +81,23 @@ style_by selected marks glyph =
     else (if marks.input then underlined
     else (if marks.lock || marks.sleep || glyph == empty then faint else plain)))
 
+abbrev pub style_at : Scene → Place → ℕ
+style_at scene at =
+    style_by (is_in_area (area_of scene.editor) at) (marks_at scene at) (glyph_at scene.sheet at)
+
 -- the cell of a place; outside the grid it is blank
 unfoldable pub grid_cell : Scene → Place → Cell
 grid_cell scene at =
     if is_inside scene.sheet.dims at
-    then record {
-      byte = glyph_at scene.sheet at;
-      style = style_by (is_in_area (area_of scene.editor) at) (marks_at scene at) (glyph_at scene.sheet at);
-    }
+    then record { byte = glyph_at scene.sheet at; style = style_at scene at }
     else blank
 
 -- the start of the page of so many that a number lies on
 abbrev pub page_of : ℕ → ℕ → ℕ
 page_of side n = n / side * side
 
--- the place that a cell of the window shows: the window is the page of the grid on which the cursor lies
+-- the place that a cell of the window shows: the window is the page of the grid on which the cursor
+-- lies
 abbrev pub window_place : ScreenSize → Editor → ℕ → ℕ → Place
 window_place d e y x = record { y = page_of (d.rows - 1) e.y + y; x = page_of d.columns e.x + x }
 
@@ -112,16 +114,21 @@ note_word (Some rule) = rule_name rule
 -- the text of the status line
 unfoldable pub status_text : Editor → StatusLine → List ℕ
 status_text e line =
-    decimal line.tick ++ codes " " ++ decimal line.moments ++ codes " " ++ decimal line.sounding ++ codes " " ++ decimal e.y ++ codes "," ++ decimal e.x ++ codes " " ++ decimal e.h ++ codes "x" ++ decimal e.w ++ codes " " ++ state_word e.paused ++ codes " " ++ note_word line.note
+    decimal line.tick ++ codes " " ++ decimal line.moments ++ codes " " ++ decimal line.sounding
+    ++ codes " " ++ decimal e.y ++ codes "," ++ decimal e.x
+    ++ codes " " ++ decimal e.h ++ codes "x" ++ decimal e.w
+    ++ codes " " ++ state_word e.paused ++ codes " " ++ note_word line.note
 
--- the cell of a column of the status line: the text is cut at the last column, or filled with spaces
+-- the cell of a column of the status line: the text is cut at the last column, or filled with
+-- spaces
 abbrev pub status_cell : List ℕ → ℕ → Cell
 status_cell text x = record { byte = slice_index_or text x space; style = plain }
 
 -- the cell of a row and a column of the screen, whose status line has this text
 unfoldable pub cell_of : ScreenSize → Scene → List ℕ → ℕ → ℕ → Cell
 cell_of d scene text y x =
-    if y + 1 == d.rows then status_cell text x else grid_cell scene (window_place d scene.editor y x)
+    if y + 1 == d.rows then status_cell text x
+    else grid_cell scene (window_place d scene.editor y x)
 
 -- the same by its number in reading order
 abbrev pub cell_at : ScreenSize → Scene → List ℕ → ℕ → Cell
@@ -129,4 +136,5 @@ cell_at d scene text n = cell_of d scene text (n / d.columns) (n % d.columns)
 
 -- the cells of the screen, in reading order
 unfoldable pub picture : ScreenSize → Scene → StatusLine → List Cell
-picture d scene line = map (cell_at d scene (status_text scene.editor line)) (range_with_len 0 (screen_cells d))
+picture d scene line =
+    map (cell_at d scene (status_text scene.editor line)) (range_with_len 0 (screen_cells d))

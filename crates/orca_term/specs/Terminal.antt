@@ -1,4 +1,5 @@
--- The small terminal: cells, a cursor and a style. Forms move the cursor, set the style, or show a byte in the cell at the cursor.
+-- The small terminal: cells, a cursor and a style. Forms move the cursor, set the style, or show a
+-- byte in the cell at the cursor.
 use Rattle.std.specs.Prelude.{ℕ, ◌+◌, ◌-◌, ◌*◌, Bool, ◌&&◌, nat_lt, if◌then◌else◌, List, [], fold, replicate, slice_set, slice_index_or, unwrap_or, IsSome}
 use Rattle.orca_term.specs.Forms.{forms_of}
 use Rattle.orca_term.specs.Picture.{blank, plain, screen_cells}
@@ -7,7 +8,8 @@ use Rattle.orca_term.specs.declared.cell.ScreenSize.{ScreenSize}
 use Rattle.orca_term.specs.declared.forms.Form.{Form}
 use Rattle.orca_term.specs.declared.forms.Form.TheVariants.{GoTo, Style, Show}
 
--- the size, the cells in reading order, the row and the column of the cursor, counted from 0, and the style that is in force
+-- the size, the cells in reading order, the row and the column of the cursor, counted from 0, and
+-- the style that is in force
 pub record Terminal : Type 0 where
   pub size : ScreenSize
   pub cells : List Cell
@@ -23,7 +25,8 @@ fresh d = record { size = d; cells = replicate (screen_cells d) blank; y = 0; x 
 abbrev pub is_on_cell : Terminal → Bool
 is_on_cell t = nat_lt t.y t.size.rows && nat_lt t.x t.size.columns
 
--- the byte stands in the cell at the cursor, with the style that is in force, and the cursor goes one to the right
+-- the byte stands in the cell at the cursor, with the style that is in force, and the cursor goes
+-- one to the right
 abbrev pub with_byte : Terminal → ℕ → Terminal
 with_byte t byte = record t {
   cells = slice_set t.cells (t.y * t.size.columns + t.x) (record { byte = byte; style = t.style });

@@ -1,5 +1,5 @@
--- What a view is: the size of the screen, the last picture that was painted, if any, and the bytes of that painting. And what a
--- small terminal shows that was sent all paintings so far.
+-- What a view is: the size of the screen, the last picture that was painted, if any, and the bytes
+-- of that painting. And what a small terminal shows that was sent all paintings so far.
 use Rattle.std.specs.Prelude.{ℕ, ◌≡◌, Option, Some, None, List, []}
 use Rattle.orca_term.specs.Forms.{bytes_of}
 use Rattle.orca_term.specs.Painting.{painting}
@@ -16,8 +16,8 @@ pub record Seen : Type 0 where
 abbrev pub painting_bytes : ScreenSize → Option (List Cell) → List Cell → List ℕ
 painting_bytes d last cells = bytes_of (painting d last cells)
 
--- the bytes that were sent so far are whole forms, and after them the small terminal shows the last picture; before the first
--- painting nothing was sent
+-- the bytes that were sent so far are whole forms, and after them the small terminal shows the last
+-- picture; before the first painting nothing was sent
 abbrev pub Shows : ScreenSize → List ℕ → Option (List Cell) → Type 0
 Shows d sent None = sent ≡ []
 Shows d sent (Some cells) = IsWhole sent × ((terminal_after d sent).cells ≡ cells)

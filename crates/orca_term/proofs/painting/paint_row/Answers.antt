@@ -11,13 +11,26 @@ loop-cell-init c = record { bytes = refl; short = omega arith; room = omega arit
 
 pub loop-cell-preserved : goal.loop-cell-preserved
 loop-cell-preserved c = record {
-  bytes = rw (c.push_reserved.ensures.items, c.restyle.ensures.style) (cell_more c.loop-cell.style c.args.cells.now c.loop-cell.cell-index _ c.loop-cell.bytes.items _ (omega arith) c.loop-cell.invariant.bytes);
+  bytes =
+      rw (c.push_reserved.ensures.items, c.restyle.ensures.style)
+      (cell_more c.loop-cell.style c.args.cells.now c.loop-cell.cell-index _ c.loop-cell.bytes.items
+      _ (omega arith) c.loop-cell.invariant.bytes);
   short = omega arith;
   room = omega arith;
 }
 
 pub returns-clause-row : goal.returns-clause-row
 returns-clause-row c =
-    let all = cells_all c.loop-cell.style c.args.cells.now c.loop-cell.cell-index c.loop-cell.bytes.items _ (omega arith) c.loop-cell.invariant.bytes in
-    rw (all, c.push_all-2.ensures.bytes, c.push_number.ensures.number, c.push_all.ensures.bytes, c.from.ensures, painted_row-bytes c.args.y c.args.cells.now)
-    (joined c.args.bytes.now.items introducer (decimal (c.args.y + 1)) (59 ∷ 49 ∷ 72 ∷ plain_bytes) (bytes_of (painted_cells 0 c.args.cells.now)))
+    let all =
+    cells_all c.loop-cell.style c.args.cells.now c.loop-cell.cell-index c.loop-cell.bytes.items
+    _ (omega arith) c.loop-cell.invariant.bytes in
+    rw (
+      all,
+      c.push_all-2.ensures.bytes,
+      c.push_number.ensures.number,
+      c.push_all.ensures.bytes,
+      c.from.ensures,
+      painted_row-bytes c.args.y c.args.cells.now,
+    )
+    (joined c.args.bytes.now.items introducer (decimal (c.args.y + 1)) (59 ∷ 49 ∷ 72 ∷ plain_bytes)
+    (bytes_of (painted_cells 0 c.args.cells.now)))

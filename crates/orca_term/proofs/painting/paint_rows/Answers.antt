@@ -8,7 +8,11 @@ use Rattle.orca_term.proofs.painting.paint_rows.Goals as goal
 use Rattle.orca_term.proofs.painting.paint_rows.Goals.{then-is_painted, else-is_painted}
 
 pub loop-y-init : goal.loop-y-init
-loop-y-init c = record { bytes = c.clear.ensures.items ∙ sym bytes_of-nil; short = omega arith; room = c.clear.ensures.capacity }
+loop-y-init c = record {
+  bytes = c.clear.ensures.items ∙ sym bytes_of-nil;
+  short = omega arith;
+  room = c.clear.ensures.capacity;
+}
 
 pub loop-y-preserved : goal.loop-y-preserved
 loop-y-preserved c =
@@ -18,16 +22,30 @@ loop-y-preserved c =
     let more = rows_more (forms_of_row d last cells) c.loop-y.y in
     elim c.if-is_painted.branch [
       | then-is_painted w ↦
-          let painted = cond-true _ (painted_row c.loop-y.y (row_of d cells c.loop-y.y)) [] (sym c.is_painted.ensures ∙ w.if-is_painted.true) in
+          let painted =
+          cond-true _ (painted_row c.loop-y.y (row_of d cells c.loop-y.y)) []
+          (sym c.is_painted.ensures ∙ w.if-is_painted.true) in
           record {
-            bytes = rw (w.bytes-is, w.paint_row.ensures.row, w.row_of.ensures.row, c.loop-y.invariant.bytes, more, painted) refl;
+            bytes =
+                rw (
+                  w.bytes-is,
+                  w.paint_row.ensures.row,
+                  w.row_of.ensures.row,
+                  c.loop-y.invariant.bytes,
+                  more,
+                  painted,
+                ) refl;
             short = rw w.bytes-is (omega arith);
             room = rw w.bytes-is (omega arith);
           }
       | else-is_painted w ↦
-          let kept = cond-false _ (painted_row c.loop-y.y (row_of d cells c.loop-y.y)) [] (sym c.is_painted.ensures ∙ w.if-is_painted.false) in
+          let kept =
+          cond-false _ (painted_row c.loop-y.y (row_of d cells c.loop-y.y)) []
+          (sym c.is_painted.ensures ∙ w.if-is_painted.false) in
           record {
-            bytes = rw (w.bytes-is, c.loop-y.invariant.bytes, more, kept, bytes_of-nil) (sym (append-nil _));
+            bytes =
+                rw (w.bytes-is, c.loop-y.invariant.bytes, more, kept, bytes_of-nil)
+                (sym (append-nil _));
             short = rw w.bytes-is (omega arith);
             room = rw w.bytes-is (omega arith);
           }

@@ -8,7 +8,8 @@ use Rattle.orca_term.proofs.painting.paint_rows.Given as goal
 
 abbrev pub invariant-loop-y : goal.invariant-loop-y
 invariant-loop-y l = record {
-  bytes : l.bytes.items ≡ bytes_of (flat_map (forms_of_row l.size (option_copied l.last) l.cells) (range_with_len 0 l.y));
+  bytes : l.bytes.items ≡ bytes_of
+      (flat_map (forms_of_row l.size (option_copied l.last) l.cells) (range_with_len 0 l.y));
   short : vec_len l.bytes ≤ l.y * row_room l.size;
   room : vec_capacity l.bytes ≡ vec_capacity l.fn.bytes;
 }
