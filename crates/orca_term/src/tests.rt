@@ -1,5 +1,8 @@
 //! Keys by their bytes, the editor, the pacer, and what is painted and shown.
 
+mod bytes;
+mod pictures;
+
 ghost use Rattle.std.specs.Prelude.{◌≤◌};
 ghost use Rattle.orca_base.specs.declared.limits.TheConstants.{MIN_SCREEN_ROWS, MAX_SCREEN_ROWS, MIN_SCREEN_COLUMNS, MAX_SCREEN_COLUMNS};
 
@@ -229,9 +232,13 @@ fn keys_that_ask(rt: HostRuntime) {
 fn an_editor_is_fitted(rt: HostRuntime) {
     let mut editor = Editor::start();
     assert!(rt; editor == editor_at(0, 0, 1, 1));
-    assert!(rt;
-        editor.key(Key::Back, dims_of(&rt, 1, 1), 15) == Act::Do(Command::Rewind { moment: 0 })
-    );
+    for (moments, moment) in [(0, 0), (15, 0), (16, 0), (17, 1)] {
+        let act = Editor::start().key(Key::Back, dims_of(&rt, 1, 1), moments);
+        assert!(rt;
+            act == Act::Do(Command::Rewind { moment }),
+            "{moments}: {act:?}"
+        );
+    }
     editor = editor_at(7, 1, 3, 9);
     editor.fit(dims_of(&rt, 9, 4));
     assert!(rt; editor == editor_at(7, 1, 2, 3));
@@ -249,10 +256,17 @@ fn frames_are_due(rt: HostRuntime) {
         (374_999, 375_000),
         (500_000, 625_000),
         (1_125_000, 1_250_000),
+        // Before it is due, at the moment, a microsecond after it, and two intervals after it.
+        (1_240_000, 1_375_000),
+        (1_375_000, 1_500_000),
+        (1_500_001, 1_625_000),
+        (1_875_000, 2_000_000),
     ] {
         pacer.fired(at);
         assert!(rt; pacer.due_at() == due, "{at}: {}", pacer.due_at());
     }
+    // A pacer that starts anew within an interval.
+    assert!(rt; Pacer::start(60_000, 120).due_at() == 185_000);
     assert!(rt; Pacer::start(1, 1).due_at() == 15_000_001);
     assert!(rt; Pacer::start(0, 999).due_at() == 15_015);
     let mut last = Pacer::start(u64::MAX - 1, 60);
@@ -300,7 +314,8 @@ impl Look for Shot {
     }
 }
 
-/// The marks that a letter stands for: those of an input, an output, a lock and a sleep, and none.
+/// The marks that a letter stands for: those of an input, an output, both, a lock, a sleep, an input that
+/// sleeps, all marks, and none.
 fn marks_of(letter: u8) -> Marks {
     let none = Marks::none();
     match letter {
@@ -308,6 +323,13 @@ fn marks_of(letter: u8) -> Marks {
         b'o' => none.with(Mark::Output).with(Mark::Lock),
         b'l' => none.with(Mark::Lock),
         b's' => none.with(Mark::Sleep),
+        b'b' => none.with(Mark::Input).with(Mark::Output),
+        b'z' => none.with(Mark::Input).with(Mark::Sleep),
+        b'a' => none
+            .with(Mark::Input)
+            .with(Mark::Output)
+            .with(Mark::Lock)
+            .with(Mark::Sleep),
         _ => none,
     }
 }
@@ -422,11 +444,13 @@ fn rows_that_change_are_painted(rt: HostRuntime) -> Result<(), Fail> {
         ii.i......\
         ..ol......";
     let marked = shot_of(&rt, rt.alloc(), 10, text, letters)?;
-    let want =
-        b"\x1b[1;1H\x1b[0m\x1b[0m\x1b[7m.\x1b[0m\x1b[2m...\x1b[0m\x1b[4m402\x1b[0mG\x1b[0m\x1b[4m78\x1b[0m                    \
+    let want = b"\x1b[1;1H\x1b[0m\x1b[0m\x1b[7m.\x1b[0m\x1b[2m...\x1b[0m\x1b[4m402\x1b[0mG\x1b[0m\
+            \x1b[4m78\x1b[0m                    \
         \x1b[3;1H\x1b[0m\x1b[0m\x1b[2m.....\x1b[0m=\x1b[0m\x1b[4m02c3\x1b[0m                    \
-        \x1b[6;1H\x1b[0m\x1b[0m\x1b[4m42\x1b[0mP\x1b[0m\x1b[4m8\x1b[0m\x1b[2m....\x1b[0m00                    \
-        \x1b[7;1H\x1b[0m\x1b[0m\x1b[2m..\x1b[0m\x1b[1m#\x1b[0m\x1b[2m.......\x1b[0m                    \
+        \x1b[6;1H\x1b[0m\x1b[0m\x1b[4m42\x1b[0mP\x1b[0m\x1b[4m8\x1b[0m\
+        \x1b[2m....\x1b[0m00                    \
+        \x1b[7;1H\x1b[0m\x1b[0m\x1b[2m..\x1b[0m\x1b[1m#\x1b[0m\
+        \x1b[2m.......\x1b[0m                    \
         \x1b[8;1H\x1b[0m0 1 0 0,0 1x1 play ok         ";
     expect_painting(&rt, &mut stage, &marked, (&editor, &line_at(0, 1)), want);
     let want = b"\x1b[8;1H\x1b[0m0 3 0 0,0 1x1 play ok         ";
@@ -448,7 +472,8 @@ fn rows_that_change_are_painted(rt: HostRuntime) -> Result<(), Fail> {
         letters,
     )?;
     let want = b"\x1b[5;1H\x1b[0m\x1b[0m\x1b[2m..........\x1b[0m                    \
-        \x1b[7;1H\x1b[0m\x1b[0m\x1b[2m..\x1b[0m\x1b[1m8\x1b[0m\x1b[2m.......\x1b[0m                    \
+        \x1b[7;1H\x1b[0m\x1b[0m\x1b[2m..\x1b[0m\x1b[1m8\x1b[0m\
+        \x1b[2m.......\x1b[0m                    \
         \x1b[8;1H\x1b[0m1 4 0 0,0 1x1 play ok         ";
     expect_painting(&rt, &mut stage, &played, (&editor, &line_at(1, 4)), want);
     Ok(())
@@ -459,24 +484,26 @@ fn the_status_line_tells_of_pauses_and_refusals(rt: HostRuntime) -> Result<(), F
     let mut stage = stage_of(rt.alloc(), 3, 30)?;
     let mut editor = Editor::start();
     let plain = shot_of(&rt, rt.alloc(), 1, b"..2Kbaa........", b"")?;
-    let want =
-        b"\x1b[1;1H\x1b[0m\x1b[0m\x1b[7m.\x1b[0m\x1b[2m.\x1b[0m2Kbaa\x1b[0m\x1b[2m........\x1b[0m               \
+    let want = b"\x1b[1;1H\x1b[0m\x1b[0m\x1b[7m.\x1b[0m\x1b[2m.\x1b[0m2Kbaa\x1b[0m\
+            \x1b[2m........\x1b[0m               \
         \x1b[2;1H\x1b[0m                              \
         \x1b[3;1H\x1b[0m0 0 0 0,0 1x1 play ok         ";
     expect_painting(&rt, &mut stage, &plain, (&editor, &line_at(0, 0)), want);
     let marked = shot_of(&rt, rt.alloc(), 1, b"..2Kbaa........", b"..i.ii.........")?;
-    let want =
-        b"\x1b[1;1H\x1b[0m\x1b[0m\x1b[7m.\x1b[0m\x1b[2m.\x1b[0m\x1b[4m2\x1b[0mK\x1b[0m\x1b[4mba\x1b[0ma\x1b[0m\x1b[2m........\x1b[0m               ";
+    let want = b"\x1b[1;1H\x1b[0m\x1b[0m\x1b[7m.\x1b[0m\x1b[2m.\x1b[0m\x1b[4m2\x1b[0mK\x1b[0m\
+            \x1b[4mba\x1b[0ma\x1b[0m\x1b[2m........\x1b[0m               ";
     expect_painting(&rt, &mut stage, &marked, (&editor, &line_at(0, 0)), want);
     editor.w = 2;
     let want =
-        b"\x1b[1;1H\x1b[0m\x1b[0m\x1b[7m..\x1b[0m\x1b[4m2\x1b[0mK\x1b[0m\x1b[4mba\x1b[0ma\x1b[0m\x1b[2m........\x1b[0m               \
+        b"\x1b[1;1H\x1b[0m\x1b[0m\x1b[7m..\x1b[0m\x1b[4m2\x1b[0mK\x1b[0m\x1b[4mba\x1b[0ma\x1b[0m\
+            \x1b[2m........\x1b[0m               \
         \x1b[3;1H\x1b[0m0 0 0 0,0 1x2 play ok         ";
     expect_painting(&rt, &mut stage, &marked, (&editor, &line_at(0, 0)), want);
     editor.paused = true;
     let edited = shot_of(&rt, rt.alloc(), 1, b"9.2Kbaa........", b"..i.ii.........")?;
     let want =
-        b"\x1b[1;1H\x1b[0m\x1b[0m\x1b[7m9.\x1b[0m\x1b[4m2\x1b[0mK\x1b[0m\x1b[4mba\x1b[0ma\x1b[0m\x1b[2m........\x1b[0m               \
+        b"\x1b[1;1H\x1b[0m\x1b[0m\x1b[7m9.\x1b[0m\x1b[4m2\x1b[0mK\x1b[0m\x1b[4mba\x1b[0ma\x1b[0m\
+            \x1b[2m........\x1b[0m               \
         \x1b[3;1H\x1b[0m1 8 0 0,0 1x2 pause ok        ";
     expect_painting(&rt, &mut stage, &edited, (&editor, &line_at(1, 8)), want);
     let mut line = line_at(1, 8);
@@ -519,19 +546,6 @@ fn the_window_is_the_page_of_the_cursor(rt: HostRuntime) -> Result<(), Fail> {
     editor = editor_at(0, 9, 1, 5);
     let want = b"\x1b[1;1H\x1b[0m\x1b[0m\x1b[7m3HPPU\x1b[0m    \x1b[2;1H\x1b[0m0 2 0 0,9";
     expect_painting(&rt, &mut stage, &marked, (&editor, &line_at(0, 2)), want);
-    Ok(())
-}
-
-#[test]
-fn the_largest_screen(rt: HostRuntime) -> Result<(), Fail> {
-    let mut stage = stage_of(rt.alloc(), 100, 256)?;
-    let cell = shot_of(&rt, rt.alloc(), 1, b"E", b"o")?;
-    let bytes = stage
-        .view
-        .paint(&cell, &editor_at(0, 0, 1, 1), &line_at(7, 8));
-    stage.screen.show(bytes);
-    // The rows of ten and of a hundred have numbers of more digits.
-    assert!(rt; bytes.len() == 100 * 256 + 9 * 10 + 90 * 11 + 12 + 12);
     Ok(())
 }
 
