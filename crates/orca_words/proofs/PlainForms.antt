@@ -1,5 +1,5 @@
--- Two words that don't begin with a dash, by a form of a grid and frames: they are these two, and
--- no option is set, whatever the options of the form are.
+-- Two words that don't begin with a dash, by a form of a grid and one more positional: they are
+-- these two, and no option is set, whatever the options of the form are.
 use Rattle.std.proofs.Common.{◌≡◌, ◌∙◌, ap, refl, List, [], ◌∷◌, true, false, ℕ, Bool, None, Some, codes, fold, cond}
 use Rattle.std.specs.Prelude.{not, ◌&&◌, ◌||◌}
 use Rattle.std.specs.List.{list_any}
@@ -67,99 +67,151 @@ row name word = record {
   reading = AsWritten;
 }
 
--- the rules of a grid and frames, before those of any options
-unfoldable rules : List Rule → List Rule
-rules options = built_positional 1 (codes "GRID") ∷ built_positional 2 (codes "FRAMES") ∷ options
+-- the positional after the grid
+pub data Second : Type 0 where
+  Frames : Second
+  Script : Second
+
+abbrev pub name_of : Second → Text
+name_of Frames = codes "FRAMES"
+name_of Script = codes "SCRIPT"
+
+-- the rules of a grid and another positional, before those of any options
+unfoldable rules : Text → List Rule → List Rule
+rules name options = built_positional 1 (codes "GRID") ∷ built_positional 2 name ∷ options
 
 -- what is held after the first word, and after both
 grid_held : Text → Held
 grid_held grid = record { rows = []; pending = Some (codes "GRID", grid ∷ []); skip = 0 }
 
-both_held : Text → Text → Held
-both_held grid frames = record {
+both_held : Text → Text → Text → Held
+both_held name grid other = record {
   rows = row (codes "GRID") grid ∷ [];
-  pending = Some (codes "FRAMES", frames ∷ []);
+  pending = Some (name, other ∷ []);
   skip = 0;
 }
 
 -- the built command
-top : Text → List Rule → List Rule → Shape
-top word given options = record (built (with_rules word given)).top { rules = rules options }
+top : Text → Text → List Rule → List Rule → Shape
+top name word given options =
+    record (built (with_rules word given)).top { rules = rules name options }
 
-module _ (options : List Rule) (grid frames : Text) (plain_grid : has_no_dash grid ≡ true)
-    (plain_frames : has_no_dash frames ≡ true) where
-  grid_walked : walked (rules options) [] (idle_at nothing_held 1) grid
+module _ (options : List Rule) (grid other : Text) (plain_grid : has_no_dash grid ≡ true)
+    (plain_other : has_no_dash other ≡ true) where
+  grid_walked : (second : Second)
+      → walked (rules (name_of second) options) [] (idle_at nothing_held 1) grid
       ≡ idle_at (grid_held grid) 2
   unfolding rules grid_held
-  grid_walked = plain_walked (rules options) nothing_held 1 grid plain_grid
+  grid_walked second =
+      plain_walked (rules (name_of second) options) nothing_held 1 grid plain_grid
 
-  frames_walked : walked (rules options) [] (idle_at (grid_held grid) 2) frames
-      ≡ idle_at (both_held grid frames) 3
+  other_walked : (second : Second)
+      → walked (rules (name_of second) options) [] (idle_at (grid_held grid) 2) other
+      ≡ idle_at (both_held (name_of second) grid other) 3
   unfolding rules grid_held both_held row
-  frames_walked = plain_walked (rules options) (grid_held grid) 2 frames plain_frames
+  other_walked Frames =
+      plain_walked (rules (name_of Frames) options) (grid_held grid) 2 other plain_other
+  other_walked Script =
+      plain_walked (rules (name_of Script) options) (grid_held grid) 2 other plain_other
 
-  both_walked : walk (rules options) [] nothing_held (grid ∷ frames ∷ [])
-      ≡ idle_at (both_held grid frames) 3
-  both_walked = ap (λ w. walked (rules options) [] w frames) grid_walked ∙ frames_walked
+  both_walked : (second : Second)
+      → walk (rules (name_of second) options) [] nothing_held (grid ∷ other ∷ [])
+      ≡ idle_at (both_held (name_of second) grid other) 3
+  both_walked second =
+      ap (λ w. walked (rules (name_of second) options) [] w other) (grid_walked second)
+      ∙ other_walked second
 
-  grid_faultless : (word : Text) (given : List Rule)
-      → turn_fault (top word given options) [] (idle_at nothing_held 1) grid ≡ []
+  grid_faultless : (second : Second) (word : Text) (given : List Rule)
+      → turn_fault (top (name_of second) word given options) [] (idle_at nothing_held 1) grid
+      ≡ []
   unfolding rules top
-  grid_faultless word given =
-      plain_turn (top word given options) nothing_held 1 grid plain_grid
+  grid_faultless second word given =
+      plain_turn (top (name_of second) word given options) nothing_held 1 grid plain_grid
 
-  frames_faultless : (word : Text) (given : List Rule)
-      → turn_fault (top word given options) [] (idle_at (grid_held grid) 2) frames ≡ []
+  other_faultless : (second : Second) (word : Text) (given : List Rule)
+      → turn_fault (top (name_of second) word given options) [] (idle_at (grid_held grid) 2)
+      other ≡ []
   unfolding rules top grid_held
-  frames_faultless word given =
-      plain_turn (top word given options) (grid_held grid) 2 frames plain_frames
+  other_faultless Frames word given =
+      plain_turn (top (name_of Frames) word given options) (grid_held grid) 2 other plain_other
+  other_faultless Script word given =
+      plain_turn (top (name_of Script) word given options) (grid_held grid) 2 other plain_other
 
-  both_faultless : (word : Text) (given : List Rule)
-      → walk_fault (top word given options) [] (idle_at nothing_held 1) (grid ∷ frames ∷ []) ≡ []
+  both_faultless : (second : Second) (word : Text) (given : List Rule)
+      → walk_fault (top (name_of second) word given options) [] (idle_at nothing_held 1)
+      (grid ∷ other ∷ []) ≡ []
   unfolding walk_fault top
-  both_faultless word given =
-      rw (grid_faultless word given, grid_walked, frames_faultless word given) refl
+  both_faultless second word given =
+      rw (
+        grid_faultless second word given,
+        grid_walked second,
+        other_faultless second word given,
+      ) refl
 
 -- ---- by a form
 
-abbrev pub frames_form : Text → List Text → Verb → Form
-frames_form word options verb = record {
+abbrev pub grid_form : Second → Text → List Text → Verb → Form
+grid_form second word options verb = record {
   word = word;
-  positionals = codes "GRID" ∷ codes "FRAMES" ∷ [];
+  positionals = codes "GRID" ∷ name_of second ∷ [];
   options = options;
   verb = verb;
 }
 
-unfoldable pub plain_rows : Text → Text → List Row
-plain_rows grid frames = row (codes "GRID") grid ∷ row (codes "FRAMES") frames ∷ []
+unfoldable pub plain_rows : Second → Text → Text → List Row
+plain_rows second grid other = row (codes "GRID") grid ∷ row (name_of second) other ∷ []
 
-module _ (word : Text) (options : List Text) (verb : Verb) (grid frames : Text)
-    (plain_grid : has_no_dash grid ≡ true) (plain_frames : has_no_dash frames ≡ true) where
+module _ (word : Text) (options : List Text) (verb : Verb) (grid other : Text)
+    (plain_grid : has_no_dash grid ≡ true) (plain_other : has_no_dash other ≡ true) where
+  ended : (second : Second)
+      → finished (rules (name_of second) (built_options 3 options))
+      (both_held (name_of second) grid other)
+      ≡ fold with_default (plain_rows second grid other) (built_options 3 options)
+  unfolding rules plain_rows both_held row
+  ended Frames = refl
+  ended Script = refl
+
   -- the two words are found
-  pub plain_found : matches_of (command_of (frames_form word options verb)) (grid ∷ frames ∷ [])
-      ≡ plain_rows grid frames
-  unfolding rules top plain_rows both_held row
-  plain_found =
+  pub plain_found : (second : Second)
+      → matches_of (command_of (grid_form second word options verb)) (grid ∷ other ∷ [])
+      ≡ plain_rows second grid other
+  unfolding rules top
+  plain_found second =
       let left = built_options 3 options in
-      ap (λ a. matches_of a (grid ∷ frames ∷ [])) (command_is (frames_form word options verb))
-      ∙ (ap (λ (w : Walk). finished (rules left) w.held)
-      (both_walked left grid frames plain_grid plain_frames)
-      ∙ options_stay 3 options (plain_rows grid frames))
+      ap (λ a. matches_of a (grid ∷ other ∷ [])) (command_is (grid_form second word options verb))
+      ∙ (ap (λ (w : Walk). finished (rules (name_of second) left) w.held)
+      (both_walked left grid other plain_grid plain_other second)
+      ∙ (ended second ∙ options_stay 3 options (plain_rows second grid other)))
 
   -- and have no fault
-  pub plain_accepted : fault_of (command_of (frames_form word options verb)) (grid ∷ frames ∷ [])
-      ≡ []
+  pub plain_accepted : (second : Second)
+      → fault_of (command_of (grid_form second word options verb)) (grid ∷ other ∷ []) ≡ []
   unfolding rules top plain_rows both_held row defaults_fault
-  plain_accepted =
+  plain_accepted Frames =
       let left = built_options 3 options in
-      let given = rules_of (frames_form word options verb) in
-      let words = grid ∷ frames ∷ [] in
-      let found = finished (rules left) (walk (rules left) [] nothing_held words).held in
-      ap (λ a. fault_of a words) (command_is (frames_form word options verb))
+      let given = rules_of (grid_form Frames word options verb) in
+      let words = grid ∷ other ∷ [] in
+      let found = finished (rules (name_of Frames) left)
+      (walk (rules (name_of Frames) left) [] nothing_held words).held in
+      ap (λ a. fault_of a words) (command_is (grid_form Frames word options verb))
       ∙ rw (
-        both_walked left grid frames plain_grid plain_frames,
-        both_faultless left grid frames plain_grid plain_frames word given,
-        options_faultless 3 options (plain_rows grid frames),
-        options_stay 3 options (plain_rows grid frames),
+        both_walked left grid other plain_grid plain_other Frames,
+        both_faultless left grid other plain_grid plain_other Frames word given,
+        options_faultless 3 options (plain_rows Frames grid other),
+        options_stay 3 options (plain_rows Frames grid other),
+        options_free 3 options found,
+      ) refl
+  plain_accepted Script =
+      let left = built_options 3 options in
+      let given = rules_of (grid_form Script word options verb) in
+      let words = grid ∷ other ∷ [] in
+      let found = finished (rules (name_of Script) left)
+      (walk (rules (name_of Script) left) [] nothing_held words).held in
+      ap (λ a. fault_of a words) (command_is (grid_form Script word options verb))
+      ∙ rw (
+        both_walked left grid other plain_grid plain_other Script,
+        both_faultless left grid other plain_grid plain_other Script word given,
+        options_faultless 3 options (plain_rows Script grid other),
+        options_stay 3 options (plain_rows Script grid other),
         options_free 3 options found,
       ) refl

@@ -1,5 +1,5 @@
 -- The lists of words that were read before there were options.
-use Rattle.std.proofs.Common.{◌≡◌, ◌∙◌, refl, List, [], ◌∷◌, true, false, ℕ, ◌^◌, ◌<◌, ◌≤◌, Bool, ◌==◌, None, Some, arith, cond, zero-le}
+use Rattle.std.proofs.Common.{◌≡◌, ◌∙◌, refl, List, [], ◌∷◌, true, false, ℕ, ◌^◌, ◌<◌, ◌≤◌, Bool, ◌==◌, None, Some, arith, codes, cond, zero-le}
 use Rattle.std.specs.Prelude.{not}
 use Rattle.std.specs.List.{list_all}
 use Rattle.std.specs.Str.Parse.{digits_value}
@@ -10,10 +10,10 @@ use Rattle.orca_base.specs.Ascii.{dash}
 use Rattle.orca_base.specs.Glyphs.{is_digit}
 use Rattle.orca_base.specs.Numbers.{is_number, number_of}
 use Rattle.orca_words.specs.PlainWords.{is_plain_name, plain_setup}
-use Rattle.orca_words.specs.Requests.{Events, Perform, Run, frames_of, greatest, number_in, option_text, request_by, request_in_form, setup_of}
+use Rattle.orca_words.specs.Requests.{Events, Perform, Replay, Run, frames_of, greatest, number_in, option_text, positional_text, request_by, request_in_form, setup_of}
 use Rattle.orca_words.specs.declared.forms.Verb.{Verb}
 use Rattle.orca_words.specs.declared.forms.Verb.TheVariants as verb
-use Rattle.orca_words.proofs.PlainForms.{frames_form, plain_accepted, plain_found, plain_rows, row}
+use Rattle.orca_words.proofs.PlainForms.{Frames, Script, grid_form, plain_accepted, plain_found, plain_rows, row}
 use Rattle.orca_words.proofs.PlainWalk.{has_no_dash}
 
 -- ---- numbers
@@ -63,43 +63,77 @@ name_no_dash : (name : Text) → is_plain_name name ≡ true → has_no_dash nam
 name_no_dash [] plain = refl
 name_no_dash (x ∷ xs) plain = plain
 
-plain_setup_of : (grid frames : Text) → setup_of (plain_rows grid frames) ≡ Some (plain_setup grid)
-unfolding setup_of option_text plain_rows row
-plain_setup_of grid frames = refl
-
 plain_frames_of : (grid frames : Text)
-    → frames_of (plain_rows grid frames) ≡ number_in 0 greatest frames
+    → frames_of (plain_rows Frames grid frames) ≡ number_in 0 greatest frames
 unfolding option_text plain_rows row
 plain_frames_of grid frames = refl
+
+plain_script_of : (grid script : Text)
+    → positional_text (plain_rows Script grid script) (codes "SCRIPT") ≡ script
+unfolding option_text plain_rows row
+plain_script_of grid script = refl
+
+frames_setup_of : (grid frames : Text)
+    → setup_of (plain_rows Frames grid frames) ≡ Some (plain_setup grid)
+unfolding setup_of option_text plain_rows row
+frames_setup_of grid frames = refl
+
+script_setup_of : (grid script : Text)
+    → setup_of (plain_rows Script grid script) ≡ Some (plain_setup grid)
+unfolding setup_of option_text plain_rows row
+script_setup_of grid script = refl
 
 -- by a form of a grid and frames
 module _ (word : Text) (options : List Text) (grid frames : Text) (count : ℕ)
     (plain : is_plain_name grid ≡ true) (is : number_of frames ≡ Some count) where
-  asked : (v : Verb) → request_in_form (frames_form word options v) (grid ∷ frames ∷ [])
-      ≡ request_by v (plain_rows grid frames)
+  frames_asked : (v : Verb)
+      → request_in_form (grid_form Frames word options v) (grid ∷ frames ∷ [])
+      ≡ request_by v (plain_rows Frames grid frames)
   unfolding request_in_form
-  asked v =
+  frames_asked v =
       let name = name_no_dash grid plain in
       let digits = number_no_dash frames count is in
       rw (
-        plain_accepted word options v grid frames name digits,
-        plain_found word options v grid frames name digits,
+        plain_accepted word options v grid frames name digits Frames,
+        plain_found word options v grid frames name digits Frames,
       ) refl
 
-  pub asks_run : request_in_form (frames_form word options verb.Run) (grid ∷ frames ∷ [])
-      ≡ Some (Perform (plain_setup grid) (Run count))
+  pub asks_run : request_in_form (grid_form Frames word options verb.Run)
+      (grid ∷ frames ∷ []) ≡ Some (Perform (plain_setup grid) (Run count))
   unfolding request_by
-  asks_run = asked verb.Run ∙ rw (
+  asks_run = frames_asked verb.Run ∙ rw (
     plain_frames_of grid frames,
     frames_in frames count is,
-    plain_setup_of grid frames,
+    frames_setup_of grid frames,
   ) refl
 
-  pub asks_events : request_in_form (frames_form word options verb.Events) (grid ∷ frames ∷ [])
-      ≡ Some (Perform (plain_setup grid) (Events count))
+  pub asks_events : request_in_form (grid_form Frames word options verb.Events)
+      (grid ∷ frames ∷ []) ≡ Some (Perform (plain_setup grid) (Events count))
   unfolding request_by
-  asks_events = asked verb.Events ∙ rw (
+  asks_events = frames_asked verb.Events ∙ rw (
     plain_frames_of grid frames,
     frames_in frames count is,
-    plain_setup_of grid frames,
+    frames_setup_of grid frames,
+  ) refl
+
+-- by a form of a grid and a script
+module _ (word : Text) (options : List Text) (grid script : Text)
+    (plain : is_plain_name grid ≡ true) (plain_script : is_plain_name script ≡ true) where
+  script_asked : request_in_form (grid_form Script word options verb.Replay)
+      (grid ∷ script ∷ []) ≡ request_by verb.Replay (plain_rows Script grid script)
+  unfolding request_in_form
+  script_asked =
+      let name = name_no_dash grid plain in
+      let other = name_no_dash script plain_script in
+      rw (
+        plain_accepted word options verb.Replay grid script name other Script,
+        plain_found word options verb.Replay grid script name other Script,
+      ) refl
+
+  pub asks_replay : request_in_form (grid_form Script word options verb.Replay)
+      (grid ∷ script ∷ []) ≡ Some (Perform (plain_setup grid) (Replay script))
+  unfolding request_by
+  asks_replay = script_asked ∙ rw (
+    plain_script_of grid script,
+    script_setup_of grid script,
   ) refl

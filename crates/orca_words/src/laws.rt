@@ -2,11 +2,13 @@
 
 ghost use Rattle.std.specs.Prelude.{codes};
 ghost use Rattle.orca_words.specs.Requests.{Run, Events};
-ghost use Rattle.orca_words.specs.PlainWords.{AsksPlainly};
+ghost use Rattle.orca_words.specs.PlainWords.{AsksPlainly, AsksToReplay};
 
 /// The words that were read before there were options still ask for the same: `run` or `events`, a
-/// name that is not empty and does not begin with a dash, and a number below 2^32.
+/// name that is not empty and does not begin with a dash, and a number below 2^32; and `replay` and
+/// two such names.
 pub fn plain_words_law()
     ensures run { AsksPlainly (codes "run") Run }
     ensures events { AsksPlainly (codes "events") Events }
+    ensures replay { AsksToReplay (codes "replay") }
 {}

@@ -368,7 +368,7 @@ fn performances(rt: HostRuntime) -> Result<(), Fail> {
 }
 
 /// Words that are refused.
-static REFUSED: [&[&str]; 62] = [
+static REFUSED: [&[&str]; 90] = [
     // the first word
     &[],
     &[""],
@@ -402,16 +402,42 @@ static REFUSED: [&[&str]; 62] = [
     &["run", "--seed", "7", "--seed", "7", "g", "3"],
     &["run", "--seed=7", "g", "--seed=8", "3"],
     &["run", "--seed", "7", "g", "3", "--seed=7"],
+    &["run", "--limit=7", "--limit", "7", "g", "3"],
     &["run", "--midi=", "--midi=", "g", "3"],
+    &["events", "--udp", "u", "g", "3", "--udp=u"],
+    &["replay", "--osc=o", "--osc=p", "g", "s"],
+    &["play", "g", "a", "--bpm=90", "--bpm", "90"],
+    &["play", "g", "a", "--rows", "9", "--rows=9"],
+    &["play", "g", "a", "--cols=9", "--cols=9"],
     &["play", "g", "a", "--save", "o", "--save", "p"],
+    &["play", "g", "a", "--script=s", "--script="],
     // without a value
     &["run", "g", "3", "--seed"],
+    &["run", "g", "3", "--limit"],
     &["run", "g", "3", "--midi"],
+    &["events", "g", "3", "--udp"],
+    &["replay", "g", "s", "--osc"],
+    &["play", "g", "a", "--bpm"],
+    &["play", "g", "a", "--rows"],
+    &["play", "g", "a", "--cols"],
+    &["play", "g", "a", "--save"],
+    &["play", "g", "a", "--script"],
     &["run", "g", "3", "--seed", "--limit", "4"],
     &["run", "g", "--seed", "--", "3"],
     &["run", "g", "3", "--midi", "--udp=u"],
     &["run", "g", "3", "--midi", "-x"],
     &["run", "g", "3", "--midi", "--"],
+    // a number behind `=` that is none, or out of its range
+    &["run", "g", "3", "--seed="],
+    &["run", "g", "3", "--seed= 7"],
+    &["run", "g", "3", "--seed=+7"],
+    &["run", "g", "3", "--seed=-7"],
+    &["run", "g", "3", "--seed=00000000007"],
+    &["run", "g", "3", "--seed=4294967296"],
+    &["run", "g", "3", "--limit=0"],
+    &["run", "g", "3", "--limit=4000001"],
+    &["play", "g", "a", "--bpm="],
+    &["play", "g", "a", "--cols=257"],
     // a dash before a positional
     &["run", "-g", "3"],
     &["run", "--g", "3"],
@@ -422,7 +448,10 @@ static REFUSED: [&[&str]; 62] = [
     &["run", "g", "3", "--tempo=7"],
     &["run", "g", "3", "--se", "7"],
     &["run", "g", "3", "--se=7"],
+    &["run", "g", "3", "--seeds", "7"],
     &["run", "g", "3", "--Seed", "7"],
+    &["play", "g", "a", "--col=9"],
+    &["play", "g", "a", "--scrip", "s"],
     &["run", "g", "3", "--=7"],
     &["run", "g", "3", "-s", "7"],
     &["run", "g", "3", "-seed", "7"],
