@@ -1,5 +1,6 @@
-ghost use Rattle.std.specs.Prelude.{◌≡◌, ◌≤◌, ◌+◌, min, None, OnOk, IsErrOf};
+ghost use Rattle.std.specs.Prelude.{◌≡◌, ◌≢◌, ◌≤◌, ◌↔◌, ◌+◌, min, None, IsSome, IsNone, IsOk, OnOk, IsErrOf};
 ghost use Rattle.orca_rig.specs.Outside.{last_count};
+ghost use Rattle.orca_rig.specs.Handed.{Takes};
 
 use crate::whole::write_whole;
 use crate::{Outs, SendFault};
@@ -50,9 +51,15 @@ impl<R: Print + Eprint + rt::Files + Net> RealOuts<'_, R> {
         }
     }
 
-    /// Attaches the port, in place of what it was attached to.
+    /// Attaches the port, in place of what it was attached to. After a fault it is unattached.
     fn connect(&mut self, port: Port, name: &str) -> Result<(), SendFault>
-        ensures { self.new.failed ≡ self.old.failed }
+        ensures count { self.new.failed ≡ self.old.failed }
+        ensures midi { port ≡ Port.Midi → (IsSome self.new.midi ↔ IsOk result) }
+        ensures udp { port ≡ Port.Udp → (IsSome self.new.udp ↔ IsOk result) }
+        ensures osc { port ≡ Port.Osc → (IsSome self.new.osc ↔ IsOk result) }
+        ensures midi_stays { port ≢ Port.Midi → self.new.midi ≡ self.old.midi }
+        ensures udp_stays { port ≢ Port.Udp → self.new.udp ≡ self.old.udp }
+        ensures osc_stays { port ≢ Port.Osc → self.new.osc ≡ self.old.osc }
     {
         match port {
             Port::Midi => {
@@ -72,9 +79,17 @@ impl<R: Print + Eprint + rt::Files + Net> RealOuts<'_, R> {
         Ok(())
     }
 
-    /// Sends the bytes where the port goes.
+    /// Sends the bytes where the port goes. They are dropped where it is not attached.
     fn write(&mut self, port: Port, bytes: &[u8]) -> Result<(), SendFault>
-        ensures { self.new.failed ≡ self.old.failed }
+        ensures count { self.new.failed ≡ self.old.failed }
+        ensures midi { port ≡ Port.Midi
+            → OnOk result (Takes R.File.contents self.old.midi self.new.midi bytes.now) }
+        ensures midi_dropped { port ≡ Port.Midi → IsNone self.old.midi → IsOk result }
+        ensures udp_dropped { port ≡ Port.Udp → IsNone self.old.udp → IsOk result }
+        ensures osc_dropped { port ≡ Port.Osc → IsNone self.old.osc → IsOk result }
+        ensures midi_stays { port ≢ Port.Midi → self.new.midi ≡ self.old.midi }
+        ensures udp_stays { self.new.udp ≡ self.old.udp }
+        ensures osc_stays { self.new.osc ≡ self.old.osc }
     {
         match port {
             Port::Text | Port::View => write_whole(&mut io::writer(self.rt), bytes)?,
@@ -98,15 +113,23 @@ impl<R: Print + Eprint + rt::Files + Net> Outs for RealOuts<'_, R> {
 
     /// Midi is attached to a file, a named pipe or a device file, which is opened for writing: a
     /// plain file is created or emptied. A pipe that nobody reads waits here until somebody does,
-    /// as open(2) says. Udp and Osc are attached to an address, `HOST:PORT`. The other ports cannot
-    /// be attached: that is a failure. A failed attach leaves the port unattached.
+    /// as open(2) says. The name of a device that is missing becomes a plain file where its folder
+    /// takes one, and is a failure elsewhere.
+    ///
+    /// Udp and Osc are attached to an address, `HOST:PORT`, with IPv6 in brackets. A name is looked
+    /// up here, and the first of its addresses is taken. An address that is malformed is a failure,
+    /// and so is a name that stands for none.
+    ///
+    /// The other ports cannot be attached: that is a failure. A failed attach leaves the port
+    /// unattached, also where it was attached before.
     fn attach(&mut self, port: Port, name: &str) -> Result<(), SendFault> {
         let done = self.connect(port, name);
         count(&mut self.failed, done)
     }
 
-    /// Text for the standard error that is no UTF-8 is a failure, and so is a datagram that was
-    /// cut.
+    /// Text for the standard error that is no UTF-8 is a failure, and so are a datagram that was
+    /// cut and a pipe whose reader has gone away. A datagram that nobody takes is none, since the
+    /// system does not tell. A pipe that is full waits until its reader reads.
     fn send(&mut self, port: Port, bytes: &[u8]) -> Result<(), SendFault> {
         let done = self.write(port, bytes);
         count(&mut self.failed, done)
@@ -156,7 +179,10 @@ fn open_peer<R: Net>(rt: &R, name: &str) -> io::Result<Peer> {
 }
 
 /// Writes the bytes of a message; they are dropped where there is no sink.
-fn write_midi<W: io::Write>(sink: &mut Option<W>, bytes: &[u8]) -> io::Result<()> {
+fn write_midi<W: io::Write>(sink: &mut Option<W>, bytes: &[u8]) -> io::Result<()>
+    ensures taken { OnOk result (Takes W.contents sink.old sink.new bytes.now) }
+    ensures dropped { IsNone sink.old → IsOk result }
+{
     match sink {
         Some(to) => write_whole(to, bytes),
         None => Ok(()),
@@ -164,7 +190,9 @@ fn write_midi<W: io::Write>(sink: &mut Option<W>, bytes: &[u8]) -> io::Result<()
 }
 
 /// Sends one datagram; it is dropped where there is no peer. An interrupted send is tried again.
-fn send_to(peer: &Option<Peer>, bytes: &[u8]) -> io::Result<()> {
+fn send_to(peer: &Option<Peer>, bytes: &[u8]) -> io::Result<()>
+    ensures dropped { IsNone peer.now → IsOk result }
+{
     let Some(peer) = peer else {
         return Ok(());
     };

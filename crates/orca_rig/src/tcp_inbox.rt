@@ -18,11 +18,17 @@ const LONGEST_WAIT: u64 = 1_000_000;
 /// An inbox over one connection. All bytes are those of hand 0, and moments are microseconds since
 /// `listen`, by the clock that does not go back. It tells no log.
 ///
-/// A peer that closes its end gives [`Answer::End`], once its bytes are read. One that resets the
-/// connection is a failure. One that sends nothing lets a poll wait for its moment, or forever
-/// where it has none; such a wait takes no processor. Neither side can hold the other up: of a
-/// moment that has come and bytes that have come, a poll answers the moment, and the next poll the
-/// bytes.
+/// | what happens | what is answered |
+/// |---|---|
+/// | the address is malformed or taken, or its name stands for none | `listen` fails |
+/// | nobody connects | `listen` waits |
+/// | the peer closes its end, also inside the bytes of a key | its bytes, and then [`Answer::End`] |
+/// | the peer resets the connection | [`Answer::Failed`]; bytes that came before may be lost |
+/// | the peer sends nothing | a poll waits for its moment, or forever where it has none |
+/// | the clock cannot be read, or a read cannot be given a time limit | the call fails |
+///
+/// A poll that waits takes no processor. Neither side can hold the other up: of a moment that has
+/// come and bytes that have come, a poll answers the moment, and the next poll the bytes.
 #[derive(Drop)]
 pub struct TcpInbox<'a, R> {
     rt: &'a R,

@@ -3,3 +3,6 @@ mod inbox;
 mod outs;
 pub(crate) mod refused;
 mod tcp;
+
+/// An address whose name stands for nothing: no part of a name has more than 63 letters.
+const UNKNOWN: &str = "nnnnnnnnnnnnnnnnnnnnnnnnnnnnnnnnnnnnnnnnnnnnnnnnnnnnnnnnnnnnnnnn:9";

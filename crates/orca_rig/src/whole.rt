@@ -101,11 +101,13 @@ mod tests {
     struct SlowWriter {
         kept: Vec<u8>,
         most: usize,
+        turns: u8,
         interrupted: bool,
     }
 
     impl Write for SlowWriter {
         fn write(&mut self, bytes: &[u8]) -> io::Result<usize> {
+            self.turns = self.turns.saturating_add(1);
             self.interrupted = !self.interrupted;
             if self.interrupted {
                 return Err(io::Error::from(ErrorKind::Interrupted));
@@ -124,6 +126,7 @@ mod tests {
         SlowWriter {
             kept: Vec::new(rt.alloc()),
             most,
+            turns: 0,
             interrupted: false,
         }
     }
@@ -178,6 +181,17 @@ mod tests {
         let mut to = slow_writer(&rt, 2);
         assert!(rt; write_whole(&mut to, b"three").is_ok());
         assert_eq!(rt; to.kept.as_slice(), b"three".as_slice());
+        assert_eq!(rt; to.turns, 6);
+        Ok(())
+    }
+
+    #[test]
+    fn all_bytes_are_one_write(rt: HostRuntime) -> Result<(), Fail> {
+        let mut to = slow_writer(&rt, 5);
+        assert!(rt; write_whole(&mut to, b"three").is_ok());
+        assert_eq!(rt; to.kept.as_slice(), b"three".as_slice());
+        // The first turn was interrupted.
+        assert_eq!(rt; to.turns, 2);
         Ok(())
     }
 

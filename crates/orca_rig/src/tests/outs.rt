@@ -1,3 +1,4 @@
+use super::UNKNOWN;
 use crate::{MemOuts, Outs, RealOuts, SendFault};
 use orca_base::Port;
 use std::io::Read;
@@ -141,28 +142,81 @@ fn midi_goes_to_a_pipe(rt: HostRuntime) -> Result<(), Fail> {
     Ok(())
 }
 
+/// Receives the datagrams one after another, and looks at their bytes.
+fn check_datagrams(rt: &impl Abort, there: &UdpSocket, wanted: &[&[u8]]) -> Result<(), Fail> {
+    let mut into = [0u8; 64];
+    for bytes in wanted {
+        let (count, _) = there.recv_from(&mut into)?;
+        assert_eq!(rt; &into[..count], *bytes);
+    }
+    Ok(())
+}
+
 #[test]
-fn each_send_is_one_datagram(rt: HostRuntime) -> Result<(), Fail> {
-    let there = UdpSocket::bind(&rt, "127.0.0.1:0")?;
-    let name = format!(in rt.alloc(); "{}", there.local_addr()?)?;
+fn each_port_gets_its_own_bytes(rt: HostRuntime) -> Result<(), Fail> {
+    let udp = UdpSocket::bind(&rt, "127.0.0.1:0")?;
+    let osc = UdpSocket::bind(&rt, "127.0.0.1:0")?;
+    let udp_name = format!(in rt.alloc(); "{}", udp.local_addr()?)?;
+    let osc_name = format!(in rt.alloc(); "{}", osc.local_addr()?)?;
+    let midi_name = "rig_ports";
     let mut outs = RealOuts::new(&rt);
-    let names: [Named; 4] = [
-        (Port::Udp, name.as_str(), Ok(())),
-        (Port::Osc, "no port", Err(SendFault::Failed)),
-        (Port::Osc, "127.0.0.1:65536", Err(SendFault::Failed)),
-        (Port::Osc, name.as_str(), Ok(())),
+    let names: [Named; 3] = [
+        (Port::Midi, midi_name, Ok(())),
+        (Port::Udp, udp_name.as_str(), Ok(())),
+        (Port::Osc, osc_name.as_str(), Ok(())),
     ];
     check_attaches(&rt, &mut outs, &names);
-    let turns: [Given; 3] = [
+    let turns: [Given; 5] = [
         (Port::Udp, b"hi", Ok(())),
         (Port::Osc, b"/a\0\0,\0\0\0", Ok(())),
         (Port::Udp, b"", Ok(())),
+        (Port::Midi, b"\x90\x30\x3f", Ok(())),
+        (Port::Udp, b"ho", Ok(())),
     ];
     check_sends(&rt, &mut outs, &turns);
-    let mut into = [0u8; 64];
-    for (_, bytes, _) in turns {
-        let (count, _) = there.recv_from(&mut into)?;
-        assert_eq!(rt; &into[..count], bytes);
+    check_datagrams(&rt, &udp, &[b"hi", b"", b"ho"])?;
+    check_datagrams(&rt, &osc, &[b"/a\0\0,\0\0\0"])?;
+    assert_eq!(rt;
+        fs::read(&rt, midi_name)?.as_slice(),
+        b"\x90\x30\x3f".as_slice()
+    );
+    fs::remove_file(&rt, midi_name)?;
+    // Nobody listens any longer, and the system tells it to no send.
+    drop(udp);
+    let lost: [Given; 2] = [(Port::Udp, b"hi", Ok(())), (Port::Udp, b"hi", Ok(()))];
+    check_sends(&rt, &mut outs, &lost);
+    Ok(())
+}
+
+#[test]
+fn an_address_is_a_host_and_a_port(rt: HostRuntime) -> Result<(), Fail> {
+    let mut outs = RealOuts::new(&rt);
+    for host in ["127.0.0.1", "localhost", "[::1]"] {
+        let any = format!(in rt.alloc(); "{host}:0")?;
+        // A machine may have no IPv6.
+        let Ok(there) = UdpSocket::bind(&rt, any.as_str()) else {
+            continue;
+        };
+        let name = format!(in rt.alloc(); "{host}:{}", there.local_addr()?.port())?;
+        for port in [Port::Udp, Port::Osc] {
+            check_attaches(&rt, &mut outs, &[(port, name.as_str(), Ok(()))]);
+            check_sends(&rt, &mut outs, &[(port, b"hi", Ok(()))]);
+            check_datagrams(&rt, &there, &[b"hi"])?;
+        }
+    }
+    // What was attached before is given up, and the bytes are dropped.
+    for name in [
+        "",
+        "no port",
+        "127.0.0.1:",
+        "127.0.0.1:65536",
+        "[::1]",
+        UNKNOWN,
+    ] {
+        for port in [Port::Udp, Port::Osc] {
+            check_attaches(&rt, &mut outs, &[(port, name, Err(SendFault::Failed))]);
+            check_sends(&rt, &mut outs, &[(port, b"hi", Ok(()))]);
+        }
     }
     Ok(())
 }

@@ -1,6 +1,7 @@
 ghost use Rattle.std.specs.Prelude.{◌≡◌, false};
 ghost use Rattle.orca_rig.specs.Arrived.{is_ending};
 
+use super::UNKNOWN;
 use crate::{Answer, Inbox, MemOuts, SendFault, TcpInbox};
 use orca_base::limits::ARRIVAL_BYTES;
 use std::io::Write;
@@ -76,7 +77,7 @@ fn a_connection_that_is_reset_is_a_failure(rt: HostRuntime) -> Result<(), Fail> 
 fn an_address_that_cannot_be_listened_at_is_a_failure(rt: HostRuntime) -> Result<(), Fail> {
     let taken = TcpListener::bind(&rt, "127.0.0.1:0")?;
     let name = format!(in rt.alloc(); "{}", taken.local_addr()?)?;
-    for address in [name.as_str(), "no port", "127.0.0.1:65536"] {
+    for address in [name.as_str(), "", "no port", "127.0.0.1:65536", UNKNOWN] {
         assert_eq!(rt;
             TcpInbox::new(&rt).listen(address),
             Err(SendFault::Failed),
