@@ -6,7 +6,7 @@ use Rattle.orca_base.specs.declared.command.Command.{Command}
 use Rattle.orca_base.specs.declared.limits.TheConstants.{MAX_POLLS}
 use Rattle.orca_base.specs.MarkSet.{MarkSet}
 use Rattle.orca_cues.specs.Scripts.{one_a_line}
-use Rattle.orca_edit.specs.Obeying.{MachineState, machine_closed}
+use Rattle.orca_edit.specs.Obeying.{machine_closed}
 use Rattle.orca_notes.specs.Sound.{ends}
 use Rattle.orca_rig.specs.Arrived.{Poll}
 use Rattle.orca_send.specs.Sending.{sends_of}
