@@ -39,10 +39,17 @@ pub(crate) fn tell(alloc: Global, case: Case, into: &mut String) -> Result<()> {
     let Ok(mut outs) = MemOuts::new(failing_sends) else {
         bail!("memory was refused");
     };
-    let Ok(inbox) = MemInbox::new(start, answers, failing_polls) else {
+    let Ok(mut inbox) = MemInbox::new(start, answers, failing_polls) else {
         bail!("memory was refused");
     };
-    let status = run::<Brand>(alloc, &words, &mut files, &mut outs, inbox, Blank::new(1));
+    let status = run::<Brand>(
+        alloc,
+        &words,
+        &mut files,
+        &mut outs,
+        &mut inbox,
+        Blank::new(1),
+    );
     tell_sends(alloc, &outs, into)?;
     for name in &wanted {
         tell_file(alloc, &files, name.as_str(), into)?;
@@ -58,18 +65,17 @@ fn run<L: Ledger>(
     words: &Vec<String>,
     files: &mut MemFiles,
     outs: &mut MemOuts,
-    inbox: MemInbox,
+    inbox: &mut MemInbox,
     blank: Blank,
 ) -> Status
-    requires fresh { inbox.listened ≡ false }
-    requires open { inbox.ended ≡ false }
+    requires fresh { inbox.old.listened ≡ false }
+    requires open { inbox.old.ended ≡ false }
     requires name { blank.name ≡ L.name }
     requires parts { blank.parts ≡ L.parts }
     requires some { 0 < blank.parts }
 {
-    let mut inbox = inbox;
     let mut steps = Steps::<L>::start(blank);
-    orca_player::run(alloc, words, files, outs, &mut inbox, &mut steps)
+    orca_player::run(alloc, words, files, outs, inbox, &mut steps)
 }
 
 /// Adds a line for each send.
