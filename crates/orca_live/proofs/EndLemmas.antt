@@ -54,11 +54,11 @@ script_goes (Some name) s = refl
 -- the parts of the end, one after another
 
 -- the script, and then nothing more
-abbrev script_part : Setting → Ending → LiveState → Course
+abbrev pub script_part : Setting → Ending → LiveState → Course
 script_part set ending u = onward (where_named set.script script_course u) (ended ending)
 
 -- the grid, and then the script
-abbrev save_part : Setting → Ending → LiveState → Course
+abbrev pub save_part : Setting → Ending → LiveState → Course
 save_part set ending t = onward (where_named set.save save_course t) (script_part set ending)
 
 pub finish_cut : (set : Setting) (ending : Ending) (s t : LiveState) (x y : Told) (e : NoMemory)

@@ -1,5 +1,5 @@
--- Whole performances: how bytes were cut changes none that ends, and the script that is kept ends in
--- the same session.
+-- Whole performances: how bytes were cut changes none that ends, and the script that is kept ends
+-- in the same session.
 use Rattle.std.proofs.Common.{◌≡◌, ℕ, ◌+◌, ◌≤◌, arith, false, length, List, [], ◌∷◌, ◌++◌, refl, sym, ◌∙◌, ap, append-nil}
 use Rattle.std.specs.Prelude.{Option, Some, None}
 use Rattle.orca_base.specs.declared.command.Command.{Command}
@@ -15,13 +15,14 @@ use Rattle.orca_stage.specs.Acts.Act.{Stand}
 use Rattle.orca_stage.specs.Manners.{Manner}
 use Rattle.orca_stage.specs.Plans.{close_plan, list_plan}
 use Rattle.orca_stage.specs.Standings.{Standing, notes_of, standing_closed}
-use Rattle.orca_live.specs.Courses.{Course, ended, onward, preceded}
+use Rattle.orca_live.specs.Courses.{Course, ended, preceded}
 use Rattle.orca_live.specs.Items.{items_of}
 use Rattle.orca_live.specs.Laws.{AreAlike, PlayAlike}
 use Rattle.orca_live.specs.Performing.{close_course, finish_by, finish_course, finished, live_course, paint_course, picture_at, polls_course, save_course, script_course, where_named}
 use Rattle.orca_live.specs.States.{LiveState, Setting}
 use Rattle.orca_live.specs.declared.ending.Ending.{Ending}
 use Rattle.orca_live.proofs.CuttingLaw.{Same, SameAll, along, cuts_alike, mixed, play_onward, same_record, same_save, same_still}
+use Rattle.orca_live.proofs.EndLemmas.{save_part, script_part}
 use Rattle.orca_live.proofs.ScriptLaw.{commands_in-append, no_commands, paint_is_none, replays_script}
 
 -- the end, from states that are alike
@@ -48,14 +49,6 @@ same_scripted (Some name) s t same = record { states = same; commands = refl; en
 
 ended_alike : (e f : Ending) (s t : LiveState) → AreAlike s t → PlayAlike (ended e s) (ended f t)
 ended_alike e f s t same = record { states = same; commands = refl }
-
--- the script, and then nothing more
-abbrev script_part : Setting → Ending → LiveState → Course
-script_part set ending u = onward (where_named set.script script_course u) (ended ending)
-
--- the grid, and then the script
-abbrev save_part : Setting → Ending → LiveState → Course
-save_part set ending t = onward (where_named set.save save_course t) (script_part set ending)
 
 script_alike : (set : Setting) (e f : Ending) (s t : LiveState) → AreAlike s t
     → PlayAlike (script_part set e s) (script_part set f t)

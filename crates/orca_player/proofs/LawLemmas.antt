@@ -259,7 +259,8 @@ loaded_again setup performance h commands (Some text) ends given reads =
     grid_again setup performance h commands (grid_text text) ends given reads
 
 -- ports and files give no command
-attach_commands : (setup : Setup) → commands_in (attaches setup ++ Store (Load setup.grid) ∷ []) ≡ []
+attach_commands : (setup : Setup)
+    → commands_in (attaches setup ++ Store (Load setup.grid) ∷ []) ≡ []
 attach_commands setup = attach_by setup.midi setup.udp setup.osc
   where
     attach_by : (midi udp osc : Option (List ℕ))

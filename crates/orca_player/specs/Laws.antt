@@ -1,5 +1,5 @@
--- Laws of performances, on the outlines of runs: how bytes were cut into answers changes nothing that
--- lasts, and the script that is saved ends in the same session.
+-- Laws of performances, on the outlines of runs: how bytes were cut into answers changes nothing
+-- that lasts, and the script that is saved ends in the same session.
 use Rattle.std.specs.Prelude.{◌≡◌, ◌≢◌, ◌≤◌, ℕ, List, length, Some, None, is_some}
 use Rattle.std.specs.List.{flat_map}
 use Rattle.orca_base.specs.declared.command.Command.{Command}

@@ -1,5 +1,5 @@
--- What a run needs so that all of it can be done: a grid, a script, and a history with room for each
--- frame.
+-- What a run needs so that all of it can be done: a grid, a script, and a history with room for
+-- each frame.
 use Rattle.std.specs.Prelude.{◌≡◌, ◌≢◌, ◌<◌, ◌≤◌, ℕ, List, Some, IfSome, Result, Ok, Err}
 use Rattle.orca_base.specs.declared.limits.TheConstants.{MAX_POLLS}
 use Rattle.orca_base.specs.Grids.{Sheet}
@@ -17,9 +17,9 @@ use Rattle.orca_player.specs.declared.status.Status.TheVariants.{HistoryFull}
 abbrev pub IsScript : List ℕ → Type 0
 IsScript text = (cues : List Cue) × (script_of text ≡ Ok cues)
 
--- what the work needs on the opened grid of this name. The frames of `run` and `events` fit into the
--- history. A performance has room for each frame that is due, and fewer polls than may be made are
--- answered by bytes or a due frame
+-- what the work needs on the opened grid of this name. The frames of `run` and `events` fit into
+-- the history. A performance has room for each frame that is due, and fewer polls than may be made
+-- are answered by bytes or a due frame
 abbrev pub CanDo : List ℕ → Work → Heard → Standing → Type 0
 CanDo grid (Run frames) h s = frames ≤ s.machine.limit
 CanDo grid (Events frames) h s = frames ≤ s.machine.limit
