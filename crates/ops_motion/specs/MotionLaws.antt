@@ -67,7 +67,7 @@ comment_few : (first : Option ℕ) → IfSome first (λ i. (1 ≤ i) × (i < 1 +
 comment_few None within = lit≤ tt
 comment_few (Some i) within = omega arith
 
-comment_length-few : (s : State) (at : Place) → comment_length s at ≤ COMMENT_REACH
+pub comment_length-few : (s : State) (at : Place) → comment_length s at ≤ COMMENT_REACH
 unfolding comment_length
 comment_length-few s at = comment_few _ (first_where-range _ 1 COMMENT_REACH)
 

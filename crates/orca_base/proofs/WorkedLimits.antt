@@ -1,16 +1,16 @@
 -- The limits with their numbers, so that none changes unseen. What the reaches and the ranges of
 -- MIDI are for is said by the laws of src/laws.rt.
-use Rattle.std.specs.Prelude.{◌≡◌, ◌+◌, ◌^◌, max, pos, refl}
-use Rattle.orca_base.specs.declared.limits.TheConstants.{MAX_ROWS, MAX_COLUMNS, MAX_CELLS, WORD_COLUMNS, BASE, MAX_OCTAVE, MIN_VELOCITY, MAX_TEXT, MAX_VALUES, SHORT_BYTES, WIRE_BYTES, MAX_OSC_BYTES, MAX_REACH, INLINE_CHANGES, ARRIVAL_BYTES, SEQUENCE_BYTES, JUMP_REACH, COMMENT_REACH, MAX_DEEDS, MAX_TICKS, MAX_VISIT_TICKS, MAX_EVENTS, MAX_NOTES, MAX_MESSAGES, MAX_DIGITS, DEFAULT_SEED, MAX_FILE_BYTES, MAX_HISTORY, DEFAULT_HISTORY, KEPT_PATCHES, BACK_MOMENTS, MIN_SCREEN_ROWS, MAX_SCREEN_ROWS, MIN_SCREEN_COLUMNS, MAX_SCREEN_COLUMNS, MAX_BPM, DEFAULT_BPM, BEAT_FRAMES, MINUTE_MICROSECONDS, MAX_POLLS}
+use Rattle.std.specs.Prelude.{◌≡◌, ◌^◌, pos, refl}
+use Rattle.orca_base.specs.declared.limits.TheConstants.{MAX_ROWS, MAX_COLUMNS, MAX_CELLS, WORD_COLUMNS, BASE, MAX_OCTAVE, MIN_VELOCITY, MAX_TEXT, MAX_VALUES, SHORT_BYTES, WIRE_BYTES, MAX_OSC_BYTES, MAX_REACH, INLINE_CHANGES, ARRIVAL_BYTES, SEQUENCE_BYTES, JUMP_REACH, COMMENT_REACH, MAX_DEEDS, MAX_TICKS, MAX_VISIT_TICKS, MAX_EVENTS, MAX_NOTES, MAX_MESSAGES, MAX_DIGITS, DEFAULT_SEED, MAX_FILE_BYTES, MAX_HISTORY, DEFAULT_HISTORY, KEPT_PATCHES, MAX_TOUCHED, KEPT_TOUCHED, MAX_CHECKPOINTS, FIRST_SPACING, COMMAND_PRICE, OPERATOR_PRICE, TOUCH_PRICE, BACK_MOMENTS, MIN_SCREEN_ROWS, MAX_SCREEN_ROWS, MIN_SCREEN_COLUMNS, MAX_SCREEN_COLUMNS, MAX_BPM, DEFAULT_BPM, BEAT_FRAMES, MINUTE_MICROSECONDS, MAX_POLLS}
 
 -- grids
-most_rows : MAX_ROWS ≡ 256
+most_rows : MAX_ROWS ≡ 1024
 most_rows = refl
 
-most_columns : MAX_COLUMNS ≡ 256
+most_columns : MAX_COLUMNS ≡ 1024
 most_columns = refl
 
-most_cells : MAX_CELLS ≡ 65536
+most_cells : MAX_CELLS ≡ 1048576
 most_cells = refl
 
 columns_of_a_word : WORD_COLUMNS ≡ 64
@@ -41,12 +41,11 @@ most_bytes_of_a_wire = refl
 most_bytes_of_a_datagram : MAX_OSC_BYTES ≡ 184
 most_bytes_of_a_datagram = refl
 
--- the reaches are as long as the longest grid needs, and no longer
-jump_past_the_last_place : JUMP_REACH ≡ max MAX_ROWS MAX_COLUMNS
-jump_past_the_last_place = refl
+farthest_end_of_a_chain : JUMP_REACH ≡ 256
+farthest_end_of_a_chain = refl
 
-comment_to_the_last_place : COMMENT_REACH + 1 ≡ MAX_COLUMNS
-comment_to_the_last_place = refl
+farthest_lock_of_a_comment : COMMENT_REACH ≡ 255
+farthest_lock_of_a_comment = refl
 
 farthest_deed : MAX_REACH ≡ pos 65536
 farthest_deed = refl
@@ -61,13 +60,13 @@ most_ticks = refl
 most_visit_ticks : MAX_VISIT_TICKS ≡ 600
 most_visit_ticks = refl
 
-most_events : MAX_EVENTS ≡ 65536
+most_events : MAX_EVENTS ≡ 1048576
 most_events = refl
 
 most_notes : MAX_NOTES ≡ 2048
 most_notes = refl
 
-most_messages : MAX_MESSAGES ≡ 133120
+most_messages : MAX_MESSAGES ≡ 2099200
 most_messages = refl
 
 -- words and files
@@ -89,6 +88,27 @@ history_that_is_not_given = refl
 
 newest_entries : KEPT_PATCHES ≡ 1024
 newest_entries = refl
+
+most_cells_of_an_entry : MAX_TOUCHED ≡ 2097152
+most_cells_of_an_entry = refl
+
+most_cells_of_the_newest_entries : KEPT_TOUCHED ≡ 67108864
+most_cells_of_the_newest_entries = refl
+
+most_checkpoints : MAX_CHECKPOINTS ≡ 65
+most_checkpoints = refl
+
+entries_between_the_first_checkpoints : FIRST_SPACING ≡ 256
+entries_between_the_first_checkpoints = refl
+
+price_of_a_command : COMMAND_PRICE ≡ 8
+price_of_a_command = refl
+
+price_of_an_operator : OPERATOR_PRICE ≡ 1200
+price_of_an_operator = refl
+
+price_of_a_touched_cell : TOUCH_PRICE ≡ 4
+price_of_a_touched_cell = refl
 
 changes_without_memory : INLINE_CHANGES ≡ 8
 changes_without_memory = refl

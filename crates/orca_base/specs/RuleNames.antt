@@ -1,7 +1,7 @@
 -- The names of the rules by which a command is refused, as they are printed.
 use Rattle.std.specs.Prelude.{ℕ, List, codes}
 use Rattle.orca_base.specs.declared.command.Rule.{Rule}
-use Rattle.orca_base.specs.declared.command.Rule.TheVariants.{OutOfGrid, EmptyBlock, BadSize, EmptyClip, NothingToUndo, NoSuchMoment, HistoryFull}
+use Rattle.orca_base.specs.declared.command.Rule.TheVariants.{OutOfGrid, EmptyBlock, BadSize, EmptyClip, NothingToUndo, NoSuchMoment, HistoryFull, NothingToRedo}
 
 -- the name of a rule
 abbrev pub rule_name : Rule → List ℕ
@@ -12,3 +12,4 @@ rule_name EmptyClip = codes "EmptyClip"
 rule_name NothingToUndo = codes "NothingToUndo"
 rule_name (NoSuchMoment kept) = codes "NoSuchMoment"
 rule_name HistoryFull = codes "HistoryFull"
+rule_name NothingToRedo = codes "NothingToRedo"

@@ -68,6 +68,8 @@ pub enum Command {
         /// How many entries of the history stay.
         moment: u32,
     },
+    /// Brings back what was cut off last, up to its second edit.
+    Redo,
 }
 
 /// What a history keeps of a command. All but `Frame` and `Hush` are edits.
@@ -126,8 +128,10 @@ pub enum Rule {
         /// How many entries the history has.
         kept: u32,
     },
-    /// The history has as many entries as it may have.
+    /// The history has as many entries as it may have, or what Redo brings back doesn't fit into it.
     HistoryFull,
+    /// Nothing was cut off that Redo could bring back.
+    NothingToRedo,
 }
 
 impl Rule {
@@ -148,6 +152,7 @@ impl Rule {
             Rule::NothingToUndo => "NothingToUndo",
             Rule::NoSuchMoment { .. } => "NoSuchMoment",
             Rule::HistoryFull => "HistoryFull",
+            Rule::NothingToRedo => "NothingToRedo",
         }
     }
 }
@@ -168,6 +173,11 @@ pub enum Reply {
     Jumped {
         /// How many entries of the history stayed.
         moment: u32,
+    },
+    /// Entries that were cut off are in the history again.
+    Redone {
+        /// How many.
+        entries: u32,
     },
 }
 

@@ -5,7 +5,7 @@ use crate::limits::{MAX_CELLS, MAX_COLUMNS, MAX_ROWS};
 use crate::{Place, Spot};
 use std::marker::Model;
 
-/// The size of a grid: 1 to 256 rows of 1 to 256 columns.
+/// The size of a grid: 1 to [`MAX_ROWS`] rows of 1 to [`MAX_COLUMNS`] columns.
 #[derive(Clone, Copy, Debug, PartialEq, Eq)]
 pub struct Dims {
     /// The number of rows.
@@ -27,7 +27,8 @@ impl Model for Dims {
 }
 
 impl Dims {
-    /// The size of `h` rows and `w` columns; none exactly where a side is 0 or above 256.
+    /// The size of `h` rows and `w` columns; none exactly where a side is 0
+    /// or above its limit.
     pub fn of(h: u32, w: u32) -> Option<Dims>
         ensures some { IfSome result (λ d. d ≡ record { h = h; w = w }) }
         ensures none { IsNone result ↔ (IsSize (record { h = h; w = w }) → ⊥) }
@@ -65,7 +66,7 @@ impl Dims {
         })
     }
 
-    /// The number of cells, 1 to 65,536.
+    /// The number of cells, 1 to [`MAX_CELLS`].
     pub fn cells(self) -> usize
         ensures cells { result ≡ self.h * self.w }
         ensures most { result ≤ MAX_CELLS }

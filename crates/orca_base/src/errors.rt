@@ -4,10 +4,6 @@ use std::alloc::{AllocError, AllocFailed};
 #[derive(Clone, Copy, Debug, PartialEq, Eq)]
 pub struct Memory;
 
-/// A call of the outside failed, and was counted there.
-#[derive(Clone, Copy, Debug, PartialEq, Eq)]
-pub struct Failed;
-
 impl From<AllocError> for Memory {
     fn from(_: AllocError) -> Memory {
         Memory

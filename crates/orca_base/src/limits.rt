@@ -1,10 +1,10 @@
 //! The limits of this profile. Code and definitions name them, so that each can change in one line.
 
 /// The most rows of a grid.
-pub const MAX_ROWS: u16 = 256;
+pub const MAX_ROWS: u16 = 1_024;
 
 /// The most columns of a grid.
-pub const MAX_COLUMNS: u16 = 256;
+pub const MAX_COLUMNS: u16 = 1_024;
 
 /// The most cells of a grid.
 pub const MAX_CELLS: usize = MAX_ROWS as usize * MAX_COLUMNS as usize;
@@ -93,6 +93,27 @@ pub const DEFAULT_HISTORY: u32 = 1_000_000;
 
 /// How many of the newest entries of a history keep a patch, by which they can be undone.
 pub const KEPT_PATCHES: u32 = 1_024;
+
+/// The most cells that one entry of a history touches: those of two grids.
+pub const MAX_TOUCHED: u32 = 2 * MAX_CELLS as u32;
+
+/// The most cells that the entries with patches may have touched together.
+pub const KEPT_TOUCHED: u64 = 67_108_864;
+
+/// The most checkpoints of a history.
+pub const MAX_CHECKPOINTS: u32 = 65;
+
+/// How many entries lie between two checkpoints, until there are too many of them.
+pub const FIRST_SPACING: u32 = 256;
+
+/// What each command costs at most, in steps, besides what it does to the grid.
+pub const COMMAND_PRICE: u64 = 8;
+
+/// What each operator costs a frame at most, in steps.
+pub const OPERATOR_PRICE: u64 = 1_200;
+
+/// What each touched cell costs an edit at most, in steps.
+pub const TOUCH_PRICE: u64 = 4;
 
 /// How many changes a patch keeps without memory of its own.
 pub const INLINE_CHANGES: usize = 8;

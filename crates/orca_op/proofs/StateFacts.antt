@@ -1,14 +1,16 @@
 -- What deeds leave of a state: its size, the lengths of its lists, and glyphs alone.
-use Rattle.std.proofs.Common.{◌≡◌, ℕ, zero, suc, ◌+◌, ◌≤◌, List, [], ◌∷◌, length, replicate, refl, arith, ap, ◌∙◌, lit≤, length-append}
-use Rattle.std.specs.Prelude.{count_by, Option, Some, None}
+use Rattle.std.proofs.Common.{◌≡◌, ◌&&◌, Bool, true, false, inl, inr, sym, ℕ, zero, suc, ◌+◌, ◌≤◌, List, [], ◌∷◌, length, replicate, refl, arith, ap, ◌∙◌, lit≤, length-append}
+use Rattle.std.specs.Prelude.{count_by, Option, Some, None, ◌≢◌, ◌==◌, if◌then◌else◌, nat_lt}
+use Rattle.std.proofs.lemmas.Bool.{le-ltb}
+use Rattle.std.proofs.lemmas.Bool.Decides.{eqb_tells}
 use Rattle.std.proofs.lemmas.List.{length-set, length-replicate}
 use Rattle.orca_base.specs.declared.limits.TheConstants.{BASE}
 use Rattle.orca_base.specs.declared.place.Place.{Place}
 use Rattle.orca_base.specs.Glyphs.{IsGlyph, AreGlyphs, empty}
-use Rattle.orca_base.specs.Grids.{Sheet, IsSheet, cells_of, index_of, place_in}
+use Rattle.orca_base.specs.Grids.{Sheet, IsSheet, cells_of, index_of, place_in, right}
 use Rattle.orca_base.specs.MarkSet.{MarkSet, no_marks, all_marks}
 use Rattle.orca_base.proofs.SheetFacts.{AreGlyphs-set}
-use Rattle.orca_op.specs.State.{State, IsState, sheet_of, fresh, marks_at}
+use Rattle.orca_op.specs.State.{State, IsState, sheet_of, fresh, marks_at, peek}
 use Rattle.orca_op.specs.Deeds.{Deed, Mark, Write, Set, Emit, after, after_all, marks_after, cells_after}
 use Rattle.orca_op.specs.Laws.{Every, WritesGlyph, is_emit}
 use Rattle.orca_op.specs.LawFacts.{count_by-append}
@@ -129,3 +131,20 @@ IsState-fresh g sheet = record {
   glyphs = AreGlyphs-empty BASE;
   events = omega arith;
 }
+
+-- at the right of the edge there is no glyph but `.`
+pub none_beyond : (s : State) (at : Place) (k byte : ℕ) → s.dims.w ≤ at.x + k → byte ≢ empty
+    → (peek s (right at k) == byte) ≡ false
+unfolding peek
+none_beyond s at k byte beyond visible =
+    let none : place_in s.dims (right at k) ≡ None =
+    rw (le-ltb (at.x + k) s.dims.w beyond)
+    (none_if (nat_lt (at.y + 0) s.dims.h) (record { y = at.y + 0; x = at.x + k })) in
+    rw none (elim (eqb_tells empty byte) [
+      | inl same ↦ absurd (visible (sym same.1))
+      | inr apart ↦ apart.0
+    ])
+  where
+    none_if : (row : Bool) (place : Place) → (if row && false then Some place else None) ≡ None
+    none_if true place = refl
+    none_if false place = refl

@@ -1,5 +1,5 @@
 -- The state of a scan, and what can be read in it.
-use Rattle.std.specs.Prelude.{ℕ, ◌≡◌, ◌≤◌, ◌==◌, Bool, ◌||◌, List, [], length, replicate, Option, Some, None, slice_index, slice_index_or, is_some}
+use Rattle.std.specs.Prelude.{ℕ, ◌-◌, ◌≡◌, ◌≤◌, ◌==◌, Bool, ◌||◌, List, [], length, replicate, Option, Some, None, slice_index, slice_index_or, is_some, min, unwrap_or}
 use Rattle.orca_base.specs.declared.event.Event.{Event}
 use Rattle.orca_base.specs.declared.limits.TheConstants.{BASE}
 use Rattle.orca_base.specs.declared.place.Place.{Place}
@@ -78,3 +78,8 @@ unfoldable pub has_bang : State → Place → Bool
 has_bang s at =
     (peek s (above at) == bang) || (peek s (left at 1) == bang)
     || (peek s (right at 1) == bang) || (peek s (below at) == bang)
+
+-- how many places at the right of a place are looked at: as many as it takes to find the first that
+-- is looked for, or all that lie in the grid and within the reach
+abbrev pub looks_right : Size → Place → ℕ → Option ℕ → ℕ
+looks_right d at reach first = unwrap_or first (min reach (d.w - 1 - at.x))

@@ -2,7 +2,7 @@ ghost use Rattle.std.specs.Prelude.{◌≡◌, ◌≢◌, ◌==◌, ◌+◌, ◌
 ghost use Rattle.orca_base.specs.Glyphs.{empty};
 ghost use Rattle.orca_op.specs.First.{first_where};
 ghost use Rattle.orca_base.specs.Grids.{IsInside, off, right};
-ghost use Rattle.orca_op.specs.State.{peek, marked, glyph_at, marks_at, has_bang, var_at};
+ghost use Rattle.orca_op.specs.State.{peek, marked, glyph_at, marks_at, has_bang, var_at, looks_right};
 ghost use Rattle.orca_op.specs.Deeds.{Mark as mark_deed, Write as write_deed, Set as set_deed, Emit as emit_deed, input_at, param_at, output_at, far_at, lock_at, sleep_at, show_at, each, span_deeds};
 ghost use Rattle.orca_op.specs.Desk.{Desk, IsDesk, HasRoom, desk_after, desk_after_all, desk_at_begin, residue};
 
@@ -100,7 +100,7 @@ pub trait Bench {
 
     /// The first of `reach` columns at the right of a place of the grid that holds the glyph of a
     /// byte; none exactly where none does. Beyond the edge there is only `.`, which is not asked
-    /// for.
+    /// for. It ticks for each place that it looks at.
     fn find_right<L: Ledger>(
         &self,
         at: Place,
@@ -113,10 +113,11 @@ pub trait Bench {
         ensures first { result
             ≡ first_where (λ i. peek (desk self.now).scan (right at i) == byte) 1 reach }
         ensures range { IfSome result (λ column. (1 ≤ column) × (column ≤ reach)) }
-        ensures ticks { steps.new ≤ steps.old + reach }
-        ensures later { steps.old ≤ steps.new }
+        ensures ticks { steps.new ≡ steps.old
+            + looks_right (desk self.now).scan.dims at reach result }
     {
-        for column in 1..u16::from(reach) + 1 {
+        let end = (u16::from(reach) + 1).min(self.dims().w - at.x);
+        for column in 1..end {
             if self.peek(at.right(column), steps).byte() == byte {
                 return Some(column);
             }

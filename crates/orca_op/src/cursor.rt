@@ -1,6 +1,6 @@
 ghost use Rattle.std.specs.Prelude.{◌≡◌, ℕ, ◌+◌, ◌-◌, ◌*◌, ◌/◌, ◌<◌, ◌≤◌, length, IfSome, IsTrue, unwrap_or};
 ghost use Rattle.std.specs.Int.{trailing_zeros, w64};
-ghost use Rattle.orca_base.specs.declared.limits.TheConstants.{WORD_COLUMNS, MAX_COLUMNS};
+ghost use Rattle.orca_base.specs.declared.limits.TheConstants.{WORD_COLUMNS, ROW_WORDS};
 ghost use Rattle.orca_op.specs.First.{first_where};
 ghost use Rattle.orca_op.specs.Live.{is_live, has_bit, next_live, HasNoLive};
 
@@ -74,7 +74,7 @@ impl Cursor {
     #[inline(always)]
     fn find(&mut self, words: &[u64]) -> Option<u16>
         requires some { (self.old - 1) / WORD_COLUMNS < length words.now }
-        requires few { length words.now ≤ MAX_COLUMNS }
+        requires few { length words.now ≤ ROW_WORDS }
         ensures least { result ≡ first_where (has_bit words.now) self.old
             (WORD_COLUMNS * length words.now - self.old) }
         ensures behind { IfSome result (λ x. self.new ≡ x + 1) }
@@ -99,7 +99,7 @@ impl Cursor {
     #[inline(always)]
     fn stop(&mut self, word: usize, base: usize, bits: u64) -> u16
         requires some { 0 < bits }
-        requires few { word < MAX_COLUMNS }
+        requires few { word < ROW_WORDS }
         requires base { base ≡ word * WORD_COLUMNS }
         ensures column { result ≡ word * WORD_COLUMNS + trailing_zeros w64 bits }
         ensures behind { self.new ≡ result + 1 }

@@ -4,7 +4,7 @@ ghost use Rattle.orca_op.specs.Live.{is_live, has_bit, next_live, HasNoLive, IsL
 
 use crate::Walk;
 use orca_base::Steps;
-use orca_base::limits::{MAX_COLUMNS, WORD_COLUMNS};
+use orca_base::limits::{ROW_WORDS, WORD_COLUMNS};
 use std::sync::ledger::Ledger;
 
 /// The least column of a row, at least `from`, that holds an operator as the grid stands now; none
@@ -29,7 +29,7 @@ pub fn next_live<B: Walk, L: Ledger>(
 
 /// The least bit of a row's words, at least `from`, that is set.
 fn next_bit(words: &[u64], from: u16) -> Option<u16>
-    requires { length words.now ≤ MAX_COLUMNS }
+    requires { length words.now ≤ ROW_WORDS }
     ensures { result
         ≡ first_where (has_bit words.now) from (WORD_COLUMNS * length words.now - from) }
 {

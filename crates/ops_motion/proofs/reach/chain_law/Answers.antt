@@ -1,11 +1,15 @@
-use Rattle.orca_base.specs.Grids.{down, right}
-use Rattle.ops_motion.proofs.ReachLemmas.{chain_ends}
+use Rattle.orca_base.specs.Grids.{above, down, left, right}
+use Rattle.ops_motion.proofs.ReachLemmas.{hands_on, marks_its_source}
 use Rattle.ops_motion.proofs.reach.chain_law.Goals as goal
 
-pub returns-clause-jumpers : goal.returns-clause-jumpers
-returns-clause-jumpers c = λ g s at size other. chain_ends g s (down at)
-    (c.reach_law.ensures.down s.dims at size) other
+pub returns-clause-jumper : goal.returns-clause-jumper
+returns-clause-jumper c = λ g s at now. hands_on g s (above at) (down at)
 
-pub returns-clause-jympers : goal.returns-clause-jympers
-returns-clause-jympers c = λ g s at size other. chain_ends g s (right at)
-    (c.reach_law.ensures.right s.dims at size) other
+pub returns-clause-endless_jumper : goal.returns-clause-endless_jumper
+returns-clause-endless_jumper c = λ g s at now. marks_its_source g s (above at) (down at)
+
+pub returns-clause-jymper : goal.returns-clause-jymper
+returns-clause-jymper c = λ g s at now. hands_on g s (left at 1) (right at)
+
+pub returns-clause-endless_jymper : goal.returns-clause-endless_jymper
+returns-clause-endless_jymper c = λ g s at now. marks_its_source g s (left at 1) (right at)
