@@ -1,4 +1,4 @@
-//! Marks that clear cheaply: clearing costs what is marked, whatever the size of the grid.
+//! Marks that clear cheaply: of the rows of a grid, clearing goes over those that were marked.
 #![tactic(auto)]
 
 mod plane;

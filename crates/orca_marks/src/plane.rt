@@ -1,8 +1,9 @@
-ghost use Rattle.std.specs.Prelude.{◌≡◌, ◌≤◌, ◌<◌, ◌+◌, ◌*◌, ◌/◌, ◌==◌, ◌&&◌, ℕ, length, map, nat_le, nat_lt, slice_set, slice_index_or, count_by, if◌then◌else◌, IfOk};
+ghost use Rattle.std.specs.Prelude.{◌≡◌, ◌≤◌, ◌<◌, ◌+◌, ◌*◌, ◌&&◌, ℕ, length, map, nat_le, nat_lt, slice_set, slice_index_or, count_by, if◌then◌else◌, IfOk};
 ghost use Rattle.orca_base.specs.declared.limits.TheConstants.{MAX_CELLS, MAX_COLUMNS, MAX_ROWS};
-ghost use Rattle.orca_base.specs.Grids.{IsInside, largest, index_of};
+ghost use Rattle.orca_base.specs.declared.place.Place.{Place};
+ghost use Rattle.orca_base.specs.Grids.{IsInside, largest, index_of, is_inside};
 ghost use Rattle.orca_base.specs.MarkSet.{MarkSet, no_marks, all_marks, is_marked};
-ghost use Rattle.orca_marks.specs.Planes.{blank};
+ghost use Rattle.orca_marks.specs.Planes.{IsPlane, blank};
 
 use orca_base::limits::{MAX_CELLS, MAX_COLUMNS, MAX_ROWS};
 use orca_base::{Dims, Marks, Memory, Place};
@@ -16,8 +17,10 @@ const ROWS: usize = MAX_ROWS as usize;
 #[derive(Drop)]
 pub struct MarkPlane {
     marks: Vec<Marks>,
-    /// Which rows were marked since they were last cleared.
-    touched: [bool; ROWS],
+    /// Which rows may have marks in the columns that are cleared.
+    marked: [bool; ROWS],
+    /// How many columns of a row are cleared. Beyond them old marks may stay.
+    columns: u16,
 }
 
 impl Model for MarkPlane {
@@ -29,7 +32,7 @@ impl Model for MarkPlane {
 
     ghost view = { λ p. p.marks.items };
 
-    ghost invariant = { λ p. IsPlane p.marks.items p.touched };
+    ghost invariant = { λ p. IsPlane p.marks.items p.marked p.columns };
 }
 
 impl MarkPlane {
@@ -41,7 +44,8 @@ impl MarkPlane {
         marks.resize(MAX_CELLS, Marks::none())?;
         Ok(MarkPlane {
             marks,
-            touched: [false; ROWS],
+            marked: [false; ROWS],
+            columns: MAX_COLUMNS,
         })
     }
 
@@ -52,7 +56,7 @@ impl MarkPlane {
             (all_marks (slice_index_or self.old (index_of largest at) no_marks) marks) }
     {
         let index = Dims::largest().index(at);
-        self.touched[usize::from(at.y)] = true;
+        self.marked[usize::from(at.y)] = true;
         self.marks[index] = self.marks[index].union(marks);
     }
 
@@ -68,7 +72,7 @@ impl MarkPlane {
     {
         let first = Dims::largest().index(at);
         let row = usize::from(at.y);
-        self.touched[row] = true;
+        self.marked[row] = true;
         add_from(&mut self.marks, first, usize::from(count), marks);
     }
 
@@ -80,14 +84,6 @@ impl MarkPlane {
         self.marks[Dims::largest().index(at)]
     }
 
-    /// The marks of a place of the largest grid, by its number.
-    pub fn numbered(&self, number: usize) -> Marks
-        requires { number < MAX_CELLS }
-        ensures { result ≡ slice_index_or self.now number no_marks }
-    {
-        self.marks[number]
-    }
-
     /// How many places are marked.
     pub fn count(&self) -> u32
         ensures count { result ≡ count_by is_marked self.now }
@@ -96,39 +92,37 @@ impl MarkPlane {
         self.marks.iter().filter(|place| !place.is_empty()).count() as u32
     }
 
-    /// No marks any more. It goes over the rows that were marked alone.
-    pub fn clear(&mut self)
-        ensures { self.new ≡ blank }
-    {
-        self.clear_rows(MAX_ROWS);
-    }
-
-    /// Takes the marks of the first rows of the largest grid away.
-    pub fn clear_rows(&mut self, rows: u16)
-        requires { rows ≤ MAX_ROWS }
+    /// Takes the marks of a grid's places away. It goes over the rows of the grid that were marked,
+    /// and no column beyond it. Where the grid is wider than at the last call, it goes over all its
+    /// rows.
+    pub fn clear(&mut self, dims: Dims)
         ensures size { length self.new ≡ MAX_CELLS }
-        ensures marks { (i : ℕ) → slice_index_or self.new i no_marks
-            ≡ (if nat_lt i (rows * MAX_COLUMNS) then no_marks
-            else slice_index_or self.old i no_marks) }
+        ensures marks { (at : Place) → IsInside largest at
+            → slice_index_or self.new (index_of largest at) no_marks ≡ (if is_inside dims at
+            then no_marks else slice_index_or self.old (index_of largest at) no_marks) }
     {
-        let _marks = &self.marks;
-        for row in 0..rows {
-            self.clear_row(row);
+        if dims.w > self.columns {
+            self.marked = [true; ROWS];
         }
+        self.columns = dims.w;
+        clear_rows(&mut self.marks, &mut self.marked, dims);
     }
+}
 
-    /// Takes the marks of a row away.
-    fn clear_row(&mut self, row: u16)
-        requires { row < MAX_ROWS }
-        ensures size { length self.new ≡ MAX_CELLS }
-        ensures marks { (i : ℕ) → slice_index_or self.new i no_marks
-            ≡ (if i / MAX_COLUMNS == row then no_marks else slice_index_or self.old i no_marks) }
-    {
-        let row = usize::from(row);
-        if self.touched[row] {
-            self.touched[row] = false;
-            let columns = usize::from(MAX_COLUMNS);
-            clear_from(&mut self.marks, row * columns, columns);
+/// Takes the marks of a grid's places away, and the flags of its rows. A row without a flag has no
+/// marks there.
+fn clear_rows(places: &mut [Marks], marked: &mut [bool; ROWS], dims: Dims)
+    requires { IsPlane places.old marked.old dims.w }
+    ensures plane { IsPlane places.new marked.new dims.w }
+    ensures marks { (at : Place) → IsInside largest at
+        → slice_index_or places.new (index_of largest at) no_marks ≡ (if is_inside dims at
+        then no_marks else slice_index_or places.old (index_of largest at) no_marks) }
+{
+    let columns = usize::from(dims.w);
+    for row in 0..usize::from(dims.h) {
+        if marked[row] {
+            marked[row] = false;
+            clear_from(places, row * usize::from(MAX_COLUMNS), columns);
         }
     }
 }

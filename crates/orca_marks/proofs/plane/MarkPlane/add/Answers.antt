@@ -7,5 +7,5 @@ pub invariant_of-self : goal.invariant_of-self
 invariant_of-self c =
     let number =
     c.index-index.ensures.index ∙ ap (λ (d : Size). index_of d c.args.at) c.largest.ensures in
-    rw c.from.ensures (plane_set _ _ c.args.at.y c.args.at.x _ _ c.self.invariant c.requires.row
+    rw c.from.ensures (plane_set _ _ _ c.args.at.y c.args.at.x _ _ c.self.invariant c.requires.row
     c.requires.column number)
