@@ -102,7 +102,7 @@ fn refusals_are_shown(rt: HostRuntime) -> Result<(), Fail> {
         ),
         (GridRefusal::NoCells, "no cells"),
         (GridRefusal::TooWide { row: 1 }, "row 1 too wide"),
-        (GridRefusal::TooWide { row: 256 }, "row 256 too wide"),
+        (GridRefusal::TooWide { row: 1_024 }, "row 1024 too wide"),
         (GridRefusal::TooHigh, "too many rows"),
         (GridRefusal::Memory, "memory was refused"),
     ] {
@@ -198,13 +198,19 @@ fn the_largest_texts(rt: HostRuntime) -> Result<(), Fail> {
 fn rows_and_columns_of_the_largest_grid(rt: HostRuntime) -> Result<(), Fail> {
     let mut row = text_of(rt.alloc(), (b"x", COLUMNS), (b"\n", 1))?;
     let text = text_of(rt.alloc(), (&row, ROWS), (b"", 0))?;
-    assert!(rt; text.len() < 10_000_000);
-    let grid = Grid::read(rt.alloc(), &text)?;
-    let dims = grid.dims();
-    assert!(rt; dims.h == MAX_ROWS && dims.w == MAX_COLUMNS);
-    row.clear();
-    Grid::print(&grid, &mut row)?;
-    assert!(rt; row.as_slice() == text.as_slice());
+    row.pop();
+    let last = row.clone()?;
+    row.extend_from_slice(b"\r\n")?;
+    let returns = text_of(rt.alloc(), (&row, ROWS - 1), (&last, 1))?;
+    for read in [text.as_slice(), returns.as_slice()] {
+        assert!(rt; read.len() < 10_000_000);
+        let grid = Grid::read(rt.alloc(), read)?;
+        let dims = grid.dims();
+        assert!(rt; dims.h == MAX_ROWS && dims.w == MAX_COLUMNS);
+        row.clear();
+        Grid::print(&grid, &mut row)?;
+        assert!(rt; row.as_slice() == text.as_slice());
+    }
     Ok(())
 }
 
