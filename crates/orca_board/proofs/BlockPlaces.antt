@@ -42,14 +42,6 @@ is_number area n below =
       column = mod_below n area.w some;
     }
 
--- the number of that cell, among rows that may be wider
-pub in_rows : (area : Area) (n width columns whole : ℕ) → n < area.h * area.w → columns ≡ area.w
-    → whole ≡ width → area.w ≤ width → n / columns * whole + n % columns < area.h * width
-in_rows area n width columns whole below same all wide =
-    let number = is_number area n below in
-    rw (same, all) (index-below (n / area.w) (n % area.w) area.h width number.row
-    (omega (arith, number.column, wide)))
-
 pub between-nth : (area : Area) (n : ℕ) → n < area.h * area.w → IsBetween area (nth_place area n)
 between-nth area n below =
     let number = is_number area n below in
@@ -60,7 +52,7 @@ between-nth area n below =
       right = omega (arith, number.column);
     }
 
-between-test : (area : Area) (at : Place) → is_in_area area at ≡ true → IsBetween area at
+pub between-test : (area : Area) (at : Place) → is_in_area area at ≡ true → IsBetween area at
 between-test area at is =
     let first = and_parts _ _ is in
     let second = and_parts _ _ first.0 in
@@ -72,7 +64,7 @@ between-test area at is =
       right = ltb-true _ _ first.1;
     }
 
-test-between : (area : Area) (at : Place) → IsBetween area at → is_in_area area at ≡ true
+pub test-between : (area : Area) (at : Place) → IsBetween area at → is_in_area area at ≡ true
 test-between area at is =
     rw (
       le-leb area.y at.y is.top,
@@ -170,12 +162,6 @@ pub inside-places_outside : (d : Size) (area other : Area) → area.y + area.h �
 inside-places_outside d area other bottom right =
     All-filter (λ at. not (is_in_area other at)) (IsInside d) (places_in area)
     (inside-places_in d area bottom right)
-
-pub inside-nth : (d : Size) (area : Area) (n : ℕ) → area.y + area.h ≤ d.h → area.x + area.w ≤ d.w
-    → n < area.h * area.w → IsInside d (nth_place area n)
-inside-nth d area n bottom right below =
-    let is = between-nth area n below in
-    record { row = omega (arith, is.bottom, bottom); column = omega (arith, is.right, right) }
 
 -- ---- the image of a block
 

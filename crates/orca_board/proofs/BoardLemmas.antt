@@ -170,7 +170,7 @@ live-row s cells bits words row x size below is outside live long read =
         let column : nat_lt x s.dims.w ≡ false =
         le-ltb x s.dims.w past in rw column (and_false (nat_lt row s.dims.h))
 
-most_size : IsSize largest
+pub most_size : IsSize largest
 most_size = record {
   rows = omega arith;
   few_rows = omega arith;
@@ -180,69 +180,6 @@ most_size = record {
 }
 
 -- ---- cells that are written one after the other
-
--- the first n places of a grid hold what the function gives to their numbers
-abbrev pub IsLaid : Size → ℕ → List ℕ → (ℕ → ℕ) → Type 0
-IsLaid d n cells glyph = (k : ℕ) → k < n → glyph_in cells (place_of d k) ≡ glyph k
-
--- one more
-pub laid-more : (d : Size) (n : ℕ) (cells : List ℕ) (glyph : ℕ → ℕ) → IsSize d → n < cells_of d
-    → length cells ≡ MAX_CELLS → IsLaid d n cells glyph
-    → IsLaid d (n + 1) (set cells (index_of largest (place_of d n)) (glyph n)) glyph
-laid-more d n cells glyph size few whole laid k below =
-    elim (eqb_tells k n) [
-      | inl same ↦ rw same.1 (get_or-set_same cells (index_of largest (place_of d n)) (glyph n) 0
-          (omega (
-            arith,
-            index_of-below largest (place_of d n) (inside-largest d _ size there),
-            whole,
-          )))
-      | inr other ↦
-          let before : k < n = below_other k n below other.1 in
-          let here : IsInside d (place_of d k) =
-          inside-place_of d k size (omega (arith, before, few)) in
-          get_or-set_other cells (index_of largest (place_of d n)) (index_of largest (place_of d k))
-          (glyph n) 0
-          (λ same. other.1 (
-          let parts = index-injective MAX_COLUMNS (k / d.w) (k % d.w) (n / d.w) (n % d.w)
-          (omega (arith, here.column, size.few_columns))
-          (omega (arith, there.column, size.few_columns)) same in
-          sym (index_of-place_of d k size) ∙
-          (same_number parts.0 parts.1 ∙ index_of-place_of d n size)))
-          ∙ laid k before
-    ]
-  where
-    there : IsInside d (place_of d n)
-    there = inside-place_of d n size few
-
-    below_other : (k n : ℕ) → k < n + 1 → (k ≡ n → ⊥) → k < n
-    below_other k n below other = elim (cases_lt k n) [
-      | inl less ↦ less
-      | inr more ↦ absurd (other (omega (arith, below, more)))
-    ]
-
-    same_number : (k / d.w) ≡ (n / d.w) → (k % d.w) ≡ (n % d.w)
-        → index_of d (place_of d k) ≡ index_of d (place_of d n)
-    same_number row column =
-        ap (λ (y : ℕ). y * d.w + k % d.w) row ∙ ap (λ (x : ℕ). (n / d.w) * d.w + x) column
-
--- all of them
-pub laid-at : (d : Size) (cells : List ℕ) (glyph : ℕ → ℕ) (at : Place) → IsInside d at
-    → IsLaid d (cells_of d) cells glyph → glyph_in cells at ≡ glyph (index_of d at)
-laid-at d cells glyph at inside laid =
-    ap (glyph_in cells) (sym (place_of-index_of d at inside))
-    ∙ laid (index_of d at) (index_of-below d at inside)
-
--- cells that are empty in the grid and outside it
-pub empty-cells : (d : Size) (cells : List ℕ) → IsSize d → IsLaid d (cells_of d) cells (λ _. empty)
-    → IsEmptyOutside d cells → (n : ℕ) → n < MAX_CELLS → slice_index cells n ≡ empty
-empty-cells d cells size laid outside n few =
-    ap (λ (k : ℕ). slice_index cells k) (sym (index_of-place_of largest n most_size))
-    ∙ (elim (cases_Bool (is_inside d (place_of largest n))) [
-      | inl inside ↦ laid-at d cells (λ _. empty) (place_of largest n)
-          (inside-is_inside d (place_of largest n) inside) laid
-      | inr past ↦ outside (place_of largest n) (inside-place_of largest n most_size few) past
-    ])
 
 -- no bit is set for them
 pub off-cells : (cells bits : List ℕ) → AreLive cells bits

@@ -156,10 +156,10 @@ marked-none d most spot marks size is_most none =
 
 -- ---- marks that are taken away, and counted
 
--- no marks in the rows of a grid
+-- no marks in a grid
 pub cleared-by_place : (d : Size) (marks old : List MarkSet) → IsSize d
-    → ((i : ℕ) → get_or marks i no_marks ≡
-    (if nat_lt i (d.h * MAX_COLUMNS) then no_marks else get_or old i no_marks))
+    → ((at : Place) → IsInside largest at → marks_in marks at
+    ≡ (if is_inside d at then no_marks else marks_in old at))
     → by_place d (marks_in marks) ≡ blank_marks d
 cleared-by_place d marks old size each =
     sym (list-by_place d (blank_marks d) (marks_in marks) no_marks size
@@ -167,15 +167,9 @@ cleared-by_place d marks old size each =
     get_or-replicate (cells_of d) (index_of d at) no_marks no_marks (index_of-below d at inside)
     ∙ sym (cleared at inside)))
   where
-    row_below : (h y x : ℕ) → y < h → x < MAX_COLUMNS → y * MAX_COLUMNS + x < h * MAX_COLUMNS
-    row_below h y x row column = omega arith
-
     cleared : (at : Place) → IsInside d at → marks_in marks at ≡ no_marks
     cleared at inside =
-        each (index_of largest at)
-        ∙ (rw (lt-ltb (index_of largest at) (d.h * MAX_COLUMNS)
-        (row_below d.h at.y at.x inside.row
-        (omega (arith, inside.column, size.few_columns)))) refl)
+        each at (inside-largest d at size inside) ∙ (rw (is_inside-inside d at inside) refl)
 
 -- one place more of a grid is counted
 pub counted_yes : (d : Size) (marks : List MarkSet) (n : ℕ) → n < cells_of d

@@ -3,6 +3,10 @@ pub mod BlockEdits
 pub mod BlockLemmas
 pub mod BlockPlaces
 pub mod DeskLemmas
+mod ResidueLemmas
+mod LawLemmas
+mod RunLemmas
+mod RowLemmas
 mod ListingLemmas
 mod LargestLemmas
 mod LiveBitsLemmas

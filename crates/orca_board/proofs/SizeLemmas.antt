@@ -16,13 +16,11 @@ use Rattle.orca_base.specs.Grids.{Size, IsSize, Sheet, IsSheet, IsInside, by_pla
 use Rattle.orca_base.specs.MarkSet.{MarkSet, no_marks}
 use Rattle.orca_base.proofs.PlaceFacts.{index-apart, index_of-below, inside-is_inside, is_inside-inside, is_place-same}
 use Rattle.orca_base.proofs.SheetFacts.{index-by_place, IsGlyph-glyph_at, IsSheet-sheet_by, glyph_at-sheet_by, same-by_place, sheet-same}
-use Rattle.orca_marks.specs.Planes.{blank}
-use Rattle.orca_marks.proofs.PlaneLemmas.{length-blank}
 use Rattle.orca_op.specs.Desk.{Desk, IsDesk, is_listed}
 use Rattle.orca_op.specs.State.{State, blank_marks, glyph_at, sheet_of}
 use Rattle.orca_board.specs.Board.{IsEmptyOutside, KeepsBoard, glyph_in, marks_in}
 use Rattle.orca_board.specs.Sizes.{is_size, with_sheet}
-use Rattle.orca_board.proofs.BoardLemmas.{blank-by_place, inside-largest}
+use Rattle.orca_board.proofs.BoardLemmas.{inside-largest}
 
 -- ---- another size
 
@@ -103,14 +101,15 @@ IsDesk-resize d to desk size other listed = record {
     stays at false is wanted absent = absurd (both_ways _ absent (wanted (sym is)))
 
 -- the state in another size, by the parts of a board
-pub sized : (d to : Size) (cells : List ℕ) (marks : List MarkSet) (vars : List ℕ)
+pub sized : (d to : Size) (cells : List ℕ) (marks new : List MarkSet) (vars : List ℕ)
     (events : List Event)
-    → IsSize d → IsSize to → IsEmptyOutside d cells → is_size to d ≡ false
+    → IsSize d → IsSize to → by_place to (marks_in new) ≡ blank_marks to → IsEmptyOutside d cells
+    → is_size to d ≡ false
     → ◌≡◌ {A = State} (record {
       dims = to;
       cells = by_place to (glyph_in cells);
       marks = by_place to
-          (marks_in blank);
+          (marks_in new);
       vars = vars;
       events = [];
     })
@@ -121,8 +120,8 @@ pub sized : (d to : Size) (cells : List ℕ) (marks : List MarkSet) (vars : List
       vars = vars;
       events = events;
     }) (sheet_after_resize (sheet_by d (glyph_in cells)) to))
-sized d to cells marks vars events size other_size outside other =
-    rw (other, cells-resize d to cells size other_size outside, blank-by_place to other_size) refl
+sized d to cells marks new vars events size other_size none outside other =
+    rw (other, cells-resize d to cells size other_size outside, none) refl
 
 same_size : (a b : Size) → is_size a b ≡ true → a ≡ b
 same_size a b is =
@@ -145,8 +144,9 @@ unsized s to sheet is =
 
 -- what the parts of a board keep in another size
 pub keeps-resize : (d : Desk) (to : Size) (known : List Change) (cells : List ℕ)
-    (marks : List MarkSet) (bits : List ℕ) (room more : ℕ)
-    → KeepsBoard d known cells marks bits room → IsSize to → is_size to d.scan.dims ≡ false
+    (marks new : List MarkSet) (bits : List ℕ) (room more : ℕ)
+    → KeepsBoard d known cells marks bits room → IsSize to → length new ≡ MAX_CELLS
+    → by_place to (marks_in new) ≡ blank_marks to → is_size to d.scan.dims ≡ false
     → d.scan.cells ≡ by_place d.scan.dims (glyph_in cells)
     → ((at : Place) → IsInside d.scan.dims at → is_inside to at ≡ false → glyph_at d.scan at
     ≡ empty)
@@ -157,23 +157,24 @@ pub keeps-resize : (d : Desk) (to : Size) (known : List Change) (cells : List �
       scan = record d.scan {
         dims = to;
         cells = by_place to (glyph_in cells);
-        marks = by_place to (marks_in blank);
+        marks = by_place to (marks_in new);
         events = [];
       };
-    }) known cells blank bits more
-keeps-resize d to known cells marks bits room more kept size other is cut listed grows =
+    }) known cells new bits more
+keeps-resize d to known cells marks new bits room more kept size long none other is cut listed
+    grows =
     let here : (sheet_after_resize (sheet_of d.scan) to).cells ≡ by_place to (glyph_in cells) =
     ap (λ (xs : List ℕ). (sheet_after_resize (record { dims = d.scan.dims; cells = xs }) to).cells)
     is ∙ sym (cells-resize d.scan.dims to cells kept.lists.desk.state.sheet.size size
     kept.outside) in
-    rw (← here, blank-by_place to size) (record {
+    rw (← here, none) (record {
       lists = record {
         desk = IsDesk-resize d to kept.lists.desk size other listed;
         changes =
             kept.lists.changes;
       };
       whole = kept.whole;
-      marks_whole = length-blank;
+      marks_whole = long;
       outside = λ at inside past. each at inside past (is_inside d.scan.dims at) refl;
       live = kept.live;
       events_roomy = omega (arith, kept.events_roomy, grows);

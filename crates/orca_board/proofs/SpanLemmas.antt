@@ -1,9 +1,9 @@
 -- Marks of the places of a span, and the glyphs beside a place.
-use Rattle.std.proofs.Common.{◌≡◌, ℕ, zero, suc, ◌+◌, ◌*◌, ◌<◌, ◌≤◌, ◌==◌, ◌&&◌, Bool, true, false, List, ◌∷◌, [], length, get_or, add-zero, arith, ap, sym, ◌∙◌, refl, subst}
+use Rattle.std.proofs.Common.{◌≡◌, ℕ, zero, suc, ◌+◌, ◌*◌, ◌<◌, ◌≤◌, ◌==◌, ◌&&◌, Bool, true, false, List, ◌∷◌, [], length, get_or, add-zero, arith, ap, sym, ◌∙◌, refl, subst, inl, inr}
 use Rattle.std.specs.Prelude.{◌≢◌, pos, negsuc, ◌+ℤ◌, ◌-◌, slice_index_or, Some, None, if◌then◌else◌, min, nat_lt, nat_le, ◌||◌, slice_index}
 use Rattle.std.proofs.Math.IntN.{+ℤ-neg_ℤ_cancel}
 use Rattle.std.proofs.Math.ListN.{set}
-use Rattle.std.proofs.lemmas.Bool.{both_ways, le-ltb}
+use Rattle.std.proofs.lemmas.Bool.{both_ways, cases_lt, le-ltb, lt-ltb}
 use Rattle.std.proofs.lemmas.List.{get_or_default}
 use Rattle.std.proofs.lemmas.Bool.Decides.{nat_tests}
 use Rattle.orca_base.specs.declared.change.Change.{Change}
@@ -262,8 +262,6 @@ peek_right s cells at k first i read size is outside whole inside wide number st
     peek_cell s cells (right at k) at.y (at.x + k) i read size is outside whole (still at.y) refl
     (omega (arith, inside.row, size.few_rows)) wide (omega (arith, number, step)) shown
 
--- ---- a bang beside a place
-
 -- a cell as a list shows it
 cell_shown : (s : State) (cells : List ℕ) (spot : Spot) (y x i : ℕ) → IsSize s.dims
     → s.cells ≡ by_place s.dims (glyph_in cells) → IsEmptyOutside s.dims cells
@@ -275,25 +273,74 @@ cell_shown s cells spot y x i size is outside whole row column high wide number 
     number (sym (get_or_default cells i (slice_index cells i) 0
     (omega (arith, whole, number, high, wide))))
 
--- the four cells beside one at no edge
+-- a cell of the row
+pub cell_right : (s : State) (cells : List ℕ) (at : Place) (k first : ℕ) → IsSize s.dims
+    → s.cells ≡ by_place s.dims (glyph_in cells) → IsEmptyOutside s.dims cells
+    → length cells ≡ MAX_CELLS
+    → IsInside s.dims at → at.x + k < MAX_COLUMNS → first ≡ at.y * MAX_COLUMNS + at.x
+    → slice_index cells (first + k) ≡ peek s (right at k)
+cell_right s cells at k first size is outside whole inside wide number =
+    cell_shown s cells (right at k) at.y (at.x + k) (first + k) size is outside whole (still at.y)
+    refl
+    (omega (arith, inside.row, size.few_rows)) wide (omega (arith, number))
+
+-- ---- a bang beside a place
+
+and_true : (b : Bool) → (b && true) ≡ b
+and_true true = refl
+and_true false = refl
+
+-- a bang at the left, and at the right, where the row goes on
+bang_left : (s : State) (cells : List ℕ) (at : Place) (i : ℕ) → IsSize s.dims
+    → s.cells ≡ by_place s.dims (glyph_in cells) → IsEmptyOutside s.dims cells
+    → length cells ≡ MAX_CELLS
+    → at.y < MAX_ROWS → at.x < MAX_COLUMNS → i ≡ at.y * MAX_COLUMNS + at.x
+    → ((slice_index cells (i - 1) == bang) && nat_lt 0 at.x) ≡ (peek s (left at 1) == bang)
+bang_left s cells at i size is outside whole high wide number = elim (cases_lt 0 at.x) [
+  | inl some ↦
+      let shown = cell_shown s cells (left at 1) at.y (at.x - 1) (i - 1) size is outside whole
+      (still at.y) (one_less at.x some) high (omega (arith, wide)) (omega (arith, number, some)) in
+      rw (lt-ltb 0 at.x some, shown) (and_true (peek s (left at 1) == bang))
+  | inr none ↦
+      rw (le-ltb 0 at.x none, ← peek_left s at size (omega (arith, none)))
+      (and_false (slice_index cells (i - 1) == bang))
+]
+
+bang_right : (s : State) (cells : List ℕ) (at : Place) (i : ℕ) → IsSize s.dims
+    → s.cells ≡ by_place s.dims (glyph_in cells) → IsEmptyOutside s.dims cells
+    → length cells ≡ MAX_CELLS
+    → at.y < MAX_ROWS → at.x < MAX_COLUMNS → i ≡ at.y * MAX_COLUMNS + at.x
+    → ((slice_index cells (i + 1) == bang) && nat_lt at.x (MAX_COLUMNS - 1))
+    ≡ (peek s (right at 1) == bang)
+bang_right s cells at i size is outside whole high wide number =
+    elim (cases_lt at.x (MAX_COLUMNS - 1)) [
+      | inl some ↦
+          let shown = cell_shown s cells (right at 1) at.y (at.x + 1) (i + 1) size is outside whole
+          (still at.y) refl high (omega (arith, some)) (omega (arith, number)) in
+          rw (lt-ltb at.x (MAX_COLUMNS - 1) some, shown) (and_true (peek s (right at 1) == bang))
+      | inr none ↦
+          let last : at.x + 1 ≡ MAX_COLUMNS = omega (arith, none, wide) in
+          let beyond = peek_beyond s (right at 1) at.y MAX_COLUMNS size (still at.y)
+          (ap (λ (n : ℕ). pos n) last) (outside_right at.y) in
+          rw (le-ltb at.x (MAX_COLUMNS - 1) none, ← beyond)
+          (and_false (slice_index cells (i + 1) == bang))
+    ]
+
+-- the four cells beside one in neither the first nor the last row
 pub bang_inner : (s : State) (cells : List ℕ) (at : Place) (i : ℕ) → IsSize s.dims
     → s.cells ≡ by_place s.dims (glyph_in cells) → IsEmptyOutside s.dims cells
     → length cells ≡ MAX_CELLS
-    → 0 < at.y → at.y + 1 < MAX_ROWS → 0 < at.x → at.x + 1 < MAX_COLUMNS → i ≡ at.y * MAX_COLUMNS
-    + at.x
-    → ((slice_index cells (i - MAX_COLUMNS) == bang) || (slice_index cells (i - 1) == bang)
-    || (slice_index cells (i + 1) == bang)
+    → 0 < at.y → at.y + 1 < MAX_ROWS → at.x < MAX_COLUMNS → i ≡ at.y * MAX_COLUMNS + at.x
+    → ((slice_index cells (i - MAX_COLUMNS) == bang)
+    || ((slice_index cells (i - 1) == bang) && nat_lt 0 at.x)
+    || ((slice_index cells (i + 1) == bang) && nat_lt at.x (MAX_COLUMNS - 1))
     || (slice_index cells (i + MAX_COLUMNS) == bang)) ≡ has_bang s at
 unfolding has_bang
-bang_inner s cells at i size is outside whole low high first last number =
+bang_inner s cells at i size is outside whole low high wide number =
     let up = cell_shown s cells (above at) (at.y - 1) at.x (i - MAX_COLUMNS) size is outside whole
-    (one_less at.y low) (still at.x) (omega (arith, high)) (omega (arith, last))
-    (omega (arith, number, low)) in
-    let back = cell_shown s cells (left at 1) at.y (at.x - 1) (i - 1) size is outside whole
-    (still at.y) (one_less at.x first) (omega (arith, high)) (omega (arith, last))
-    (omega (arith, number, first)) in
-    let on = cell_shown s cells (right at 1) at.y (at.x + 1) (i + 1) size is outside whole
-    (still at.y) refl (omega (arith, high)) last (omega (arith, number)) in
+    (one_less at.y low) (still at.x) (omega (arith, high)) wide (omega (arith, number, low)) in
+    let back = bang_left s cells at i size is outside whole (omega (arith, high)) wide number in
+    let on = bang_right s cells at i size is outside whole (omega (arith, high)) wide number in
     let down = cell_shown s cells (below at) (at.y + 1) at.x (i + MAX_COLUMNS) size is outside whole
-    refl (still at.x) high (omega (arith, last)) (omega (arith, number)) in
+    refl (still at.x) high wide (omega (arith, number)) in
     rw (up, back, on, down) refl

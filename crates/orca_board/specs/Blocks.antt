@@ -1,6 +1,7 @@
 -- Edits of a block of cells on a desk: the places that each writes, in order, and the desk that it
 -- leaves.
-use Rattle.std.specs.Prelude.{ℕ, ◌+◌, ◌/◌, ◌≤◌, not, List, [], ◌∷◌, ◌++◌, length, map, filter, Some}
+use Rattle.std.specs.Prelude.{ℕ, ◌+◌, ◌/◌, ◌≤◌, Bool, ◌&&◌, nat_le, nat_lt, not, List, [], ◌∷◌, ◌++◌, length, map, filter, Some}
+use Rattle.std.specs.List.{range_with_len}
 use Rattle.orca_base.specs.declared.area.Area.{Area}
 use Rattle.orca_base.specs.declared.limits.TheConstants.{MAX_ROWS, MAX_COLUMNS}
 use Rattle.orca_base.specs.declared.place.Place.{Place}
@@ -32,6 +33,10 @@ nth_place area n = moved origin (corner_of area) (place_of (size_of area) n)
 abbrev pub places_in : Area → List Place
 places_in area = by_place (size_of area) (moved origin (corner_of area))
 
+-- `count` places of a row, the first of which is `at`
+abbrev pub run_of : Place → ℕ → List Place
+run_of at count = map (λ i. record { y = at.y; x = at.x + i }) (range_with_len 0 count)
+
 -- the part, inside a grid of size d, of a block of a size whose first place is `to`
 abbrev pub image : Size → Place → Size → Area
 image d to size = area_in d (record { y = to.y; x = to.x; h = size.h; w = size.w })
@@ -47,6 +52,15 @@ put_places d to size = places_in (image d to size)
 -- the places of an area that lie outside another
 abbrev pub places_outside : Area → Area → List Place
 places_outside area other = filter (λ at. not (is_in_area other at)) (places_in area)
+
+-- the area has places in this row
+abbrev pub crosses : Area → ℕ → Bool
+crosses area y = nat_le area.y y && nat_lt y (area.y + area.h)
+
+-- those of them that stand in one row
+abbrev pub row_outside : Area → ℕ → Area → List Place
+row_outside area row other = filter (λ at. not (is_in_area other at))
+    (run_of (record { y = area.y + row; x = area.x }) area.w)
 
 -- Move writes the places of the area outside its image, which become empty, and then each place of
 -- the image

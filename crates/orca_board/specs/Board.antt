@@ -6,7 +6,7 @@ use Rattle.orca_base.specs.declared.place.Place.{Place}
 use Rattle.orca_base.specs.Glyphs.{empty, is_operator}
 use Rattle.orca_base.specs.Grids.{Size, by_place, sheet_by, index_of, is_inside, IsInside, largest}
 use Rattle.orca_base.specs.MarkSet.{MarkSet, no_marks}
-use Rattle.orca_board.specs.declared.board.Board.TheInside.{Inside}
+use Rattle.orca_board.specs.declared.field.Field.TheInside.{Inside}
 use Rattle.orca_board.specs.Listing.{ListsChanges, places_of}
 use Rattle.orca_op.specs.Desk.{Desk}
 use Rattle.orca_op.specs.Live.{has_bit}

@@ -1,5 +1,6 @@
 pub mod Board
 pub mod Blocks
+pub mod Laws
 pub mod Listing
 pub mod LiveBits
 pub mod PlainBoard

@@ -1,45 +1,30 @@
-//! Edits of a block of cells, over any bench.
+//! Edits of a block of cells, over any bench. Each goes row by row.
 
-ghost use Rattle.std.specs.Prelude.{◌≡◌, ◌+◌, ◌*◌, ◌<◌, ◌≤◌, length, take};
+ghost use Rattle.std.specs.Prelude.{◌≡◌, ◌+◌, ◌*◌, ◌-◌, ◌<◌, ◌≤◌, ◌++◌, length, map, slice_index, vec_capacity};
 ghost use Rattle.orca_base.specs.Areas.{IsArea, corner_of};
-ghost use Rattle.orca_base.specs.Edits.{block_of, is_in_area, sheet_after_fill, sheet_after_put, sheet_after_move};
+ghost use Rattle.orca_base.specs.Edits.{block_of, sheet_after_fill, sheet_after_put, sheet_after_move};
 ghost use Rattle.orca_base.specs.Glyphs.{empty};
-ghost use Rattle.orca_base.specs.Grids.{IsInside};
+ghost use Rattle.orca_base.specs.Grids.{IsInside, IsSize};
+ghost use Rattle.orca_base.specs.declared.limits.TheConstants.{MAX_COLUMNS};
 ghost use Rattle.orca_op.specs.Desk.{desk_after_all};
-ghost use Rattle.orca_op.specs.State.{sheet_of};
-ghost use Rattle.orca_board.specs.Blocks.{IsInLargest, desk_after_edit, nth_place, places_in, image, fill_places, put_places, places_outside, shift_places, write_each, rows_of, glyph_from};
+ghost use Rattle.orca_op.specs.State.{glyph_at, sheet_of};
+ghost use Rattle.orca_board.specs.Blocks.{IsInLargest, crosses, desk_after_edit, run_of, places_in, image, fill_places, put_places, places_outside, row_outside, shift_places, write_each, rows_of, glyph_from};
+ghost use Rattle.orca_board.specs.Sizes.{cut_places};
 
-use orca_base::limits::MAX_CELLS;
 use orca_base::{Area, Block, Dims, Glyph, Place, Steps};
 use orca_op::Bench;
 use std::sync::ledger::Ledger;
 
-/// The number of places of an area.
-fn cells_of(area: Area) -> usize
-    ensures { result ≡ area.h * area.w }
-{
-    usize::from(area.h) * usize::from(area.w)
-}
-
-/// The place of a number in an area, in reading order.
-fn nth_place(area: Area, n: usize) -> Place
-    requires number { n < area.h * area.w }
+/// The first place of a row of an area.
+fn row_of(area: Area, row: u16) -> Place
+    requires row { row < area.h }
     requires area { IsInLargest area }
-    ensures { result ≡ nth_place area n }
+    ensures { result ≡ record { y = area.y + row; x = area.x } }
 {
-    let width = usize::from(area.w);
     Place {
-        y: area.y + (n / width) as u16,
-        x: area.x + (n % width) as u16,
+        y: area.y + row,
+        x: area.x,
     }
-}
-
-/// Whether a place lies in an area.
-fn holds(area: Area, at: Place) -> bool
-    requires { IsInLargest area }
-    ensures { result ≡ is_in_area area at }
-{
-    area.y <= at.y && at.y < area.y + area.h && area.x <= at.x && at.x < area.x + area.w
 }
 
 /// The part, inside a grid, of a block of `h` rows and `w` columns whose first place is `to`.
@@ -56,39 +41,163 @@ fn image(dims: Dims, to: Place, h: u16, w: u16) -> Area
     }
 }
 
-/// Reads the glyphs of an area, in reading order.
-fn read_area<B: Bench, L: Ledger>(bench: &B, area: Area, into: &mut [Glyph], steps: &mut Steps<L>)
-    requires area { IsArea (B.desk bench.now).scan.dims area }
-    requires fits { IsInLargest area }
-    requires room { area.h * area.w ≤ length into.old }
-    ensures glyphs { take (area.h * area.w) into.new
-        ≡ (block_of (sheet_of (B.desk bench.now).scan) area).cells }
-    ensures ticks { steps.new ≡ steps.old + area.h * area.w }
+/// Reads the glyphs of `count` places of a row, the first of which is `at`, behind those read before.
+fn read_run<B: Bench, L: Ledger>(
+    bench: &B,
+    at: Place,
+    count: u16,
+    into: &mut Vec<Glyph>,
+    steps: &mut Steps<L>,
+)
+    requires row { at.y < (B.desk bench.now).scan.dims.h }
+    requires fits { at.x + count ≤ (B.desk bench.now).scan.dims.w }
+    requires room { length into.old.items + count ≤ vec_capacity into.old }
+    ensures glyphs { into.new.items
+        ≡ into.old.items ++ map (glyph_at (B.desk bench.now).scan) (run_of at count) }
+    ensures capacity { vec_capacity into.new ≡ vec_capacity into.old }
+    ensures ticks { steps.new ≡ steps.old + count }
 {
-    for n in 0..cells_of(area) {
-        let glyph = bench.peek(nth_place(area, n).here(), steps);
-        glyph.put(into, n);
+    let _dims = bench.dims();
+    for i in 0..count {
+        let place = Place {
+            y: at.y,
+            x: at.x + i,
+        };
+        into.push_reserved(bench.peek_here(place, steps));
     }
 }
 
-/// Empties the places of an area that lie outside another.
-pub(crate) fn clear_outside<B: Bench, L: Ledger>(
+/// Reads the glyphs of an area, in reading order.
+fn read_area<B: Bench, L: Ledger>(
+    bench: &B,
+    area: Area,
+    into: &mut Vec<Glyph>,
+    steps: &mut Steps<L>,
+)
+    requires area { IsArea (B.desk bench.now).scan.dims area }
+    requires fits { IsInLargest area }
+    requires room { area.h * area.w ≤ vec_capacity into.old }
+    ensures glyphs { into.new.items ≡ (block_of (sheet_of (B.desk bench.now).scan) area).cells }
+    ensures capacity { vec_capacity into.new ≡ vec_capacity into.old }
+    ensures ticks { steps.new ≡ steps.old + area.h * area.w }
+{
+    into.clear();
+    for row in 0..area.h {
+        read_run(bench, row_of(area, row), area.w, into, steps);
+    }
+}
+
+/// Writes a glyph to `count` places of a row, the first of which is `at`.
+fn fill_run<B: Bench, L: Ledger>(
+    bench: &mut B,
+    at: Place,
+    count: u16,
+    glyph: Glyph,
+    steps: &mut Steps<L>,
+)
+    requires { at.x + count ≤ MAX_COLUMNS }
+    ensures desk { B.desk bench.new
+        ≡ desk_after_all (B.desk bench.old) (write_each (λ place. glyph) (run_of at count)) }
+    ensures ticks { steps.new ≡ steps.old + count }
+{
+    for i in 0..count {
+        let place = Place {
+            y: at.y,
+            x: at.x + i,
+        };
+        bench.write(place.here(), glyph, steps);
+    }
+}
+
+/// Writes `count` glyphs of a list, from a number on, to the places of a row, the first of which is `at`.
+fn write_run<B: Bench, L: Ledger>(
+    bench: &mut B,
+    at: Place,
+    count: u16,
+    glyphs: &[Glyph],
+    first: usize,
+    steps: &mut Steps<L>,
+)
+    requires fits { at.x + count ≤ MAX_COLUMNS }
+    requires glyphs { first + count ≤ length glyphs.now }
+    ensures desk { B.desk bench.new ≡ desk_after_all (B.desk bench.old)
+        (write_each (λ place. slice_index glyphs.now (first + (place.x - at.x)))
+        (run_of at count)) }
+    ensures ticks { steps.new ≡ steps.old + count }
+{
+    for i in 0..count {
+        let place = Place {
+            y: at.y,
+            x: at.x + i,
+        };
+        bench.write(place.here(), glyphs[first + usize::from(i)], steps);
+    }
+}
+
+/// Empties the places of a grid that another size cuts off: the columns and the rows beyond it. Where
+/// the other size has as many columns, it goes over the rows beyond alone.
+pub(crate) fn cut<B: Bench, L: Ledger>(bench: &mut B, dims: Dims, to: Dims, steps: &mut Steps<L>)
+    ensures desk { B.desk bench.new ≡ desk_after_all (B.desk bench.old)
+        (write_each (λ place. empty) (cut_places dims to)) }
+    ensures ticks { steps.new ≡ steps.old + length (cut_places dims to) }
+    ensures size { IsSize to }
+{
+    let first = if to.w < dims.w { 0 } else { to.h.min(dims.h) };
+    for y in first..dims.h {
+        let x = if y < to.h { to.w.min(dims.w) } else { 0 };
+        fill_run(bench, Place { y, x }, dims.w - x, Glyph::EMPTY, steps);
+    }
+}
+
+/// Whether an area has places in a row.
+fn crosses(area: Area, y: u16) -> bool
+    requires { IsInLargest area }
+    ensures { result ≡ crosses area y }
+{
+    area.y <= y && y < area.y + area.h
+}
+
+/// Empties the places of a row of an area that lie outside another.
+fn clear_row_outside<B: Bench, L: Ledger>(
     bench: &mut B,
     area: Area,
+    row: u16,
     other: Area,
     steps: &mut Steps<L>,
 )
+    requires row { row < area.h }
     requires area { IsInLargest area }
     requires other { IsInLargest other }
-    ensures desk { B.desk bench.new
-        ≡ desk_after_all (B.desk bench.old) (write_each (λ at. empty) (places_outside area other)) }
+    ensures desk { B.desk bench.new ≡ desk_after_all (B.desk bench.old) (write_each
+        (λ place. empty) (row_outside area row other)) }
+    ensures ticks { steps.new ≡ steps.old + length (row_outside area row other) }
+{
+    let first = row_of(area, row);
+    if !crosses(other, first.y) {
+        fill_run(bench, first, area.w, Glyph::EMPTY, steps);
+        return;
+    }
+    let end = area.x + area.w;
+    let left = other.x.max(area.x).min(end);
+    let right = (other.x + other.w).max(area.x).min(end);
+    fill_run(bench, first, left - area.x, Glyph::EMPTY, steps);
+    let behind = Place {
+        y: first.y,
+        x: right,
+    };
+    fill_run(bench, behind, end - right, Glyph::EMPTY, steps);
+}
+
+/// Empties the places of an area that lie outside another.
+fn clear_outside<B: Bench, L: Ledger>(bench: &mut B, area: Area, other: Area, steps: &mut Steps<L>)
+    requires area { IsInLargest area }
+    requires other { IsInLargest other }
+    ensures desk { B.desk bench.new ≡ desk_after_all (B.desk bench.old)
+        (write_each (λ place. empty) (places_outside area other)) }
     ensures ticks { steps.new ≡ steps.old + length (places_outside area other) }
 {
-    for n in 0..cells_of(area) {
-        let at = nth_place(area, n);
-        if !holds(other, at) {
-            bench.write(at.here(), Glyph::EMPTY, steps);
-        }
+    for row in 0..area.h {
+        clear_row_outside(bench, area, row, other, steps);
     }
 }
 
@@ -108,10 +217,9 @@ fn write_block<B: Bench, L: Ledger>(
         (write_each (glyph_from (rows_of width cells.now) (corner_of area)) (places_in area)) }
     ensures ticks { steps.new ≡ steps.old + area.h * area.w }
 {
-    let columns = usize::from(area.w);
-    for n in 0..cells_of(area) {
-        let cell = cells[n / columns * usize::from(width) + n % columns];
-        bench.write(nth_place(area, n).here(), cell, steps);
+    for row in 0..area.h {
+        let first = usize::from(row) * usize::from(width);
+        write_run(bench, row_of(area, row), area.w, cells, first, steps);
     }
 }
 
@@ -129,8 +237,8 @@ pub(crate) fn fill<B: Bench, L: Ledger>(
 {
     let dims = bench.dims();
     prove!(area.h <= dims.h && area.w <= dims.w);
-    for n in 0..cells_of(area) {
-        bench.write(nth_place(area, n).here(), glyph, steps);
+    for row in 0..area.h {
+        fill_run(bench, row_of(area, row), area.w, glyph, steps);
     }
 }
 
@@ -154,26 +262,26 @@ pub(crate) fn put<B: Bench, L: Ledger>(
 
 /// Moves the glyphs of an area to the area's image, the block of its size whose first place is `to`. The
 /// rest of the area becomes empty, and what would stand outside the grid is left out. The glyphs are first
-/// read into `scratch`, which has [`MAX_CELLS`] places, since the area and its image may overlap.
+/// read into `scratch`, since the area and its image may overlap.
 pub(crate) fn shift<B: Bench, L: Ledger>(
     bench: &mut B,
     area: Area,
     to: Place,
-    scratch: &mut [Glyph],
+    scratch: &mut Vec<Glyph>,
     steps: &mut Steps<L>,
 )
     requires area { IsArea (B.desk bench.old).scan.dims area }
     requires to { IsInside (B.desk bench.old).scan.dims to }
-    requires scratch { length scratch.old ≡ MAX_CELLS }
+    requires room { area.h * area.w ≤ vec_capacity scratch.old }
     ensures desk { B.desk bench.new ≡ desk_after_edit (B.desk bench.old)
         (sheet_after_move (sheet_of (B.desk bench.old).scan) area to)
         (shift_places (B.desk bench.old).scan.dims area to) }
     ensures ticks { steps.new ≡ steps.old + area.h * area.w
         + length (shift_places (B.desk bench.old).scan.dims area to) }
-    ensures scratch { length scratch.new ≡ MAX_CELLS }
+    ensures room { vec_capacity scratch.new ≡ vec_capacity scratch.old }
 {
     let target = image(bench.dims(), to, area.h, area.w);
     read_area(bench, area, scratch, steps);
     clear_outside(bench, area, target, steps);
-    write_block(bench, target, &scratch[..cells_of(area)], area.w, steps);
+    write_block(bench, target, scratch, area.w, steps);
 }

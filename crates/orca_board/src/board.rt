@@ -1,59 +1,41 @@
-ghost use Rattle.std.specs.Prelude.{ℕ, All, true, ◌≤◌, ◌≡◌, ◌==◌, ◌||◌, ◌+◌, ◌-◌, ◌*◌, ◌<◌, false, length, count_by, slice_index, slice_set, IfOk};
+ghost use Rattle.std.specs.Prelude.{◌≡◌, ◌≤◌, ◌+◌, ◌*◌, length, IfOk};
+ghost use Rattle.orca_base.specs.declared.limits.TheConstants.{MAX_CELLS, MAX_EVENTS};
 ghost use Rattle.orca_base.specs.Areas.{IsArea};
-ghost use Rattle.orca_base.specs.Edits.{sheet_after_fill, sheet_after_put, sheet_after_move, sheet_after_resize};
-ghost use Rattle.orca_base.specs.Grids.{IsInside, IsSize, above, below, by_place, cells_of, is_inside, largest, left, right};
-ghost use Rattle.orca_base.specs.declared.place.Place.{Place};
-ghost use Rattle.orca_board.specs.Listing.{places_of};
-ghost use Rattle.orca_board.specs.Sizes.{cut_places, desk_after_resize, desk_reverted, whole, with_sheet};
-ghost use Rattle.orca_board.specs.Blocks.{IsInLargest, desk_after_edit, fill_places, put_places, shift_places};
-ghost use Rattle.orca_base.specs.Glyphs.{AreGlyphs, IsGlyph, bang, empty};
-ghost use Rattle.orca_base.specs.MarkSet.{is_marked};
-ghost use Rattle.orca_base.specs.declared.limits.TheConstants.{MAX_CELLS, MAX_COLUMNS};
-ghost use Rattle.orca_board.specs.Board.{AreLive, IsEmptyOutside, glyph_in, marks_in};
-ghost use Rattle.orca_op.specs.Live.{has_bit};
-ghost use Rattle.orca_op.specs.Desk.{changes_of, desk_of_sheet, is_listed};
-ghost use Rattle.orca_op.specs.State.{glyph_at, peek, sheet_of};
+ghost use Rattle.orca_base.specs.Edits.{sheet_after_fill, sheet_after_put, sheet_after_move};
+ghost use Rattle.orca_base.specs.Grids.{IsInside, cells_of};
+ghost use Rattle.orca_board.specs.Blocks.{desk_after_edit, fill_places, put_places, shift_places};
+ghost use Rattle.orca_board.specs.Sizes.{cut_places, desk_after_resize, desk_reverted};
+ghost use Rattle.orca_op.specs.Desk.{changes_of, desk_of_sheet, residue};
+ghost use Rattle.orca_op.specs.State.{sheet_of};
 
 use crate::blocks;
-use crate::listing::Listing;
-use crate::live_bits::LiveBits;
-use orca_base::limits::{BASE, MAX_CELLS, MAX_COLUMNS, MAX_EVENTS, MAX_ROWS};
+use crate::field::Field;
+use orca_base::limits::MAX_CELLS;
 use orca_base::{Area, Block, Change, Dims, Event, Glyph, Look, Marks, Memory, Place, Spot, Steps};
 use orca_grid::Grid;
-use orca_marks::MarkPlane;
 use orca_op::{Bench, Span, Walk};
 use std::alloc::Global;
 use std::marker::Model;
-use std::snapshot::Snapshot;
 use std::sync::ledger::Ledger;
 
-/// A bench that keeps which places hold an operator. A row takes the room of the longest one, so that a
-/// change of size moves no glyph; outside the grid each cell is `.`.
+/// A bench that keeps which places hold an operator, that is edited in blocks and goes back.
 #[derive(Drop)]
 pub struct Board {
-    dims: Dims,
-    cells: Vec<Glyph>,
-    /// The cells at the last `begin`, for the proof alone: it has no bytes when the program runs.
-    before: Snapshot<Vec<Glyph>>,
-    marks: MarkPlane,
-    live: LiveBits,
-    vars: Vec<Glyph>,
-    events: Vec<Event>,
-    listing: Listing,
+    field: Field,
+    /// Room for the glyphs that a move reads. Nothing is written there until a move.
+    scratch: Vec<Glyph>,
 }
 
 impl Model for Board {
-    ghost use Rattle.std.specs.Prelude.{vec_capacity};
+    ghost use Rattle.std.specs.Prelude.{◌≤◌, vec_capacity};
+    ghost use Rattle.orca_base.specs.declared.limits.TheConstants.{MAX_CELLS, MAX_EVENTS};
     ghost use Rattle.orca_op.specs.Desk.{Desk};
 
     ghost Value = { Desk };
 
-    ghost use Rattle.orca_board.specs.Board.{desk_of, KeepsBoard};
+    ghost view = { λ b. b.field };
 
-    ghost view = { desk_of };
-
-    ghost invariant = { λ b. KeepsBoard (desk_of b) b.listing.changes
-        b.cells.items b.marks b.live (vec_capacity b.events) };
+    ghost invariant = { λ b. MAX_CELLS ≤ vec_capacity b.scratch };
 }
 
 impl Board {
@@ -62,23 +44,9 @@ impl Board {
     pub fn start(alloc: Global, grid: &Grid) -> Result<Board, Memory>
         ensures { IfOk result (λ board. board ≡ desk_of_sheet grid.now) }
     {
-        let dims = Look::dims(grid);
-        let mut cells = Vec::new(alloc);
-        cells.resize(MAX_CELLS, Glyph::EMPTY)?;
-        let mut live = LiveBits::start(alloc)?;
-        lay(&mut cells, &mut live, dims, grid.cells());
-        let mut vars = Vec::new(alloc);
-        vars.resize(usize::from(BASE), Glyph::EMPTY)?;
-        let before = Snapshot::of(&cells);
         Ok(Board {
-            dims,
-            cells,
-            before,
-            marks: MarkPlane::start(alloc)?,
-            live,
-            vars,
-            events: Vec::with_capacity(alloc, MAX_EVENTS)?,
-            listing: Listing::start(alloc, dims)?,
+            field: Field::start(alloc, grid)?,
+            scratch: Vec::with_capacity(alloc, MAX_CELLS)?,
         })
     }
 
@@ -87,18 +55,10 @@ impl Board {
     pub fn load<L: Ledger>(&mut self, dims: Dims, cells: &[Glyph], steps: &mut Steps<L>)
         requires { length cells.now ≡ dims.h * dims.w }
         ensures desk { self.new ≡ desk_of_sheet (record { dims = dims; cells = cells.now }) }
+        ensures clear { residue self.new ≡ 0 }
         ensures ticks { steps.new ≡ steps.old + cells_of self.old.scan.dims + cells_of dims }
     {
-        tick_times(self.dims.cells(), steps);
-        wipe(&mut self.cells, &mut self.live, self.dims);
-        tick_times(dims.cells(), steps);
-        lay(&mut self.cells, &mut self.live, dims, cells);
-        self.dims = dims;
-        self.marks.clear();
-        self.vars.fill(Glyph::EMPTY);
-        self.events.clear();
-        self.before = Snapshot::of(&self.cells);
-        self.listing.begin(dims);
+        self.field.load(dims, cells, steps);
     }
 
     /// Writes the glyph to each place of an area of the grid. It ticks once for each.
@@ -107,8 +67,9 @@ impl Board {
         ensures desk { self.new ≡ desk_after_edit self.old
             (sheet_after_fill (sheet_of self.old.scan) area glyph) (fill_places area) }
         ensures ticks { steps.new ≡ steps.old + area.h * area.w }
+        ensures residue { residue self.new + steps.old ≤ residue self.old + steps.new }
     {
-        blocks::fill(self, area, glyph, steps);
+        blocks::fill(&mut self.field, area, glyph, steps);
     }
 
     /// Writes a block whose first place is `to`. What would stand outside the grid is left out. It ticks
@@ -120,8 +81,9 @@ impl Board {
             (put_places self.old.scan.dims to block.now.dims) }
         ensures ticks { steps.new
             ≡ steps.old + length (put_places self.old.scan.dims to block.now.dims) }
+        ensures residue { residue self.new + steps.old ≤ residue self.old + steps.new }
     {
-        blocks::put(self, to, block, steps);
+        blocks::put(&mut self.field, to, block, steps);
     }
 
     /// Moves the glyphs of an area to its image, the block of its size whose first place is `to`. The rest
@@ -135,9 +97,11 @@ impl Board {
             (shift_places self.old.scan.dims area to) }
         ensures ticks { steps.new ≡ steps.old + area.h * area.w
             + length (shift_places self.old.scan.dims area to) }
+        ensures residue { residue self.new + steps.old ≤ residue self.old + steps.new }
     {
-        let mut scratch = [Glyph::EMPTY; MAX_CELLS];
-        blocks::shift(self, area, to, &mut scratch, steps);
+        let dims = Bench::dims(&self.field);
+        prove!(usize::from(area.h) * usize::from(area.w) <= dims.cells());
+        blocks::shift(&mut self.field, area, to, &mut self.scratch, steps);
     }
 
     /// Gives the grid another size: the common part stays, and new places are empty. Where the size changes,
@@ -145,10 +109,9 @@ impl Board {
     pub fn set_dims<L: Ledger>(&mut self, dims: Dims, steps: &mut Steps<L>)
         ensures desk { self.new ≡ desk_after_resize self.old dims }
         ensures ticks { steps.new ≡ steps.old + length (cut_places self.old.scan.dims dims) }
+        ensures residue { residue self.new + steps.old ≤ residue self.old + steps.new }
     {
-        let old = self.dims;
-        blocks::clear_outside(self, whole(old), whole(dims), steps);
-        self.take_dims(dims);
+        self.field.set_dims(dims, steps);
     }
 
     /// The size and the glyphs of the last `begin`, and no changes. Where the size changes, nothing is marked
@@ -158,88 +121,9 @@ impl Board {
         ensures desk { self.new ≡ desk_reverted self.old }
         ensures ticks { steps.new ≡ steps.old
             + length (cut_places self.old.scan.dims self.old.began.dims) + length self.old.listed }
+        ensures residue { residue self.new + steps.old ≤ residue self.old + steps.new }
     {
-        let old = self.dims;
-        let began = self.listing.dims();
-        blocks::clear_outside(self, whole(old), whole(began), steps);
-        self.take_dims(began);
-        restore(
-            &mut self.cells,
-            &mut self.live,
-            self.listing.changes(),
-            steps,
-        );
-        self.listing.begin(began);
-    }
-
-    /// Gives the grid another size, where no place that is cut off holds a glyph, or is wanted for a change.
-    fn take_dims(&mut self, dims: Dims)
-        requires size { IsSize dims }
-        requires empty { (at : Place) → IsInside self.old.scan.dims at → is_inside dims at ≡ false
-            → glyph_at self.old.scan at ≡ empty }
-        requires listed { (at : Place) → IsInside self.old.began.dims at → is_inside dims at ≡ false
-            → is_listed self.old.listed at ≡ true }
-        ensures { self.new ≡ record self.old {
-          scan = with_sheet self.old.scan (sheet_after_resize (sheet_of self.old.scan) dims);
-        } }
-    {
-        if dims != self.dims {
-            self.marks.clear();
-            self.events.clear();
-            self.dims = dims;
-        }
-    }
-
-    /// The glyph above a place of the grid.
-    fn above(&self, at: Place) -> Glyph
-        requires { IsInside self.now.scan.dims at }
-        ensures { result ≡ peek self.now.scan (above at) }
-    {
-        let _cells = &self.cells;
-        let i = Dims::largest().index(at);
-        if at.y == 0 {
-            return Glyph::EMPTY;
-        }
-        self.cells[i - usize::from(MAX_COLUMNS)]
-    }
-
-    /// The glyph at the left of a place of the grid.
-    fn left(&self, at: Place) -> Glyph
-        requires { IsInside self.now.scan.dims at }
-        ensures { result ≡ peek self.now.scan (left at 1) }
-    {
-        let _cells = &self.cells;
-        let i = Dims::largest().index(at);
-        if at.x == 0 {
-            return Glyph::EMPTY;
-        }
-        self.cells[i - 1]
-    }
-
-    /// The glyph at the right of a place of the grid.
-    fn right(&self, at: Place) -> Glyph
-        requires { IsInside self.now.scan.dims at }
-        ensures { result ≡ peek self.now.scan (right at 1) }
-    {
-        let _cells = &self.cells;
-        let i = Dims::largest().index(at);
-        if at.x == MAX_COLUMNS - 1 {
-            return Glyph::EMPTY;
-        }
-        self.cells[i + 1]
-    }
-
-    /// The glyph below a place of the grid.
-    fn below(&self, at: Place) -> Glyph
-        requires { IsInside self.now.scan.dims at }
-        ensures { result ≡ peek self.now.scan (below at) }
-    {
-        let _cells = &self.cells;
-        let i = Dims::largest().index(at);
-        if at.y == MAX_ROWS - 1 {
-            return Glyph::EMPTY;
-        }
-        self.cells[i + usize::from(MAX_COLUMNS)]
+        self.field.revert(steps);
     }
 
     /// The events, in the order in which they were emitted.
@@ -247,7 +131,7 @@ impl Board {
         ensures events { result.now ≡ self.now.scan.events }
         ensures few { length result.now ≤ MAX_EVENTS }
     {
-        self.events.as_slice()
+        self.field.events()
     }
 
     /// The places that were written or cut off since the last `begin`, each once, with its glyph of that
@@ -255,7 +139,7 @@ impl Board {
     pub fn changes(&self) -> &[Change]
         ensures { result.now ≡ changes_of self.now }
     {
-        self.listing.changes()
+        self.field.changes()
     }
 }
 
@@ -265,148 +149,15 @@ impl Look for Board {
     ghost marks = { λ b. b.scan.marks };
 
     fn dims(&self) -> Dims {
-        self.dims
+        Look::dims(&self.field)
     }
 
     fn glyph_at(&self, at: Place) -> Glyph {
-        self.cells[Dims::largest().index(at)]
+        self.field.glyph_at(at)
     }
 
     fn marks_at(&self, at: Place) -> Marks {
-        self.marks.at(at)
-    }
-}
-
-/// Writes the glyphs of a grid into cells that are all empty.
-fn lay(cells: &mut [Glyph], live: &mut LiveBits, dims: Dims, glyphs: &[Glyph])
-    requires whole { length cells.old ≡ MAX_CELLS }
-    requires empty { (n : ℕ) → n < MAX_CELLS → slice_index cells.old n ≡ empty }
-    requires off { (n : ℕ) → n < MAX_CELLS → has_bit live.old n ≡ false }
-    requires size { length glyphs.now ≡ dims.h * dims.w }
-    ensures whole { length cells.new ≡ MAX_CELLS }
-    ensures glyphs { AreGlyphs glyphs.now }
-    ensures inside { by_place dims (glyph_in cells.new) ≡ glyphs.now }
-    ensures outside { IsEmptyOutside dims cells.new }
-    ensures live { AreLive cells.new live.new }
-{
-    for n in 0..dims.cells() {
-        let i = Dims::largest().index(dims.place(n));
-        glyphs[n].put(cells, i);
-        live.set(i, glyphs[n].is_operator());
-    }
-}
-
-/// Empties the cells of a grid.
-fn wipe(cells: &mut [Glyph], live: &mut LiveBits, dims: Dims)
-    requires whole { length cells.old ≡ MAX_CELLS }
-    requires outside { IsEmptyOutside dims cells.old }
-    requires live { AreLive cells.old live.old }
-    ensures whole { length cells.new ≡ MAX_CELLS }
-    ensures empty { (n : ℕ) → n < MAX_CELLS → slice_index cells.new n ≡ empty }
-    ensures off { (n : ℕ) → n < MAX_CELLS → has_bit live.new n ≡ false }
-{
-    for n in 0..dims.cells() {
-        let i = Dims::largest().index(dims.place(n));
-        cells[i] = Glyph::EMPTY;
-        live.set(i, false);
-    }
-}
-
-/// All places of a grid.
-fn whole(dims: Dims) -> Area
-    ensures whole { result ≡ whole dims }
-    ensures fits { IsInLargest result }
-    ensures size { IsSize dims }
-{
-    Area {
-        y: 0,
-        x: 0,
-        h: dims.h,
-        w: dims.w,
-    }
-}
-
-/// Puts the old glyphs of the changes back. It ticks once for each.
-fn restore<L: Ledger>(
-    cells: &mut [Glyph],
-    live: &mut LiveBits,
-    changes: &[Change],
-    steps: &mut Steps<L>,
-)
-    requires whole { length cells.old ≡ MAX_CELLS }
-    requires inside { All (IsInside largest) (places_of changes.now) }
-    requires live { AreLive cells.old live.old }
-    ensures whole { length cells.new ≡ MAX_CELLS }
-    ensures olds { (old : Place → ℕ) → All (λ change. change.old ≡ old change.at) changes.now
-        → (at : Place) → IsInside largest at → is_listed (places_of changes.now) at ≡ true
-        → glyph_in cells.new at ≡ old at }
-    ensures others { (at : Place) → IsInside largest at
-        → is_listed (places_of changes.now) at ≡ false
-        → glyph_in cells.new at ≡ glyph_in cells.old at }
-    ensures live { AreLive cells.new live.new }
-    ensures ticks { steps.new ≡ steps.old + length changes.now }
-{
-    for change in changes {
-        steps.tick();
-        let i = Dims::largest().index(change.at);
-        change.old.put(cells, i);
-        live.set(i, change.old.is_operator());
-    }
-}
-
-/// Writes a glyph where another stands, by the number of the place in the largest grid.
-fn renew(cells: &mut [Glyph], live: &mut LiveBits, i: usize, old: Glyph, glyph: Glyph)
-    requires whole { length cells.old ≡ MAX_CELLS }
-    requires number { i < MAX_CELLS }
-    requires old { slice_index cells.old i ≡ old }
-    requires live { AreLive cells.old live.old }
-    ensures cells { cells.new ≡ slice_set cells.old i glyph }
-    ensures glyph { IsGlyph glyph }
-    ensures live { AreLive cells.new live.new }
-{
-    if glyph.byte() != old.byte() {
-        glyph.put(cells, i);
-        let operator = glyph.is_operator();
-        if operator != old.is_operator() {
-            live.set(i, operator);
-        }
-    }
-}
-
-/// Whether a bang stands above, at the left, at the right or below a cell that lies at no edge of the
-/// largest grid.
-fn bang_around(cells: &[Glyph], i: usize) -> bool
-    requires above { MAX_COLUMNS ≤ i }
-    requires below { i + MAX_COLUMNS < length cells.now }
-    ensures { result ≡ ((slice_index cells.now (i - MAX_COLUMNS) == bang)
-        || (slice_index cells.now (i - 1) == bang)
-        || (slice_index cells.now (i + 1) == bang)
-        || (slice_index cells.now (i + MAX_COLUMNS) == bang)) }
-{
-    let row = usize::from(MAX_COLUMNS);
-    cells[i - row] == Glyph::BANG
-        || cells[i - 1] == Glyph::BANG
-        || cells[i + 1] == Glyph::BANG
-        || cells[i + row] == Glyph::BANG
-}
-
-/// Ticks once for each place of a grid that is marked.
-fn tick_marked<L: Ledger>(marks: &MarkPlane, dims: Dims, steps: &mut Steps<L>)
-    ensures { steps.new ≡ steps.old + count_by is_marked (by_place dims (marks_in marks.now)) }
-{
-    for n in 0..dims.cells() {
-        if !marks.at(dims.place(n)).is_empty() {
-            steps.tick();
-        }
-    }
-}
-
-/// Ticks so many times.
-fn tick_times<L: Ledger>(times: usize, steps: &mut Steps<L>)
-    ensures { steps.new ≡ steps.old + times }
-{
-    for _ in 0..times {
-        steps.tick();
+        self.field.marks_at(at)
     }
 }
 
@@ -414,90 +165,47 @@ impl Bench for Board {
     ghost desk = { λ b. b };
 
     fn dims(&self) -> Dims {
-        self.dims
+        Bench::dims(&self.field)
     }
 
-    #[tactic(auto, unfolding(orca_op::specs::State::peek))]
     fn peek<L: Ledger>(&self, at: Spot, steps: &mut Steps<L>) -> Glyph {
-        steps.tick();
-        // Outside the grid each cell is empty.
-        let most = Dims::largest();
-        match most.holds(at) {
-            Some(place) => self.cells[most.index(place)],
-            None => Glyph::EMPTY,
-        }
+        self.field.peek(at, steps)
     }
 
-    #[tactic(auto, unfolding(orca_op::specs::Deeds::after, orca_op::specs::Desk::list_after))]
     fn write<L: Ledger>(&mut self, at: Spot, glyph: Glyph, steps: &mut Steps<L>) {
-        steps.tick();
-        if let Some(place) = self.dims.holds(at) {
-            let i = Dims::largest().index(place);
-            let old = self.cells[i];
-            self.listing.add(place, old);
-            renew(&mut self.cells, &mut self.live, i, old, glyph);
-        }
+        self.field.write(at, glyph, steps);
     }
 
-    #[tactic(auto, unfolding(orca_op::specs::Deeds::after, orca_op::specs::Desk::list_after))]
     fn mark<L: Ledger>(&mut self, at: Spot, marks: Marks, steps: &mut Steps<L>) {
-        steps.tick();
-        // Marks outside the grid are never looked at.
-        if let Some(place) = Dims::largest().holds(at) {
-            self.marks.add(place, marks);
-        }
+        self.field.mark(at, marks, steps);
     }
 
-    #[tactic(auto, unfolding(orca_op::specs::State::marked))]
     fn marked<L: Ledger>(&self, at: Spot, steps: &mut Steps<L>) -> Marks {
-        steps.tick();
-        match self.dims.holds(at) {
-            Some(place) => self.marks.at(place),
-            None => Marks::none(),
-        }
+        self.field.marked(at, steps)
     }
 
-    #[tactic(auto, unfolding(orca_op::specs::State::var_at))]
     fn var<L: Ledger>(&self, index: u8, steps: &mut Steps<L>) -> Glyph {
-        steps.tick();
-        self.vars[usize::from(index)]
+        self.field.var(index, steps)
     }
 
-    #[tactic(auto, unfolding(orca_op::specs::Deeds::after, orca_op::specs::Desk::list_after))]
     fn set_var<L: Ledger>(&mut self, index: u8, glyph: Glyph, steps: &mut Steps<L>) {
-        steps.tick();
-        glyph.put(&mut self.vars, usize::from(index));
+        self.field.set_var(index, glyph, steps);
     }
 
-    #[tactic(auto, unfolding(orca_op::specs::Deeds::after, orca_op::specs::Desk::list_after))]
     fn emit<L: Ledger>(&mut self, event: Event, steps: &mut Steps<L>) {
-        steps.tick();
-        self.events.push_reserved(event);
+        self.field.emit(event, steps);
     }
 
     fn peek_here<L: Ledger>(&self, at: Place, steps: &mut Steps<L>) -> Glyph {
-        steps.tick();
-        self.cells[Dims::largest().index(at)]
+        self.field.peek_here(at, steps)
     }
 
     fn marked_here<L: Ledger>(&self, at: Place, steps: &mut Steps<L>) -> Marks {
-        steps.tick();
-        self.marks.at(at)
+        self.field.marked_here(at, steps)
     }
 
-    // It stands apart, so that the walk of a row keeps its registers.
-    #[inline(never)]
-    #[tactic(auto, unfolding(orca_op::specs::State::has_bang))]
     fn beside_bang<L: Ledger>(&self, at: Place, steps: &mut Steps<L>) -> bool {
-        tick_times(4, steps);
-        let cells = &self.cells;
-        if at.y > 0 && at.y < MAX_ROWS - 1 && at.x > 0 && at.x < MAX_COLUMNS - 1 {
-            return bang_around(cells, Dims::largest().index(at));
-        }
-        self.above(at) == Glyph::BANG
-            || self.left(at) == Glyph::BANG
-            || self.right(at) == Glyph::BANG
-            || self.below(at) == Glyph::BANG
+        self.field.beside_bang(at, steps)
     }
 
     fn find_right<L: Ledger>(
@@ -507,51 +215,20 @@ impl Bench for Board {
         reach: u8,
         steps: &mut Steps<L>,
     ) -> Option<u16> {
-        let dims = self.dims;
-        let first = Dims::largest().index(at);
-        let end = (u16::from(reach) + 1).min(dims.w - at.x);
-        for column in 1..end {
-            steps.tick();
-            if self.cells[first + usize::from(column)].byte() == byte {
-                return Some(column);
-            }
-        }
-        None
+        self.field.find_right(at, byte, reach, steps)
     }
 
     fn mark_span<L: Ledger>(&mut self, at: Place, span: Span, marks: Marks, steps: &mut Steps<L>) {
-        tick_times(usize::from(span.length), steps);
-        let y = u32::from(at.y) + u32::from(span.y);
-        let x = u32::from(at.x) + u32::from(span.x);
-        let dims = self.dims;
-        if y < u32::from(dims.h) && x < u32::from(dims.w) {
-            let first = Place {
-                y: y as u16,
-                x: x as u16,
-            };
-            let count = u16::from(span.length).min(dims.w - first.x);
-            self.marks.add_run(first, count, marks);
-        }
+        self.field.mark_span(at, span, marks, steps);
     }
 
-    #[tactic(auto, unfolding(orca_op::specs::Desk::residue))]
     fn begin<L: Ledger>(&mut self, steps: &mut Steps<L>) {
-        let dims = self.dims;
-        steps.tick();
-        tick_marked(&self.marks, dims, steps);
-        tick_times(self.listing.changes().len(), steps);
-        self.marks.clear_rows(dims.h);
-        self.vars.fill(Glyph::EMPTY);
-        self.events.clear();
-        self.before = Snapshot::of(&self.cells);
-        self.listing.begin(dims);
+        self.field.begin(steps);
     }
 }
 
 impl Walk for Board {
     fn live_words<L: Ledger>(&self, row: u16, steps: &mut Steps<L>) -> &[u64] {
-        steps.tick();
-        let dims = self.dims;
-        self.live.row(row, dims.w)
+        self.field.live_words(row, steps)
     }
 }

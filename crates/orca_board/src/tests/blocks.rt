@@ -1,12 +1,10 @@
-//! Block edits of a plain board, with their grids and their steps written by hand.
+//! Block edits of a board, with their grids and the places that they list written by hand.
 
-ghost use Rattle.std.specs.Prelude.{◌≡◌, ◌+◌, ◌<◌, IsTrue, length};
+ghost use Rattle.std.specs.Prelude.{◌≡◌, ◌<◌, IsTrue, length};
 ghost use Rattle.orca_base.specs.Areas.{IsArea};
 ghost use Rattle.orca_base.specs.Grids.{IsInside};
 
-use crate::PlainBoard;
-use crate::blocks::{fill, put, shift};
-use orca_base::limits::MAX_CELLS;
+use crate::Board;
 use orca_base::{Area, Block, Dims, Glyph, Look, Place, Steps};
 use orca_grid::Grid;
 use std::alloc::Global;
@@ -43,32 +41,25 @@ pub(super) fn is_inside(dims: Dims, at: Place) -> bool
 }
 
 /// Does an edit.
-fn work<L: Ledger>(
-    rt: &impl Abort,
-    board: &mut PlainBoard,
-    edit: &Edit,
-    scratch: &mut [Glyph],
-    blank: Blank,
-)
+fn work<L: Ledger>(rt: &impl Abort, board: &mut Board, edit: &Edit, blank: Blank)
     requires name { blank.name ≡ L.name }
     requires parts { blank.parts ≡ L.parts }
     requires some { 0 < blank.parts }
-    requires scratch { length scratch.old ≡ MAX_CELLS }
 {
     let mut steps = Steps::<L>::start(blank);
     let dims = Look::dims(board);
     match edit {
         Edit::Fill(area, glyph) => {
             assert!(rt; is_area(dims, *area));
-            fill(board, *area, *glyph, &mut steps);
+            board.fill(*area, *glyph, &mut steps);
         }
         Edit::Put(to, block) => {
             assert!(rt; is_inside(dims, *to));
-            put(board, *to, block, &mut steps);
+            board.put(*to, block, &mut steps);
         }
         Edit::Shift(area, to) => {
             assert!(rt; is_area(dims, *area) && is_inside(dims, *to));
-            shift(board, *area, *to, scratch, &mut steps);
+            board.shift(*area, *to, &mut steps);
         }
     }
 }
@@ -90,10 +81,8 @@ fn expect(
     after: &[u8],
     places: &[Place],
 ) -> Result<(), Fail> {
-    let mut board = PlainBoard::start(alloc, &Grid::read(alloc, LETTERS)?)?;
-    let mut scratch = Vec::new(alloc);
-    scratch.resize(MAX_CELLS, Glyph::EMPTY)?;
-    work::<Brand>(rt, &mut board, edit, scratch.as_mut_slice(), Blank::new(1));
+    let mut board = Board::start(alloc, &Grid::read(alloc, LETTERS)?)?;
+    work::<Brand>(rt, &mut board, edit, Blank::new(1));
     let mut printed = Vec::new(alloc);
     Grid::print(&board, &mut printed)?;
     assert!(rt;
@@ -244,52 +233,5 @@ fn moves_of_an_area(rt: HostRuntime) -> Result<(), Fail> {
     for &(to, after, places) in &MOVES {
         expect(&rt, rt.alloc(), &Edit::Shift(SQUARE, to), after, places)?;
     }
-    Ok(())
-}
-
-/// A fill of the square, a block put into the last place, and a move of the square to the right by one take
-/// 4 writes; 1 write; 4 reads, 2 places that become empty, and 4 of the image.
-fn edits<L: Ledger>(
-    board: &mut PlainBoard,
-    block: &Block,
-    scratch: &mut [Glyph],
-    steps: &mut Steps<L>,
-)
-    requires board { board.old.scan.dims ≡ record { h = 4; w = 4 } }
-    requires block { block.now.dims ≡ record { h = 2; w = 2 } }
-    requires scratch { length scratch.old ≡ MAX_CELLS }
-    ensures { steps.new ≡ steps.old + (4 + 1 + 4 + 2 + 4) }
-{
-    fill(board, SQUARE, Glyph::BANG, steps);
-    put(board, place(3, 3), block, steps);
-    shift(board, SQUARE, place(1, 2), scratch, steps);
-}
-
-/// Does these edits.
-fn work_edits<L: Ledger>(board: &mut PlainBoard, block: &Block, scratch: &mut [Glyph], blank: Blank)
-    requires name { blank.name ≡ L.name }
-    requires parts { blank.parts ≡ L.parts }
-    requires some { 0 < blank.parts }
-    requires board { board.old.scan.dims ≡ record { h = 4; w = 4 } }
-    requires block { block.now.dims ≡ record { h = 2; w = 2 } }
-    requires scratch { length scratch.old ≡ MAX_CELLS }
-{
-    edits(board, block, scratch, &mut Steps::<L>::start(blank));
-}
-
-#[test]
-fn steps_of_edits(rt: HostRuntime) -> Result<(), Fail> {
-    let alloc = rt.alloc();
-    let mut board = PlainBoard::start(alloc, &Grid::read(alloc, LETTERS)?)?;
-    let square = block(alloc, b"12\n34\n")?;
-    let mut scratch = Vec::new(alloc);
-    scratch.resize(MAX_CELLS, Glyph::EMPTY)?;
-    let dims = Look::dims(&board);
-    assert!(rt; dims.h == 4 && dims.w == 4);
-    assert!(rt; square.h() == 2 && square.w() == 2);
-    work_edits::<Brand>(&mut board, &square, scratch.as_mut_slice(), Blank::new(1));
-    let mut printed = Vec::new(alloc);
-    Grid::print(&board, &mut printed)?;
-    assert!(rt; printed.as_slice() == b"abcd\ne.**\ni.**\nmno1\n".as_slice());
     Ok(())
 }

@@ -1,6 +1,7 @@
 //! The live columns of a board, written by hand, and the changes that it lists.
 
 ghost use Rattle.std.specs.Prelude.{◌≡◌, ◌<◌};
+ghost use Rattle.orca_base.specs.declared.limits.TheConstants.{MAX_COLUMNS};
 
 use crate::Board;
 use orca_base::{Change, Dims, Glyph, Look, Mark, Marks, Memory, Place, Steps};
@@ -52,40 +53,34 @@ fn fill_a_row<L: Ledger>(rt: &impl Abort, board: &mut Board, blank: Blank)
     requires some { 0 < blank.parts }
 {
     let mut steps = Steps::<L>::start(blank);
-    let columns = [255, 0, 128, 62, 63, 64, 65, 127];
+    let columns = [
+        0, 62, 63, 64, 65, 255, 256, 257, 511, 512, 513, 1_022, 1_023,
+    ];
     expect(rt, board, 1, &[], &[], &mut steps);
     for &x in columns.as_slice() {
         board.write(place(1, x).here(), Glyph::BANG, &mut steps);
+        // Rows alike: each of these rows has an operator in the column of its own number.
+        board.write(place(x, x).here(), Glyph::BANG, &mut steps);
+        if x > 1 {
+            expect(rt, board, x, &[], &[x], &mut steps);
+        }
     }
-    expect(
-        rt,
-        board,
-        1,
-        &[],
-        &[0, 62, 63, 64, 65, 127, 128, 255],
-        &mut steps,
-    );
-    expect(rt, board, 0, &[], &[], &mut steps);
-    expect(
-        rt,
-        board,
-        2,
-        &[(place(2, 255), Glyph::BANG)],
-        &[255],
-        &mut steps,
-    );
+    expect(rt, board, 1, &[], &columns, &mut steps);
+    expect(rt, board, 2, &[], &[], &mut steps);
     let others = [
         (place(1, 63), Glyph::EMPTY),
         (place(1, 64), Glyph::from_value(7)),
         (place(1, 62), Glyph::from_value(10)),
-        (place(1, 255), Glyph::EMPTY),
+        (place(1, 256), Glyph::EMPTY),
+        (place(1, 1_023), Glyph::EMPTY),
     ];
-    expect(rt, board, 1, &others, &[0, 62, 65, 127, 128], &mut steps);
+    let left = [0, 62, 65, 255, 257, 511, 512, 513, 1_022];
+    expect(rt, board, 1, &others, &left, &mut steps);
 }
 
 #[test]
 fn columns_at_the_edges_of_words(rt: HostRuntime) -> Result<(), Memory> {
-    let grid = Grid::blank(rt.alloc(), Dims { h: 3, w: 256 })?;
+    let grid = Grid::blank(rt.alloc(), Dims::largest())?;
     let mut board = Board::start(rt.alloc(), &grid)?;
     fill_a_row::<Brand>(&rt, &mut board, Blank::new(1));
     Ok(())
@@ -94,7 +89,7 @@ fn columns_at_the_edges_of_words(rt: HostRuntime) -> Result<(), Memory> {
 /// Writes the last column of a board of two rows, and beyond it.
 fn write_at_the_edge<L: Ledger>(rt: &impl Abort, board: &mut Board, w: u16, blank: Blank)
     requires column { 0 < w }
-    requires edge { w < 256 }
+    requires edge { w < MAX_COLUMNS }
     requires name { blank.name ≡ L.name }
     requires parts { blank.parts ≡ L.parts }
     requires some { 0 < blank.parts }
@@ -111,7 +106,7 @@ fn write_at_the_edge<L: Ledger>(rt: &impl Abort, board: &mut Board, w: u16, blan
 
 #[test]
 fn writes_outside_the_grid_are_not_live(rt: HostRuntime) -> Result<(), Memory> {
-    for w in 63..66 {
+    for w in [63, 64, 65, 255, 256, 257, 511, 512, 513, 1_022, 1_023] {
         let grid = Grid::blank(rt.alloc(), Dims { h: 2, w })?;
         let mut board = Board::start(rt.alloc(), &grid)?;
         write_at_the_edge::<Brand>(&rt, &mut board, w, Blank::new(1));
@@ -126,8 +121,8 @@ fn load_and_write<L: Ledger>(rt: &impl Abort, board: &mut Board, blank: Blank)
     requires some { 0 < blank.parts }
 {
     let mut steps = Steps::<L>::start(blank);
-    let far = [(place(0, 2), Glyph::BANG), (place(0, 200), Glyph::BANG)];
-    expect(rt, board, 0, &far, &[2, 200], &mut steps);
+    let far = [(place(0, 2), Glyph::BANG), (place(0, 1_023), Glyph::BANG)];
+    expect(rt, board, 0, &far, &[2, 1_023], &mut steps);
     let row = [Glyph::BANG, Glyph::EMPTY, Glyph::EMPTY];
     board.load(Dims { h: 1, w: 3 }, &row, &mut steps);
     assert_eq!(rt; board.changes().len(), 0);
@@ -159,7 +154,7 @@ fn load_and_write<L: Ledger>(rt: &impl Abort, board: &mut Board, blank: Blank)
 
 #[test]
 fn loads_and_changes(rt: HostRuntime) -> Result<(), Memory> {
-    let grid = Grid::blank(rt.alloc(), Dims { h: 256, w: 256 })?;
+    let grid = Grid::blank(rt.alloc(), Dims::largest())?;
     let mut board = Board::start(rt.alloc(), &grid)?;
     load_and_write::<Brand>(&rt, &mut board, Blank::new(1));
     Ok(())

@@ -3,7 +3,7 @@
 ghost use Rattle.std.specs.Prelude.{◌≡◌, ◌<◌};
 
 use crate::Board;
-use orca_base::{Dims, Glyph, Place, Steps};
+use orca_base::{Dims, Glyph, Look, Place, Steps};
 use orca_grid::Grid;
 use orca_op::Bench;
 use std::alloc::Global;
@@ -99,6 +99,53 @@ static CASES: [(&[Turn], &[u8]); 7] = [
 fn first_glyph_comes_back(rt: HostRuntime) -> Result<(), Fail> {
     for &(turns, after) in &CASES {
         go_back::<Brand>(&rt, rt.alloc(), turns, after, Blank::new(1))?;
+    }
+    Ok(())
+}
+
+/// The grid of one cell takes a size, is written in its last place, takes the size before and goes back,
+/// and then takes the size and goes back at once.
+fn grow_and_go_back<L: Ledger>(rt: &impl Abort, board: &mut Board, dims: Dims, blank: Blank)
+    requires name { blank.name ≡ L.name }
+    requires parts { blank.parts ≡ L.parts }
+    requires some { 0 < blank.parts }
+{
+    let mut steps = Steps::<L>::start(blank);
+    let one = Dims { h: 1, w: 1 };
+    let last = Place {
+        y: dims.h - 1,
+        x: dims.w - 1,
+    };
+    for smaller in [false, true] {
+        board.begin(&mut steps);
+        board.set_dims(dims, &mut steps);
+        assert_eq!(rt; Look::dims(board), dims);
+        board.write(last.here(), Glyph::BANG, &mut steps);
+        assert_eq!(rt; board.peek(last.here(), &mut steps), Glyph::BANG);
+        if smaller {
+            board.set_dims(one, &mut steps);
+            board.set_dims(dims, &mut steps);
+            assert_eq!(rt; board.peek(last.here(), &mut steps), Glyph::EMPTY);
+        }
+        assert_eq!(rt; board.changes().len(), 0);
+        board.revert(&mut steps);
+        assert_eq!(rt; Look::dims(board), one);
+        assert_eq!(rt;
+            board.peek(Place { y: 0, x: 0 }.here(), &mut steps).byte(),
+            b'C'
+        );
+        board.set_dims(dims, &mut steps);
+        assert_eq!(rt; board.peek(last.here(), &mut steps), Glyph::EMPTY);
+        board.revert(&mut steps);
+    }
+}
+
+#[test]
+fn one_cell_comes_back_from_the_largest_grid(rt: HostRuntime) -> Result<(), Fail> {
+    let mut board = Board::start(rt.alloc(), &Grid::read(rt.alloc(), b"C\n")?)?;
+    for (h, w) in [(256, 257), (511, 513), (1_023, 1_022), (1_024, 1_024)] {
+        let dims = Dims::of(h, w).expect(&rt, "a size");
+        grow_and_go_back::<Brand>(&rt, &mut board, dims, Blank::new(1));
     }
     Ok(())
 }

@@ -4,6 +4,7 @@ ghost use Rattle.std.specs.Prelude.{◌≡◌, ◌<◌};
 
 use super::blocks::{is_area, is_inside};
 use crate::Board;
+use orca_base::limits::{MAX_COLUMNS, MAX_ROWS};
 use orca_base::{Area, Block, Dims, Glyph, Look, Mark, Marks, Memory, Place, Steps};
 use orca_grid::Grid;
 use orca_op::{Bench, next_live};
@@ -20,7 +21,7 @@ fn expect_row<L: Ledger>(
     steps: &mut Steps<L>,
 ) {
     for x in 0..glyphs.len() {
-        assert!(rt; x < 256);
+        assert!(rt; x < usize::from(MAX_COLUMNS));
         let at = Place { y, x: x as u16 };
         let glyph = board.peek(at.here(), steps);
         assert_eq!(rt; glyph.byte(), glyphs[x], "row {y}, column {x}");
@@ -70,6 +71,59 @@ fn cut_a_column<L: Ledger>(rt: &impl Abort, board: &mut Board, blank: Blank)
     expect_live(rt, board, 1, Some(64), &mut steps);
     board.set_dims(Dims { h: 3, w: 65 }, &mut steps);
     expect_live(rt, board, 2, None, &mut steps);
+}
+
+/// Takes away the columns from one on, or the rows, and gives them back.
+fn cut_from<L: Ledger>(rt: &impl Abort, board: &mut Board, cut: u16, turned: bool, blank: Blank)
+    requires some_kept { 0 < cut }
+    requires name { blank.name ≡ L.name }
+    requires parts { blank.parts ≡ L.parts }
+    requires some { 0 < blank.parts }
+{
+    let mut steps = Steps::<L>::start(blank);
+    let dims = Look::dims(board);
+    let (at, before) = if turned {
+        (Place { y: cut, x: 1 }, Place { y: cut - 1, x: 1 })
+    } else {
+        (Place { y: 1, x: cut }, Place { y: 1, x: cut - 1 })
+    };
+    let (h, w) = if turned { (cut, 2) } else { (2, cut) };
+    let smaller = Dims::of(u32::from(h), u32::from(w)).expect(rt, "a size");
+    board.write(at.here(), Glyph::BANG, &mut steps);
+    board.write(before.here(), Glyph::BANG, &mut steps);
+    board.begin(&mut steps);
+    board.set_dims(smaller, &mut steps);
+    assert_eq!(rt; board.changes().len() + smaller.cells(), dims.cells());
+    assert_eq!(rt; board.peek(at.here(), &mut steps), Glyph::EMPTY);
+    assert_eq!(rt; board.peek(before.here(), &mut steps), Glyph::BANG);
+    board.set_dims(dims, &mut steps);
+    assert_eq!(rt; board.peek(at.here(), &mut steps), Glyph::EMPTY);
+    board.revert(&mut steps);
+    assert_eq!(rt; board.peek(at.here(), &mut steps), Glyph::BANG);
+    assert_eq!(rt; board.changes().len(), 0);
+    board.write(at.here(), Glyph::EMPTY, &mut steps);
+}
+
+/// Rows and columns beside the edges of words, and the last ones.
+static EDGES: [u16; 8] = [255, 256, 257, 511, 512, 513, 1_022, 1_023];
+
+#[test]
+fn sizes_at_the_edges_of_a_large_grid(rt: HostRuntime) -> Result<(), Memory> {
+    let wide = Grid::blank(
+        rt.alloc(),
+        Dims {
+            h: 2,
+            w: MAX_COLUMNS,
+        },
+    )?;
+    let high = Grid::blank(rt.alloc(), Dims { h: MAX_ROWS, w: 2 })?;
+    for (grid, turned) in [(&wide, false), (&high, true)] {
+        let mut board = Board::start(rt.alloc(), grid)?;
+        for &cut in &EDGES {
+            cut_from::<Brand>(&rt, &mut board, cut, turned, Blank::new(1));
+        }
+    }
+    Ok(())
 }
 
 #[test]

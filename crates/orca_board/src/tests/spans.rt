@@ -1,10 +1,12 @@
 //! The calls that stand for several, on both boards, with what they find and leave written by hand.
 
 ghost use Rattle.std.specs.Prelude.{◌≡◌, ◌<◌};
+ghost use Rattle.orca_base.specs.declared.limits.TheConstants.{MAX_COLUMNS};
 
 use super::blocks::is_inside;
 use crate::{Board, PlainBoard};
-use orca_base::{Mark, Marks, Place, Steps};
+use orca_base::limits::MAX_COLUMNS;
+use orca_base::{Dims, Glyph, Mark, Marks, Place, Steps};
 use orca_grid::Grid;
 use orca_op::{Bench, Span};
 use std::marker::Brand;
@@ -69,6 +71,75 @@ fn work<B: Bench, L: Ledger>(rt: &impl Abort, board: &mut B, blank: Blank)
     assert_eq!(rt; board.marked(first.off(1, 1), &mut steps), Marks::none());
     assert_eq!(rt; board.marked(first.off(1, 2), &mut steps), lock);
     assert_eq!(rt; board.marked(last.here(), &mut steps), lock);
+}
+
+/// A glyph in a column of a row is found from the column at its left, and a span that begins at it marks
+/// what the row still has.
+fn work_at<B: Bench, L: Ledger>(rt: &impl Abort, board: &mut B, x: u16, blank: Blank)
+    requires column { 0 < x }
+    requires few { x < MAX_COLUMNS }
+    requires name { blank.name ≡ L.name }
+    requires parts { blank.parts ≡ L.parts }
+    requires some { 0 < blank.parts }
+{
+    let mut steps = Steps::<L>::start(blank);
+    let here = Place { y: 0, x };
+    let left = Place { y: 0, x: x - 1 };
+    let comment = Glyph::of(b'#').unwrap_or(Glyph::EMPTY);
+    board.begin(&mut steps);
+    board.write(here.here(), comment, &mut steps);
+    find(rt, board, left, 1, Some(1), &mut steps);
+    find(rt, board, here, 255, None, &mut steps);
+    board.write(here.here(), Glyph::BANG, &mut steps);
+    bang(rt, board, left, true, &mut steps);
+    let lock = Marks::none().with(Mark::Lock);
+    let span = Span {
+        y: 0,
+        x: 0,
+        length: 255,
+    };
+    board.lock_span(here, span, &mut steps);
+    assert_eq!(rt; board.marked(left.here(), &mut steps), Marks::none());
+    assert_eq!(rt; board.marked(here.here(), &mut steps), lock);
+    let last = if x + 254 < MAX_COLUMNS {
+        x + 254
+    } else {
+        MAX_COLUMNS - 1
+    };
+    assert_eq!(rt;
+        board.marked(Place { y: 0, x: last }.here(), &mut steps),
+        lock
+    );
+    assert_eq!(rt;
+        board.marked(Place { y: 0, x: last }.right(1), &mut steps),
+        Marks::none()
+    );
+    assert_eq!(rt;
+        board.marked(Place { y: 1, x: 0 }.here(), &mut steps),
+        Marks::none()
+    );
+    board.write(here.here(), Glyph::EMPTY, &mut steps);
+}
+
+/// Columns beside the edges of words, and the last ones.
+static EDGES: [u16; 8] = [255, 256, 257, 511, 512, 513, 1_022, 1_023];
+
+#[test]
+fn spans_at_the_edges_of_a_long_row(rt: HostRuntime) -> Result<(), Fail> {
+    let grid = Grid::blank(
+        rt.alloc(),
+        Dims {
+            h: 2,
+            w: MAX_COLUMNS,
+        },
+    )?;
+    let mut board = Board::start(rt.alloc(), &grid)?;
+    let mut plain = PlainBoard::start(rt.alloc(), &grid)?;
+    for &x in &EDGES {
+        work_at::<Board, Brand>(&rt, &mut board, x, Blank::new(1));
+        work_at::<PlainBoard, Brand>(&rt, &mut plain, x, Blank::new(1));
+    }
+    Ok(())
 }
 
 #[test]

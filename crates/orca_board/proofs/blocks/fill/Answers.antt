@@ -1,17 +1,17 @@
-use Rattle.std.proofs.Common.{arith, refl, ◌∙◌}
-use Rattle.orca_board.proofs.BlockLemmas.{step, all_steps}
+use Rattle.std.proofs.Common.{◌≡◌, ◌∙◌, ◌+◌, ◌*◌, arith}
+use Rattle.orca_board.proofs.RunLemmas.{all_rows, row_step}
 use Rattle.orca_board.proofs.BlockEdits.{after_fill}
 use Rattle.orca_board.proofs.blocks.fill.Goals as goal
 
-pub loop-n-preserved : goal.loop-n-preserved
-loop-n-preserved g c = record {
-  desk = step _ _ _ (λ at. c.args.glyph) c.args.area c.loop-n.n _ _ _ c.loop-n.invariant.desk
-      c.nth_place.ensures c.here.ensures refl c.write.ensures.deed;
-  ticks = omega (arith, c.loop-n.invariant.ticks, c.write.ensures.ticks);
+pub loop-row-preserved : goal.loop-row-preserved
+loop-row-preserved g c = record {
+  desk = row_step _ _ _ (λ at. c.args.glyph) c.args.area c.loop-row.row
+      c.loop-row.invariant.desk (rw c.row_of.ensures at c.fill_run.ensures.desk);
+  ticks = omega (arith, c.loop-row.invariant.ticks, c.fill_run.ensures.ticks);
 }
 
 pub returns-clause-desk : goal.returns-clause-desk
 returns-clause-desk g c =
-    all_steps _ _ (λ at. c.args.glyph) c.args.area c.loop-n.n c.loop-n.invariant.desk
-    (omega (arith, c.cells_of-n-end.ensures, c.loop-n-test.false, c.loop-n.auto.n-end))
+    all_rows _ _ (λ at. c.args.glyph) c.args.area c.loop-row.row c.loop-row.invariant.desk
+    (omega (arith, c.loop-row-test.false, c.loop-row.auto.row-end))
     ∙ after_fill _ c.args.area c.args.glyph c.dims-dims.ensures.desk c.requires

@@ -1,14 +1,14 @@
-use Rattle.std.proofs.Common.{◌≡◌, ◌+◌}
+use Rattle.std.proofs.Common.{◌≡◌, ◌+◌, ◌*◌}
 use Rattle.orca_op.specs.Desk.{desk_after_all}
 use Rattle.orca_board.specs.Blocks.{write_each}
-use Rattle.orca_board.proofs.BlockLemmas.{first_places}
+use Rattle.orca_board.proofs.RunLemmas.{first_rows}
 use Rattle.orca_board.proofs.blocks.fill.Given as goal
 
--- the first places are written
-abbrev pub invariant-loop-n : goal.invariant-loop-n
-invariant-loop-n g l = record {
+-- the first rows are written
+abbrev pub invariant-loop-row : goal.invariant-loop-row
+invariant-loop-row g l = record {
   desk : g.B.Bench.desk l.bench
       ≡ desk_after_all (g.B.Bench.desk l.initial.bench)
-      (write_each (λ at. l.glyph) (first_places l.area l.n));
-  ticks : l.steps ≡ l.initial.steps + l.n;
+      (write_each (λ at. l.glyph) (first_rows l.area l.row));
+  ticks : l.steps ≡ l.initial.steps + l.row * l.area.w;
 }

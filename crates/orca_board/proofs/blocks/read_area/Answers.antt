@@ -1,30 +1,32 @@
-use Rattle.std.proofs.Common.{arith}
-use Rattle.orca_op.specs.State.{sheet_of}
-use Rattle.orca_board.proofs.BlockPlaces.{inside-nth}
-use Rattle.orca_board.proofs.BlockLemmas.{read_step, all_read}
+use Rattle.std.proofs.Common.{arith, ◌∙◌}
+use Rattle.orca_op.specs.State.{glyph_at}
+use Rattle.orca_board.proofs.RunLemmas.{all-read, length-rows_read, row-fits, rows-read}
 use Rattle.orca_board.proofs.blocks.read_area.Goals as goal
 
-pub loop-n-preserved : goal.loop-n-preserved
-loop-n-preserved g c = record {
-  glyphs = read_step (g.B.Bench.desk c.args.bench.now).scan c.args.area c.loop-n.n c.loop-n.into
-      c.put.new.into _ _ c.peek-glyph.result
-      (inside-nth _ c.args.area c.loop-n.n c.requires.area.bottom c.requires.area.right
-      (omega (arith, c.loop-n-test.true, c.cells_of-n-end.ensures)))
-      (omega (
-        arith,
-        c.loop-n-test.true,
-        c.cells_of-n-end.ensures,
-        c.requires.room,
-        c.loop-n.auto.into,
-      ))
-      c.loop-n.invariant.glyphs c.nth_place.ensures c.here.ensures c.peek-glyph.ensures.glyph
-      c.put.ensures.put;
-  ticks = omega (arith, c.loop-n.invariant.ticks, c.peek-glyph.ensures.ticks);
+pub read_run-requires-clause-room : goal.read_run-requires-clause-room
+read_run-requires-clause-room g c =
+    let many = length-rows_read (glyph_at (g.B.Bench.desk c.args.bench.now).scan) c.args.area
+    c.loop-row.row in
+    let now = rw (← c.loop-row.invariant.glyphs) at many in
+    omega (
+      arith,
+      c.loop-row.invariant.capacity,
+      c.clear.ensures.capacity,
+      c.requires.room,
+      row-fits c.args.area.h c.loop-row.row c.args.area.w c.loop-row-test.true,
+      now,
+    )
+
+pub loop-row-preserved : goal.loop-row-preserved
+loop-row-preserved g c = record {
+  glyphs = rows-read (glyph_at (g.B.Bench.desk c.args.bench.now).scan) _ _ c.args.area
+      c.loop-row.row c.loop-row.invariant.glyphs
+      (rw c.row_of.ensures at c.read_run.ensures.glyphs);
+  capacity = c.read_run.ensures.capacity ∙ c.loop-row.invariant.capacity;
+  ticks = omega (arith, c.loop-row.invariant.ticks, c.read_run.ensures.ticks);
 }
 
 pub returns-clause-glyphs : goal.returns-clause-glyphs
 returns-clause-glyphs g c =
-    all_read (sheet_of (g.B.Bench.desk c.args.bench.now).scan) c.args.area c.loop-n.into
-    (omega (arith, c.requires.room, c.loop-n.auto.into))
-    (λ i below. c.loop-n.invariant.glyphs i
-    (omega (arith, below, c.cells_of-n-end.ensures, c.loop-n-test.false)))
+    all-read (g.B.Bench.desk c.args.bench.now).scan _ c.args.area c.loop-row.row
+    (omega (arith, c.loop-row-test.false, c.loop-row.auto.row-end)) c.loop-row.invariant.glyphs

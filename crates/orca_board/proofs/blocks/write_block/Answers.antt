@@ -1,44 +1,37 @@
-use Rattle.std.proofs.Common.{◌+◌, ◌*◌, ◌/◌, ◌%◌, ◌<◌, length, arith}
+use Rattle.std.proofs.Common.{◌≡◌, ◌*◌, arith, ap, sym, ◌∙◌}
 use Rattle.orca_base.specs.Areas.{corner_of}
 use Rattle.orca_board.specs.Blocks.{glyph_from, rows_of}
-use Rattle.orca_board.proofs.BlockPlaces.{in_rows}
-use Rattle.orca_board.proofs.BlockLemmas.{step, all_steps, glyph_read}
+use Rattle.orca_board.proofs.RunLemmas.{all_rows, product, row-fits, row_step, write-row}
 use Rattle.orca_board.proofs.blocks.write_block.Goals as goal
 
-pub bounds-cells-n : goal.bounds-cells-n
-bounds-cells-n g c =
-    omega (
-      arith,
-      in_rows c.args.area c.loop-n.n c.args.width c.from-columns.result c.from.result
-          (omega (arith, c.loop-n-test.true, c.cells_of-n-end.ensures)) c.from-columns.ensures
-          c.from.ensures c.requires.columns,
-      c.requires.rows,
-    )
-
-pub loop-n-preserved : goal.loop-n-preserved
-loop-n-preserved g c =
-    let below : c.loop-n.n / c.from-columns.result * c.from.result + c.loop-n.n %
-    c.from-columns.result < length c.args.cells.now =
-    omega (
-      arith,
-      in_rows c.args.area c.loop-n.n c.args.width c.from-columns.result c.from.result
-          (omega (arith, c.loop-n-test.true, c.cells_of-n-end.ensures)) c.from-columns.ensures
-          c.from.ensures c.requires.columns,
-      c.requires.rows,
-    ) in
+pub loop-row-preserved : goal.loop-row-preserved
+loop-row-preserved g c =
+    let first : c.from.result * c.from-in-loop-row.result ≡ c.loop-row.row * c.args.width =
+    product _ _ _ _ c.from.ensures c.from-in-loop-row.ensures in
     record {
-      desk = step _ _ _ (glyph_from (rows_of c.args.width c.args.cells.now)
-          (corner_of c.args.area)) c.args.area c.loop-n.n _ _ _ c.loop-n.invariant.desk
-          c.nth_place.ensures c.here.ensures
-          (glyph_read c.args.cells.now c.args.area c.loop-n.n c.args.width c.from-columns.result
-          c.from.result c.index-cells-n.result c.from-columns.ensures c.from.ensures
-          c.index-cells-n.is below)
-          c.write.ensures.deed;
-      ticks = omega (arith, c.loop-n.invariant.ticks, c.write.ensures.ticks);
+      desk = row_step _ _ _ (glyph_from (rows_of c.args.width c.args.cells.now)
+          (corner_of c.args.area)) c.args.area c.loop-row.row c.loop-row.invariant.desk
+          (rw (
+            c.row_of.ensures,
+            write-row c.args.cells.now c.args.area c.loop-row.row c.args.width
+                (c.from.result * c.from-in-loop-row.result) first,
+          ) at c.write_run.ensures.desk);
+      ticks = omega (arith, c.loop-row.invariant.ticks, c.write_run.ensures.ticks);
     }
+
+pub write_run-requires-clause-glyphs : goal.write_run-requires-clause-glyphs
+write_run-requires-clause-glyphs g c =
+    omega (
+      arith,
+      c.requires.rows,
+      c.requires.columns,
+      product c.from.result c.from-in-loop-row.result _ _ c.from.ensures
+          c.from-in-loop-row.ensures,
+      row-fits c.args.area.h c.loop-row.row c.args.width c.loop-row-test.true,
+    )
 
 pub returns-clause-desk : goal.returns-clause-desk
 returns-clause-desk g c =
-    all_steps _ _ (glyph_from (rows_of c.args.width c.args.cells.now) (corner_of c.args.area))
-    c.args.area c.loop-n.n c.loop-n.invariant.desk
-    (omega (arith, c.cells_of-n-end.ensures, c.loop-n-test.false, c.loop-n.auto.n-end))
+    all_rows _ _ (glyph_from (rows_of c.args.width c.args.cells.now) (corner_of c.args.area))
+    c.args.area c.loop-row.row c.loop-row.invariant.desk
+    (omega (arith, c.loop-row-test.false, c.loop-row.auto.row-end))

@@ -1,45 +1,7 @@
-use Rattle.std.proofs.Common.{ap}
-use Rattle.orca_base.specs.Grids.{Sheet}
-use Rattle.orca_op.specs.Desk.{Desk}
-use Rattle.orca_board.specs.Board.{desk_of}
-use Rattle.orca_board.specs.Sizes.{desk_after_resize, with_sheet}
-use Rattle.orca_board.proofs.CutLemmas.{cut-away, cut-empty, cut-listed, resize-cut}
+use Rattle.orca_board.proofs.ResidueLemmas.{residue-resized}
 use Rattle.orca_board.proofs.board.Board.set_dims.Goals as goal
 
-pub take_dims-requires-clause-empty : goal.take_dims-requires-clause-empty
-take_dims-requires-clause-empty g c =
-    let d : Desk = desk_of c.self.inside in
-    rw (
-      c.clear_outside.ensures.desk,
-      ← c.self.view_is,
-      c.whole.ensures.whole,
-      c.whole-2.ensures.whole,
-      cut-away d c.args.dims c.self.invariant.lists.desk,
-    )
-    (λ at inside out. cut-empty d c.args.dims at inside out)
-
-pub take_dims-requires-clause-listed : goal.take_dims-requires-clause-listed
-take_dims-requires-clause-listed g c =
-    let d : Desk = desk_of c.self.inside in
-    rw (
-      c.clear_outside.ensures.desk,
-      ← c.self.view_is,
-      c.whole.ensures.whole,
-      c.whole-2.ensures.whole,
-      cut-away d c.args.dims c.self.invariant.lists.desk,
-    )
-    (λ at inside out. cut-listed d c.args.dims at c.self.invariant.lists.desk inside out)
-
-pub returns-clause-desk : goal.returns-clause-desk
-returns-clause-desk g c =
-    let d : Desk = desk_of c.self.inside in
-    rw (
-      c.take_dims.ensures,
-      c.clear_outside.ensures.desk,
-      ← c.self.view_is,
-      c.whole.ensures.whole,
-      c.whole-2.ensures.whole,
-      cut-away d c.args.dims c.self.invariant.lists.desk,
-    )
-    (ap (λ (s : Sheet). record (desk_after_resize d c.args.dims) { scan = with_sheet d.scan s })
-    (resize-cut d c.args.dims c.whole-2.ensures.size))
+pub returns-clause-residue : goal.returns-clause-residue
+returns-clause-residue g c =
+    rw (← c.self.view_is) (residue-resized _ _ c.args.dims _ _ c.set_dims.ensures.desk
+    c.set_dims.ensures.ticks)

@@ -1,0 +1,32 @@
+use Rattle.std.proofs.Common.{arith, rules, ap, refl}
+use Rattle.orca_op.specs.State.{sheet_of}
+use Rattle.orca_board.specs.Listing.{Listed, places_of}
+use Rattle.orca_board.specs.Board.{desk_of}
+use Rattle.orca_board.proofs.BoardLemmas.{keeps-of_sheet}
+use Rattle.orca_board.proofs.LargestLemmas.{cleared-by_place}
+use Rattle.orca_board.proofs.DeskLemmas.{started}
+use Rattle.orca_board.proofs.field.FieldBench.begin.Goals as goal
+
+pub invariant_of-self : goal.invariant_of-self
+invariant_of-self g c =
+    keeps-of_sheet _ (sheet_of (desk_of c.self.inside).scan) _ _ _ _ _
+    c.self.invariant.lists.desk.state.sheet
+    (started _ (sheet_of (desk_of c.self.inside).scan) refl refl
+    (cleared-by_place c.self.inside.dims _ c.self.inside.marks
+    c.self.invariant.lists.desk.state.sheet.size c.clear.ensures.marks) (search rules)
+    c.clear-2.ensures.items
+    (rw (c.begin.ensures, c.of.ensures) refl)
+    (ap (λ (l : Listed). places_of l.changes) c.begin.ensures))
+    (ap (λ (l : Listed). l.changes) c.begin.ensures) c.self.invariant.whole
+    c.clear.ensures.size c.self.invariant.outside c.self.invariant.live
+    (omega (arith, c.clear-2.ensures.capacity, c.self.invariant.events_roomy))
+
+pub returns-clause-desk : goal.returns-clause-desk
+returns-clause-desk g c =
+    rw (← c.self.view_is)
+    (started _ (sheet_of (desk_of c.self.inside).scan) refl refl
+    (cleared-by_place c.self.inside.dims _ c.self.inside.marks
+    c.self.invariant.lists.desk.state.sheet.size c.clear.ensures.marks) (search rules)
+    c.clear-2.ensures.items
+    (rw (c.begin.ensures, c.of.ensures) refl)
+    (ap (λ (l : Listed). places_of l.changes) c.begin.ensures))

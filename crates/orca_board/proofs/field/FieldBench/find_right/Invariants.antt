@@ -1,0 +1,14 @@
+use Rattle.std.proofs.Common.{◌≡◌, ◌+◌, ◌≤◌, ◌<◌, ℕ, false}
+use Rattle.std.specs.Prelude.{◌==◌}
+use Rattle.orca_base.specs.Grids.{right}
+use Rattle.orca_op.specs.State.{peek}
+use Rattle.orca_board.proofs.field.FieldBench.find_right.Given as goal
+
+-- no column before this one holds the glyph, and each was looked at once
+abbrev pub invariant-loop-column : goal.invariant-loop-column
+invariant-loop-column g l = record {
+  none : (k : ℕ) → 1 ≤ k → k < l.column → (peek l.self.scan (right l.fn.at k) == l.byte) ≡ false;
+  low : 1 ≤ l.column;
+  few : l.column ≤ l.reach + 1;
+  ticks : l.steps + 1 ≡ l.fn.steps + l.column;
+}

@@ -1,0 +1,10 @@
+use Rattle.orca_board.proofs.BoardLemmas.{read-cell}
+use Rattle.orca_board.proofs.field.FieldLook.glyph_at.Goals as goal
+
+pub returns : goal.returns
+returns c =
+    rw (← c.self.view_is)
+    (read-cell c.self.inside.dims c.largest.result c.self.inside.cells.items c.args.at
+    c.index.result c.index-2.result.now (rw (← c.self.view_is) at c.requires)
+    c.largest.ensures c.index.ensures.index c.index.ensures.most c.self.invariant.whole
+    c.index-2.ensures)
