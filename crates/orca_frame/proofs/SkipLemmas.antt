@@ -1,6 +1,6 @@
 -- Over places that hold no operator the scan changes nothing.
 use Rattle.std.proofs.Common.{◌≡◌, ℕ, zero, suc, ◌+◌, ◌*◌, ◌<◌, ◌≤◌, Bool, true, false, not, ◌&&◌, ◌||◌, arith, ap, sym, ◌∙◌, subst, refl, List, [], add-zero}
-use Rattle.std.specs.Prelude.{if◌then◌else◌, IsTrue, ◌-◌, nat_lt}
+use Rattle.std.specs.Prelude.{if◌then◌else◌, IfSome, IsTrue, None, Option, Some, ◌-◌, nat_lt, unwrap_or}
 use Rattle.std.proofs.lemmas.List.{append-nil}
 use Rattle.std.proofs.lemmas.Bool.{lt-ltb, ltb-true}
 use Rattle.orca_base.specs.declared.limits.TheConstants.{MAX_VISIT_TICKS}
@@ -228,6 +228,43 @@ row_over d g now row from is high inside none =
       passed.0 ∙ ap (λ (m : ℕ). desk_after_places m g now) (sym next),
       ap (λ (m : ℕ). busy_of m g now) next ∙ passed.1,
     )
+
+-- the columns up to the next operator, or to the end of the row, are passed over
+pub next_reached : (d : Desk) (g : Sheet) (now : Now) (row from : ℕ) (found : Option ℕ)
+    → d ≡ desk_after_places (row * g.dims.w + from) g now → row < g.dims.h → from ≤ g.dims.w
+    → IfSome found (λ x. (from ≤ x) × IsTrue (is_live d.scan row x))
+    → HasNoLive d.scan row from (unwrap_or found d.scan.dims.w)
+    → (d ≡ desk_after_places (row * g.dims.w + unwrap_or found g.dims.w) g now)
+    × (busy_of (row * g.dims.w + unwrap_or found g.dims.w) g now
+    ≡ busy_of (row * g.dims.w + from) g now)
+next_reached d g now row from (Some x) is high inside live none =
+    let found = finds d g now row from x is high live.0 live.1 none in (found.reached, found.busy)
+next_reached d g now row from None is high inside live none =
+    let width : d.scan.dims.w ≡ g.dims.w =
+    ap (λ (e : Size). e.w) (dims_desk d (row * g.dims.w + from) g now is) in
+    let all : HasNoLive d.scan row from g.dims.w = λ x low below. none x low
+    (omega (arith, below, width)) in
+    pass_over d g now row from g.dims.w is high inside (omega arith) all
+
+-- the operator that the walk of a row has found
+pub held : (d : Desk) (g : Sheet) (now : Now) (row : ℕ) (found : Option ℕ) (x : ℕ) → found ≡ Some x
+    → d ≡ desk_after_places (row * g.dims.w + unwrap_or found g.dims.w) g now → row < g.dims.h
+    → IfSome found (λ x. IsTrue (is_live d.scan row x)) → Finds d g now row x x
+held d g now row found x is reached high live =
+    finds d g now row x x (rw is at reached) high (omega arith) (rw is at live)
+    (λ k low below. absurd (omega (arith, low, below)))
+
+-- it is live, and lies at the column or behind it
+pub live_of : (s : State) (row from : ℕ) (found : Option ℕ)
+    → IfSome found (λ x. (from ≤ x) × IsTrue (is_live s row x))
+    → IfSome found (λ x. IsTrue (is_live s row x))
+live_of s row from None live = tt
+live_of s row from (Some x) live = live.1
+
+pub later_of : (s : State) (row from w : ℕ) (found : Option ℕ) → from ≤ w
+    → IfSome found (λ x. (from ≤ x) × IsTrue (is_live s row x)) → from ≤ unwrap_or found w
+later_of s row from w None few live = few
+later_of s row from w (Some x) few live = live.0
 
 -- the ticks of all rows
 pub ticks_of_rows : (d : Desk) (rows : ℕ) (now : Now) (first last : ℕ) → rows ≡ d.scan.dims.h

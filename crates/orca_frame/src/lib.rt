@@ -1,4 +1,5 @@
-//! The frame: every place of the grid is visited in reading order.
+//! The frame, in two forms. [`frame_plain`] visits every place of the grid in reading order, and
+//! [`frame`] goes from one operator to the next. Both leave what the scan of every place leaves.
 #![tactic(auto)]
 
 mod act;

@@ -25,7 +25,7 @@ pub fn frame_plain<B: Bench, L: Ledger>(bench: &mut B, now: Now, steps: &mut Ste
 {
     // Neither call does anything when the program runs. The first gives the proof the laws of the operator
     // table: how many deeds and events a visit has at most, and that its events can be played. The second
-    // is the covering law of the same table, so that no frame is worked where it isn't proved.
+    // is the covering law of the same table, so that this form is worked only where that is proved.
     table_laws();
     covering_law();
     let dims = bench.dims();

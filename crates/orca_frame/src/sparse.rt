@@ -1,7 +1,9 @@
 ghost use Rattle.std.specs.Prelude.{◌≡◌, ◌+◌, ◌*◌, ◌<◌, ◌≤◌};
 ghost use Rattle.orca_base.specs.declared.limits.TheConstants.{MAX_VISIT_TICKS};
 ghost use Rattle.orca_base.specs.Grids.{IsSheet};
+ghost use Rattle.orca_op.specs.Rules.{rule};
 ghost use Rattle.orca_op.specs.Scan.{busy_of};
+ghost use Rattle.orca_frame.specs.Covering.{IsCovering};
 ghost use Rattle.orca_frame.specs.Frames.{IsFramed, desk_after_places, most_ticks};
 
 use crate::laws::table_laws;
@@ -21,6 +23,9 @@ pub fn frame<B: Walk, L: Ledger>(board: &mut B, now: Now, steps: &mut Steps<L>)
     ensures framed { IsFramed (B.desk board.old) (B.desk board.new) now }
     ensures most { steps.new ≤ steps.old + most_ticks (B.desk board.old) now }
     ensures least { steps.old + (B.desk board.old).scan.dims.h + 1 ≤ steps.new }
+
+    // The covering law: whatever it works on stood there when the frame began.
+    ensures covering { IsCovering rule }
 {
     table_laws();
     let dims = board.dims();
@@ -46,7 +51,10 @@ fn walk_row<B: Walk, L: Ledger>(board: &mut B, row: u16, now: Now, steps: &mut S
 {
     table_laws();
     let mut cursor = Cursor::start();
-    while let Some(x) = cursor.next(board, row, steps) {
+    // The first look stands before the loop, so that a row without operators costs little more.
+    let mut found = cursor.next(board, row, steps);
+    while let Some(x) = found {
         visit_operator(board, Place { y: row, x }, now, steps);
+        found = cursor.next(board, row, steps);
     }
 }

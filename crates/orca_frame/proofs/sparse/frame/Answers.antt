@@ -1,5 +1,7 @@
 use Rattle.std.proofs.Common.{◌≡◌, ◌*◌, arith, ap, refl}
 use Rattle.orca_base.specs.Grids.{Size, cells_of}
+use Rattle.orca_op.specs.Rules.{rule}
+use Rattle.orca_frame.proofs.CoveringLemmas.{covering}
 use Rattle.orca_frame.proofs.FrameLemmas.{framed}
 use Rattle.orca_frame.proofs.SkipLemmas.{ticks_of_rows}
 use Rattle.orca_frame.proofs.sparse.frame.Given as given
@@ -27,3 +29,6 @@ returns-clause-framed g c =
 
 pub returns-clause-most : goal.returns-clause-most
 returns-clause-most g c = ticks_of_rows _ _ _ _ _ (walked g c) c.loop-row.invariant.most
+
+pub returns-clause-covering : goal.returns-clause-covering
+returns-clause-covering g c = covering rule c.table_laws.ensures

@@ -1,67 +1,96 @@
-use Rattle.std.proofs.Common.{ap, arith}
-use Rattle.orca_base.specs.Grids.{Size}
+use Rattle.std.proofs.Common.{◌≡◌, ◌+◌, ◌*◌, ℕ, ap, arith, ◌∙◌}
+use Rattle.orca_base.specs.Grids.{Size, Sheet}
+use Rattle.orca_frame.specs.Frames.{desk_after_places}
 use Rattle.orca_frame.proofs.FrameLemmas.{dims_desk, room_desk}
-use Rattle.orca_frame.proofs.SkipLemmas.{finds, visited, row_over}
+use Rattle.orca_frame.proofs.SkipLemmas.{held, later_of, live_of, next_reached, visited}
 use Rattle.orca_frame.proofs.sparse.walk_row.Goals as goal
 
--- the size of the grid
-pub next-requires-clause-row : goal.next-requires-clause-row
-next-requires-clause-row g c =
-    let same = dims_desk _ _ _ _ c.loop-x.invariant.reached in
+pub next-found-requires-clause-row : goal.next-found-requires-clause-row
+next-found-requires-clause-row g c =
+    let same = dims_desk _ _ _ _ c.requires.reached in
     omega (arith, c.requires.row, ap (λ (d : Size). d.h) same)
 
-pub next-requires-clause-column : goal.next-requires-clause-column
-next-requires-clause-column g c =
-    let same = dims_desk _ _ _ _ c.loop-x.invariant.reached in
-    omega (arith, c.loop-x.invariant.inside, ap (λ (d : Size). d.w) same)
+pub loop-found-init : goal.loop-found-init
+loop-found-init g c =
+    let sheet : Sheet = (g.B.Bench.desk c.args.board.now).began in
+    let start : c.args.row * sheet.dims.w ≡ c.args.row * sheet.dims.w + c.start-cursor.result =
+    omega (arith, c.start-cursor.ensures) in
+    let passed = next_reached _ _ _ _ _ _
+    (c.requires.reached ∙ ap (λ (n : ℕ). desk_after_places n sheet c.args.now) start)
+    c.requires.row (omega (arith, c.start-cursor.ensures)) c.next-found.ensures.found
+    c.next-found.ensures.passed in
+    record {
+      reached = passed.0;
+      live = live_of (g.B.Bench.desk c.args.board.now).scan _ _ _ c.next-found.ensures.found;
+      behind = c.next-found.ensures.behind;
+      most = omega (arith, c.next-found.ensures.ticks, rw (← start) at passed.1);
+      least = omega (arith, c.next-found.ensures.ticks);
+    }
 
 pub visit_operator-requires-clause-inside : goal.visit_operator-requires-clause-inside
 visit_operator-requires-clause-inside g c =
-    (finds _ _ _ _ _ _ c.loop-x.invariant.reached c.requires.row c.in-Some.ensures.found.0
-    c.in-Some.ensures.found.1 c.in-Some.ensures.passed).inside
+    (held _ _ _ _ _ _ c.in-Some.is c.loop-found.invariant.reached c.requires.row
+    c.loop-found.invariant.live).inside
 
 pub visit_operator-requires-clause-room : goal.visit_operator-requires-clause-room
 visit_operator-requires-clause-room g c =
-    let found = finds _ _ _ _ _ _ c.loop-x.invariant.reached c.requires.row
-    c.in-Some.ensures.found.0 c.in-Some.ensures.found.1 c.in-Some.ensures.passed in
+    let found = held _ _ _ _ _ _ c.in-Some.is c.loop-found.invariant.reached c.requires.row
+    c.loop-found.invariant.live in
     room_desk _ _ _ _ found.reached c.table_laws.ensures c.requires.sheet found.below
 
-pub loop-x-smaller : goal.loop-x-smaller
-loop-x-smaller g c =
-    let found = finds _ _ _ _ _ _ c.loop-x.invariant.reached c.requires.row
-    c.in-Some.ensures.found.0 c.in-Some.ensures.found.1 c.in-Some.ensures.passed in
-    omega (arith, found.column, found.after, c.in-Some.ensures.behind)
-
-pub loop-x-preserved : goal.loop-x-preserved
-loop-x-preserved g c =
-    let found = finds _ _ _ _ _ _ c.loop-x.invariant.reached c.requires.row
-    c.in-Some.ensures.found.0 c.in-Some.ensures.found.1 c.in-Some.ensures.passed in
+pub next-found-requires-in-Some-clause-row : goal.next-found-requires-in-Some-clause-row
+next-found-requires-in-Some-clause-row g c =
+    let found = held _ _ _ _ _ _ c.in-Some.is c.loop-found.invariant.reached c.requires.row
+    c.loop-found.invariant.live in
     let after = visited _ _ _ _ _ _ _ found c.requires.row c.visit_operator.ensures.deeds in
-    rw c.in-Some.ensures.behind (record {
-      inside = omega (arith, found.column);
-      reached = after.reached;
+    let same = dims_desk _ _ _ _ after.reached in
+    omega (arith, c.requires.row, ap (λ (d : Size). d.h) same)
+
+pub next-found-requires-in-Some-clause-column : goal.next-found-requires-in-Some-clause-column
+next-found-requires-in-Some-clause-column g c =
+    let found = held _ _ _ _ _ _ c.in-Some.is c.loop-found.invariant.reached c.requires.row
+    c.loop-found.invariant.live in
+    let after = visited _ _ _ _ _ _ _ found c.requires.row c.visit_operator.ensures.deeds in
+    let same = dims_desk _ _ _ _ after.reached in
+    let behind = rw c.in-Some.is at c.loop-found.invariant.behind in
+    omega (arith, found.column, behind, ap (λ (d : Size). d.w) same)
+
+pub loop-found-smaller : goal.loop-found-smaller
+loop-found-smaller g c =
+    let found = held _ _ _ _ _ _ c.in-Some.is c.loop-found.invariant.reached c.requires.row
+    c.loop-found.invariant.live in
+    let behind = rw c.in-Some.is at c.loop-found.invariant.behind in
+    let later = later_of (g.B.Bench.desk c.visit_operator.new.bench).scan _ _
+    (g.B.Bench.desk c.args.board.now).began.dims.w _
+    (omega (arith, found.column, behind)) c.next-found-in-Some.ensures.found in
+    rw c.in-Some.is (omega (arith, found.column, behind, later))
+
+pub loop-found-preserved : goal.loop-found-preserved
+loop-found-preserved g c =
+    let found = held _ _ _ _ _ _ c.in-Some.is c.loop-found.invariant.reached c.requires.row
+    c.loop-found.invariant.live in
+    let after = visited _ _ _ _ _ _ _ found c.requires.row c.visit_operator.ensures.deeds in
+    let behind = rw c.in-Some.is at c.loop-found.invariant.behind in
+    let passed = next_reached _ _ _ _ (c.in-Some.x + 1) _ after.reached c.requires.row
+    (omega (arith, found.column)) (rw behind at c.next-found-in-Some.ensures.found)
+    (rw behind at c.next-found-in-Some.ensures.passed) in
+    record {
+      reached = passed.0;
+      live = live_of (g.B.Bench.desk c.visit_operator.new.bench).scan _ _ _
+          c.next-found-in-Some.ensures.found;
+      behind = c.next-found-in-Some.ensures.behind;
       most = omega (
         arith,
-        c.loop-x.invariant.most,
+        rw c.in-Some.is at c.loop-found.invariant.most,
         c.visit_operator.ensures.ticks,
-        c.next.ensures.ticks,
+        c.next-found-in-Some.ensures.ticks,
         after.busy,
+        passed.1,
       );
       least = omega (
         arith,
-        c.loop-x.invariant.least,
+        c.loop-found.invariant.least,
         c.visit_operator.ensures.later,
-        c.next.ensures.ticks,
+        c.next-found-in-Some.ensures.ticks,
       );
-    })
-
-pub returns-clause-reached : goal.returns-clause-reached
-returns-clause-reached g c =
-    (row_over _ _ _ _ _ c.loop-x.invariant.reached c.requires.row c.loop-x.invariant.inside
-    c.in_default.ensures.passed).0
-
-pub returns-clause-most : goal.returns-clause-most
-returns-clause-most g c =
-    let over = row_over _ _ _ _ _ c.loop-x.invariant.reached c.requires.row
-    c.loop-x.invariant.inside c.in_default.ensures.passed in
-    omega (arith, c.loop-x.invariant.most, c.next.ensures.ticks, over.1)
+    }

@@ -1,21 +1,27 @@
 use Rattle.std.proofs.Common.{◌≡◌, ◌+◌, ◌-◌, ◌*◌, ◌≤◌}
+use Rattle.std.specs.Prelude.{IfSome, IsTrue, unwrap_or}
 use Rattle.orca_base.specs.declared.limits.TheConstants.{MAX_VISIT_TICKS}
+use Rattle.orca_op.specs.Live.{is_live}
 use Rattle.orca_op.specs.Scan.{busy_of}
 use Rattle.orca_frame.specs.Frames.{desk_after_places}
 use Rattle.orca_frame.proofs.sparse.walk_row.Given as goal
 
--- the columns before the cursor were visited or passed over
-abbrev pub invariant-loop-x : goal.invariant-loop-x
-invariant-loop-x g l =
-    let sheet = (g.B.Bench.desk l.initial.board).began in
+-- the columns before the next operator were visited or passed over, and the cursor stands behind it
+abbrev pub invariant-loop-found : goal.invariant-loop-found
+invariant-loop-found g l =
+    let desk = g.B.Bench.desk l.board in
+    let sheet = (g.B.Bench.desk l.fn.board).began in
     let start = l.row * sheet.dims.w in
     record {
-      inside : l.cursor ≤ sheet.dims.w;
-      reached : g.B.Bench.desk l.board ≡ desk_after_places (start + l.cursor) sheet l.now;
-      most : l.steps + MAX_VISIT_TICKS * busy_of start sheet l.now ≤ l.initial.steps
-          + MAX_VISIT_TICKS * busy_of (start + l.cursor) sheet l.now;
-      least : l.initial.steps ≤ l.steps;
+      reached : desk ≡ desk_after_places (start + unwrap_or l.found sheet.dims.w) sheet l.now;
+      live : IfSome l.found (λ x. IsTrue (is_live desk.scan l.row x));
+      behind : IfSome l.found (λ x. l.cursor ≡ x + 1);
+      most : l.steps + MAX_VISIT_TICKS * busy_of start sheet l.now ≤ l.fn.steps + 1
+          + MAX_VISIT_TICKS * busy_of (start + unwrap_or l.found sheet.dims.w) sheet l.now;
+      least : l.fn.steps + 1 ≤ l.steps;
     }
 
-abbrev pub decreases-loop-x : goal.decreases-loop-x
-decreases-loop-x g l = (g.B.Bench.desk l.initial.board).began.dims.w - l.cursor
+abbrev pub decreases-loop-found : goal.decreases-loop-found
+decreases-loop-found g l =
+    let sheet = (g.B.Bench.desk l.fn.board).began in
+    sheet.dims.w - unwrap_or l.found sheet.dims.w
