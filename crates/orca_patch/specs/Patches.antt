@@ -56,6 +56,13 @@ InverseLaw =
     → (sheet_before (before_of d tick) (sheet_of d.scan) ≡ d.began)
     × CoversCut (before_of d tick) d.scan.dims
 
+-- the grid before, where the patch is that of what a desk lists, and the grid is the desk's: that of
+-- the last `begin`
+abbrev pub GoesBack : Before → Sheet → Sheet → Type 0
+GoesBack patch now before =
+    (d : Desk) (tick : ℕ) → IsDesk d → patch ≡ before_of d tick → now ≡ sheet_of d.scan
+    → before ≡ d.began
+
 -- what a desk lists makes a patch: its places lie in the grid of the last `begin`, and none stands
 -- twice
 abbrev pub ListedLaw : Type 0

@@ -5,7 +5,7 @@ ghost use Rattle.orca_op.specs.Desk.{residue};
 ghost use Rattle.orca_op.specs.State.{sheet_of};
 ghost use Rattle.orca_board.specs.Listing.{places_of};
 ghost use Rattle.orca_board.specs.Sizes.{cut_places};
-ghost use Rattle.orca_patch.specs.Patches.{CoversCut, IsPatch, desk_before, no_change, sheet_before};
+ghost use Rattle.orca_patch.specs.Patches.{CoversCut, GoesBack, IsPatch, desk_before, no_change, sheet_before};
 
 use orca_base::limits::INLINE_CHANGES;
 use orca_base::{Change, Dims, Memory, Steps};
@@ -87,6 +87,9 @@ impl Patch {
         ensures tick { result ≡ self.now.tick }
         ensures desk { board.new ≡ desk_before self.now board.old }
         ensures sheet { sheet_of board.new.scan ≡ sheet_before self.now (sheet_of board.old.scan) }
+
+        // The patch of a board's changes gives its grid of the last `begin` back, whatever was done.
+        ensures inverse { GoesBack self.now (sheet_of board.old.scan) (sheet_of board.new.scan) }
         ensures ticks { steps.new ≡ steps.old
             + length (cut_places board.old.scan.dims self.now.dims) + length self.now.changes }
 

@@ -168,6 +168,13 @@ fn patch_of_every_cell(rt: HostRuntime) -> Result<(), Fail> {
     let alloc = rt.alloc();
     let mut board = Board::start(alloc, &Grid::blank(alloc, Dims::largest())?)?;
     let deeds = [Deed::First(MAX_CELLS)];
-    go_back::<Brand>(&rt, alloc, &mut board, &deeds, 65_536, Blank::new(1))?;
+    go_back::<Brand>(
+        &rt,
+        alloc,
+        &mut board,
+        &deeds,
+        MAX_CELLS as u32,
+        Blank::new(1),
+    )?;
     Ok(())
 }

@@ -1,8 +1,10 @@
-use Rattle.std.proofs.Common.{◌≡◌, ◌+◌, List, length, arith, ap}
+use Rattle.std.proofs.Common.{◌≡◌, ◌+◌, List, length, arith, ap, ◌∙◌}
 use Rattle.orca_base.specs.declared.change.Change.{Change}
 use Rattle.orca_board.specs.Sizes.{cut_places}
 use Rattle.orca_base.specs.declared.place.Place.{Place}
-use Rattle.orca_patch.specs.Patches.{desk_before}
+use Rattle.orca_op.specs.State.{sheet_of}
+use Rattle.orca_patch.specs.Patches.{Before, before_of, desk_before, sheet_before}
+use Rattle.orca_patch.proofs.Inverse.{sheet-back}
 use Rattle.orca_patch.proofs.Cutting.{cut_places-same, length-cut_places}
 use Rattle.orca_patch.proofs.Undoing.{step, undone, sheet-desk_before, residue-desk_before}
 use Rattle.orca_patch.proofs.patch.Patch.undo_on.Given.{Over}
@@ -38,6 +40,12 @@ returns-clause-desk g c = left g c
 pub returns-clause-sheet : goal.returns-clause-sheet
 returns-clause-sheet g c =
     rw (left g c) (sheet-desk_before c.args.self.now c.args.board.now)
+
+pub returns-clause-inverse : goal.returns-clause-inverse
+returns-clause-inverse g c d tick desk patch now =
+    rw (left g c) (sheet-desk_before c.args.self.now c.args.board.now)
+    ∙ (ap (λ (b : Before). sheet_before b (sheet_of c.args.board.now.scan)) patch
+    ∙ (ap (sheet_before (before_of d tick)) now ∙ sheet-back d tick desk))
 
 -- once for each place that is cut off, and once for each change
 ticks : (g : Over) (c : goal.After-loop-change g) → c.loop-change.steps
