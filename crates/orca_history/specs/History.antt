@@ -5,7 +5,8 @@ use Rattle.orca_history.specs.Trails.{Trail}
 abbrev pub trail_of : Inside → Trail
 trail_of h = record {
   limit = h.limit;
-  entries = h.entries.items;
+  entries = h.entries.entries;
+  tail = h.entries.tail;
   first = h.first;
-  patches = h.patches.items;
+  kept = h.ring;
 }

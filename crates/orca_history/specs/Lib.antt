@@ -1,2 +1,4 @@
+pub mod Entries
 pub mod History
+pub mod Ring
 pub mod Trails

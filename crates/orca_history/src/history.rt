@@ -1,28 +1,28 @@
-ghost use Rattle.std.specs.Prelude.{◌≡◌, ◌<◌, ◌≤◌, ◌↔◌, length, slice_get, option_copied, IfOk, IfSome, IsSome, OnOk, OnErr};
-ghost use Rattle.orca_base.specs.Histories.{is_edit, last_edit};
-ghost use Rattle.orca_history.specs.Trails.{IsTrail, patch_at, trail_at_start, trail_jumped, trail_pushed};
+ghost use Rattle.std.specs.Prelude.{◌≡◌, ◌+◌, ◌<◌, ◌≤◌, ◌↔◌, [], length, slice_get, option_copied, IfOk, IfSome, IsSome, OnOk, OnErr};
+ghost use Rattle.orca_base.specs.Histories.{group_of, last_edit};
+ghost use Rattle.orca_history.specs.Trails.{IsTrail, patch_at, trail_at_start, trail_jumped, trail_pushed, trail_redone};
 
-use circular_buffer::HeapCircularBuffer;
-use orca_base::limits::{KEPT_PATCHES, MAX_HISTORY};
+use crate::entries::Entries;
+use crate::ring::Ring;
+use orca_base::limits::{MAX_HISTORY, MAX_TOUCHED};
 use orca_base::{Entry, Memory};
 use orca_patch::Patch;
 use std::alloc::Global;
 use std::marker::Model;
 
-/// The entries of a session since its opened grid, and the patches of the newest [`KEPT_PATCHES`]
-/// of them. A contract sees how many entries there may be, the entries, the number of the first one
-/// whose patch is kept, and the patches from that one on.
+/// The entries of a session since its opened grid, what jumps cut off of them, and the patches of
+/// the newest. A contract sees how many entries there may be, the entries, the tail of those that
+/// were cut off, the number of the first entry whose patch is kept, and the patches from that one
+/// on, each with the number of cells that its entry touched.
 #[derive(Drop)]
 pub struct History {
     limit: u32,
-    entries: Vec<Entry>,
+    entries: Entries,
     first: u32,
-    patches: HeapCircularBuffer<Patch>,
+    ring: Ring,
 }
 
 impl Model for History {
-    ghost use Rattle.std.specs.Prelude.{◌≡◌};
-    ghost use Rattle.orca_base.specs.declared.limits.TheConstants.{KEPT_PATCHES};
     ghost use Rattle.orca_history.specs.Trails.{Trail, IsTrail};
 
     ghost Value = { Trail };
@@ -31,7 +31,7 @@ impl Model for History {
 
     ghost view = { trail_of };
 
-    ghost invariant = { λ h. IsTrail (trail_of h) × (h.patches.capacity ≡ KEPT_PATCHES) };
+    ghost invariant = { λ h. IsTrail (trail_of h) };
 }
 
 impl History {
@@ -44,42 +44,57 @@ impl History {
     {
         Ok(History {
             limit,
-            entries: Vec::new(alloc),
+            entries: Entries::start(alloc),
             first: 0,
-            patches: HeapCircularBuffer::with_capacity(alloc, KEPT_PATCHES as usize)?,
+            ring: Ring::start(alloc)?,
         })
     }
 
-    /// Adds an entry with its patch. If [`KEPT_PATCHES`] patches are kept, the oldest one goes.
-    /// [`Memory`] if there is no room for the entry: then the history is as before, and the entry
-    /// and the patch are dropped.
-    pub fn push(&mut self, entry: Entry, patch: Patch) -> Result<(), Memory>
-        requires { length self.old.entries < self.old.limit }
-        ensures pushed { OnOk result (self.new ≡ trail_pushed self.old entry patch) }
+    /// Adds an entry with its patch, and the number of cells that it touched. The tail is lost, and
+    /// of the patches as few of the oldest go as serve. [`Memory`] if there is no room for the
+    /// entry: then the history is as before, its tail too, and the entry and the patch are dropped.
+    pub fn push(&mut self, entry: Entry, patch: Patch, touched: u32) -> Result<(), Memory>
+        requires room { length self.old.entries < self.old.limit }
+        requires size { length patch.changes ≤ touched }
+        requires most { touched ≤ MAX_TOUCHED }
+        ensures pushed { OnOk result (self.new ≡ trail_pushed self.old entry
+            (record { patch = patch; touched = touched })) }
         ensures err { OnErr result (self.new ≡ self.old) }
         ensures trail { IsTrail self.new }
     {
         self.entries.push(entry)?;
-        if self.patches.push_back(patch).is_some() {
-            self.first += 1;
-        }
+        self.first += self.ring.push(patch, touched);
         Ok(())
     }
 
     /// Goes back to a moment: the first `moment` entries stay with their patches, and then comes
-    /// `Hush` with this patch.
+    /// `Hush` with this patch of no change. The others are cut off. It takes no memory.
     pub fn jump(&mut self, moment: u32, patch: Patch)
-        requires { moment < length self.old.entries }
+        requires within { moment < length self.old.entries }
+        requires no_change { patch.changes ≡ [] }
         ensures jumped { self.new ≡ trail_jumped self.old moment patch }
         ensures trail { IsTrail self.new }
     {
-        self.entries.truncate(moment as usize);
-        self.patches
-            .truncate_back(moment.saturating_sub(self.first) as usize);
+        self.entries.jump(moment);
+        self.ring.jump(moment.saturating_sub(self.first), patch);
         self.first = self.first.min(moment);
-        self.entries.push_reserved(Entry::Hush);
-        // There is room for one more, so no patch is pushed out.
-        let _ = self.patches.push_back(patch);
+    }
+
+    /// Brings back the first group of the tail, in place of the last `Hush`, and then comes `Hush`
+    /// with this patch of no change. No other patch is kept. Answers how many entries came back. It
+    /// takes no memory.
+    pub fn redo(&mut self, patch: Patch) -> u32
+        requires some { 0 < length self.old.tail }
+        requires room { length self.old.entries + group_of self.old.tail ≤ self.old.limit }
+        requires no_change { patch.changes ≡ [] }
+        ensures redone { self.new ≡ trail_redone self.old patch }
+        ensures group { result ≡ group_of self.old.tail }
+        ensures trail { IsTrail self.new }
+    {
+        let group = self.entries.redo();
+        self.first = self.entries.len() - 1;
+        self.ring.jump(0, patch);
+        group
     }
 
     /// The number of entries, at most [`History::limit`].
@@ -87,7 +102,7 @@ impl History {
         ensures len { result ≡ length self.now.entries }
         ensures trail { IsTrail self.now }
     {
-        self.entries.len() as u32
+        self.entries.len()
     }
 
     /// The most entries that there may be, 1 to [`MAX_HISTORY`].
@@ -102,7 +117,7 @@ impl History {
         ensures entry { option_copied result ≡ slice_get self.now.entries index }
         ensures some { IsSome result ↔ (index < length self.now.entries) }
     {
-        self.entries.get(index as usize)
+        self.entries.entry(index)
     }
 
     /// The number of the last edit; none exactly if no entry is an edit.
@@ -110,14 +125,31 @@ impl History {
         ensures last { result ≡ last_edit self.now.entries }
         ensures within { IfSome result (λ index. index < length self.now.entries) }
     {
-        let mut end = self.entries.len();
-        while end > 0 {
-            end -= 1;
-            if is_edit(&self.entries[end]) {
-                return Some(end as u32);
-            }
-        }
-        None
+        self.entries.last_edit()
+    }
+
+    /// The number of entries of the tail, which jumps cut off and no later push lost.
+    pub fn tail(&self) -> u32
+        ensures tail { result ≡ length self.now.tail }
+        ensures trail { IsTrail self.now }
+    {
+        self.entries.tail()
+    }
+
+    /// The entry of a number in the tail; none exactly from [`History::tail`] on.
+    pub fn tail_entry(&self, index: u32) -> Option<&Entry>
+        ensures entry { option_copied result ≡ slice_get self.now.tail index }
+        ensures some { IsSome result ↔ (index < length self.now.tail) }
+    {
+        self.entries.tail_entry(index)
+    }
+
+    /// How many entries a redo brings back; 0 exactly if the tail is empty.
+    pub fn group(&self) -> u32
+        ensures group { result ≡ group_of self.now.tail }
+        ensures most { result ≤ length self.now.tail }
+    {
+        self.entries.group()
     }
 
     /// The number of the first entry whose patch is kept.
@@ -137,13 +169,6 @@ impl History {
         if index < self.first {
             return None;
         }
-        self.patches.get((index - self.first) as usize)
+        self.ring.patch(index - self.first)
     }
-}
-
-/// Whether an entry is an edit.
-fn is_edit(entry: &Entry) -> bool
-    ensures { result ≡ is_edit entry.now }
-{
-    !matches!(entry, Entry::Frame | Entry::Hush)
 }
