@@ -1,7 +1,12 @@
 pub mod CopyLemmas
+pub mod FirstLemmas
 pub mod FitLemmas
 pub mod FoldLemmas
 mod GridRows
+pub mod PriceLemmas
 pub mod SheetLemmas
+pub mod TouchLemmas
 mod WorkedBlocks
+mod WorkedPrices
 mod WorkedSessions
+pub mod RedoLemmas

@@ -134,7 +134,7 @@ sends_one s at now lawful =
     sends_if (is_idle s at) (rule (glyph_of s at) s at now)
     (lawful.one_event (glyph_of s at) s at now)
 
-dims_after_places : (n : ℕ) (g : Sheet) (now : Now)
+pub dims_after_places : (n : ℕ) (g : Sheet) (now : Now)
     → (state_after_places rule n g now).dims ≡ g.dims
 dims_after_places zero g now = refl
 dims_after_places (suc n) g now =

@@ -402,12 +402,12 @@ unfolding seen_after
 refusals_and_a_move = refl
 
 -- each command with a side that is 0, and each side of a size that is 0 or too long
-sides_of_0_and_257 : (seen_after (session small)
+sides_of_0_and_1025 : (seen_after (session small)
     (Fill (rect 0 0 1 0) 55 ∷ Erase (rect 0 0 0 1) ∷ Copy (rect 0 0 1 0) ∷ Cut (rect 0 0 0 1)
-    ∷ Move (rect 0 0 1 0) 0 0 ∷ Resize 0 1 ∷ Resize 1 0 ∷ Resize 257 1 ∷ Resize 1 257 ∷ [])).answers
+    ∷ Move (rect 0 0 1 0) 0 0 ∷ Resize 0 1 ∷ Resize 1 0 ∷ Resize 1025 1 ∷ Resize 1 1025 ∷ [])).answers
     ≡ replicate 5 (Err EmptyBlock) ++ replicate 4 (Err BadSize)
 unfolding seen_after
-sides_of_0_and_257 = refl
+sides_of_0_and_1025 = refl
 
 -- where several rules stand, the first decides
 first_rule_decides : (seen_after (session_of 1 small)

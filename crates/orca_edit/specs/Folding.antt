@@ -1,11 +1,14 @@
 -- What holds of the folds of histories: the statements of the laws.
-use Rattle.std.specs.Prelude.{ℕ, ◌+◌, ◌≤◌, ◌≡◌, List, [], ◌∷◌, ◌++◌, length, take, drop, slice_get, Some, All}
+use Rattle.std.specs.Prelude.{ℕ, ◌+◌, ◌≤◌, ◌≡◌, Bool, true, List, [], ◌∷◌, ◌++◌, length, take, drop, slice_get, Some, None, All}
+use Rattle.orca_base.specs.declared.command.Command.TheVariants.{Undo, Redo}
 use Rattle.orca_base.specs.declared.command.Entry.{Entry}
 use Rattle.orca_base.specs.declared.command.Entry.TheVariants.{Hush}
 use Rattle.orca_base.specs.Grids.{Sheet, IsSheet}
+use Rattle.orca_base.specs.Histories.{done_of, is_edit}
 use Rattle.orca_op.specs.Laws.{IsLawful}
 use Rattle.orca_op.specs.Rules.{rule}
 use Rattle.orca_edit.specs.Editing.{AllFit, FitsIn, WritesGlyphs}
+use Rattle.orca_edit.specs.Obeying.{MachineState, obey, piece_of, rule_against}
 use Rattle.orca_edit.specs.Pieces.{Piece, apply, fold_entries, opened_piece, piece_after, silence}
 
 -- ---- one entry after the other
@@ -86,6 +89,31 @@ FoldsFromMoment =
     → silence (piece_after opened seed history closed)
     ≡ silence (fold_entries (piece_after opened seed (take moment history) other)
     (drop moment history))
+
+-- ---- what was cut off
+
+-- the end of a jump changes nothing but notes, so what was done leads where the entries lead
+abbrev pub FoldsDone : Type 0
+FoldsDone =
+    (p : Piece) (entries : List Entry)
+    → silence (fold_entries p (done_of entries)) ≡ silence (fold_entries p entries)
+
+-- entries that fit, without the ends of jumps
+abbrev pub FitsDone : Type 0
+FitsDone = (p : Piece) (entries : List Entry) → AllFit p entries → AllFit p (done_of entries)
+
+-- nothing, or an edit first
+abbrev pub begins_anew : List Entry → Bool
+begins_anew [] = true
+begins_anew (entry ∷ entries) = is_edit entry
+
+-- a redo brings back what an undo took: after both, the grid and the tick are those from before. A
+-- tail that begins otherwise would come back with it
+abbrev pub RedoesUndo : Type 0
+RedoesUndo =
+    (m : MachineState) → begins_anew m.tail ≡ true → rule_against m Undo ≡ None
+    → rule_against (obey m Undo).machine Redo ≡ None
+    → silence (piece_of (obey (obey m Undo).machine Redo).machine) ≡ silence (piece_of m)
 
 -- ---- ticks
 

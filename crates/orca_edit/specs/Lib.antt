@@ -3,3 +3,5 @@ pub mod Folding
 pub mod Machines
 pub mod Obeying
 pub mod Pieces
+pub mod Prices
+pub mod Pricing

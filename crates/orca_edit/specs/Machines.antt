@@ -23,18 +23,19 @@ obeyed answer machine messages = record {
   messages = messages;
 }
 
--- a command that goes back in the history
-abbrev pub goes_back : Command → Bool
-goes_back command.Undo = true
-goes_back (command.Rewind moment) = true
-goes_back _ = false
+-- a jump: a command that goes back in the history, or forward again
+abbrev pub is_jump : Command → Bool
+is_jump command.Undo = true
+is_jump (command.Rewind moment) = true
+is_jump command.Redo = true
+is_jump _ = false
 
--- memory was refused: no rule stands against the command, it doesn't go back, nothing has changed,
--- and no message is given
+-- memory was refused: no rule stands against the command, it is no jump, nothing has changed, and no
+-- message is given
 pub record IsGivenUp (old : MachineState) (c : Command) (new : MachineState)
     (messages : List Message) : Type 0 where
   pub allowed : rule_against old c ≡ None
-  pub forward : goes_back c ≡ false
+  pub forward : is_jump c ≡ false
   pub machine : new ≡ old
   pub silent : messages ≡ []
 

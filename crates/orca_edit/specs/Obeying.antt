@@ -1,5 +1,5 @@
 -- A session as a machine: what it does with a command, and when it refuses one.
-use Rattle.std.specs.Prelude.{ℕ, ◌+◌, ◌==◌, Bool, true, false, not, ◌&&◌, ◌||◌, nat_le, min, if◌then◌else◌, List, [], ◌∷◌, ◌++◌, length, take, Option, Some, None, is_none, Result, Ok, Err}
+use Rattle.std.specs.Prelude.{ℕ, ◌+◌, ◌-◌, ◌==◌, Bool, true, false, not, ◌&&◌, ◌||◌, nat_le, nat_lt, min, if◌then◌else◌, List, [], ◌∷◌, ◌++◌, length, take, drop, Option, Some, None, is_none, Result, Ok, Err}
 use Rattle.std.specs.List.{list_all}
 use Rattle.std.specs.Option.{option_map, option_map_or}
 use Rattle.orca_base.specs.declared.area.Area.{Area}
@@ -9,9 +9,9 @@ use Rattle.orca_base.specs.declared.command.Command.TheVariants as command
 use Rattle.orca_base.specs.declared.command.Entry.{Entry}
 use Rattle.orca_base.specs.declared.command.Entry.TheVariants as entry
 use Rattle.orca_base.specs.declared.command.Reply.{Reply}
-use Rattle.orca_base.specs.declared.command.Reply.TheVariants.{Edited, Copied, Framed, Jumped}
+use Rattle.orca_base.specs.declared.command.Reply.TheVariants.{Edited, Copied, Framed, Jumped, Redone}
 use Rattle.orca_base.specs.declared.command.Rule.{Rule}
-use Rattle.orca_base.specs.declared.command.Rule.TheVariants.{OutOfGrid, EmptyBlock, BadSize, EmptyClip, NothingToUndo, NoSuchMoment, HistoryFull}
+use Rattle.orca_base.specs.declared.command.Rule.TheVariants.{OutOfGrid, EmptyBlock, BadSize, EmptyClip, NothingToUndo, NoSuchMoment, HistoryFull, NothingToRedo}
 use Rattle.orca_base.specs.declared.limits.TheConstants.{MAX_ROWS, MAX_COLUMNS}
 use Rattle.orca_base.specs.declared.message.Message.{Message}
 use Rattle.orca_base.specs.declared.place.Place.{Place}
@@ -19,12 +19,13 @@ use Rattle.orca_base.specs.Areas.{area_in, area_at}
 use Rattle.orca_base.specs.Edits.{block_of}
 use Rattle.orca_base.specs.Glyphs.{empty}
 use Rattle.orca_base.specs.Grids.{Size, Sheet, is_inside}
-use Rattle.orca_base.specs.Histories.{last_edit}
+use Rattle.orca_base.specs.Histories.{done_of, group_of, last_edit}
 use Rattle.orca_notes.specs.Sound.{ends}
 use Rattle.orca_edit.specs.Pieces.{Piece, apply, piece_after}
 
 -- a session: the opened grid, the seed, the most entries that its history may have, the history
--- since the opened grid, the clip, and how many entries the history had at the last close
+-- since the opened grid, the clip, how many entries the history had at the last close, and the tail:
+-- the entries that jumps cut off since the last one was added, the next to come back first
 pub record MachineState : Type 0 where
   pub opened : Sheet
   pub seed : ℕ
@@ -32,6 +33,7 @@ pub record MachineState : Type 0 where
   pub history : List Entry
   pub clip : Option Sheet
   pub closed : ℕ
+  pub tail : List Entry
 
 -- a session with an opened grid
 abbrev pub machine_at_start : Sheet → ℕ → ℕ → MachineState
@@ -42,6 +44,7 @@ machine_at_start sheet seed limit = record {
   history = [];
   clip = None;
   closed = 0;
+  tail = [];
 }
 
 -- the piece as it stands: the opened grid after the history
@@ -106,16 +109,30 @@ abbrev pub rewinds_too_far : List Entry → Command → Bool
 rewinds_too_far history (command.Rewind moment) = nat_le (length history) moment
 rewinds_too_far history _ = false
 
--- a command that adds an entry of its own to the history; a jump cuts the history
+-- a command that adds an entry of its own to the history; a jump cuts or mends the history
 abbrev pub adds_entry : Command → Bool
 adds_entry (command.Copy rect) = false
 adds_entry command.Undo = false
 adds_entry (command.Rewind moment) = false
+adds_entry command.Redo = false
 adds_entry _ = true
 
--- HistoryFull: a command that adds an entry, and the history has as many as it may have
-abbrev pub has_no_room : ℕ → List Entry → Command → Bool
-has_no_room limit history c = adds_entry c && nat_le limit (length history)
+-- a Redo, and there is something to bring back
+abbrev pub redoes : List Entry → Command → Bool
+redoes tail command.Redo = nat_lt 0 (length tail)
+redoes tail _ = false
+
+-- HistoryFull: a command that adds an entry, and the history has as many as it may have, or a Redo of
+-- more entries than it has room for
+abbrev pub has_no_room : ℕ → List Entry → List Entry → Command → Bool
+has_no_room limit history tail c =
+    (adds_entry c && nat_le limit (length history))
+    || (redoes tail c && nat_lt limit (length history + group_of tail))
+
+-- NothingToRedo: a Redo, and the tail is empty
+abbrev pub redoes_nothing : List Entry → Command → Bool
+redoes_nothing tail command.Redo = length tail == 0
+redoes_nothing tail _ = false
 
 -- a rule, and whether it stands
 pub record Test : Type 0 where
@@ -140,11 +157,12 @@ block_tests d clip c =
     ∷ []
 
 -- the rules on the history, in order
-abbrev pub history_tests : ℕ → List Entry → Command → List Test
-history_tests limit history c =
+abbrev pub history_tests : ℕ → List Entry → List Entry → Command → List Test
+history_tests limit history tail c =
     test NothingToUndo (undoes_nothing history c)
     ∷ test (NoSuchMoment (length history)) (rewinds_too_far history c)
-    ∷ test HistoryFull (has_no_room limit history c)
+    ∷ test HistoryFull (has_no_room limit history tail c)
+    ∷ test NothingToRedo (redoes_nothing tail c)
     ∷ []
 
 -- the rule that refuses a command for its places and its block, in a grid of this size and with
@@ -156,7 +174,7 @@ block_rule d clip c = first_standing (block_tests d clip c)
 unfoldable pub rule_against : MachineState → Command → Option Rule
 rule_against m c =
     first_standing
-    (block_tests (piece_of m).sheet.dims m.clip c ++ history_tests m.limit m.history c)
+    (block_tests (piece_of m).sheet.dims m.clip c ++ history_tests m.limit m.history m.tail c)
 
 -- the entry of a command in a grid of this size with this clip: a block is cut to the grid
 unfoldable pub entry_of : Size → Option Sheet → Command → Option Entry
@@ -173,6 +191,7 @@ entry_of d clip (command.Resize h w) = Some (entry.Resize (record { h = h; w = w
 entry_of d clip command.Reset = Some entry.Reset
 entry_of d clip command.Undo = None
 entry_of d clip (command.Rewind moment) = None
+entry_of d clip command.Redo = None
 
 -- the area that becomes the clip
 unfoldable pub taken_area : Size → Command → Option Area
@@ -195,15 +214,33 @@ pub record Obeyed : Type 0 where
 abbrev pub refuse : MachineState → Rule → Obeyed
 refuse m rule = record { answer = Err rule; machine = m; messages = [] }
 
--- a jump keeps the first entries and ends every note
+-- an undo or a rewind keeps the first entries, ends every note, and puts what it cuts off before the
+-- tail
 unfoldable pub jump : MachineState → ℕ → Obeyed
 jump m moment = record {
   answer = Ok (Jumped moment);
   machine = record m {
     history = take moment m.history ++ entry.Hush ∷ [];
     closed = min m.closed (moment + 1);
+    tail = done_of (drop moment m.history) ++ m.tail;
   };
   messages = ends (piece_of m).notes;
+}
+
+-- the history after a redo: the group comes back before the end of the last jump
+abbrev pub history_redone : List Entry → List Entry → List Entry
+history_redone history tail =
+    take (length history - 1) history ++ (take (group_of tail) tail ++ entry.Hush ∷ [])
+
+-- a redo brings back the first group of the tail
+unfoldable pub redo : MachineState → Obeyed
+redo m = record {
+  answer = Ok (Redone (group_of m.tail));
+  machine = record m {
+    history = history_redone m.history m.tail;
+    tail = drop (group_of m.tail) m.tail;
+  };
+  messages = [];
 }
 
 -- the answer to a command that adds an entry
@@ -211,11 +248,11 @@ abbrev pub reply_of : Command → Piece → Reply
 reply_of command.Frame p = Framed p.tick
 reply_of _ p = Edited
 
--- an entry is added, with its messages
+-- an entry is added, with its messages; what was cut off can't come back any more
 abbrev pub extend : MachineState → Command → Option Sheet → Entry → Obeyed
 extend m c clip e = record {
   answer = Ok (reply_of c (piece_of m));
-  machine = record m { history = m.history ++ e ∷ []; clip = clip };
+  machine = record m { history = m.history ++ e ∷ []; clip = clip; tail = [] };
   messages = (apply (piece_of m) e).messages;
 }
 
@@ -229,6 +266,7 @@ carry_out m c clip (Some e) = extend m c clip e
 unfoldable pub accept : MachineState → Command → Obeyed
 accept m command.Undo = option_map_or (jump m) (last_edit m.history) (refuse m NothingToUndo)
 accept m (command.Rewind moment) = jump m moment
+accept m command.Redo = redo m
 accept m c =
     carry_out m c (clip_after m.clip (piece_of m).sheet (taken_area (piece_of m).sheet.dims c))
     (entry_of (piece_of m).sheet.dims m.clip c)

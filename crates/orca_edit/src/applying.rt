@@ -1,6 +1,7 @@
-ghost use Rattle.std.specs.Prelude.{◌≡◌, ◌+◌};
+ghost use Rattle.std.specs.Prelude.{◌≡◌, ◌+◌, ◌≤◌};
 ghost use Rattle.orca_edit.specs.Editing.{FitsIn, IsGridEdit, desk_with, ticks_of};
 ghost use Rattle.orca_edit.specs.Pieces.{Piece, apply, regrid};
+ghost use Rattle.orca_op.specs.Desk.{residue};
 ghost use Rattle.orca_op.specs.State.{sheet_of};
 
 use orca_base::{Entry, Steps};
@@ -20,6 +21,8 @@ pub fn apply<L: Ledger>(board: &mut Board, entry: &Entry, steps: &mut Steps<L>)
     ensures others { (p : Piece) → p.sheet ≡ sheet_of board.old.scan
         → apply p entry.now ≡ regrid p (sheet_of board.new.scan) }
     ensures ticks { steps.new ≡ steps.old + ticks_of board.old.scan.dims entry.now }
+    // What a later begin has to clear grows by no more than the ticks.
+    ensures residue { residue board.new + steps.old ≤ residue board.old + steps.new }
 {
     match entry {
         Entry::Fill { area, glyph } => board.fill(*area, *glyph, steps),

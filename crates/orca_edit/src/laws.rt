@@ -1,6 +1,11 @@
-//! Laws of the folds of histories. Each function does nothing; its contract is the law.
+//! Laws of the folds of histories, and of prices. Each function does nothing; its contract is the
+//! law.
 
-ghost use Rattle.orca_edit.specs.Folding.{ClosesAll, FitsAtFirst, FitsAtMoment, FitsInParts, FitsOn, FitsOneMore, FitsWithoutNotes, FoldsFromMoment, FoldsFromOpened, FoldsMore, FoldsNext, FoldsOn, FoldsOneMore, HushesAll, IgnoresCloses, IgnoresNotes, IsSheetAfter, KeepsSeed, KeepsSheet, TicksAtMost, TicksOnce};
+ghost use Rattle.orca_edit.specs.Folding.{ClosesAll, FitsAtFirst, FitsAtMoment, FitsDone, FitsInParts, FitsOn, FitsOneMore, FitsWithoutNotes, FoldsDone, FoldsFromMoment, FoldsFromOpened, FoldsMore, FoldsNext, FoldsOn, FoldsOneMore, HushesAll, IgnoresCloses, IgnoresNotes, IsSheetAfter, KeepsSeed, KeepsSheet, RedoesUndo, TicksAtMost, TicksOnce};
+ghost use Rattle.orca_edit.specs.Prices.{change_price, price, touched};
+ghost use Rattle.orca_edit.specs.Pricing.{ChargesReply, EndsAtPiece, FirstIsWorn, IgnoresNotesOf, JumpWearsNone, ListsPlaces, PaysTwice, PiecesAgree, TotalsAgree, TotalsNone, TotalsOne, TotalsSplit, TouchedByHush, TouchedJumped, TouchedLater, TouchedMore, TouchesBothWays, TouchesFew, TouchesListed};
+
+use orca_board::listing_law;
 
 /// A history is folded entry by entry: one more is applied to the piece as it stands. The seed
 /// stays.
@@ -27,6 +32,14 @@ pub fn moment_law()
     ensures from { FoldsFromMoment }
 {}
 
+/// A redo brings back what an undo took. What was cut off fits, and leads where it led, without the
+/// ends of earlier jumps.
+pub fn redo_law()
+    ensures undone { RedoesUndo }
+    ensures folds { FoldsDone }
+    ensures fits { FitsDone }
+{}
+
 /// An entry raises the tick by one at most, so the tick is at most the number of entries.
 pub fn tick_law()
     ensures once { TicksOnce }
@@ -48,4 +61,41 @@ pub fn fit_law()
 pub fn sheet_law()
     ensures entries { KeepsSheet }
     ensures history { IsSheetAfter }
+{}
+
+/// No price depends on notes. Its total splits at each moment, and is the same for sessions that
+/// agree so far. What may be taken for a command is the bill of its reply.
+pub fn price_law()
+    ensures touched { IgnoresNotesOf touched }
+    ensures change { IgnoresNotesOf change_price }
+    ensures price { IgnoresNotesOf price }
+    ensures end { EndsAtPiece }
+    ensures split { TotalsSplit }
+    ensures one { TotalsOne }
+    ensures none { TotalsNone }
+    ensures pieces { PiecesAgree }
+    ensures totals { TotalsAgree }
+    ensures reply { ChargesReply }
+{}
+
+/// An edit of the grid lists no more places than it touches, and its price pays for its ticks, for
+/// the begin before it, and for what the next begin has to clear.
+pub fn touch_law()
+    ensures places { ListsPlaces }
+    ensures listed { TouchesListed }
+    ensures both { TouchesBothWays }
+    ensures few { TouchesFew }
+    ensures pays { PaysTwice }
+{
+    listing_law();
+}
+
+/// The first patch that is kept is the one that as few worn patches as serve lead to.
+pub fn first_law()
+    ensures worn { FirstIsWorn }
+    ensures later { TouchedLater }
+    ensures more { TouchedMore }
+    ensures jumped { TouchedJumped }
+    ensures none { JumpWearsNone }
+    ensures hush { TouchedByHush }
 {}

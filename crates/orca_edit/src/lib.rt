@@ -16,7 +16,10 @@ mod rules;
 pub use applying::apply;
 pub use copying::copy;
 pub use entries::{Edit, to_entry};
-pub use laws::{fit_law, fold_law, moment_law, notes_law, sheet_law, tick_law};
+pub use laws::{
+    first_law, fit_law, fold_law, moment_law, notes_law, price_law, redo_law, sheet_law, tick_law,
+    touch_law,
+};
 pub use machine::Machine;
 pub use rules::block_rule;
 

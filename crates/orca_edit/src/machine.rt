@@ -1,8 +1,9 @@
-ghost use Rattle.std.specs.Prelude.{◌≡◌, ◌≤◌, ℕ, List, [], length, max};
+ghost use Rattle.std.specs.Prelude.{◌≡◌, ◌≤◌, ◌+◌, ℕ, List, [], length};
 ghost use Rattle.orca_base.specs.declared.limits.TheConstants.{MAX_NOTES};
 ghost use Rattle.orca_base.specs.declared.note.Note.{Note};
 ghost use Rattle.orca_edit.specs.Machines.{Acts, Closes, preview_of};
 ghost use Rattle.orca_edit.specs.Obeying.{MachineState, piece_of};
+ghost use Rattle.orca_edit.specs.Prices.{Kept, charge, kept_after, preview_price};
 
 use orca_base::{Command, Fault, Look, Note, Reply, Steps};
 use orca_notes::Messages;
@@ -13,14 +14,18 @@ pub trait Machine: Look {
     /// The machine that it means: the opened grid, the history, the clip, and the last close.
     ghost machine: { Self → MachineState };
 
-    /// The most entries that its history has had.
-    ghost peak: { Self → ℕ };
+    /// The numbers that it keeps to go back and forward within the prices.
+    ghost kept: { Self → Kept };
 
-    /// Does what a command asks for, and gives the messages of it.
+    /// How much the next call has to clear. It pays for steps that are still to come.
+    ghost residue: { Self → ℕ };
+
+    /// Does what a command asks for, and gives the messages of it. It takes no more steps than the
+    /// command's bill.
     ///
     /// [`Fault::Refused`] names the first rule that stands against the command. [`Fault::Memory`] if
-    /// memory is refused; never for `Undo` and `Rewind`. After either the machine is as before, and
-    /// there is no message.
+    /// memory is refused; never for `Undo`, `Rewind` and `Redo`. After either the machine is as
+    /// before, and there is no message.
     fn act<L: Ledger>(
         &mut self,
         command: &Command,
@@ -29,21 +34,27 @@ pub trait Machine: Look {
     ) -> Result<Reply, Fault>
         requires { messages.old ≡ [] }
         ensures acts { Acts (machine self.old) command.now result (machine self.new) messages.new }
-        ensures peak { peak self.new
-            ≡ max (peak self.old) (length (machine self.new).history) };
+        ensures kept { kept self.new
+            ≡ kept_after (machine self.old) (kept self.old) command.now result }
+        ensures price { steps.new + residue self.new ≤ steps.old + residue self.old
+            + charge result (machine self.old) (kept self.old) command.now };
 
     /// Ends all notes that sound, and gives the messages of it. The history stays.
     fn close(&mut self, messages: &mut Messages)
         requires { messages.old ≡ [] }
         ensures closes { Closes (machine self.old) (machine self.new) messages.new }
-        ensures peak { peak self.new ≡ peak self.old };
+        ensures kept { kept self.new ≡ kept self.old }
+        ensures residue { residue self.new ≡ residue self.old };
 
     /// Leaves the marks of a scan of the piece as it stands, to be seen until the next call that
-    /// takes the machine by `&mut`. All else is as before.
+    /// takes the machine by `&mut`. All else is as before. It takes no more steps than the next
+    /// frame may cost.
     fn preview_marks<L: Ledger>(&mut self, steps: &mut Steps<L>)
         ensures machine { machine self.new ≡ machine self.old }
-        ensures peak { peak self.new ≡ peak self.old }
-        ensures marks { Self.marks self.new ≡ preview_of (piece_of (machine self.old)) };
+        ensures kept { kept self.new ≡ kept self.old }
+        ensures marks { Self.marks self.new ≡ preview_of (piece_of (machine self.old)) }
+        ensures price { steps.new + residue self.new
+            ≤ steps.old + residue self.old + preview_price (piece_of (machine self.old)) };
 
     /// The tick of the next frame.
     fn tick(&self) -> u32
@@ -65,7 +76,7 @@ pub trait Machine: Look {
 
     /// The most entries that the history has had.
     fn peak(&self) -> u32
-        ensures peak { result ≡ peak self.now }
+        ensures peak { result ≡ (kept self.now).peak }
         ensures most { length (machine self.now).history ≤ result };
 
     /// What is looked at is the grid of the piece as it stands.

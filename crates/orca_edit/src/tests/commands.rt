@@ -43,6 +43,7 @@ fn is_editing(command: &Command) -> bool
         Command::Frame => false,
         Command::Undo => false,
         Command::Rewind { .. } => false,
+        Command::Redo => false,
         _ => true,
     }
 }
@@ -226,7 +227,7 @@ fn places_outside(rt: HostRuntime) -> Result<(), Fail> {
 
 /// Sides that are 0 or too long, and the first rule where two stand.
 #[test]
-fn sides_of_0_and_257(rt: HostRuntime) -> Result<(), Fail> {
+fn sides_of_0_and_1025(rt: HostRuntime) -> Result<(), Fail> {
     let clip = block(rt.alloc(), b"1\n")?;
     let glyph = Glyph::BANG;
     for rect in [rect(0, 0, 0, 1), rect(0, 0, 1, 0)] {
@@ -244,7 +245,7 @@ fn sides_of_0_and_257(rt: HostRuntime) -> Result<(), Fail> {
             expect_rule(&rt, command, &clip, Rule::EmptyBlock);
         }
     }
-    for (h, w) in [(0, 1), (1, 0), (257, 1), (1, 257)] {
+    for (h, w) in [(0, 1), (1, 0), (1_025, 1), (1, 1_025)] {
         expect_rule(&rt, Command::Resize { h, w }, &clip, Rule::BadSize);
     }
     let outside = rect(2, 0, 0, 1);
