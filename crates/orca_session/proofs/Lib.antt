@@ -1,3 +1,10 @@
+mod BillLemmas
+mod JumpLemmas
 mod ObeyLemmas
 mod PastLemmas
+mod PayLemmas
+mod PriceLemmas
+mod PushLemmas
+mod RedoLemmas
+mod RedoPrices
 mod SessionLemmas

@@ -1,8 +1,8 @@
 -- What a session does with a command: the rules in their order, and each kind of command.
-use Rattle.std.proofs.Common.{◌≡◌, ℕ, ◌<◌, true, false, List, [], ◌∷◌, ◌++◌, length, take, Some, None, Ok, Err, refl, ap, sym, ◌∙◌, inl, inr}
-use Rattle.std.specs.Prelude.{Option, IfSome, IsSome, is_none}
+use Rattle.std.proofs.Common.{◌≡◌, true≢false, ℕ, zero, suc, ◌+◌, ◌<◌, ◌≤◌, Bool, true, false, List, [], ◌∷◌, ◌++◌, length, take, Some, None, Ok, Err, refl, arith, ap, sym, ◌∙◌, inl, inr}
+use Rattle.std.specs.Prelude.{◌==◌, ◌&&◌, ◌||◌, nat_le, nat_lt, Option, IfSome, IsSome, is_none}
 use Rattle.std.specs.Option.{option_map}
-use Rattle.std.proofs.lemmas.Bool.{cases_Bool, leb-false}
+use Rattle.std.proofs.lemmas.Bool.{cases_Bool, leb-false, lt-ltb, ltb-false}
 use Rattle.orca_base.specs.declared.area.Area.{Area}
 use Rattle.orca_base.specs.declared.command.Command.{Command}
 use Rattle.orca_base.specs.declared.command.Command.TheVariants as command
@@ -12,13 +12,13 @@ use Rattle.orca_base.specs.declared.command.Fault.{Fault}
 use Rattle.orca_base.specs.declared.command.Fault.TheVariants.{Refused, Memory}
 use Rattle.orca_base.specs.declared.command.Reply.TheVariants.{Edited}
 use Rattle.orca_base.specs.declared.command.Rule.{Rule}
-use Rattle.orca_base.specs.declared.command.Rule.TheVariants.{HistoryFull, NoSuchMoment, NothingToUndo}
+use Rattle.orca_base.specs.declared.command.Rule.TheVariants.{HistoryFull, NoSuchMoment, NothingToRedo, NothingToUndo}
 use Rattle.orca_base.specs.Edits.{block_of}
 use Rattle.orca_base.specs.Grids.{Size, Sheet}
-use Rattle.orca_base.specs.Histories.{last_edit}
+use Rattle.orca_base.specs.Histories.{group_of, last_edit}
 use Rattle.orca_edit.specs.Editing.{IsGridEdit}
-use Rattle.orca_edit.specs.Machines.{Obeys, goes_back, obeyed}
-use Rattle.orca_edit.specs.Obeying.{MachineState, Test, accept, adds_entry, block_rule, block_tests, carry_out, clip_after, entry_of, extend, first_standing, has_no_room, history_tests, jump, obey, piece_of, refuse, reply_of, rule_against, taken_area, test, undoes_nothing, rewinds_too_far}
+use Rattle.orca_edit.specs.Machines.{Obeys, is_jump, obeyed}
+use Rattle.orca_edit.specs.Obeying.{MachineState, Test, accept, adds_entry, block_rule, block_tests, carry_out, clip_after, entry_of, extend, first_standing, has_no_room, history_tests, jump, obey, piece_of, redo, redoes_nothing, refuse, reply_of, rule_against, taken_area, test, undoes_nothing, rewinds_too_far}
 use Rattle.orca_edit.specs.Pieces.{Piece, apply}
 use Rattle.orca_session.specs.Session.{IsBlockEdit, clip_with}
 
@@ -67,48 +67,75 @@ pub rule-of-block : (m : MachineState) (c : Command) (r : Rule)
 unfolding block_rule rule_against
 rule-of-block m c r is =
     first-some (block_tests (piece_of m).sheet.dims m.clip c)
-    (history_tests m.limit m.history c) r is
+    (history_tests m.limit m.history m.tail c) r is
 
 pub rule-of-history : (m : MachineState) (c : Command)
     → block_rule (piece_of m).sheet.dims m.clip c ≡ None
-    → rule_against m c ≡ first_standing (history_tests m.limit m.history c)
+    → rule_against m c ≡ first_standing (history_tests m.limit m.history m.tail c)
 unfolding block_rule rule_against
 rule-of-history m c is =
     first-none (block_tests (piece_of m).sheet.dims m.clip c)
-    (history_tests m.limit m.history c) is
+    (history_tests m.limit m.history m.tail c) is
 
 pub no-block-rule : (m : MachineState) (c : Command) → rule_against m c ≡ None
     → block_rule (piece_of m).sheet.dims m.clip c ≡ None
 unfolding block_rule rule_against
 no-block-rule m c allowed =
     none-first (block_tests (piece_of m).sheet.dims m.clip c)
-    (history_tests m.limit m.history c) allowed
+    (history_tests m.limit m.history m.tail c) allowed
 
 -- no rule on the history stands
 record IsOpen (m : MachineState) (c : Command) : Type 0 where
   undoes : undoes_nothing m.history c ≡ false
   rewinds : rewinds_too_far m.history c ≡ false
-  room : has_no_room m.limit m.history c ≡ false
+  room : has_no_room m.limit m.history m.tail c ≡ false
+  redoes : redoes_nothing m.tail c ≡ false
 
 is-open : (m : MachineState) (c : Command) → rule_against m c ≡ None → IsOpen m c
 is-open m c allowed =
-    let none : first_standing (history_tests m.limit m.history c) ≡ None =
+    let none : first_standing (history_tests m.limit m.history m.tail c) ≡ None =
     sym (rule-of-history m c (no-block-rule m c allowed)) ∙ allowed in
-    let full : List Test = test HistoryFull (has_no_room m.limit m.history c) ∷ [] in
+    let some : List Test = test NothingToRedo (redoes_nothing m.tail c) ∷ [] in
+    let full : List Test = test HistoryFull (has_no_room m.limit m.history m.tail c) ∷ some in
     let far : List Test =
     test (NoSuchMoment (length m.history)) (rewinds_too_far m.history c) ∷ full in
     let first = none-head (test NothingToUndo (undoes_nothing m.history c)) far none in
     let second = none-head (test (NoSuchMoment (length m.history))
     (rewinds_too_far m.history c)) full first.1 in
-    let third = none-head (test HistoryFull (has_no_room m.limit m.history c)) [] second.1 in
-    record { undoes = first.0; rewinds = second.0; room = third.0 }
+    let third = none-head (test HistoryFull (has_no_room m.limit m.history m.tail c)) some
+    second.1 in
+    let fourth = none-head (test NothingToRedo (redoes_nothing m.tail c)) [] third.1 in
+    record { undoes = first.0; rewinds = second.0; room = third.0; redoes = fourth.0 }
+
+neither : (a b : Bool) → a || b ≡ false → (a ≡ false) × (b ≡ false)
+neither true b none = absurd (true≢false none)
+neither false b none = (refl, none)
+
+none-empty : (n : ℕ) → n == 0 ≡ false → 0 < n
+none-empty zero none = absurd (true≢false none)
+none-empty (suc n) none = omega arith
 
 -- a command that adds an entry finds room for it
 pub has-room : (m : MachineState) (c : Command) → rule_against m c ≡ None → adds_entry c ≡ true
     → length m.history < m.limit
 has-room m c allowed adds =
-    let full : has_no_room m.limit m.history c ≡ false = (is-open m c allowed).room in
+    let full : (adds_entry c && nat_le m.limit (length m.history)) ≡ false =
+    (neither _ _ (is-open m c allowed).room).0 in
     leb-false m.limit (length m.history) (rw adds at full)
+
+-- a Redo finds something to bring back
+pub some-tail : (m : MachineState) → rule_against m command.Redo ≡ None → 0 < length m.tail
+some-tail m allowed = none-empty (length m.tail) (is-open m command.Redo allowed).redoes
+
+-- and room for it
+pub group-room : (m : MachineState) → rule_against m command.Redo ≡ None
+    → length m.history + group_of m.tail ≤ m.limit
+group-room m allowed =
+    let some : nat_lt 0 (length m.tail) ≡ true =
+    lt-ltb 0 (length m.tail) (some-tail m allowed) in
+    let full : (nat_lt 0 (length m.tail) && nat_lt m.limit (length m.history + group_of m.tail))
+    ≡ false = (is-open m command.Redo allowed).room in
+    ltb-false m.limit (length m.history + group_of m.tail) (rw some at full)
 
 -- an Undo finds an edit
 pub some-edit : (m : MachineState) → rule_against m command.Undo ≡ None
@@ -153,6 +180,11 @@ pub obey-undo : (m : MachineState) (moment : ℕ) → rule_against m command.Und
 unfolding accept
 obey-undo m moment allowed is = obey-accepted m command.Undo allowed ∙ rw is refl
 
+pub obey-redo : (m : MachineState) → rule_against m command.Redo ≡ None
+    → obey m command.Redo ≡ redo m
+unfolding accept
+obey-redo m allowed = obey-accepted m command.Redo allowed
+
 -- an edit by a block
 accept-edit : (m : MachineState) (c : Command) → IsBlockEdit c
     → accept m c
@@ -171,6 +203,7 @@ accept-edit m (command.Resize h w) edits = refl
 accept-edit m command.Reset edits = absurd edits
 accept-edit m command.Undo edits = absurd edits
 accept-edit m (command.Rewind moment) edits = absurd edits
+accept-edit m command.Redo edits = absurd edits
 
 pub obey-edit : (m : MachineState) (d : Size) (clip : Option Sheet) (c : Command)
     (take : Option Area) (e : Option Entry) → d ≡ (piece_of m).sheet.dims → clip ≡ m.clip
@@ -179,8 +212,8 @@ pub obey-edit : (m : MachineState) (d : Size) (clip : Option Sheet) (c : Command
 obey-edit m d clip c take e size same allowed edits taken is =
     rw (taken, is, size, same) (obey-accepted m c allowed ∙ accept-edit m c edits)
 
--- it doesn't go back
-pub goes-forward : (c : Command) → IsBlockEdit c → goes_back c ≡ false
+-- it is no jump
+pub goes-forward : (c : Command) → IsBlockEdit c → is_jump c ≡ false
 goes-forward command.Frame edits = absurd edits
 goes-forward (command.Write y x glyph) edits = refl
 goes-forward (command.Fill rect glyph) edits = refl
@@ -193,6 +226,7 @@ goes-forward (command.Resize h w) edits = refl
 goes-forward command.Reset edits = absurd edits
 goes-forward command.Undo edits = absurd edits
 goes-forward (command.Rewind moment) edits = absurd edits
+goes-forward command.Redo edits = absurd edits
 
 -- an entry of it edits the grid
 pub edits-grid : (d : Size) (clip : Option Sheet) (c : Command) → IsBlockEdit c
@@ -211,6 +245,7 @@ edits-grid d clip (command.Resize h w) edits = tt
 edits-grid d clip command.Reset edits = absurd edits
 edits-grid d clip command.Undo edits = absurd edits
 edits-grid d clip (command.Rewind moment) edits = absurd edits
+edits-grid d clip command.Redo edits = absurd edits
 
 -- an entry of it is added
 pub adds-edit : (d : Size) (clip : Option Sheet) (c : Command) → IsBlockEdit c
@@ -228,10 +263,11 @@ adds-edit d clip (command.Resize h w) edits some = refl
 adds-edit d clip command.Reset edits some = absurd edits
 adds-edit d clip command.Undo edits some = absurd edits
 adds-edit d clip (command.Rewind moment) edits some = absurd edits
+adds-edit d clip command.Redo edits some = absurd edits
 
 -- ---- memory
 
-pub given-up : (m : MachineState) (c : Command) → rule_against m c ≡ None → goes_back c ≡ false
+pub given-up : (m : MachineState) (c : Command) → rule_against m c ≡ None → is_jump c ≡ false
     → Obeys m c (Err Memory) m []
 given-up m c allowed forward =
     record { allowed = allowed; forward = forward; machine = refl; silent = refl }
@@ -272,6 +308,7 @@ reply-edit (command.Resize h w) p edits = refl
 reply-edit command.Reset p edits = absurd edits
 reply-edit command.Undo p edits = absurd edits
 reply-edit (command.Rewind moment) p edits = absurd edits
+reply-edit command.Redo p edits = absurd edits
 
 -- it gives no message
 silent-edit : (p : Piece) (e : Entry) → IsGridEdit e → (apply p e).messages ≡ []
@@ -294,7 +331,7 @@ clip-taken clip sheet (Some area) = refl
 pub carried-out : (m mid new : MachineState) (c : Command) (take : Option Area)
     (taken : Option Sheet) (e : Entry) → IsBlockEdit c → IsGridEdit e
     → taken ≡ option_map (block_of (piece_of m).sheet) take
-    → mid ≡ record m { history = m.history ++ e ∷ [] }
+    → mid ≡ record m { history = m.history ++ e ∷ []; tail = [] }
     → new ≡ record mid { clip = clip_with mid.clip taken }
     → carry_out m c (clip_after m.clip (piece_of m).sheet take) (Some e)
     ≡ obeyed (Ok Edited) new []
@@ -304,9 +341,14 @@ carried-out m mid new c take taken e edits grid copied extended kept =
     let same : new ≡ record m {
       history = m.history ++ e ∷ [];
       clip = clip_after m.clip (piece_of m).sheet take;
+      tail = [];
     } =
     kept
     ∙ (ap (λ (x : MachineState). record x { clip = clip_with x.clip taken }) extended
-    ∙ ap (λ (x : Option Sheet). record m { history = m.history ++ e ∷ []; clip = x }) clip) in
+    ∙ ap (λ (x : Option Sheet). record m {
+      history = m.history ++ e ∷ [];
+      clip = x;
+      tail = [];
+    }) clip) in
     rw (reply-edit c (piece_of m) edits, silent-edit (piece_of m) e grid)
     (ap (λ (x : MachineState). obeyed (Ok Edited) x []) (sym same))

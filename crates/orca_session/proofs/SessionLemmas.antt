@@ -6,25 +6,28 @@ use Rattle.orca_base.specs.declared.command.Command.{Command}
 use Rattle.orca_base.specs.declared.command.Command.TheVariants as command
 use Rattle.orca_base.specs.declared.command.Entry.TheVariants as entry
 use Rattle.orca_base.specs.declared.command.Fault.TheVariants.{Refused, Memory}
-use Rattle.orca_base.specs.declared.command.Reply.TheVariants.{Edited, Framed, Jumped}
+use Rattle.orca_base.specs.declared.command.Reply.TheVariants.{Edited, Framed, Jumped, Redone}
 use Rattle.orca_base.specs.declared.command.Reply.{Reply}
 use Rattle.orca_base.specs.declared.command.Fault.{Fault}
 use Rattle.orca_base.specs.declared.command.Rule.{Rule}
 use Rattle.orca_base.specs.declared.message.Message.{Message}
 use Rattle.orca_base.specs.declared.note.Note.{Note}
 use Rattle.orca_base.specs.Grids.{Sheet}
+use Rattle.orca_base.specs.Histories.{group_of}
 use Rattle.orca_base.specs.Ranges.{CarriesFewValues}
-use Rattle.orca_edit.specs.Machines.{Acts, Obeys, goes_back, obeyed}
-use Rattle.orca_edit.specs.Obeying.{MachineState, jump, piece_of, rule_against}
+use Rattle.orca_checkpoints.specs.Points.{Points}
+use Rattle.orca_edit.specs.Machines.{Acts, Obeys, is_jump, obeyed}
+use Rattle.orca_edit.specs.Obeying.{MachineState, jump, piece_of, redo, rule_against}
 use Rattle.orca_edit.specs.Pieces.{Piece, apply, opened_piece}
 use Rattle.orca_edit.proofs.FoldLemmas.{piece_after-zero}
+use Rattle.orca_history.specs.declared.ring.Kept.{Kept}
 use Rattle.orca_notes.specs.Device.{Plays}
 use Rattle.orca_notes.specs.Sound.{ends}
 use Rattle.orca_notes.proofs.PlayFacts.{Plays-none}
 use Rattle.orca_op.specs.Desk.{Desk, desk_of_sheet}
 use Rattle.orca_op.specs.State.{sheet_of}
 use Rattle.orca_patch.specs.Patches.{Before}
-use Rattle.orca_session.specs.Past.{PastState, machine_of, past_at_start, past_jumped, past_pushed, present}
+use Rattle.orca_session.specs.Past.{PastState, machine_of, past_at_start, past_jumped, past_pushed, past_redone, present}
 use Rattle.orca_session.specs.Session.{KeepsSession}
 use Rattle.orca_session.proofs.ObeyLemmas.{given-up, obey-frame, obey-refused, obey-reset}
 
@@ -68,21 +71,22 @@ acts-refused m c r messages silent is =
     acts-silent m m c (Err (Refused r)) messages silent (obey-refused m c r is) refl
 
 pub acts-given-up : (m : MachineState) (c : Command) → rule_against m c ≡ None
-    → goes_back c ≡ false → Acts m c (Err Memory) m []
+    → is_jump c ≡ false → Acts m c (Err Memory) m []
 acts-given-up m c allowed forward =
     acts-silent m m c (Err Memory) [] refl (given-up m c allowed forward) refl
 
 -- ---- a frame
 
-pub acts-frame : (p q : PastState) (clip : Option Sheet) (patch : Before) (tick : ℕ)
-    (messages : List Message) → rule_against (machine_of p clip) command.Frame ≡ None
-    → q ≡ past_pushed p entry.Frame patch → tick ≡ (present p).tick
+pub acts-frame : (p q : PastState) (clip : Option Sheet) (newest : Kept) (points : Points)
+    (tick : ℕ) (messages : List Message) → rule_against (machine_of p clip) command.Frame ≡ None
+    → q ≡ past_pushed p entry.Frame newest points → tick ≡ (present p).tick
     → messages ≡ (apply (present p) entry.Frame).messages
     → Plays (present p).notes messages (present q).notes → All CarriesFewValues messages
     → Acts (machine_of p clip) command.Frame (Ok (Framed tick)) (machine_of q clip) messages
-acts-frame p q clip patch tick messages allowed pushed next said plays few = record {
+acts-frame p q clip newest points tick messages allowed pushed next said plays few = record {
   obeys = obey-frame (machine_of p clip) allowed
-      ∙ (ap (λ (t : ℕ). obeyed (Ok (Framed t)) (machine_of (past_pushed p entry.Frame patch) clip)
+      ∙ (ap (λ (t : ℕ). obeyed (Ok (Framed t))
+      (machine_of (past_pushed p entry.Frame newest points) clip)
       (apply (present p) entry.Frame).messages) (sym next)
       ∙ (ap (λ (x : PastState). obeyed (Ok (Framed tick)) (machine_of x clip)
       (apply (present p) entry.Frame).messages) (sym pushed)
@@ -93,13 +97,13 @@ acts-frame p q clip patch tick messages allowed pushed next said plays few = rec
 
 -- ---- a reset
 
-pub acts-reset : (p q : PastState) (clip : Option Sheet) (patch : Before)
+pub acts-reset : (p q : PastState) (clip : Option Sheet) (newest : Kept) (points : Points)
     (messages : List Message) → rule_against (machine_of p clip) command.Reset ≡ None
-    → q ≡ past_pushed p entry.Reset patch → messages ≡ ends (present p).notes
+    → q ≡ past_pushed p entry.Reset newest points → messages ≡ ends (present p).notes
     → Plays (present p).notes messages (present q).notes → All CarriesFewValues messages
     → Acts (machine_of p clip) command.Reset (Ok Edited) (machine_of q clip) messages
 unfolding apply
-acts-reset p q clip patch messages allowed pushed said plays few = record {
+acts-reset p q clip newest points messages allowed pushed said plays few = record {
   obeys = obey-reset (machine_of p clip) allowed
       ∙ (ap (λ (x : PastState). obeyed (Ok Edited) (machine_of x clip) (ends (present p).notes))
       (sym pushed)
@@ -115,16 +119,26 @@ notes-reset p = refl
 
 -- ---- a jump
 
-pub jump-parts : (p q : PastState) (clip : Option Sheet) (patch : Before) (moment : ℕ)
-    (messages : List Message) → q ≡ past_jumped p moment patch
+pub jump-parts : (p q : PastState) (clip : Option Sheet) (patch : Before) (points : Points)
+    (moment : ℕ) (messages : List Message) → q ≡ past_jumped p moment patch points
     → messages ≡ ends (present p).notes
     → jump (machine_of p clip) moment
     ≡ obeyed (Ok (Jumped moment)) (machine_of q clip) messages
 unfolding jump
-jump-parts p q clip patch moment messages jumped said =
+jump-parts p q clip patch points moment messages jumped said =
     ap (λ (x : PastState). obeyed (Ok (Jumped moment)) (machine_of x clip)
     (ends (present p).notes)) (sym jumped)
     ∙ ap (λ (ms : List Message). obeyed (Ok (Jumped moment)) (machine_of q clip) ms) (sym said)
+
+-- ---- a redo
+
+pub redo-parts : (p q : PastState) (clip : Option Sheet) (patch : Before) (points : Points)
+    → q ≡ past_redone p patch points
+    → redo (machine_of p clip) ≡ obeyed (Ok (Redone (group_of p.trail.tail))) (machine_of q clip) []
+unfolding redo
+redo-parts p q clip patch points redone =
+    ap (λ (x : PastState). obeyed (Ok (Redone (group_of p.trail.tail))) (machine_of x clip) [])
+    (sym redone)
 
 -- an option that isn't none is some
 pub some-not-none : (o : Option ℕ) → is_none o ≡ false → IsSome o

@@ -1,27 +1,34 @@
 -- What a contract sees of a session, and how its parts stand for the machine.
 use Rattle.std.specs.Prelude.{ℕ, ◌≡◌, List, Option, Some, None}
+use Rattle.std.specs.Option.{option_map_or}
 use Rattle.orca_base.specs.declared.command.Command.{Command}
 use Rattle.orca_base.specs.declared.command.Command.TheVariants as command
+use Rattle.orca_base.specs.declared.command.Entry.{Entry}
+use Rattle.orca_base.specs.declared.limits.TheConstants.{COMMAND_PRICE}
 use Rattle.orca_base.specs.declared.note.Note.{Note}
 use Rattle.orca_base.specs.Grids.{Sheet}
 use Rattle.orca_base.specs.MarkSet.{MarkSet}
 use Rattle.orca_edit.specs.Obeying.{MachineState, machine_at_start}
+use Rattle.orca_edit.specs.Pieces.{Piece}
+use Rattle.orca_edit.specs.Prices.{Kept, kept_at_start, price}
 use Rattle.orca_op.specs.Desk.{Desk}
 use Rattle.orca_op.specs.State.{blank_marks, sheet_of}
 use Rattle.orca_session.specs.Past.{PastState, present}
 
--- the machine that a session means, the most entries that its history has had, and the marks that
--- it shows
+-- the machine that a session means, the numbers that it keeps, how much its board has to clear, and
+-- the marks that it shows
 pub record SessionState : Type 0 where
   pub machine : MachineState
-  pub peak : ℕ
+  pub kept : Kept
+  pub residue : ℕ
   pub marks : List MarkSet
 
 -- a session with an opened grid
 abbrev pub session_at_start : Sheet → ℕ → ℕ → SessionState
 session_at_start sheet seed limit = record {
   machine = machine_at_start sheet seed limit;
-  peak = 0;
+  kept = kept_at_start;
+  residue = 0;
   marks = blank_marks sheet.dims;
 }
 
@@ -31,14 +38,19 @@ pub record KeepsSession (p : PastState) (d : Desk) (notes : List Note) (tick : �
   pub sounding : notes ≡ (present p).notes
   pub next : tick ≡ (present p).tick
 
--- a command that edits the grid by a block or takes the clip: any but a frame, a reset and the two
--- that go back
+-- a command that edits the grid by a block or takes the clip: any but a frame, a reset and the
+-- three jumps
 abbrev pub IsBlockEdit : Command → Type 0
 IsBlockEdit command.Frame = ⊥
 IsBlockEdit command.Reset = ⊥
 IsBlockEdit command.Undo = ⊥
 IsBlockEdit (command.Rewind moment) = ⊥
+IsBlockEdit command.Redo = ⊥
 IsBlockEdit _ = Unit {0}
+
+-- what a block edit costs, with its entry or without one
+abbrev pub edit_price : Piece → Option Entry → ℕ
+edit_price p entry = option_map_or (price p) entry COMMAND_PRICE
 
 -- the clip, once a block is kept or none
 abbrev pub clip_with : Option Sheet → Option Sheet → Option Sheet

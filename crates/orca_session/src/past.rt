@@ -1,34 +1,44 @@
-ghost use Rattle.std.specs.Prelude.{◌≡◌, ◌+◌, ◌<◌, ◌≤◌, ◌↔◌, length, max, slice_get, option_copied, IfOk, IfSome, IsSome, OnOk, OnErr};
-ghost use Rattle.orca_base.specs.Grids.{IsSheet};
-ghost use Rattle.orca_base.specs.Histories.{last_edit};
+ghost use Rattle.std.specs.Prelude.{◌≡◌, ◌+◌, ◌<◌, ◌≤◌, ◌↔◌, [], length, max, slice_get, option_copied, IfOk, IfSome, IsSome, OnOk, OnErr};
+ghost use Rattle.orca_base.specs.declared.command.Command.TheVariants as command_of;
+ghost use Rattle.orca_base.specs.Histories.{group_of, last_edit};
+ghost use Rattle.orca_board.specs.Sizes.{cut_places};
 ghost use Rattle.orca_edit.specs.Editing.{FitsIn};
 ghost use Rattle.orca_edit.specs.Obeying.{first_standing, history_tests};
-ghost use Rattle.orca_edit.specs.Pieces.{Piece, apply, silence};
-ghost use Rattle.orca_op.specs.Desk.{IsDesk};
+ghost use Rattle.orca_edit.specs.Pieces.{apply, silence};
+ghost use Rattle.orca_edit.specs.Prices.{best_moment, jump_price, jumped, load_price, new_cells, pushed, redo_price, redone as kept_redone, undo_price};
+ghost use Rattle.orca_edit.specs.Pricing.{listed_by};
+ghost use Rattle.orca_op.specs.Desk.{residue};
 ghost use Rattle.orca_op.specs.State.{sheet_of};
-ghost use Rattle.orca_patch.specs.Patches.{before_of, no_change};
-ghost use Rattle.orca_session.specs.Past.{moment_of, past_at_start, past_closed, past_jumped, past_pushed, present};
+ghost use Rattle.orca_patch.specs.Patches.{no_change};
+ghost use Rattle.orca_session.specs.Past.{kept_of, moment_of, numbers_of, past_at_start, past_closed, past_jumped, past_pushed, past_redone, plain, present, redone};
 
+use crate::again::{do_again, tick_after};
+use crate::keeping::{keep_due, touched_by};
 use orca_base::limits::MAX_HISTORY;
 use orca_base::{Command, Dims, Entry, Look, Memory, Now, Rule, Steps};
 use orca_board::Board;
-use orca_edit::apply;
-use orca_frame::frame;
+use orca_checkpoints::{Checkpoints, checkpoint_law};
+use orca_edit::touch_law;
 use orca_grid::Grid;
-use orca_history::History;
+use orca_history::{History, patch_laws};
 use orca_op::Bench;
 use orca_patch::Patch;
 use std::alloc::Global;
 use std::marker::Model;
+use std::snapshot::Snapshot;
 use std::sync::ledger::Ledger;
 
-/// What a session began with, and what was done since. By it a board goes back to a moment.
+/// What a session began with, what was done since, and what jumps cut off. By it a board goes back
+/// to a moment, and forward again.
 #[derive(Drop)]
 pub(crate) struct Past {
     alloc: Global,
-    opened: Grid,
+    /// For the proof alone: it has no bytes when the program runs. The first checkpoint has this
+    /// grid.
+    opened: Snapshot<Grid>,
     seed: u32,
     history: History,
+    checkpoints: Checkpoints,
     closed: u32,
     peak: u32,
 }
@@ -46,18 +56,20 @@ impl Model for Past {
 }
 
 impl Past {
-    /// Nothing was done with the grid. [`Memory`] if the room for a copy of it, or for the patches,
-    /// is refused.
+    /// Nothing was done with the grid. [`Memory`] if the room for the checkpoints, or for the
+    /// patches, is refused.
     pub fn start(alloc: Global, grid: &Grid, seed: u32, limit: u32) -> Result<Past, Memory>
         requires some { 1 ≤ limit }
         requires most { limit ≤ MAX_HISTORY }
         ensures { IfOk result (λ past. past ≡ past_at_start grid.now seed limit) }
     {
+        checkpoint_law();
         Ok(Past {
             alloc,
-            opened: grid.copy()?,
+            opened: Snapshot::of(grid),
             seed,
             history: History::start(alloc, limit)?,
+            checkpoints: Checkpoints::start(alloc, grid)?,
             closed: 0,
             peak: 0,
         })
@@ -66,7 +78,8 @@ impl Past {
     /// The first rule that stands against the command, of those on the history.
     pub fn rule_against(&self, command: &Command) -> Option<Rule>
         ensures rule { result ≡ first_standing
-            (history_tests self.now.trail.limit self.now.trail.entries command.now) }
+            (history_tests self.now.trail.limit self.now.trail.entries self.now.trail.tail
+            command.now) }
         ensures most { length self.now.trail.entries ≤ self.now.peak }
     {
         match *command {
@@ -82,6 +95,7 @@ impl Past {
                 }
                 Some(Rule::NoSuchMoment { kept })
             }
+            Command::Redo => self.rule_against_redo(),
             _ => {
                 if self.history.len() < self.history.limit() {
                     return None;
@@ -91,9 +105,25 @@ impl Past {
         }
     }
 
+    /// The first rule that stands against a redo, of those on the history.
+    fn rule_against_redo(&self) -> Option<Rule>
+        ensures rule { result ≡ first_standing
+            (history_tests self.now.trail.limit self.now.trail.entries self.now.trail.tail
+            command_of.Redo) }
+    {
+        if self.history.tail() == 0 {
+            return Some(Rule::NothingToRedo);
+        }
+        if self.history.len() + self.history.group() <= self.history.limit() {
+            return None;
+        }
+        Some(Rule::HistoryFull)
+    }
+
     /// Adds the entry that was done on the board since its last `begin`, with the patch of what it
-    /// changed. `dims` and `tick` are those before it. If memory is refused, the board goes back to
-    /// the grid before, and nothing was done.
+    /// changed, and a checkpoint if one is due. `dims` and `tick` are those before it. What was cut
+    /// off is lost. If memory is refused, the board goes back to the grid before, and nothing was
+    /// done.
     pub fn push<L: Ledger>(
         &mut self,
         entry: Entry,
@@ -105,66 +135,86 @@ impl Past {
         requires room { length self.old.trail.entries < self.old.trail.limit }
         requires fits { FitsIn (present self.old).sheet.dims entry }
         requires began { board.old.began ≡ (present self.old).sheet }
+        requires listed { board.old.listed ≡ listed_by (present self.old) entry }
         requires size { dims ≡ (present self.old).sheet.dims }
         requires tick { tick ≡ (present self.old).tick }
         requires sheet { sheet_of board.old.scan ≡ (apply (present self.old) entry).piece.sheet }
-        ensures pushed { OnOk result
-            (self.new ≡ past_pushed self.old entry (before_of board.old tick)) }
+        ensures pushed { OnOk result (self.new
+            ≡ past_pushed self.old entry (kept_of entry board.old tick) self.new.points) }
         ensures present { OnOk result
             (present self.new ≡ (apply (present self.old) entry).piece) }
         ensures board { OnOk result (board.new ≡ board.old) }
         ensures early { OnOk result (tick < MAX_HISTORY) }
+        ensures numbers { OnOk result
+            (numbers_of self.new ≡ pushed (plain self.new) (numbers_of self.old)) }
+        ensures ticks { OnOk result
+            (steps.new ≤ steps.old + new_cells self.old.points.spacing (plain self.new)) }
         ensures err { OnErr result (self.new ≡ self.old) }
-        ensures peak { self.new.peak ≡ max self.old.peak (length self.new.trail.entries) }
         ensures reverted { OnErr result (sheet_of board.new.scan ≡ (present self.old).sheet) }
+        ensures paid { OnErr result (steps.new + residue board.new
+            ≤ steps.old + residue board.old
+            + length (cut_places board.old.scan.dims dims)) }
     {
-        let pushed = self.push_changes(entry, board, dims, tick);
+        let pushed = self.push_changes(entry, board, dims, tick, steps);
         if pushed.is_err() {
             board.revert(steps);
         }
         pushed
     }
 
-    /// Adds the entry with the patch of the board's changes.
-    fn push_changes(
+    /// Adds the entry with the patch of the board's changes, and how many cells it touched.
+    fn push_changes<L: Ledger>(
         &mut self,
         entry: Entry,
         board: &Board,
         dims: Dims,
         tick: u32,
+        steps: &mut Steps<L>,
     ) -> Result<(), Memory>
         requires room { length self.old.trail.entries < self.old.trail.limit }
         requires fits { FitsIn (present self.old).sheet.dims entry }
         requires began { board.now.began ≡ (present self.old).sheet }
+        requires listed { board.now.listed ≡ listed_by (present self.old) entry }
         requires size { dims ≡ (present self.old).sheet.dims }
         requires tick { tick ≡ (present self.old).tick }
         requires sheet { sheet_of board.now.scan ≡ (apply (present self.old) entry).piece.sheet }
-        ensures pushed { OnOk result
-            (self.new ≡ past_pushed self.old entry (before_of board.now tick)) }
+        ensures pushed { OnOk result (self.new
+            ≡ past_pushed self.old entry (kept_of entry board.now tick) self.new.points) }
         ensures present { OnOk result
             (present self.new ≡ (apply (present self.old) entry).piece) }
         ensures early { OnOk result (tick < MAX_HISTORY) }
+        ensures numbers { OnOk result
+            (numbers_of self.new ≡ pushed (plain self.new) (numbers_of self.old)) }
+        ensures ticks { OnOk result
+            (steps.new ≤ steps.old + new_cells self.old.points.spacing (plain self.new)) }
         ensures err { OnErr result (self.new ≡ self.old) }
-        ensures peak { self.new.peak ≡ max self.old.peak (length self.new.trail.entries) }
+        ensures idle { OnErr result (steps.new ≡ steps.old) }
     {
+        touch_law();
         // By its size a contract sees what holds of the board.
-        let _now = Bench::dims(board);
+        let now = Bench::dims(board);
         let patch = Patch::of_changes(self.alloc, dims, tick, board.changes())?;
-        self.history.push(entry, patch)?;
-        self.peak = self.peak.max(self.history.len());
+        let touched = touched_by(&entry, &patch, dims, now);
+        let after = tick_after(&entry, tick);
+        self.history.push(entry, patch, touched)?;
+        let len = self.history.len();
+        self.peak = self.peak.max(len);
+        keep_due(&mut self.checkpoints, len, after, board, steps);
         Ok(())
     }
 
     /// Takes the board to a moment, and answers the tick of it. It undoes the entries from the last
-    /// one down, if their patches are kept, and else does the first ones again.
+    /// one down, if their patches are kept, and else goes on from the last checkpoint before it.
     pub fn go_back<L: Ledger>(&self, board: &mut Board, moment: u32, steps: &mut Steps<L>) -> u32
         requires within { moment < length self.now.trail.entries }
         requires sheet { sheet_of board.old.scan ≡ (present self.now).sheet }
         ensures sheet { sheet_of board.new.scan ≡ (moment_of self.now moment).sheet }
         ensures tick { result ≡ (moment_of self.now moment).tick }
+        ensures price { steps.new + residue board.new ≤ steps.old + residue board.old
+            + jump_price (plain self.now) (numbers_of self.now) moment }
     {
         if moment < self.history.first_patch() {
-            self.fold_on(board, moment, steps)
+            self.load_on(board, moment, steps)
         } else {
             self.undo_on(board, moment, steps)
         }
@@ -177,6 +227,8 @@ impl Past {
         requires sheet { sheet_of board.old.scan ≡ (present self.now).sheet }
         ensures sheet { sheet_of board.new.scan ≡ (moment_of self.now moment).sheet }
         ensures tick { result ≡ (moment_of self.now moment).tick }
+        ensures price { steps.new + residue board.new ≤ steps.old + residue board.old
+            + undo_price (plain self.now) moment }
     {
         let mut tick = 0;
         let mut at = self.history.len();
@@ -187,36 +239,86 @@ impl Past {
         tick
     }
 
-    /// Does the first entries again, from the opened grid on.
-    fn fold_on<L: Ledger>(&self, board: &mut Board, moment: u32, steps: &mut Steps<L>) -> u32
+    /// Loads the last checkpoint before a moment, and does the entries from there on again.
+    fn load_on<L: Ledger>(&self, board: &mut Board, moment: u32, steps: &mut Steps<L>) -> u32
         requires within { moment < length self.now.trail.entries }
+        requires sheet { sheet_of board.old.scan ≡ (present self.now).sheet }
         ensures sheet { sheet_of board.new.scan ≡ (moment_of self.now moment).sheet }
         ensures tick { result ≡ (moment_of self.now moment).tick }
+        ensures price { steps.new + residue board.new ≤ steps.old + residue board.old
+            + load_price (plain self.now) (best_moment self.now.points.spacing moment) moment }
     {
-        board.load(Look::dims(&self.opened), self.opened.cells(), steps);
+        let best = self.checkpoints.best(moment);
+        board.load(best.dims, best.cells, steps);
         let seed = self.seed;
-        let mut tick = 0;
-        for at in 0..moment {
+        let mut tick = best.tick;
+        for at in best.moment..moment {
             let entry = self.history.entry(at).unwrap();
             tick = do_again(board, entry, Now { tick, seed }, steps);
         }
         tick
     }
 
+    /// Does the first group of what was cut off again on the board of the piece as it stands, and
+    /// brings it back, with the checkpoints that are due. Answers the tick after it. No note
+    /// sounds.
+    pub fn redo<L: Ledger>(&mut self, board: &mut Board, tick: u32, steps: &mut Steps<L>) -> u32
+        requires some { 0 < length self.old.trail.tail }
+        requires room { length self.old.trail.entries + group_of self.old.trail.tail
+            ≤ self.old.trail.limit }
+        requires sheet { sheet_of board.old.scan ≡ (present self.old).sheet }
+        requires tick { tick ≡ (present self.old).tick }
+        ensures sheet { sheet_of board.new.scan ≡ (redone self.old).sheet }
+        ensures tick { result ≡ (redone self.old).tick }
+        ensures redone { self.new ≡ past_redone self.old
+            (no_change board.new.scan.dims result) self.new.points }
+        ensures present { present self.new ≡ silence (redone self.old) }
+        ensures silent { (present self.old).notes ≡ [] }
+        ensures numbers { numbers_of self.new ≡ kept_redone (plain self.new) (numbers_of self.old)
+            (group_of self.old.trail.tail) }
+        ensures price { steps.new + residue board.new ≤ steps.old + residue board.old
+            + redo_price (plain self.new) (numbers_of self.old) (group_of self.old.trail.tail) }
+    {
+        let len = self.history.len();
+        let group = self.history.group();
+        let seed = self.seed;
+        // The checkpoint of the last Hush is that of the group's first entry from now on.
+        self.checkpoints.drop_above(len - 1);
+        let mut tick = tick;
+        for at in 0..group {
+            let entry = self.history.tail_entry(at).unwrap();
+            tick = do_again(board, entry, Now { tick, seed }, steps);
+            keep_due(&mut self.checkpoints, len + at, tick, board, steps);
+        }
+        let patch = Patch::empty(self.alloc, Look::dims(board), tick);
+        self.history.redo(patch);
+        patch_laws();
+        touch_law();
+        self.peak = self.peak.max(len + group);
+        keep_due(&mut self.checkpoints, len + group, tick, board, steps);
+        tick
+    }
+
     /// Cuts the history to its first entries, and ends every note. The board and the tick are those
-    /// of that moment.
-    pub fn jump(&mut self, moment: u32, board: &Board, tick: u32)
+    /// of that moment. A checkpoint is kept if one is due.
+    pub fn jump<L: Ledger>(&mut self, moment: u32, board: &Board, tick: u32, steps: &mut Steps<L>)
         requires within { moment < length self.old.trail.entries }
         requires sheet { sheet_of board.now.scan ≡ (moment_of self.old moment).sheet }
         requires tick { tick ≡ (moment_of self.old moment).tick }
-        ensures jumped { self.new
-            ≡ past_jumped self.old moment (no_change board.now.scan.dims tick) }
+        ensures jumped { self.new ≡ past_jumped self.old moment
+            (no_change board.now.scan.dims tick) self.new.points }
         ensures present { present self.new ≡ silence (moment_of self.old moment) }
-        ensures peak { self.new.peak ≡ max self.old.peak (length self.new.trail.entries) }
+        ensures numbers { numbers_of self.new
+            ≡ jumped (plain self.new) (numbers_of self.old) moment }
+        ensures ticks { steps.new
+            ≤ steps.old + new_cells self.old.points.spacing (plain self.new) }
     {
         let patch = Patch::empty(self.alloc, Look::dims(board), tick);
         self.history.jump(moment, patch);
+        touch_law();
         self.closed = self.closed.min(moment + 1);
+        self.checkpoints.drop_above(moment);
+        keep_due(&mut self.checkpoints, moment + 1, tick, board, steps);
     }
 
     /// Ends every note.
@@ -251,6 +353,13 @@ impl Past {
         self.history.last_edit()
     }
 
+    /// How many entries a redo brings back; 0 exactly if the tail is empty.
+    pub fn group(&self) -> u32
+        ensures { result ≡ group_of self.now.trail.tail }
+    {
+        self.history.group()
+    }
+
     /// The seed of random numbers.
     pub fn seed(&self) -> u32
         ensures { result ≡ (present self.now).seed }
@@ -276,29 +385,5 @@ impl Past {
     /// Where its memory comes from.
     pub fn allocator(&self) -> Global {
         self.alloc
-    }
-}
-
-/// Does an entry of the history again. Answers the tick after it.
-#[tactic(auto, unfolding(orca_edit::specs::Pieces::apply))]
-fn do_again<L: Ledger>(board: &mut Board, entry: &Entry, now: Now, steps: &mut Steps<L>) -> u32
-    requires fits { FitsIn board.old.scan.dims entry.now }
-    requires early { now.tick < MAX_HISTORY }
-    ensures sheet { (p : Piece) → p.sheet ≡ sheet_of board.old.scan → p.tick ≡ now.tick
-        → p.seed ≡ now.seed → sheet_of board.new.scan ≡ (apply p entry.now).piece.sheet }
-    ensures tick { (p : Piece) → p.sheet ≡ sheet_of board.old.scan → p.tick ≡ now.tick
-        → p.seed ≡ now.seed → result ≡ (apply p entry.now).piece.tick }
-{
-    match entry {
-        Entry::Frame => {
-            frame(board, now, steps);
-            now.tick + 1
-        }
-        Entry::Reset => 0,
-        Entry::Hush => now.tick,
-        _ => {
-            apply(board, entry, steps);
-            now.tick
-        }
     }
 }

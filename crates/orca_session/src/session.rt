@@ -1,15 +1,17 @@
-ghost use Rattle.std.specs.Prelude.{◌≡◌, ◌<◌, ◌≤◌, ◌↔◌, [], ◌∷◌, ◌++◌, length, max, slice_get, option_copied, All, None, Ok, IfOk, IfSome, IsSome, OnOk, OnErr};
-ghost use Rattle.std.specs.Option.{option_map};
+ghost use Rattle.std.specs.Prelude.{◌≡◌, ◌+◌, ◌<◌, ◌≤◌, ◌↔◌, [], ◌∷◌, ◌++◌, length, slice_get, option_copied, All, None, Ok, IfOk, IfSome, IsSome, OnOk, OnErr};
+ghost use Rattle.std.specs.Option.{option_map, option_map_or};
 ghost use Rattle.orca_base.specs.Areas.{IsArea};
 ghost use Rattle.orca_base.specs.Edits.{block_of};
 ghost use Rattle.orca_base.specs.Ranges.{CarriesFewValues};
 ghost use Rattle.orca_base.specs.declared.command.Command.{Command};
 ghost use Rattle.orca_base.specs.declared.command.Command.TheVariants as command_of;
 ghost use Rattle.orca_edit.specs.Editing.{FitsIn, IsGridEdit};
+ghost use Rattle.orca_base.specs.declared.command.Reply.TheVariants.{Copied, Edited};
 ghost use Rattle.orca_edit.specs.Machines.{Acts, Obeys, obeyed};
 ghost use Rattle.orca_edit.specs.Obeying.{carry_out, clip_after, jump, piece_of, rule_against};
+ghost use Rattle.orca_edit.specs.Prices.{charge, jump_price, jumped, kept_after, kept_by, new_cells, price, pushed};
 ghost use Rattle.orca_notes.specs.Device.{Plays};
-ghost use Rattle.orca_session.specs.Session.{IsBlockEdit, clip_with, session_at_start};
+ghost use Rattle.orca_session.specs.Session.{IsBlockEdit, clip_with, edit_price, session_at_start};
 
 use crate::past::Past;
 use orca_base::limits::MAX_HISTORY;
@@ -17,8 +19,8 @@ use orca_base::{
     Area, Block, Command, Dims, Entry, Fault, Glyph, Look, Marks, Memory, Note, Now, Place, Reply,
     Rule, Steps,
 };
-use orca_board::Board;
-use orca_edit::{Edit, Machine, apply, block_rule, copy, to_entry};
+use orca_board::{Board, listing_law};
+use orca_edit::{Edit, Machine, apply, block_rule, copy, to_entry, touch_law};
 use orca_frame::frame;
 use orca_grid::Grid;
 use orca_notes::{Messages, Notes};
@@ -28,7 +30,8 @@ use std::marker::Model;
 use std::sync::ledger::Ledger;
 
 /// A piece that plays, with all that was done to it since its grid was opened. A contract sees the
-/// machine that it means, the most entries that its history has had, and the marks that it shows.
+/// machine that it means, the numbers that it keeps, how much its board has to clear, and the marks
+/// that it shows.
 #[derive(Drop)]
 pub struct Session {
     past: Past,
@@ -52,13 +55,14 @@ impl Model for Session {
 
 impl Session {
     /// A session with an opened grid, whose history may have at most `limit` entries, from 1 to
-    /// [`MAX_HISTORY`]. It shows no marks. It takes the room for the grid, the notes and the
-    /// patches. [`Memory`] if that room is refused.
+    /// [`MAX_HISTORY`]. It shows no marks. It takes the room for the grid, the notes, the patches
+    /// and the checkpoints. [`Memory`] if that room is refused.
     pub fn start(alloc: Global, grid: &Grid, seed: u32, limit: u32) -> Result<Session, Memory>
         requires some { 1 ≤ limit }
         requires most { limit ≤ MAX_HISTORY }
         ensures { IfOk result (λ session. session ≡ session_at_start grid.now seed limit) }
     {
+        listing_law();
         Ok(Session {
             past: Past::start(alloc, grid, seed, limit)?,
             board: Board::start(alloc, grid)?,
@@ -86,7 +90,7 @@ impl Session {
     /// The first rule that stands against the command.
     fn rule_against(&self, command: &Command) -> Option<Rule>
         ensures rule { result ≡ rule_against self.now.machine command.now }
-        ensures most { length self.now.machine.history ≤ self.now.peak }
+        ensures most { length self.now.machine.history ≤ self.now.kept.peak }
     {
         let late = self.past.rule_against(command);
         let dims = Look::dims(&self.board);
@@ -106,8 +110,12 @@ impl Session {
         requires allowed { rule_against self.old.machine command_of.Frame ≡ None }
         requires silent { messages.old ≡ [] }
         ensures acts { Acts self.old.machine command_of.Frame result self.new.machine messages.new }
-        ensures peak { self.new.peak ≡ max self.old.peak (length self.new.machine.history) }
+        ensures kept { self.new.kept
+            ≡ kept_after self.old.machine self.old.kept command_of.Frame result }
+        ensures price { steps.new + self.new.residue ≤ steps.old + self.old.residue
+            + charge result self.old.machine self.old.kept command_of.Frame }
     {
+        touch_law();
         let tick = self.tick;
         let now = Now {
             tick,
@@ -136,8 +144,13 @@ impl Session {
         requires allowed { rule_against self.old.machine command_of.Reset ≡ None }
         requires silent { messages.old ≡ [] }
         ensures acts { Acts self.old.machine command_of.Reset result self.new.machine messages.new }
-        ensures peak { self.new.peak ≡ max self.old.peak (length self.new.machine.history) }
+        ensures kept { self.new.kept
+            ≡ kept_after self.old.machine self.old.kept command_of.Reset result }
+        ensures price { steps.new + self.new.residue ≤ steps.old + self.old.residue
+            + charge result self.old.machine self.old.kept command_of.Reset }
     {
+        listing_law();
+        touch_law();
         let dims = Look::dims(&self.board);
         self.board.begin(steps);
         let pushed = self
@@ -155,10 +168,12 @@ impl Session {
     fn edit<L: Ledger>(&mut self, command: &Command, steps: &mut Steps<L>) -> Result<Reply, Fault>
         requires editing { IsBlockEdit command.now }
         requires allowed { rule_against self.old.machine command.now ≡ None }
-        requires most { length self.old.machine.history ≤ self.old.peak }
         ensures obeys { Obeys self.old.machine command.now result self.new.machine [] }
         ensures notes { (piece_of self.new.machine).notes ≡ (piece_of self.old.machine).notes }
-        ensures peak { self.new.peak ≡ max self.old.peak (length self.new.machine.history) }
+        ensures kept { self.new.kept
+            ≡ kept_after self.old.machine self.old.kept command.now result }
+        ensures price { steps.new + self.new.residue ≤ steps.old + self.old.residue
+            + charge result self.old.machine self.old.kept command.now }
     {
         let dims = Look::dims(&self.board);
         let Edit { entry, take } = to_entry(command, dims, self.clip.as_ref())?;
@@ -180,14 +195,21 @@ impl Session {
         requires fits { IfSome entry (FitsIn (piece_of self.old.machine).sheet.dims) }
         requires inside { IfSome take (IsArea (piece_of self.old.machine).sheet.dims) }
         requires room { IsSome entry → length self.old.machine.history < self.old.machine.limit }
-        requires most { length self.old.machine.history ≤ self.old.peak }
         ensures done { IfOk result (λ reply. (c : Command) → IsBlockEdit c
             → carry_out self.old.machine c
             (clip_after self.old.machine.clip (piece_of self.old.machine).sheet take) entry
             ≡ obeyed (Ok reply) self.new.machine []) }
         ensures err { OnErr result (self.new.machine ≡ self.old.machine) }
         ensures notes { (piece_of self.new.machine).notes ≡ (piece_of self.old.machine).notes }
-        ensures peak { self.new.peak ≡ max self.old.peak (length self.new.machine.history) }
+        ensures reply { IfOk result (λ reply. reply ≡ option_map_or (λ _. Edited) entry Copied) }
+        ensures kept { IfOk result (λ reply.
+            self.new.kept ≡ kept_by reply self.new.machine self.old.kept) }
+        ensures paid { IfOk result (λ reply. steps.new + self.new.residue
+            ≤ steps.old + self.old.residue + edit_price (piece_of self.old.machine) entry
+            + option_map_or (λ _. new_cells self.old.kept.spacing self.new.machine) entry 0) }
+        ensures same { OnErr result (self.new.kept ≡ self.old.kept) }
+        ensures refused { OnErr result (steps.new + self.new.residue
+            ≤ steps.old + self.old.residue + edit_price (piece_of self.old.machine) entry) }
     {
         let taken = self.copy_of(take)?;
         let Some(entry) = entry else {
@@ -203,7 +225,8 @@ impl Session {
     fn keep_clip(&mut self, block: Option<Block>)
         ensures machine { self.new.machine
             ≡ record self.old.machine { clip = clip_with self.old.machine.clip block } }
-        ensures peak { self.new.peak ≡ self.old.peak }
+        ensures kept { self.new.kept ≡ self.old.kept }
+        ensures residue { self.new.residue ≡ self.old.residue }
     {
         if block.is_some() {
             self.clip = block;
@@ -230,11 +253,22 @@ impl Session {
         requires fits { FitsIn (piece_of self.old.machine).sheet.dims entry }
         requires room { length self.old.machine.history < self.old.machine.limit }
         ensures extended { OnOk result (self.new.machine
-            ≡ record self.old.machine { history = self.old.machine.history ++ entry ∷ [] }) }
+            ≡ record self.old.machine {
+              history = self.old.machine.history ++ entry ∷ [];
+              tail = [];
+            }) }
         ensures err { OnErr result (self.new.machine ≡ self.old.machine) }
         ensures notes { (piece_of self.new.machine).notes ≡ (piece_of self.old.machine).notes }
-        ensures peak { self.new.peak ≡ max self.old.peak (length self.new.machine.history) }
+        ensures kept { OnOk result (self.new.kept ≡ pushed self.new.machine self.old.kept) }
+        ensures paid { OnOk result (steps.new + self.new.residue
+            ≤ steps.old + self.old.residue + price (piece_of self.old.machine) entry
+            + new_cells self.old.kept.spacing self.new.machine) }
+        ensures same { OnErr result (self.new.kept ≡ self.old.kept) }
+        ensures refused { OnErr result (steps.new + self.new.residue
+            ≤ steps.old + self.old.residue + price (piece_of self.old.machine) entry) }
     {
+        listing_law();
+        touch_law();
         let dims = Look::dims(&self.board);
         self.board.begin(steps);
         apply(&mut self.board, &entry, steps);
@@ -248,7 +282,10 @@ impl Session {
         requires silent { messages.old ≡ [] }
         ensures acts { Acts self.old.machine command_of.Undo (Ok result) self.new.machine
             messages.new }
-        ensures peak { self.new.peak ≡ max self.old.peak (length self.new.machine.history) }
+        ensures kept { self.new.kept
+            ≡ kept_after self.old.machine self.old.kept command_of.Undo (Ok result) }
+        ensures price { steps.new + self.new.residue ≤ steps.old + self.old.residue
+            + charge (Ok result) self.old.machine self.old.kept command_of.Undo }
     {
         let moment = self.past.last_edit().unwrap();
         self.jump(moment, messages, steps)
@@ -268,13 +305,32 @@ impl Session {
         ensures plays { Plays (piece_of self.old.machine).notes messages.new
             (piece_of self.new.machine).notes }
         ensures few_values { All CarriesFewValues messages.new }
-        ensures peak { self.new.peak ≡ max self.old.peak (length self.new.machine.history) }
+        ensures kept { self.new.kept ≡ jumped self.new.machine self.old.kept moment }
+        ensures price { steps.new + self.new.residue ≤ steps.old + self.old.residue
+            + jump_price self.old.machine self.old.kept moment
+            + new_cells self.old.kept.spacing self.new.machine }
     {
         let tick = self.past.go_back(&mut self.board, moment, steps);
-        self.past.jump(moment, &self.board, tick);
+        self.past.jump(moment, &self.board, tick, steps);
         self.tick = tick;
         self.notes.hush(messages);
         Reply::Jumped { moment }
+    }
+
+    /// Brings back the first group of what was cut off. No note sounds before it nor after it, so
+    /// there is no message.
+    fn redo<L: Ledger>(&mut self, steps: &mut Steps<L>) -> Reply
+        requires allowed { rule_against self.old.machine command_of.Redo ≡ None }
+        ensures obeys { Obeys self.old.machine command_of.Redo (Ok result) self.new.machine [] }
+        ensures notes { (piece_of self.new.machine).notes ≡ (piece_of self.old.machine).notes }
+        ensures kept { self.new.kept
+            ≡ kept_after self.old.machine self.old.kept command_of.Redo (Ok result) }
+        ensures price { steps.new + self.new.residue ≤ steps.old + self.old.residue
+            + charge (Ok result) self.old.machine self.old.kept command_of.Redo }
+    {
+        let entries = self.past.group();
+        self.tick = self.past.redo(&mut self.board, self.tick, steps);
+        Reply::Redone { entries }
     }
 }
 
@@ -301,7 +357,9 @@ impl Machine for Session {
 
     ghost machine = { λ s. s.machine };
 
-    ghost peak = { λ s. s.peak };
+    ghost kept = { λ s. s.kept };
+
+    ghost residue = { λ s. s.residue };
 
     ghost shown = { λ _. refl };
 
@@ -319,6 +377,7 @@ impl Machine for Session {
             Command::Reset => self.reset(messages, steps),
             Command::Undo => Ok(self.undo(messages, steps)),
             Command::Rewind { moment } => Ok(self.jump(moment, messages, steps)),
+            Command::Redo => Ok(self.redo(steps)),
             _ => self.edit(command, steps),
         }
     }
@@ -329,6 +388,7 @@ impl Machine for Session {
     }
 
     fn preview_marks<L: Ledger>(&mut self, steps: &mut Steps<L>) {
+        touch_law();
         let now = Now {
             tick: self.tick,
             seed: self.past.seed(),

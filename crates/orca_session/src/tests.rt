@@ -3,12 +3,13 @@
 
 mod edits;
 mod jumps;
+mod redos;
 mod sounds;
 
 ghost use Rattle.std.specs.Prelude.{◌≡◌, ◌<◌, ◌≤◌};
 
 use crate::Session;
-use orca_base::limits::MAX_HISTORY;
+use orca_base::limits::{MAX_FILE_BYTES, MAX_HISTORY};
 use orca_base::{Command, Fault, Glyph, Message, Rect, Reply, Rule, Steps};
 use orca_edit::Machine;
 use orca_grid::Grid;
@@ -33,6 +34,10 @@ fn jumped(moment: u32) -> Answer {
     Ok(Reply::Jumped { moment })
 }
 
+fn redone(entries: u32) -> Answer {
+    Ok(Reply::Redone { entries })
+}
+
 fn refused(rule: Rule) -> Answer {
     Err(Fault::Refused(rule))
 }
@@ -48,11 +53,26 @@ fn write(y: u32, x: u32, value: u8) -> Command
     Command::Write { y, x, glyph }
 }
 
-/// A list of commands on a grid, and what is wanted of it.
+fn copy(y: u32, x: u32, h: u32, w: u32) -> Command {
+    Command::Copy {
+        rect: rect(y, x, h, w),
+    }
+}
+
+fn resize(h: u32, w: u32) -> Command {
+    Command::Resize { h, w }
+}
+
+fn rewind(moment: u32) -> Command {
+    Command::Rewind { moment }
+}
+
+/// A list of commands on a grid after so many frames, and what is wanted of it.
 #[derive(Clone, Copy)]
 struct Play<'a> {
     grid: &'a [u8],
     limit: u32,
+    frames: u32,
     commands: &'a [(Command, Answer)],
     messages: &'a [Message],
     after: &'a [u8],
@@ -63,7 +83,7 @@ struct Play<'a> {
 
 /// A session on a grid, with seed 1.
 fn open(rt: &impl Abort, alloc: Global, grid: &[u8], limit: u32) -> Result<Session, Fail> {
-    assert!(rt; grid.len() < 100_000);
+    assert!(rt; grid.len() <= MAX_FILE_BYTES);
     assert!(rt; 1 <= limit && limit <= MAX_HISTORY);
     let grid = Grid::read(alloc, grid)?;
     Ok(Session::start(alloc, &grid, 1, limit)?)
@@ -111,6 +131,23 @@ fn expect_left(rt: &impl Abort, session: &Session, tick: u32, moments: u32, soun
     assert_eq!(rt; session.notes().len(), sounding);
 }
 
+/// Plays so many frames.
+fn play_frames<L: Ledger>(
+    rt: &impl Abort,
+    alloc: Global,
+    session: &mut Session,
+    count: u32,
+    steps: &mut Steps<L>,
+) -> Result<(), Fail> {
+    let mut messages = Messages::start(alloc)?;
+    for tick in 0..count {
+        messages.clear();
+        let answer = session.act(&Command::Frame, &mut messages, steps);
+        assert_eq!(rt; answer, framed(tick));
+    }
+    Ok(())
+}
+
 /// Does the commands of a list, and compares what comes of it.
 fn expect_play<L: Ledger>(
     rt: &impl Abort,
@@ -119,6 +156,7 @@ fn expect_play<L: Ledger>(
     play: &Play,
     steps: &mut Steps<L>,
 ) -> Result<(), Fail> {
+    play_frames(rt, alloc, session, play.frames, steps)?;
     let messages = obey(rt, alloc, session, play.commands, steps)?;
     assert!(rt; messages.as_slice() == play.messages, "{messages:?}");
     expect_grid(rt, alloc, session, play.after)?;
@@ -143,4 +181,32 @@ fn play_with<L: Ledger>(
 /// What is wanted comes of it.
 fn expect(rt: &impl Abort, alloc: Global, play: &Play) -> Result<(), Fail> {
     play_with::<Brand>(rt, alloc, play, Blank::new(1))
+}
+
+/// Commands, and the grid, the tick and the moments that they leave.
+type Row<'a> = (&'a [(Command, Answer)], &'a [u8], u32, u32);
+
+/// The commands of each row on a grid without notes leave what is wanted.
+fn expect_rows(
+    rt: &impl Abort,
+    alloc: Global,
+    grid: &[u8],
+    limit: u32,
+    rows: &[Row],
+) -> Result<(), Fail> {
+    for &(commands, after, tick, moments) in rows {
+        let play = Play {
+            grid,
+            limit,
+            frames: 0,
+            commands,
+            messages: &[],
+            after,
+            tick,
+            moments,
+            sounding: 0,
+        };
+        expect(rt, alloc, &play)?;
+    }
+    Ok(())
 }

@@ -3,7 +3,8 @@
 ghost use Rattle.std.specs.Prelude.{◌≡◌, ◌<◌};
 
 use super::{
-    Answer, EDITED, Play, expect, expect_grid, expect_left, framed, jumped, obey, open, write,
+    Answer, EDITED, Play, expect, expect_grid, expect_left, framed, jumped, obey, open, redone,
+    rewind, write,
 };
 use crate::Session;
 use orca_base::{Command, Look, Message, Place, Steps};
@@ -32,70 +33,59 @@ const OFF: Message = Message::Off {
     key: 36,
 };
 
-/// The commands on the clock have these answers and give these messages. The grid is that after the
-/// first frame.
-fn expect_clock(
-    rt: &impl Abort,
-    alloc: Global,
-    commands: &[(Command, Answer)],
-    messages: &[Message],
-    left: (u32, u32, usize),
-) -> Result<(), Fail> {
-    let play = Play {
-        grid: CLOCK,
-        limit: 10,
-        commands,
-        messages,
-        after: AFTER_A_FRAME,
-        tick: left.0,
-        moments: left.1,
-        sounding: left.2,
-    };
-    expect(rt, alloc, &play)
-}
-
+/// Jumps and a reset end the note. The second rewind goes to where the history ends in Hush. A redo
+/// starts no note and gives no message.
 #[test]
-fn undo_over_frames_while_a_note_sounds(rt: HostRuntime) -> Result<(), Fail> {
-    let commands = [
+fn notes_of_a_clock(rt: HostRuntime) -> Result<(), Fail> {
+    let undo: [(Command, Answer); 5] = [
         (Command::Frame, framed(0)),
         (write(0, 7, 9), EDITED),
         (Command::Frame, framed(1)),
         (Command::Frame, framed(2)),
         (Command::Undo, jumped(1)),
     ];
-    expect_clock(&rt, rt.alloc(), &commands, &[ON, OFF], (1, 2, 0))
-}
-
-#[test]
-fn reset_while_a_note_sounds(rt: HostRuntime) -> Result<(), Fail> {
-    let commands = [
+    let reset = [
         (Command::Frame, framed(0)),
         (Command::Reset, EDITED),
         (Command::Frame, framed(0)),
     ];
-    expect_clock(&rt, rt.alloc(), &commands, &[ON, OFF, ON], (1, 3, 1))
-}
-
-#[test]
-fn undo_of_a_reset(rt: HostRuntime) -> Result<(), Fail> {
-    let commands = [
-        (Command::Frame, framed(0)),
-        (Command::Reset, EDITED),
-        (Command::Undo, jumped(1)),
-    ];
-    expect_clock(&rt, rt.alloc(), &commands, &[ON, OFF], (1, 2, 0))
-}
-
-/// The second rewind goes to where the history ends in Hush.
-#[test]
-fn rewind_to_the_hush(rt: HostRuntime) -> Result<(), Fail> {
-    let commands = [
+    let twice = [
         (Command::Frame, framed(0)),
         (Command::Frame, framed(1)),
-        (Command::Rewind { moment: 1 }, jumped(1)),
-        (Command::Rewind { moment: 1 }, jumped(1)),
+        (rewind(1), jumped(1)),
+        (rewind(1), jumped(1)),
     ];
-    expect_clock(&rt, rt.alloc(), &commands, &[ON, OFF], (1, 2, 0))
+    let redo = [
+        (Command::Frame, framed(0)),
+        (rewind(0), jumped(0)),
+        (Command::Redo, redone(1)),
+        (Command::Reset, EDITED),
+        (Command::Frame, framed(0)),
+        (Command::Undo, jumped(2)),
+        (Command::Redo, redone(2)),
+    ];
+    let rows: [(&[(Command, Answer)], &[Message], u32, u32, usize); 5] = [
+        (&undo, &[ON, OFF], 1, 2, 0),
+        (&reset, &[ON, OFF, ON], 1, 3, 1),
+        (&twice, &[ON, OFF], 1, 2, 0),
+        (&redo[..3], &[ON, OFF], 1, 2, 0),
+        (&redo, &[ON, OFF, ON, OFF], 1, 5, 0),
+    ];
+    for (commands, messages, tick, moments, sounding) in rows {
+        let play = Play {
+            grid: CLOCK,
+            limit: 10,
+            frames: 0,
+            commands,
+            messages,
+            after: AFTER_A_FRAME,
+            tick,
+            moments,
+            sounding,
+        };
+        expect(&rt, rt.alloc(), &play)?;
+    }
+    Ok(())
 }
 
 /// A close ends the notes, and the session goes on.
@@ -205,7 +195,7 @@ fn piece_edited_while_it_plays(rt: HostRuntime) -> Result<(), Fail> {
         (Command::Frame, framed(5)),
         (Command::Frame, framed(6)),
         (Command::Frame, framed(7)),
-        (Command::Rewind { moment: 4 }, jumped(4)),
+        (rewind(4), jumped(4)),
     ];
     let messages = [
         // The ticks 0 to 3.
@@ -235,6 +225,7 @@ fn piece_edited_while_it_plays(rt: HostRuntime) -> Result<(), Fail> {
     let play = Play {
         grid: PIECE,
         limit: 100,
+        frames: 0,
         commands: &commands,
         messages: &messages,
         after: FOURTH,

@@ -1,11 +1,13 @@
-use Rattle.std.proofs.Common.{◌≡◌, Err, ap, sym, ◌∙◌, subst}
+use Rattle.std.proofs.Common.{◌≡◌, [], arith, Err, ap, sym, ◌∙◌, subst}
 use Rattle.std.specs.Prelude.{IfSome, IsSome, Option}
 use Rattle.std.proofs.lemmas.Result.{err_from_is_err_and}
 use Rattle.orca_base.specs.declared.command.Entry.{Entry}
+use Rattle.orca_base.specs.declared.command.Fault.TheVariants.{Memory}
 use Rattle.orca_base.specs.Grids.{Sheet}
 use Rattle.orca_edit.specs.Editing.{IsGridEdit}
 use Rattle.orca_edit.specs.Obeying.{MachineState, piece_of}
-use Rattle.orca_session.specs.Session.{SessionState}
+use Rattle.orca_session.specs.Session.{SessionState, edit_price}
+use Rattle.orca_session.proofs.PayLemmas.{bill-edit, charge-done, charge-memory, kept-done, kept-none, same-entry}
 use Rattle.orca_session.proofs.ObeyLemmas.{adds-edit, edits-grid, has-room, obey-edit, only-memory}
 use Rattle.orca_session.proofs.session.Session.edit.Goals as goal
 
@@ -44,3 +46,54 @@ returns-in-Ok-clause-obeys g c =
     c.in_ok-entry.field-0.entry size clip c.requires.allowed c.requires.editing
     c.in_ok-entry.ensures.take c.in_ok-entry.ensures.entry
     ∙ c.in-Ok.ensures.done c.args.command.now c.requires.editing
+
+pub returns-in_err-entry-clause-kept : goal.returns-in_err-entry-clause-kept
+returns-in_err-entry-clause-kept g c =
+    let p = err_from_is_err_and c.from_residual.result c.from_residual.ensures.1 in
+    rw p.1 (kept-none c.args.self.now.machine c.args.self.now.kept c.args.command.now p.0)
+
+pub returns-in-Ok-clause-kept : goal.returns-in-Ok-clause-kept
+returns-in-Ok-clause-kept g c =
+    kept-done c.args.self.now.machine c.args.self.now.kept c.carry_out.new.self.kept
+    c.args.command.now c.in-Ok.reply c.carry_out.new.self.machine []
+    (returns-in-Ok-clause-obeys g c) c.in-Ok.ensures.kept
+
+pub returns-in-Ok-clause-price : goal.returns-in-Ok-clause-price
+returns-in-Ok-clause-price g c =
+    let m : MachineState = c.args.self.now.machine in
+    let size : c.dims-dims.result ≡ (piece_of m).sheet.dims =
+    c.dims-dims.ensures.size ∙ (ap (λ (s : Sheet). s.dims) c.self.invariant.grid
+    ∙ ap (λ (s : SessionState). (piece_of s.machine).sheet.dims) c.self.view_is) in
+    let clip = c.as_ref.ensures.value ∙ ap (λ (s : SessionState). s.machine.clip) c.self.view_is in
+    charge-done m c.args.self.now.kept c.args.command.now c.in-Ok.reply
+    c.carry_out.new.self.machine [] _ _ (returns-in-Ok-clause-obeys g c)
+    (omega (
+      arith,
+      c.in-Ok.ensures.paid,
+      bill-edit m c.args.self.now.kept c.args.command.now c.in_ok-entry.field-0.entry
+          c.in-Ok.reply c.carry_out.new.self.machine
+          (same-entry m c.dims-dims.result _ c.args.command.now _ size clip
+          c.in_ok-entry.ensures.entry)
+          c.in-Ok.ensures.reply,
+    ))
+
+pub returns-in-Err-clause-kept : goal.returns-in-Err-clause-kept
+returns-in-Err-clause-kept g c =
+    c.in-Err.ensures.same
+    ∙ kept-none c.args.self.now.machine c.args.self.now.kept c.args.command.now Memory
+
+pub returns-in-Err-clause-price : goal.returns-in-Err-clause-price
+returns-in-Err-clause-price g c =
+    let m : MachineState = c.args.self.now.machine in
+    let size : c.dims-dims.result ≡ (piece_of m).sheet.dims =
+    c.dims-dims.ensures.size ∙ (ap (λ (s : Sheet). s.dims) c.self.invariant.grid
+    ∙ ap (λ (s : SessionState). (piece_of s.machine).sheet.dims) c.self.view_is) in
+    let clip = c.as_ref.ensures.value ∙ ap (λ (s : SessionState). s.machine.clip) c.self.view_is in
+    omega (
+      arith,
+      c.in-Err.ensures.refused,
+      charge-memory m c.args.self.now.kept c.args.command.now,
+      ap (λ (e : Option Entry). edit_price (piece_of m) e)
+          (same-entry m c.dims-dims.result _ c.args.command.now _ size clip
+          c.in_ok-entry.ensures.entry),
+    )

@@ -1,8 +1,11 @@
 use Rattle.std.proofs.Common.{◌≡◌, Some, ap, sym, subst, ◌∙◌}
 use Rattle.std.specs.Prelude.{IsSome}
+use Rattle.orca_base.specs.declared.command.Command.TheVariants as command
 use Rattle.orca_base.specs.Histories.{last_edit}
 use Rattle.orca_session.specs.Session.{SessionState}
 use Rattle.orca_session.proofs.ObeyLemmas.{obey-undo, some-edit}
+use Rattle.orca_session.proofs.PayLemmas.{charge-jump, kept-jump}
+use Rattle.orca_session.proofs.session.Session.undo.Given.{Over}
 use Rattle.orca_session.proofs.SessionLemmas.{some-not-none}
 use Rattle.orca_session.proofs.session.Session.undo.Goals as goal
 
@@ -14,15 +17,32 @@ unwrap-moment-requires g c =
     subst IsSome (sym last)
     (some-not-none _ (some-edit c.args.self.now.machine c.requires.allowed))
 
-pub returns-clause-acts : goal.returns-clause-acts
-returns-clause-acts g c =
-    let last : last_edit c.args.self.now.machine.history ≡ Some c.unwrap-moment.result =
+-- the moment is that of the last edit
+last : (g : Over) (c : goal.After-jump g)
+    → last_edit c.args.self.now.machine.history ≡ Some c.unwrap-moment.result
+last g c =
     sym (c.last_edit.ensures.last
     ∙ ap (λ (s : SessionState). last_edit s.machine.history) c.self.view_is)
-    ∙ c.unwrap-moment.ensures in
-    record {
-      obeys = obey-undo c.args.self.now.machine c.unwrap-moment.result c.requires.allowed last
-          ∙ c.jump.ensures.jumped;
-      plays = c.jump.ensures.plays;
-      few_values = c.jump.ensures.few_values;
-    }
+    ∙ c.unwrap-moment.ensures
+
+pub returns-clause-acts : goal.returns-clause-acts
+returns-clause-acts g c = record {
+  obeys = obey-undo c.args.self.now.machine c.unwrap-moment.result c.requires.allowed (last g c)
+      ∙ c.jump.ensures.jumped;
+  plays = c.jump.ensures.plays;
+  few_values = c.jump.ensures.few_values;
+}
+
+pub returns-clause-kept : goal.returns-clause-kept
+returns-clause-kept g c =
+    kept-jump c.args.self.now.machine c.args.self.now.kept c.jump.new.self.kept command.Undo
+    c.unwrap-moment.result c.jump.result c.jump.new.self.machine c.jump.new.messages
+    (obey-undo c.args.self.now.machine c.unwrap-moment.result c.requires.allowed (last g c))
+    c.jump.ensures.jumped c.jump.ensures.kept
+
+pub returns-clause-price : goal.returns-clause-price
+returns-clause-price g c =
+    charge-jump c.args.self.now.machine c.args.self.now.kept command.Undo c.unwrap-moment.result
+    c.jump.result c.jump.new.self.machine c.jump.new.messages _ _
+    (obey-undo c.args.self.now.machine c.unwrap-moment.result c.requires.allowed (last g c))
+    c.jump.ensures.jumped c.jump.ensures.price

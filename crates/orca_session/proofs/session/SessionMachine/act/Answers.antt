@@ -1,7 +1,10 @@
-use Rattle.std.proofs.Common.{◌≡◌, None, sym, ◌∙◌, subst}
+use Rattle.std.proofs.Common.{◌≡◌, None, Ok, sym, ◌∙◌, subst}
 use Rattle.orca_base.specs.declared.command.Command.{Command}
+use Rattle.orca_base.specs.declared.command.Command.TheVariants as command
 use Rattle.orca_edit.specs.Obeying.{rule_against}
 use Rattle.orca_session.proofs.ObeyLemmas.{obey-rewind, some-moment}
+use Rattle.orca_base.specs.declared.command.Fault.TheVariants.{Refused}
+use Rattle.orca_session.proofs.PayLemmas.{charge-jump, kept-jump, kept-none}
 use Rattle.orca_session.proofs.SessionLemmas.{acts-refused, acts-silent}
 use Rattle.orca_session.proofs.session.SessionMachine.act.Goals as goal
 
@@ -28,9 +31,41 @@ returns-in-Rewind-clause-acts g c =
       few_values = c.jump.ensures.few_values;
     })
 
+pub returns-in-Redo-clause-acts : goal.returns-in-Redo-clause-acts
+returns-in-Redo-clause-acts g c =
+    rw c.in-Redo.is
+    (acts-silent c.args.self.now.machine c.redo.new.self.machine command.Redo (Ok c.redo.result)
+    c.args.messages.now c.requires c.redo.ensures.obeys c.redo.ensures.notes)
+
 pub returns-in_default-command : goal.returns-in_default-command
 returns-in_default-command g c = record {
   acts = acts-silent c.args.self.now.machine c.edit.new.self.machine c.args.command.now
       c.edit.result c.args.messages.now c.requires c.edit.ensures.obeys c.edit.ensures.notes;
-  peak = c.edit.ensures.peak;
+  kept = c.edit.ensures.kept;
+  price = c.edit.ensures.price;
 }
+
+pub returns-in-Some-clause-kept : goal.returns-in-Some-clause-kept
+returns-in-Some-clause-kept g c =
+    kept-none c.args.self.now.machine c.args.self.now.kept c.args.command.now
+    (Refused c.in-Some.rule)
+
+pub returns-in-Rewind-clause-kept : goal.returns-in-Rewind-clause-kept
+returns-in-Rewind-clause-kept g c =
+    let allowed = subst (λ (x : Command). rule_against c.args.self.now.machine x ≡ None)
+    c.in-Rewind.is (sym c.rule_against.ensures.rule ∙ c.in_default.is) in
+    rw c.in-Rewind.is
+    (kept-jump c.args.self.now.machine c.args.self.now.kept c.jump.new.self.kept
+    (command.Rewind c.in-Rewind.moment) c.in-Rewind.moment c.jump.result c.jump.new.self.machine
+    c.jump.new.messages (obey-rewind c.args.self.now.machine c.in-Rewind.moment allowed)
+    c.jump.ensures.jumped c.jump.ensures.kept)
+
+pub returns-in-Rewind-clause-price : goal.returns-in-Rewind-clause-price
+returns-in-Rewind-clause-price g c =
+    let allowed = subst (λ (x : Command). rule_against c.args.self.now.machine x ≡ None)
+    c.in-Rewind.is (sym c.rule_against.ensures.rule ∙ c.in_default.is) in
+    rw c.in-Rewind.is
+    (charge-jump c.args.self.now.machine c.args.self.now.kept
+    (command.Rewind c.in-Rewind.moment) c.in-Rewind.moment c.jump.result c.jump.new.self.machine
+    c.jump.new.messages _ _ (obey-rewind c.args.self.now.machine c.in-Rewind.moment allowed)
+    c.jump.ensures.jumped c.jump.ensures.price)
