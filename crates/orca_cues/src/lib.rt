@@ -1,8 +1,8 @@
 //! Where the commands of a run come from.
 //!
 //! A [`Source`] gives cues, one by one: a command, the line that it stands on, and how often it is
-//! done. [`Frames`] is one cue, [`Script`] reads the lines of a script, and [`Turns`] is what the
-//! generator of `make` does with the grid of a [`Maker`].
+//! done. [`Frames`] is one cue, [`Script`] reads the lines of a script of either format, and
+//! [`Turns`] is what the generator of `make` does with the grid of a [`Maker`].
 #![tactic(auto)]
 
 mod fault;
@@ -17,7 +17,7 @@ pub use fault::ScriptFault;
 pub use frames::Frames;
 pub use laws::script_laws;
 pub use maker::Maker;
-pub use script::{Script, check_script};
+pub use script::{Script, check_any_script, check_script, script_seed};
 pub use source::{Cue, Order, Source};
 pub use turns::Turns;
 

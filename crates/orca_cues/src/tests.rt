@@ -1,6 +1,9 @@
 //! Scripts that are read and refused, and what the generator of `make` makes.
 
-use crate::{Cue, Maker, Order, Script, ScriptFault, Source, Turns, check_script};
+use crate::{
+    Cue, Maker, Order, Script, ScriptFault, Source, Turns, check_any_script, check_script,
+    script_seed,
+};
 use orca_base::{Command, Dims, Glyph};
 use std::process::Abort;
 use std::test::Fail;
@@ -74,7 +77,7 @@ fn scripts_and_their_commands(rt: HostRuntime) {
 }
 
 /// Scripts with a line outside the grammar: the first of them, and the column where it leaves it.
-static REFUSED: [(&[u8], u32, u32); 25] = [
+static REFUSED: [(&[u8], u32, u32); 27] = [
     (b"f", 1, 2),
     (b"fr", 1, 3),
     (b"fra", 1, 4),
@@ -103,6 +106,9 @@ static REFUSED: [(&[u8], u32, u32); 25] = [
     (b"rewind 4294967295\nrewind 4294967296", 2, 17),
     (b"rewind 00000000001", 1, 18),
     (b"frame\n!", 2, 1),
+    // what only format 2 has
+    (b"!orca 2 seed 1", 1, 1),
+    (b"frames 3", 1, 6),
 ];
 
 #[test]
@@ -110,6 +116,100 @@ fn scripts_that_are_refused(rt: HostRuntime) -> Result<(), Fail> {
     for &(text, line, column) in &REFUSED {
         assert!(rt; text.len() < 100);
         let checked = check_script(text);
+        let want = Err(ScriptFault { line, column });
+        assert!(rt;
+            checked == want,
+            "{text:?} gives {checked:?} and not {want:?}"
+        );
+    }
+    Ok(())
+}
+
+/// The script is of format 2, with this seed and these cues: their lines, how often each is done,
+/// and what is done.
+fn expect_format_2(rt: &impl Abort, text: &[u8], seed: u32, want: &[(u32, u32, Command)]) {
+    assert!(rt; text.len() < 100);
+    let found = script_seed(text);
+    assert!(rt; found == Some(seed), "{text:?} has the seed {found:?}");
+    let Ok(()) = check_any_script(text) else {
+        panic!(rt; "{text:?} is refused");
+    };
+    let mut source = Script::of_any(text);
+    for &(line, times, command) in want {
+        let order = Order::Do(command);
+        let cue = source.next();
+        assert!(rt;
+            cue == Some(Cue { line, times, order }),
+            "{cue:?} of {text:?}"
+        );
+    }
+    let cue = source.next();
+    assert!(rt; cue == None, "{cue:?} is left of {text:?}");
+}
+
+#[test]
+fn scripts_of_format_2(rt: HostRuntime) {
+    expect_format_2(&rt, b"!orca 2 seed 7", 7, &[]);
+    expect_format_2(&rt, b"!orca 2 seed 0\r\nframe\r\n", 0, &[(2, 1, FRAME)]);
+    expect_format_2(
+        &rt,
+        b"!orca  2 seed 4294967295 \nframes 3",
+        u32::MAX,
+        &[(2, 3, FRAME)],
+    );
+    expect_format_2(
+        &rt,
+        b"!orca 2 seed 1\nframes 0\n# a\n\nframes 4294967295\nundo\nframes 1",
+        1,
+        &[
+            (2, 0, FRAME),
+            (5, u32::MAX, FRAME),
+            (6, 1, UNDO),
+            (7, 1, FRAME),
+        ],
+    );
+    expect_format_2(
+        &rt,
+        b"!orca 2 seed 1\nwrite 0 7 *\n\nreset ",
+        1,
+        &[(2, 1, WRITE), (4, 1, RESET)],
+    );
+}
+
+/// Scripts without a first line of format 2.
+static WITHOUT_A_SEED: [&[u8]; 5] = [b"", b"frame", b"\n!orca 2 seed 1", b"!", b"!orca 3 seed 1"];
+
+#[test]
+fn scripts_without_a_seed(rt: HostRuntime) -> Result<(), Fail> {
+    for text in &WITHOUT_A_SEED {
+        assert!(rt; text.len() < 100);
+        let found = script_seed(text);
+        assert!(rt; found == None, "{text:?} has the seed {found:?}");
+    }
+    Ok(())
+}
+
+/// Scripts of either format with a line outside the grammar.
+static ANY_REFUSED: [(&[u8], u32, u32); 12] = [
+    (b"!", 1, 2),
+    (b"!\nframe", 1, 2),
+    (b"!orca\r\nframe", 1, 6),
+    (b"!orca 2 seed", 1, 13),
+    (b"!orca 3", 1, 7),
+    (b"!orca 2 seed 1\r", 1, 15),
+    (b"frames 3", 1, 6),
+    (b"frame\n!orca 2 seed 1", 2, 1),
+    (b" !orca 2 seed 1", 1, 2),
+    (b"!orca 2 seed 1\n!orca 2 seed 1", 2, 1),
+    (b"!orca 2 seed 1\nframes", 2, 7),
+    (b"!orca 2 seed 1\nframes 3\nframe 3\nfrme", 3, 7),
+];
+
+#[test]
+fn scripts_of_either_format_that_are_refused(rt: HostRuntime) -> Result<(), Fail> {
+    for &(text, line, column) in &ANY_REFUSED {
+        assert!(rt; text.len() < 100);
+        let checked = check_any_script(text);
         let want = Err(ScriptFault { line, column });
         assert!(rt;
             checked == want,

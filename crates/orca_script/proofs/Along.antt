@@ -10,13 +10,13 @@ use Rattle.orca_base.specs.Glyphs.{is_digit, is_glyph}
 use Rattle.orca_base.specs.Numbers.{is_number}
 use Rattle.orca_base.specs.declared.limits.TheConstants.{MAX_DIGITS}
 use Rattle.orca_script.specs.declared.forms.Kind.{Kind}
-use Rattle.orca_script.specs.declared.forms.Kind.TheVariants.{Number, Glyph}
+use Rattle.orca_script.specs.declared.forms.Kind.TheVariants.{Number, Glyph, Word}
 use Rattle.orca_script.specs.LineValues.{LineValues, with_number, with_glyph}
 use Rattle.orca_script.specs.Grammar.{is_space, words_of, glyph_of, values_by}
 use Rattle.orca_script.specs.Readers.{values_at_end}
-use Rattle.orca_script.specs.Reading.{Next, Letters, Blank, Digits, state, longer_number, digits_state, step}
+use Rattle.orca_script.specs.Reading.{Next, Letters, Blank, Digits, state, longer_number, digits_state, word_start, step}
 use Rattle.orca_script.proofs.Digits.{Grows, number_from, number-push, number-grows, value-push, number_of-number, number_of-other}
-use Rattle.orca_script.proofs.Words.{is_plain, front, later_words, words-plain, words-none, words-space, later-none, later-space, later-plain}
+use Rattle.orca_script.proofs.Words.{is_plain, fixed, front, later_words, words-plain, words-none, words-space, later-none, later-space, later-plain}
 
 -- what bytes give in the end
 abbrev pub final : List ℕ → Next → LineValues → Option LineValues
@@ -43,6 +43,7 @@ unfolding values_at_end values_by
 letters_nil [] [] values = rw later-none refl
 letters_nil [] (Number ∷ kinds) values = rw later-none refl
 letters_nil [] (Glyph ∷ kinds) values = rw later-none refl
+letters_nil [] (Word word ∷ kinds) values = rw later-none refl
 letters_nil (c ∷ word) kinds values = refl
 
 blank_nil : (kinds : List Kind) (values : LineValues) →
@@ -51,6 +52,7 @@ unfolding values_at_end values_by
 blank_nil [] values = rw words-none refl
 blank_nil (Number ∷ kinds) values = rw words-none refl
 blank_nil (Glyph ∷ kinds) values = rw words-none refl
+blank_nil (Word word ∷ kinds) values = rw words-none refl
 
 digits_nil : (ds : List ℕ) (kinds : List Kind) (values : LineValues) → is_number ds ≡ true →
     final [] (Digits (length ds) (digits_value 10 ds) kinds) values
@@ -61,6 +63,8 @@ digits_nil ds [] values number = rw (append-nil ds, number_of-number ds number, 
 digits_nil ds (Number ∷ kinds) values number =
     rw (append-nil ds, number_of-number ds number, later-none) refl
 digits_nil ds (Glyph ∷ kinds) values number =
+    rw (append-nil ds, number_of-number ds number, later-none) refl
+digits_nil ds (Word word ∷ kinds) values number =
     rw (append-nil ds, number_of-number ds number, later-none) refl
 
 -- at a space
@@ -218,6 +222,16 @@ module _ (b : ℕ) (bytes : List ℕ) (ih : Agrees bytes) (plain : is_space b �
       (later_words bytes) e)
   first_glyph false kinds values e = rw (e, no_glyph b (front bytes) e) refl
 
+  -- the first letter of a word
+  first_letter : (c : ℕ) (word : List ℕ) (kinds : List Kind) (values : LineValues) →
+      is_plain (c ∷ word) ≡ true →
+      option_and_then (λ s. final bytes s.next s.values) (word_start (c ∷ word) kinds values b)
+      ≡ (if bytes_eq (b ∷ front bytes) (c ∷ word) then values_by values kinds (later_words bytes)
+      else None)
+  unfolding step
+  first_letter c word kinds values all =
+      letters_same (eqb b c) c word kinds values (and_parts _ _ all).1 refl
+
   blank_plain : (kinds : List Kind) (values : LineValues) →
       final (b ∷ bytes) (Blank kinds) values ≡ values_by values kinds (words_of (b ∷ bytes))
   unfolding step values_by
@@ -226,6 +240,10 @@ module _ (b : ℕ) (bytes : List ℕ) (ih : Agrees bytes) (plain : is_space b �
       rw (words_plain, plain) (first_digit (is_digit b) kinds values refl)
   blank_plain (Glyph ∷ kinds) values =
       rw (words_plain, plain) (first_glyph (is_glyph b) kinds values refl)
+  blank_plain (Word word ∷ kinds) values =
+      let known = fixed word in
+      rw (words_plain, plain, known.is)
+      (first_letter known.first known.others kinds values known.plain)
 
 agrees_cons : (spaced : Bool) (b : ℕ) (bytes : List ℕ) → Agrees bytes → is_space b ≡ spaced →
     Agrees (b ∷ bytes)

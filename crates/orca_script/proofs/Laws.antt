@@ -44,7 +44,7 @@ line_by-nil : (line : List ℕ) → line_by [] line ≡ None
 line_by-nil line = none_spaced (slice_index line 0 == space)
 
 -- how many bytes of a line go along a form
-abbrev far : Form → List ℕ → ℕ
+abbrev pub far : Form → List ℕ → ℕ
 far form line = reach line (Letters form.word form.kinds) none
 
 -- a line has no command by the forms, and so many of its bytes, or at most so many as before, begin

@@ -9,9 +9,11 @@ use Rattle.std.proofs.lemmas.Bool.{eq-eqb}
 use Rattle.std.proofs.lemmas.Option.{none-some}
 use Rattle.orca_base.specs.Ascii.{space}
 use Rattle.orca_script.specs.declared.forms.Kind.{Kind}
-use Rattle.orca_script.specs.declared.forms.Kind.TheVariants.{Number, Glyph}
+use Rattle.orca_script.specs.declared.forms.Kind.TheVariants.{Number, Glyph, Word}
+use Rattle.orca_script.specs.declared.forms.Fixed.{Fixed}
+use Rattle.orca_script.specs.declared.forms.Fixed.TheVariants.{Two, Seed}
 use Rattle.orca_script.specs.declared.forms.Verb.{Verb}
-use Rattle.orca_script.specs.LineValues.{LineValues, none, with_number, with_glyph}
+use Rattle.orca_script.specs.LineValues.{LineValues, none, with_number, with_glyph, letters_of}
 use Rattle.orca_script.specs.Grammar.{is_space, words_of, values_by, Form, values_by_form}
 use Rattle.orca_script.specs.Readers.{values_at_end, read_on}
 use Rattle.orca_script.specs.Reading.{Next, Letters, Blank, Digits, State, step, reach}
@@ -36,17 +38,18 @@ read_on-is (b ∷ bytes) i s =
     read_on_step (step s.next s.values b) bytes i (read_on-is bytes (i + 1))
 
 -- a shortest end of a line
-abbrev sample : Kind → ℕ
-sample Number = 48
-sample Glyph = 33
+abbrev sample : Kind → List ℕ
+sample Number = 48 ∷ []
+sample Glyph = 33 ∷ []
+sample (Word word) = letters_of word
 
 abbrev samples : List Kind → List ℕ
-samples kinds = flat_map (λ kind. space ∷ sample kind ∷ []) kinds
+samples kinds = flat_map (λ kind. space ∷ sample kind) kinds
 
 abbrev ending : Next → List ℕ
 ending (Letters word kinds) = word ++ samples kinds
 ending (Blank []) = []
-ending (Blank (kind ∷ kinds)) = sample kind ∷ samples kinds
+ending (Blank (kind ∷ kinds)) = sample kind ++ samples kinds
 ending (Digits count value kinds) = samples kinds
 
 abbrev Ends : List ℕ → Next → LineValues → Type 0
@@ -56,6 +59,22 @@ record Completes (kinds : List Kind) : Type 0 where
   gap : (values : LineValues) → Ends (samples kinds) (Letters [] kinds) values
   digits : (count value : ℕ) (values : LineValues)
       → Ends (samples kinds) (Digits count value kinds) values
+
+letters_end : (word : List ℕ) (kinds : List Kind) (values : LineValues) →
+    Ends (samples kinds) (Letters [] kinds) values →
+    Ends (word ++ samples kinds) (Letters word kinds) values
+unfolding step
+letters_end [] kinds values ends = ends
+letters_end (c ∷ word) kinds values ends = let same : eqb c c ≡ true = eq-eqb c c refl in
+    rw same (letters_end word kinds values ends)
+
+-- a word that stands for nothing
+word_end : (word : Fixed) (kinds : List Kind) (values : LineValues) →
+    Ends (samples kinds) (Letters [] kinds) values →
+    Ends (letters_of word ++ samples kinds) (Blank (Word word ∷ kinds)) values
+unfolding step
+word_end Two kinds values ends = ends
+word_end Seed kinds values ends = ends
 
 completes : (kinds : List Kind) → Completes kinds
 unfolding step values_at_end
@@ -76,20 +95,20 @@ completes (Glyph ∷ kinds) = let ih = completes kinds in
       digits =
           λ count value values. ih.gap (with_glyph (with_number values value) 33);
     }
-
-letters_end : (word : List ℕ) (kinds : List Kind) (values : LineValues) →
-    Ends (word ++ samples kinds) (Letters word kinds) values
-unfolding step
-letters_end [] kinds values = (completes kinds).gap values
-letters_end (c ∷ word) kinds values = let same : eqb c c ≡ true = eq-eqb c c refl in
-    rw same (letters_end word kinds values)
+completes (Word word ∷ kinds) = let ih = completes kinds in
+    record {
+      gap = λ values. word_end word kinds values (ih.gap values);
+      digits = λ count value values. word_end word kinds (with_number values value)
+          (ih.gap (with_number values value));
+    }
 
 ends : (next : Next) (values : LineValues) → Ends (ending next) next values
 unfolding step values_at_end
-ends (Letters word kinds) values = letters_end word kinds values
+ends (Letters word kinds) values = letters_end word kinds values ((completes kinds).gap values)
 ends (Blank []) values = (values, refl)
 ends (Blank (Number ∷ kinds)) values = (completes kinds).digits 1 0 values
 ends (Blank (Glyph ∷ kinds)) values = (completes kinds).gap (with_glyph values 33)
+ends (Blank (Word word ∷ kinds)) values = word_end word kinds values ((completes kinds).gap values)
 ends (Digits count value kinds) values = (completes kinds).digits count value values
 
 begins_step : (o : Option State) (k : ℕ) (bytes : List ℕ) →

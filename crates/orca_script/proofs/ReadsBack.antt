@@ -15,7 +15,7 @@ use Rattle.std.proofs.lemmas.List.Elements.{recursion_from_All}
 use Rattle.orca_base.specs.Glyphs.{is_digit, is_glyph, IsGlyph}
 use Rattle.orca_base.specs.Numbers.{number_of}
 use Rattle.orca_base.specs.declared.command.Command.{Command}
-use Rattle.orca_base.specs.declared.command.Command.TheVariants.{Frame, Write, Fill, Erase, Copy, Cut, Paste, Move, Resize, Reset, Undo, Rewind}
+use Rattle.orca_base.specs.declared.command.Command.TheVariants.{Frame, Write, Fill, Erase, Copy, Cut, Paste, Move, Resize, Reset, Undo, Rewind, Redo}
 use Rattle.orca_script.specs.Canonical.{Line, line, text_of, line_of, sides, canonical, printed, HasValues}
 use Rattle.orca_script.specs.LineValues.{command_of}
 use Rattle.orca_script.specs.Grammar.{is_space, words_of, glyph_of, values_by, forms, has_no_command, line_command}
@@ -50,7 +50,7 @@ decimal_facts n small =
     let h = decimal_is_IsNumeral n (omega arith) in
     record { some = omega (arith, h.0.0); all = all_digits (decimal n) h.0.1; value = h.1 }
 
-number_of-decimal : (n : ℕ) → n < 2 ^ 32 → number_of (decimal n) ≡ Some n
+pub number_of-decimal : (n : ℕ) → n < 2 ^ 32 → number_of (decimal n) ≡ Some n
 number_of-decimal n small =
     let h = decimal_facts n small in
     let few : length (decimal n) ≤ 10 = length-decimal-le 10 n (omega arith) (omega arith)
@@ -102,7 +102,7 @@ later-tail (n ∷ numbers) glyph small visible =
     ∙ (cut ∙ (ap (λ word. word ∷ later_words rest) alone
     ∙ ap (λ words. decimal n ∷ words) (later-tail numbers glyph small.1 visible))))
 
-words-spaced : (word numbers : List ℕ) (glyph : Option ℕ) → 1 ≤ length word → is_plain word ≡ true →
+pub words-spaced : (word numbers : List ℕ) (glyph : Option ℕ) → 1 ≤ length word → is_plain word ≡ true →
     HasValues (line word numbers glyph) → words_of (text_of (line word numbers glyph))
     ≡ word ∷ (map decimal numbers ++ glyph_words glyph)
 words-spaced word numbers glyph some plain values =
@@ -195,9 +195,10 @@ reads (Rewind moment) values =
       words-spaced (codes "rewind") (moment ∷ []) None (omega arith) refl values,
       number_at _ values 0 (omega arith),
     ) refl
+reads Redo values = rw (words-spaced (codes "redo") [] None (omega arith) refl values) refl
 
 -- it has a command
-has_command : (command : Command) → has_no_command (canonical command) ≡ false
+pub has_command : (command : Command) → has_no_command (canonical command) ≡ false
 unfolding line_of
 has_command Frame = refl
 has_command (Write y x glyph) = refl
@@ -211,6 +212,7 @@ has_command (Resize h w) = refl
 has_command Reset = refl
 has_command Undo = refl
 has_command (Rewind moment) = refl
+has_command Redo = refl
 
 pub reads_back : (command : Command) → HasValues (line_of command) →
     reading (canonical command) ≡ Ok (Some command)
@@ -245,7 +247,7 @@ glyph_shown : (glyph : Option ℕ) → IfSome glyph IsGlyph →
 glyph_shown None visible = refl
 glyph_shown (Some g) visible = and_from _ _ (le-leb 32 g (omega (arith, visible.0))) refl
 
-spaced_shown : (l : Line) → list_all is_shown l.word ≡ true → HasValues l →
+pub spaced_shown : (l : Line) → list_all is_shown l.word ≡ true → HasValues l →
     list_all is_shown (text_of l) ≡ true
 spaced_shown l word values =
     both_shown l.word (tail l.numbers l.glyph) word
@@ -268,6 +270,7 @@ word_shown (Resize h w) = refl
 word_shown Reset = refl
 word_shown Undo = refl
 word_shown (Rewind moment) = refl
+word_shown Redo = refl
 
 -- no shown byte is part of the end of a line
 shown_apart : (b c : ℕ) → is_shown b ≡ true → c < 32 → eqb b c ≡ false
@@ -286,7 +289,7 @@ no_return [] k shown = refl
 no_return (b ∷ bytes) zero shown = shown_apart b 13 (and_parts _ _ shown).0 (omega arith)
 no_return (b ∷ bytes) (suc k) shown = no_return bytes k (and_parts _ _ shown).1
 
-shown_line : (bytes rest : List ℕ) → list_all is_shown bytes ≡ true →
+pub shown_line : (bytes rest : List ℕ) → list_all is_shown bytes ≡ true →
     lines ((bytes ++ 10 ∷ []) ++ rest) ≡ bytes ∷ lines rest
 shown_line bytes rest shown =
     ap lines (append_assoc bytes (10 ∷ []) rest)

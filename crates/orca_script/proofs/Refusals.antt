@@ -16,42 +16,9 @@ use Rattle.orca_script.proofs.Reach.{IsSound}
 use Rattle.orca_script.proofs.Words.{front, later_words, words-none, words-plain}
 
 -- the words of the table
-sound_forms : AllByRecursion IsSound forms
+pub sound_forms : AllByRecursion IsSound forms
 unfolding forms
-sound_forms = (
-  record { some = omega arith; plain = refl },
-  (
-    record { some = omega arith; plain = refl },
-    (
-      record { some = omega arith; plain = refl },
-      (
-        record { some = omega arith; plain = refl },
-        (
-          record { some = omega arith; plain = refl },
-          (
-            record { some = omega arith; plain = refl },
-            (
-              record { some = omega arith; plain = refl },
-              (
-                record { some = omega arith; plain = refl },
-                (
-                  record { some = omega arith; plain = refl },
-                  (
-                    record { some = omega arith; plain = refl },
-                    (
-                      record { some = omega arith; plain = refl },
-                      (record { some = omega arith; plain = refl }, tt),
-                    ),
-                  ),
-                ),
-              ),
-            ),
-          ),
-        ),
-      ),
-    ),
-  ),
-)
+sound_forms = (record { some = omega arith; plain = refl }, (record { some = omega arith; plain = refl }, (record { some = omega arith; plain = refl }, (record { some = omega arith; plain = refl }, (record { some = omega arith; plain = refl }, (record { some = omega arith; plain = refl }, (record { some = omega arith; plain = refl }, (record { some = omega arith; plain = refl }, (record { some = omega arith; plain = refl }, (record { some = omega arith; plain = refl }, (record { some = omega arith; plain = refl }, (record { some = omega arith; plain = refl }, (record { some = omega arith; plain = refl }, tt)))))))))))))
 
 -- a comment has no command
 command_by-hash : (word : List ℕ) (words : List (List ℕ)) →
@@ -85,7 +52,7 @@ blank_step : (spaced : Bool) (k n : ℕ) (all : Bool) → suc k ≤ cond spaced 
 blank_step true k n all h ih = ih (omega arith)
 blank_step false k n all h ih = absurd (omega arith)
 
-blank_begins : (k : ℕ) (line : List ℕ) → k ≤ prefix_len is_space line →
+pub blank_begins : (k : ℕ) (line : List ℕ) → k ≤ prefix_len is_space line →
     list_all is_space (take k line) ≡ true
 blank_begins zero line h = refl
 blank_begins (suc k) [] h = absurd (omega arith)
@@ -105,7 +72,7 @@ blank_counts (suc k) (b ∷ line) h e = count_step (is_space b) k (prefix_len is
     (list_all is_space (take k line)) e (blank_counts k line (omega arith))
 
 -- a line without a command begins with spaces alone, or the whole line is one
-no_command_front : (k : ℕ) (line rest : List ℕ) → 1 ≤ k → k ≤ length line →
+pub no_command_front : (k : ℕ) (line rest : List ℕ) → 1 ≤ k → k ≤ length line →
     has_no_command line ≡ false → has_no_command (take k line ++ rest) ≡ true →
     k ≤ prefix_len is_space line
 no_command_front zero line rest some h e none = absurd (omega arith)

@@ -3,11 +3,25 @@ use Rattle.std.proofs.Common.{◌≡◌, ℕ, Bool, true, false, cond, ◌&&◌,
 use Rattle.std.proofs.lemmas.Bool.{false≢true, and_parts, not_from_false, ne_eqb, cond-true}
 use Rattle.std.specs.Prelude.{filter, not}
 use Rattle.std.specs.List.{slice_split, list_all, onto_first}
+use Rattle.orca_script.specs.declared.forms.Fixed.{Fixed}
+use Rattle.orca_script.specs.declared.forms.Fixed.TheVariants.{Two, Seed}
+use Rattle.orca_script.specs.LineValues.{letters_of}
 use Rattle.orca_script.specs.Grammar.{is_space, is_word, words_of}
 
 -- no byte is a space
 abbrev pub is_plain : List ℕ → Bool
 is_plain word = list_all (λ byte. not (is_space byte)) word
+
+-- a word that stands for nothing has letters, and none is a space
+pub record IsFixed (word : List ℕ) : Type 0 where
+  pub first : ℕ
+  pub others : List ℕ
+  pub is : word ≡ first ∷ others
+  pub plain : is_plain (first ∷ others) ≡ true
+
+pub fixed : (f : Fixed) → IsFixed (letters_of f)
+fixed Two = record { first = 50; others = []; is = refl; plain = refl }
+fixed Seed = record { first = 115; others = 101 ∷ 101 ∷ 100 ∷ []; is = refl; plain = refl }
 
 -- what stands before the first space
 abbrev pub front : List ℕ → List ℕ

@@ -8,7 +8,7 @@ use Rattle.orca_base.specs.Ascii.{line_feed, space}
 use Rattle.orca_base.specs.Glyphs.{IsGlyph}
 use Rattle.orca_base.specs.declared.area.Rect.{Rect}
 use Rattle.orca_base.specs.declared.command.Command.{Command}
-use Rattle.orca_base.specs.declared.command.Command.TheVariants.{Frame, Write, Fill, Erase, Copy, Cut, Paste, Move, Resize, Reset, Undo, Rewind}
+use Rattle.orca_base.specs.declared.command.Command.TheVariants.{Frame, Write, Fill, Erase, Copy, Cut, Paste, Move, Resize, Reset, Undo, Rewind, Redo}
 
 -- a line: its first word, its numbers in order, and its glyph, where it has one
 pub record Line : Type 0 where
@@ -44,6 +44,7 @@ line_of (Resize h w) = line (codes "resize") (h ∷ w ∷ []) None
 line_of Reset = line (codes "reset") [] None
 line_of Undo = line (codes "undo") [] None
 line_of (Rewind moment) = line (codes "rewind") (moment ∷ []) None
+line_of Redo = line (codes "redo") [] None
 
 -- the canonical line of a command
 abbrev pub canonical : Command → List ℕ

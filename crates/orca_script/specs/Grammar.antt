@@ -9,10 +9,10 @@ use Rattle.orca_base.specs.Glyphs.{is_glyph}
 use Rattle.orca_base.specs.Numbers.{number_of}
 use Rattle.orca_base.specs.declared.command.Command.{Command}
 use Rattle.orca_script.specs.declared.forms.Kind.{Kind}
-use Rattle.orca_script.specs.declared.forms.Kind.TheVariants.{Number, Glyph}
+use Rattle.orca_script.specs.declared.forms.Kind.TheVariants.{Number, Glyph, Word}
 use Rattle.orca_script.specs.declared.forms.Verb.{Verb}
 use Rattle.orca_script.specs.declared.forms.TheConstants.{FORMS}
-use Rattle.orca_script.specs.LineValues.{LineValues, none, with_number, with_glyph, command_of}
+use Rattle.orca_script.specs.LineValues.{LineValues, none, with_number, with_glyph, letters_of, command_of}
 
 abbrev pub is_space : ℕ → Bool
 is_space byte = byte == space
@@ -36,6 +36,8 @@ values_by values (Number ∷ kinds) (word ∷ words) =
     option_and_then (λ number. values_by (with_number values number) kinds words) (number_of word)
 values_by values (Glyph ∷ kinds) (word ∷ words) =
     option_and_then (λ glyph. values_by (with_glyph values glyph) kinds words) (glyph_of word)
+values_by values (Word fixed ∷ kinds) (word ∷ words) =
+    if bytes_eq word (letters_of fixed) then values_by values kinds words else None
 values_by values _ _ = None
 
 -- a form of a line: its word, the kinds of its values, and the name of its command

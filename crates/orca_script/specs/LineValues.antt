@@ -1,11 +1,18 @@
 -- What the words of a line after the first give, and the command that is made of it.
-use Rattle.std.specs.Prelude.{ℕ, List, [], ◌∷◌, ◌++◌, slice_index}
+use Rattle.std.specs.Prelude.{ℕ, List, [], ◌∷◌, ◌++◌, slice_index, codes}
 use Rattle.orca_base.specs.Glyphs.{empty}
 use Rattle.orca_base.specs.declared.area.Rect.{Rect}
 use Rattle.orca_base.specs.declared.command.Command.{Command}
 use Rattle.orca_base.specs.declared.command.Command.TheVariants as command
+use Rattle.orca_script.specs.declared.forms.Fixed.{Fixed}
+use Rattle.orca_script.specs.declared.forms.Fixed.TheVariants.{Two, Seed}
 use Rattle.orca_script.specs.declared.forms.Verb.{Verb}
-use Rattle.orca_script.specs.declared.forms.Verb.TheVariants.{Frame, Write, Fill, Erase, Copy, Cut, Paste, Move, Resize, Reset, Undo, Rewind}
+use Rattle.orca_script.specs.declared.forms.Verb.TheVariants.{Frame, Write, Fill, Erase, Copy, Cut, Paste, Move, Resize, Reset, Undo, Rewind, Redo}
+
+-- the letters of a word that stands for nothing
+abbrev pub letters_of : Fixed → List ℕ
+letters_of Two = codes "2"
+letters_of Seed = codes "seed"
 
 -- the numbers of a line, in order, and its glyph, where it has one
 pub record LineValues : Type 0 where
@@ -48,3 +55,4 @@ command_of Resize values =
 command_of Reset values = command.Reset
 command_of Undo values = command.Undo
 command_of Rewind values = command.Rewind (slice_index values.numbers 0)
+command_of Redo values = command.Redo

@@ -1,16 +1,20 @@
 -- What the functions of the reader give, and how they hold it.
-use Rattle.std.specs.Prelude.{ℕ, ◌+◌, Option, Some, None, Result, Ok, Err, ok_or, List, [], ◌∷◌, length, suc, max}
+use Rattle.std.specs.Prelude.{ℕ, ◌+◌, Option, Some, None, Result, Ok, Err, ok_or, List, [], ◌∷◌, length, slice_index, suc, max}
 use Rattle.std.specs.Borrow.{Bor}
+use Rattle.std.specs.List.{prefix_len}
 use Rattle.std.specs.Option.{option_map_or}
 use Rattle.std.specs.Result.{result_map_both}
 use Rattle.orca_base.specs.declared.command.Command.{Command}
 use Rattle.orca_script.specs.declared.forms.Kind.{Kind}
+use Rattle.orca_script.specs.declared.forms.TheConstants.{FRAMES}
 use Rattle.orca_script.specs.declared.forms.Verb.{Verb}
+use Rattle.orca_script.specs.declared.format_2.Line.{Line}
+use Rattle.orca_script.specs.declared.format_2.Line.TheVariants.{Do, Frames}
 use Rattle.orca_script.specs.declared.reader.Next.{Next as Held}
 use Rattle.orca_script.specs.declared.reader.Next.TheVariants as held
-use Rattle.orca_script.specs.LineValues.{LineValues, with_number, command_of}
-use Rattle.orca_script.specs.Grammar.{Form}
-use Rattle.orca_script.specs.Reading.{Next, Letters, Blank, Digits, State, start, step}
+use Rattle.orca_script.specs.LineValues.{LineValues, none, with_number, command_of}
+use Rattle.orca_script.specs.Grammar.{is_space, Form, forms}
+use Rattle.orca_script.specs.Reading.{Next, Letters, Blank, Digits, State, state, start, step}
 
 -- what comes next, as the reader holds it
 abbrev pub next_of : Held → Next
@@ -46,6 +50,13 @@ abbrev pub read_form : Form → List ℕ → Result Command ℕ
 read_form form line =
     result_map_both (command_of form.verb) (λ count. count) (read_on line 0 (start form))
 
+-- the first number of a line by a form of this word and these kinds; else how many of its bytes go
+-- along the form
+abbrev pub read_number : List ℕ → List Kind → List ℕ → Result ℕ ℕ
+read_number word kinds line =
+    result_map_both (λ values. slice_index values.numbers 0) (λ count. count)
+    (read_on line 0 (state (Letters word kinds) none))
+
 -- what is read, or what another number leads to
 abbrev pub or_else_read : (ℕ → Result Command ℕ) → Result Command ℕ → Result Command ℕ
 or_else_read others (Ok command) = Ok command
@@ -57,3 +68,17 @@ unfoldable pub read_by : List Form → List ℕ → ℕ → Result Command ℕ
 read_by [] line most = Err most
 read_by (form ∷ others) line most =
     or_else_read (λ count. read_by others line (max most count)) (read_form form line)
+
+-- what a line asks for by this command, or else by this number of frames; else how many of its bytes
+-- go along a form
+abbrev pub or_else_frames : Result ℕ ℕ → Result Command ℕ → Result Line ℕ
+or_else_frames other (Ok command) = Ok (Do command)
+or_else_frames (Ok times) (Err count) = Ok (Frames times)
+or_else_frames (Err other) (Err count) = Err (max count other)
+
+-- what a line of format 2 asks for; else how many of its bytes are spaces before any other byte, or
+-- go along a form
+abbrev pub asked_by : List ℕ → Result Line ℕ
+asked_by line =
+    or_else_frames (read_number FRAMES.0.now FRAMES.1.now line)
+    (read_by forms line (prefix_len is_space line))

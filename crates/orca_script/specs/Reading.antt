@@ -8,9 +8,9 @@ use Rattle.orca_base.specs.Glyphs.{is_digit, is_glyph}
 use Rattle.orca_base.specs.declared.command.Command.{Command}
 use Rattle.orca_base.specs.declared.limits.TheConstants.{MAX_DIGITS}
 use Rattle.orca_script.specs.declared.forms.Kind.{Kind}
-use Rattle.orca_script.specs.declared.forms.Kind.TheVariants.{Number, Glyph}
+use Rattle.orca_script.specs.declared.forms.Kind.TheVariants.{Number, Glyph, Word}
 use Rattle.orca_script.specs.declared.refusal.ScriptRefusal.{ScriptRefusal}
-use Rattle.orca_script.specs.LineValues.{LineValues, none, with_number, with_glyph}
+use Rattle.orca_script.specs.LineValues.{LineValues, none, with_number, with_glyph, letters_of}
 use Rattle.orca_script.specs.Grammar.{is_space, Form, forms, has_no_command, line_command}
 
 -- what may come next on a line of a form
@@ -47,6 +47,12 @@ longer_number count value byte =
 abbrev pub digits_state : List Kind → LineValues → ℕ × ℕ → State
 digits_state kinds values number = state (Digits number.0 number.1 kinds) values
 
+-- the state after the first letter of a word
+abbrev pub word_start : List ℕ → List Kind → LineValues → ℕ → Option State
+word_start [] kinds values byte = None
+word_start (letter ∷ word) kinds values byte =
+    if byte == letter then Some (state (Letters word kinds) values) else None
+
 -- the state after the first byte of a value; a glyph has no other
 abbrev pub value_start : List Kind → LineValues → ℕ → Option State
 value_start [] values byte = None
@@ -54,6 +60,7 @@ value_start (Number ∷ kinds) values byte =
     option_map (digits_state kinds values) (longer_number 0 0 byte)
 value_start (Glyph ∷ kinds) values byte =
     if is_glyph byte then Some (state (Letters [] kinds) (with_glyph values byte)) else None
+value_start (Word fixed ∷ kinds) values byte = word_start (letters_of fixed) kinds values byte
 
 -- the state after one more byte; none where the line leaves the form there
 unfoldable pub step : Next → LineValues → ℕ → Option State

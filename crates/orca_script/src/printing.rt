@@ -34,7 +34,7 @@ pub fn print(command: &Command, into: &mut Vec<u8>) -> Result<(), Memory>
 /// Appends the canonical line of a command and a line feed. Where memory is refused, a part stands
 /// behind what was there.
 #[tactic(auto, unfolding(crate::specs::Canonical::line_of))]
-fn push_command(command: Command, into: &mut Vec<u8>) -> Result<(), Memory>
+pub(crate) fn push_command(command: Command, into: &mut Vec<u8>) -> Result<(), Memory>
     ensures ok { OnOk result (into.new.items ≡ into.old.items ++ printed command) }
     ensures values { OnOk result (HasValues (line_of command)) }
     ensures err { OnErr result (Extends into.old.items into.new.items) }
@@ -55,6 +55,7 @@ fn push_command(command: Command, into: &mut Vec<u8>) -> Result<(), Memory>
         Command::Reset => push_line(b"reset", &[], None, into),
         Command::Undo => push_line(b"undo", &[], None, into),
         Command::Rewind { moment } => push_line(b"rewind", &[moment], None, into),
+        Command::Redo => push_line(b"redo", &[], None, into),
     }
 }
 
@@ -67,7 +68,7 @@ fn sides(rect: Rect) -> [u32; 4]
 
 /// Appends a word, its values behind it and a line feed. Where memory is refused, a part stands behind
 /// what was there.
-fn push_line(
+pub(crate) fn push_line(
     word: &[u8],
     numbers: &[u32],
     glyph: Option<Glyph>,

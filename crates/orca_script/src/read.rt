@@ -42,7 +42,7 @@ pub fn read_line(line: &[u8]) -> Result<Option<Command>, ScriptRefusal>
 }
 
 /// Whether a line is empty, is spaces alone, or begins with `#`.
-fn has_no_command(line: &[u8]) -> bool
+pub(crate) fn has_no_command(line: &[u8]) -> bool
     ensures { result ≡ has_none line.now }
 {
     is_blank(line) || matches!(line, [b'#', ..])
@@ -66,7 +66,7 @@ fn leading_spaces(line: &[u8]) -> usize
 /// The command that a line asks for; else how many of its bytes are spaces before any other byte, or
 /// go along a form, whichever is more.
 #[tactic(auto, unfolding(crate::specs::Grammar::forms))]
-fn read_command(line: &[u8]) -> Result<Command, usize>
+pub(crate) fn read_command(line: &[u8]) -> Result<Command, usize>
     ensures read { result ≡ read_by forms line.now (prefix_len is_space line.now) }
     ensures within { IfErr result (λ count. count ≤ length line.now) }
 {

@@ -2,10 +2,10 @@
 
 ghost use Rattle.std.specs.Prelude.{◌≡◌, ◌+◌, ◌≤◌, length, IfErr};
 ghost use Rattle.orca_script.specs.LineValues.{none};
-ghost use Rattle.orca_script.specs.Readers.{form_of, values_at_end, read_on, read_form as line_by_form};
+ghost use Rattle.orca_script.specs.Readers.{form_of, values_at_end, read_on, read_form as line_by_form, read_number as number_by_form};
 ghost use Rattle.orca_script.specs.Reading.{Letters, state, value_start, longer_number, step};
 
-use crate::forms::{Form, Kind};
+use crate::forms::{Form, Kind, NumberForm};
 use crate::limits::MAX_LINE_VALUES;
 use crate::values::Values;
 use orca_base::limits::MAX_DIGITS;
@@ -124,6 +124,10 @@ fn begin_value<'a>(kinds: &'a [Kind], mut values: Values, byte: u8) -> Option<Re
             values.set_glyph(Glyph::of(byte)?);
             Next::Letters(&[], kinds)
         }
+        Kind::Word(fixed) => match fixed.letters() {
+            [letter, word @ ..] if byte == *letter => Next::Letters(word, kinds),
+            _ => return None,
+        },
     };
     Some(Reader { next, values })
 }
@@ -149,6 +153,19 @@ pub(crate) fn read_form(form: &Form, line: &[u8]) -> Result<Command, usize>
     let (word, kinds, verb) = *form;
     match read_values(word, kinds, line) {
         Ok(values) => Ok(values.command(verb)),
+        Err(count) => Err(count),
+    }
+}
+
+/// The number of a line by a form of one number; else how many bytes of the line go along the form.
+pub(crate) fn read_number(form: &NumberForm, line: &[u8]) -> Result<u32, usize>
+    requires { length form.now.1.now ≤ MAX_LINE_VALUES }
+    ensures read { result ≡ number_by_form form.now.0.now form.now.1.now line.now }
+    ensures within { IfErr result (λ count. count ≤ length line.now) }
+{
+    let (word, kinds) = *form;
+    match read_values(word, kinds, line) {
+        Ok(values) => Ok(values.number(0)),
         Err(count) => Err(count),
     }
 }

@@ -1,5 +1,7 @@
 //! Lines that are read, refused and printed, and texts that are cut into lines.
 
+mod format_2;
+
 use crate::{Lines, ScriptRefusal, print, read_line};
 use orca_base::{Command, Glyph, Rect};
 use std::process::Abort;
@@ -118,6 +120,7 @@ fn lines_with_a_command(rt: HostRuntime) -> Result<(), Fail> {
         (b"rewind 0000000000", Command::Rewind { moment: 0 }),
         (b"rewind 4294967295", Command::Rewind { moment: last }),
         (b"rewind 0000000025", Command::Rewind { moment: 25 }),
+        (b"redo ", Command::Redo),
     ] {
         let read = reading(&rt, line);
         assert!(rt; read == Ok(Some(command)), "{line:?} is read as {read:?}");
@@ -126,7 +129,7 @@ fn lines_with_a_command(rt: HostRuntime) -> Result<(), Fail> {
 }
 
 /// Lines outside the grammar, each with the column at which it leaves it.
-static REFUSED: [(&[u8], u32); 89] = [
+static REFUSED: [(&[u8], u32); 90] = [
     // words
     (b"frme", 3),
     (b"f", 2),
@@ -139,7 +142,8 @@ static REFUSED: [(&[u8], u32); 89] = [
     (b"rese", 5),
     (b"resi", 5),
     (b"rex", 3),
-    (b"redo", 3),
+    (b"red", 4),
+    (b"redo 1", 6),
     (b"er", 3),
     (b"w", 2),
     (b"u", 2),
@@ -263,10 +267,11 @@ fn each_command_is_printed(rt: HostRuntime) -> Result<(), Fail> {
             to_y: 3,
             to_x: 4,
         },
-        Command::Resize { h: 256, w: 1 },
+        Command::Resize { h: 1_024, w: 1 },
         Command::Reset,
         Command::Undo,
         Command::Rewind { moment: u32::MAX },
+        Command::Redo,
     ] {
         print(&command, &mut text)?;
     }
@@ -279,10 +284,11 @@ copy 0 10 4294967295 1000000000
 cut 0 10 4294967295 1000000000
 paste 9 10
 move 0 10 4294967295 1000000000 3 4
-resize 256 1
+resize 1024 1
 reset
 undo
 rewind 4294967295
+redo
 ";
     assert!(rt; text.as_slice() == want.as_slice(), "{text:?} is printed");
     Ok(())

@@ -57,7 +57,7 @@ impl Values {
     }
 
     /// The number at a place, and 0 behind the last.
-    fn number(&self, place: usize) -> u32
+    pub(crate) fn number(&self, place: usize) -> u32
         ensures { result ≡ slice_index self.now.numbers place }
     {
         if place < self.count {
@@ -118,6 +118,7 @@ impl Values {
             Verb::Rewind => Command::Rewind {
                 moment: self.number(0),
             },
+            Verb::Redo => Command::Redo,
         }
     }
 }

@@ -66,6 +66,7 @@ act_of key.Copy moments e = act.Do (command.Copy (rect_of e))
 act_of key.Cut moments e = act.Do (command.Cut (rect_of e))
 act_of key.Paste moments e = act.Do (command.Paste e.y e.x)
 act_of key.Undo moments e = act.Do command.Undo
+act_of key.Redo moments e = act.Do command.Redo
 act_of key.Reset moments e = act.Do command.Reset
 act_of key.Step moments e = act.Do command.Frame
 act_of key.Back moments e = act.Do (command.Rewind (moments - BACK_MOMENTS))

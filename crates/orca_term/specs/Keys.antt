@@ -27,7 +27,7 @@ abbrev pub lone_keys : List (ℕ × Key)
 lone_keys =
     (32, key.Pause) ∷ (8, key.Rub) ∷ (127, key.Rub) ∷ (2, key.Back) ∷ (3, key.Copy)
     ∷ (6, key.Step) ∷ (17, key.Quit) ∷ (18, key.Reset) ∷ (19, key.Save) ∷ (22, key.Paste)
-    ∷ (24, key.Cut) ∷ (26, key.Undo) ∷ []
+    ∷ (24, key.Cut) ∷ (25, key.Redo) ∷ (26, key.Undo) ∷ []
 
 -- the keys of the sequences ESC [ A to ESC [ D
 abbrev pub arrow_keys : List (ℕ × Key)

@@ -107,6 +107,7 @@ impl Editor {
             Key::Cut => Act::Do(Command::Cut { rect }),
             Key::Paste => Act::Do(Command::Paste { y, x }),
             Key::Undo => Act::Do(Command::Undo),
+            Key::Redo => Act::Do(Command::Redo),
             Key::Reset => Act::Do(Command::Reset),
             Key::Step => Act::Do(Command::Frame),
             Key::Back => Act::Do(Command::Rewind {

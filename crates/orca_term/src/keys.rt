@@ -47,6 +47,8 @@ pub enum Key {
     Paste,
     /// Control and Z.
     Undo,
+    /// Control and Y.
+    Redo,
     /// Control and B.
     Back,
     /// Control and R.
@@ -276,6 +278,7 @@ fn key_of(byte: u8) -> Option<Key>
         0x13 => Some(Key::Save),
         0x16 => Some(Key::Paste),
         0x18 => Some(Key::Cut),
+        0x19 => Some(Key::Redo),
         0x1A => Some(Key::Undo),
         _ => None,
     }

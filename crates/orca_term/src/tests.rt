@@ -93,7 +93,7 @@ fn keys_of_sequences(rt: HostRuntime) {
 fn keys_of_one_byte(rt: HostRuntime) {
     expect_keys(
         &rt,
-        b" \x08\x7f\x02\x03\x06\x11\x12\x13\x16\x18\x1a",
+        b" \x08\x7f\x02\x03\x06\x11\x12\x13\x16\x18\x19\x1a",
         false,
         b"",
         &[
@@ -108,6 +108,7 @@ fn keys_of_one_byte(rt: HostRuntime) {
             Key::Save,
             Key::Paste,
             Key::Cut,
+            Key::Redo,
             Key::Undo,
         ],
     );
@@ -204,6 +205,7 @@ fn keys_that_ask(rt: HostRuntime) {
         (Key::Cut, Command::Cut { rect }),
         (Key::Paste, Command::Paste { y, x }),
         (Key::Undo, Command::Undo),
+        (Key::Redo, Command::Redo),
         (Key::Reset, Command::Reset),
         (Key::Step, Command::Frame),
         (Key::Back, Command::Rewind { moment: 4 }),

@@ -6,3 +6,4 @@ pub mod PlainWalk
 pub mod PlainWords
 pub mod SimpleForms
 mod WorkedWords
+mod WorkedForms

@@ -80,8 +80,8 @@ play_none : asked (codes "play g a") ≡ Some (Perform none_set (Play (record {
 unfolding worked none_set
 play_none = refl
 
-make_some : asked (codes "make 5 64 32 200")
-    ≡ Some (Make (record { seed = 5; height = 64; width = 32; frames = 200 }))
+make_some : asked (codes "make 5 64 1024 200")
+    ≡ Some (Make (record { seed = 5; height = 64; width = 1024; frames = 200 }))
 unfolding worked
 make_some = refl
 
@@ -130,7 +130,8 @@ refused : list_all (λ line. not (is_some (asked line))) (codes ""
     ∷ codes "play g a --rows 1"
     ∷ codes "play g a --cols 257"
     ∷ codes "make 1 0 3 4"
-    ∷ codes "make 1 2 257 4"
+    ∷ codes "make 1 1025 3 4"
+    ∷ codes "make 1 2 1025 4"
     ∷ codes "make 1 2 3 100001"
     ∷ codes "make 1 2 3 4 --seed 1"
     ∷ []) ≡ true

@@ -8,7 +8,7 @@ use std::process::Abort;
 /// glyph of the byte; `[` is no key, and an ESC is pending. Other letters stand for keys.
 const OUTSIDE: &[u8; 256] = b"\
     ..bc..f.r.......\
-    .qzs..v.x.u[....\
+    .qzs..v.xyu[....\
     pggggggggggggggg\
     gggggggggggggggg\
     gggggggggggggggg\
@@ -28,7 +28,7 @@ const OUTSIDE: &[u8; 256] = b"\
 /// sequence is pending.
 const AFTER_AN_ESCAPE: &[u8; 256] = b"\
     ..bc..f.r.......\
-    .qzs..v.x.ue....\
+    .qzs..v.xyue....\
     pggggggggggggggg\
     gggggggggggggggg\
     gggggggggggggggg\
@@ -47,7 +47,7 @@ const AFTER_AN_ESCAPE: &[u8; 256] = b"\
 /// The same in a sequence that is no key, whatever byte ends it.
 const INSIDE: &[u8; 256] = b"\
     ..bc..f.r.......\
-    .qzs..v.x.u[....\
+    .qzs..v.xyu[....\
     ++++++++++++++++\
     ++++++++++++++++\
     ................\
@@ -77,6 +77,7 @@ fn key_of_letter(rt: &impl Abort, letter: u8, byte: u8) -> Option<Key> {
         b'v' => Key::Paste,
         b'x' => Key::Cut,
         b'u' => Key::Undo,
+        b'y' => Key::Redo,
         b'p' => Key::Pause,
         b'e' => Key::Escape,
         b'U' => Key::Up,

@@ -2,6 +2,7 @@
 
 use super::{editor_at, expect_painting, line_at, shot_of, stage_of};
 use crate::Editor;
+use orca_base::limits::MAX_COLUMNS;
 use std::test::Fail;
 
 #[test]
@@ -119,6 +120,65 @@ fn a_grid_of_several_pages(rt: HostRuntime) -> Result<(), Fail> {
     ];
     for (editor, want) in pages {
         expect_painting(&rt, &mut stage, &grid, (&editor, &line_at(0, 0)), want);
+    }
+    Ok(())
+}
+
+#[test]
+fn windows_far_to_the_right(rt: HostRuntime) -> Result<(), Fail> {
+    // The widest grid, whose letters follow one another, through a window of twelve columns.
+    let mut text = Vec::new(rt.alloc());
+    for column in 0..MAX_COLUMNS {
+        text.push(b'A' + (column % 26) as u8)?;
+    }
+    assert!(rt; text.len() < 65_536);
+    let grid = shot_of(&rt, rt.alloc(), 1, &text, b"")?;
+    let mut stage = stage_of(rt.alloc(), 2, 12)?;
+    let windows: [(u16, &[u8]); 8] = [
+        (
+            255,
+            b"\x1b[1;1H\x1b[0mSTU\x1b[0m\x1b[7mV\x1b[0mWXYZABCD\
+            \x1b[2;1H\x1b[0m0 0 0 0,255 ",
+        ),
+        (
+            256,
+            b"\x1b[1;1H\x1b[0mSTUV\x1b[0m\x1b[7mW\x1b[0mXYZABCD\
+            \x1b[2;1H\x1b[0m0 0 0 0,256 ",
+        ),
+        (
+            257,
+            b"\x1b[1;1H\x1b[0mSTUVW\x1b[0m\x1b[7mX\x1b[0mYZABCD\
+            \x1b[2;1H\x1b[0m0 0 0 0,257 ",
+        ),
+        (
+            511,
+            b"\x1b[1;1H\x1b[0mKLMNOPQ\x1b[0m\x1b[7mR\x1b[0mSTUV\
+            \x1b[2;1H\x1b[0m0 0 0 0,511 ",
+        ),
+        (
+            512,
+            b"\x1b[1;1H\x1b[0mKLMNOPQR\x1b[0m\x1b[7mS\x1b[0mTUV\
+            \x1b[2;1H\x1b[0m0 0 0 0,512 ",
+        ),
+        (
+            513,
+            b"\x1b[1;1H\x1b[0mKLMNOPQRS\x1b[0m\x1b[7mT\x1b[0mUV\
+            \x1b[2;1H\x1b[0m0 0 0 0,513 ",
+        ),
+        (
+            1_022,
+            b"\x1b[1;1H\x1b[0mGH\x1b[0m\x1b[7mI\x1b[0mJ        \
+            \x1b[2;1H\x1b[0m0 0 0 0,1022",
+        ),
+        (
+            1_023,
+            b"\x1b[1;1H\x1b[0mGHI\x1b[0m\x1b[7mJ\x1b[0m        \
+            \x1b[2;1H\x1b[0m0 0 0 0,1023",
+        ),
+    ];
+    for (x, want) in windows {
+        let shown = (&editor_at(0, x, 1, 1), &line_at(0, 0));
+        expect_painting(&rt, &mut stage, &grid, shown, want);
     }
     Ok(())
 }

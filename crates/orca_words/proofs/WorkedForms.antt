@@ -1,0 +1,30 @@
+-- The table of the forms of the command line, written once more, so that none changes unseen, and no
+-- word, positional or option is added that nobody reads.
+use Rattle.std.specs.Prelude.{◌≡◌, List, [], ◌∷◌, ◌++◌, codes, refl}
+use Rattle.clap.specs.Words.{Text}
+use Rattle.orca_words.specs.Forms.{Form, forms}
+use Rattle.orca_words.specs.declared.forms.Verb.{Verb}
+use Rattle.orca_words.specs.declared.forms.Verb.TheVariants.{Run, Events, Replay, Play, Make}
+
+abbrev row : Text → List Text → List Text → Verb → Form
+row word positionals options verb =
+    record { word = word; positionals = positionals; options = options; verb = verb }
+
+-- the options of a run on a grid
+abbrev options : List Text
+options = codes "seed" ∷ codes "limit" ∷ codes "midi" ∷ codes "udp" ∷ codes "osc" ∷ []
+
+-- those that a performance has beside them
+abbrev more_options : List Text
+more_options =
+    codes "bpm" ∷ codes "rows" ∷ codes "cols" ∷ codes "save" ∷ codes "script" ∷ []
+
+forms_are : forms
+    ≡ row (codes "run") (codes "GRID" ∷ codes "FRAMES" ∷ []) options Run
+    ∷ row (codes "events") (codes "GRID" ∷ codes "FRAMES" ∷ []) options Events
+    ∷ row (codes "replay") (codes "GRID" ∷ codes "SCRIPT" ∷ []) options Replay
+    ∷ row (codes "play") (codes "GRID" ∷ codes "ADDRESS" ∷ []) (options ++ more_options) Play
+    ∷ row (codes "make")
+    (codes "SEED" ∷ codes "HEIGHT" ∷ codes "WIDTH" ∷ codes "FRAMES" ∷ []) [] Make ∷ []
+unfolding forms
+forms_are = refl
