@@ -14,25 +14,32 @@ pub record Poll : Type 0 where
   pub answer : Answer
   pub bytes : List ℕ
 
--- the name that `listen` was given, the moment that it answered, and the polls
+-- the name and the number of hands that `listen_hands` was given, the moment that it answered, and
+-- the polls
 pub record Log : Type 0 where
   pub name : Option (List ℕ)
+  pub hands : Option ℕ
   pub start : Option ℕ
   pub polls : List Poll
 
 -- nothing was asked yet
 abbrev pub empty_log : Log
-empty_log = record { name = None; start = None; polls = [] }
+empty_log = record { name = None; hands = None; start = None; polls = [] }
 
--- a `listen` that failed has no moment; one for which memory was refused isn't kept
-abbrev pub after_listen : Result ℕ SendFault → List ℕ → Log → Log
-after_listen (Ok at) name log = record { name = Some name; start = Some at; polls = log.polls }
-after_listen (Err Failed) name log = record { name = Some name; start = None; polls = log.polls }
-after_listen (Err Memory) name log = log
+-- it listened at a name for so many hands; and the moment that it answered, unless it failed
+abbrev pub with_listen : List ℕ → ℕ → Option ℕ → Log → Log
+with_listen name hands start log =
+    record log { name = Some name; hands = Some hands; start = start }
+
+-- a `listen_hands` that failed has no moment; one for which memory was refused isn't kept
+abbrev pub after_listen : Result ℕ SendFault → List ℕ → ℕ → Log → Log
+after_listen (Ok at) name hands log = with_listen name hands (Some at) log
+after_listen (Err Failed) name hands log = with_listen name hands None log
+after_listen (Err Memory) name hands log = log
 
 -- a poll is kept as the last
 abbrev pub after_poll : Poll → Log → Log
-after_poll poll log = record { name = log.name; start = log.start; polls = log.polls ++ poll ∷ [] }
+after_poll poll log = record log { polls = log.polls ++ poll ∷ [] }
 
 -- how many bytes came with an answer
 abbrev pub count_of : Answer → ℕ

@@ -1,10 +1,12 @@
 -- What the ports were given, and the names that they were attached to.
-use Rattle.std.specs.Prelude.{ℕ, List, [], ◌∷◌, ◌++◌, Option, Some, None, Result, Ok, Err}
+use Rattle.std.specs.Prelude.{ℕ, ◌⊎◌, if◌then◌else◌, Bool, List, [], ◌∷◌, ◌++◌, Option, Some, None, Result, Ok, Err}
 use Rattle.std.specs.Option.{option_map}
-use Rattle.std.specs.Io.KnownBytes.{Appends}
+use Rattle.std.specs.Io.KnownBytes.{Appends, Keeps, append_known}
 use Rattle.orca_base.specs.declared.port.Port.{Port}
 use Rattle.orca_rig.specs.declared.outs.SendFault.{SendFault}
 use Rattle.orca_rig.specs.declared.outs.SendFault.TheVariants.{Failed, Memory}
+use Rattle.orca_rig.specs.declared.sinks.Sink.{Sink}
+use Rattle.orca_rig.specs.declared.sinks.TheConstants.{CANCEL}
 
 -- a port that was attached to a name
 pub record Attached : Type 0 where
@@ -17,10 +19,35 @@ after_call (Ok done) call calls = option_map (λ before. before ++ call ∷ []) 
 after_call (Err Failed) call calls = option_map (λ before. before ++ call ∷ []) calls
 after_call (Err Memory) call calls = calls
 
--- a sink holds these bytes too, where there is one and what it holds is known; bytes for none are
--- dropped, and it stays none
+-- the bytes that a sink of messages holds, where they are known, and then those that it is owed
+abbrev pub holdings : {W : Type 0} → (W → Option (List ℕ)) → Sink W → Option (List ℕ)
+holdings contents sink = append_known (contents sink.to) sink.owed
+
+-- the sink has this message too
+abbrev pub HasToo : {W : Type 0}
+    → (W → Option (List ℕ)) → Sink W → Sink W → List ℕ → Type 0
+HasToo contents before after bytes =
+    Appends (holdings contents before) (holdings contents after) bytes
+
+-- the sink has what it had
+abbrev pub HasStill : {W : Type 0} → (W → Option (List ℕ)) → Sink W → Sink W → Type 0
+HasStill contents before after = Keeps (holdings contents before) (holdings contents after)
+
+-- a message is taken, where there is a sink; one for none is dropped, and it stays none
 abbrev pub Takes : {W : Type 0}
-    → (W → Option (List ℕ)) → Option W → Option W → List ℕ → Type 0
-Takes contents (Some before) (Some after) bytes = Appends (contents before) (contents after) bytes
+    → (W → Option (List ℕ)) → Option (Sink W) → Option (Sink W) → List ℕ → Type 0
+Takes contents (Some before) (Some after) bytes = HasToo contents before after bytes
 Takes contents None None bytes = Unit {0}
 Takes contents before after bytes = ⊥
+
+-- a message is taken whole, or not at all
+abbrev pub TakesOrNot : {W : Type 0}
+    → (W → Option (List ℕ)) → Option (Sink W) → Option (Sink W) → List ℕ → Type 0
+TakesOrNot contents (Some before) (Some after) bytes =
+    HasStill contents before after ⊎ HasToo contents before after bytes
+TakesOrNot contents None None bytes = Unit {0}
+TakesOrNot contents before after bytes = ⊥
+
+-- the bytes of a painting: after one that was given up they begin with CAN
+abbrev pub painting_bytes : Bool → List ℕ → List ℕ
+painting_bytes is_torn bytes = if is_torn then CANCEL ∷ bytes else bytes

@@ -25,12 +25,13 @@ pub record Store : Type 0 where
   pub faults : ℕ
 
 -- ports in memory: what they were given, what they were attached to, the calls that are to fail, by
--- port and number, and the faults so far
+-- port and number, the faults so far, and how often memory was refused
 pub record Ports : Type 0 where
   pub handed : List Sent
   pub attached : List Attached
   pub fail : List (Port × ℕ)
   pub faults : ℕ
+  pub wants : ℕ
 
 -- names and bytes as clauses see them
 abbrev pub named : List (String Global × Vec ℕ Global) → List (List ℕ × List ℕ)

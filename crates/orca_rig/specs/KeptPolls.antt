@@ -17,6 +17,7 @@ poll_of polled = record {
 abbrev pub log_of : Inside → Log
 log_of inbox = record {
   name = option_map string_bytes inbox.name;
+  hands = inbox.hands;
   start = inbox.start;
   polls = map poll_of inbox.polls.items;
 }

@@ -5,4 +5,5 @@ pub mod Arrived
 pub mod InMemory
 pub mod Schedule
 pub mod KeptPolls
-pub mod Pieces
+pub mod Heard
+pub mod Waits

@@ -20,7 +20,7 @@ pub record Schedule : Type 0 where
   pub ended : Bool
   pub faults : ℕ
 
--- how many calls it was asked: the `listen` that is kept, and the polls
+-- how many calls it was asked: the `listen_hands` that is kept, and the polls
 abbrev pub calls_of : Log → ℕ
 calls_of log = (if is_some log.name then 1 else 0) + length log.polls
 

@@ -2,9 +2,13 @@ ghost use Rattle.std.specs.Prelude.{◌≡◌, ◌≢◌, ◌≤◌, ◌⊎◌, 
 ghost use Rattle.std.specs.Option.{option_map};
 ghost use Rattle.orca_rig.specs.Outside.{Rose};
 ghost use Rattle.orca_rig.specs.Arrived.{Log, after_listen, after_poll, arrived, moment_after, is_ending, MayAnswer};
+ghost use Rattle.orca_rig.specs.declared.inbox.TheConstants.{MAX_HANDS};
 
 use crate::{Outs, SendFault};
 use orca_base::limits::ARRIVAL_BYTES;
+
+/// The most players at once.
+pub const MAX_HANDS: u8 = 8;
 
 /// What a poll answers. Moments are in microseconds.
 #[derive(Clone, Copy, Debug, PartialEq, Eq)]
@@ -22,14 +26,15 @@ pub enum Answer {
 
 /// Where the bytes of the players come in, and the clock.
 pub trait Inbox {
-    /// The name that [`listen`](Inbox::listen) was given, the moment that it answered, and the
-    /// polls; where they are told. A `listen` that answered [`SendFault::Memory`] is not kept.
+    /// The name and the number of hands that [`listen_hands`](Inbox::listen_hands) was given, the
+    /// moment that it answered, and the polls; where they are told. A `listen_hands` that answered
+    /// [`SendFault::Memory`] is not kept.
     ghost log: { Self → Option Log };
 
     /// The last moment that it answered.
     ghost last: { Self → ℕ };
 
-    /// Whether [`listen`](Inbox::listen) was called.
+    /// Whether [`listen_hands`](Inbox::listen_hands) was called.
     ghost listened: { Self → Bool };
 
     /// Whether a poll has answered [`Answer::End`] or [`Answer::Failed`].
@@ -38,11 +43,16 @@ pub trait Inbox {
     /// How often the inbox has failed.
     ghost faults: { Self → ℕ };
 
-    /// Waits for the players at that name, and answers the moment of the start, in microseconds.
-    fn listen(&mut self, name: &str) -> Result<u64, SendFault>
+    /// Waits for so many players at that name, and answers the moment of the start, in
+    /// microseconds. The first who comes is hand 0, and the next is hand 1. There are 1 to
+    /// [`MAX_HANDS`] of them.
+    fn listen_hands(&mut self, name: &str, hands: u8) -> Result<u64, SendFault>
         // Nobody listened before.
-        requires { listened self.old ≡ false }
-        ensures log { log self.new ≡ option_map (after_listen result name.now) (log self.old) }
+        requires fresh { listened self.old ≡ false }
+        requires some { 1 ≤ hands }
+        requires few { hands ≤ MAX_HANDS }
+        ensures log { log self.new
+            ≡ option_map (after_listen result name.now hands) (log self.old) }
         ensures moment { IfOk result (λ at. last self.new ≡ at) }
         ensures later { last self.old ≤ last self.new }
         ensures unanswered { OnErr result (last self.new ≡ last self.old) }

@@ -3,21 +3,27 @@
 #![tactic(auto)]
 
 mod files;
+mod hands;
 mod inbox;
 mod mem_answer;
 mod mem_files;
 mod mem_inbox;
 mod mem_outs;
+mod moments;
 mod outs;
 mod real_files;
 mod real_outs;
+mod room;
+mod saving;
+mod sinks;
+mod start;
 mod tcp_inbox;
 #[cfg(test)]
 mod tests;
 mod whole;
 
 pub use files::{Files, StoreFault};
-pub use inbox::{Answer, Inbox};
+pub use inbox::{Answer, Inbox, MAX_HANDS};
 pub use mem_answer::{MemAnswer, are_arrivals, is_in_order};
 pub use mem_files::{MemFiles, names_differ};
 pub use mem_inbox::MemInbox;
@@ -25,4 +31,5 @@ pub use mem_outs::MemOuts;
 pub use outs::{Outs, SendFault};
 pub use real_files::RealFiles;
 pub use real_outs::RealOuts;
+pub use start::{open_closed_streams, words_after_name};
 pub use tcp_inbox::TcpInbox;

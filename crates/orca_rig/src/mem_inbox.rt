@@ -6,6 +6,7 @@ ghost use Rattle.orca_rig.specs.InMemory.{is_to_fail};
 ghost use Rattle.orca_rig.specs.Schedule.{Schedule, is_in_order, is_arrival, are_arrivals, awaited, first_turn, turn_of, turn, calls_of, IsAnsweredInOrder};
 ghost use Rattle.orca_base.specs.declared.limits.TheConstants.{ARRIVAL_BYTES};
 ghost use Rattle.orca_rig.specs.KeptPolls.{poll_of};
+ghost use Rattle.orca_rig.specs.declared.inbox.TheConstants.{MAX_HANDS};
 
 use crate::{Answer, Inbox, MemAnswer, Outs, SendFault};
 use orca_base::limits::ARRIVAL_BYTES;
@@ -29,6 +30,7 @@ pub struct MemInbox {
     answers: VecDeque<MemAnswer>,
     to_fail: Vec<u64>,
     name: Option<String>,
+    hands: Option<u8>,
     start: Option<u64>,
     polls: Vec<Polled>,
     listened: bool,
@@ -49,11 +51,11 @@ impl Model for MemInbox {
 }
 
 impl MemInbox {
-    /// An inbox at which nobody listened. `start` is the moment that `listen` answers, and
+    /// An inbox at which nobody listened. `start` is the moment that `listen_hands` answers, and
     /// `answers` are those of the polls, in order: a [`MemAnswer::Due`] is passed over where no
     /// moment is waited for, and where it is below that moment, and a poll after the last of them
     /// answers [`Answer::End`]. `fail` lists the calls that are to fail, by their numbers, counted
-    /// from 1 over `listen` and the polls. A poll that fails passes nothing over.
+    /// from 1 over `listen_hands` and the polls. A poll that fails passes nothing over.
     pub fn new(start: u64, answers: Vec<MemAnswer>, fail: Vec<u64>) -> Result<MemInbox, Memory>
         // No moment is below an earlier one, the start being the first.
         requires order { IsTrue (is_in_order start answers.items) }
@@ -76,6 +78,7 @@ impl MemInbox {
             answers: VecDeque::from(answers),
             to_fail: fail,
             name: None,
+            hands: None,
             start: None,
             polls,
             listened: false,
@@ -220,9 +223,12 @@ impl Inbox for MemInbox {
 
     ghost faults = { λ i. i.faults };
 
-    fn listen(&mut self, name: &str) -> Result<u64, SendFault>
-        requires { self.old.listened ≡ false }
-        ensures log { Some self.new.log ≡ Some (after_listen result name.now self.old.log) }
+    fn listen_hands(&mut self, name: &str, hands: u8) -> Result<u64, SendFault>
+        requires fresh { self.old.listened ≡ false }
+        requires some { 1 ≤ hands }
+        requires few { hands ≤ MAX_HANDS }
+        ensures log { Some self.new.log
+            ≡ Some (after_listen result name.now hands self.old.log) }
         ensures moment { IfOk result (λ at. at ≡ self.old.last) }
         ensures last { self.new.last ≡ self.old.last }
         ensures listened { self.new.listened ≡ true }
@@ -246,6 +252,7 @@ impl Inbox for MemInbox {
         self.listened = true;
         let fails = is_to_fail(&self.to_fail, &self.name, &self.polls);
         self.name = Some(String::from_str(*self.polls.allocator(), name)?);
+        self.hands = Some(hands);
         if fails {
             self.start = None;
             self.failed = self.failed.saturating_add(1);

@@ -1,4 +1,4 @@
-ghost use Rattle.std.specs.Prelude.{◌≡◌, ◌+◌, min, ◌≤◌, ◌↔◌, ◌<◌, ◌^◌, [], length, slice_get, IsTrue, IsNone, Some, false, IfOk, OnOk, IsErrOf};
+ghost use Rattle.std.specs.Prelude.{◌≡◌, ◌+◌, min, ◌≤◌, ◌↔◌, ◌<◌, ◌^◌, [], ◌∷◌, ◌++◌, length, slice_get, IsTrue, IsNone, Some, false, IfOk, OnOk, OnErr, IsErrOf};
 ghost use Rattle.std.specs.Option.{option_map};
 ghost use Rattle.orca_rig.specs.Outside.{Rose, last_count};
 ghost use Rattle.orca_rig.specs.Handed.{after_call};
@@ -15,6 +15,7 @@ pub struct MemOuts {
     names: Vec<(Port, String)>,
     to_fail: Vec<(Port, u64)>,
     failed: u64,
+    refused: u64,
 }
 
 impl Model for MemOuts {
@@ -27,6 +28,7 @@ impl Model for MemOuts {
       attached = attaches o.names.items;
       fail = o.to_fail.items;
       faults = o.failed;
+      wants = o.refused;
     } };
 }
 
@@ -39,12 +41,14 @@ impl MemOuts {
         ensures attached { IfOk result (λ outs. outs.attached ≡ []) }
         ensures fail { IfOk result (λ outs. outs.fail ≡ fail.items) }
         ensures faults { IfOk result (λ outs. outs.faults ≡ 0) }
+        ensures wants { IfOk result (λ outs. outs.wants ≡ 0) }
     {
         Ok(MemOuts {
             pieces: Vec::new(*fail.allocator()),
             names: Vec::new(*fail.allocator()),
             to_fail: fail,
             failed: 0,
+            refused: 0,
         })
     }
 
@@ -97,6 +101,28 @@ impl MemOuts {
     }
 }
 
+/// Keeps the name that a port was attached to.
+fn keep_name(names: &mut Vec<(Port, String)>, port: Port, name: &str) -> Result<(), Memory>
+    ensures kept { OnOk result (attaches names.new.items ≡ attaches names.old.items
+        ++ record { port = port; name = name.now } ∷ []) }
+    ensures refused { OnErr result (names.new.items ≡ names.old.items) }
+{
+    let kept = String::from_str(*names.allocator(), name)?;
+    names.push((port, kept))?;
+    Ok(())
+}
+
+/// Keeps a piece that was given to a port.
+fn keep_piece(pieces: &mut Vec<(Port, Vec<u8>)>, port: Port, bytes: &[u8]) -> Result<(), Memory>
+    ensures kept { OnOk result (sents pieces.new.items ≡ sents pieces.old.items
+        ++ record { port = port; bytes = bytes.now } ∷ []) }
+    ensures refused { OnErr result (pieces.new.items ≡ pieces.old.items) }
+{
+    let kept = bytes.to_vec(*pieces.allocator())?;
+    pieces.push((port, kept))?;
+    Ok(())
+}
+
 impl Outs for MemOuts {
     ghost handed = { λ o. Some o.handed };
 
@@ -105,6 +131,8 @@ impl Outs for MemOuts {
     ghost sent = { λ o. length o.handed };
 
     ghost faults = { λ o. o.faults };
+
+    ghost wants = { λ o. o.wants };
 
     fn attach(&mut self, port: Port, name: &str) -> Result<(), SendFault>
         ensures attached { Some self.new.attached
@@ -115,6 +143,11 @@ impl Outs for MemOuts {
         ensures steady { OnOk result (self.new.faults ≡ self.old.faults) }
         ensures steady_memory { IsErrOf result SendFault.Memory
             → self.new.faults ≡ self.old.faults }
+        ensures want_count { self.old.wants ≤ self.new.wants }
+        ensures wanted { IsErrOf result SendFault.Memory → Rose self.old.wants self.new.wants }
+        ensures sated { OnOk result (self.new.wants ≡ self.old.wants) }
+        ensures sated_failed { IsErrOf result SendFault.Failed
+            → self.new.wants ≡ self.old.wants }
 
         ensures fail { self.new.fail ≡ self.old.fail }
         ensures listed { IsErrOf result SendFault.Failed → IsTrue (is_port_to_fail self.old port) }
@@ -122,10 +155,14 @@ impl Outs for MemOuts {
         ensures counted { IsErrOf result SendFault.Failed
             → self.new.faults ≡ min (self.old.faults + 1) last_count }
         ensures quiet { self.old.fail ≡ [] → self.new.faults ≡ self.old.faults }
+        ensures refused { IsErrOf result SendFault.Memory
+            → self.new.wants ≡ min (self.old.wants + 1) last_count }
     {
         let fails = self.is_to_fail(port);
-        let kept = String::from_str(*self.names.allocator(), name)?;
-        self.names.push((port, kept))?;
+        if keep_name(&mut self.names, port, name).is_err() {
+            self.refused = self.refused.saturating_add(1);
+            return Err(SendFault::Memory);
+        }
         if fails {
             self.failed = self.failed.saturating_add(1);
             return Err(SendFault::Failed);
@@ -142,6 +179,11 @@ impl Outs for MemOuts {
         ensures steady { OnOk result (self.new.faults ≡ self.old.faults) }
         ensures steady_memory { IsErrOf result SendFault.Memory
             → self.new.faults ≡ self.old.faults }
+        ensures want_count { self.old.wants ≤ self.new.wants }
+        ensures wanted { IsErrOf result SendFault.Memory → Rose self.old.wants self.new.wants }
+        ensures sated { OnOk result (self.new.wants ≡ self.old.wants) }
+        ensures sated_failed { IsErrOf result SendFault.Failed
+            → self.new.wants ≡ self.old.wants }
 
         ensures fail { self.new.fail ≡ self.old.fail }
         ensures listed { IsErrOf result SendFault.Failed → IsTrue (is_port_to_fail self.old port) }
@@ -149,10 +191,14 @@ impl Outs for MemOuts {
         ensures counted { IsErrOf result SendFault.Failed
             → self.new.faults ≡ min (self.old.faults + 1) last_count }
         ensures quiet { self.old.fail ≡ [] → self.new.faults ≡ self.old.faults }
+        ensures refused { IsErrOf result SendFault.Memory
+            → self.new.wants ≡ min (self.old.wants + 1) last_count }
     {
         let fails = self.is_to_fail(port);
-        let kept = bytes.to_vec(*self.pieces.allocator())?;
-        self.pieces.push((port, kept))?;
+        if keep_piece(&mut self.pieces, port, bytes).is_err() {
+            self.refused = self.refused.saturating_add(1);
+            return Err(SendFault::Memory);
+        }
         if fails {
             self.failed = self.failed.saturating_add(1);
             return Err(SendFault::Failed);

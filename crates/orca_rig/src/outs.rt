@@ -11,7 +11,7 @@ use std::alloc::{AllocError, AllocFailed};
 use std::io;
 use std::io::ErrorKind;
 
-/// Why an attach, a send or a listen did not succeed.
+/// Why an attach, a send or a `listen_hands` did not succeed.
 #[derive(Clone, Copy, Debug, PartialEq, Eq)]
 pub enum SendFault {
     /// The object failed, and counted it. Some of the bytes of a send may have gone out.
@@ -64,6 +64,9 @@ pub trait Outs {
     /// How often a port has failed.
     ghost faults: { Self → ℕ };
 
+    /// How often memory was refused to [`attach`](Outs::attach) or [`send`](Outs::send).
+    ghost wants: { Self → ℕ };
+
     /// Connects a port to the file, device or address of that name.
     fn attach(&mut self, port: Port, name: &str) -> Result<(), SendFault>
         ensures attached { attached self.new
@@ -75,7 +78,14 @@ pub trait Outs {
             → Rose (faults self.old) (faults self.new) }
         ensures steady { OnOk result (faults self.new ≡ faults self.old) }
         ensures steady_memory { IsErrOf result SendFault.Memory
-            → faults self.new ≡ faults self.old };
+            → faults self.new ≡ faults self.old }
+
+        ensures want_count { wants self.old ≤ wants self.new }
+        ensures wanted { IsErrOf result SendFault.Memory
+            → Rose (wants self.old) (wants self.new) }
+        ensures sated { OnOk result (wants self.new ≡ wants self.old) }
+        ensures sated_failed { IsErrOf result SendFault.Failed
+            → wants self.new ≡ wants self.old };
 
     /// Sends the bytes to the port, as one piece.
     fn send(&mut self, port: Port, bytes: &[u8]) -> Result<(), SendFault>
@@ -88,7 +98,14 @@ pub trait Outs {
             → Rose (faults self.old) (faults self.new) }
         ensures steady { OnOk result (faults self.new ≡ faults self.old) }
         ensures steady_memory { IsErrOf result SendFault.Memory
-            → faults self.new ≡ faults self.old };
+            → faults self.new ≡ faults self.old }
+
+        ensures want_count { wants self.old ≤ wants self.new }
+        ensures wanted { IsErrOf result SendFault.Memory
+            → Rose (wants self.old) (wants self.new) }
+        ensures sated { OnOk result (wants self.new ≡ wants self.old) }
+        ensures sated_failed { IsErrOf result SendFault.Failed
+            → wants self.new ≡ wants self.old };
 
     /// How many pieces were given to [`send`](Outs::send), where that is told and fits. It is there
     /// for an inbox to write down: only [`Inbox::poll`](crate::Inbox::poll) may call it, since the

@@ -1,9 +1,12 @@
 ghost use Rattle.std.specs.Prelude.{◌≡◌, ◌≤◌, None, length, IfOk};
 ghost use Rattle.orca_base.specs.declared.limits.TheConstants.{MAX_FILE_BYTES};
 
-use crate::whole::{read_whole, write_whole};
+use crate::saving::save_file;
+use crate::whole::read_whole;
 use crate::{Files, StoreFault};
 use std::alloc::Global;
+use std::os::fd::{AsRawFd, IntoRawFd};
+use std::rt::Clock;
 use std::{fs, rt};
 
 /// The files of the system. It tells nothing of what they hold.
@@ -13,7 +16,10 @@ pub struct RealFiles<'a, R> {
     failed: u64,
 }
 
-impl<R: rt::Files> RealFiles<'_, R> {
+impl<R: rt::Files + AllocGlobal + Clock> RealFiles<'_, R>
+where
+    R::File: AsRawFd + IntoRawFd,
+{
     /// The files that the runtime reaches.
     pub fn new(rt: &R) -> RealFiles<'_, R>
         ensures { ⟦<RealFiles<'static, R> as Files>⟧.faults result ≡ 0 }
@@ -22,7 +28,10 @@ impl<R: rt::Files> RealFiles<'_, R> {
     }
 }
 
-impl<R: rt::Files> Files for RealFiles<'_, R> {
+impl<R: rt::Files + AllocGlobal + Clock> Files for RealFiles<'_, R>
+where
+    R::File: AsRawFd + IntoRawFd,
+{
     ghost contents = { λ _. None };
 
     ghost asked = { λ _. None };
@@ -44,12 +53,27 @@ impl<R: rt::Files> Files for RealFiles<'_, R> {
         }
     }
 
-    /// Creates or empties the file, and writes all bytes. A directory, a file that may not be
-    /// written and a folder that is missing are failures, and so is a disk that is full. Once the
-    /// file is emptied, no fault leaves it as it was: each is a failure then, also one for which
-    /// memory was refused.
+    /// Replaces the file whole, or leaves it as it was: the bytes go to a new file in the same
+    /// folder, which then takes the name. Another program that has the old file open keeps it, and
+    /// so does another name of it (a hard link).
+    ///
+    /// | what stands under the name | what is done |
+    /// |---|---|
+    /// | nothing | a file is made, with the permissions that new files get |
+    /// | a file | it is replaced by one with its permissions, which belongs to who runs the program |
+    /// | a symbolic link | the file that it leads to is replaced or made |
+    /// | a device or a pipe | it is written as it is, and waits for room as a port does |
+    /// | a directory, or a file that may not be written | the save fails |
+    ///
+    /// It fails at a folder that takes no new file, also if the old file may be written, and at a
+    /// disk that is full. The new file is removed then. If the program is killed in the middle, the
+    /// file is as it was, and the new one stays as `.orca-save-` and a number. A pipe that nobody
+    /// has opened for reading is waited for.
+    ///
+    /// Nothing waits for the disk. After a power cut the file may hold the old bytes or the new
+    /// ones, and on some file systems a part of them.
     fn save(&mut self, name: &str, bytes: &[u8]) -> Result<(), StoreFault> {
-        match write_file(self.rt, name, bytes) {
+        match save_file(self.rt, name, bytes) {
             Ok(()) => Ok(()),
             Err(StoreFault::Failed) => {
                 self.failed = self.failed.saturating_add(1);
@@ -66,10 +90,4 @@ fn read_file<R: rt::Files>(alloc: Global, rt: &R, name: &str) -> Result<Vec<u8>,
 {
     let mut file = fs::open(rt, name)?;
     read_whole(alloc, &mut file)
-}
-
-/// Makes the file of that name hold these bytes.
-fn write_file<R: rt::Files>(rt: &R, name: &str, bytes: &[u8]) -> Result<(), StoreFault> {
-    let mut file = fs::create(rt, name)?;
-    write_whole(&mut file, bytes).map_err(|_| StoreFault::Failed)
 }

@@ -1,13 +1,21 @@
-ghost use Rattle.std.specs.Prelude.{◌≡◌, ◌≢◌, ◌≤◌, ◌↔◌, ◌+◌, min, None, IsSome, IsNone, IsOk, OnOk, IsErrOf};
+ghost use Rattle.std.specs.Prelude.{◌≡◌, ◌≢◌, ◌≤◌, ◌↔◌, ◌+◌, min, None, IsSome, IsNone, IsOk, IfOk, OnOk, OnErr, IsErrAnd, IsErrOf, Option, Some, Ok};
+ghost use Rattle.std.specs.Option.{option_map};
+ghost use Rattle.std.specs.IoError.{error_kind};
+ghost use Rattle.std.specs.declared.io.ErrorKind.TheVariants.{Interrupted};
 ghost use Rattle.orca_rig.specs.Outside.{last_count};
-ghost use Rattle.orca_rig.specs.Handed.{Takes};
+ghost use Rattle.orca_rig.specs.Handed.{Takes, TakesOrNot};
 
-use crate::whole::write_whole;
+use crate::room::{Gate, Patience};
+use crate::sinks::{Output, Sink};
+use crate::whole::unless_interrupted;
 use crate::{Outs, SendFault};
+use libc::{STDERR_FILENO, STDOUT_FILENO};
 use orca_base::Port;
 use std::fs::OpenOptions;
 use std::io::ErrorKind;
 use std::net::{Ipv4Addr, Ipv6Addr, Net, SocketAddr, ToSocketAddrs, UdpSocket};
+use std::os::fd::AsRawFd;
+use std::rt::Clock;
 use std::{io, rt, str};
 
 /// The ports of a running program. It tells nothing of what it was given.
@@ -16,44 +24,80 @@ use std::{io, rt, str};
 /// |---|---|
 /// | [`Port::Midi`] | the attached file, pipe or device file, one write for each send |
 /// | [`Port::Udp`], [`Port::Osc`] | the attached address, one datagram for each send |
-/// | [`Port::Text`], [`Port::View`] | the standard output |
+/// | [`Port::Text`], [`Port::View`] | the standard output, in pieces |
 /// | [`Port::Fault`] | the standard error |
 ///
 /// Midi, Udp and Osc drop their bytes while they are not attached. Nothing is kept back: when a
 /// send returns, its bytes have left the program.
+///
+/// A send waits for room, but no longer than 250 milliseconds in all. Then it has failed, and its
+/// port is stuck: no send waits there any more until the port shows room. It shows room by itself,
+/// as when a pipe is read again.
+///
+/// | what is given up | what the peer gets |
+/// |---|---|
+/// | a MIDI message | none of it |
+/// | a painting | its first pieces. The next painting begins with CAN (ECMA-48) |
+/// | a text | its first pieces |
+/// | a datagram | none of it |
+///
+/// A device that isn't a pipe may take the first bytes of a MIDI message and no more. The rest then
+/// goes before the next message. A painting may be given up inside an escape sequence, which CAN
+/// ends.
+///
+/// Some sinks can still make a write wait: a pipe into which somebody else writes in the same
+/// moment, and a terminal of hardware that stops in the middle of a piece.
 #[derive(Drop)]
 pub struct RealOuts<'a, R: rt::Files> {
     rt: &'a R,
-    midi: Option<R::File>,
+    output: Output,
+    errors: Gate,
+    midi: Option<Sink<R::File>>,
     udp: Option<Peer>,
     osc: Option<Peer>,
     failed: u64,
+    refused: u64,
+}
+
+/// What datagrams go to, and whether there is room for them.
+#[derive(Drop)]
+struct Peer {
+    lane: Lane,
+    gate: Gate,
 }
 
 /// An address that datagrams are sent to, and the socket that they are sent from.
 #[derive(Drop)]
-struct Peer {
+struct Lane {
     socket: UdpSocket,
     address: SocketAddr,
 }
 
-impl<R: Print + Eprint + rt::Files + Net> RealOuts<'_, R> {
+impl<R: Print + Eprint + rt::Files + Net + Clock> RealOuts<'_, R>
+where
+    R::File: AsRawFd,
+{
     /// The outputs that the runtime reaches. No port is attached.
     pub fn new(rt: &R) -> RealOuts<'_, R>
-        ensures { ⟦<RealOuts<'static, R> as Outs>⟧.faults result ≡ 0 }
+        ensures faults { ⟦<RealOuts<'static, R> as Outs>⟧.faults result ≡ 0 }
+        ensures wants { ⟦<RealOuts<'static, R> as Outs>⟧.wants result ≡ 0 }
     {
         RealOuts {
             rt,
+            output: Output::new(Gate::new(STDOUT_FILENO)),
+            errors: Gate::new(STDERR_FILENO),
             midi: None,
             udp: None,
             osc: None,
             failed: 0,
+            refused: 0,
         }
     }
 
     /// Attaches the port, in place of what it was attached to. After a fault it is unattached.
     fn connect(&mut self, port: Port, name: &str) -> Result<(), SendFault>
-        ensures count { self.new.failed ≡ self.old.failed }
+        ensures failed { self.new.failed ≡ self.old.failed }
+        ensures refused { self.new.refused ≡ self.old.refused }
         ensures midi { port ≡ Port.Midi → (IsSome self.new.midi ↔ IsOk result) }
         ensures udp { port ≡ Port.Udp → (IsSome self.new.udp ↔ IsOk result) }
         ensures osc { port ≡ Port.Osc → (IsSome self.new.osc ↔ IsOk result) }
@@ -81,28 +125,42 @@ impl<R: Print + Eprint + rt::Files + Net> RealOuts<'_, R> {
 
     /// Sends the bytes where the port goes. They are dropped where it is not attached.
     fn write(&mut self, port: Port, bytes: &[u8]) -> Result<(), SendFault>
-        ensures count { self.new.failed ≡ self.old.failed }
+        ensures failed { self.new.failed ≡ self.old.failed }
+        ensures refused { self.new.refused ≡ self.old.refused }
         ensures midi { port ≡ Port.Midi
             → OnOk result (Takes R.File.contents self.old.midi self.new.midi bytes.now) }
+        ensures midi_whole { port ≡ Port.Midi
+            → OnErr result (TakesOrNot R.File.contents self.old.midi self.new.midi bytes.now) }
         ensures midi_dropped { port ≡ Port.Midi → IsNone self.old.midi → IsOk result }
         ensures udp_dropped { port ≡ Port.Udp → IsNone self.old.udp → IsOk result }
         ensures osc_dropped { port ≡ Port.Osc → IsNone self.old.osc → IsOk result }
         ensures midi_stays { port ≢ Port.Midi → self.new.midi ≡ self.old.midi }
-        ensures udp_stays { self.new.udp ≡ self.old.udp }
-        ensures osc_stays { self.new.osc ≡ self.old.osc }
+        ensures udp_stays { option_map (λ peer. peer.lane) self.new.udp
+            ≡ option_map (λ peer. peer.lane) self.old.udp }
+        ensures osc_stays { option_map (λ peer. peer.lane) self.new.osc
+            ≡ option_map (λ peer. peer.lane) self.old.osc }
     {
+        let rt = self.rt;
+        let mut writer = io::writer(rt);
         match port {
-            Port::Text | Port::View => write_whole(&mut io::writer(self.rt), bytes)?,
-            Port::Fault => print_fault(self.rt, bytes)?,
-            Port::Midi => write_midi(&mut self.midi, bytes)?,
-            Port::Udp => send_to(&self.udp, bytes)?,
-            Port::Osc => send_to(&self.osc, bytes)?,
+            Port::Text => self.output.print(&Patience::start(rt), &mut writer, bytes)?,
+            Port::View => self.output.paint(&Patience::start(rt), &mut writer, bytes)?,
+            Port::Fault => {
+                self.errors.wait(&Patience::start(rt))?;
+                print_fault(rt, bytes)?;
+            }
+            Port::Midi => write_midi(rt, &mut self.midi, bytes)?,
+            Port::Udp => send_to(rt, &mut self.udp, bytes)?,
+            Port::Osc => send_to(rt, &mut self.osc, bytes)?,
         }
         Ok(())
     }
 }
 
-impl<R: Print + Eprint + rt::Files + Net> Outs for RealOuts<'_, R> {
+impl<R: Print + Eprint + rt::Files + Net + Clock> Outs for RealOuts<'_, R>
+where
+    R::File: AsRawFd,
+{
     ghost handed = { λ _. None };
 
     ghost attached = { λ _. None };
@@ -110,6 +168,8 @@ impl<R: Print + Eprint + rt::Files + Net> Outs for RealOuts<'_, R> {
     ghost sent = { λ _. 0 };
 
     ghost faults = { λ o. o.failed };
+
+    ghost wants = { λ o. o.refused };
 
     /// Midi is attached to a file, a named pipe or a device file, which is opened for writing: a
     /// plain file is created or emptied. A pipe that nobody reads waits here until somebody does,
@@ -124,15 +184,16 @@ impl<R: Print + Eprint + rt::Files + Net> Outs for RealOuts<'_, R> {
     /// unattached, also where it was attached before.
     fn attach(&mut self, port: Port, name: &str) -> Result<(), SendFault> {
         let done = self.connect(port, name);
-        count(&mut self.failed, done)
+        count(&mut self.failed, &mut self.refused, done)
     }
 
-    /// Text for the standard error that is no UTF-8 is a failure, and so are a datagram that was
-    /// cut and a pipe whose reader has gone away. A datagram that nobody takes is none, since the
-    /// system does not tell. A pipe that is full waits until its reader reads.
+    /// Text for the standard error that is no UTF-8 is a failure. So are a datagram that was cut or is
+    /// too long, a pipe whose reader has gone away, and a MIDI message of more than
+    /// [`WIRE_BYTES`](orca_base::limits::WIRE_BYTES). A datagram that nobody takes is none, since the
+    /// system does not tell.
     fn send(&mut self, port: Port, bytes: &[u8]) -> Result<(), SendFault> {
         let done = self.write(port, bytes);
-        count(&mut self.failed, done)
+        count(&mut self.failed, &mut self.refused, done)
     }
 
     fn sent(&self) -> u64 {
@@ -142,69 +203,111 @@ impl<R: Print + Eprint + rt::Files + Net> Outs for RealOuts<'_, R> {
     ghost sent_is_length = { λ outs pieces told fits. Prim.cc };
 }
 
-/// Counts a failure.
-fn count(failed: &mut u64, done: Result<(), SendFault>) -> Result<(), SendFault>
+/// Counts a failure, or that memory was refused.
+fn count(failed: &mut u64, refused: &mut u64, done: Result<(), SendFault>) -> Result<(), SendFault>
     ensures same { result ≡ done }
     ensures grows { failed.old ≤ failed.new }
     ensures failed { IsErrOf done SendFault.Failed → failed.new ≡ min (failed.old + 1) last_count }
     ensures steady { OnOk done (failed.new ≡ failed.old) }
     ensures steady_memory { IsErrOf done SendFault.Memory → failed.new ≡ failed.old }
+    ensures want_count { refused.old ≤ refused.new }
+    ensures refused { IsErrOf done SendFault.Memory
+        → refused.new ≡ min (refused.old + 1) last_count }
+    ensures sated { OnOk done (refused.new ≡ refused.old) }
+    ensures sated_failed { IsErrOf done SendFault.Failed → refused.new ≡ refused.old }
 {
-    if let Err(SendFault::Failed) = done {
-        *failed = failed.saturating_add(1);
+    match done {
+        Ok(()) => {}
+        Err(SendFault::Failed) => *failed = failed.saturating_add(1),
+        Err(SendFault::Memory) => *refused = refused.saturating_add(1),
     }
     done
 }
 
 /// Opens a file, a named pipe or a device file for writing. A plain file is created or emptied.
-fn open_sink<R: rt::Files>(rt: &R, name: &str) -> io::Result<R::File> {
-    OpenOptions::new()
+fn open_sink<R: rt::Files>(rt: &R, name: &str) -> io::Result<Sink<R::File>>
+where
+    R::File: AsRawFd,
+{
+    let file = OpenOptions::new()
         .write(true)
         .create(true)
         .truncate(true)
-        .open(rt, name)
+        .open(rt, name)?;
+    let gate = Gate::new(file.as_raw_fd());
+    Ok(Sink::new(file, gate))
 }
 
 /// A socket of the family of the first address that the name stands for.
 fn open_peer<R: Net>(rt: &R, name: &str) -> io::Result<Peer> {
-    let Some(address) = name.to_socket_addrs(rt)?.next() else {
-        return Err(io::Error::from(ErrorKind::InvalidInput));
-    };
+    let address = first_of(name.to_socket_addrs(rt)?)?;
     let local = match address {
         SocketAddr::V4(_) => SocketAddr::from((Ipv4Addr::UNSPECIFIED, 0)),
         SocketAddr::V6(_) => SocketAddr::from((Ipv6Addr::UNSPECIFIED, 0)),
     };
     let socket = rt.bind_udp(local)?;
-    Ok(Peer { socket, address })
+    let gate = Gate::new(socket.as_raw_fd());
+    let lane = Lane { socket, address };
+    Ok(Peer { lane, gate })
 }
 
-/// Writes the bytes of a message; they are dropped where there is no sink.
-fn write_midi<W: io::Write>(sink: &mut Option<W>, bytes: &[u8]) -> io::Result<()>
+/// The first of the addresses.
+fn first_of<I: Iterator<Item = SocketAddr>>(mut addresses: I) -> io::Result<SocketAddr>
+    requires { I.can_next addresses }
+    ensures { IfOk result (λ address. (rest : I) × I.next_gives addresses (Some address) rest) }
+{
+    match addresses.next() {
+        Some(address) => Ok(address),
+        None => Err(io::Error::from(ErrorKind::InvalidInput)),
+    }
+}
+
+/// Hands out a message; it is dropped where there is no sink, and no clock is read for it.
+fn write_midi<W: io::Write, C: Clock>(
+    clock: &C,
+    sink: &mut Option<Sink<W>>,
+    bytes: &[u8],
+) -> io::Result<()>
     ensures taken { OnOk result (Takes W.contents sink.old sink.new bytes.now) }
+    ensures whole { OnErr result (TakesOrNot W.contents sink.old sink.new bytes.now) }
     ensures dropped { IsNone sink.old → IsOk result }
 {
     match sink {
-        Some(to) => write_whole(to, bytes),
+        Some(sink) => sink.write_message(&Patience::start(clock), bytes),
         None => Ok(()),
     }
 }
 
-/// Sends one datagram; it is dropped where there is no peer. An interrupted send is tried again.
-fn send_to(peer: &Option<Peer>, bytes: &[u8]) -> io::Result<()>
-    ensures dropped { IsNone peer.now → IsOk result }
+/// Sends one datagram; it is dropped where there is no peer, and no clock is read for it.
+fn send_to<C: Clock>(clock: &C, peer: &mut Option<Peer>, bytes: &[u8]) -> io::Result<()>
+    ensures dropped { IsNone peer.old → IsOk result }
+    ensures same { option_map (λ peer. peer.lane) peer.new
+        ≡ option_map (λ peer. peer.lane) peer.old }
 {
-    let Some(peer) = peer else {
+    let Some(Peer { lane, gate }) = peer else {
         return Ok(());
     };
+    let patience = Patience::start(clock);
     for _ in 0..u64::MAX {
-        match peer.socket.send_to(bytes, peer.address) {
-            Ok(count) if count == bytes.len() => return Ok(()),
-            Ok(_) => break,
-            Err(error) if error.kind() == ErrorKind::Interrupted => {}
-            Err(error) => return Err(error),
+        gate.wait(&patience)?;
+        if let Some(done) = outcome_of(lane.socket.send_to(bytes, lane.address), bytes.len()) {
+            return done;
         }
     }
-    Err(io::Error::from(ErrorKind::WriteZero))
+    Err(io::Error::from(ErrorKind::TimedOut))
+}
+
+/// What became of a datagram of so many bytes, if no signal interrupted its send: it has gone out
+/// whole, or has failed.
+fn outcome_of(sent: io::Result<usize>, length: usize) -> Option<io::Result<()>>
+    ensures again { IsNone result ↔ IsErrAnd sent (λ error. error_kind error ≡ Interrupted) }
+    ensures whole { result ≡ Some (Ok tt) ↔ sent ≡ Ok length }
+{
+    match unless_interrupted(sent)? {
+        Ok(count) if count == length => Some(Ok(())),
+        Ok(_) => Some(Err(io::Error::from(ErrorKind::WriteZero))),
+        Err(error) => Some(Err(error)),
+    }
 }
 
 /// Prints a line of text on the standard error, which takes text alone.
@@ -212,57 +315,5 @@ fn print_fault<R: Eprint>(rt: &R, bytes: &[u8]) -> io::Result<()> {
     match str::from_utf8(bytes) {
         Ok(text) => rt.eprint(text),
         Err(_) => Err(io::Error::from(ErrorKind::InvalidData)),
-    }
-}
-
-#[cfg(test)]
-mod tests {
-    use super::{open_sink, print_fault};
-    use crate::SendFault;
-    use crate::tests::refused::Refused;
-    use std::fmt::Display;
-    use std::io;
-    use std::io::ErrorKind;
-
-    /// A standard error that breaks in this way.
-    #[derive(Drop)]
-    struct Broken(ErrorKind);
-
-    impl Eprint for Broken {
-        fn eprint<D: Display + Drop>(&self, _: D) -> io::Result<()> {
-            Err(io::Error::from(self.0))
-        }
-
-        fn eprintln<D: Display + Drop>(&self, _: D) -> io::Result<()> {
-            Err(io::Error::from(self.0))
-        }
-    }
-
-    #[test]
-    fn memory_that_is_refused_at_an_open_is_told_apart(rt: HostRuntime) {
-        let ends = [
-            (ErrorKind::OutOfMemory, SendFault::Memory),
-            (ErrorKind::PermissionDenied, SendFault::Failed),
-        ];
-        for (end, fault) in ends {
-            let told = open_sink(&Refused(end), "midi")
-                .err()
-                .map(|error| SendFault::from(error));
-            assert_eq!(rt; told, Some(fault));
-        }
-    }
-
-    #[test]
-    fn a_standard_error_that_breaks_fails_or_wants_memory(rt: HostRuntime) {
-        let ends = [
-            (ErrorKind::BrokenPipe, SendFault::Failed),
-            (ErrorKind::OutOfMemory, SendFault::Memory),
-        ];
-        for (end, fault) in ends {
-            let told = print_fault(&Broken(end), b"three")
-                .err()
-                .map(|error| SendFault::from(error));
-            assert_eq!(rt; told, Some(fault));
-        }
     }
 }

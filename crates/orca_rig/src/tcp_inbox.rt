@@ -1,41 +1,53 @@
-ghost use Rattle.std.specs.Prelude.{◌≡◌, ◌≤◌, nat_le, false, None, IfOk};
-ghost use Rattle.std.specs.Option.{option_map_or};
-ghost use Rattle.orca_base.specs.declared.limits.TheConstants.{ARRIVAL_BYTES};
-ghost use Rattle.orca_rig.specs.Pieces.{IsPiece};
+ghost use Rattle.std.specs.Prelude.{◌≡◌, ◌≤◌, ◌+◌, [], false, None, length, IfOk, OnOk, OnErr, IsErrOf, IsSomeAnd, true};
+ghost use Rattle.orca_rig.specs.Outside.{Rose};
 ghost use Rattle.orca_rig.specs.Arrived.{MayAnswer};
+ghost use Rattle.orca_rig.specs.Heard.{AreHeard, hand_bytes};
+ghost use Rattle.orca_rig.specs.declared.inbox.TheConstants.{MAX_HANDS};
 
-use crate::{Answer, Inbox, Outs, SendFault};
+use crate::hands::{Hands, Turn};
+use crate::moments::{Wait, Watch, microseconds, wait_of};
+use crate::whole::unless_interrupted;
+use crate::{Answer, Inbox, MAX_HANDS, Outs, SendFault};
+use mio::net::TcpStream;
+use mio::{Events, Interest, Poll, Token};
 use orca_base::limits::ARRIVAL_BYTES;
-use std::io;
 use std::io::{ErrorKind, Read};
-use std::net::{Net, OpenListener, TcpListener, TcpStream};
+use std::net::{Net, OpenListener, TcpListener};
 use std::rt::Clock;
 use std::time::Duration;
+use std::{io, net, thread};
 
-/// The longest wait of one read, in microseconds.
-const LONGEST_WAIT: u64 = 1_000_000;
+/// How many events one wait gives: one of each hand. None of them is looked at.
+const EVENTS: usize = MAX_HANDS as usize;
 
-/// An inbox over one connection. All bytes are those of hand 0, and moments are microseconds since
-/// `listen`, by the clock that does not go back. It tells no log.
+/// An inbox over connections, one for each hand. Moments are microseconds since the last of them
+/// was accepted, by the clock that does not go back. It tells no log.
 ///
 /// | what happens | what is answered |
 /// |---|---|
-/// | the address is malformed or taken, or its name stands for none | `listen` fails |
-/// | nobody connects | `listen` waits |
-/// | the peer closes its end, also inside the bytes of a key | its bytes, and then [`Answer::End`] |
-/// | the peer resets the connection | [`Answer::Failed`]; bytes that came before may be lost |
-/// | the peer sends nothing | a poll waits for its moment, or forever where it has none |
-/// | the clock cannot be read, or a read cannot be given a time limit | the call fails |
+/// | the address is malformed or taken, or its name stands for none | `listen_hands` fails |
+/// | fewer connect than there are hands | `listen_hands` waits |
+/// | a peer closes its end, also inside the bytes of a key | its bytes, and then no more of it |
+/// | a peer resets its connection | no more of it; bytes that came before may be lost |
+/// | all peers have gone | [`Answer::End`], or [`Answer::Failed`] if a connection was reset |
+/// | a peer sends nothing | a poll waits for its moment, or forever where it has none |
+/// | a signal interrupts a wait or a read | it is tried again |
+/// | the clock cannot be read, or the system refuses to wait for events | the call fails |
 ///
-/// A poll that waits takes no processor. Neither side can hold the other up: of a moment that has
-/// come and bytes that have come, a poll answers the moment, and the next poll the bytes.
+/// A poll waits for events of the connections until shortly before its moment, and takes no
+/// processor. From there on it looks at the connections and sleeps, in turn, since the system ends
+/// a sleep nearer to its time than a wait for events. So bytes that come shortly before the moment
+/// wait for the end of a short sleep.
+///
+/// Neither side can hold the other up: of a moment that has come and bytes that have come, a poll
+/// answers the moment, and the next poll the bytes. Hands are heard in turn. No read waits, so a
+/// hand that is silent makes neither a moment nor the bytes of another one late.
 #[derive(Drop)]
-pub struct TcpInbox<'a, R> {
-    rt: &'a R,
-    stream: Option<TcpStream>,
-    /// What the clock showed when `listen` was called, in microseconds.
-    origin: u64,
-    last: u64,
+pub struct TcpInbox<'a, R: Net> {
+    clock: Watch<'a, R>,
+    /// What was bound before `listen_hands`.
+    bound: Option<R::Listener>,
+    line: Option<Line<TcpStream>>,
     /// The last answer was [`Answer::Due`].
     was_due: bool,
     listened: bool,
@@ -43,105 +55,153 @@ pub struct TcpInbox<'a, R> {
     failed: u64,
 }
 
-/// What a read gave.
-enum Piece {
-    /// So many bytes, 1 to [`ARRIVAL_BYTES`].
-    Bytes(u8),
-    /// Nothing yet.
-    Nothing,
-    /// The peer has closed its end.
-    End,
-    /// The connection broke.
-    Broken,
+/// The connections, and what waits for their events.
+#[derive(Drop)]
+struct Line<S> {
+    poll: Poll,
+    events: Events,
+    hands: Hands<S>,
 }
 
-impl<R: Net<Stream = TcpStream> + Clock> TcpInbox<'_, R> {
-    /// An inbox that accepts one connection when it listens: the name is an address, `HOST:PORT`.
-    pub fn new(rt: &R) -> TcpInbox<'_, R>
-        ensures listened { ⟦<TcpInbox<'static, R> as Inbox>⟧.listened result ≡ false }
-        ensures ended { ⟦<TcpInbox<'static, R> as Inbox>⟧.ended result ≡ false }
-        ensures faults { ⟦<TcpInbox<'static, R> as Inbox>⟧.faults result ≡ 0 }
+impl<S: Read> Line<S> {
+    /// No connection yet, and room for so many.
+    fn new<R: AllocGlobal + Net>(rt: &R, hands: u8) -> Result<Line<S>, SendFault>
+        ensures { IfOk result (λ line. line.hands.hands.items ≡ []) }
     {
-        TcpInbox {
-            rt,
-            stream: None,
-            origin: 0,
-            last: 0,
-            was_due: false,
-            listened: false,
-            ended: false,
-            failed: 0,
-        }
+        Ok(Line {
+            poll: Poll::new(rt)?,
+            events: Events::with_capacity(rt.alloc(), EVENTS)?,
+            hands: Hands::new(rt.alloc(), hands)?,
+        })
     }
 
-    /// An inbox over a connection that was accepted. Its `listen` accepts none, and reads no name.
-    pub fn over(rt: &R, stream: TcpStream) -> TcpInbox<'_, R>
-        ensures listened { ⟦<TcpInbox<'static, R> as Inbox>⟧.listened result ≡ false }
-        ensures ended { ⟦<TcpInbox<'static, R> as Inbox>⟧.ended result ≡ false }
-        ensures faults { ⟦<TcpInbox<'static, R> as Inbox>⟧.faults result ≡ 0 }
+    /// Waits for bytes or for the moment. Bytes go before the moment where the last answer was a
+    /// moment.
+    fn wait<R: Clock>(
+        &mut self,
+        clock: &Watch<'_, R>,
+        was_due: bool,
+        until: Option<u64>,
+        bytes: &mut [u8; ARRIVAL_BYTES],
+    ) -> Answer
+        ensures answer { MayAnswer until clock.now.last result }
+        ensures heard { AreHeard S.remaining self.old.hands.hands.items
+            self.new.hands.hands.items (λ hand. hand_bytes hand result bytes.new) }
     {
-        TcpInbox {
-            rt,
-            stream: Some(stream),
-            origin: 0,
-            last: 0,
-            was_due: false,
-            listened: false,
-            ended: false,
-            failed: 0,
-        }
-    }
-
-    /// The moment now. It is never below the last one that was answered.
-    fn moment(&self) -> io::Result<u64>
-        ensures { IfOk result (λ at. self.now.last ≤ at) }
-    {
-        let now = microseconds(self.rt)?;
-        Ok(self.last.max(now.saturating_sub(self.origin)))
-    }
-
-    /// Waits for bytes or for the moment.
-    fn wait(&self, until: Option<u64>, bytes: &mut [u8; ARRIVAL_BYTES]) -> Answer
-        ensures { MayAnswer until self.now.last result }
-    {
-        let Some(stream) = &self.stream else {
-            return Answer::Failed;
-        };
-        let mut may_be_due = !self.was_due;
+        let mut due = if was_due { None } else { until };
+        let mut unread = self.hands.len();
         for _ in 0..u64::MAX {
-            let Ok(now) = self.moment() else {
+            let Ok(now) = clock.moment() else {
                 return Answer::Failed;
             };
-            if may_be_due && has_come(until, now) {
-                return Answer::Due { at: now };
+            match self.hands.turn(due, now, bytes) {
+                Turn::Answered(answer) => return answer,
+                Turn::Again => unread = self.hands.len(),
+                Turn::Nothing => unread = unread.saturating_sub(1),
             }
-            match read_piece(stream, wait_of(until, now), bytes) {
-                Piece::Bytes(count) => return self.arrival(count),
-                Piece::Nothing => may_be_due = true,
-                Piece::End => return Answer::End,
-                Piece::Broken => return Answer::Failed,
+            // A wait for events comes only behind a round in which no connection had anything.
+            if unread == 0 {
+                if self.rest(clock, wait_of(until, now)).is_err() {
+                    return Answer::Failed;
+                }
+                due = until;
+                unread = self.hands.len();
             }
         }
         Answer::Failed
     }
 
-    /// Bytes that came now.
-    fn arrival(&self, count: u8) -> Answer
-        requires some { 1 ≤ count }
-        requires few { count ≤ ARRIVAL_BYTES }
-        ensures { MayAnswer None self.now.last result }
+    /// Waits for events, or sleeps.
+    fn rest<R: Clock>(&mut self, clock: &Watch<'_, R>, wait: Wait) -> io::Result<()>
+        ensures { self.new.hands ≡ self.old.hands }
     {
-        match self.moment() {
-            Ok(at) => Answer::Bytes { hand: 0, count, at },
-            Err(_) => Answer::Failed,
-        }
+        let limit = match wait {
+            Wait::Sleep(pause) => {
+                if pause > 0 {
+                    thread::sleep(clock.rt, Duration::from_micros(pause));
+                }
+                return Ok(());
+            }
+            Wait::Events(limit) => Some(Duration::from_micros(limit)),
+            Wait::Forever => None,
+        };
+        self.poll.poll(&mut self.events, limit)
     }
 }
 
-impl<R: Net<Stream = TcpStream> + Clock> Inbox for TcpInbox<'_, R> {
+impl Line<TcpStream> {
+    /// Adds the connection of the next hand, which is this one.
+    fn add(&mut self, hand: u8, stream: net::TcpStream) -> Result<(), SendFault>
+        ensures { OnOk result (length self.new.hands.hands.items
+            ≡ length self.old.hands.hands.items + 1) }
+    {
+        stream.set_nonblocking(true)?;
+        let mut stream = TcpStream::from_std(stream);
+        let token = Token(usize::from(hand));
+        self.poll
+            .registry()
+            .register(&mut stream, token, Interest::READABLE)?;
+        Ok(self.hands.add(stream)?)
+    }
+}
+
+impl<R: AllocGlobal + Net<Stream = net::TcpStream> + Clock> TcpInbox<'_, R> {
+    /// An inbox that accepts its connections when it listens: the name is an address, `HOST:PORT`.
+    pub fn new(rt: &R) -> TcpInbox<'_, R>
+        ensures listened { ⟦<TcpInbox<'static, R> as Inbox>⟧.listened result ≡ false }
+        ensures ended { ⟦<TcpInbox<'static, R> as Inbox>⟧.ended result ≡ false }
+        ensures faults { ⟦<TcpInbox<'static, R> as Inbox>⟧.faults result ≡ 0 }
+    {
+        let (origin, last) = (0, 0);
+        TcpInbox {
+            clock: Watch { rt, origin, last },
+            bound: None,
+            line: None,
+            was_due: false,
+            listened: false,
+            ended: false,
+            failed: 0,
+        }
+    }
+
+    /// An inbox whose address is bound already. Its `listen_hands` accepts those who connected
+    /// since then first, and reads no name.
+    pub fn over(rt: &R, bound: R::Listener) -> TcpInbox<'_, R>
+        ensures listened { ⟦<TcpInbox<'static, R> as Inbox>⟧.listened result ≡ false }
+        ensures ended { ⟦<TcpInbox<'static, R> as Inbox>⟧.ended result ≡ false }
+        ensures faults { ⟦<TcpInbox<'static, R> as Inbox>⟧.faults result ≡ 0 }
+    {
+        let mut inbox = TcpInbox::new(rt);
+        inbox.bound = Some(bound);
+        inbox
+    }
+
+    /// Opens the connections of so many hands, and starts the clock.
+    fn open(&mut self, name: &str, hands: u8) -> Result<(), SendFault>
+        ensures hands { OnOk result (IsSomeAnd self.new.line (λ line.
+            length line.hands.hands.items ≡ hands)) }
+        ensures last { self.new.clock.last ≡ self.old.clock.last }
+        ensures listened { self.new.listened ≡ self.old.listened }
+        ensures ended { self.new.ended ≡ self.old.ended }
+        ensures failed { self.new.failed ≡ self.old.failed }
+    {
+        let rt = self.clock.rt;
+        let listener = match self.bound.take() {
+            Some(bound) => bound,
+            None => TcpListener::bind(rt, name)?,
+        };
+        let mut line = Line::new(rt, hands)?;
+        accept_all(&listener, hands, &mut line)?;
+        self.clock.origin = microseconds(rt.monotonic()?);
+        self.line = Some(line);
+        Ok(())
+    }
+}
+
+impl<R: AllocGlobal + Net<Stream = net::TcpStream> + Clock> Inbox for TcpInbox<'_, R> {
     ghost log = { λ _. None };
 
-    ghost last = { λ i. i.last };
+    ghost last = { λ i. i.clock.last };
 
     ghost listened = { λ i. i.listened };
 
@@ -149,15 +209,29 @@ impl<R: Net<Stream = TcpStream> + Clock> Inbox for TcpInbox<'_, R> {
 
     ghost faults = { λ i. i.failed };
 
-    /// Waits until somebody connects to the address, and then accepts nobody else. An address that
-    /// is malformed, taken or unknown is a failure. The moment of the start is 0.
-    fn listen(&mut self, name: &str) -> Result<u64, SendFault> {
+    /// Waits until so many have connected to the address, and then accepts nobody else. An address
+    /// that is malformed, taken or unknown is a failure. The moment of the start is 0.
+    fn listen_hands(&mut self, name: &str, hands: u8) -> Result<u64, SendFault>
+        requires fresh { self.old.listened ≡ false }
+        requires some { 1 ≤ hands }
+        requires few { hands ≤ MAX_HANDS }
+        ensures moment { IfOk result (λ at. self.new.clock.last ≡ at) }
+        ensures later { self.old.clock.last ≤ self.new.clock.last }
+        ensures unanswered { OnErr result (self.new.clock.last ≡ self.old.clock.last) }
+        ensures listened { self.new.listened ≡ true }
+        ensures ended { self.new.ended ≡ self.old.ended }
+        ensures count { self.old.failed ≤ self.new.failed }
+        ensures failed { IsErrOf result SendFault.Failed → Rose self.old.failed self.new.failed }
+        ensures steady { OnOk result (self.new.failed ≡ self.old.failed) }
+        ensures steady_memory { IsErrOf result SendFault.Memory
+            → self.new.failed ≡ self.old.failed }
+
+        ensures hands { OnOk result (IsSomeAnd self.new.line (λ line.
+            length line.hands.hands.items ≡ hands)) }
+    {
         self.listened = true;
-        match start(self.rt, &mut self.stream, name) {
-            Ok(origin) => {
-                self.origin = origin;
-                Ok(self.last)
-            }
+        match self.open(name, hands) {
+            Ok(()) => Ok(self.clock.last),
             Err(SendFault::Failed) => {
                 self.failed = self.failed.saturating_add(1);
                 Err(SendFault::Failed)
@@ -166,8 +240,8 @@ impl<R: Net<Stream = TcpStream> + Clock> Inbox for TcpInbox<'_, R> {
         }
     }
 
-    /// A poll before `listen`, one whose clock fails, and one that has taken 2^64 - 1 turns without
-    /// an answer are failures.
+    /// A poll before `listen_hands`, one whose clock fails, and one that has taken 2^64 - 1 turns
+    /// without an answer are failures.
     fn poll<O: Outs>(
         &mut self,
         outs: &O,
@@ -176,16 +250,15 @@ impl<R: Net<Stream = TcpStream> + Clock> Inbox for TcpInbox<'_, R> {
     ) -> Answer {
         // What was sent is written down by an inbox that tells its log.
         let _ = outs;
-        let answer = if self.listened {
-            self.wait(until, bytes)
-        } else {
-            Answer::Failed
+        let answer = match &mut self.line {
+            Some(line) => line.wait(&self.clock, self.was_due, until, bytes),
+            None => Answer::Failed,
         };
         self.was_due = false;
         match answer {
-            Answer::Bytes { at, .. } => self.last = at,
+            Answer::Bytes { at, .. } => self.clock.last = at,
             Answer::Due { at } => {
-                self.last = at;
+                self.clock.last = at;
                 self.was_due = true;
             }
             Answer::End => self.ended = true,
@@ -198,71 +271,75 @@ impl<R: Net<Stream = TcpStream> + Clock> Inbox for TcpInbox<'_, R> {
     }
 }
 
-/// Accepts a connection where there is none, and answers what the clock shows.
-fn start<R: Net<Stream = TcpStream> + Clock>(
-    rt: &R,
-    stream: &mut Option<TcpStream>,
-    name: &str,
-) -> Result<u64, SendFault> {
-    if stream.is_none() {
-        *stream = Some(accept(rt, name)?);
+/// Accepts so many connections, one after another.
+fn accept_all<L: OpenListener<Stream = net::TcpStream>>(
+    listener: &L,
+    hands: u8,
+    line: &mut Line<TcpStream>,
+) -> Result<(), SendFault>
+    ensures { OnOk result (length line.new.hands.hands.items
+        ≡ length line.old.hands.hands.items + hands) }
+{
+    for hand in 0..hands {
+        line.add(hand, accept(listener)?)?;
     }
-    Ok(microseconds(rt)?)
+    Ok(())
 }
 
-/// Accepts one connection on the address.
-fn accept<R: Net<Stream = TcpStream>>(rt: &R, name: &str) -> io::Result<TcpStream> {
-    let listener = TcpListener::bind(rt, name)?;
+/// Accepts one connection.
+fn accept<L: OpenListener>(listener: &L) -> io::Result<L::Stream> {
     for _ in 0..u64::MAX {
-        match listener.accept() {
-            Ok((stream, _)) => return Ok(stream),
-            Err(error) if error.kind() == ErrorKind::Interrupted => {}
-            Err(error) => return Err(error),
+        if let Some(accepted) = unless_interrupted(listener.accept()) {
+            let (stream, _) = accepted?;
+            return Ok(stream);
         }
     }
     Err(io::Error::from(ErrorKind::TimedOut))
 }
 
-/// What the clock shows, in microseconds since some start.
-fn microseconds<R: Clock>(rt: &R) -> io::Result<u64> {
-    Ok(u64::try_from(rt.monotonic()?.as_micros()).unwrap_or(u64::MAX))
-}
+#[cfg(test)]
+mod tests {
+    use super::Line;
+    use crate::Answer;
+    use crate::moments::Watch;
+    use orca_base::limits::ARRIVAL_BYTES;
+    use std::io::Write;
+    use std::net::{TcpListener, TcpStream};
+    use std::test::Fail;
 
-/// Whether the moment to wait for has come.
-fn has_come(until: Option<u64>, now: u64) -> bool
-    ensures { result ≡ option_map_or (λ moment. nat_le moment now) until false }
-{
-    match until {
-        Some(moment) => moment <= now,
-        None => false,
-    }
-}
-
-/// How long a read may wait, in microseconds: to the moment, and no longer than the longest wait.
-fn wait_of(until: Option<u64>, now: u64) -> u64 {
-    match until {
-        Some(moment) => moment.saturating_sub(now).clamp(1, LONGEST_WAIT),
-        None => LONGEST_WAIT,
-    }
-}
-
-/// Reads what has come, or waits for it so long.
-fn read_piece(stream: &TcpStream, wait: u64, bytes: &mut [u8; ARRIVAL_BYTES]) -> Piece
-    ensures { IsPiece result }
-{
-    if stream
-        .set_read_timeout(Some(Duration::from_micros(wait)))
-        .is_err()
-    {
-        return Piece::Broken;
-    }
-    let mut from = stream;
-    match from.read(bytes) {
-        Ok(0) => Piece::End,
-        Ok(count) => Piece::Bytes(count as u8),
-        Err(error) => match error.kind() {
-            ErrorKind::WouldBlock | ErrorKind::TimedOut | ErrorKind::Interrupted => Piece::Nothing,
-            _ => Piece::Broken,
-        },
+    #[test]
+    fn a_connection_that_is_reset_is_a_failure(rt: HostRuntime) -> Result<(), Fail> {
+        let listener = TcpListener::bind(&rt, "127.0.0.1:0")?;
+        let resets = TcpStream::connect(&rt, listener.local_addr()?)?;
+        let (mut first, _) = listener.accept()?;
+        let mut stays = TcpStream::connect(&rt, listener.local_addr()?)?;
+        let (second, _) = listener.accept()?;
+        // What the peer has not read when it closes lets it reset the connection.
+        first.write_all(b"unread")?;
+        drop(resets);
+        stays.write_all(b"z")?;
+        let mut line = Line::new(&rt, 2).expect(&rt, "a line");
+        assert_eq!(rt; (line.add(0, first), line.add(1, second)), (Ok(()), Ok(())));
+        let (origin, last) = (0, 0);
+        let clock = Watch {
+            rt: &rt,
+            origin,
+            last,
+        };
+        let mut bytes = [0u8; ARRIVAL_BYTES];
+        let answer = line.wait(&clock, false, None, &mut bytes);
+        assert!(rt;
+            matches!(
+                answer,
+                Answer::Bytes {
+                    hand: 1,
+                    count: 1,
+                    ..
+                }
+            )
+        );
+        drop(stays);
+        assert_eq!(rt; line.wait(&clock, false, None, &mut bytes), Answer::Failed);
+        Ok(())
     }
 }

@@ -1,7 +1,6 @@
 mod files;
 mod inbox;
 mod outs;
-pub(crate) mod refused;
 mod tcp;
 
 /// An address whose name stands for nothing: no part of a name has more than 63 letters.

@@ -1,6 +1,8 @@
 //! Reading and writing until all is done.
 
-ghost use Rattle.std.specs.Prelude.{◌≡◌, ◌≤◌, length, OnOk, IfOk, IfSome};
+ghost use Rattle.std.specs.Prelude.{◌≡◌, ◌≤◌, ◌↔◌, length, IsNone, IsErrAnd, OnOk, IfOk, IfSome};
+ghost use Rattle.std.specs.IoError.{error_kind};
+ghost use Rattle.std.specs.declared.io.ErrorKind.TheVariants.{Interrupted};
 ghost use Rattle.std.specs.Io.KnownBytes.{Appends};
 ghost use Rattle.orca_base.specs.declared.limits.TheConstants.{MAX_FILE_BYTES};
 
@@ -54,10 +56,21 @@ pub(crate) fn write_whole<W: Write>(to: &mut W, bytes: &[u8]) -> io::Result<()>
     Err(io::Error::from(ErrorKind::WriteZero))
 }
 
+/// What a call gave, but where a signal interrupted it: then it is to be tried again.
+pub(crate) fn unless_interrupted<T: Drop>(gave: io::Result<T>) -> Option<io::Result<T>>
+    ensures interrupted { IsNone result
+        ↔ IsErrAnd gave (λ error. error_kind error ≡ Interrupted) }
+    ensures same { IfSome result (λ same. same ≡ gave) }
+{
+    match gave {
+        Err(error) if error.kind() == ErrorKind::Interrupted => None,
+        gave => Some(gave),
+    }
+}
+
 #[cfg(test)]
 mod tests {
     use super::{read_whole, write_whole};
-    use crate::{SendFault, StoreFault};
     use std::io;
     use std::io::{ErrorKind, Read, Write};
     use std::test::Fail;
@@ -131,92 +144,30 @@ mod tests {
         }
     }
 
-    /// A writer that breaks in this way after its first byte.
-    #[derive(Drop)]
-    struct BrokenWriter {
-        kept: usize,
-        end: ErrorKind,
-    }
-
-    impl Write for BrokenWriter {
-        fn write(&mut self, bytes: &[u8]) -> io::Result<usize> {
-            if self.kept > 0 {
-                return Err(io::Error::from(self.end));
-            }
-            self.kept = bytes.len().min(1);
-            Ok(self.kept)
-        }
-
-        fn flush(&mut self) -> io::Result<()> {
-            Ok(())
-        }
-    }
-
     #[test]
-    fn all_is_read_byte_by_byte(rt: HostRuntime) -> Result<(), Fail> {
-        for count in [0, 3, 6000] {
-            let Ok(bytes) = read_whole(rt.alloc(), &mut slow_reader(count, None)) else {
-                panic!(rt; "not read");
-            };
-            assert_eq!(rt; bytes.len(), count);
-            assert!(rt; bytes.iter().all(|byte| *byte == b'.'));
+    fn reads_go_on_until_the_end(rt: HostRuntime) -> Result<(), Fail> {
+        for (count, end) in [
+            (0, None),
+            (3, None),
+            (6000, None),
+            (3, Some(ErrorKind::Other)),
+        ] {
+            let bytes = read_whole(rt.alloc(), &mut slow_reader(count, end)).ok();
+            let wanted = if end.is_none() { Some(count) } else { None };
+            assert_eq!(rt; bytes.map(|bytes| bytes.len()), wanted);
         }
         Ok(())
     }
 
     #[test]
-    fn a_reader_that_breaks_fails_or_wants_memory(rt: HostRuntime) {
-        let ends = [
-            (ErrorKind::Other, StoreFault::Failed),
-            (ErrorKind::OutOfMemory, StoreFault::Memory),
-        ];
-        for (end, fault) in ends {
-            let broken = read_whole(rt.alloc(), &mut slow_reader(3, Some(end))).err();
-            assert_eq!(rt; broken, Some(fault));
+    fn writes_go_on_until_all_is_written(rt: HostRuntime) -> Result<(), Fail> {
+        // Each second turn is interrupted. All that fits is one write.
+        for (most, turns) in [(2, 6), (5, 2), (0, 2)] {
+            let mut to = slow_writer(&rt, most);
+            let is_written = write_whole(&mut to, b"three").is_ok();
+            assert_eq!(rt; (is_written, to.turns), (most > 0, turns));
+            assert_eq!(rt; to.kept.as_slice() == b"three".as_slice(), most > 0);
         }
-    }
-
-    #[test]
-    fn a_short_write_is_followed_by_the_rest(rt: HostRuntime) -> Result<(), Fail> {
-        let mut to = slow_writer(&rt, 2);
-        assert!(rt; write_whole(&mut to, b"three").is_ok());
-        assert_eq!(rt; to.kept.as_slice(), b"three".as_slice());
-        assert_eq!(rt; to.turns, 6);
         Ok(())
-    }
-
-    #[test]
-    fn all_bytes_are_one_write(rt: HostRuntime) -> Result<(), Fail> {
-        let mut to = slow_writer(&rt, 5);
-        assert!(rt; write_whole(&mut to, b"three").is_ok());
-        assert_eq!(rt; to.kept.as_slice(), b"three".as_slice());
-        // The first turn was interrupted.
-        assert_eq!(rt; to.turns, 2);
-        Ok(())
-    }
-
-    #[test]
-    fn a_writer_that_takes_nothing_is_a_failure(rt: HostRuntime) {
-        let mut to = slow_writer(&rt, 0);
-        let fault = write_whole(&mut to, b"three")
-            .err()
-            .map(|error| SendFault::from(error));
-        assert_eq!(rt; fault, Some(SendFault::Failed));
-        assert!(rt; write_whole(&mut to, b"").is_ok(), "an empty piece");
-    }
-
-    #[test]
-    fn a_writer_that_breaks_fails_or_wants_memory(rt: HostRuntime) {
-        let ends = [
-            (ErrorKind::BrokenPipe, SendFault::Failed),
-            (ErrorKind::OutOfMemory, SendFault::Memory),
-        ];
-        for (end, fault) in ends {
-            let mut to = BrokenWriter { kept: 0, end };
-            let told = write_whole(&mut to, b"three")
-                .err()
-                .map(|error| SendFault::from(error));
-            assert_eq!(rt; told, Some(fault));
-        }
     }
 }

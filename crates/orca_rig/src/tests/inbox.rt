@@ -1,6 +1,8 @@
 ghost use Rattle.std.specs.Prelude.{◌≡◌, false, IfOk};
 
-use crate::{Answer, Inbox, MemAnswer, MemInbox, MemOuts, SendFault, are_arrivals, is_in_order};
+use crate::{
+    Answer, Inbox, MAX_HANDS, MemAnswer, MemInbox, MemOuts, SendFault, are_arrivals, is_in_order,
+};
 use orca_base::Wire;
 use orca_base::limits::{ARRIVAL_BYTES, WIRE_BYTES};
 use std::alloc::Global;
@@ -71,7 +73,7 @@ fn an_inbox_in_memory_gives_its_answers_in_turn(rt: HostRuntime) -> Result<(), F
     ];
     let mut inbox = make_inbox(&rt, alloc, &answers, &[])?;
     let outs = MemOuts::new(Vec::new(alloc))?;
-    assert_eq!(rt; inbox.listen("127.0.0.1:7000"), Ok(10));
+    assert_eq!(rt; inbox.listen_hands("127.0.0.1:7000", MAX_HANDS), Ok(10));
     let mut bytes = [b'_'; ARRIVAL_BYTES];
     let came = |hand: u8, count: u8, at: u64| Answer::Bytes { hand, count, at };
     let turns: [Turn; 5] = [
@@ -96,10 +98,10 @@ fn an_inbox_in_memory_fails_where_it_is_told_to(rt: HostRuntime) -> Result<(), F
     let outs = MemOuts::new(Vec::new(alloc))?;
     let mut bytes = [0u8; ARRIVAL_BYTES];
     let mut refused = make_inbox(&rt, alloc, &[], &[1])?;
-    assert_eq!(rt; refused.listen(""), Err(SendFault::Failed));
+    assert_eq!(rt; refused.listen_hands("", 1), Err(SendFault::Failed));
     // The second poll is the third call, and there is no answer left for it.
     let mut late = make_inbox(&rt, alloc, &[bytes_at(0, b"a", 11)], &[3])?;
-    assert_eq!(rt; late.listen(""), Ok(10));
+    assert_eq!(rt; late.listen_hands("", 1), Ok(10));
     let first = Answer::Bytes {
         hand: 0,
         count: 1,
@@ -108,15 +110,4 @@ fn an_inbox_in_memory_fails_where_it_is_told_to(rt: HostRuntime) -> Result<(), F
     check_poll(&rt, &mut late, &outs, &mut bytes, &(None, first, b"a"));
     assert_eq!(rt; late.poll(&outs, None, &mut bytes), Answer::Failed);
     Ok(())
-}
-
-#[test]
-fn faulty_answers_are_seen(rt: HostRuntime) {
-    let due = |at: u64| MemAnswer::Due { at };
-    assert!(rt; is_in_order(3, &[due(3), due(3), due(4)]));
-    assert!(rt; !is_in_order(3, &[due(2)]));
-    assert!(rt; !is_in_order(3, &[due(5), bytes_at(0, b"a", 4)]));
-    assert!(rt; are_arrivals(&[bytes_at(0, &[b'.'; ARRIVAL_BYTES], 0), due(0)]));
-    assert!(rt; !are_arrivals(&[due(0), bytes_at(0, b"", 0)]));
-    assert!(rt; !are_arrivals(&[bytes_at(0, &[b'.'; ARRIVAL_BYTES + 1], 0)]));
 }

@@ -1,11 +1,13 @@
 use super::UNKNOWN;
 use crate::{MemOuts, Outs, RealOuts, SendFault};
 use orca_base::Port;
+use orca_base::limits::WIRE_BYTES;
 use std::io::Read;
 use std::net::UdpSocket;
 use std::os::fd::AsRawFd;
 use std::process::Abort;
 use std::test::Fail;
+use std::time::{Duration, Instant};
 use std::{fs, io};
 
 type Given<'a> = (Port, &'a [u8], Result<(), SendFault>);
@@ -29,11 +31,19 @@ fn check_attaches<O: Outs>(rt: &impl Abort, outs: &mut O, turns: &[Named<'_>]) {
 #[test]
 fn ports_in_memory_keep_what_they_are_given(rt: HostRuntime) -> Result<(), Fail> {
     let alloc = rt.alloc();
-    let mut outs = MemOuts::new(vec![in alloc; (Port::Text, 2u64), (Port::Fault, 1u64)]?)?;
-    let turns: [Given; 4] = [
+    // An attach is a call of its port, too.
+    let fail = vec![in alloc; (Port::Udp, 1u64), (Port::Midi, 2u64), (Port::Text, 2u64)]?;
+    let mut outs = MemOuts::new(fail)?;
+    let names: [Named; 2] = [
+        (Port::Midi, "a", Ok(())),
+        (Port::Udp, "b", Err(SendFault::Failed)),
+    ];
+    check_attaches(&rt, &mut outs, &names);
+    let turns: [Given; 5] = [
         (Port::Text, b"one", Ok(())),
-        (Port::Midi, b"two", Ok(())),
+        (Port::Midi, b"two", Err(SendFault::Failed)),
         (Port::Text, b"three", Err(SendFault::Failed)),
+        (Port::Udp, b"four", Ok(())),
         (Port::Text, b"", Ok(())),
     ];
     check_sends(&rt, &mut outs, &turns);
@@ -42,30 +52,7 @@ fn ports_in_memory_keep_what_they_are_given(rt: HostRuntime) -> Result<(), Fail>
         assert_eq!(rt; outs.handed_at(index), Some((port, bytes)));
         index = index.saturating_add(1);
     }
-    assert_eq!(rt; outs.handed_at(4), None);
-    assert_eq!(rt; outs.sent(), 4);
-    Ok(())
-}
-
-#[test]
-fn an_attach_in_memory_is_a_call_of_its_port(rt: HostRuntime) -> Result<(), Fail> {
-    let alloc = rt.alloc();
-    let fail = vec![in alloc; (Port::Udp, 1u64), (Port::Midi, 2u64), (Port::Osc, 3u64)]?;
-    let mut outs = MemOuts::new(fail)?;
-    let names: [Named; 4] = [
-        (Port::Midi, "a", Ok(())),
-        (Port::Udp, "b", Err(SendFault::Failed)),
-        (Port::Osc, "c", Ok(())),
-        (Port::Osc, "d", Ok(())),
-    ];
-    check_attaches(&rt, &mut outs, &names);
-    let turns: [Given; 3] = [
-        (Port::Midi, b"one", Err(SendFault::Failed)),
-        (Port::Udp, b"two", Ok(())),
-        (Port::Osc, b"three", Err(SendFault::Failed)),
-    ];
-    check_sends(&rt, &mut outs, &turns);
-    assert_eq!(rt; outs.sent(), 3);
+    assert_eq!(rt; (outs.handed_at(index), outs.sent()), (None, 5));
     Ok(())
 }
 
@@ -122,15 +109,26 @@ fn midi_goes_to_a_file_or_a_device(rt: HostRuntime) -> Result<(), Fail> {
 }
 
 #[test]
-fn midi_goes_to_a_pipe(rt: HostRuntime) -> Result<(), Fail> {
+fn a_pipe_that_nobody_reads_is_waited_for_once(rt: HostRuntime) -> Result<(), Fail> {
     let (mut reader, writer) = io::pipe(&rt)?;
     let name = format!(in rt.alloc(); "/proc/self/fd/{}", writer.as_raw_fd())?;
     let mut outs = RealOuts::new(&rt);
     check_attaches(&rt, &mut outs, &[(Port::Midi, name.as_str(), Ok(()))]);
+    // A pipe holds at most 65,536 bytes here, which is 341 of these messages.
+    let start = Instant::now(&rt)?;
+    let mut lost = 0u16;
+    for _ in 0..400 {
+        if outs.send(Port::Midi, &[0x90; WIRE_BYTES]).is_err() {
+            lost = lost.saturating_add(1);
+        }
+    }
+    let taken = start.elapsed(&rt)?;
+    assert!(rt; lost > 40, "{lost} are lost");
+    assert!(rt; taken >= Duration::from_millis(250) && taken < Duration::from_secs(5));
+    // It shows room again.
+    let mut into = [0u8; 8192];
+    assert_eq!(rt; reader.read(&mut into)?, 8192);
     check_sends(&rt, &mut outs, &[(Port::Midi, b"\x90\x30\x3f", Ok(()))]);
-    let mut into = [0u8; 8];
-    assert_eq!(rt; reader.read(&mut into)?, 3);
-    assert_eq!(rt; &into[..3], b"\x90\x30\x3f".as_slice());
     // Nobody reads any longer.
     drop(reader);
     check_sends(
@@ -181,6 +179,13 @@ fn each_port_gets_its_own_bytes(rt: HostRuntime) -> Result<(), Fail> {
         b"\x90\x30\x3f".as_slice()
     );
     fs::remove_file(&rt, midi_name)?;
+    // No datagram has so many bytes.
+    let long = [0u8; 70_000];
+    check_sends(
+        &rt,
+        &mut outs,
+        &[(Port::Udp, &long, Err(SendFault::Failed))],
+    );
     // Nobody listens any longer, and the system tells it to no send.
     drop(udp);
     let lost: [Given; 2] = [(Port::Udp, b"hi", Ok(())), (Port::Udp, b"hi", Ok(()))];

@@ -1,7 +1,7 @@
-use Rattle.std.proofs.Common.{◌≡◌, ℕ, ◌-◌, List, [], ◌++◌, rules, length, take, drop, sym, ap, ◌∙◌, subst, append_assoc, append-nil, take-append-drop, drop_of_length-le}
-use Rattle.std.proofs.lemmas.List.{take_rest}
+use Rattle.std.proofs.Common.{◌≡◌, [], ◌++◌, rules, take, sym, ap, ◌∙◌, subst, append-nil, drop_of_length-le}
 use Rattle.std.specs.Io.KnownBytes.{Appends}
 use Rattle.std.proofs.KnownBytes.{Appends-trans, Appends-kept}
+use Rattle.orca_rig.proofs.WriteLemmas.{moves_front}
 use Rattle.orca_rig.proofs.whole.write_whole.Goals as goal
 use Rattle.orca_rig.proofs.whole.write_whole.Goals.{in-Ok, in-Err}
 
@@ -10,13 +10,6 @@ returns-then-is_empty g c =
     let (done, split, appended) = c.loop.invariant in
     let empty : c.loop.rest.now ≡ [] = drop_of_length-le c.loop.rest.now {i = 0} (search rules) in
     subst (Appends _ _) (sym (split ∙ ap (λ l. done ++ l) empty ∙ append-nil done)) appended
-
-moves_front : (all done rest : List ℕ) (n : ℕ) → all ≡ done ++ rest
-    → all ≡ (done ++ take n rest) ++ take (length rest - n) (drop n rest)
-moves_front all done rest n e =
-    e ∙ ap (λ l. done ++ l) (sym (take-append-drop n rest))
-    ∙ sym (append_assoc done (take n rest) (drop n rest))
-    ∙ ap (λ l. (done ++ take n rest) ++ l) (sym (take_rest rest n))
 
 pub loop-preserved : goal.loop-preserved
 loop-preserved g c =
