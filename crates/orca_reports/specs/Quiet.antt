@@ -2,7 +2,7 @@
 use Rattle.std.specs.Prelude.{◌≡◌, ℕ, false, List, [], ◌∷◌, Result, Ok, Err, refl}
 use Rattle.std.proofs.lemmas.List.Elements.{All-nil, All-cons, All-map}
 use Rattle.orca_base.specs.declared.command.Reply.{Reply}
-use Rattle.orca_base.specs.declared.command.Reply.TheVariants.{Edited, Copied, Framed, Jumped}
+use Rattle.orca_base.specs.declared.command.Reply.TheVariants.{Edited, Copied, Framed, Jumped, Redone}
 use Rattle.orca_base.specs.declared.command.Rule.{Rule}
 use Rattle.orca_base.specs.declared.message.Message.{Message}
 use Rattle.orca_base.specs.declared.port.Port.TheVariants as port
@@ -34,6 +34,7 @@ frame-quiet (Ok (Framed tick)) messages = lines-quiet (Tick tick) messages
 frame-quiet (Ok Edited) messages = nothing-quiet
 frame-quiet (Ok Copied) messages = nothing-quiet
 frame-quiet (Ok (Jumped moment)) messages = nothing-quiet
+frame-quiet (Ok (Redone entries)) messages = nothing-quiet
 frame-quiet (Err rule) messages = nothing-quiet
 
 refusal-quiet : (line : ℕ) (answer : Result Reply Rule) → AreQuiet (refusal_lines line answer)

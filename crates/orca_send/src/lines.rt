@@ -14,7 +14,7 @@ pub enum Label {
     End,
 }
 
-/// Makes `line` the line of a message's port and bytes.
+/// Makes `line` the line of a message's port and bytes. After [`Memory`] it may hold a part of it.
 #[tactic(auto, unfolding(crate::specs::Lines::line_of))]
 pub fn write_line(line: &mut Vec<u8>, label: Label, port: Port, bytes: &[u8]) -> Result<(), Memory>
     ensures { OnOk result (line.new.items
@@ -42,7 +42,7 @@ fn push_label(line: &mut Vec<u8>, label: Label) -> Result<(), Memory>
     }
 }
 
-/// Appends a number in decimal digits.
+/// Appends a number in decimal digits. After [`Memory`] some of them may stand there.
 #[tactic(auto, using(std::proofs::lemmas::Fmt::decimal_digit))]
 pub fn push_decimal(line: &mut Vec<u8>, n: u64) -> Result<(), Memory>
     ensures { OnOk result (line.new.items ≡ line.old.items ++ decimal n) }

@@ -1,5 +1,6 @@
-ghost use Rattle.std.specs.Prelude.{◌≡◌, ◌≢◌, [], ◌∷◌, false, All};
+ghost use Rattle.std.specs.Prelude.{◌≡◌, ◌≢◌, [], ◌∷◌, false, All, IsErrOf, OnOk};
 ghost use Rattle.orca_base.specs.Ranges.{CarriesFewValues, HasDataInRange};
+ghost use Rattle.orca_rig.specs.Outside.{Rose};
 ghost use Rattle.orca_send.specs.Lines.{line_sent, lines_of};
 ghost use Rattle.orca_send.specs.Sending.{RecordsFaults, Says, sends_of, sent_of, text_sent};
 
@@ -53,7 +54,8 @@ impl<T: Drop> From<AllocFailed<T>> for NoMemory {
 pub struct Sender {
     /// Whether a port has failed since the start.
     pub failed: bool,
-    /// The line that is printed next: room that is kept from one line to the next.
+    /// The text that is printed or saved next: a line, a grid or a script. Its room is kept from one
+    /// text to the next.
     pub line: Vec<u8>,
 }
 
@@ -75,6 +77,9 @@ impl Sender {
         ensures recorded { RecordsFaults
             self.old.failed self.new.failed (O.faults outs.old) (O.faults outs.new) }
         ensures attached { O.attached outs.new ≡ O.attached outs.old }
+        ensures wanted { IsErrOf result NoMemory.InSend
+            → Rose (O.wants outs.old) (O.wants outs.new) }
+        ensures sated { OnOk result (O.wants outs.new ≡ O.wants outs.old) }
         ensures in_send { result ≢ Err NoMemory.Elsewhere }
     {
         give(outs, &mut self.failed, port, bytes)
@@ -93,6 +98,9 @@ impl Sender {
         ensures recorded { RecordsFaults
             self.old.failed self.new.failed (O.faults outs.old) (O.faults outs.new) }
         ensures attached { O.attached outs.new ≡ O.attached outs.old }
+        ensures wanted { IsErrOf result NoMemory.InSend
+            → Rose (O.wants outs.old) (O.wants outs.new) }
+        ensures sated { OnOk result (O.wants outs.new ≡ O.wants outs.old) }
         ensures in_send { result ≢ Err NoMemory.Elsewhere }
     {
         for message in messages {
@@ -108,6 +116,9 @@ impl Sender {
         ensures recorded { RecordsFaults
             self.old.failed self.new.failed (O.faults outs.old) (O.faults outs.new) }
         ensures attached { O.attached outs.new ≡ O.attached outs.old }
+        ensures wanted { IsErrOf result NoMemory.InSend
+            → Rose (O.wants outs.old) (O.wants outs.new) }
+        ensures sated { OnOk result (O.wants outs.new ≡ O.wants outs.old) }
         ensures in_send { result ≢ Err NoMemory.Elsewhere }
     {
         give(outs, &mut self.failed, Port::Text, self.line.as_slice())
@@ -127,6 +138,11 @@ impl Sender {
         ensures recorded { RecordsFaults
             self.old.failed self.new.failed (O.faults outs.old) (O.faults outs.new) }
         ensures attached { O.attached outs.new ≡ O.attached outs.old }
+        ensures wanted { IsErrOf result NoMemory.InSend
+            → Rose (O.wants outs.old) (O.wants outs.new) }
+        ensures sated { OnOk result (O.wants outs.new ≡ O.wants outs.old) }
+        ensures sated_elsewhere { IsErrOf result NoMemory.Elsewhere
+            → O.wants outs.new ≡ O.wants outs.old }
     {
         for message in messages {
             self.print_message(outs, label, message)?;
@@ -148,6 +164,11 @@ impl Sender {
         ensures recorded { RecordsFaults
             self.old.failed self.new.failed (O.faults outs.old) (O.faults outs.new) }
         ensures attached { O.attached outs.new ≡ O.attached outs.old }
+        ensures wanted { IsErrOf result NoMemory.InSend
+            → Rose (O.wants outs.old) (O.wants outs.new) }
+        ensures sated { OnOk result (O.wants outs.new ≡ O.wants outs.old) }
+        ensures sated_elsewhere { IsErrOf result NoMemory.Elsewhere
+            → O.wants outs.new ≡ O.wants outs.old }
     {
         let mut bytes = Wire::empty();
         let port = wire(message, &mut bytes);
@@ -162,6 +183,9 @@ fn give<O: Outs>(outs: &mut O, failed: &mut bool, port: Port, bytes: &[u8]) -> R
         result (O.handed outs.old) (O.handed outs.new) }
     ensures recorded { RecordsFaults failed.old failed.new (O.faults outs.old) (O.faults outs.new) }
     ensures attached { O.attached outs.new ≡ O.attached outs.old }
+    ensures wanted { IsErrOf result NoMemory.InSend
+        → Rose (O.wants outs.old) (O.wants outs.new) }
+    ensures sated { OnOk result (O.wants outs.new ≡ O.wants outs.old) }
     ensures in_send { result ≢ Err NoMemory.Elsewhere }
 {
     match outs.send(port, bytes) {
@@ -182,6 +206,9 @@ fn give_message<O: Outs>(outs: &mut O, failed: &mut bool, message: &Message) -> 
         result (O.handed outs.old) (O.handed outs.new) }
     ensures recorded { RecordsFaults failed.old failed.new (O.faults outs.old) (O.faults outs.new) }
     ensures attached { O.attached outs.new ≡ O.attached outs.old }
+    ensures wanted { IsErrOf result NoMemory.InSend
+        → Rose (O.wants outs.old) (O.wants outs.new) }
+    ensures sated { OnOk result (O.wants outs.new ≡ O.wants outs.old) }
     ensures in_send { result ≢ Err NoMemory.Elsewhere }
 {
     let mut bytes = Wire::empty();

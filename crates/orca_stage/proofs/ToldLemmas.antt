@@ -1,18 +1,17 @@
 -- What acts make of what is told.
-use Rattle.std.proofs.Common.{◌≡◌, ◌⊎◌, ℕ, Bool, true, List, [], ◌∷◌, ◌++◌, refl, sym, ◌∙◌, ap, subst, append_assoc, append-nil}
+use Rattle.std.proofs.Common.{◌≡◌, true, List, [], ◌∷◌, ◌++◌, refl, sym, ◌∙◌, ap, subst, append_assoc, append-nil}
 use Rattle.std.specs.Prelude.{Option, Some, None}
 use Rattle.std.specs.Option.{option_map}
 use Rattle.orca_base.specs.Ports.{Sent}
-use Rattle.orca_rig.specs.Arrived.{Log, after_poll}
+use Rattle.orca_rig.specs.Arrived.{Log, after_poll, with_listen}
 use Rattle.orca_rig.specs.Handed.{Attached}
 use Rattle.orca_rig.specs.Outside.{Ask}
 use Rattle.orca_send.specs.Sending.{added}
 use Rattle.orca_send.proofs.SendLemmas.{added_none, added_twice}
 use Rattle.orca_stage.specs.Acts.{Act, AreSends, asked_in, attached_in, given, log_after, stand_after}
 use Rattle.orca_stage.specs.Acts.Act.{Attach, Await, Give, Listen, Obey, Show, Stand, Store}
-use Rattle.orca_stage.specs.Following.{Accompanies}
-use Rattle.orca_stage.specs.Plans.{Plan, over}
-use Rattle.orca_stage.specs.Runs.{Begun, SoFar}
+use Rattle.orca_stage.specs.Plans.{Plan}
+use Rattle.orca_stage.specs.Runs.{SoFar}
 use Rattle.orca_stage.specs.Standings.{Standing}
 use Rattle.orca_stage.specs.Told.{AreLeft, Brings, CountsSends, Made, Shelf, Told, told_with_sends}
 use Rattle.orca_stage.proofs.ActLemmas.{given-append, stand_after-append}
@@ -48,8 +47,8 @@ asked_in-append (_ ∷ xs) ys = asked_in-append xs ys
 pub log_after-append : (xs ys : List Act) (log : Log)
     → log_after (xs ++ ys) log ≡ log_after ys (log_after xs log)
 log_after-append [] ys log = refl
-log_after-append (Listen name start ∷ xs) ys log =
-    log_after-append xs ys (record { name = Some name; start = start; polls = log.polls })
+log_after-append (Listen name hands start ∷ xs) ys log =
+    log_after-append xs ys (with_listen name hands start log)
 log_after-append (Await poll ∷ xs) ys log = log_after-append xs ys (after_poll poll log)
 log_after-append (_ ∷ xs) ys log = log_after-append xs ys log
 
@@ -125,7 +124,7 @@ attached_sends (Give sent ∷ acts) sends = attached_sends acts sends
 attached_sends (Stand s ∷ acts) sends = attached_sends acts sends
 attached_sends (Attach attached ∷ acts) sends = absurd sends
 attached_sends (Store ask ∷ acts) sends = absurd sends
-attached_sends (Listen name start ∷ acts) sends = absurd sends
+attached_sends (Listen name hands start ∷ acts) sends = absurd sends
 attached_sends (Await poll ∷ acts) sends = absurd sends
 attached_sends (Obey command ∷ acts) sends = absurd sends
 attached_sends (Show cells ∷ acts) sends = absurd sends
@@ -136,7 +135,7 @@ asked_sends (Give sent ∷ acts) sends = asked_sends acts sends
 asked_sends (Stand s ∷ acts) sends = asked_sends acts sends
 asked_sends (Attach attached ∷ acts) sends = absurd sends
 asked_sends (Store ask ∷ acts) sends = absurd sends
-asked_sends (Listen name start ∷ acts) sends = absurd sends
+asked_sends (Listen name hands start ∷ acts) sends = absurd sends
 asked_sends (Await poll ∷ acts) sends = absurd sends
 asked_sends (Obey command ∷ acts) sends = absurd sends
 asked_sends (Show cells ∷ acts) sends = absurd sends
@@ -147,7 +146,7 @@ log_sends (Give sent ∷ acts) log sends = log_sends acts log sends
 log_sends (Stand s ∷ acts) log sends = log_sends acts log sends
 log_sends (Attach attached ∷ acts) log sends = absurd sends
 log_sends (Store ask ∷ acts) log sends = absurd sends
-log_sends (Listen name start ∷ acts) log sends = absurd sends
+log_sends (Listen name hands start ∷ acts) log sends = absurd sends
 log_sends (Await poll ∷ acts) log sends = absurd sends
 log_sends (Obey command ∷ acts) log sends = absurd sends
 log_sends (Show cells ∷ acts) log sends = absurd sends
@@ -159,7 +158,7 @@ counted_sends handed (Give sent ∷ acts) sends = counted_sends (added handed (s
 counted_sends handed (Stand s ∷ acts) sends = counted_sends handed acts sends
 counted_sends handed (Attach attached ∷ acts) sends = absurd sends
 counted_sends handed (Store ask ∷ acts) sends = absurd sends
-counted_sends handed (Listen name start ∷ acts) sends = absurd sends
+counted_sends handed (Listen name hands start ∷ acts) sends = absurd sends
 counted_sends handed (Await poll ∷ acts) sends = absurd sends
 counted_sends handed (Obey command ∷ acts) sends = absurd sends
 counted_sends handed (Show cells ∷ acts) sends = absurd sends

@@ -1,8 +1,8 @@
 -- What a run does on the outside, in order, and what is read off it.
-use Rattle.std.specs.Prelude.{ℕ, List, [], ◌∷◌, ◌++◌, map, Option, Some}
+use Rattle.std.specs.Prelude.{ℕ, List, [], ◌∷◌, map, Option}
 use Rattle.orca_base.specs.declared.command.Command.{Command}
 use Rattle.orca_base.specs.Ports.{Sent}
-use Rattle.orca_rig.specs.Arrived.{Log, Poll, after_poll}
+use Rattle.orca_rig.specs.Arrived.{Log, Poll, after_poll, with_listen}
 use Rattle.orca_rig.specs.Handed.{Attached}
 use Rattle.orca_rig.specs.Outside.{Ask}
 use Rattle.orca_term.specs.declared.cell.Cell.{Cell}
@@ -15,8 +15,8 @@ pub data Act : Type 0 where
   Attach : Attached → Act
   -- a file is loaded or saved
   Store : Ask → Act
-  -- the inbox listens at a name; and the moment that it answers, unless it fails
-  Listen : List ℕ → Option ℕ → Act
+  -- the inbox listens at a name for so many hands; and the moment that it answers, unless it fails
+  Listen : List ℕ → ℕ → Option ℕ → Act
   -- a poll of the inbox, with its answer
   Await : Poll → Act
   -- bytes are given to a port
@@ -61,8 +61,8 @@ commands_in (_ ∷ acts) = commands_in acts
 -- what acts make of the log of the inbox
 abbrev pub log_after : List Act → Log → Log
 log_after [] log = log
-log_after (Listen name start ∷ acts) log =
-    log_after acts (record { name = Some name; start = start; polls = log.polls })
+log_after (Listen name hands start ∷ acts) log =
+    log_after acts (with_listen name hands start log)
 log_after (Await poll ∷ acts) log = log_after acts (after_poll poll log)
 log_after (_ ∷ acts) log = log_after acts log
 

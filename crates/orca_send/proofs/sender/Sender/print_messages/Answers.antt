@@ -1,3 +1,4 @@
+use Rattle.std.proofs.Common.{◌∙◌}
 use Rattle.orca_send.specs.Lines.{line_sent}
 use Rattle.orca_send.proofs.FaultLemmas.{recorded_twice}
 use Rattle.orca_send.proofs.SendLemmas.{says_err, sent_next, sent_cut}
@@ -16,4 +17,5 @@ loop-message-preserved g c = record {
   recorded = recorded_twice _ _ _ _ _ _ c.loop-message.invariant.recorded
       c.in_ok-print_message.ensures.recorded;
   attached = cc;
+  sated = c.in_ok-print_message.ensures.sated ∙ c.loop-message.invariant.sated;
 }

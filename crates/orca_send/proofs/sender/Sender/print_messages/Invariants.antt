@@ -11,4 +11,5 @@ invariant-loop-message g l = record {
   recorded : RecordsFaults l.fn.self.failed l.self.failed
       (g.O.Outs.faults l.fn.outs) (g.O.Outs.faults l.outs);
   attached : g.O.Outs.attached l.outs ≡ g.O.Outs.attached l.fn.outs;
+  sated : g.O.Outs.wants l.outs ≡ g.O.Outs.wants l.fn.outs;
 }
