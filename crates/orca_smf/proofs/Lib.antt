@@ -1,0 +1,5 @@
+pub mod Deltas
+pub mod Messages
+pub mod Tunes
+pub mod Growing
+mod WorkedSongs
