@@ -1,0 +1,4 @@
+pub mod Header
+pub mod Rendering
+pub mod Tones
+pub mod Waves
