@@ -3,31 +3,34 @@
 
 ghost use Rattle.std.specs.Prelude.{◌≡◌, ◌<◌};
 
-use orca_base::{Memory, Port, Steps};
-use orca_player::{Status, run};
-use orca_rig::{Outs, RealFiles, RealOuts, TcpInbox};
+use orca_base::{Memory, Steps};
+use orca_player::{Status, end, run};
+use orca_rig::{RealFiles, RealOuts, TcpInbox, open_closed_streams, words_after_name};
 use std::env;
-use std::io::ErrorKind;
 use std::marker::Brand;
 use std::net::{Net, TcpStream};
+use std::os::fd::{AsRawFd, IntoRawFd};
 use std::process::ExitCode;
 use std::rt::{Clock, Env, Files};
 use std::sync::ledger::{Blank, Ledger};
 
 /// Runs the words over the system's files and streams. It counts its steps in a new ledger.
-fn start<
+fn start<R, L: Ledger>(rt: &R, blank: Blank) -> Status
+where
     R: AllocGlobal + Clock + Env + Files + Net<Stream = TcpStream> + Print + Eprint,
-    L: Ledger,
->(rt: &R, blank: Blank) -> Status
+    R::File: AsRawFd + IntoRawFd,
     requires name { blank.name ≡ L.name }
     requires parts { blank.parts ≡ L.parts }
     requires some { 0 < blank.parts }
 {
     let mut steps = Steps::<L>::start(blank);
+    if open_closed_streams(rt).is_err() {
+        return Status::OutFault;
+    }
     let mut files = RealFiles::new(rt);
     let mut outs = RealOuts::new(rt);
     let mut inbox = TcpInbox::new(rt);
-    match words(rt) {
+    match words_after_name(rt.alloc(), env::args(rt)) {
         Ok(words) => run(
             rt.alloc(),
             &words,
@@ -36,29 +39,8 @@ fn start<
             &mut inbox,
             &mut steps,
         ),
-        Err(Memory) => {
-            let _ = outs.send(Port::Fault, b"no memory\n");
-            Status::Memory
-        }
+        Err(Memory) => end(rt.alloc(), &mut outs, Status::Memory),
     }
-}
-
-/// The words after the program's own name; none where one isn't UTF-8, since no words are faulty words.
-fn words<R: AllocGlobal + Env>(rt: &R) -> Result<Vec<String>, Memory> {
-    let mut words = Vec::new(rt.alloc());
-    match env::args(rt) {
-        Ok(args) => {
-            for word in args.skip(1) {
-                words.push(word)?;
-            }
-        }
-        Err(error) => {
-            if error.kind() == ErrorKind::OutOfMemory {
-                return Err(Memory);
-            }
-        }
-    }
-    Ok(words)
 }
 
 fn main(rt: HostRuntime) -> ExitCode {

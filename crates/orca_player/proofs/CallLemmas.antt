@@ -118,14 +118,14 @@ abbrev pub AreCalls : List Act → Type 0
 AreCalls [] = Unit {0}
 AreCalls (Attach attached ∷ acts) = AreCalls acts
 AreCalls (Store ask ∷ acts) = AreCalls acts
-AreCalls (Listen name start ∷ acts) = AreCalls acts
+AreCalls (Listen name hands start ∷ acts) = AreCalls acts
 AreCalls (_ ∷ acts) = ⊥
 
 pub AreCalls-append : (xs ys : List Act) → AreCalls xs → AreCalls ys → AreCalls (xs ++ ys)
 AreCalls-append [] ys first second = second
 AreCalls-append (Attach attached ∷ xs) ys first second = AreCalls-append xs ys first second
 AreCalls-append (Store ask ∷ xs) ys first second = AreCalls-append xs ys first second
-AreCalls-append (Listen name start ∷ xs) ys first second = AreCalls-append xs ys first second
+AreCalls-append (Listen name hands start ∷ xs) ys first second = AreCalls-append xs ys first second
 AreCalls-append (Await poll ∷ xs) ys first second = absurd first
 AreCalls-append (Give sent ∷ xs) ys first second = absurd first
 AreCalls-append (Obey command ∷ xs) ys first second = absurd first
@@ -136,7 +136,7 @@ pub AreCalls-front : (xs ys : List Act) → AreCalls (xs ++ ys) → AreCalls xs
 AreCalls-front [] ys calls = tt
 AreCalls-front (Attach attached ∷ xs) ys calls = AreCalls-front xs ys calls
 AreCalls-front (Store ask ∷ xs) ys calls = AreCalls-front xs ys calls
-AreCalls-front (Listen name start ∷ xs) ys calls = AreCalls-front xs ys calls
+AreCalls-front (Listen name hands start ∷ xs) ys calls = AreCalls-front xs ys calls
 AreCalls-front (Await poll ∷ xs) ys calls = absurd calls
 AreCalls-front (Give sent ∷ xs) ys calls = absurd calls
 AreCalls-front (Obey command ∷ xs) ys calls = absurd calls
@@ -148,7 +148,7 @@ pub keys-calls : (on : List Voice) (xs ys : List Act) → AreCalls xs
 keys-calls on [] ys calls = refl
 keys-calls on (Attach attached ∷ xs) ys calls = keys-calls on xs ys calls
 keys-calls on (Store ask ∷ xs) ys calls = keys-calls on xs ys calls
-keys-calls on (Listen name start ∷ xs) ys calls = keys-calls on xs ys calls
+keys-calls on (Listen name hands start ∷ xs) ys calls = keys-calls on xs ys calls
 keys-calls on (Await poll ∷ xs) ys calls = absurd calls
 keys-calls on (Give sent ∷ xs) ys calls = absurd calls
 keys-calls on (Obey command ∷ xs) ys calls = absurd calls
@@ -160,7 +160,8 @@ pub follows-calls : (on : List Voice) (xs ys : List Act) → AreCalls xs → Fol
 follows-calls on [] ys calls follows = follows
 follows-calls on (Attach attached ∷ xs) ys calls follows = follows-calls on xs ys calls follows
 follows-calls on (Store ask ∷ xs) ys calls follows = follows-calls on xs ys calls follows
-follows-calls on (Listen name start ∷ xs) ys calls follows = follows-calls on xs ys calls follows
+follows-calls on (Listen name hands start ∷ xs) ys calls follows =
+    follows-calls on xs ys calls follows
 follows-calls on (Await poll ∷ xs) ys calls follows = absurd calls
 follows-calls on (Give sent ∷ xs) ys calls follows = absurd calls
 follows-calls on (Obey command ∷ xs) ys calls follows = absurd calls
@@ -172,7 +173,7 @@ pub sounding-calls : (notes : List Note) (xs ys : List Act) → AreCalls xs
 sounding-calls notes [] ys calls = refl
 sounding-calls notes (Attach attached ∷ xs) ys calls = sounding-calls notes xs ys calls
 sounding-calls notes (Store ask ∷ xs) ys calls = sounding-calls notes xs ys calls
-sounding-calls notes (Listen name start ∷ xs) ys calls = sounding-calls notes xs ys calls
+sounding-calls notes (Listen name hands start ∷ xs) ys calls = sounding-calls notes xs ys calls
 sounding-calls notes (Await poll ∷ xs) ys calls = absurd calls
 sounding-calls notes (Give sent ∷ xs) ys calls = absurd calls
 sounding-calls notes (Obey command ∷ xs) ys calls = absurd calls
@@ -184,7 +185,8 @@ pub shows-calls : (d : ScreenSize) (sent : List ℕ) (xs ys : List Act) → AreC
 shows-calls d sent [] ys calls shows = shows
 shows-calls d sent (Attach attached ∷ xs) ys calls shows = shows-calls d sent xs ys calls shows
 shows-calls d sent (Store ask ∷ xs) ys calls shows = shows-calls d sent xs ys calls shows
-shows-calls d sent (Listen name start ∷ xs) ys calls shows = shows-calls d sent xs ys calls shows
+shows-calls d sent (Listen name hands start ∷ xs) ys calls shows =
+    shows-calls d sent xs ys calls shows
 shows-calls d sent (Await poll ∷ xs) ys calls shows = absurd calls
 shows-calls d sent (Give piece ∷ xs) ys calls shows = absurd calls
 shows-calls d sent (Obey command ∷ xs) ys calls shows = absurd calls

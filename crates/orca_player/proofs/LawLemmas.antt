@@ -106,7 +106,8 @@ work_alike grid (Replay name) h k s same ends others =
     (ap (λ (script : Option (List ℕ)). after (Store (Load name) ∷ []) (loaded_script script s))
     (sym same.script))
 work_alike grid (Play performance) h k s same ends others =
-    after_alike (Listen performance.address h.start ∷ []) (Listen performance.address k.start ∷ [])
+    after_alike (Listen performance.address 1 h.start ∷ [])
+    (Listen performance.address 1 k.start ∷ [])
     (started_outline grid performance h.start h.polls s)
     (started_outline grid performance k.start k.polls s) refl
     (started_alike grid performance h.start k.start h k s same.starts same ends others)

@@ -19,7 +19,7 @@ use Rattle.orca_live.specs.declared.ending.Ending.{Ending}
 use Rattle.orca_live.specs.declared.ending.Ending.TheVariants.{Full, Left, Lost, Spent}
 use Rattle.orca_notes.specs.Device.{Voice, voices}
 use Rattle.orca_notes.specs.Sound.{ends}
-use Rattle.orca_rig.specs.Arrived.{Log, Poll, after_listen}
+use Rattle.orca_rig.specs.Arrived.{Log, Poll, after_listen, with_listen}
 use Rattle.orca_rig.specs.declared.outs.SendFault.{SendFault}
 use Rattle.orca_rig.specs.declared.outs.SendFault.TheVariants as fault
 use Rattle.orca_rig.specs.Outside.{Rose}
@@ -249,11 +249,10 @@ reads_as set other given same reads =
 
 -- the inbox
 
-pub listen_made : (name : List ℕ) (start : Option ℕ) (before : Told) (log : Option Log)
-    → log ≡ option_map (λ (l : Log). record { name = Some name; start = start; polls = l.polls })
-    before.log
-    → Made (Listen name start ∷ []) before (record before { log = log })
-listen_made name start before log is = record {
+pub listen_made : (name : List ℕ) (hands : ℕ) (start : Option ℕ) (before : Told) (log : Option Log)
+    → log ≡ option_map (with_listen name hands start) before.log
+    → Made (Listen name hands start ∷ []) before (record before { log = log })
+listen_made name hands start before log is = record {
   handed = added_none before.handed;
   attached = told_none before.attached;
   asked = told_none before.asked;
@@ -264,42 +263,43 @@ listen_made name start before log is = record {
 
 -- it could not listen
 pub listen_failed : (grid : List ℕ) (performance : Performance) (polls : List Poll) (s : Standing)
-    (x y : Told) → Made (Listen performance.address None ∷ []) x y
+    (x y : Told) → Made (Listen performance.address 1 None ∷ []) x y
     → Went (play_outline grid performance None polls s) [] x InboxFault y
 unfolding play_outline started_outline
 listen_failed grid performance polls s x y made =
-    went_after (Listen performance.address None ∷ []) (stopped InboxFault) InboxFault x y y tt made
+    went_after (Listen performance.address 1 None ∷ []) (stopped InboxFault) InboxFault
+    x y y tt made
     (went_stopped InboxFault y (λ is. cc) refl)
 
--- a `listen` that is refused
+-- a `listen_hands` that is refused
 abbrev refused_listen : SendFault → Result ℕ SendFault
 refused_listen refusal = Err refusal
 
 -- memory was refused for listening
-pub listen_given_up : (name : List ℕ) (log : Option Log)
-    → option_map (after_listen (refused_listen fault.Memory) name) log ≡ log
-listen_given_up name None = refl
-listen_given_up name (Some log) = refl
+pub listen_given_up : (name : List ℕ) (hands : ℕ) (log : Option Log)
+    → option_map (after_listen (refused_listen fault.Memory) name hands) log ≡ log
+listen_given_up name hands None = refl
+listen_given_up name hands (Some log) = refl
 
 -- it listens, and then the performance went so
 pub play_went : (grid : List ℕ) (performance : Performance) (at : ℕ) (polls : List Poll)
     (s : Standing) (status : Status) (x y z : Told)
-    → Made (Listen performance.address (Some at) ∷ []) x y
+    → Made (Listen performance.address 1 (Some at) ∷ []) x y
     → Went (live_outline grid performance at polls s) [] y status z
     → Went (play_outline grid performance (Some at) polls s) [] x status z
 unfolding play_outline started_outline
 play_went grid performance at polls s status x y z made went =
-    went_after (Listen performance.address (Some at) ∷ []) (live_outline grid performance at polls
+    went_after (Listen performance.address 1 (Some at) ∷ []) (live_outline grid performance at polls
     s)
     status x y z tt made went
 
 -- it listens, and memory was refused for the performance
 pub play_unopened : (grid : List ℕ) (performance : Performance) (at : ℕ) (polls : List Poll)
-    (s : Standing) (x y : Told) → Made (Listen performance.address (Some at) ∷ []) x y
+    (s : Standing) (x y : Told) → Made (Listen performance.address 1 (Some at) ∷ []) x y
     → Went (play_outline grid performance (Some at) polls s) [] x Memory y
 unfolding play_outline started_outline
 play_unopened grid performance at polls s x y made =
-    went_after (Listen performance.address (Some at) ∷ []) (live_outline grid performance at polls
+    went_after (Listen performance.address 1 (Some at) ∷ []) (live_outline grid performance at polls
     s)
     Memory x y y tt made (went_none (live_outline grid performance at polls s) y)
 

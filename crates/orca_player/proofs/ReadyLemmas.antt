@@ -1,7 +1,8 @@
 -- A run that can be done whole, and that meets no fault, is done whole.
 use Rattle.std.proofs.Common.{◌≡◌, ◌≢◌, ◌⊎◌, inl, inr, ℕ, zero, suc, ◌+◌, ◌<◌, ◌≤◌, length, arith, Bool, true, false, List, [], ◌∷◌, refl, sym, ◌∙◌, ap, subst}
-use Rattle.std.specs.Prelude.{nat_le, if◌then◌else◌, Option, Some, None, IfSome, IsSomeAnd, Result, Ok, Err}
+use Rattle.std.specs.Prelude.{◌||◌, nat_le, if◌then◌else◌, Option, Some, None, IfSome, IsSomeAnd, Result, Ok, Err}
 use Rattle.std.specs.Option.{option_map, option_map_or}
+use Rattle.std.proofs.Math.Bool.{or-false}
 use Rattle.std.proofs.lemmas.Bool.{lt-leb}
 use Rattle.std.proofs.lemmas.List.{length-append}
 use Rattle.orca_base.specs.declared.command.Command.TheVariants as command
@@ -116,8 +117,9 @@ frame_obeyed : (m : MachineState) → length m.history < m.limit
     → obey m command.Frame ≡ extend m command.Frame m.clip entry.Frame
 unfolding obey rule_against accept entry_of taken_area
 frame_obeyed m room =
-    if_false (nat_le m.limit (length m.history)) m
-    (extend m command.Frame m.clip entry.Frame) (lt-leb m.limit (length m.history) room)
+    if_false (nat_le m.limit (length m.history) || false) m
+    (extend m command.Frame m.clip entry.Frame)
+    (or-false (nat_le m.limit (length m.history)) ∙ lt-leb m.limit (length m.history) room)
 
 frames_go : (m : Manner) (line n : ℕ) (s : Standing)
     → length s.machine.history + n ≤ s.machine.limit

@@ -161,10 +161,10 @@ unfoldable pub started_outline : List ℕ → Performance → Option ℕ → Lis
 started_outline grid performance None polls s = stopped InboxFault
 started_outline grid performance (Some at) polls s = live_outline grid performance at polls s
 
--- the inbox listens at its address, and the performance starts
+-- the inbox listens at its address for one hand, and the performance starts
 unfoldable pub play_outline : List ℕ → Performance → Option ℕ → List Poll → Standing → Outline
 play_outline grid performance start polls s =
-    after (Listen performance.address start ∷ [])
+    after (Listen performance.address 1 start ∷ [])
     (started_outline grid performance start polls s)
 
 -- ---- a grid

@@ -15,7 +15,7 @@ use std::alloc::Global;
 /// Sends the line of a status that is no success, and answers the status; or
 /// [`Status::Memory`] if memory is refused for it.
 #[tactic(auto, unfolding(crate::specs::Statuses::status_text))]
-pub(crate) fn end<O: Outs>(alloc: Global, outs: &mut O, status: Status) -> Status
+pub fn end<O: Outs>(alloc: Global, outs: &mut O, status: Status) -> Status
     ensures status { (result ≡ status) ⊎ (result ≡ Status.Memory) }
     ensures said { SaysLast result (O.handed outs.old) (O.handed outs.new) }
     ensures attached { O.attached outs.new ≡ O.attached outs.old }

@@ -10,5 +10,6 @@ mod status;
 mod tests;
 mod top;
 
+pub use ending::end;
 pub use status::Status;
 pub use top::run;

@@ -49,7 +49,7 @@ pub(crate) fn play<F: Files, O: Outs, I: Inbox, L: Ledger>(
         → IsCaused result (counts (F.faults files.old) start (I.faults inbox.old))
         (counts (F.faults files.new) (O.faults outs.new) (I.faults inbox.new)) }
 {
-    let at = match inbox.listen(performance.address) {
+    let at = match inbox.listen_hands(performance.address, 1) {
         Ok(at) => at,
         Err(SendFault::Failed) => return Status::InboxFault,
         Err(SendFault::Memory) => return Status::Memory,

@@ -1,6 +1,7 @@
 //! Whole runs, out of memory.
 
-ghost use Rattle.std.specs.Prelude.{◌≡◌, ◌<◌, Some, false, length};
+ghost use Rattle.std.specs.Prelude.{◌≡◌, ◌<◌, ◌≤◌, Some, false, length, IsErrOf, OnOk};
+ghost use Rattle.orca_rig.specs.Outside.{Rose};
 
 use crate::Status;
 use orca_base::{Port, Steps};
@@ -16,6 +17,25 @@ use std::test::Fail;
 struct Tight {
     kept: MemOuts,
     sends: u64,
+    refused: u64,
+}
+
+impl Tight {
+    /// Counts that memory was refused.
+    fn count(&mut self, done: Result<(), SendFault>) -> Result<(), SendFault>
+        ensures same { result ≡ done }
+        ensures kept { self.new.kept ≡ self.old.kept }
+        ensures grows { self.old.refused ≤ self.new.refused }
+        ensures wanted { IsErrOf done SendFault.Memory → Rose self.old.refused self.new.refused }
+        ensures sated { OnOk done (self.new.refused ≡ self.old.refused) }
+        ensures sated_failed { IsErrOf done SendFault.Failed
+            → self.new.refused ≡ self.old.refused }
+    {
+        if done == Err(SendFault::Memory) {
+            self.refused = self.refused.saturating_add(1);
+        }
+        done
+    }
 }
 
 impl Outs for Tight {
@@ -27,16 +47,20 @@ impl Outs for Tight {
 
     ghost faults = { λ o. o.kept.faults };
 
+    ghost wants = { λ o. o.refused };
+
     fn attach(&mut self, port: Port, name: &str) -> Result<(), SendFault> {
-        self.kept.attach(port, name)
+        let done = self.kept.attach(port, name);
+        self.count(done)
     }
 
     fn send(&mut self, port: Port, bytes: &[u8]) -> Result<(), SendFault> {
         self.sends = self.sends.saturating_add(1);
         if self.sends == 2 {
-            return Err(SendFault::Memory);
+            return self.count(Err(SendFault::Memory));
         }
-        self.kept.send(port, bytes)
+        let done = self.kept.send(port, bytes);
+        self.count(done)
     }
 
     fn sent(&self) -> u64 {
@@ -87,6 +111,7 @@ fn a_send_that_is_refused_memory_ends_the_run(rt: HostRuntime) -> Result<(), Fai
     let mut outs = Tight {
         kept: MemOuts::new(Vec::new(alloc))?,
         sends: 0,
+        refused: 0,
     };
     // The line of the message is refused memory, so that only the line of the status follows.
     let mut inbox = MemInbox::new(0, Vec::new(alloc), Vec::new(alloc))?;
@@ -105,5 +130,6 @@ fn a_send_that_is_refused_memory_ends_the_run(rt: HostRuntime) -> Result<(), Fai
         Some((Port::Fault, b"no memory\n".as_slice()))
     );
     assert_eq!(rt; outs.kept.handed_at(2), None);
+    assert_eq!(rt; outs.refused, 1);
     Ok(())
 }

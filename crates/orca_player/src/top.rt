@@ -41,9 +41,9 @@ use std::sync::ledger::Ledger;
 /// [`Status::OutFault`]. Neither does a save, with [`Status::FileFault`]. A status other than 0 sends
 /// one line on the fault port, as the last send.
 ///
-/// Out of memory is [`Status::Memory`]. A beginning of the outline was done then. If a send was
-/// refused memory, only the line of the status follows; if it was refused elsewhere while a session
-/// was open, the notes that sound are ended first.
+/// Out of memory is [`Status::Memory`]. A beginning of the outline was done then, and after it a
+/// beginning of the ends of the notes that sounded. No clause says how many ends these are: none if
+/// it was a send that was refused memory, and else all of them, unless their sends are refused it.
 pub fn run<F: Files, O: Outs, I: Inbox, L: Ledger>(
     alloc: Global,
     words: &Vec<String>,

@@ -18,14 +18,14 @@ returns-in-Err-Failed-clause-went g c =
       None,
       [],
       listen_failed _ _ _ _ before _
-          (listen_made _ None before _
+          (listen_made _ 1 None before _
           (rw c.in-Err-Failed.field-0-is at c.in-Err-Failed.ensures.log)),
     )
 
 pub returns-in-Err-Memory-clause-went : goal.returns-in-Err-Memory-clause-went
 returns-in-Err-Memory-clause-went g c =
     let same = (rw c.in-Err-Memory.field-0-is at c.in-Err-Memory.ensures.log)
-    ∙ listen_given_up c.args.performance.now.address.now (g.I.Inbox.log c.args.inbox.now) in
+    ∙ listen_given_up c.args.performance.now.address.now 1 (g.I.Inbox.log c.args.inbox.now) in
     (None, [], rw same (went_none _ _))
 
 pub returns-in_default-clause-went : goal.returns-in_default-clause-went
@@ -35,7 +35,7 @@ returns-in_default-clause-went g c =
     (g.F.Files.faults c.args.files.now) (g.I.Inbox.log c.args.inbox.now) in (
       Some c.in-Ok.at,
       [],
-      play_unopened _ _ _ _ _ before _ (listen_made _ (Some c.in-Ok.at) before _
+      play_unopened _ _ _ _ _ before _ (listen_made _ 1 (Some c.in-Ok.at) before _
           c.in-Ok.ensures.log),
     )
 
@@ -46,7 +46,7 @@ returns-in-Ok-perform-clause-went g c =
     (g.F.Files.faults c.args.files.now) (g.I.Inbox.log c.args.inbox.now) in
     let heard = told (g.O.Outs.handed c.args.outs.now) (g.O.Outs.attached c.args.outs.now)
     (g.F.Files.asked c.args.files.now) (g.F.Files.contents c.args.files.now)
-    (g.F.Files.faults c.args.files.now) (g.I.Inbox.log c.listen.new.self) in
+    (g.F.Files.faults c.args.files.now) (g.I.Inbox.log c.listen_hands.new.self) in
     let starts : Starts c.args.opening.now.name.now (performance_in c.args.performance.now)
     c.in-Ok.at
     (standing_at c.args.opening.now.grid c.args.opening.now.seed c.args.opening.now.limit)
@@ -64,7 +64,7 @@ returns-in-Ok-perform-clause-went g c =
       did.0,
       rw c.status_at.ensures
           (play_went _ _ _ _ _ _ before heard _
-          (listen_made _ (Some c.in-Ok.at) before _ c.in-Ok.ensures.log)
+          (listen_made _ 1 (Some c.in-Ok.at) before _ c.in-Ok.ensures.log)
           (live_done did.0 _ heard _ _ _ _ starts did.1
           (reads_as _ _ _ c.setting_of-setting.ensures c.in-Ok-perform.ensures.reads_back))),
     )
@@ -86,7 +86,7 @@ returns-in-Err-InSend-clause-went g c =
     (g.F.Files.faults c.args.files.now) (g.I.Inbox.log c.args.inbox.now) in
     let heard = told (g.O.Outs.handed c.args.outs.now) (g.O.Outs.attached c.args.outs.now)
     (g.F.Files.asked c.args.files.now) (g.F.Files.contents c.args.files.now)
-    (g.F.Files.faults c.args.files.now) (g.I.Inbox.log c.listen.new.self) in
+    (g.F.Files.faults c.args.files.now) (g.I.Inbox.log c.listen_hands.new.self) in
     let starts : Starts c.args.opening.now.name.now (performance_in c.args.performance.now)
     c.in-Ok.at
     (standing_at c.args.opening.now.grid c.args.opening.now.seed c.args.opening.now.limit)
@@ -103,7 +103,7 @@ returns-in-Err-InSend-clause-went g c =
       Some c.in-Ok.at,
       did.0,
       play_went _ _ _ _ _ _ before heard _
-          (listen_made _ (Some c.in-Ok.at) before _ c.in-Ok.ensures.log)
+          (listen_made _ 1 (Some c.in-Ok.at) before _ c.in-Ok.ensures.log)
           (live_in_send did.0 _ heard _ starts (rw c.in-Err-InSend.field-0-is at did.1)),
     )
 
@@ -114,7 +114,7 @@ returns-clause-went g c =
     (g.F.Files.faults c.args.files.now) (g.I.Inbox.log c.args.inbox.now) in
     let heard = told (g.O.Outs.handed c.args.outs.now) (g.O.Outs.attached c.args.outs.now)
     (g.F.Files.asked c.args.files.now) (g.F.Files.contents c.args.files.now)
-    (g.F.Files.faults c.args.files.now) (g.I.Inbox.log c.listen.new.self) in
+    (g.F.Files.faults c.args.files.now) (g.I.Inbox.log c.listen_hands.new.self) in
     let starts : Starts c.args.opening.now.name.now (performance_in c.args.performance.now)
     c.in-Ok.at
     (standing_at c.args.opening.now.grid c.args.opening.now.seed c.args.opening.now.limit)
@@ -132,7 +132,7 @@ returns-clause-went g c =
       did.0,
       rw c.close_early.ensures.attached
           (play_went _ _ _ _ _ _ before heard _
-          (listen_made _ (Some c.in-Ok.at) before _ c.in-Ok.ensures.log)
+          (listen_made _ 1 (Some c.in-Ok.at) before _ c.in-Ok.ensures.log)
           (live_elsewhere did.0 _ heard _ _ starts (rw c.in-Err-Elsewhere.field-0-is at did.1)
           c.close_early.ensures.device (closed_early _ _ _ _ _ refl c.close_early.ensures.says))),
     )
