@@ -1,7 +1,11 @@
 #!/usr/bin/env python3
 """Measures the memory and the time of whole sessions: bench/batch.py [PROGRAM] [--share N]
 
-Each line is one run. --share N does an Nth of each, for a first look. PROGRAM is crates/orca/out/orca if it is not given.
+Each line is one run, or the difference of two. --share N does an Nth of each, for a first look. PROGRAM is
+crates/orca/out/orca if it is not given. For times that mean something nothing else may run.
+
+The memory of a run is the most that the program itself has touched (VmHWM). It is read while the program waits at its
+last line, since nobody takes what it prints until then.
 """
 import os, random, subprocess, sys, tempfile, time
 
@@ -9,23 +13,77 @@ import grids
 
 HERE = os.path.dirname(os.path.abspath(__file__))
 SHARE = int(sys.argv[sys.argv.index('--share') + 1]) if '--share' in sys.argv else 1
+# How often a time is taken; the least counts.
+TRIES = 3
 
 
-def measured(*words):
-    """The seconds that a run takes, and the most memory that it has, in megabytes."""
-    begin = time.monotonic()
-    process = subprocess.Popen([PROGRAM, *map(str, words)], stdout=subprocess.PIPE, stderr=subprocess.PIPE)
-    text, fault = process.stdout.read(), process.stderr.read()
-    _, status, usage = os.wait4(process.pid, 0)
-    process.returncode = os.waitstatus_to_exitcode(status)
-    assert process.returncode == 0, (words, process.returncode, fault)
-    return time.monotonic() - begin, usage.ru_maxrss / 1024, text.decode().splitlines()[-1]
+def field(process, file, name):
+    """A field of a running program, as the system tells it; none once it has ended."""
+    try:
+        for line in open('/proc/%d/%s' % (process.pid, file)):
+            if line.startswith(name + ':'):
+                return line.split()[1]
+    except (FileNotFoundError, ProcessLookupError):
+        pass
+    return None
+
+
+def full_pipe():
+    """A pipe that has no room."""
+    reader, writer = os.pipe()
+    os.set_blocking(writer, False)
+    try:
+        while True:
+            os.write(writer, b'.' * 4096)
+    except BlockingIOError:
+        os.set_blocking(writer, True)
+    return reader, writer
+
+
+def megabytes(*words):
+    """The most memory that a run touches."""
+    reader, writer = full_pipe()
+    process = subprocess.Popen([PROGRAM, *map(str, words)], stdout=writer, stderr=subprocess.PIPE)
+    os.close(writer)
+    kilobytes, waits = 0, 0
+    # It waits at its last line if it has slept for a while.
+    while process.poll() is None and waits < 20:
+        kilobytes = max(kilobytes, int(field(process, 'status', 'VmHWM') or 0))
+        waits = waits + 1 if field(process, 'status', 'State') == 'S' else 0
+        time.sleep(0.002)
+    while os.read(reader, 1 << 16):
+        pass
+    os.close(reader)
+    assert process.wait() in (0, 3), (words, process.stderr.read())
+    return kilobytes / 1024
+
+
+def seconds(*words):
+    """The least time of some runs."""
+    least = 1e9
+    for _ in range(TRIES):
+        begin = time.monotonic()
+        done = subprocess.run([PROGRAM, *map(str, words)], stdout=subprocess.DEVNULL, stderr=subprocess.PIPE)
+        least = min(least, time.monotonic() - begin)
+        assert done.returncode == 0, (words, done.returncode, done.stderr)
+    return least
 
 
 def tell(name, *words):
-    seconds, megabytes, last = measured(*words)
-    print('%-60s %8.2f seconds %7.1f megabytes   %s' % (name, seconds, megabytes, last[:60]))
-    return seconds
+    print('%-76s %8.3f seconds %7.1f megabytes' % (name, seconds(*words), megabytes(*words)), flush=True)
+
+
+def replayed(grid, script):
+    """The time of a replay."""
+    save('script', script)
+    return seconds('replay', grid, 'script', '--limit', 4_000_000)
+
+
+def tell_each(name, grid, before, more, count):
+    """How long each of some commands takes that come after others: the time of all, without that of those before."""
+    each = (replayed(grid, before + more) - replayed(grid, before)) / count
+    print('%-76s %8.1f microseconds each' % (name, each * 1e6), flush=True)
+    return each
 
 
 def save(name, content):
@@ -34,7 +92,7 @@ def save(name, content):
 
 
 def mixed(count, height, width):
-    """Edits of all kinds, each now and then behind a frame."""
+    """Edits of all kinds, each now and then after a frame."""
     draw = random.Random(1)
     y, x = lambda: draw.randrange(height), lambda: draw.randrange(width)
     block = lambda: '%d %d %d %d' % (y(), x(), draw.randint(1, 16), draw.randint(1, 16))
@@ -47,42 +105,75 @@ def mixed(count, height, width):
     return [draw.choice(kinds)() for _ in range(count)]
 
 
-def main():
-    small, crowd = grids.dots(1, 1), grids.crowded(64, 64, 10)
-    save('dot', small), save('crowd', crowd), save('large', grids.dots(256, 256)), save('none', [])
-    tell('a session at its start', 'run', 'dot', 0)
-    tell('a session at its start, 256 x 256', 'run', 'large', 0)
+def tell_rooms():
+    """What a session holds."""
+    for side in (1, 256, 1_024):
+        save('dots', grids.dots(side, side))
+        tell('a session at its start, %d x %d' % (side, side), 'run', 'dots', 0)
     frames = 4_000_000 // SHARE
     tell('%d frames on an empty grid' % frames, 'run', 'dot', frames, '--limit', 4_000_000)
+    # As many as a script has room for, and all of them are cut off.
+    frames = 2_790_000 // SHARE
+    save('cut', ['frame'] * frames + ['rewind 0'])
+    tell('%d frames, and a rewind to the first' % frames, 'replay', 'dot', 'cut', '--limit', 4_000_000)
     fills = 1_030 // SHARE
     save('fills', ['fill 0 0 256 256 %s' % 'AB'[number % 2] for number in range(fills)])
-    tell('%d fills of 256 x 256' % fills, 'replay', 'large', 'fills')
-
-    frames = 100_000 // SHARE
-    save('frames', ['frame'] * frames)
-    without = tell('replay of %d frames on 64 x 64 with 10 %%' % frames, 'replay', 'crowd', 'frames')
-    edits = 20_000 // SHARE
-    save('edits', mixed(edits, 64, 64))
-    tell('replay of %d mixed edits on 64 x 64 with 10 %%' % edits, 'replay', 'crowd', 'edits')
-
-    # An undo within the ring: of a write behind which one frame was played.
-    turns = 20_000 // SHARE
-    save('once', ['write 0 0 A', 'frame'] * turns)
-    save('undone', ['write 0 0 A', 'frame', 'undo'] * turns)
-    once = tell('%d writes and frames' % turns, 'replay', 'crowd', 'once')
-    undone = tell('the same, each with its undo', 'replay', 'crowd', 'undone')
-    print('%-60s %8.1f microseconds' % ('so an undo within the ring takes', (undone - once) / turns * 1e6))
-
-    # An undo that folds: the edit stands behind more frames than there are patches, and before it are all the others.
-    save('behind', ['frame'] * frames + ['write 0 0 A'] + ['frame'] * 1_100)
-    save('folds', ['frame'] * frames + ['write 0 0 A'] + ['frame'] * 1_100 + ['undo'])
-    behind = tell('%d frames, a write and 1,100 frames' % frames, 'replay', 'crowd', 'behind')
-    folds = tell('the same, and an undo of the write', 'replay', 'crowd', 'folds')
-    print('%-60s %8.2f seconds' % ('so an undo that does %d frames again takes' % frames, folds - behind))
-
+    save('dots', grids.dots(256, 256))
+    tell('%d fills of 256 x 256' % fills, 'replay', 'dots', 'fills')
+    fills = 70 // min(SHARE, 7)
+    save('fills', ['fill 0 0 1024 1024 %s' % 'AB'[number % 2] for number in range(fills)])
+    save('dots', grids.dots(1_024, 1_024))
+    tell('%d fills of 1,024 x 1,024' % fills, 'replay', 'dots', 'fills')
     most = 16_777_216 // SHARE
     save('longest', b'#' + b' ' * (most - 1))
     tell('a script of %d bytes with no command' % most, 'replay', 'dot', 'longest')
+
+
+def tell_edits():
+    """What edits and undos take."""
+    edits = 20_000 // SHARE
+    tell_each('a mixed edit on 64 x 64 with 10 %', 'crowd', [], mixed(edits, 64, 64), edits)
+    turns = 20_000 // SHARE
+    for side in (64, 1_024):
+        save('grid', grids.crowded(side, side, 10))
+        writes, undone = ['write 0 0 A'] * turns, ['write 0 0 A', 'undo'] * turns
+        each = (replayed('grid', undone) - replayed('grid', writes)) / turns
+        print('%-76s %8.2f microseconds each' % ('an undo of a write on %d x %d with 10 %%' % (side, side), each * 1e6), flush=True)
+    # Writes all over the grid, as many as the ring has patches for. Each round begins with the opened grid again.
+    turns, draw = max(20 // SHARE, 2), random.Random(2)
+    writes = ['write %d %d A' % (draw.randrange(1_024), draw.randrange(1_024)) for _ in range(1_023)]
+    save('grid', grids.dots(1_024, 1_024))
+    start, once = replayed('grid', []), replayed('grid', writes)
+    each = (replayed('grid', (writes + ['rewind 0']) * turns) - start) / turns - (once - start)
+    print('%-76s %8.2f milliseconds each' % ('a rewind over 1,023 writes on 1,024 x 1,024', each * 1e3), flush=True)
+
+
+def tell_rewinds():
+    """What going back beyond the patches takes."""
+    save('tall', grids.dots(256, 1))
+    # Each round goes back and plays on. Rounds of twice as many frames tell what these take, so the rest is the rewind.
+    turns, there = 400 // SHARE, ['frame'] * 2_000
+    rounds = lambda count: replayed('tall', there + (['rewind 900'] + ['frame'] * count) * turns) / turns
+    start, short, long = replayed('tall', there) / turns, rounds(1_100), rounds(2_200)
+    frame = (long - short) / 1_100
+    rewind = short - start - 1_100 * frame
+    print('%-76s %8.1f microseconds, and 900 frames %8.1f: %.2f' % (
+        'a rewind of 1,100 frames on 256 rows', rewind * 1e6, frame * 900e6, rewind / frame / 900), flush=True)
+
+    frames, draw = 100_000 // SHARE, random.Random(3)
+    moments = sorted((draw.randrange(frames - 1_100) for _ in range(40)), reverse=True)
+    played = ['frame'] * frames
+    print('%-76s %8.3f seconds' % ('%d frames on 64 x 64 with 10 %%' % frames, replayed('crowd', played)), flush=True)
+    tell_each('a rewind to a random one of these moments, beyond the patches', 'crowd', played,
+              ['rewind %d' % moment for moment in moments], len(moments))
+
+
+def main():
+    save('dot', grids.dots(1, 1))
+    save('crowd', grids.crowded(64, 64, 10))
+    tell_rooms()
+    tell_edits()
+    tell_rewinds()
 
 
 if __name__ == '__main__':

@@ -1,27 +1,45 @@
 #!/usr/bin/env python3
-"""Measures `orca play` over a real connection: bench/live.py [PROGRAM] [--seconds S] [--keys N]
+"""Measures `orca play` over a real connection: bench/live.py [PROGRAM] [--seconds S] [--keys N] [--flood BYTES]
 
-It prints how long a key waits for its painting, how late frames are, how much of a processor is used, and how many bytes
-a frame paints. PROGRAM is crates/orca/out/orca if it is not given.
+It prints how late frames are, how long a key waits for its painting, near a frame and away from one, how a beat that fell
+behind catches up, what eight megabytes of keys and saves do to the frames, how much of a processor is used, and how many
+bytes a frame paints. PROGRAM is crates/orca/out/orca if it is not given. For figures that mean something nothing else may
+run.
 """
-import os, random, select, socket, subprocess, sys, tempfile, time
+import os, random, select, signal, socket, subprocess, sys, tempfile, threading, time
 
 import grids
 
 HERE = os.path.dirname(os.path.abspath(__file__))
+# A clock and a note in each frame, above a small piece.
+BEAT = b'.D1.....\n..:03C82\n' + grids.piece()
+NOTE = b'\x90\x24'
+# How long before a moment a key counts as near it, in seconds.
+NEAR = 0.012
 
 
 def option(name, default):
     return int(sys.argv[sys.argv.index(name) + 1]) if name in sys.argv else default
 
 
+def free_port():
+    """A port that no socket has."""
+    while True:
+        port = random.randint(20000, 29999)
+        tables = ''.join(open(file).read() for file in ('/proc/net/tcp', '/proc/net/tcp6') if os.path.exists(file))
+        if ':%04X ' % port not in tables:
+            return port
+
+
 class Player:
-    """A program that plays, and its connection."""
+    """A program that plays, and its connection; with a pipe for its notes if its options name one."""
 
     def __init__(self, grid, *options):
-        port = random.randint(20000, 29999)
+        port = free_port()
         with open('grid', 'wb') as file:
             file.write(grid)
+        os.path.exists('pipe') or os.mkfifo('pipe')
+        self.notes = os.open('pipe', os.O_RDWR)
         words = [PROGRAM, 'play', 'grid', '127.0.0.1:%d' % port, *map(str, options)]
         self.process = subprocess.Popen(words, stdout=subprocess.PIPE, bufsize=0)
         until = time.monotonic() + 10
@@ -39,27 +57,69 @@ class Player:
         ready, _, _ = select.select([self.process.stdout], [], [], seconds)
         return os.read(self.process.stdout.fileno(), 1 << 20) if ready else b''
 
-    def ticks(self):
-        """The time that the process has used a processor for, in seconds."""
-        with open('/proc/%d/stat' % self.process.pid) as file:
-            fields = file.read().rsplit(')', 1)[1].split()
-        return (int(fields[11]) + int(fields[12])) / os.sysconf('SC_CLK_TCK')
+    def frames(self, seconds):
+        """The moments at which frames come within this time, one by one. What is painted is read, and dropped."""
+        until = time.monotonic() + seconds
+        while time.monotonic() < until:
+            ready, _, _ = select.select([self.notes, self.process.stdout], [], [], 0.1)
+            now = time.monotonic()
+            # Two frames may have come since the last look.
+            for _ in range(os.read(self.notes, 1 << 16).count(NOTE) if self.notes in ready else 0):
+                yield now
+            if self.process.stdout in ready:
+                self.painting(0)
+
+    def used(self):
+        """The time for which the process has had a processor, in seconds."""
+        with open('/proc/%d/schedstat' % self.process.pid) as file:
+            return int(file.read().split()[0]) / 1e9
 
     def leave(self):
         self.keys.close()
         while self.painting(1):
             pass
         self.process.wait(10)
+        os.close(self.notes)
 
 
 def spread(name, times, unit, scale):
     times = sorted(times)
     at = lambda share: times[min(len(times) - 1, int(len(times) * share))] * scale
-    print('%-58s median %8.1f, 99 of 100 %8.1f, most %8.1f %s' % (name, at(0.5), at(0.99), at(1), unit))
+    print('%-58s median %8.1f, 99 of 100 %8.1f, most %8.1f %s' % (name, at(0.5), at(0.99), at(1), unit), flush=True)
+
+
+def interval_of(bpm):
+    return 60_000_000 // (4 * bpm) / 1e6
+
+
+def late_by(moments, interval):
+    """How late each frame is. The least late of a row is taken to be in time; a frame that is more than an interval late
+    begins another row, since its beat begins anew."""
+    late, row = [], []
+
+    def close():
+        due = min(moment - turn * interval for turn, moment in enumerate(row))
+        late.extend(moment - turn * interval - due for turn, moment in enumerate(row))
+
+    for moment in moments:
+        if row and moment - row[0] - len(row) * interval > 2 * interval:
+            close()
+            row = []
+        row.append(moment)
+    close()
+    return late
+
+
+def lateness(bpm, seconds):
+    player = Player(BEAT, '--bpm', bpm, '--midi', 'pipe')
+    moments = list(player.frames(seconds))
+    player.leave()
+    late = late_by(moments, interval_of(bpm))
+    spread('a frame at %d beats a minute, %d frames' % (bpm, len(late)), late, 'microseconds', 1e6)
 
 
 def key_times(name, grid, count, *options):
-    """From the byte of a key to its painting."""
+    """From the byte of a key to its painting, with no frame beside it."""
     player = Player(grid, '--bpm', 1, *options)
     while player.painting(0.3):
         pass
@@ -76,29 +136,76 @@ def key_times(name, grid, count, *options):
     spread('a key on ' + name, times, 'microseconds', 1e6)
 
 
-def lateness(bpm, seconds):
-    """How late the note of each frame is written to a pipe, counted from the frame that is the least late."""
-    os.path.exists('pipe') or os.mkfifo('pipe')
-    reader = os.open('pipe', os.O_RDWR)
-    player = Player(b'.D1.....\n..:03C82\n' + grids.piece(), '--bpm', bpm, '--midi', 'pipe')
-    interval, moments, until = 60_000_000 // (4 * bpm) / 1e6, [], time.monotonic() + seconds
-    while time.monotonic() < until:
-        ready, _, _ = select.select([reader, player.process.stdout], [], [], 1)
-        if player.process.stdout in ready:
-            player.painting(0)
-        if reader in ready:
-            now, notes = time.monotonic(), os.read(reader, 1 << 16)
-            if b'\x90\x24' in notes:
-                moments.append(now)
+def answer_time(player, key):
+    """From the byte of a key to the painting that shows it at the cursor."""
+    start, seen = time.monotonic(), b''
+    player.keys.send(key)
+    while b'\x1b[7m' + key not in seen:
+        seen += player.painting(10)
+    return time.monotonic() - start
+
+
+def keys_by_frames(bpm, count):
+    """Keys while a piece plays: those that are typed shortly before a frame, and the others."""
+    player, interval = Player(BEAT, '--bpm', bpm, '--midi', 'pipe'), interval_of(bpm)
+    # The cursor goes where no instrument is.
+    player.keys.send(b'\x1b[B' * 20)
+    times = {True: [], False: []}
+    for turn in range(count):
+        is_near = turn % 2 == 0
+        moment = next(player.frames(10))
+        left = random.uniform(0.0003, NEAR) if is_near else random.uniform(NEAR, interval - 0.001)
+        if left < interval:
+            time.sleep(max(0, moment + interval - left - time.monotonic()))
+            while player.painting(0):
+                pass
+            times[is_near].append(answer_time(player, b'12'[turn % 2:turn % 2 + 1]))
     player.leave()
-    os.close(reader)
-    late, due = [], moments[0]
-    for moment in moments:
-        # The least late of them is taken to be in time.
-        due = min(due, moment)
-        late.append(moment - due)
-        due = due + interval if due + interval > moment else moment + interval
-    spread('a frame at %d beats a minute, %d frames' % (bpm, len(moments)), late, 'microseconds', 1e6)
+    for is_near, name in ((True, 'less than 12 ms before a frame'), (False, 'away from one')):
+        spread('a key at %d beats, %s' % (bpm, name), times[is_near], 'microseconds', 1e6)
+
+
+def catching_up(bpm):
+    """The program is held for an interval and a half, and let go: how late the frames after that are."""
+    player, interval = Player(BEAT, '--bpm', bpm, '--midi', 'pipe'), interval_of(bpm)
+    moments = list(player.frames(40 * interval))
+    os.kill(player.process.pid, signal.SIGSTOP)
+    time.sleep(max(0, moments[-1] + 1.5 * interval - time.monotonic()))
+    os.kill(player.process.pid, signal.SIGCONT)
+    moments += player.frames(6 * interval)
+    player.leave()
+    base = min(moment - turn * interval for turn, moment in enumerate(moments[:30]))
+    late = [(moment - turn * interval - base) * 1e3 for turn, moment in enumerate(moments)][30:]
+    first = max(range(len(late)), key=lambda turn: late[turn])
+    print('held for one and a half intervals at %d beats: %s milliseconds late' %
+          (bpm, ', '.join('%.2f' % it for it in late[first:first + 5])), flush=True)
+
+
+def flood(bpm, count):
+    """So many bytes of keys at once: how late the frames are while they come."""
+    player, interval = Player(BEAT, '--bpm', bpm, '--midi', 'pipe'), interval_of(bpm)
+    before = list(player.frames(20 * interval))
+    sender = threading.Thread(target=player.keys.sendall, args=(b'\x1b[C\x1b[D' * (count // 6),))
+    begin = time.monotonic()
+    sender.start()
+    during = []
+    while sender.is_alive():
+        during += player.frames(10 * interval)
+    seconds = time.monotonic() - begin
+    player.leave()
+    late = late_by(before + during, interval)[len(before):]
+    spread('a frame at %d beats under %d bytes of keys in %.1f s' % (bpm, count, seconds), late, 'microseconds', 1e6)
+
+
+def saving(bpm, count):
+    """How late the frames are while the piece is saved in every fifth of them."""
+    player, interval = Player(BEAT, '--bpm', bpm, '--midi', 'pipe', '--save', 'saved'), interval_of(bpm)
+    moments = []
+    for _ in range(count):
+        moments += [moment for _, moment in zip(range(5), player.frames(10))]
+        player.keys.send(b'\x13')
+    player.leave()
+    spread('a frame at %d beats beside %d saves' % (bpm, count), late_by(moments, interval), 'microseconds', 1e6)
 
 
 def processor(name, grid, seconds, keys, *options):
@@ -107,30 +214,38 @@ def processor(name, grid, seconds, keys, *options):
     player.painting(1)
     player.keys.send(keys)
     player.painting(0.3)
-    begin, used, frames, painted = time.monotonic(), player.ticks(), 0, 0
+    begin, used, frames, painted = time.monotonic(), player.used(), 0, 0
     while time.monotonic() < begin + seconds:
         bytes_of = player.painting(0.1)
         frames += 1 if bytes_of else 0
         painted += len(bytes_of)
-    used, seconds = player.ticks() - used, time.monotonic() - begin
+    used, seconds = player.used() - used, time.monotonic() - begin
     player.leave()
-    print('%-58s %5.2f of 100 of a processor, %6.0f bytes a painting (%d)' %
-          (name, 100 * used / seconds, painted / max(frames, 1), frames))
+    print('%-58s %6.3f of 100 of a processor, %6.0f bytes a painting (%d)' %
+          (name, 100 * used / seconds, painted / max(frames, 1), frames), flush=True)
 
 
 def main():
     keys, seconds = option('--keys', 1000), option('--seconds', 60)
     large = ('--rows', 100, '--cols', 256)
-    key_times('25 x 57', grids.piece(), keys)
-    key_times('256 x 256 of dots', grids.dots(256, 256), keys, *large)
-    key_times('256 x 256 with 10 %', grids.crowded(256, 256, 10), keys, *large)
     lateness(120, seconds)
     lateness(999, seconds)
+    for bpm in (120, 999):
+        keys_by_frames(bpm, min(keys, 8 * seconds))
+        catching_up(bpm)
+        flood(bpm, option('--flood', 8_000_000))
+    saving(999, min(keys, 8 * seconds))
+    key_times('25 x 57, paused', grids.piece(), keys)
+    key_times('256 x 256 of dots', grids.dots(256, 256), keys, *large)
+    key_times('256 x 256 with 10 %', grids.crowded(256, 256, 10), keys, *large)
+    key_times('1,024 x 1,024 of dots, 24 x 80 of it', grids.dots(1_024, 1_024), keys, '--rows', 24, '--cols', 80)
+    key_times('1,024 x 1,024 of dots', grids.dots(1_024, 1_024), keys, *large)
     crowd = grids.crowded(64, 64, 10)
     processor('64 x 64 with 10 %, paused', crowd, seconds, b' ')
     processor('64 x 64 with 10 %, playing at 120', crowd, seconds, b'')
     processor('64 x 64 with 10 %, playing at 999', crowd, seconds, b'', '--bpm', 999)
     processor('25 x 57, playing at 120', grids.piece(), seconds, b'')
+    processor('25 x 57, playing at 999', grids.piece(), seconds, b'', '--bpm', 999)
     processor('25 x 57 of dots, playing at 120', grids.dots(25, 57), seconds, b'')
 
 
