@@ -1,7 +1,6 @@
 //! Frames on a board, with what they leave written by hand.
 
 ghost use Rattle.std.specs.Prelude.{◌≡◌, ◌+◌, ◌<◌};
-ghost use Rattle.orca_base.specs.Grids.{largest};
 ghost use Rattle.orca_grid.specs.BlankGrid.{blank_sheet};
 ghost use Rattle.orca_op.specs.Desk.{desk_of_sheet};
 
@@ -47,10 +46,10 @@ fn variables_are_fresh_in_each_frame(rt: HostRuntime) -> Result<(), Fail> {
     Ok(())
 }
 
-/// A frame of the largest grid of dots: one step for each of its 256 rows, and one more. No step is
-/// kept when the program runs, so this contract says how many there are.
+/// A frame of 256 rows of 256 dots: one step for each row, and one more. No step is kept when the
+/// program runs, so this contract says how many there are.
 fn play_dots<L: Ledger>(board: &mut Board, steps: &mut Steps<L>)
-    requires { board.old ≡ desk_of_sheet (blank_sheet largest) }
+    requires { board.old ≡ desk_of_sheet (blank_sheet (record { h = 256; w = 256 })) }
     ensures same { board.new ≡ board.old }
     ensures ticks { steps.new ≡ steps.old + 257 }
 {
@@ -63,7 +62,7 @@ fn count_dots<L: Ledger>(board: &mut Board, blank: Blank)
     requires name { blank.name ≡ L.name }
     requires parts { blank.parts ≡ L.parts }
     requires some { 0 < blank.parts }
-    requires dots { board.old ≡ desk_of_sheet (blank_sheet largest) }
+    requires dots { board.old ≡ desk_of_sheet (blank_sheet (record { h = 256; w = 256 })) }
     ensures { board.new ≡ board.old }
 {
     play_dots(board, &mut Steps::<L>::start(blank));
@@ -72,7 +71,7 @@ fn count_dots<L: Ledger>(board: &mut Board, blank: Blank)
 #[test]
 fn frame_of_dots_takes_a_step_for_each_row(rt: HostRuntime) -> Result<(), Fail> {
     let alloc = rt.alloc();
-    let grid = Grid::blank(alloc, Dims::largest())?;
+    let grid = Grid::blank(alloc, Dims { h: 256, w: 256 })?;
     let mut board = Board::start(alloc, &grid)?;
     count_dots::<Brand>(&mut board, Blank::new(1));
     let mut before = Vec::new(alloc);

@@ -1,10 +1,8 @@
 use Rattle.std.proofs.Common.{ap, ◌∙◌}
-use Rattle.orca_base.specs.Grids.{Size, Sheet}
-use Rattle.orca_grid.specs.BlankGrid.{blank_sheet}
+use Rattle.orca_base.specs.Grids.{Sheet}
 use Rattle.orca_op.specs.Desk.{desk_of_sheet}
 use Rattle.orca_cases.proofs.scans.tests.frame_of_dots_takes_a_step_for_each_row.Goals as goal
 
 pub count_dots-requires-clause-dots : goal.count_dots-requires-clause-dots
 count_dots-requires-clause-dots g c =
-    let dots = c.in_ok-grid.ensures ∙ ap (λ (d : Size). blank_sheet d) c.largest.ensures in
-    c.in_ok-board.ensures ∙ ap (λ (s : Sheet). desk_of_sheet s) dots
+    c.in_ok-board.ensures ∙ ap (λ (s : Sheet). desk_of_sheet s) c.in_ok-grid.ensures
