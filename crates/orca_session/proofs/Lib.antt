@@ -1,4 +1,5 @@
 mod BillLemmas
+mod BlankLemmas
 mod JumpLemmas
 mod ObeyLemmas
 mod PastLemmas

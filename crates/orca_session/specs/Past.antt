@@ -156,7 +156,8 @@ pub record KeepsPatches (p : PastState) : Type 0 where
       → Undoes patch (moment_of p n) (moment_of p (n + 1)) (touched_at p n)
 
 -- what holds of every past: the entries fit, what was cut off fits the piece as it stands, each
--- patch leads back, and the checkpoints are those of their moments
+-- patch leads back, the cells that are counted are those that the entries touched, and the
+-- checkpoints are those of their moments
 pub record IsPast (p : PastState) : Type 0 where
   pub fits : AllFit (opened_piece p.opened p.seed) p.trail.entries
   pub tail : AllFit (present p) p.trail.tail

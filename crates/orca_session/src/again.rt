@@ -14,8 +14,8 @@ use orca_edit::{apply, touch_law};
 use orca_frame::frame;
 use std::sync::ledger::Ledger;
 
-/// Does an entry of the history again. Answers the tick after it. It takes no more steps than the
-/// entry's price.
+/// Does an entry of the history again, with the tick and the seed before it. Answers the tick after
+/// it. It takes no more steps than the entry's price.
 #[tactic(auto, unfolding(orca_edit::specs::Pieces::apply))]
 pub(crate) fn do_again<L: Ledger>(
     board: &mut Board,

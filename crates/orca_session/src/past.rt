@@ -1,4 +1,4 @@
-ghost use Rattle.std.specs.Prelude.{◌≡◌, ◌+◌, ◌<◌, ◌≤◌, ◌↔◌, [], length, max, slice_get, option_copied, IfOk, IfSome, IsSome, OnOk, OnErr};
+ghost use Rattle.std.specs.Prelude.{◌≡◌, ◌+◌, ◌/◌, ◌<◌, ◌≤◌, ◌↔◌, [], length, max, slice_get, option_copied, IfOk, IfSome, IsSome, OnOk, OnErr};
 ghost use Rattle.orca_base.specs.declared.command.Command.TheVariants as command_of;
 ghost use Rattle.orca_base.specs.Histories.{group_of, last_edit};
 ghost use Rattle.orca_board.specs.Sizes.{cut_places};
@@ -14,7 +14,7 @@ ghost use Rattle.orca_session.specs.Past.{kept_of, moment_of, numbers_of, past_a
 
 use crate::again::{do_again, tick_after};
 use crate::keeping::{keep_due, touched_by};
-use orca_base::limits::MAX_HISTORY;
+use orca_base::limits::{FIRST_SPACING, MAX_CHECKPOINTS, MAX_HISTORY};
 use orca_base::{Command, Dims, Entry, Look, Memory, Now, Rule, Steps};
 use orca_board::Board;
 use orca_checkpoints::{Checkpoints, checkpoint_law};
@@ -39,7 +39,9 @@ pub(crate) struct Past {
     seed: u32,
     history: History,
     checkpoints: Checkpoints,
+    /// How many of the entries came before the last close.
     closed: u32,
+    /// The most entries that there have been.
     peak: u32,
 }
 
@@ -191,7 +193,7 @@ impl Past {
         ensures idle { OnErr result (steps.new ≡ steps.old) }
     {
         touch_law();
-        // By its size a contract sees what holds of the board.
+        // The contract of `dims` says what holds of the board.
         let now = Bench::dims(board);
         let patch = Patch::of_changes(self.alloc, dims, tick, board.changes())?;
         let touched = touched_by(&entry, &patch, dims, now);
@@ -204,7 +206,8 @@ impl Past {
     }
 
     /// Takes the board to a moment, and answers the tick of it. It undoes the entries from the last
-    /// one down, if their patches are kept, and else goes on from the last checkpoint before it.
+    /// one down, if their patches are kept, and else goes on from the last checkpoint at the moment
+    /// or before it.
     pub fn go_back<L: Ledger>(&self, board: &mut Board, moment: u32, steps: &mut Steps<L>) -> u32
         requires within { moment < length self.now.trail.entries }
         requires sheet { sheet_of board.old.scan ≡ (present self.now).sheet }
@@ -239,7 +242,7 @@ impl Past {
         tick
     }
 
-    /// Loads the last checkpoint before a moment, and does the entries from there on again.
+    /// Loads the last checkpoint at a moment or before it, and does the entries from there again.
     fn load_on<L: Ledger>(&self, board: &mut Board, moment: u32, steps: &mut Steps<L>) -> u32
         requires within { moment < length self.now.trail.entries }
         requires sheet { sheet_of board.old.scan ≡ (present self.now).sheet }
@@ -282,7 +285,7 @@ impl Past {
         let len = self.history.len();
         let group = self.history.group();
         let seed = self.seed;
-        // The checkpoint of the last Hush is that of the group's first entry from now on.
+        // The moment after the last Hush becomes that after the group's first entry.
         self.checkpoints.drop_above(len - 1);
         let mut tick = tick;
         for at in 0..group {
@@ -380,6 +383,24 @@ impl Past {
         ensures most { length self.now.trail.entries ≤ result }
     {
         self.peak
+    }
+
+    /// How many entries lie between two checkpoints.
+    pub fn spacing(&self) -> u32
+        ensures spacing { result ≡ self.now.points.spacing }
+        ensures least { FIRST_SPACING ≤ result }
+        ensures most { result ≤ max FIRST_SPACING (self.now.peak / 32) }
+    {
+        self.checkpoints.spacing()
+    }
+
+    /// The number of checkpoints: one for each multiple of the spacing, up to the number of
+    /// entries.
+    pub fn checkpoints(&self) -> u32
+        ensures multiples { result ≡ length self.now.trail.entries / self.now.points.spacing + 1 }
+        ensures most { result ≤ MAX_CHECKPOINTS }
+    {
+        self.checkpoints.count()
     }
 
     /// Where its memory comes from.

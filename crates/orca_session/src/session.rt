@@ -1,4 +1,4 @@
-ghost use Rattle.std.specs.Prelude.{◌≡◌, ◌+◌, ◌<◌, ◌≤◌, ◌↔◌, [], ◌∷◌, ◌++◌, length, slice_get, option_copied, All, None, Ok, IfOk, IfSome, IsSome, OnOk, OnErr};
+ghost use Rattle.std.specs.Prelude.{◌≡◌, ◌+◌, ◌/◌, ◌<◌, ◌≤◌, ◌↔◌, [], ◌∷◌, ◌++◌, length, max, slice_get, option_copied, All, None, Ok, IfOk, IfSome, IsSome, OnOk, OnErr};
 ghost use Rattle.std.specs.Option.{option_map, option_map_or};
 ghost use Rattle.orca_base.specs.Areas.{IsArea};
 ghost use Rattle.orca_base.specs.Edits.{block_of};
@@ -14,7 +14,7 @@ ghost use Rattle.orca_notes.specs.Device.{Plays};
 ghost use Rattle.orca_session.specs.Session.{IsBlockEdit, clip_with, edit_price, session_at_start};
 
 use crate::past::Past;
-use orca_base::limits::MAX_HISTORY;
+use orca_base::limits::{FIRST_SPACING, MAX_CHECKPOINTS, MAX_HISTORY};
 use orca_base::{
     Area, Block, Command, Dims, Entry, Fault, Glyph, Look, Marks, Memory, Note, Now, Place, Reply,
     Rule, Steps,
@@ -80,6 +80,26 @@ impl Session {
         self.past.entry(index)
     }
 
+    /// How many entries lie between two checkpoints: [`FIRST_SPACING`], and twice as many each time
+    /// that more than [`MAX_CHECKPOINTS`] would be kept. So it stays small beside the history.
+    pub fn spacing(&self) -> u32
+        ensures spacing { result ≡ self.now.kept.spacing }
+        ensures least { FIRST_SPACING ≤ result }
+        ensures most { result ≤ max FIRST_SPACING (self.now.kept.peak / 32) }
+    {
+        self.past.spacing()
+    }
+
+    /// How many checkpoints are kept, 1 to [`MAX_CHECKPOINTS`]: those of the multiples of the
+    /// spacing, up to the length of the history.
+    pub fn checkpoints(&self) -> u32
+        ensures multiples { result
+            ≡ length self.now.machine.history / self.now.kept.spacing + 1 }
+        ensures most { result ≤ MAX_CHECKPOINTS }
+    {
+        self.past.checkpoints()
+    }
+
     /// The clip: what was copied or cut last. None if nothing was so far.
     pub fn clip(&self) -> Option<&Block>
         ensures { option_copied result ≡ self.now.machine.clip }
@@ -92,11 +112,11 @@ impl Session {
         ensures rule { result ≡ rule_against self.now.machine command.now }
         ensures most { length self.now.machine.history ≤ self.now.kept.peak }
     {
-        let late = self.past.rule_against(command);
+        let on_history = self.past.rule_against(command);
         let dims = Look::dims(&self.board);
         match block_rule(command, dims, self.clip.as_ref()) {
             Some(rule) => Some(rule),
-            None => late,
+            None => on_history,
         }
     }
 
@@ -323,6 +343,7 @@ impl Session {
         requires allowed { rule_against self.old.machine command_of.Redo ≡ None }
         ensures obeys { Obeys self.old.machine command_of.Redo (Ok result) self.new.machine [] }
         ensures notes { (piece_of self.new.machine).notes ≡ (piece_of self.old.machine).notes }
+        ensures silent { (piece_of self.new.machine).notes ≡ [] }
         ensures kept { self.new.kept
             ≡ kept_after self.old.machine self.old.kept command_of.Redo (Ok result) }
         ensures price { steps.new + self.new.residue ≤ steps.old + self.old.residue

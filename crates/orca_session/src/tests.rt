@@ -1,6 +1,7 @@
 //! Lists of commands, with the answer of each, the messages, and the piece that is left. The grids
 //! stand as texts.
 
+mod checkpoints;
 mod edits;
 mod jumps;
 mod redos;

@@ -18,7 +18,7 @@ pub returns-in-None-clause-rule : goal.returns-in-None-clause-rule
 returns-in-None-clause-rule c =
     rw (← c.self.view_is)
     (let m : MachineState = machine_of c.self.inside.past c.self.inside.clip in
-    c.rule_against-late.ensures.rule
+    c.rule_against-on_history.ensures.rule
     ∙ sym (rule-of-history m c.args.command.now
     (rule-of-parts m _ _ c.args.command.now
     (c.dims-dims.ensures.size ∙ ap (λ (g : Sheet). g.dims) c.self.invariant.grid)
