@@ -204,6 +204,7 @@ impl Bench for Board {
         self.field.marked_here(at, steps)
     }
 
+    #[inline(always)]
     fn beside_bang<L: Ledger>(&self, at: Place, steps: &mut Steps<L>) -> bool {
         self.field.beside_bang(at, steps)
     }

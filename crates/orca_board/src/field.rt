@@ -11,7 +11,7 @@ ghost use Rattle.orca_board.specs.declared.field.TheConstants.{GROUP};
 ghost use Rattle.orca_board.specs.Board.{AreLive, IsEmptyOutside, glyph_in, marks_in};
 ghost use Rattle.orca_op.specs.Live.{has_bit};
 ghost use Rattle.orca_op.specs.Desk.{changes_of, desk_of_sheet, is_listed};
-ghost use Rattle.orca_op.specs.State.{glyph_at, peek, sheet_of};
+ghost use Rattle.orca_op.specs.State.{glyph_at, has_bang, peek, sheet_of};
 
 use crate::blocks;
 use crate::listing::Listing;
@@ -202,6 +202,20 @@ impl Field {
         self.cells[i + usize::from(MAX_COLUMNS)]
     }
 
+    /// Whether a bang stands beside a place of the grid, wherever it lies. It stands apart, so that the
+    /// walk of a row keeps its registers.
+    #[inline(never)]
+    #[tactic(auto, unfolding(orca_op::specs::State::has_bang))]
+    fn is_beside_bang(&self, at: Place) -> bool
+        requires { IsInside self.now.scan.dims at }
+        ensures { result ≡ has_bang self.now.scan at }
+    {
+        self.above(at) == Glyph::BANG
+            || self.left(at) == Glyph::BANG
+            || self.right(at) == Glyph::BANG
+            || self.below(at) == Glyph::BANG
+    }
+
     /// The events, in the order in which they were emitted.
     pub fn events(&self) -> &[Event]
         ensures events { result.now ≡ self.now.scan.events }
@@ -359,8 +373,29 @@ fn renew(cells: &mut [Glyph], live: &mut LiveBits, i: usize, old: Glyph, glyph: 
 
 /// Whether a bang stands above, at the left, at the right or below a cell of the column `x` that lies
 /// neither in the first nor in the last row of the largest grid. Few cells hold a bang, so whether the
-/// cell lies at the edge of its row is asked last.
+/// cell lies at the edge of its row is asked only where one of the four does.
 fn bang_around(cells: &[Glyph], i: usize, x: u16) -> bool
+    requires above { MAX_COLUMNS ≤ i }
+    requires below { i + MAX_COLUMNS < length cells.now }
+    ensures { result ≡ ((slice_index cells.now (i - MAX_COLUMNS) == bang)
+        || ((slice_index cells.now (i - 1) == bang) && nat_lt 0 x)
+        || ((slice_index cells.now (i + 1) == bang) && nat_lt x (MAX_COLUMNS - 1))
+        || (slice_index cells.now (i + MAX_COLUMNS) == bang)) }
+{
+    let row = usize::from(MAX_COLUMNS);
+    if cells[i - row] != Glyph::BANG
+        && cells[i - 1] != Glyph::BANG
+        && cells[i + 1] != Glyph::BANG
+        && cells[i + row] != Glyph::BANG
+    {
+        return false;
+    }
+    bang_within_edges(cells, i, x)
+}
+
+/// The same, with the edges asked for. It stands apart, so that the walk of a row keeps its registers.
+#[inline(never)]
+fn bang_within_edges(cells: &[Glyph], i: usize, x: u16) -> bool
     requires above { MAX_COLUMNS ≤ i }
     requires below { i + MAX_COLUMNS < length cells.now }
     ensures { result ≡ ((slice_index cells.now (i - MAX_COLUMNS) == bang)
@@ -514,9 +549,8 @@ impl Bench for Field {
         self.marks.at(at)
     }
 
-    // It stands apart, so that the walk of a row keeps its registers.
-    #[inline(never)]
-    #[tactic(auto, unfolding(orca_op::specs::State::has_bang))]
+    // The walk has the number of the place at hand, so the look for a bang is a part of it.
+    #[inline(always)]
     fn beside_bang<L: Ledger>(&self, at: Place, steps: &mut Steps<L>) -> bool {
         tick_times(4, steps);
         let cells = &self.cells;
@@ -525,10 +559,7 @@ impl Bench for Field {
         if i >= row && i < MAX_CELLS - row {
             return bang_around(cells, i, at.x);
         }
-        self.above(at) == Glyph::BANG
-            || self.left(at) == Glyph::BANG
-            || self.right(at) == Glyph::BANG
-            || self.below(at) == Glyph::BANG
+        self.is_beside_bang(at)
     }
 
     fn find_right<L: Ledger>(
