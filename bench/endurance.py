@@ -124,11 +124,14 @@ def connect(program, port):
 
 
 def replayed():
-    """The grid that the saved script gives, and how many commands it has."""
-    text = subprocess.run([PROGRAM, 'replay', 'piece', 'script', '--seed', '7', '--limit', '4000000'], stdout=subprocess.PIPE,
+    """The grid that the saved script gives, and how many commands it has. The script has the seed."""
+    text = subprocess.run([PROGRAM, 'replay', 'piece', 'script', '--limit', '4000000'], stdout=subprocess.PIPE,
                           timeout=600, check=True).stdout
     with open('script', 'rb') as file:
-        count = file.read().count(b'\n')
+        head, *lines = file.read().splitlines()
+    assert head == b'!orca 2 seed 7', 'the script begins with %r' % head
+    # Frames in a row are one line.
+    count = sum(int(line.split()[1]) if line.startswith(b'frames ') else 1 for line in lines)
     return b''.join(line + b'\n' for line in text.splitlines() if b' ' not in line), count
 
 

@@ -89,12 +89,10 @@ sweep_saves() {
     done < <(unfinished_saves)
 }
 
-# The grid of the end: the replay of the script on the piece as it was. Of what it prints the grid has no spaces.
+# The grid of the end: the replay of the script, which has its seed, on the piece as it was. Of what it prints the grid has no spaces.
 replay_grid() {
-    local words=() option
-    for option in --seed --limit; do
-        [ -z "${given[$option]+given}" ] || words+=("$option=${given[$option]}")
-    done
+    local words=()
+    [ -z "${given[--limit]+given}" ] || words+=("--limit=${given[--limit]}")
     "$program" replay "${words[@]}" -- "$room/piece" "$room/script" 2>/dev/null </dev/null | sed '/ /d' >"$room/grid"
     [ -s "$room/grid" ]
 }

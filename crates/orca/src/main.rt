@@ -4,6 +4,7 @@
 ghost use Rattle.std.specs.Prelude.{◌≡◌, ◌<◌};
 
 use orca_base::{Memory, Steps};
+use orca_course::Desk;
 use orca_player::{Status, end, run};
 use orca_rig::{RealFiles, RealOuts, TcpInbox, open_closed_streams, words_after_name};
 use std::env;
@@ -23,23 +24,17 @@ where
     requires parts { blank.parts ≡ L.parts }
     requires some { 0 < blank.parts }
 {
-    let mut steps = Steps::<L>::start(blank);
+    let steps = Steps::<L>::start(blank);
     if open_closed_streams(rt).is_err() {
         return Status::OutFault;
     }
-    let mut files = RealFiles::new(rt);
-    let mut outs = RealOuts::new(rt);
-    let mut inbox = TcpInbox::new(rt);
+    let files = RealFiles::new(rt);
+    let outs = RealOuts::new(rt);
+    let inbox = TcpInbox::new(rt);
+    let mut desk = Desk::new(files, outs, inbox, steps);
     match words_after_name(rt.alloc(), env::args(rt)) {
-        Ok(words) => run(
-            rt.alloc(),
-            &words,
-            &mut files,
-            &mut outs,
-            &mut inbox,
-            &mut steps,
-        ),
-        Err(Memory) => end(rt.alloc(), &mut outs, Status::Memory),
+        Ok(words) => run(rt.alloc(), &words, &mut desk),
+        Err(Memory) => end(rt.alloc(), &mut desk, Status::Memory),
     }
 }
 

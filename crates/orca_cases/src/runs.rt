@@ -6,7 +6,7 @@ use crate::bytes::{tell_bytes, write_bytes};
 use crate::case::Case;
 use anyhow::{Result, bail, ensure};
 use orca_base::Steps;
-use orca_player::Status;
+use orca_course::Desk;
 use orca_rig::{MemFiles, MemInbox, MemOuts, are_arrivals, is_in_order, names_differ};
 use std::alloc::Global;
 use std::marker::Brand;
@@ -33,49 +33,53 @@ pub(crate) fn tell(alloc: Global, case: Case, into: &mut String) -> Result<()> {
         "a moment is below an earlier one"
     );
     ensure!(are_arrivals(&answers), "an arrival has no bytes");
-    let Ok(mut files) = MemFiles::new(files, failing_calls) else {
+    let Ok(files) = MemFiles::new(files, failing_calls) else {
         bail!("memory was refused");
     };
-    let Ok(mut outs) = MemOuts::new(failing_sends) else {
+    let Ok(outs) = MemOuts::new(failing_sends) else {
         bail!("memory was refused");
     };
-    let Ok(mut inbox) = MemInbox::new(start, answers, failing_polls) else {
+    let Ok(inbox) = MemInbox::new(start, answers, failing_polls) else {
         bail!("memory was refused");
     };
-    let status = run::<Brand>(
+    tell_run::<Brand>(
         alloc,
         &words,
-        &mut files,
-        &mut outs,
-        &mut inbox,
+        &wanted,
+        files,
+        outs,
+        inbox,
         Blank::new(1),
-    );
-    tell_sends(alloc, &outs, into)?;
-    for name in &wanted {
-        tell_file(alloc, &files, name.as_str(), into)?;
-    }
-    let line = format!(in alloc; "status {}\n", status.number())?;
-    into.push_str(line.as_str())?;
-    Ok(())
+        into,
+    )
 }
 
-/// Does the run.
-fn run<L: Ledger>(
+/// Does the run at a desk of these, and adds the lines of what came of it.
+fn tell_run<L: Ledger>(
     alloc: Global,
     words: &Vec<String>,
-    files: &mut MemFiles,
-    outs: &mut MemOuts,
-    inbox: &mut MemInbox,
+    wanted: &Vec<String>,
+    files: MemFiles,
+    outs: MemOuts,
+    inbox: MemInbox,
     blank: Blank,
-) -> Status
-    requires fresh { inbox.old.listened ≡ false }
-    requires open { inbox.old.ended ≡ false }
+    into: &mut String,
+) -> Result<()>
+    requires fresh { inbox.listened ≡ false }
+    requires open { inbox.ended ≡ false }
     requires name { blank.name ≡ L.name }
     requires parts { blank.parts ≡ L.parts }
     requires some { 0 < blank.parts }
 {
-    let mut steps = Steps::<L>::start(blank);
-    orca_player::run(alloc, words, files, outs, inbox, &mut steps)
+    let mut desk = Desk::new(files, outs, inbox, Steps::<L>::start(blank));
+    let status = orca_player::run(alloc, words, &mut desk);
+    tell_sends(alloc, desk.outs(), into)?;
+    for name in wanted {
+        tell_file(alloc, desk.files(), name.as_str(), into)?;
+    }
+    let line = format!(in alloc; "status {}\n", status.number())?;
+    into.push_str(line.as_str())?;
+    Ok(())
 }
 
 /// Adds a line for each send.

@@ -1,103 +1,92 @@
--- What was done for the answers of the inbox.
-use Rattle.std.proofs.Common.{◌≡◌, ◌≢◌, ◌==◌, ℕ, Bool, true, false, List, refl, sym, ap, subst}
-use Rattle.std.specs.Prelude.{if◌then◌else◌, Option, Some, None, is_some, Result, Ok, Err}
-use Rattle.std.proofs.lemmas.Bool.{ne_eqb}
+-- What was done for an answer of the inbox.
+use Rattle.std.proofs.Common.{◌≡◌, ◌≢◌, ◌==◌, ℕ, Bool, true, false, List, refl, sym, subst}
+use Rattle.std.specs.Prelude.{if◌then◌else◌, Option, Some, None, Result, Ok, Err}
+use Rattle.std.proofs.lemmas.Bool.{eq-eqb, ne_eqb}
+use Rattle.orca_course.specs.Courses.{each, still}
+use Rattle.orca_course.specs.Doing.{Does}
+use Rattle.orca_course.specs.Worlds.{World}
+use Rattle.orca_course.specs.declared.ending.Stop.{Stop}
+use Rattle.orca_course.specs.declared.refused.NoMemory.{NoMemory}
+use Rattle.orca_course.proofs.DoingLemmas.{does_cut, does_still, does_stop, does_then}
 use Rattle.orca_rig.specs.declared.inbox.Answer.{Answer}
 use Rattle.orca_rig.specs.declared.inbox.Answer.TheVariants as answer
-use Rattle.orca_send.specs.declared.sender.NoMemory.{NoMemory}
-use Rattle.orca_stage.specs.Told.{Told}
-use Rattle.orca_live.specs.Courses.{still}
-use Rattle.orca_live.specs.Doing.{Does}
-use Rattle.orca_live.specs.Performing.{answer_course, answered_at, bytes_course, due_course, heard_course, show_course}
-use Rattle.orca_live.specs.States.{LiveState, Setting}
-use Rattle.orca_live.specs.declared.ending.Ending.{Ending}
-use Rattle.orca_live.specs.declared.ending.Ending.TheVariants.{Left, Lost}
-use Rattle.orca_live.proofs.DoingLemmas.{does_cut, does_from, does_none, does_nothing, does_some, does_then, same_looks}
+use Rattle.orca_live.specs.Performing.{answer_course, answered_at, byte_course, due_course, heard_course, show_course}
+use Rattle.orca_live.specs.States.{LiveState, live_stance}
+use Rattle.orca_live.proofs.DoneLemmas.{does_from}
 
--- bytes
+answer_is : (a b : Answer) (bytes : List ℕ) {s t : LiveState} {x y : World}
+    {result : Result (Option Stop) NoMemory} → a ≡ b
+    → Does live_stance (answer_course b bytes s) s x result t y
+    → Does live_stance (answer_course a bytes s) s x result t y
+answer_is a b bytes {s = s} {t = t} {x = x} {y = y} {result = result} is did =
+    subst (λ a. Does live_stance (answer_course a bytes s) s x result t y) (sym is) did
 
--- an answer with bytes, by whether they are the player's
-answer_bytes : (set : Setting) (hand count at : ℕ) (bytes : List ℕ) (s t : LiveState) (b : Bool)
-    (x y : Told) (result : Result (Option Ending) NoMemory) → b ≡ (hand == 0)
-    → Does (if b then bytes_course set bytes (answered_at at s) else still (answered_at at s)) s x
+-- bytes, by whether they are the player's
+bytes_by : (hand count at : ℕ) (mine : Bool) (bytes : List ℕ) {s t : LiveState} {x y : World}
+    {result : Result (Option Stop) NoMemory} → (hand == 0) ≡ mine
+    → Does live_stance
+    (if mine then each byte_course bytes (answered_at at s) else still (answered_at at s)) s x
     result t y
-    → Does (answer_course set (answer.Bytes hand count at) bytes s) s x result t y
+    → Does live_stance (answer_course (answer.Bytes hand count at) bytes s) s x result t y
 unfolding answer_course
-answer_bytes set hand count at bytes s t b x y result is did =
-    subst (λ (b : Bool). Does (if b then bytes_course set bytes (answered_at at s)
-    else still (answered_at at s)) s x result t y) is did
+bytes_by hand count at mine bytes {s = s} {t = t} {x = x} {y = y} {result = result} is did =
+    subst (λ mine. Does live_stance
+    (if mine then each byte_course bytes (answered_at at s) else still (answered_at at s)) s x
+    result t y) (sym is) did
 
-pub answer_read : (set : Setting) (a : Answer) (hand count at : ℕ) (bytes : List ℕ)
-    (s t : LiveState) (x y : Told) (result : Result (Option Ending) NoMemory)
-    → a ≡ answer.Bytes hand count at → hand ≡ 0
-    → Does (bytes_course set bytes (answered_at at s)) (answered_at at s) x result t y
-    → Does (answer_course set a bytes s) s x result t y
-answer_read set a hand count at bytes s t x y result is mine did =
-    subst (λ (a : Answer). Does (answer_course set a bytes s) s x result t y) (sym is)
-    (answer_bytes set hand count at bytes s t true x y result
-    (sym (ap (λ (n : ℕ). n == 0) mine))
-    (does_from (bytes_course set bytes (answered_at at s)) s (answered_at at s) t x y result
-    (record { standing = refl; screen = refl; shown = refl }) did))
+pub answer_read : (a : Answer) (hand count at : ℕ) (bytes : List ℕ) {s t : LiveState}
+    {x y : World} (result : Result (Option Stop) NoMemory) → a ≡ answer.Bytes hand count at
+    → hand ≡ 0
+    → Does live_stance (each byte_course bytes (answered_at at s)) (answered_at at s) x result t y
+    → Does live_stance (answer_course a bytes s) s x result t y
+answer_read a hand count at bytes {s = s} result is mine did =
+    answer_is a (answer.Bytes hand count at) bytes is
+    (bytes_by hand count at true bytes (eq-eqb hand 0 mine) (does_from s result refl did))
 
-pub answer_dropped : (set : Setting) (a : Answer) (hand count at : ℕ) (bytes : List ℕ)
-    (s : LiveState) (x : Told) → a ≡ answer.Bytes hand count at → hand ≢ 0
-    → Does (answer_course set a bytes s) s x (Ok None) (answered_at at s) x
-answer_dropped set a hand count at bytes s x is other =
-    subst (λ (a : Answer). Does (answer_course set a bytes s) s x (Ok None) (answered_at at s) x)
-    (sym is)
-    (answer_bytes set hand count at bytes s (answered_at at s) false x x (Ok None)
-    (sym (ne_eqb hand 0 other))
-    (does_nothing None s (answered_at at s) x
-    (record { standing = refl; screen = refl; shown = refl })))
+-- the bytes of other hands are dropped
+pub answer_dropped : (a : Answer) (hand count at : ℕ) (bytes : List ℕ) (s : LiveState) (x : World)
+    → a ≡ answer.Bytes hand count at → hand ≢ 0
+    → Does live_stance (answer_course a bytes s) s x (Ok None) (answered_at at s) x
+answer_dropped a hand count at bytes s x is other =
+    answer_is a (answer.Bytes hand count at) bytes is
+    (bytes_by hand count at false bytes (ne_eqb hand 0 other) (does_still x refl))
 
--- the other answers
-
-pub answer_due : (set : Setting) (a : Answer) (at : ℕ) (bytes : List ℕ) (s t : LiveState)
-    (x y : Told) (result : Result (Option Ending) NoMemory) → a ≡ answer.Due at
-    → Does (due_course set (answered_at at s)) (answered_at at s) x result t y
-    → Does (answer_course set a bytes s) s x result t y
+pub answer_due : (a : Answer) (at : ℕ) (bytes : List ℕ) {s t : LiveState} {x y : World}
+    (result : Result (Option Stop) NoMemory) → a ≡ answer.Due at
+    → Does live_stance (due_course (answered_at at s)) (answered_at at s) x result t y
+    → Does live_stance (answer_course a bytes s) s x result t y
 unfolding answer_course
-answer_due set a at bytes s t x y result is did =
-    subst (λ (a : Answer). Does (answer_course set a bytes s) s x result t y) (sym is)
-    (does_from (due_course set (answered_at at s)) s (answered_at at s) t x y result
-    (record { standing = refl; screen = refl; shown = refl }) did)
+answer_due a at bytes {s = s} result is did =
+    answer_is a (answer.Due at) bytes is (does_from s result refl did)
 
-pub answer_end : (set : Setting) (a : Answer) (bytes : List ℕ) (s : LiveState) (x : Told)
-    → a ≡ answer.End → Does (answer_course set a bytes s) s x (Ok (Some Left)) s x
+pub answer_end : (a : Answer) (bytes : List ℕ) (s : LiveState) (x : World) → a ≡ answer.End
+    → Does live_stance (answer_course a bytes s) s x (Ok None) s x
 unfolding answer_course
-answer_end set a bytes s x is =
-    subst (λ (a : Answer). Does (answer_course set a bytes s) s x (Ok (Some Left)) s x) (sym is)
-    (does_nothing (Some Left) s s x (same_looks s))
+answer_end a bytes s x is = answer_is a answer.End bytes is (does_still x refl)
 
-pub answer_failed : (set : Setting) (a : Answer) (bytes : List ℕ) (s : LiveState) (x : Told)
-    → a ≡ answer.Failed → Does (answer_course set a bytes s) s x (Ok (Some Lost)) s x
+pub answer_failed : (a : Answer) (bytes : List ℕ) (s : LiveState) (x : World)
+    → a ≡ answer.Failed → Does live_stance (answer_course a bytes s) s x (Ok None) s x
 unfolding answer_course
-answer_failed set a bytes s x is =
-    subst (λ (a : Answer). Does (answer_course set a bytes s) s x (Ok (Some Lost)) s x) (sym is)
-    (does_nothing (Some Lost) s s x (same_looks s))
+answer_failed a bytes s x is = answer_is a answer.Failed bytes is (does_still x refl)
 
--- an answer, and then the picture
+-- ---- an answer, and then the picture
 
-pub heard_cut : (set : Setting) (a : Answer) (bytes : List ℕ) (s t : LiveState) (x y : Told)
-    (e : NoMemory) → Does (answer_course set a bytes s) s x (Err e) t y
-    → Does (heard_course set a bytes s) s x (Err e) t y
+pub heard_cut : (a : Answer) (bytes : List ℕ) {s t : LiveState} {x y : World} {e : NoMemory}
+    → Does live_stance (answer_course a bytes s) s x (Err e) t y
+    → Does live_stance (heard_course a bytes s) s x (Err e) t y
 unfolding heard_course
-heard_cut set a bytes s t x y e cut =
-    does_cut (answer_course set a bytes s) show_course s t x y e cut
+heard_cut a bytes cut = does_cut show_course cut
 
-pub heard_ended : (set : Setting) (a : Answer) (bytes : List ℕ) (s t : LiveState) (x y : Told)
-    (end : Option Ending) (some : Bool) → some ≡ is_some end → some ≡ true
-    → Does (answer_course set a bytes s) s x (Ok end) t y
-    → Does (heard_course set a bytes s) s x (Ok end) t y
+pub heard_stop : (a : Answer) (bytes : List ℕ) {s t : LiveState} {x y : World} {stop : Stop}
+    → Does live_stance (answer_course a bytes s) s x (Ok (Some stop)) t y
+    → Does live_stance (heard_course a bytes s) s x (Ok (Some stop)) t y
 unfolding heard_course
-heard_ended set a bytes s t x y end some is on did =
-    does_some (answer_course set a bytes s) show_course s t x y end some is on did
+heard_stop a bytes did = does_stop show_course did
 
-pub heard_done : (set : Setting) (a : Answer) (bytes : List ℕ) (s t u : LiveState) (x y z : Told)
-    (end : Option Ending) (some : Bool) (result : Result (Option Ending) NoMemory)
-    → some ≡ is_some end → some ≡ false → Does (answer_course set a bytes s) s x (Ok end) t y
-    → Does (show_course t) t y result u z → Does (heard_course set a bytes s) s x result u z
+pub heard_did : (a : Answer) (bytes : List ℕ) {s t u : LiveState} {x y z : World}
+    {result : Result (Option Stop) NoMemory}
+    → Does live_stance (answer_course a bytes s) s x (Ok None) t y
+    → Does live_stance (show_course t) t y result u z
+    → Does live_stance (heard_course a bytes s) s x result u z
 unfolding heard_course
-heard_done set a bytes s t u x y z end some result is off did more =
-    let c = answer_course set a bytes s in
-    does_then c show_course s t u x y z result (does_none c s t x y end some is off did) more
+heard_did a bytes did more = does_then show_course did more

@@ -1,50 +1,61 @@
 -- More answers only add acts.
-use Rattle.std.proofs.Common.{◌≡◌, ◌+◌, Bool, true, false, List, [], ◌∷◌, ◌++◌, refl, sym, ◌∙◌, ap, append_assoc, append-nil}
+use Rattle.std.proofs.Common.{◌≡◌, Bool, true, false, List, [], ◌++◌, refl, sym, ◌∙◌, ap, append_assoc, append-nil, length}
 use Rattle.std.specs.Prelude.{nat_le, if◌then◌else◌, Option, Some, None}
 use Rattle.orca_base.specs.declared.limits.TheConstants.{MAX_POLLS}
-use Rattle.orca_stage.specs.Acts.{Act}
-use Rattle.orca_live.specs.Courses.{Course, ended, onward, onward_by, still}
+use Rattle.orca_course.specs.Courses.{Course, each, ended, onward, onward_by, still}
+use Rattle.orca_course.specs.Performers.{attended, begun, opened, polled, spent}
+use Rattle.orca_course.specs.declared.ending.Ending.{Ending}
+use Rattle.orca_course.specs.declared.ending.Ending.TheVariants.{Spent}
+use Rattle.orca_course.proofs.CourseLemmas.{each-longer}
+use Rattle.orca_rig.specs.Arrived.{Poll}
 use Rattle.orca_live.specs.Laws.{Extends, OnlyAppends}
-use Rattle.orca_live.specs.Performing.{poll_course, polls_course}
+use Rattle.orca_live.specs.Performing.{live_part}
 use Rattle.orca_live.specs.States.{LiveState}
-use Rattle.orca_live.specs.declared.ending.Ending.{Ending}
-use Rattle.orca_live.specs.declared.ending.Ending.TheVariants.{Spent}
 
-extends_none : (c : Course) → Extends c c
-extends_none c = ([], sym (append-nil c.acts))
+-- the last poll adds nothing
+spent_by : (b : Bool) (s : LiveState) → (if b then ended Spent s else still s).acts ≡ []
+spent_by true s = refl
+spent_by false s = refl
 
-onward_extends : (end : Option Ending) (p : Course) (next more : LiveState → Course)
-    → ((t : LiveState) → Extends (next t) (more t))
-    → Extends (onward_by end p next) (onward_by end p more)
-onward_extends None p next more extends =
-    let some = extends p.state in (
-      some.0,
-      ap (λ (acts : List Act). p.acts ++ acts) some.1
-          ∙ sym (append_assoc p.acts (next p.state).acts some.0),
-    )
-onward_extends (Some ending) p next more extends = extends_none p
+attended_by : (end : Option Ending) (c : Course LiveState Ending) (polls : List Poll)
+    → (onward_by end c (spent polls)).acts ≡ c.acts
+unfolding spent
+attended_by None c polls =
+    ap (λ acts. c.acts ++ acts) (spent_by (nat_le MAX_POLLS (length polls)) c.state)
+    ∙ append-nil c.acts
+attended_by (Some e) c polls = refl
 
--- a choice that is the same in both
-if_extends : (b : Bool) (p q r : Course) → Extends q r
-    → Extends (if b then p else q) (if b then p else r)
-if_extends true p q r extends = extends_none p
-if_extends false p q r extends = extends
+attended_acts : (polls : List Poll) (s : LiveState)
+    → (attended live_part polls s).acts ≡ (each (polled live_part) polls s).acts
+unfolding attended onward
+attended_acts polls s =
+    let c = each (polled live_part) polls s in attended_by c.ending c polls
 
-first_acts : (b : Bool) (s : LiveState) → (if b then ended Spent s else still s).acts ≡ []
-first_acts true s = refl
-first_acts false s = refl
+attended_longer : (polls more : List Poll) (s : LiveState)
+    → Extends (attended live_part polls s) (attended live_part (polls ++ more) s)
+attended_longer polls more s =
+    let longer = each-longer (polled live_part) polls more s in
+    record {
+      tail = longer.0;
+      acts = attended_acts (polls ++ more) s
+          ∙ (longer.1 ∙ ap (λ acts. acts ++ longer.0) (sym (attended_acts polls s)));
+    }
+
+extends_by : (end : Option Ending) (c : Course LiveState Ending)
+    (f g : LiveState → Course LiveState Ending) → ((t : LiveState) → Extends (f t) (g t))
+    → Extends (onward_by end c f) (onward_by end c g)
+extends_by None c f g longer =
+    let more = longer c.state in
+    record {
+      tail = more.tail;
+      acts = ap (λ acts. c.acts ++ acts) more.acts
+          ∙ sym (append_assoc c.acts (f c.state).acts more.tail);
+    }
+extends_by (Some e) c f g longer = record { tail = []; acts = sym (append-nil c.acts) }
 
 pub only_appends : OnlyAppends
-unfolding polls_course
-only_appends set n [] more s = (
-  (polls_course set n more s).acts,
-  ap (λ (acts : List Act). acts ++ (polls_course set n more s).acts)
-      (sym (first_acts (nat_le MAX_POLLS n) s)),
-)
-only_appends set n (poll ∷ polls) more s =
-    let next : LiveState → Course = λ (t : LiveState). polls_course set (n + 1) polls t in
-    let longer : LiveState → Course =
-    λ (t : LiveState). polls_course set (n + 1) (polls ++ more) t in
-    let c = poll_course set poll s in
-    if_extends (nat_le MAX_POLLS n) (ended Spent s) (onward c next) (onward c longer)
-    (onward_extends c.ending c next longer (λ t. only_appends set (n + 1) polls more t))
+unfolding begun onward
+only_appends polls more s =
+    let c = opened live_part s in
+    extends_by c.ending c (attended live_part polls) (attended live_part (polls ++ more))
+    (attended_longer polls more)

@@ -1,455 +1,646 @@
 -- How bytes are cut into answers changes no command: polls give the commands of their items.
-use Rattle.std.proofs.Common.{◌≡◌, ◌==◌, ℕ, ◌+◌, ◌<◌, ◌≤◌, length, arith, Bool, true, false, List, [], ◌∷◌, ◌++◌, refl, sym, ◌∙◌, ap, subst, append_assoc, append-nil}
-use Rattle.std.specs.Prelude.{nat_le, if◌then◌else◌, map, Option, Some, None}
+use Rattle.std.proofs.Common.{◌≡◌, ◌==◌, ℕ, ◌-◌, length, arith, Bool, true, false, List, [], ◌∷◌, ◌++◌, refl, sym, ◌∙◌, ap, subst, append-nil}
+use Rattle.std.specs.Prelude.{max, min, nat_le, if◌then◌else◌, map, Option, Some, None}
+use Rattle.std.specs.Option.{is_some, option_map, option_map_or}
 use Rattle.orca_base.specs.declared.command.Command.{Command}
 use Rattle.orca_base.specs.declared.command.Command.TheVariants.{Frame}
+use Rattle.orca_base.specs.declared.command.Entry.TheVariants as entry
+use Rattle.orca_base.specs.declared.command.Rule.{Rule}
 use Rattle.orca_base.specs.declared.limits.TheConstants.{MAX_POLLS}
+use Rattle.orca_base.specs.declared.now.Now.{Now}
+use Rattle.orca_base.specs.Grids.{Sheet, Size}
+use Rattle.orca_concert.specs.Concerts.{command_course as obey_course}
+use Rattle.orca_course.specs.Acts.{Act, commands_in}
+use Rattle.orca_course.specs.Acts.Act.{Await}
+use Rattle.orca_course.specs.Courses.{Course, course, each, ended, joined, lastly, lastly_by, mapped, onward, onward_by, still}
+use Rattle.orca_course.specs.Performers.{attended, begun, finished, heard, opened, performance, polled, spent}
+use Rattle.orca_course.specs.Standings.{Standing, standing_after, standing_closed}
+use Rattle.orca_course.specs.declared.ending.Ending.{Ending}
+use Rattle.orca_course.specs.declared.ending.Ending.TheVariants.{Lost, Spent, Stopped}
+use Rattle.orca_course.specs.declared.ending.Stop.{Stop}
+use Rattle.orca_course.specs.declared.ending.Stop.TheVariants.{Full, Left}
+use Rattle.orca_course.proofs.ActLemmas.{commands_in-append}
+use Rattle.orca_course.proofs.CourseLemmas.{each-append, still_onward}
 use Rattle.orca_edit.specs.Machines.{preview_of}
+use Rattle.orca_edit.specs.Obeying.{MachineState, accept, entry_of, obey, piece_of, refuse, rule_against}
+use Rattle.orca_edit.specs.Pieces.{Piece, apply, fold_entries, next_frame, opened_piece, piece_after}
+use Rattle.orca_edit.proofs.FoldLemmas.{fold_entries-append, silence-piece_after}
+use Rattle.orca_edit.proofs.SheetLemmas.{dims_after_places}
+use Rattle.orca_op.specs.Scan.{places, scan}
 use Rattle.orca_rig.specs.Arrived.{Poll}
 use Rattle.orca_rig.specs.declared.inbox.Answer.{Answer}
 use Rattle.orca_rig.specs.declared.inbox.Answer.TheVariants as answer
-use Rattle.orca_stage.specs.Acts.{Act, commands_in}
-use Rattle.orca_stage.specs.Acts.Act.{Await}
-use Rattle.orca_stage.specs.Standings.{Standing}
-use Rattle.orca_term.specs.Editing.{act_of, editor_after}
+use Rattle.orca_term.specs.Editing.{act_of, editor_after, editor_inside}
 use Rattle.orca_term.specs.Keys.{Byte, Due, Item, turn}
 use Rattle.orca_term.specs.declared.editor.Act.{Act as Wish}
 use Rattle.orca_term.specs.declared.editor.Act.TheVariants as wish
 use Rattle.orca_term.specs.declared.editor.Editor.{Editor}
 use Rattle.orca_term.specs.declared.keys.Key.{Key}
-use Rattle.orca_term.specs.declared.keys.Pending.{Pending}
-use Rattle.orca_live.specs.Courses.{Course, ended, onward, onward_by, preceded, still}
 use Rattle.orca_live.specs.Items.{items_by, items_of}
 use Rattle.orca_live.specs.Laws.{AreAlike, CutsAlike, PlayAlike}
-use Rattle.orca_live.specs.Performing.{answer_course, answered_at, bytes_course, command_course, due_course, fired, frame_course, heard_course, item_course, key_course, pace_from, paint_course, poll_course, polls_course, press_course, save_course, show_course, wish_course}
-use Rattle.orca_live.specs.States.{LiveState, Setting, dims_at, is_full, key_name, moments_at, piece_at, until_at}
-use Rattle.orca_live.specs.declared.ending.Ending.{Ending}
-use Rattle.orca_live.specs.declared.ending.Ending.TheVariants.{Full, Left, Lost, Spent}
-use Rattle.orca_live.proofs.PollLemmas.{next_poll}
-use Rattle.orca_live.proofs.ScriptLaw.{commands_in-append, paint_is_none}
+use Rattle.orca_live.specs.Performing.{answer_course, answered_at, byte_course, command_course, due_course, finish_course, fired, frame_course, heard_course, item_course, key_course, live_part, open_course, pace_from, paint_course, painted_course, press_course, preview_course, save_course, show_course, struck_course, toggled, wish_course}
+use Rattle.orca_live.specs.States.{LiveState, dims_at, fitted, is_full, moments_at, piece_at}
+use Rattle.orca_live.proofs.GivenLemmas.{Closes, command_once, finish_closes, paint_commands}
 
--- states
+-- ---- an editor is fitted once
 
-alike_same : (s : LiveState) → AreAlike s s
-alike_same s = record { standing = refl; pending = refl; editor = refl; given = refl }
+min_twice : (a b : ℕ) → min (min a b) b ≡ min a b
+min_twice a b = omega arith
 
-alike_back : (s t : LiveState) → AreAlike s t → AreAlike t s
+side_twice : (a b : ℕ) → max 1 (min (max 1 (min a b)) b) ≡ max 1 (min a b)
+side_twice a b = omega arith
+
+fits_twice : (d : Size) (e : Editor) → editor_inside d (editor_inside d e) ≡ editor_inside d e
+fits_twice d e =
+    let at : ℕ → ℕ → ℕ → ℕ → Editor =
+    λ (y : ℕ) (x : ℕ) (h : ℕ) (w : ℕ). record e { y = y; x = x; h = h; w = w } in
+    let once = editor_inside d e in
+    let row = min_twice e.y (d.h - 1) in
+    let column = min_twice e.x (d.w - 1) in
+    ap (λ y. at y (min once.x (d.w - 1)) (max 1 (min once.h (d.h - y)))
+    (max 1 (min once.w (d.w - min once.x (d.w - 1))))) row
+    ∙ (ap (λ x. at once.y x (max 1 (min once.h (d.h - once.y))) (max 1 (min once.w (d.w - x))))
+    column
+    ∙ (ap (λ h. at once.y once.x h (max 1 (min once.w (d.w - once.x))))
+    (side_twice e.h (d.h - once.y))
+    ∙ ap (at once.y once.x once.h) (side_twice e.w (d.w - once.x))))
+
+-- ---- a frame keeps the size of the grid
+
+scan_dims : (g : Sheet) (now : Now) → (scan g now).dims ≡ g.dims
+unfolding scan
+scan_dims g now = dims_after_places (places g) g now
+
+played_dims : (p : Piece) → (apply p entry.Frame).piece.sheet.dims ≡ p.sheet.dims
+unfolding apply
+played_dims p = scan_dims p.sheet (next_frame p)
+
+after_dims : (m : MachineState)
+    → (piece_after m.opened m.seed (m.history ++ entry.Frame ∷ []) m.closed).sheet.dims
+    ≡ (piece_of m).sheet.dims
+after_dims m =
+    let opened = opened_piece m.opened m.seed in
+    ap (λ (p : Piece). p.sheet.dims)
+    (silence-piece_after m.opened m.seed (m.history ++ entry.Frame ∷ []) m.closed)
+    ∙ (ap (λ (p : Piece). p.sheet.dims) (fold_entries-append opened m.history (entry.Frame ∷ []))
+    ∙ (played_dims (fold_entries opened m.history)
+    ∙ sym (ap (λ (p : Piece). p.sheet.dims)
+    (silence-piece_after m.opened m.seed m.history m.closed))))
+
+obeyed_dims : (m : MachineState) (against : Option Rule)
+    → (piece_of (option_map_or (refuse m) against (accept m Frame)).machine).sheet.dims
+    ≡ (piece_of m).sheet.dims
+unfolding accept entry_of
+obeyed_dims m None = after_dims m
+obeyed_dims m (Some rule) = refl
+
+frame_dims : (m : MachineState)
+    → (piece_of (obey m Frame).machine).sheet.dims ≡ (piece_of m).sheet.dims
+unfolding obey
+frame_dims m = obeyed_dims m (rule_against m Frame)
+
+-- ---- states
+
+-- the same but for the editors, which are the same once they are fitted to the grid
+record Alike (s t : LiveState) : Type 0 where
+  pub setting : s.setting ≡ t.setting
+  pub standing : s.standing ≡ t.standing
+  pub pending : s.pending ≡ t.pending
+  pub editor : (fitted s).editor ≡ (fitted t).editor
+  pub given : s.given ≡ t.given
+
+alike_same : (s : LiveState) → Alike s s
+alike_same s = record {
+  setting = refl;
+  standing = refl;
+  pending = refl;
+  editor = refl;
+  given = refl;
+}
+
+alike_back : (s t : LiveState) → Alike s t → Alike t s
 alike_back s t same = record {
+  setting = sym same.setting;
   standing = sym same.standing;
   pending = sym same.pending;
   editor = sym same.editor;
   given = sym same.given;
 }
 
-alike_twice : (r s t : LiveState) → AreAlike r s → AreAlike s t → AreAlike r t
+alike_twice : (r s t : LiveState) → Alike r s → Alike s t → Alike r t
 alike_twice r s t first second = record {
+  setting = first.setting ∙ second.setting;
   standing = first.standing ∙ second.standing;
   pending = first.pending ∙ second.pending;
   editor = first.editor ∙ second.editor;
   given = first.given ∙ second.given;
 }
 
--- a state with the parts of another one that matter
-abbrev pub mixed : LiveState → Standing → Pending → Editor → Option (List Command) → LiveState
-mixed t standing pending editor given =
-    record t { standing = standing; pending = pending; editor = editor; given = given }
+-- editors that are the same are so once they are fitted
+alike_fully : (s t : LiveState) → AreAlike s t → Alike s t
+alike_fully s t same = record {
+  setting = same.setting;
+  standing = same.standing;
+  pending = same.pending;
+  editor = ap (λ (at : Standing). editor_inside (piece_of at.machine).sheet.dims s.editor)
+      same.standing
+      ∙ ap (editor_inside (dims_at t)) same.editor;
+  given = same.given;
+}
 
--- a fact of each state with the same parts holds of a state that is alike
-pub along : (P : LiveState → Type 0) (s t : LiveState) → AreAlike s t
-    → P (mixed t s.standing s.pending s.editor s.given) → P t
-along P s t same holds =
-    subst (λ (given : Option (List Command)). P (mixed t t.standing t.pending t.editor given))
-    same.given
-    (subst (λ (editor : Editor). P (mixed t t.standing t.pending editor s.given)) same.editor
-    (subst (λ (pending : Pending). P (mixed t t.standing pending s.editor s.given)) same.pending
-    (subst (λ (standing : Standing). P (mixed t standing s.pending s.editor s.given)) same.standing
-    holds)))
+alike_fitted : (s t : LiveState) → Alike s t → AreAlike (fitted s) (fitted t)
+alike_fitted s t same = record {
+  setting = same.setting;
+  standing = same.standing;
+  pending = same.pending;
+  editor = same.editor;
+  given = same.given;
+}
 
--- courses
+-- a picture fits the editor, and changes nothing else that matters
+alike_shown : (s : LiveState) → Alike (show_course s).state s
+unfolding show_course preview_course paint_course painted_course
+alike_shown s = record {
+  setting = refl;
+  standing = refl;
+  pending = refl;
+  editor = fits_twice (dims_at s) s.editor;
+  given = refl;
+}
 
--- the same commands, and the same ending, if any
-pub record Same (c d : Course) : Type 0 where
-  pub states : AreAlike c.state d.state
+alike_opened : (s : LiveState) → Alike (open_course s).state s
+unfolding open_course paint_course painted_course
+alike_opened s = record {
+  setting = refl;
+  standing = refl;
+  pending = refl;
+  editor = fits_twice (dims_at s) s.editor;
+  given = refl;
+}
+
+-- ---- courses
+
+-- the same commands, and both go on or both end
+record Same {E F : Type 0} (c : Course LiveState E) (d : Course LiveState F) : Type 0 where
+  pub states : Alike c.state d.state
   pub commands : commands_in c.acts ≡ commands_in d.acts
-  pub ending : c.ending ≡ d.ending
+  pub ends : is_some c.ending ≡ is_some d.ending
 
--- from states that are alike
-abbrev pub SameAll : (LiveState → Course) → Type 0
-SameAll f = (s t : LiveState) → AreAlike s t → Same (f s) (f t)
+-- the same commands
+record Plays {E F : Type 0} (c : Course LiveState E) (d : Course LiveState F) : Type 0 where
+  pub states : Alike c.state d.state
+  pub commands : commands_in c.acts ≡ commands_in d.acts
 
-commands_twice : (p q c d : Course) → commands_in p.acts ≡ commands_in q.acts
-    → commands_in c.acts ≡ commands_in d.acts
-    → commands_in (p.acts ++ c.acts) ≡ commands_in (q.acts ++ d.acts)
-commands_twice p q c d first second =
-    commands_in-append p.acts c.acts
-    ∙ (ap (λ (before : List Command). before ++ commands_in c.acts) first
-    ∙ (ap (λ (after : List Command). commands_in q.acts ++ after) second
-    ∙ sym (commands_in-append q.acts d.acts)))
+commands_twice : (ps qs xs ys : List Act) → commands_in ps ≡ commands_in qs
+    → commands_in xs ≡ commands_in ys → commands_in (ps ++ xs) ≡ commands_in (qs ++ ys)
+commands_twice ps qs xs ys first second =
+    commands_in-append ps xs
+    ∙ (ap (λ before. before ++ commands_in xs) first
+    ∙ (ap (λ after. commands_in qs ++ after) second ∙ sym (commands_in-append qs ys)))
 
-same_by : (end : Option Ending) (p q : Course) (f g : LiveState → Course) → Same p q
-    → ((s t : LiveState) → AreAlike s t → Same (f s) (g t))
-    → Same (onward_by end p f) (onward_by end q g)
-same_by None p q f g first more =
+-- acts without a command behind others
+commands_before : (xs ys : List Act) → commands_in ys ≡ []
+    → commands_in (xs ++ ys) ≡ commands_in xs
+commands_before xs ys none =
+    commands_in-append xs ys
+    ∙ (ap (λ after. commands_in xs ++ after) none ∙ append-nil (commands_in xs))
+
+same_by : {E F : Type 0} (a : Option E) (b : Option F) (p : Course LiveState E)
+    (q : Course LiveState F) (f : LiveState → Course LiveState E)
+    (g : LiveState → Course LiveState F) → is_some a ≡ is_some b → Same p q
+    → ((s t : LiveState) → Alike s t → Same (f s) (g t))
+    → Same (onward_by a p f) (onward_by b q g)
+same_by None None p q f g ends first more =
     let next = more p.state q.state first.states in
     record {
       states = next.states;
-      commands = commands_twice p q (f p.state) (g q.state) first.commands next.commands;
-      ending = next.ending;
+      commands = commands_twice p.acts q.acts (f p.state).acts (g q.state).acts first.commands
+          next.commands;
+      ends = next.ends;
     }
-same_by (Some ending) p q f g first more = first
+same_by None (Some b) p q f g ends first more = absurd cc
+same_by (Some a) None p q f g ends first more = absurd cc
+same_by (Some a) (Some b) p q f g ends first more = first
 
-same_onward : (p q : Course) (f g : LiveState → Course) → Same p q
-    → ((s t : LiveState) → AreAlike s t → Same (f s) (g t)) → Same (onward p f) (onward q g)
-same_onward p q f g first more =
-    subst (λ (end : Option Ending). Same (onward p f) (onward_by end q g)) first.ending
-    (same_by p.ending p q f g first more)
+same_onward : {E F : Type 0} (p : Course LiveState E) (q : Course LiveState F)
+    (f : LiveState → Course LiveState E) (g : LiveState → Course LiveState F) → Same p q
+    → ((s t : LiveState) → Alike s t → Same (f s) (g t)) → Same (onward p f) (onward q g)
+unfolding onward
+same_onward p q f g first more = same_by p.ending q.ending p q f g first.ends first more
 
-play_by : (end : Option Ending) (p q : Course) (f g : LiveState → Course) → Same p q
-    → ((s t : LiveState) → AreAlike s t → PlayAlike (f s) (g t))
-    → PlayAlike (onward_by end p f) (onward_by end q g)
-play_by None p q f g first more =
+plays_by : {E F : Type 0} (a : Option E) (b : Option F) (p : Course LiveState E)
+    (q : Course LiveState F) (f : LiveState → Course LiveState E)
+    (g : LiveState → Course LiveState F) → is_some a ≡ is_some b → Same p q
+    → ((s t : LiveState) → Alike s t → Plays (f s) (g t))
+    → Plays (onward_by a p f) (onward_by b q g)
+plays_by None None p q f g ends first more =
     let next = more p.state q.state first.states in
     record {
       states = next.states;
-      commands = commands_twice p q (f p.state) (g q.state) first.commands next.commands;
+      commands = commands_twice p.acts q.acts (f p.state).acts (g q.state).acts first.commands
+          next.commands;
     }
-play_by (Some ending) p q f g first more =
+plays_by None (Some b) p q f g ends first more = absurd cc
+plays_by (Some a) None p q f g ends first more = absurd cc
+plays_by (Some a) (Some b) p q f g ends first more =
     record { states = first.states; commands = first.commands }
 
-pub play_onward : (p q : Course) (f g : LiveState → Course) → Same p q
-    → ((s t : LiveState) → AreAlike s t → PlayAlike (f s) (g t))
-    → PlayAlike (onward p f) (onward q g)
-play_onward p q f g first more =
-    subst (λ (end : Option Ending). PlayAlike (onward p f) (onward_by end q g)) first.ending
-    (play_by p.ending p q f g first more)
+plays_onward : {E F : Type 0} (p : Course LiveState E) (q : Course LiveState F)
+    (f : LiveState → Course LiveState E) (g : LiveState → Course LiveState F) → Same p q
+    → ((s t : LiveState) → Alike s t → Plays (f s) (g t)) → Plays (onward p f) (onward q g)
+unfolding onward
+plays_onward p q f g first more = plays_by p.ending q.ending p q f g first.ends first more
 
--- a course and its own copy from a state that is alike, where both compute
-pub same_record : (c d : Course) → c.state.standing ≡ d.state.standing
-    → c.state.pending ≡ d.state.pending → c.state.editor ≡ d.state.editor
-    → c.state.given ≡ d.state.given → commands_in c.acts ≡ commands_in d.acts
-    → c.ending ≡ d.ending → Same c d
-same_record c d standing pending editor given commands ending = record {
-  states = record { standing = standing; pending = pending; editor = editor; given = given };
-  commands = commands;
-  ending = ending;
-}
+same_if : {E F : Type 0} (b : Bool) (p c : Course LiveState E) (q d : Course LiveState F)
+    → Same p q → Same c d → Same (if b then p else c) (if b then q else d)
+same_if true p c q d first second = first
+same_if false p c q d first second = second
 
-pub same_still : SameAll still
-same_still s t same = record { states = same; commands = refl; ending = refl }
+same_still : {E F : Type 0} (s t : LiveState) → Alike s t
+    → Same (still {E = E} s) (still {E = F} t)
+same_still s t same = record { states = same; commands = refl; ends = refl }
 
-same_ended : (ending : Ending) → SameAll (ended ending)
-same_ended ending s t same = record { states = same; commands = refl; ending = refl }
+same_ended : {E F : Type 0} (e : E) (f : F) (s t : LiveState) → Alike s t
+    → Same (ended e s) (ended f t)
+same_ended e f s t same = record { states = same; commands = refl; ends = refl }
 
-same_if : (b : Bool) (p q c d : Course) → Same p q → Same c d
-    → Same (if b then p else c) (if b then q else d)
-same_if true p q c d first second = first
-same_if false p q c d first second = second
+-- from states that are alike
+abbrev SameAll : {E : Type 0} → (LiveState → Course LiveState E) → Type 0
+SameAll f = (s t : LiveState) → Alike s t → Same (f s) (f t)
 
--- keys and frames
+-- ---- keys
 
--- a command, from states that differ in what doesn't matter
-command_mixed : (command : Command) (s t : LiveState)
-    → Same (command_course command s)
-    (command_course command (mixed t s.standing s.pending s.editor s.given))
-unfolding command_course
-command_mixed command s t =
-    same_record (command_course command s)
-    (command_course command (mixed t s.standing s.pending s.editor s.given))
-    refl refl refl refl refl refl
+-- where a session stands after a command
+abbrev standing_with : Command → Standing → Standing
+standing_with command at = standing_after at (obey at.machine command)
 
-same_command : (command : Command) → SameAll (command_course command)
+same_command : (command : Command) (s t : LiveState) → AreAlike s t
+    → Same (command_course command s) (command_course command t)
+unfolding command_course obey_course onward mapped
 same_command command s t same =
-    along (λ (u : LiveState). Same (command_course command s) (command_course command u)) s t same
-    (command_mixed command s t)
+    let u = (command_course command s).state in
+    let v = (command_course command t).state in
+    record {
+      states = alike_fully u v (record {
+        setting = same.setting;
+        standing = ap (standing_with command) same.standing;
+        pending = same.pending;
+        editor = same.editor;
+        given = ap (option_map (λ commands. commands ++ command ∷ [])) same.given;
+      });
+      commands = command_once command s ∙ sym (command_once command t);
+      ends = refl;
+    }
 
 -- the pause changes the pace alone
-toggle_alike : (paused : Bool) (s u t v : LiveState) → AreAlike s t → AreAlike s u → AreAlike t v
-    → AreAlike (if paused then s else u) (if paused then t else v)
-toggle_alike true s u t v same first second = same
-toggle_alike false s u t v same first second =
-    alike_twice u s v (alike_back s u first) (alike_twice s t v same second)
+toggled_by : (paused : Bool) (s t : LiveState) → AreAlike t s → AreAlike (if paused then s else t) s
+toggled_by true s t same = record {
+  setting = refl;
+  standing = refl;
+  pending = refl;
+  editor = refl;
+  given = refl;
+}
+toggled_by false s t same = same
 
-same_toggle : (set : Setting) → SameAll (wish_course set wish.Toggle)
-unfolding wish_course
-same_toggle set s t same = record {
-  states =
-      subst (λ (e : Editor).
-      AreAlike (if s.editor.paused then s else record s { pace = pace_from set.bpm s.at })
-      (if e.paused then t else record t { pace = pace_from set.bpm t.at })) same.editor
-      (toggle_alike s.editor.paused s (record s { pace = pace_from set.bpm s.at }) t
-      (record t { pace = pace_from set.bpm t.at }) same
-      (record { standing = refl; pending = refl; editor = refl; given = refl })
-      (record { standing = refl; pending = refl; editor = refl; given = refl }));
-  commands = refl;
-  ending = refl;
+toggled_alike : (s : LiveState) → Alike (toggled s) s
+toggled_alike s =
+    alike_fully (toggled s) s
+    (toggled_by s.editor.paused s (record s { pace = pace_from s.setting.bpm s.at }) (record {
+      setting = refl;
+      standing = refl;
+      pending = refl;
+      editor = refl;
+      given = refl;
+    }))
+
+same_wish : (w : Wish) (s t : LiveState) → AreAlike s t → Same (wish_course w s) (wish_course w t)
+unfolding wish_course save_course
+same_wish wish.Nothing s t same = same_still s t (alike_fully s t same)
+same_wish (wish.Do command) s t same = same_command command s t same
+same_wish wish.Toggle s t same =
+    same_still (toggled s) (toggled t)
+    (alike_twice (toggled s) s (toggled t) (toggled_alike s)
+    (alike_twice s t (toggled t) (alike_fully s t same)
+    (alike_back (toggled t) t (toggled_alike t))))
+same_wish wish.Save s t same =
+    record { states = alike_fully s t same; commands = refl; ends = refl }
+same_wish wish.Quit s t same = same_ended Left Left s t (alike_fully s t same)
+
+same_struck : (key : Key) (s t : LiveState) → AreAlike s t
+    → Same (struck_course key s) (struck_course key t)
+unfolding struck_course
+same_struck key s t same =
+    let u : LiveState = record s { editor = editor_after key (dims_at s) s.editor } in
+    let v : LiveState = record t { editor = editor_after key (dims_at t) t.editor } in
+    let w = act_of key (moments_at s) s.editor in
+    subst (λ x. Same (wish_course w u) (wish_course x v))
+    (ap (λ (at : Standing). act_of key (length at.machine.history) s.editor) same.standing
+    ∙ ap (act_of key (moments_at t)) same.editor)
+    (same_wish w u v (record {
+      setting = same.setting;
+      standing = same.standing;
+      pending = same.pending;
+      editor = ap (λ (at : Standing).
+          editor_after key (piece_of at.machine).sheet.dims s.editor) same.standing
+          ∙ ap (editor_after key (dims_at t)) same.editor;
+      given = same.given;
+    }))
+
+same_press : (key : Option Key) → SameAll (press_course key)
+unfolding press_course key_course
+same_press None s t same = same_still s t same
+same_press (Some key) s t same =
+    same_struck key (fitted s) (fitted t) (alike_fitted s t same)
+
+same_item : (item : Item) → SameAll (item_course item)
+unfolding item_course
+same_item item s t same =
+    let u : LiveState = record s { pending = (turn s.pending item).pending } in
+    let v : LiveState = record t { pending = (turn t.pending item).pending } in
+    subst (λ key. Same (press_course (turn s.pending item).key u) (press_course key v))
+    (ap (λ p. (turn p item).key) same.pending)
+    (same_press (turn s.pending item).key u v (record {
+      setting = same.setting;
+      standing = same.standing;
+      pending = ap (λ p. (turn p item).pending) same.pending;
+      editor = same.editor;
+      given = same.given;
+    }))
+
+-- ---- frames
+
+-- a frame keeps the size of the grid, so editors that fit alike go on to do so
+same_played : SameAll (command_course Frame)
+unfolding command_course obey_course onward mapped
+same_played s t same = record {
+  states = record {
+    setting = same.setting;
+    standing = ap (standing_with Frame) same.standing;
+    pending = same.pending;
+    editor = ap (λ d. editor_inside d s.editor) (frame_dims s.standing.machine)
+        ∙ (same.editor
+        ∙ sym (ap (λ d. editor_inside d t.editor) (frame_dims t.standing.machine)));
+    given = ap (option_map (λ commands. commands ++ Frame ∷ [])) same.given;
+  };
+  commands = command_once Frame s ∙ sym (command_once Frame t);
+  ends = refl;
 }
 
-pub same_save : (name : List ℕ) → SameAll (save_course name)
-unfolding save_course
-same_save name s t same = record { states = same; commands = refl; ending = refl }
-
-same_wish : (set : Setting) (w : Wish) → SameAll (wish_course set w)
-unfolding wish_course
-same_wish set wish.Nothing s t same = same_still s t same
-same_wish set (wish.Do command) s t same = same_command command s t same
-same_wish set wish.Toggle s t same = same_toggle set s t same
-same_wish set wish.Save s t same = same_save (key_name set) s t same
-same_wish set wish.Quit s t same = same_ended Left s t same
-
-same_key : (set : Setting) (key : Key) → SameAll (key_course set key)
-unfolding key_course
-same_key set key s t same =
-    along (λ (u : LiveState). Same (key_course set key s) (key_course set key u)) s t same
-    (let u = mixed t s.standing s.pending s.editor s.given in
-    same_wish set (act_of key (moments_at s) s.editor)
-    (record s { editor = editor_after key (dims_at s) s.editor })
-    (record u { editor = editor_after key (dims_at s) s.editor })
-    (record { standing = refl; pending = refl; editor = refl; given = refl }))
-
-same_press : (set : Setting) (key : Option Key) → SameAll (press_course set key)
-unfolding press_course
-same_press set None s t same = same_still s t same
-same_press set (Some key) s t same = same_key set key s t same
-
-same_item : (set : Setting) (item : Item) → SameAll (item_course set item)
-unfolding item_course
-same_item set item s t same =
-    along (λ (u : LiveState). Same (item_course set item s) (item_course set item u)) s t same
-    (let u = mixed t s.standing s.pending s.editor s.given in
-    same_press set (turn s.pending item).key
-    (record s { pending = (turn s.pending item).pending })
-    (record u { pending = (turn s.pending item).pending })
-    (record { standing = refl; pending = refl; editor = refl; given = refl }))
-
-same_fired : SameAll (λ t. still (fired t))
+same_fired : SameAll {E = Stop} (λ t. still (fired t))
 same_fired s t same = record {
   states = record {
+    setting = same.setting;
     standing = same.standing;
     pending = same.pending;
     editor = same.editor;
     given = same.given;
   };
   commands = refl;
-  ending = refl;
+  ends = refl;
 }
 
 same_frame : SameAll frame_course
 unfolding frame_course
 same_frame s t same =
-    along (λ (u : LiveState). Same (frame_course s) (frame_course u)) s t same
-    (let u = mixed t s.standing s.pending s.editor s.given in
-    let like : AreAlike s u =
-    record { standing = refl; pending = refl; editor = refl; given = refl } in
-    let next : LiveState → Course = λ (v : LiveState). still (fired v) in
-    same_if (is_full s) (ended Full s) (ended Full u) (onward (command_course Frame s) next)
-    (onward (command_course Frame u) next) (same_ended Full s u like)
-    (same_onward (command_course Frame s) (command_course Frame u) next next
-    (same_command Frame s u like) same_fired))
+    let next : LiveState → Course LiveState Stop = λ (u : LiveState). still (fired u) in
+    let play : LiveState → Course LiveState Stop =
+    λ (u : LiveState). onward (command_course Frame u) next in
+    subst (λ full. Same (if is_full s then ended Full s else play s)
+    (if full then ended Full t else play t))
+    (ap (λ (at : Standing). nat_le at.machine.limit (length at.machine.history)) same.standing)
+    (same_if (is_full s) (ended Full s) (play s) (ended Full t) (play t)
+    (same_ended Full Full s t same)
+    (same_onward (command_course Frame s) (command_course Frame t) next next
+    (same_played s t same) same_fired))
 
-same_due : (set : Setting) → SameAll (due_course set)
+same_due : SameAll due_course
 unfolding due_course
-same_due set s t same =
-    same_onward (item_course set Due s) (item_course set Due t) frame_course frame_course
-    (same_item set Due s t same) same_frame
+same_due s t same =
+    same_onward (item_course Due s) (item_course Due t) frame_course frame_course
+    (same_item Due s t same) same_frame
 
--- items
+-- ---- items
 
 -- what an item brings
-abbrev item_part : Setting → Item → LiveState → Course
-item_part set (Byte byte) s = item_course set (Byte byte) s
-item_part set Due s = due_course set s
+abbrev item_part : Item → LiveState → Course LiveState Stop
+item_part (Byte byte) s = byte_course byte s
+item_part Due s = due_course s
 
--- what items bring, one after another
-abbrev items_course : Setting → List Item → LiveState → Course
-items_course set [] s = still s
-items_course set (item ∷ items) s = onward (item_part set item s) (λ t. items_course set items t)
-
-same_part : (set : Setting) (item : Item) → SameAll (item_part set item)
-same_part set (Byte byte) s t same = same_item set (Byte byte) s t same
-same_part set Due s t same = same_due set s t same
-
-same_items : (set : Setting) (items : List Item) → SameAll (items_course set items)
-same_items set [] s t same = same_still s t same
-same_items set (item ∷ items) s t same =
-    same_onward (item_part set item s) (item_part set item t) (λ u. items_course set items u)
-    (λ u. items_course set items u) (same_part set item s t same)
-    (λ u v alike. same_items set items u v alike)
-
--- items after items
-
-onward_preceded : (end : Option Ending) (xs : List Act) (c : Course) (g : LiveState → Course)
-    → onward_by end (preceded xs c) g ≡ preceded xs (onward_by end c g)
-onward_preceded None xs c g =
-    ap (λ (acts : List Act).
-    record { acts = acts; state = (g c.state).state; ending = (g c.state).ending })
-    (append_assoc xs c.acts (g c.state).acts)
-onward_preceded (Some ending) xs c g = refl
-
-onward_twice : (end : Option Ending) (p : Course) (f g h : LiveState → Course) → p.ending ≡ end
-    → ((u : LiveState) → onward (f u) g ≡ h u)
-    → onward (onward_by end p f) g ≡ onward_by end p h
-onward_twice None p f g h is more =
-    onward_preceded (f p.state).ending p.acts (f p.state) g ∙ ap (preceded p.acts) (more p.state)
-onward_twice (Some ending) p f g h is more =
-    ap (λ (end : Option Ending). onward_by end p g) is
-
-items_append : (set : Setting) (xs ys : List Item) (t : LiveState)
-    → onward (items_course set xs t) (λ u. items_course set ys u) ≡ items_course set (xs ++ ys) t
-items_append set [] ys t = refl
-items_append set (item ∷ xs) ys t =
-    let p = item_part set item t in
-    onward_twice p.ending p (λ u. items_course set xs u) (λ u. items_course set ys u)
-    (λ u. items_course set (xs ++ ys) u) refl (λ u. items_append set xs ys u)
+same_part : (item : Item) → SameAll (item_part item)
+unfolding byte_course
+same_part (Byte byte) s t same = same_item (Byte byte) s t same
+same_part Due s t same = same_due s t same
 
 -- bytes are items
-bytes_items : (set : Setting) (bytes : List ℕ) (s t : LiveState) → AreAlike s t
-    → Same (bytes_course set bytes s) (items_course set (map Byte bytes) t)
-unfolding bytes_course
-bytes_items set [] s t same = same_still s t same
-bytes_items set (byte ∷ bytes) s t same =
-    same_onward (item_course set (Byte byte) s) (item_course set (Byte byte) t)
-    (λ u. bytes_course set bytes u) (λ u. items_course set (map Byte bytes) u)
-    (same_item set (Byte byte) s t same) (λ u v alike. bytes_items set bytes u v alike)
+bytes_items : (bytes : List ℕ) (s t : LiveState) → Alike s t
+    → Same (each byte_course bytes s) (each item_part (map Byte bytes) t)
+unfolding each
+bytes_items [] s t same = same_still s t same
+bytes_items (byte ∷ bytes) s t same =
+    same_onward (byte_course byte s) (byte_course byte t) (each byte_course bytes)
+    (each item_part (map Byte bytes)) (same_part (Byte byte) s t same) (bytes_items bytes)
 
--- answers
-
-show_alike : (s : LiveState) → AreAlike (show_course s).state s
-unfolding paint_course
-show_alike s = record { standing = refl; pending = refl; editor = refl; given = refl }
-
-show_goes : (s : LiveState) → (show_course s).ending ≡ None
-unfolding paint_course
-show_goes s = refl
+-- ---- answers
 
 -- a picture changes nothing that matters
-shown_by : (end : Option Ending) (p q : Course) → p.ending ≡ end → Same p q
+shown_by : (end : Option Stop) (p q : Course LiveState Stop) → p.ending ≡ end → Same p q
     → Same (onward_by end p show_course) q
+unfolding show_course preview_course paint_course painted_course
 shown_by None p q is same = record {
-  states = alike_twice (show_course p.state).state p.state q.state (show_alike p.state) same.states;
-  commands = commands_in-append p.acts (show_course p.state).acts
-      ∙ (ap (λ (after : List Command). commands_in p.acts ++ after)
-      (paint_is_none (preview_of (piece_at p.state)) p.state)
-      ∙ (append-nil (commands_in p.acts) ∙ same.commands));
-  ending = show_goes p.state ∙ (sym is ∙ same.ending);
+  states = alike_twice (show_course p.state).state p.state q.state (alike_shown p.state)
+      same.states;
+  commands = commands_before p.acts (show_course p.state).acts
+      (paint_commands (preview_of (piece_at p.state)) (fitted p.state))
+      ∙ same.commands;
+  ends = sym (ap is_some is) ∙ same.ends;
 }
-shown_by (Some ending) p q is same = same
+shown_by (Some stop) p q is same = same
 
-same_shown : (p q : Course) → Same p q → Same (onward p show_course) q
+same_shown : (p q : Course LiveState Stop) → Same p q → Same (onward p show_course) q
+unfolding onward
 same_shown p q same = shown_by p.ending p q refl same
 
--- a poll is no command
-same_await : (poll : Poll) (c q : Course) → Same c q → Same (preceded (Await poll ∷ []) c) q
-same_await poll c q same =
-    record { states = same.states; commands = same.commands; ending = same.ending }
+-- endings of a performance
+stopped_by : (end : Option Stop) → is_some (option_map Stopped end) ≡ is_some end
+stopped_by None = refl
+stopped_by (Some stop) = refl
 
--- a poll with this answer, and then more
-abbrev answered : Setting → Poll → Course → (LiveState → Course) → Course
-answered set poll c next = onward (preceded (Await poll ∷ []) (onward c show_course)) next
-
--- what follows gives the commands of these items
-abbrev Gives : Setting → (LiveState → Course) → List Item → Type 0
-Gives set next rest =
-    (u v : LiveState) → AreAlike u v → PlayAlike (next u) (items_course set rest v)
-
-bytes_part : (b : Bool) (set : Setting) (poll : Poll) (bytes : List ℕ) (rest : List Item)
-    (next : LiveState → Course) (s t : LiveState) → AreAlike s t → Gives set next rest
-    → PlayAlike (answered set poll (if b then bytes_course set bytes s else still s) next)
-    (items_course set (if b then map Byte bytes ++ rest else rest) t)
-bytes_part true set poll bytes rest next s t same more =
-    let c = onward (bytes_course set bytes s) show_course in
-    let p = preceded (Await poll ∷ []) c in
-    let q = items_course set (map Byte bytes) t in
-    subst (λ (d : Course). PlayAlike (onward p next) d) (items_append set (map Byte bytes) rest t)
-    (play_onward p q next (λ u. items_course set rest u)
-    (same_await poll c q
-    (same_shown (bytes_course set bytes s) q (bytes_items set bytes s t same))) more)
-bytes_part false set poll bytes rest next s t same more =
-    let c = onward (still s) show_course in
-    play_onward (preceded (Await poll ∷ []) c) (still t) next (λ u. items_course set rest u)
-    (same_await poll c (still t) (same_shown (still s) (still t) (same_still s t same))) more
-
--- an answer that ends the performance
-ends_alike : (poll : Poll) (ending : Ending) (s t : LiveState) → AreAlike s t
-    → PlayAlike (preceded (Await poll ∷ []) (ended ending s)) (still t)
-ends_alike poll ending s t same = record { states = same; commands = refl }
-
-answer_items : (set : Setting) (a : Answer) (poll : Poll) (bytes : List ℕ) (rest : List Item)
-    (next : LiveState → Course) (s t : LiveState) → AreAlike s t → Gives set next rest
-    → PlayAlike (answered set poll (answer_course set a bytes s) next)
-    (items_course set (items_by a bytes rest) t)
-unfolding answer_course
-answer_items set (answer.Bytes hand count at) poll bytes rest next s t same more =
-    bytes_part (hand == 0) set poll bytes rest next (answered_at at s) t
-    (record {
-      standing = same.standing;
-      pending = same.pending;
-      editor = same.editor;
-      given = same.given;
-    }) more
-answer_items set (answer.Due at) poll bytes rest next s t same more =
-    let u = answered_at at s in
-    let c = onward (due_course set u) show_course in
-    play_onward (preceded (Await poll ∷ []) c) (due_course set t) next
-    (λ v. items_course set rest v)
-    (same_await poll c (due_course set t)
-    (same_shown (due_course set u) (due_course set t)
-    (same_due set u t (record {
-      standing = same.standing;
-      pending = same.pending;
-      editor = same.editor;
-      given = same.given;
-    })))) more
-answer_items set answer.End poll bytes rest next s t same more = ends_alike poll Left s t same
-answer_items set answer.Failed poll bytes rest next s t same more = ends_alike poll Lost s t same
-
-poll_items : (set : Setting) (poll : Poll) (rest : List Item) (next : LiveState → Course)
-    (s t : LiveState) → AreAlike s t → Gives set next rest
-    → PlayAlike (onward (poll_course set poll s) next)
-    (items_course set (items_by poll.answer poll.bytes rest) t)
-unfolding poll_course heard_course
-poll_items set poll rest next s t same more =
-    answer_items set poll.answer (record poll { until = until_at s }) poll.bytes rest next s t same
-    more
-
--- polls
-
-first_alike : (b : Bool) (s t : LiveState) → AreAlike s t
-    → PlayAlike (if b then ended Spent s else still s) (still t)
-first_alike true s t same = record { states = same; commands = refl }
-first_alike false s t same = record { states = same; commands = refl }
-
-polls_items : (set : Setting) (n : ℕ) (polls : List Poll) (s t : LiveState)
-    → n + length polls ≤ MAX_POLLS → AreAlike s t
-    → PlayAlike (polls_course set n polls s) (items_course set (items_of polls) t)
-unfolding polls_course
-polls_items set n [] s t few same = first_alike (nat_le MAX_POLLS n) s t same
-polls_items set n (poll ∷ polls) s t few same =
-    let next : LiveState → Course = λ (u : LiveState). polls_course set (n + 1) polls u in
-    let below : n < MAX_POLLS = omega arith in
-    let fewer : (n + 1) + length polls ≤ MAX_POLLS = omega arith in
-    subst (λ (c : Course). PlayAlike c (items_course set (items_of (poll ∷ polls)) t))
-    (sym (next_poll set n poll polls s below))
-    (poll_items set poll (items_of polls) next s t same
-    (λ u v alike. polls_items set (n + 1) polls u v fewer alike))
-
-play_back : (c d : Course) → PlayAlike c d → PlayAlike d c
-play_back c d same = record {
-  states = alike_back c.state d.state same.states;
-  commands = sym same.commands;
+same_stopped : (p q : Course LiveState Stop) → Same p q
+    → Same (mapped (λ t. t) (option_map Stopped) p) q
+unfolding mapped
+same_stopped p q same = record {
+  states = same.states;
+  commands = same.commands;
+  ends = stopped_by p.ending ∙ same.ends;
 }
 
-play_twice : (c d e : Course) → PlayAlike c d → PlayAlike d e → PlayAlike c e
-play_twice c d e first second = record {
-  states = alike_twice c.state d.state e.state first.states second.states;
-  commands = first.commands ∙ second.commands;
+-- a poll, and then a course
+abbrev awaited : Poll → LiveState → Course LiveState Ending → Course LiveState Ending
+awaited poll s c = joined (course {E = Ending} (Await poll ∷ []) 0 s) c
+
+-- a poll is no command
+same_awaited : (poll : Poll) (s : LiveState) (c : Course LiveState Ending)
+    (q : Course LiveState Stop) → Same c q → Same (awaited poll s c) q
+same_awaited poll s c q same =
+    record { states = same.states; commands = same.commands; ends = same.ends }
+
+-- what a player does for an answer, and then the picture
+abbrev pictured : Course LiveState Stop → Course LiveState Ending
+pictured c = mapped (λ t. t) (option_map Stopped) (onward c show_course)
+
+same_pictured : (poll : Poll) (s : LiveState) (c q : Course LiveState Stop) → Same c q
+    → Same (awaited poll s (pictured c)) q
+same_pictured poll s c q same =
+    same_awaited poll s (pictured c) q
+    (same_stopped (onward c show_course) q (same_shown c q same))
+
+-- what follows gives the commands of these items
+abbrev Gives : (LiveState → Course LiveState Ending) → List Item → Type 0
+Gives next rest = (u v : LiveState) → Alike u v → Plays (next u) (each item_part rest v)
+
+bytes_part : (mine : Bool) (poll : Poll) (bytes : List ℕ) (rest : List Item)
+    (next : LiveState → Course LiveState Ending) (r s t : LiveState) → Alike s t
+    → Gives next rest
+    → Plays
+    (onward (awaited poll r (pictured (if mine then each byte_course bytes s else still s))) next)
+    (each item_part (if mine then map Byte bytes ++ rest else rest) t)
+bytes_part true poll bytes rest next r s t same more =
+    let c = each byte_course bytes s in
+    let q = each item_part (map Byte bytes) t in
+    subst (λ d. Plays (onward (awaited poll r (pictured c)) next) d)
+    (sym (each-append item_part (map Byte bytes) rest t))
+    (plays_onward (awaited poll r (pictured c)) q next (each item_part rest)
+    (same_pictured poll r c q (bytes_items bytes s t same)) more)
+bytes_part false poll bytes rest next r s t same more =
+    subst (λ d. Plays (onward (awaited poll r (pictured (still s))) next) d)
+    (still_onward t (each item_part rest))
+    (plays_onward (awaited poll r (pictured (still s))) (still t) next (each item_part rest)
+    (same_pictured poll r (still s) (still t) (same_still s t same)) more)
+
+-- the moment of an answer doesn't matter
+alike_answered : (at : ℕ) (s t : LiveState) → Alike s t → Alike (answered_at at s) t
+alike_answered at s t same = record {
+  setting = same.setting;
+  standing = same.standing;
+  pending = same.pending;
+  editor = same.editor;
+  given = same.given;
+}
+
+-- an answer that ends the performance
+ends_alike : (poll : Poll) (e : Ending) (next : LiveState → Course LiveState Ending)
+    (s t : LiveState) → Alike s t
+    → Plays (onward (awaited poll s (ended e s)) next) (each item_part [] t)
+unfolding each onward
+ends_alike poll e next s t same = record { states = same; commands = refl }
+
+answer_items : (a : Answer) (poll : Poll) (bytes : List ℕ) (rest : List Item)
+    (next : LiveState → Course LiveState Ending) (s t : LiveState) → Alike s t → Gives next rest
+    → Plays (onward (awaited poll s (heard live_part a bytes s)) next)
+    (each item_part (items_by a bytes rest) t)
+unfolding heard heard_course answer_course each
+answer_items (answer.Bytes hand count at) poll bytes rest next s t same more =
+    bytes_part (hand == 0) poll bytes rest next s (answered_at at s) t
+    (alike_answered at s t same) more
+answer_items (answer.Due at) poll bytes rest next s t same more =
+    let c = due_course (answered_at at s) in
+    plays_onward (awaited poll s (pictured c)) (due_course t) next (each item_part rest)
+    (same_pictured poll s c (due_course t)
+    (same_due (answered_at at s) t (alike_answered at s t same))) more
+answer_items answer.End poll bytes rest next s t same more =
+    ends_alike poll (Stopped Left) next s t same
+answer_items answer.Failed poll bytes rest next s t same more =
+    ends_alike poll Lost next s t same
+
+-- ---- polls
+
+polls_items : (polls : List Poll) (s t : LiveState) → Alike s t
+    → Plays (each (polled live_part) polls s) (each item_part (items_of polls) t)
+unfolding each polled onward
+polls_items [] s t same = record { states = same; commands = refl }
+polls_items (poll ∷ polls) s t same =
+    answer_items poll.answer (record poll { until = live_part.until s }) poll.bytes
+    (items_of polls) (each (polled live_part) polls) s t same (polls_items polls)
+
+-- after the last poll
+over_states : (last : Bool) (s : LiveState)
+    → Plays (if last then ended Spent s else still s) (still {E = Ending} s)
+over_states true s = record { states = alike_same s; commands = refl }
+over_states false s = record { states = alike_same s; commands = refl }
+
+over_plays : (end : Option Ending) (polls : List Poll) (c : Course LiveState Ending)
+    (q : Course LiveState Stop) → Plays c q → Plays (onward_by end c (spent polls)) q
+unfolding spent
+over_plays None polls c q plays =
+    let over = over_states (nat_le MAX_POLLS (length polls)) c.state in
+    record {
+      states = alike_twice (spent polls c.state).state c.state q.state over.states plays.states;
+      commands = commands_before c.acts (spent polls c.state).acts over.commands ∙ plays.commands;
+    }
+over_plays (Some e) polls c q plays = plays
+
+attended_items : (polls : List Poll) (s t : LiveState) → Alike s t
+    → Plays (attended live_part polls s) (each item_part (items_of polls) t)
+unfolding attended onward
+attended_items polls s t same =
+    let c = each (polled live_part) polls s in
+    over_plays c.ending polls c (each item_part (items_of polls) t) (polls_items polls s t same)
+
+begun_items : (polls : List Poll) (s t : LiveState) → Alike s t
+    → Plays (begun live_part s polls) (each item_part (items_of polls) t)
+unfolding begun opened onward mapped open_course paint_course painted_course
+begun_items polls s t same =
+    let u = (open_course s).state in
+    let more = attended_items polls u t (alike_twice u s t (alike_opened s) same) in
+    record {
+      states = more.states;
+      commands = commands_in-append (open_course s).acts (attended live_part polls u).acts
+          ∙ (ap (λ before. before ++ commands_in (attended live_part polls u).acts)
+          (paint_commands [] (fitted s))
+          ∙ more.commands);
+    }
+
+-- ---- the end
+
+-- a performance that ended, and then its end
+last_by : (a b : Option Ending) (c d : Course LiveState Ending) → Plays c d
+    → ((lastly_by a c (finished live_part)).ending ≡ None → ⊥)
+    → ((lastly_by b d (finished live_part)).ending ≡ None → ⊥)
+    → PlayAlike (lastly_by a c (finished live_part)) (lastly_by b d (finished live_part))
+unfolding finished mapped
+last_by None b c d plays ends others = absurd (ends refl)
+last_by (Some a) None c d plays ends others = absurd (others refl)
+last_by (Some a) (Some b) c d plays ends others =
+    let s = c.state in
+    let t = d.state in
+    let first : Closes (finish_course s) s = finish_closes s.setting.save s.setting.script s in
+    let second : Closes (finish_course t) t = finish_closes t.setting.save t.setting.script t in
+    record {
+      standing = first.standing
+          ∙ (ap standing_closed plays.states.standing ∙ sym second.standing);
+      given = first.given ∙ (plays.states.given ∙ sym second.given);
+      commands = commands_before c.acts (finish_course s).acts first.commands
+          ∙ (plays.commands
+          ∙ sym (commands_before d.acts (finish_course t).acts second.commands));
+    }
+
+-- two performances that give the commands of the same items
+plays_alike : (c d : Course LiveState Ending) (q : Course LiveState Stop) → Plays c q → Plays d q
+    → Plays c d
+plays_alike c d q first second = record {
+  states = alike_twice c.state q.state d.state first.states
+      (alike_back d.state q.state second.states);
+  commands = first.commands ∙ sym second.commands;
 }
 
 pub cuts_alike : CutsAlike
-cuts_alike set n polls others s t few few_others items same =
-    let first = polls_items set n polls s t few same in
-    let second = polls_items set n others t t few_others (alike_same t) in
-    play_twice (polls_course set n polls s) (items_course set (items_of polls) t)
-    (polls_course set n others t) first
-    (subst (λ (list : List Item).
-    PlayAlike (items_course set list t) (polls_course set n others t)) (sym items)
-    (play_back (polls_course set n others t) (items_course set (items_of others) t) second))
+unfolding performance lastly
+cuts_alike polls others s t few few_others items same ends others_end =
+    let c = begun live_part s polls in
+    let d = begun live_part t others in
+    last_by c.ending d.ending c d
+    (plays_alike c d (each item_part (items_of others) t)
+    (subst (λ list. Plays c (each item_part list t)) items
+    (begun_items polls s t (alike_fully s t same)))
+    (begun_items others t t (alike_same t))) ends others_end

@@ -1,83 +1,45 @@
--- The commands that are kept replay a performance.
-use Rattle.std.proofs.Common.{◌≡◌, ◌==◌, ℕ, ◌+◌, Bool, true, false, List, [], ◌∷◌, ◌++◌, refl, sym, ◌∙◌, ap, append-nil}
-use Rattle.std.specs.Prelude.{nat_le, if◌then◌else◌, Option, Some, None, Result, Ok, Err}
-use Rattle.std.specs.Option.{option_map}
+-- The commands of a performance are kept, and their script leads to the same session.
+use Rattle.std.proofs.Common.{◌≡◌, ℕ, zero, suc, ◌+◌, List, [], ◌∷◌, ◌++◌, refl, sym, ◌∙◌, ap, subst, append_assoc, append-nil}
+use Rattle.std.specs.Prelude.{replicate, Option, Some, None, Result, Ok, Err}
+use Rattle.std.specs.List.{flat_map}
+use Rattle.std.specs.Option.{option_map, option_map_or}
 use Rattle.orca_base.specs.declared.command.Command.{Command}
-use Rattle.orca_base.specs.declared.command.Command.TheVariants.{Frame}
+use Rattle.orca_base.specs.declared.command.Command.TheVariants as command
+use Rattle.orca_base.specs.declared.command.Entry.{Entry}
 use Rattle.orca_base.specs.declared.command.Reply.{Reply}
 use Rattle.orca_base.specs.declared.command.Rule.{Rule}
-use Rattle.orca_base.specs.declared.command.Rule.TheVariants.{HistoryFull}
-use Rattle.orca_base.specs.declared.limits.TheConstants.{MAX_POLLS}
+use Rattle.orca_base.specs.declared.command.Rule.TheVariants.{NothingToUndo}
+use Rattle.orca_base.specs.Grids.{Sheet}
+use Rattle.orca_base.specs.Histories.{last_edit}
 use Rattle.orca_base.specs.MarkSet.{MarkSet}
-use Rattle.orca_base.specs.Ports.{Sent}
-use Rattle.orca_cues.specs.Scripts.{cue_on, one_a_line}
-use Rattle.orca_edit.specs.Machines.{preview_of}
-use Rattle.orca_edit.specs.Obeying.{MachineState, obey}
-use Rattle.orca_rig.specs.Arrived.{Poll}
-use Rattle.orca_rig.specs.declared.inbox.Answer.{Answer}
-use Rattle.orca_rig.specs.declared.inbox.Answer.TheVariants as answer
-use Rattle.orca_send.specs.Sending.{sends_of}
-use Rattle.orca_stage.specs.Acts.{Act, commands_in, gives}
-use Rattle.orca_stage.specs.Acts.Act.{Obey, Show, Stand}
-use Rattle.orca_stage.specs.Manners.{Manner}
-use Rattle.orca_stage.specs.Plans.{Plan, after_cue, command_plan, cue_plan, flow_of, list_plan, onward_by as plan_by, over}
-use Rattle.orca_stage.specs.Standings.{Standing}
-use Rattle.orca_stage.specs.declared.flow.Flow.{Flow}
-use Rattle.orca_stage.specs.declared.flow.Flow.TheVariants.{Goes, Drops, Ends}
-use Rattle.orca_stage.proofs.ToldLemmas.{told_none, told_twice}
-use Rattle.orca_term.specs.Editing.{act_of, editor_after}
-use Rattle.orca_term.specs.Keys.{Byte, Due, Item, turn}
-use Rattle.orca_term.specs.declared.editor.Act.{Act as Wish}
-use Rattle.orca_term.specs.declared.editor.Act.TheVariants as wish
-use Rattle.orca_term.specs.declared.keys.Key.{Key}
-use Rattle.orca_live.specs.Courses.{Course, ended, onward, onward_by, preceded, still}
-use Rattle.orca_live.specs.Laws.{ReplaysScript}
-use Rattle.orca_live.specs.Performing.{answer_course, answered_at, bytes_course, command_course, due_course, fired, frame_course, heard_course, item_course, key_course, pace_from, paint_course, picture_at, play_manner, poll_course, polls_course, press_course, save_course, show_course, view_sends, wish_course}
-use Rattle.orca_term.specs.Viewing.{painting_bytes}
-use Rattle.orca_live.specs.States.{LiveState, Setting, dims_at, is_full, moments_at, piece_at}
-use Rattle.orca_live.specs.declared.ending.Ending.{Ending}
-use Rattle.orca_live.specs.declared.ending.Ending.TheVariants.{Full, Left, Lost, Spent}
+use Rattle.orca_concert.specs.Concerts.{Concert, after_cue, command_course as obey_course, concert, cue_course, cues_course, halt_of, order_course}
+use Rattle.orca_concert.specs.Manners.{Manner}
+use Rattle.orca_course.specs.Acts.{Act, commands_in}
+use Rattle.orca_course.specs.Acts.Act.{Save}
+use Rattle.orca_course.specs.Courses.{Course, each, lastly, lastly_by, mapped, onward}
+use Rattle.orca_course.specs.Performers.{begun, finished, performance}
+use Rattle.orca_course.specs.Standings.{Standing, note_of}
+use Rattle.orca_course.specs.declared.ending.Ending.{Ending}
+use Rattle.orca_course.specs.declared.ending.Stop.{Stop}
+use Rattle.orca_course.proofs.ActLemmas.{commands_in-append}
+use Rattle.orca_course.proofs.CourseLemmas.{onward_ended, onward_goes}
+use Rattle.orca_cues.specs.Scripts.{cue_asking, cues_asking}
+use Rattle.orca_cues.specs.declared.source.Order.TheVariants.{Do as Once}
+use Rattle.orca_edit.specs.Obeying.{MachineState, accept, carry_out, jump, machine_closed, obey, redo, refuse, rule_against}
+use Rattle.orca_notes.specs.Sound.{ends}
+use Rattle.orca_script.specs.Runs.{commands_of, lines_behind}
+use Rattle.orca_script.specs.declared.format_2.Line.{Line}
+use Rattle.orca_script.specs.declared.format_2.Line.TheVariants as asks
+use Rattle.orca_live.specs.Carrying.{Carries, LooksAlike, begun_carried}
+use Rattle.orca_live.specs.Laws.{GoesOn, Replays, ReplaysScript, replayed}
+use Rattle.orca_live.specs.Performing.{command_course, finish_course, live_part, painted_course}
+use Rattle.orca_live.specs.States.{LiveState}
+use Rattle.orca_live.proofs.GivenLemmas.{Closes, command_once, finish_closes, paint_commands}
+use Rattle.orca_live.proofs.ScriptLines.{behind_same}
 
--- the commands of acts
+-- ---- commands, one after another
 
-pub commands_in-append : (xs ys : List Act)
-    → commands_in (xs ++ ys) ≡ commands_in xs ++ commands_in ys
-commands_in-append [] ys = refl
-commands_in-append (Obey command ∷ xs) ys =
-    ap (λ (more : List Command). command ∷ more) (commands_in-append xs ys)
-commands_in-append (_ ∷ xs) ys = commands_in-append xs ys
-
-pub no_commands : (sends : List Sent) → commands_in (gives sends) ≡ []
-no_commands [] = refl
-no_commands (sent ∷ sends) = no_commands sends
-
--- a command is given once
-pub command_is_one : (command : Command) (s : LiveState)
-    → commands_in (command_course command s).acts ≡ command ∷ []
-unfolding command_course command_plan
-command_is_one command s =
-    ap (λ (more : List Command). command ∷ more)
-    (commands_in-append (gives (sends_of (obey s.standing.machine command).messages))
-    (Stand (command_plan play_manner 0 command s.standing).standing ∷ [])
-    ∙ (append-nil (commands_in (gives (sends_of (obey s.standing.machine command).messages)))
-    ∙ no_commands (sends_of (obey s.standing.machine command).messages)))
-
-none_of : (bytes : List ℕ) (acts : List Act) → commands_in acts ≡ []
-    → commands_in (view_sends bytes ++ acts) ≡ []
-none_of [] acts none = none
-none_of (byte ∷ bytes) acts none = none
-
--- a painting gives none
-pub paint_is_none : (marks : List MarkSet) (s : LiveState)
-    → commands_in (paint_course marks s).acts ≡ []
-unfolding paint_course
-paint_is_none marks s =
-    let cells = picture_at marks s in
-    none_of (painting_bytes s.screen s.shown cells) (Show cells ∷ []) refl
-
--- commands that are done one after another
-
--- the machine after commands
+-- the session after commands
 abbrev machine_after : List Command → MachineState → MachineState
 machine_after [] machine = machine
 machine_after (command ∷ commands) machine = machine_after commands (obey machine command).machine
@@ -88,227 +50,299 @@ machine_after-append [] ys machine = refl
 machine_after-append (command ∷ xs) ys machine =
     machine_after-append xs ys (obey machine command).machine
 
--- a refusal drops its own cue, which has one command
-never_ends : (answer : Result Reply Rule) → after_cue (flow_of false answer) ≡ Goes
-never_ends (Ok reply) = refl
-never_ends (Err HistoryFull) = refl
-never_ends (Err _) = refl
+-- these commands behind those that are kept
+abbrev kept_with : Option (List Command) → List Command → Option (List Command)
+kept_with given more = option_map (λ before. before ++ more) given
 
--- the standing after a plan that is followed by nothing
-over_standing : (flow : Flow) (p : Plan) → (plan_by flow p (λ t. over Goes t)).standing ≡ p.standing
-over_standing Goes p = refl
-over_standing Drops p = refl
-over_standing Ends p = refl
+kept_none : (given : Option (List Command)) → given ≡ kept_with given []
+kept_none None = refl
+kept_none (Some before) = ap Some (sym (append-nil before))
 
-over_flow : (flow : Flow) (p : Plan) → p.flow ≡ flow
-    → after_cue (plan_by flow p (λ t. over Goes t)).flow ≡ after_cue flow
-over_flow Goes p is = refl
-over_flow Drops p is = ap after_cue is
-over_flow Ends p is = ap after_cue is
+kept_twice : (given : Option (List Command)) (xs ys : List Command)
+    → kept_with (kept_with given xs) ys ≡ kept_with given (xs ++ ys)
+kept_twice None xs ys = refl
+kept_twice (Some before) xs ys = ap Some (append_assoc before xs ys)
 
-once_goes : (m : Manner) (line : ℕ) (command : Command) (s : Standing) → m.ends_when_full ≡ false
-    → (cue_plan m (cue_on line command) s).flow ≡ Goes
-unfolding command_plan
-once_goes m line command s stays =
-    let p = command_plan m line command s in
-    over_flow p.flow p refl
-    ∙ (ap (λ (ends : Bool). after_cue (flow_of ends (obey s.machine command).answer)) stays
-    ∙ never_ends (obey s.machine command).answer)
+-- the commands of acts are kept, and lead to the session
+record Keeps (s : LiveState) (acts : List Act) (t : LiveState) : Type 0 where
+  pub given : t.given ≡ kept_with s.given (commands_in acts)
+  pub machine : t.standing.machine ≡ machine_after (commands_in acts) s.standing.machine
 
-once_machine : (m : Manner) (line : ℕ) (command : Command) (s : Standing)
-    → (cue_plan m (cue_on line command) s).standing.machine ≡ (obey s.machine command).machine
-unfolding command_plan
-once_machine m line command s =
-    let p = command_plan m line command s in
-    ap (λ (t : Standing). t.machine) (over_standing p.flow p)
-
-pub list_machine : (m : Manner) (line : ℕ) (commands : List Command) (s : Standing)
-    → m.ends_when_full ≡ false
-    → (list_plan m (one_a_line line commands) s).standing.machine
-    ≡ machine_after commands s.machine
-list_machine m line [] s stays = refl
-list_machine m line (command ∷ commands) s stays =
-    let p = cue_plan m (cue_on line command) s in
-    let next : Standing → Plan =
-    λ (t : Standing). list_plan m (one_a_line (line + 1) commands) t in
-    ap (λ (flow : Flow). (plan_by flow p next).standing.machine) (once_goes m line command s stays)
-    ∙ (list_machine m (line + 1) commands p.standing stays
-    ∙ ap (machine_after commands) (once_machine m line command s))
-
--- courses, from these kept commands and this machine
-
--- the commands of a course are kept, and lead to its machine
-record Keeps (c : Course) (before : Option (List Command)) (old : MachineState) : Type 0 where
-  pub given : c.state.given ≡ option_map (λ commands. commands ++ commands_in c.acts) before
-  pub machine : c.state.standing.machine ≡ machine_after (commands_in c.acts) old
-
--- it keeps what it finds
-abbrev KeepsAt : Course → LiveState → Type 0
-KeepsAt c s = Keeps c s.given s.standing.machine
-
-keeps_none : (c : Course) (given : Option (List Command)) (machine : MachineState)
-    → commands_in c.acts ≡ [] → c.state.given ≡ given → c.state.standing.machine ≡ machine
-    → Keeps c given machine
-keeps_none c given machine none same_given same_machine = record {
-  given = same_given
-      ∙ (told_none given
-      ∙ ap (λ (more : List Command).
-      option_map (λ (before : List Command). before ++ more) given) (sym none));
-  machine = same_machine
-      ∙ ap (λ (more : List Command). machine_after more machine) (sym none);
-}
-
-keeps_twice : (c d : Course) (given : Option (List Command)) (machine : MachineState)
-    → Keeps c given machine → KeepsAt d c.state → Keeps (preceded c.acts d) given machine
-keeps_twice c d given machine first second =
-    let all = sym (commands_in-append c.acts d.acts) in
+keeps_twice : (r s t : LiveState) (xs ys : List Act) → Keeps r xs s → Keeps s ys t
+    → Keeps r (xs ++ ys) t
+keeps_twice r s t xs ys first second =
+    let all = sym (commands_in-append xs ys) in
     record {
       given = second.given
-          ∙ (ap (option_map (λ (before : List Command). before ++ commands_in d.acts)) first.given
-          ∙ (told_twice given (commands_in c.acts) (commands_in d.acts)
-          ∙ ap (λ (more : List Command).
-          option_map (λ (before : List Command). before ++ more) given) all));
+          ∙ (ap (λ given. kept_with given (commands_in ys)) first.given
+          ∙ (kept_twice r.given (commands_in xs) (commands_in ys) ∙ ap (kept_with r.given) all));
       machine = second.machine
-          ∙ (ap (machine_after (commands_in d.acts)) first.machine
-          ∙ (sym (machine_after-append (commands_in c.acts) (commands_in d.acts) machine)
-          ∙ ap (λ (more : List Command). machine_after more machine) all));
+          ∙ (ap (machine_after (commands_in ys)) first.machine
+          ∙ (sym (machine_after-append (commands_in xs) (commands_in ys) r.standing.machine)
+          ∙ ap (λ more. machine_after more r.standing.machine) all));
     }
 
-keeps_onward : (end : Option Ending) (p : Course) (next : LiveState → Course)
-    (given : Option (List Command)) (machine : MachineState) → Keeps p given machine
-    → ((t : LiveState) → KeepsAt (next t) t) → Keeps (onward_by end p next) given machine
-keeps_onward None p next given machine first more =
-    keeps_twice p (next p.state) given machine first (more p.state)
-keeps_onward (Some ending) p next given machine first more = first
+-- acts without a command
+keeps_nothing : (s t : LiveState) (acts : List Act) → commands_in acts ≡ [] → t.given ≡ s.given
+    → t.standing.machine ≡ s.standing.machine → Keeps s acts t
+keeps_nothing s t acts none given machine = record {
+  given = given ∙ (kept_none s.given ∙ ap (kept_with s.given) (sym none));
+  machine = machine ∙ ap (λ more. machine_after more s.standing.machine) (sym none);
+}
 
-keeps_if : (b : Bool) (p q : Course) (s : LiveState) → KeepsAt p s → KeepsAt q s
-    → KeepsAt (if b then p else q) s
-keeps_if true p q s first second = first
-keeps_if false p q s first second = second
+keeps_alike : (s t : LiveState) → LooksAlike s t → Keeps s [] t
+keeps_alike s t alike =
+    keeps_nothing s t [] refl alike.given (ap (λ (at : Standing). at.machine) alike.standing)
 
-keeps_still : (s : LiveState) → KeepsAt (still s) s
-keeps_still s = keeps_none (still s) s.given s.standing.machine refl refl refl
-
-keeps_ended : (ending : Ending) (s : LiveState) → KeepsAt (ended ending s) s
-keeps_ended ending s = keeps_none (ended ending s) s.given s.standing.machine refl refl refl
-
--- each course keeps its commands
-
-command_keeps : (command : Command) (s : LiveState) → KeepsAt (command_course command s) s
-unfolding command_course command_plan
-command_keeps command s =
-    let one = sym (command_is_one command s) in
+keeps_command : (command : Command) (s : LiveState)
+    → Keeps s (command_course command s).acts (command_course command s).state
+unfolding command_course obey_course onward mapped
+keeps_command command s =
+    let once = sym (command_once command s) in
     record {
-      given = ap (λ (more : List Command).
-          option_map (λ (before : List Command). before ++ more) s.given) one;
-      machine = ap (λ (more : List Command). machine_after more s.standing.machine) one;
+      given = ap (kept_with s.given) once;
+      machine = ap (λ more. machine_after more s.standing.machine) once;
     }
 
-toggled_keeps : (set : Setting) (paused : Bool) (s t : LiveState) → t.given ≡ s.given
-    → t.standing.machine ≡ s.standing.machine → KeepsAt (still (if paused then s else t)) s
-toggled_keeps set true s t given machine = keeps_still s
-toggled_keeps set false s t given machine =
-    keeps_none (still t) s.given s.standing.machine refl given machine
+keeps_paint : (marks : List MarkSet) (s : LiveState)
+    → Keeps s (painted_course marks s).acts (painted_course marks s).state
+unfolding painted_course
+keeps_paint marks s =
+    keeps_nothing s (painted_course marks s).state (painted_course marks s).acts
+    (paint_commands marks s) refl refl
 
-wish_keeps : (set : Setting) (w : Wish) (s : LiveState) → KeepsAt (wish_course set w s) s
-unfolding wish_course save_course
-wish_keeps set wish.Nothing s = keeps_still s
-wish_keeps set (wish.Do command) s = command_keeps command s
-wish_keeps set wish.Toggle s =
-    toggled_keeps set s.editor.paused s (record s { pace = pace_from set.bpm s.at }) refl refl
-wish_keeps set wish.Save s =
-    keeps_none (wish_course set wish.Save s) s.given s.standing.machine refl refl refl
-wish_keeps set wish.Quit s = keeps_ended Left s
+keeps_carries : Carries Keeps
+keeps_carries = record {
+  none = keeps_alike;
+  both = keeps_twice;
+  command = keeps_command;
+  save = λ name bytes s. keeps_nothing s s (Save name bytes ∷ []) refl refl refl;
+  paint = keeps_paint;
+}
 
-key_keeps : (set : Setting) (key : Key) (s : LiveState) → KeepsAt (key_course set key s) s
-unfolding key_course
-key_keeps set key s =
-    wish_keeps set (act_of key (moments_at s) s.editor)
-    (record s { editor = editor_after key (dims_at s) s.editor })
+-- ---- cues
 
-press_keeps : (set : Setting) (key : Option Key) (s : LiveState)
-    → KeepsAt (press_course set key s) s
-unfolding press_course
-press_keeps set None s = keeps_still s
-press_keeps set (Some key) s = key_keeps set key s
+-- a refused command changes nothing
 
-item_keeps : (set : Setting) (item : Item) (s : LiveState) → KeepsAt (item_course set item s) s
-unfolding item_course
-item_keeps set item s =
-    press_keeps set (turn s.pending item).key
-    (record s { pending = (turn s.pending item).pending })
+carried_on : (m : MachineState) (c : Command) (clip : Option Sheet) (entry : Option Entry)
+    (rule : Rule) → (carry_out m c clip entry).answer ≡ Err rule
+    → (carry_out m c clip entry).machine ≡ m
+carried_on m c clip None rule is = absurd cc
+carried_on m c clip (Some entry) rule is = absurd cc
 
-bytes_keep : (set : Setting) (bytes : List ℕ) (s : LiveState) → KeepsAt (bytes_course set bytes s) s
-unfolding bytes_course
-bytes_keep set [] s = keeps_still s
-bytes_keep set (byte ∷ bytes) s =
-    let p = item_course set (Byte byte) s in
-    keeps_onward p.ending p (λ t. bytes_course set bytes t) s.given s.standing.machine
-    (item_keeps set (Byte byte) s) (λ t. bytes_keep set bytes t)
+undone : (m : MachineState) (moment : Option ℕ) (rule : Rule)
+    → (option_map_or (jump m) moment (refuse m NothingToUndo)).answer ≡ Err rule
+    → (option_map_or (jump m) moment (refuse m NothingToUndo)).machine ≡ m
+unfolding jump
+undone m None rule is = refl
+undone m (Some moment) rule is = absurd cc
 
-frame_keeps : (s : LiveState) → KeepsAt (frame_course s) s
-unfolding frame_course
-frame_keeps s =
-    let p = command_course Frame s in
-    keeps_if (is_full s) (ended Full s) (onward p (λ t. still (fired t))) s (keeps_ended Full s)
-    (keeps_onward p.ending p (λ t. still (fired t)) s.given s.standing.machine
-    (command_keeps Frame s) (λ t. keeps_still (fired t)))
+accepted : (m : MachineState) (c : Command) (rule : Rule) → (accept m c).answer ≡ Err rule
+    → (accept m c).machine ≡ m
+unfolding accept jump redo
+accepted m command.Undo rule is = undone m (last_edit m.history) rule is
+accepted m (command.Rewind moment) rule is = absurd cc
+accepted m command.Redo rule is = absurd cc
+accepted m command.Frame rule is = carried_on m command.Frame _ _ rule is
+accepted m (command.Write y x glyph) rule is =
+    carried_on m (command.Write y x glyph) _ _ rule is
+accepted m (command.Fill rect glyph) rule is = carried_on m (command.Fill rect glyph) _ _ rule is
+accepted m (command.Erase rect) rule is = carried_on m (command.Erase rect) _ _ rule is
+accepted m (command.Copy rect) rule is = carried_on m (command.Copy rect) _ _ rule is
+accepted m (command.Cut rect) rule is = carried_on m (command.Cut rect) _ _ rule is
+accepted m (command.Paste y x) rule is = carried_on m (command.Paste y x) _ _ rule is
+accepted m (command.Move rect to_y to_x) rule is =
+    carried_on m (command.Move rect to_y to_x) _ _ rule is
+accepted m (command.Resize h w) rule is = carried_on m (command.Resize h w) _ _ rule is
+accepted m command.Reset rule is = carried_on m command.Reset _ _ rule is
 
-due_keeps : (set : Setting) (s : LiveState) → KeepsAt (due_course set s) s
-unfolding due_course
-due_keeps set s =
-    let p = item_course set Due s in
-    keeps_onward p.ending p frame_course s.given s.standing.machine (item_keeps set Due s)
-    frame_keeps
+refused_by : (m : MachineState) (c : Command) (against : Option Rule) (rule : Rule)
+    → (option_map_or (refuse m) against (accept m c)).answer ≡ Err rule
+    → (option_map_or (refuse m) against (accept m c)).machine ≡ m
+refused_by m c None rule is = accepted m c rule is
+refused_by m c (Some other) rule is = refl
 
-paint_keeps : (marks : List MarkSet) (s : LiveState) → KeepsAt (paint_course marks s) s
-unfolding paint_course
-paint_keeps marks s =
-    keeps_none (paint_course marks s) s.given s.standing.machine (paint_is_none marks s) refl refl
+stays : (m : MachineState) (c : Command) (rule : Rule) → (obey m c).answer ≡ Err rule
+    → (obey m c).machine ≡ m
+unfolding obey
+stays m c rule is = refused_by m c (rule_against m c) rule is
 
-answer_keeps : (set : Setting) (a : Answer) (bytes : List ℕ) (s : LiveState)
-    → KeepsAt (answer_course set a bytes s) s
-unfolding answer_course
-answer_keeps set (answer.Bytes hand count at) bytes s =
-    keeps_if (hand == 0) (bytes_course set bytes (answered_at at s)) (still (answered_at at s)) s
-    (bytes_keep set bytes (answered_at at s)) (keeps_still (answered_at at s))
-answer_keeps set (answer.Due at) bytes s = due_keeps set (answered_at at s)
-answer_keeps set answer.End bytes s = keeps_ended Left s
-answer_keeps set answer.Failed bytes s = keeps_ended Lost s
+-- so it is refused as often as it is given
+stays_all : (m : MachineState) (c : Command) (rule : Rule) (n : ℕ) → (obey m c).answer ≡ Err rule
+    → machine_after (replicate n c) m ≡ m
+stays_all m c rule zero is = refl
+stays_all m c rule (suc n) is =
+    ap (machine_after (replicate n c)) (stays m c rule is) ∙ stays_all m c rule n is
 
-heard_keeps : (set : Setting) (a : Answer) (bytes : List ℕ) (s : LiveState)
-    → KeepsAt (heard_course set a bytes s) s
-unfolding heard_course
-heard_keeps set a bytes s =
-    let p = answer_course set a bytes s in
-    keeps_onward p.ending p show_course s.given s.standing.machine (answer_keeps set a bytes s)
-    (λ t. paint_keeps (preview_of (piece_at t)) t)
+-- a command, whose report doesn't end the run
+obey_goes : (m : Manner (Unit {0})) → GoesOn m → (line : ℕ) (command : Command)
+    (s : Concert (Unit {0})) → (obey_course m line command s).ending ≡ None
+unfolding obey_course onward mapped
+obey_goes m goes line command s =
+    let o = obey s.standing.machine command in goes line o.answer o.messages s.kept
 
--- a poll, which is no command
-poll_keeps : (set : Setting) (poll : Poll) (s : LiveState) → KeepsAt (poll_course set poll s) s
-unfolding poll_course
-poll_keeps set poll s =
-    let some = heard_keeps set poll.answer poll.bytes s in
-    record { given = some.given; machine = some.machine }
+-- a refusal drops the rest of a cue
+order_halts : (m : Manner (Unit {0})) → GoesOn m → (line : ℕ) (command : Command)
+    (s : Concert (Unit {0}))
+    → (order_course m line (Once command) s).ending
+    ≡ halt_of (note_of (obey s.standing.machine command).answer) None
+unfolding order_course obey_course onward mapped
+order_halts m goes line command s =
+    ap (halt_of (note_of (obey s.standing.machine command).answer))
+    (obey_goes m goes line command s)
 
-polls_keep : (set : Setting) (n : ℕ) (polls : List Poll) (s : LiveState)
-    → KeepsAt (polls_course set n polls s) s
-unfolding polls_course
-polls_keep set n [] s =
-    keeps_if (nat_le MAX_POLLS n) (ended Spent s) (still s) s (keeps_ended Spent s) (keeps_still s)
-polls_keep set n (poll ∷ polls) s =
-    let p = poll_course set poll s in
-    let next : LiveState → Course = λ (t : LiveState). polls_course set (n + 1) polls t in
-    keeps_if (nat_le MAX_POLLS n) (ended Spent s) (onward p next) s (keeps_ended Spent s)
-    (keeps_onward p.ending p next s.given s.standing.machine (poll_keeps set poll s)
-    (λ t. polls_keep set (n + 1) polls t))
+-- a command that is given so often, where an ending of this kind drops the rest
+record IsRun {H : Type 0} (after : Option H → Option Stop) (c : Course (Concert (Unit {0})) H)
+    (commands : List Command) (old : MachineState) : Type 0 where
+  pub goes : after c.ending ≡ None
+  pub machine : c.state.standing.machine ≡ machine_after commands old
+
+-- once, and then the others
+run_goes : {H : Type 0} (after : Option H → Option Stop) (c : Course (Concert (Unit {0})) H)
+    (next : Concert (Unit {0}) → Course (Concert (Unit {0})) H) (command : Command) (n : ℕ)
+    (old : MachineState) → c.ending ≡ None
+    → c.state.standing.machine ≡ (obey old command).machine
+    → IsRun after (next c.state) (replicate n command) c.state.standing.machine
+    → IsRun after (onward c next) (command ∷ replicate n command) old
+run_goes after c next command n old goes machine more =
+    subst (λ d. IsRun after d (command ∷ replicate n command) old) (sym (onward_goes c next goes))
+    (record {
+      goes = more.goes;
+      machine = more.machine ∙ ap (machine_after (replicate n command)) machine;
+    })
+
+-- it was refused, and so would be the others
+run_drops : {H : Type 0} (after : Option H → Option Stop) (c : Course (Concert (Unit {0})) H)
+    (next : Concert (Unit {0}) → Course (Concert (Unit {0})) H) (command : Command) (n : ℕ)
+    (old : MachineState) (e : H) (rule : Rule) → c.ending ≡ Some e → after (Some e) ≡ None
+    → c.state.standing.machine ≡ (obey old command).machine → (obey old command).answer ≡ Err rule
+    → IsRun after (onward c next) (command ∷ replicate n command) old
+run_drops after c next command n old e rule drops goes machine is =
+    let same = stays old command rule is in
+    subst (λ d. IsRun after d (command ∷ replicate n command) old)
+    (sym (onward_ended c next e drops))
+    (record {
+      goes = ap after drops ∙ goes;
+      machine = machine
+          ∙ (same
+          ∙ sym (ap (machine_after (replicate n command)) same
+          ∙ stays_all old command rule n is));
+    })
+
+order_machine : (m : Manner (Unit {0})) (line : ℕ) (command : Command) (s : Concert (Unit {0}))
+    → (order_course m line (Once command) s).state.standing.machine
+    ≡ (obey s.standing.machine command).machine
+unfolding order_course obey_course onward mapped
+order_machine m line command s = refl
+
+run_by : (m : Manner (Unit {0})) → GoesOn m → (line : ℕ) (command : Command) (n : ℕ)
+    (s : Concert (Unit {0})) (answer : Result Reply Rule)
+    → (obey s.standing.machine command).answer ≡ answer
+    → IsRun after_cue
+    (each (order_course m line) (replicate n (Once command))
+    (order_course m line (Once command) s).state)
+    (replicate n command) (order_course m line (Once command) s).state.standing.machine
+    → IsRun after_cue
+    (onward (order_course m line (Once command) s)
+    (each (order_course m line) (replicate n (Once command))))
+    (command ∷ replicate n command) s.standing.machine
+run_by m goes line command n s (Ok reply) is more =
+    run_goes after_cue (order_course m line (Once command) s)
+    (each (order_course m line) (replicate n (Once command))) command n s.standing.machine
+    (order_halts m goes line command s
+    ∙ ap (λ (answer : Result Reply Rule). halt_of (note_of answer) None) is)
+    (order_machine m line command s) more
+run_by m goes line command n s (Err rule) is more =
+    run_drops after_cue (order_course m line (Once command) s)
+    (each (order_course m line) (replicate n (Once command))) command n s.standing.machine _ rule
+    (order_halts m goes line command s
+    ∙ ap (λ (answer : Result Reply Rule). halt_of (note_of answer) None) is) refl
+    (order_machine m line command s) is
+
+run_replays : (m : Manner (Unit {0})) → GoesOn m → (line : ℕ) (command : Command) (n : ℕ)
+    (s : Concert (Unit {0}))
+    → IsRun after_cue (each (order_course m line) (replicate n (Once command)) s)
+    (replicate n command) s.standing.machine
+unfolding each
+run_replays m goes line command zero s = record { goes = refl; machine = refl }
+run_replays m goes line command (suc n) s =
+    run_by m goes line command n s (obey s.standing.machine command).answer refl
+    (run_replays m goes line command n (order_course m line (Once command) s).state)
+
+-- cues that lead where commands do
+record IsReplay (c : Course (Concert (Unit {0})) Stop) (commands : List Command)
+    (old : MachineState) : Type 0 where
+  pub goes : c.ending ≡ None
+  pub machine : c.state.standing.machine ≡ machine_after commands old
+
+cue_replays : (m : Manner (Unit {0})) → GoesOn m → (line : ℕ) (asked : Line)
+    (s : Concert (Unit {0}))
+    → IsReplay (cue_course m (cue_asking line asked) s) (commands_of asked) s.standing.machine
+unfolding cue_course mapped
+cue_replays m goes line (asks.Do command) s =
+    let run = run_replays m goes line command 1 s in
+    record { goes = run.goes; machine = run.machine }
+cue_replays m goes line (asks.Frames times) s =
+    let run = run_replays m goes line command.Frame times s in
+    record { goes = run.goes; machine = run.machine }
+
+cues_replay : (m : Manner (Unit {0})) → GoesOn m → (lines : List Line) (line : ℕ)
+    (s : Concert (Unit {0}))
+    → IsReplay (cues_course m (cues_asking line lines) s) (flat_map commands_of lines)
+    s.standing.machine
+unfolding cues_course each
+cues_replay m goes [] line s = record { goes = refl; machine = refl }
+cues_replay m goes (asked ∷ lines) line s =
+    let c = cue_course m (cue_asking line asked) s in
+    let next = each (cue_course m) (cues_asking (line + 1) lines) in
+    let first = cue_replays m goes line asked s in
+    let more = cues_replay m goes lines (line + 1) c.state in
+    subst (λ d. IsReplay d (commands_of asked ++ flat_map commands_of lines) s.standing.machine)
+    (sym (onward_goes c next first.goes))
+    (record {
+      goes = more.goes;
+      machine = more.machine
+          ∙ (ap (machine_after (flat_map commands_of lines)) first.machine
+          ∙ sym (machine_after-append (commands_of asked) (flat_map commands_of lines)
+          s.standing.machine));
+    })
+
+replayed_machine : (m : Manner (Unit {0})) → GoesOn m → (commands : List Command) (s : Standing)
+    → replayed m commands s ≡ machine_after commands s.machine
+replayed_machine m goes commands s =
+    (cues_replay m goes (lines_behind 0 commands) 2 (concert s tt)).machine
+    ∙ ap (λ list. machine_after list s.machine) (behind_same commands 0)
+
+-- ---- a performance
+
+replays_by : (end : Option Ending) (c : Course LiveState Ending) (s : LiveState)
+    → s.given ≡ Some [] → Keeps s c.acts c.state
+    → ((lastly_by end c (finished live_part)).ending ≡ None → ⊥)
+    → Replays (lastly_by end c (finished live_part)) s
+unfolding finished mapped
+replays_by None c s empty keeps ends = absurd (ends refl)
+replays_by (Some e) c s empty keeps ends =
+    let t = c.state in
+    let last = finish_course t in
+    let closes : Closes last t = finish_closes t.setting.save t.setting.script t in
+    let same : commands_in (c.acts ++ last.acts) ≡ commands_in c.acts =
+    commands_in-append c.acts last.acts
+    ∙ (ap (λ after. commands_in c.acts ++ after) closes.commands
+    ∙ append-nil (commands_in c.acts)) in
+    record {
+      given = closes.given
+          ∙ (keeps.given
+          ∙ (ap (λ given. kept_with given (commands_in c.acts)) empty ∙ ap Some (sym same)));
+      machine = λ m goes.
+          ap (λ commands. machine_closed (replayed m commands s.standing)) same
+          ∙ (ap machine_closed
+          (replayed_machine m goes (commands_in c.acts) s.standing ∙ sym keeps.machine)
+          ∙ sym (ap (λ (at : Standing). at.machine) closes.standing));
+    }
 
 pub replays_script : ReplaysScript
-replays_script set n polls s empty =
-    let some = polls_keep set n polls s in
-    let commands = commands_in (polls_course set n polls s).acts in
-    record {
-      given = some.given
-          ∙ ap (option_map (λ (before : List Command). before ++ commands)) empty;
-      machine = λ m stays. list_machine m 1 commands s.standing stays ∙ sym some.machine;
-    }
+unfolding performance lastly
+replays_script polls s empty ends =
+    let c = begun live_part s polls in
+    replays_by c.ending c s empty
+    (begun_carried keeps_carries (λ poll t. keeps_nothing t t _ refl refl refl) s polls) ends

@@ -1,58 +1,91 @@
 -- Laws of performances: more answers only add acts; how bytes were cut into answers changes no
--- command; and the commands that are kept, done again, lead to the same machine.
-use Rattle.std.specs.Prelude.{◌≡◌, ℕ, ◌+◌, ◌≤◌, false, List, [], ◌++◌, length, Some}
+-- command; and the script that is saved, done again, leads to the same session.
+use Rattle.std.specs.Prelude.{◌≡◌, ◌≢◌, ◌≤◌, ℕ, List, [], ◌++◌, length, Some, None, Result}
+use Rattle.orca_base.specs.declared.command.Command.{Command}
+use Rattle.orca_base.specs.declared.command.Reply.{Reply}
+use Rattle.orca_base.specs.declared.command.Rule.{Rule}
 use Rattle.orca_base.specs.declared.limits.TheConstants.{MAX_POLLS}
-use Rattle.orca_cues.specs.Scripts.{one_a_line}
+use Rattle.orca_base.specs.declared.message.Message.{Message}
+use Rattle.orca_concert.specs.Concerts.{concert, cues_course}
+use Rattle.orca_concert.specs.Manners.{Manner}
+use Rattle.orca_course.specs.Acts.{Act, commands_in}
+use Rattle.orca_course.specs.Courses.{Course}
+use Rattle.orca_course.specs.Performers.{begun, performance}
+use Rattle.orca_course.specs.Standings.{Standing}
+use Rattle.orca_course.specs.declared.ending.Ending.{Ending}
+use Rattle.orca_cues.specs.Scripts.{cues_asking}
+use Rattle.orca_edit.specs.Obeying.{MachineState, machine_closed}
 use Rattle.orca_rig.specs.Arrived.{Poll}
-use Rattle.orca_stage.specs.Acts.{Act, commands_in}
-use Rattle.orca_stage.specs.Manners.{Manner}
-use Rattle.orca_stage.specs.Plans.{list_plan}
-use Rattle.orca_live.specs.Courses.{Course}
+use Rattle.orca_script.specs.Runs.{lines_behind}
 use Rattle.orca_live.specs.Items.{items_of}
-use Rattle.orca_live.specs.Performing.{polls_course}
-use Rattle.orca_live.specs.States.{LiveState, Setting}
+use Rattle.orca_live.specs.Performing.{live_part}
+use Rattle.orca_live.specs.States.{LiveState}
 
--- a course goes on as this one
-abbrev pub Extends : Course → Course → Type 0
-Extends c d = (tail : List Act) × (d.acts ≡ c.acts ++ tail)
+-- a performance up to its end
+abbrev pub so_far : LiveState → List Poll → Course LiveState Ending
+so_far s polls = begun live_part s polls
+
+-- the whole of it
+abbrev pub whole : LiveState → List Poll → Course LiveState Ending
+whole s polls = performance live_part s polls
+
+-- the answers do not break off
+abbrev pub HasEnded : Course LiveState Ending → Type 0
+HasEnded c = c.ending ≢ None
 
 -- more answers only add acts
+pub record Extends (c d : Course LiveState Ending) : Type 0 where
+  pub tail : List Act
+  pub acts : d.acts ≡ c.acts ++ tail
+
 abbrev pub OnlyAppends : Type 0
 OnlyAppends =
-    (set : Setting) (n : ℕ) (polls more : List Poll) (s : LiveState)
-    → Extends (polls_course set n polls s) (polls_course set n (polls ++ more) s)
+    (polls more : List Poll) (s : LiveState) → Extends (so_far s polls) (so_far s (polls ++ more))
 
--- two states with the same session, keys, editor and kept commands; moments, the pace and the
--- screen may differ
+-- two states with the same setting, session, keys, editor and kept commands; moments, the pace and
+-- the screen may differ
 pub record AreAlike (s t : LiveState) : Type 0 where
+  pub setting : s.setting ≡ t.setting
   pub standing : s.standing ≡ t.standing
   pub pending : s.pending ≡ t.pending
   pub editor : s.editor ≡ t.editor
   pub given : s.given ≡ t.given
 
--- two courses that give the same commands, and lead to such states
-pub record PlayAlike (c d : Course) : Type 0 where
-  pub states : AreAlike c.state d.state
+-- two performances that give the same commands, and lead to the same session and the same script
+pub record PlayAlike (c d : Course LiveState Ending) : Type 0 where
+  pub standing : c.state.standing ≡ d.state.standing
+  pub given : c.state.given ≡ d.state.given
   pub commands : commands_in c.acts ≡ commands_in d.acts
 
 -- how the same items were cut into answers changes no command
 abbrev pub CutsAlike : Type 0
 CutsAlike =
-    (set : Setting) (n : ℕ) (polls others : List Poll) (s t : LiveState)
-    → n + length polls ≤ MAX_POLLS → n + length others ≤ MAX_POLLS
+    (polls others : List Poll) (s t : LiveState)
+    → length polls ≤ MAX_POLLS → length others ≤ MAX_POLLS
     → items_of polls ≡ items_of others → AreAlike s t
-    → PlayAlike (polls_course set n polls s) (polls_course set n others t)
+    → HasEnded (whole s polls) → HasEnded (whole t others)
+    → PlayAlike (whole s polls) (whole t others)
 
--- the commands of a course are kept, and done again they lead to the same machine, whatever is
--- printed of them
-pub record Replays (c : Course) (s : LiveState) : Type 0 where
+-- what is printed of commands does not end the run
+abbrev pub GoesOn : Manner (Unit {0}) → Type 0
+GoesOn m =
+    (line : ℕ) (answer : Result Reply Rule) (messages : List Message) (r : Unit {0})
+    → (m.done line answer messages r).ending ≡ None
+
+-- the session to which the saved script of these commands leads
+abbrev pub replayed : Manner (Unit {0}) → List Command → Standing → MachineState
+replayed m commands s =
+    (cues_course m (cues_asking 2 (lines_behind 0 commands)) (concert s tt)).state.standing.machine
+
+-- the commands of a performance are kept, and their script, done again and closed, leads to the
+-- same session, whatever is printed of it
+pub record Replays (c : Course LiveState Ending) (s : LiveState) : Type 0 where
   pub given : c.state.given ≡ Some (commands_in c.acts)
-  pub machine : (m : Manner) → m.ends_when_full ≡ false
-      → (list_plan m (one_a_line 1 (commands_in c.acts)) s.standing).standing.machine
-      ≡ c.state.standing.machine
+  pub machine : (m : Manner (Unit {0})) → GoesOn m
+      → machine_closed (replayed m (commands_in c.acts) s.standing) ≡ c.state.standing.machine
 
--- where no command was kept before, those that are kept afterwards replay the performance
+-- so it is for every performance that ends, if no command was kept before
 abbrev pub ReplaysScript : Type 0
 ReplaysScript =
-    (set : Setting) (n : ℕ) (polls : List Poll) (s : LiveState) → s.given ≡ Some []
-    → Replays (polls_course set n polls s) s
+    (polls : List Poll) (s : LiveState) → s.given ≡ Some [] → HasEnded (whole s polls)
+    → Replays (whole s polls) s

@@ -1,5 +1,5 @@
-pub mod Courses
-pub mod Doing
+pub mod Carrying
+pub mod Deaf
 pub mod Items
 pub mod Laws
 pub mod Paintings

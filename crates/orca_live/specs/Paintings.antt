@@ -1,11 +1,15 @@
 -- What a small terminal shows that is sent all paintings.
-use Rattle.std.specs.Prelude.{◌≡◌, ℕ, if◌then◌else◌, List, [], ◌∷◌, ◌++◌, Some}
+use Rattle.std.specs.Prelude.{◌≡◌, ℕ, if◌then◌else◌, List, [], ◌∷◌, ◌++◌, None, Some}
 use Rattle.orca_base.specs.declared.port.Port.TheVariants as port
 use Rattle.orca_base.specs.Ports.{Sent, is_same_port}
-use Rattle.orca_stage.specs.Acts.{Act}
-use Rattle.orca_stage.specs.Acts.Act.{Give, Show}
+use Rattle.orca_course.specs.Acts.{Act, ArePrintable}
+use Rattle.orca_course.specs.Acts.Act.{Give, Show}
+use Rattle.orca_course.specs.Performers.{performance}
+use Rattle.orca_rig.specs.Arrived.{Poll}
+use Rattle.orca_term.specs.Picture.{IsScreen}
 use Rattle.orca_term.specs.Viewing.{Shows}
 use Rattle.orca_term.specs.declared.cell.ScreenSize.{ScreenSize}
+use Rattle.orca_live.specs.Performing.{live_part}
 use Rattle.orca_live.specs.States.{LiveState}
 
 -- the bytes of a send that go to the terminal
@@ -25,10 +29,11 @@ ShowsPictures d sent (Give piece ∷ acts) = ShowsPictures d (sent ++ viewed pie
 ShowsPictures d sent (Show cells ∷ acts) = Shows d sent (Some cells) × ShowsPictures d sent acts
 ShowsPictures d sent (_ ∷ acts) = ShowsPictures d sent acts
 
--- acts that keep the terminal with the performance: it shows each picture, and the last one at
--- their end
-pub record Displays (acts : List Act) (s t : LiveState) : Type 0 where
-  pub pictures : (sent : List ℕ) → Shows s.screen sent s.shown → ShowsPictures s.screen sent acts
-  pub last : (sent : List ℕ) → Shows s.screen sent s.shown
-      → Shows s.screen (sent ++ views_in acts) t.shown
-  pub screen : t.screen ≡ s.screen
+-- a terminal to which nothing was sent shows each picture of a whole performance, and of each
+-- beginning of one, if it can show their cells
+abbrev pub ShowsPerformance : Type 0
+ShowsPerformance =
+    (s : LiveState) (polls : List Poll) (begun left : List Act)
+    → IsScreen s.screen → s.shown ≡ None
+    → (performance live_part s polls).acts ≡ begun ++ left → ArePrintable begun
+    → ShowsPictures s.screen [] begun

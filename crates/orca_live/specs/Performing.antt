@@ -1,26 +1,25 @@
 -- The definition of a performance: what is done for a key, a byte, a due frame, an answer of the
--- inbox, and all of its answers.
-use Rattle.std.specs.Prelude.{ℕ, ◌+◌, ◌==◌, true, false, nat_le, if◌then◌else◌, List, [], ◌∷◌, ◌++◌, Option, Some, None}
-use Rattle.std.specs.List.{flat_map}
+-- inbox, and at the end.
+use Rattle.std.specs.Prelude.{ℕ, ◌==◌, if◌then◌else◌, List, [], ◌∷◌, ◌++◌, Option, Some, None}
 use Rattle.std.specs.Option.{option_map}
 use Rattle.orca_base.specs.declared.command.Command.{Command}
 use Rattle.orca_base.specs.declared.command.Command.TheVariants.{Frame}
-use Rattle.orca_base.specs.declared.limits.TheConstants.{MAX_POLLS}
 use Rattle.orca_base.specs.declared.port.Port.TheVariants as port
 use Rattle.orca_base.specs.MarkSet.{MarkSet}
+use Rattle.orca_concert.specs.Concerts.{Concert, concert, close_course as silence_course, command_course as obey_course}
+use Rattle.orca_course.specs.Acts.{Act}
+use Rattle.orca_course.specs.Acts.Act.{Give, Save, Show}
+use Rattle.orca_course.specs.Courses.{Course, course, each, ended, joined, mapped, onward, still}
+use Rattle.orca_course.specs.Performers.{Part}
+use Rattle.orca_course.specs.declared.ending.Stop.{Stop}
+use Rattle.orca_course.specs.declared.ending.Stop.TheVariants.{Full, Left}
 use Rattle.orca_edit.specs.Machines.{preview_of}
+use Rattle.orca_edit.specs.Prices.{preview_price}
 use Rattle.orca_grid.specs.GridText.{text_of}
-use Rattle.orca_rig.specs.Arrived.{Poll}
-use Rattle.orca_rig.specs.Outside.Ask.{Save}
 use Rattle.orca_rig.specs.declared.inbox.Answer.{Answer}
 use Rattle.orca_rig.specs.declared.inbox.Answer.TheVariants as answer
-use Rattle.orca_script.specs.Canonical.{printed}
-use Rattle.orca_stage.specs.Acts.{Act}
-use Rattle.orca_stage.specs.Acts.Act.{Await, Give, Obey, Show, Store}
-use Rattle.orca_stage.specs.Manners.{Manner}
-use Rattle.orca_stage.specs.Plans.{close_plan, command_plan}
-use Rattle.orca_stage.specs.declared.flow.Flow.TheVariants.{Goes}
-use Rattle.orca_term.specs.Editing.{act_of, editor_after, editor_inside}
+use Rattle.orca_script.specs.Runs.{printed_script}
+use Rattle.orca_term.specs.Editing.{act_of, editor_after}
 use Rattle.orca_term.specs.Keys.{Byte, Due, Item, turn}
 use Rattle.orca_term.specs.Pacing.{Pace, due_after, due_from, interval}
 use Rattle.orca_term.specs.Picture.{picture, scene_of}
@@ -29,45 +28,40 @@ use Rattle.orca_term.specs.declared.cell.Cell.{Cell}
 use Rattle.orca_term.specs.declared.editor.Act.{Act as Wish}
 use Rattle.orca_term.specs.declared.editor.Act.TheVariants as wish
 use Rattle.orca_term.specs.declared.keys.Key.{Key}
-use Rattle.orca_live.specs.States.{LiveState, Setting, dims_at, is_full, key_name, line_at, moments_at, piece_at, until_at}
-use Rattle.orca_live.specs.Courses.{Course, course, ended, onward, preceded, still}
-use Rattle.orca_live.specs.declared.ending.Ending.{Ending}
-use Rattle.orca_live.specs.declared.ending.Ending.TheVariants.{Full, Left, Lost, Spent}
-
--- messages are handed out, and nothing is printed
-abbrev pub play_manner : Manner
-play_manner = record {
-  hands = true;
-  ends_when_full = false;
-  done = λ line answer messages. [];
-  final = λ s. [];
-  close = λ messages. [];
-}
+use Rattle.orca_live.specs.Quiet.{silent_manner}
+use Rattle.orca_live.specs.States.{LiveState, dims_at, fitted, is_full, key_name, line_at, live_stance, moments_at, piece_at, until_at}
 
 -- ---- commands
 
--- a command is done, and the editor is fitted to the grid
-unfoldable pub command_course : Command → LiveState → Course
+-- a course of the session alone, whose report keeps nothing
+abbrev pub of_session : (Concert (Unit {0}) → Course (Concert (Unit {0})) Stop) → LiveState
+    → Course LiveState Stop
+of_session c s =
+    mapped (λ t. record s { standing = t.standing }) (λ end. end) (c (concert s.standing tt))
+
+-- a command is kept for the script, if one is saved
+abbrev pub keeping_command : Command → LiveState → LiveState
+keeping_command command s = record s {
+  given = option_map (λ commands. commands ++ command ∷ []) s.given;
+}
+
+-- a command is done
+unfoldable pub command_course : Command → LiveState → Course LiveState Stop
 command_course command s =
-    let p = command_plan play_manner 0 command s.standing in
-    let t = record s {
-      standing = p.standing;
-      given = option_map (λ commands. commands ++ command ∷ []) s.given;
-    } in
-    course (Obey command ∷ p.acts) (record t { editor = editor_inside (dims_at t) t.editor })
+    of_session (obey_course silent_manner 0 command) (keeping_command command s)
 
 -- the grid is saved under this name
-unfoldable pub save_course : List ℕ → LiveState → Course
-save_course name s = course (Store (Save name (text_of (piece_at s).sheet)) ∷ []) s
+unfoldable pub save_course : List ℕ → LiveState → Course LiveState Stop
+save_course name s = course (Save name (text_of (piece_at s).sheet) ∷ []) 0 s
 
--- the script of the commands, where they are kept
-abbrev pub script_text : Option (List Command) → List ℕ
-script_text None = []
-script_text (Some commands) = flat_map printed commands
+-- the script of the commands, if they are kept
+abbrev pub script_text : ℕ → Option (List Command) → List ℕ
+script_text seed None = []
+script_text seed (Some commands) = printed_script seed commands
 
 -- it is saved under this name
-unfoldable pub script_course : List ℕ → LiveState → Course
-script_course name s = course (Store (Save name (script_text s.given)) ∷ []) s
+unfoldable pub script_course : List ℕ → LiveState → Course LiveState Stop
+script_course name s = course (Save name (script_text s.setting.seed s.given) ∷ []) 0 s
 
 -- ---- keys
 
@@ -76,39 +70,41 @@ abbrev pub pace_from : ℕ → ℕ → Pace
 pace_from bpm at = record { interval = interval bpm; due = due_from (interval bpm) at }
 
 -- the pause has changed: a pacer starts where the performance goes on
-abbrev pub toggled : Setting → LiveState → LiveState
-toggled set s = if s.editor.paused then s else record s { pace = pace_from set.bpm s.at }
+abbrev pub toggled : LiveState → LiveState
+toggled s = if s.editor.paused then s else record s { pace = pace_from s.setting.bpm s.at }
 
 -- what a key asks for, once the editor has changed
-unfoldable pub wish_course : Setting → Wish → LiveState → Course
-wish_course set wish.Nothing s = still s
-wish_course set (wish.Do command) s = command_course command s
-wish_course set wish.Toggle s = still (toggled set s)
-wish_course set wish.Save s = save_course (key_name set) s
-wish_course set wish.Quit s = ended Left s
+unfoldable pub wish_course : Wish → LiveState → Course LiveState Stop
+wish_course wish.Nothing s = still s
+wish_course (wish.Do command) s = command_course command s
+wish_course wish.Toggle s = still (toggled s)
+wish_course wish.Save s = save_course (key_name s.setting) s
+wish_course wish.Quit s = ended Left s
 
--- a key
-unfoldable pub key_course : Setting → Key → LiveState → Course
-key_course set key s =
-    wish_course set (act_of key (moments_at s) s.editor)
+-- a key, where the editor is fitted to the grid
+unfoldable pub struck_course : Key → LiveState → Course LiveState Stop
+struck_course key s =
+    wish_course (act_of key (moments_at s) s.editor)
     (record s { editor = editor_after key (dims_at s) s.editor })
 
+-- a key
+unfoldable pub key_course : Key → LiveState → Course LiveState Stop
+key_course key s = struck_course key (fitted s)
+
 -- the key that was ended, if any
-unfoldable pub press_course : Setting → Option Key → LiveState → Course
-press_course set None s = still s
-press_course set (Some key) s = key_course set key s
+unfoldable pub press_course : Option Key → LiveState → Course LiveState Stop
+press_course None s = still s
+press_course (Some key) s = key_course key s
 
 -- the reader of keys is given an item: a byte, or that nothing came for a while
-unfoldable pub item_course : Setting → Item → LiveState → Course
-item_course set item s =
-    press_course set (turn s.pending item).key
+unfoldable pub item_course : Item → LiveState → Course LiveState Stop
+item_course item s =
+    press_course (turn s.pending item).key
     (record s { pending = (turn s.pending item).pending })
 
--- bytes, one by one; those behind the end are dropped
-unfoldable pub bytes_course : Setting → List ℕ → LiveState → Course
-bytes_course set [] s = still s
-bytes_course set (byte ∷ bytes) s =
-    onward (item_course set (Byte byte) s) (λ t. bytes_course set bytes t)
+-- a byte
+unfoldable pub byte_course : ℕ → LiveState → Course LiveState Stop
+byte_course byte s = item_course (Byte byte) s
 
 -- ---- the clock
 
@@ -117,17 +113,17 @@ abbrev pub fired : LiveState → LiveState
 fired s = record s { pace = record s.pace { due = due_after s.pace s.at } }
 
 -- a frame is played; a full history ends the performance
-unfoldable pub frame_course : LiveState → Course
+unfoldable pub frame_course : LiveState → Course LiveState Stop
 frame_course s =
     if is_full s then ended Full s else onward (command_course Frame s) (λ t. still (fired t))
 
 -- a frame is due: an ESC that stands alone is a key, and then the frame is played
-unfoldable pub due_course : Setting → LiveState → Course
-due_course set s = onward (item_course set Due s) frame_course
+unfoldable pub due_course : LiveState → Course LiveState Stop
+due_course s = onward (item_course Due s) frame_course
 
 -- ---- what is shown
 
--- a painting is sent as one piece, where it isn't empty
+-- a painting is sent as one piece, unless it is empty
 abbrev pub view_sends : List ℕ → List Act
 view_sends [] = []
 view_sends bytes = Give (record { port = port.View; bytes = bytes }) ∷ []
@@ -137,16 +133,24 @@ abbrev pub picture_at : List MarkSet → LiveState → List Cell
 picture_at marks s =
     picture s.screen (scene_of (piece_at s).sheet marks s.editor) (line_at s)
 
--- the picture with these marks is painted
-unfoldable pub paint_course : List MarkSet → LiveState → Course
-paint_course marks s =
+-- the picture with these marks is painted, where the editor is fitted to the grid
+unfoldable pub painted_course : List MarkSet → LiveState → Course LiveState Stop
+painted_course marks s =
     let cells = picture_at marks s in
-    course (view_sends (painting_bytes s.screen s.shown cells) ++ Show cells ∷ [])
+    course (view_sends (painting_bytes s.screen s.shown cells) ++ Show cells ∷ []) 0
     (record s { shown = Some cells })
 
--- the picture with the marks of a scan of the piece as it stands
-abbrev pub show_course : LiveState → Course
-show_course s = paint_course (preview_of (piece_at s)) s
+-- the picture with these marks is painted
+unfoldable pub paint_course : List MarkSet → LiveState → Course LiveState Stop
+paint_course marks s = painted_course marks (fitted s)
+
+-- a scan of the piece as it stands
+unfoldable pub preview_course : LiveState → Course LiveState Stop
+preview_course s = course [] (preview_price (piece_at s)) s
+
+-- the picture with the marks of a scan
+unfoldable pub show_course : LiveState → Course LiveState Stop
+show_course s = joined (preview_course s) (paint_course (preview_of (piece_at s)) s)
 
 -- ---- answers of the inbox
 
@@ -154,61 +158,56 @@ show_course s = paint_course (preview_of (piece_at s)) s
 abbrev pub answered_at : ℕ → LiveState → LiveState
 answered_at at s = record s { at = at }
 
--- what an answer brings; the bytes of other hands are dropped
-unfoldable pub answer_course : Setting → Answer → List ℕ → LiveState → Course
-answer_course set (answer.Bytes hand count at) bytes s =
-    if hand == 0 then bytes_course set bytes (answered_at at s) else still (answered_at at s)
-answer_course set (answer.Due at) bytes s = due_course set (answered_at at s)
-answer_course set answer.End bytes s = ended Left s
-answer_course set answer.Failed bytes s = ended Lost s
+-- what an answer brings; the bytes of other hands are dropped. The loop asks nothing of an answer
+-- that ends the performance
+unfoldable pub answer_course : Answer → List ℕ → LiveState → Course LiveState Stop
+answer_course (answer.Bytes hand count at) bytes s =
+    if hand == 0 then each byte_course bytes (answered_at at s) else still (answered_at at s)
+answer_course (answer.Due at) bytes s = due_course (answered_at at s)
+answer_course answer.End bytes s = still s
+answer_course answer.Failed bytes s = still s
 
 -- an answer, and then the picture, unless the performance ended
-unfoldable pub heard_course : Setting → Answer → List ℕ → LiveState → Course
-heard_course set answer bytes s = onward (answer_course set answer bytes s) show_course
-
--- a poll, and what its answer brings
-unfoldable pub poll_course : Setting → Poll → LiveState → Course
-poll_course set poll s =
-    preceded (Await (record poll { until = until_at s }) ∷ [])
-    (heard_course set poll.answer poll.bytes s)
-
--- polls, from the one of this number on; the last one that may be made is followed by no other
-unfoldable pub polls_course : Setting → ℕ → List Poll → LiveState → Course
-polls_course set n [] s = if nat_le MAX_POLLS n then ended Spent s else still s
-polls_course set n (poll ∷ polls) s =
-    if nat_le MAX_POLLS n then ended Spent s
-    else onward (poll_course set poll s) (λ t. polls_course set (n + 1) polls t)
+unfoldable pub heard_course : Answer → List ℕ → LiveState → Course LiveState Stop
+heard_course answer bytes s = onward (answer_course answer bytes s) show_course
 
 -- ---- the end
 
 -- every note ends
-unfoldable pub close_course : LiveState → Course
-close_course s =
-    let p = close_plan play_manner Goes s.standing in
-    course p.acts (record s { standing = p.standing })
+unfoldable pub close_course : LiveState → Course LiveState Stop
+close_course s = of_session (silence_course silent_manner) s
 
--- what is done under a name, where there is one
-abbrev pub where_named : Option (List ℕ) → (List ℕ → LiveState → Course) → LiveState → Course
-where_named None next s = still s
-where_named (Some name) next s = next name s
+-- what is done under a name, if there is one
+abbrev pub if_named : Option (List ℕ) → (List ℕ → LiveState → Course LiveState Stop) → LiveState
+    → Course LiveState Stop
+if_named None next s = still s
+if_named (Some name) next s = next name s
 
--- the end: every note ends, and then the grid and the script are saved
-unfoldable pub finish_course : Setting → Ending → LiveState → Course
-finish_course set ending s =
-    onward (close_course s) (λ t.
-    onward (where_named set.save save_course t) (λ u.
-    onward (where_named set.script script_course u) (ended ending)))
+-- the grid is saved at the end, if it has a name
+unfoldable pub last_grid_course : LiveState → Course LiveState Stop
+last_grid_course s = if_named s.setting.save save_course s
 
--- how polls ended decides
-abbrev pub finish_by : Setting → Option Ending → LiveState → Course
-finish_by set None s = still s
-finish_by set (Some ending) s = finish_course set ending s
+-- the script is saved at the end, if it has a name
+unfoldable pub last_script_course : LiveState → Course LiveState Stop
+last_script_course s = if_named s.setting.script script_course s
 
--- a course, and its end, if it ended
-abbrev pub finished : Setting → Course → Course
-finished set c = preceded c.acts (finish_by set c.ending c.state)
+-- the end: every note ends, and then the grid and the script are saved, however it came
+unfoldable pub finish_course : LiveState → Course LiveState Stop
+finish_course s =
+    onward (close_course s) (λ t. onward (last_grid_course t) last_script_course)
 
--- a whole performance: the first picture, with these marks, and then the polls to their end
-unfoldable pub live_course : Setting → List MarkSet → List Poll → LiveState → Course
-live_course set marks polls s =
-    onward (paint_course marks s) (λ t. finished set (polls_course set 0 polls t))
+-- ---- a performance
+
+-- the first picture has no marks
+unfoldable pub open_course : LiveState → Course LiveState Stop
+open_course s = paint_course [] s
+
+-- what a player does
+abbrev pub live_part : Part LiveState
+live_part = record {
+  stance = live_stance;
+  until = until_at;
+  opens = open_course;
+  hears = heard_course;
+  finishes = λ ending s. finish_course s;
+}

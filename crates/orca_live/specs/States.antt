@@ -1,27 +1,29 @@
--- Where a performance stands: the session, the keys, the editor, the pacer, what is shown, and the
--- commands that are kept for the script.
-use Rattle.std.specs.Prelude.{ℕ, Bool, nat_le, if◌then◌else◌, List, length, Option, Some, None, unwrap_or}
+-- Where a performance stands: its setting, the session, the keys, the editor, the pacer, what is
+-- shown, and the commands that are kept for the script.
+use Rattle.std.specs.Prelude.{ℕ, Bool, true, nat_le, if◌then◌else◌, List, length, Option, Some, None, unwrap_or}
 use Rattle.std.specs.Option.{option_map}
 use Rattle.orca_base.specs.declared.command.Command.{Command}
-use Rattle.orca_base.specs.Areas.{IsArea}
 use Rattle.orca_base.specs.Grids.{Size}
+use Rattle.orca_course.specs.Doing.{Stance}
+use Rattle.orca_course.specs.Standings.{Standing, notes_of, standing}
 use Rattle.orca_edit.specs.Obeying.{MachineState, piece_of}
 use Rattle.orca_edit.specs.Pieces.{Piece}
-use Rattle.orca_stage.specs.Standings.{Standing, notes_of, standing}
-use Rattle.orca_term.specs.Editing.{area_of}
+use Rattle.orca_edit.specs.Prices.{Kept}
+use Rattle.orca_live.specs.declared.live.Live.{Live}
+use Rattle.orca_live.specs.declared.setting.Setting.{Setting as HeldSetting}
+use Rattle.orca_term.specs.Editing.{editor_inside}
 use Rattle.orca_term.specs.Pacing.{Pace}
 use Rattle.orca_term.specs.declared.cell.Cell.{Cell}
 use Rattle.orca_term.specs.declared.cell.ScreenSize.{ScreenSize}
 use Rattle.orca_term.specs.declared.editor.Editor.{Editor}
 use Rattle.orca_term.specs.declared.keys.Pending.{Pending}
 use Rattle.orca_term.specs.declared.status.StatusLine.{StatusLine}
-use Rattle.orca_live.specs.declared.live.Live.{Live}
-use Rattle.orca_live.specs.declared.setting.Setting.{Setting as HeldSetting}
 
--- the tempo in beats a minute, the name of the grid's file, and the names under which the grid and
--- the script are saved at the end
+-- the tempo in beats a minute, the seed of the random operator, the name of the grid's file, and
+-- the names under which the grid and the script are saved at the end
 pub record Setting : Type 0 where
   pub bpm : ℕ
+  pub seed : ℕ
   pub grid : List ℕ
   pub save : Option (List ℕ)
   pub script : Option (List ℕ)
@@ -30,6 +32,7 @@ pub record Setting : Type 0 where
 abbrev pub setting_in : HeldSetting → Setting
 setting_in set = record {
   bpm = set.bpm;
+  seed = set.seed;
   grid = set.grid.now;
   save = option_map (λ name. name.now) set.save;
   script = option_map (λ name. name.now) set.script;
@@ -40,20 +43,24 @@ abbrev pub key_name : Setting → List ℕ
 key_name set = unwrap_or set.save set.grid
 
 pub record LiveState : Type 0 where
+  pub setting : Setting
   pub standing : Standing
   pub pending : Pending
   pub editor : Editor
   pub pace : Pace
   pub screen : ScreenSize
+  -- the last picture, if one was painted
   pub shown : Option (List Cell)
+  -- the commands so far, if a script is saved at the end
   pub given : Option (List Command)
   -- the moment of the last answer of the inbox
   pub at : ℕ
 
--- the state of a performance, whose session means this machine
-abbrev pub state_of : {M : Type 0} → MachineState → Live M → LiveState
-state_of machine live = record {
-  standing = standing machine live.stage.tally;
+-- the state of a performance, whose session means this machine and keeps these numbers
+abbrev pub state_of : {M : Type 0} → MachineState → Kept → Live M → LiveState
+state_of machine kept live = record {
+  setting = setting_in live.setting;
+  standing = standing machine kept live.stage.tally;
   pending = live.keys;
   editor = live.editor;
   pace = live.pacer;
@@ -62,6 +69,10 @@ state_of machine live = record {
   given = option_map (λ commands. commands.items) live.given;
   at = live.at;
 }
+
+-- a performance stands where its session does, and hands its messages out
+abbrev pub live_stance : Stance LiveState
+live_stance = record { standing = λ s. Some s.standing; hands = true }
 
 -- the piece as it stands
 abbrev pub piece_at : LiveState → Piece
@@ -75,9 +86,9 @@ dims_at s = (piece_at s).sheet.dims
 abbrev pub moments_at : LiveState → ℕ
 moments_at s = length s.standing.machine.history
 
--- the selection lies in the grid
-abbrev pub IsPlaced : LiveState → Type 0
-IsPlaced s = IsArea (dims_at s) (area_of s.editor)
+-- the editor is fitted to the grid
+abbrev pub fitted : LiveState → LiveState
+fitted s = record s { editor = editor_inside (dims_at s) s.editor }
 
 -- the history has as many entries as it may have
 abbrev pub is_full : LiveState → Bool

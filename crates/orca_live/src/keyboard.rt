@@ -2,19 +2,21 @@
 
 ghost use Rattle.std.specs.Prelude.{◌≡◌, [], ◌∷◌, ◌++◌, IfErr, OnOk};
 ghost use Rattle.std.specs.Option.{option_map};
-ghost use Rattle.orca_live.specs.Doing.{Does};
-ghost use Rattle.orca_live.specs.Performing.{bytes_course, command_course, key_course, press_course, wish_course};
-ghost use Rattle.orca_live.specs.States.{IsPlaced, setting_in, state_of};
-ghost use Rattle.orca_send.specs.Sending.{RecordsFaults};
-ghost use Rattle.orca_stage.specs.Told.{Told, told_with_calls, told_with_sends};
+ghost use Rattle.orca_base.specs.Areas.{IsArea};
+ghost use Rattle.orca_course.specs.Courses.{each};
+ghost use Rattle.orca_live.specs.States.{dims_at, fitted};
+ghost use Rattle.orca_term.specs.Editing.{area_of};
+ghost use Rattle.orca_course.specs.Doing.{Does, goes_of};
+ghost use Rattle.orca_course.specs.Worlds.{owing};
+ghost use Rattle.orca_live.specs.Performing.{byte_course, command_course, key_course, press_course, struck_course, wish_course};
+ghost use Rattle.orca_live.specs.States.{live_stance, state_of};
 
+use crate::Live;
 use crate::saving::save_grid;
-use crate::{Ending, Live, Setting, Silent};
-use orca_base::{Command, Look, Steps};
+use orca_base::{Command, Look};
+use orca_course::{Desk, NoMemory, Stop};
 use orca_edit::Machine;
-use orca_rig::{Files, Outs};
-use orca_send::NoMemory;
-use orca_stage::do_command;
+use orca_rig::{Files, Inbox, Outs};
 use orca_term::{Act, Key, Pacer};
 use std::sync::ledger::Ledger;
 
@@ -31,166 +33,149 @@ fn keep(given: &mut Option<Vec<Command>>, command: &Command) -> Result<(), NoMem
     Ok(())
 }
 
-/// Does a command, and fits the editor to the grid.
-pub(crate) fn give<M: Machine + Drop, O: Outs, L: Ledger>(
-    live: &mut Live<M>,
-    outs: &mut O,
+/// Does a command, and keeps it for the script.
+pub(crate) fn give<M: Machine + Drop, F: Files + Drop, O: Outs + Drop, I: Inbox + Drop, L: Ledger>(
+    live: &mut Live<'_, M>,
+    desk: &mut Desk<F, O, I, L>,
     command: &Command,
-    steps: &mut Steps<L>,
-) -> Result<Option<Ending>, NoMemory>
-    requires placed { IsPlaced (state_of (M.machine live.old.stage.machine) live.old) }
-    ensures did { let s = state_of (M.machine live.old.stage.machine) live.old in
-        (before : Told) → Does (command_course command.now s) s
-        (told_with_sends before (O.handed outs.old)) result
-        (state_of (M.machine live.new.stage.machine) live.new)
-        (told_with_sends before (O.handed outs.new)) }
-    ensures placed { OnOk result
-        (IsPlaced (state_of (M.machine live.new.stage.machine) live.new)) }
-    ensures recorded { RecordsFaults live.old.stage.sender.failed live.new.stage.sender.failed
-        (O.faults outs.old) (O.faults outs.new) }
-    ensures attached { O.attached outs.new ≡ O.attached outs.old }
-    ensures unsaved { live.new.unsaved ≡ live.old.unsaved }
+) -> Result<(), NoMemory>
+    ensures { let s = state_of (M.machine live.old.stage.machine) (M.kept live.old.stage.machine)
+        live.old in
+        Does live_stance (command_course command.now s) s
+        (owing (M.residue live.old.stage.machine) desk.old) (goes_of result)
+        (state_of (M.machine live.new.stage.machine) (M.kept live.new.stage.machine) live.new)
+        (owing (M.residue live.new.stage.machine) desk.new) }
 {
     keep(&mut live.given, command)?;
-    do_command(&mut live.stage, &Silent, outs, 0, command, steps)?;
-    live.stage.machine.is_shown();
-    let dims = Look::dims(&live.stage.machine);
-    live.editor.fit(dims);
-    Ok(None)
+    live.stage.do_command(desk, 0, command)?;
+    Ok(())
 }
 
 /// Does what a key asks for, once the editor has changed.
-fn grant<M: Machine + Drop, F: Files, O: Outs, L: Ledger>(
-    live: &mut Live<M>,
-    setting: &Setting<'_>,
-    files: &mut F,
-    outs: &mut O,
+fn grant<M: Machine + Drop, F: Files + Drop, O: Outs + Drop, I: Inbox + Drop, L: Ledger>(
+    live: &mut Live<'_, M>,
+    desk: &mut Desk<F, O, I, L>,
     wish: &Act,
-    steps: &mut Steps<L>,
-) -> Result<Option<Ending>, NoMemory>
-    requires placed { IsPlaced (state_of (M.machine live.old.stage.machine) live.old) }
-    ensures did { let s = state_of (M.machine live.old.stage.machine) live.old in
-        (before : Told) → Does (wish_course (setting_in setting.now) wish.now s) s
-        (told_with_calls before (O.handed outs.old) (F.asked files.old) (F.contents files.old)
-        (F.faults files.old)) result
-        (state_of (M.machine live.new.stage.machine) live.new)
-        (told_with_calls before (O.handed outs.new) (F.asked files.new) (F.contents files.new)
-        (F.faults files.new)) }
-    ensures placed { OnOk result
-        (IsPlaced (state_of (M.machine live.new.stage.machine) live.new)) }
-    ensures recorded { RecordsFaults live.old.stage.sender.failed live.new.stage.sender.failed
-        (O.faults outs.old) (O.faults outs.new) }
-    ensures attached { O.attached outs.new ≡ O.attached outs.old }
-    ensures unsaved { RecordsFaults live.old.unsaved live.new.unsaved
-        (F.faults files.old) (F.faults files.new) }
+) -> Result<Option<Stop>, NoMemory>
+    ensures { let s = state_of (M.machine live.old.stage.machine) (M.kept live.old.stage.machine)
+        live.old in
+        Does live_stance (wish_course wish.now s) s
+        (owing (M.residue live.old.stage.machine) desk.old) result
+        (state_of (M.machine live.new.stage.machine) (M.kept live.new.stage.machine) live.new)
+        (owing (M.residue live.new.stage.machine) desk.new) }
 {
     match wish {
         Act::Nothing => Ok(None),
-        Act::Do(command) => give(live, outs, command, steps),
+        Act::Do(command) => {
+            give(live, desk, command)?;
+            Ok(None)
+        }
         Act::Toggle => {
             if !live.editor.paused {
-                live.pacer = Pacer::start(live.at, setting.bpm);
+                live.pacer = Pacer::start(live.at, live.setting.bpm);
             }
             Ok(None)
         }
-        Act::Save => save_grid(live, files, setting.key_name()),
-        Act::Quit => Ok(Some(Ending::Left)),
+        Act::Save => {
+            let name = live.setting.key_name();
+            save_grid(live, desk, name)?;
+            Ok(None)
+        }
+        Act::Quit => Ok(Some(Stop::Left)),
     }
 }
 
-/// Does what a key does.
-fn strike<M: Machine + Drop, F: Files, O: Outs, L: Ledger>(
-    live: &mut Live<M>,
-    setting: &Setting<'_>,
-    files: &mut F,
-    outs: &mut O,
+/// Fits the editor to the grid.
+pub(crate) fn fit<M: Machine + Drop>(live: &mut Live<'_, M>)
+    ensures fitted { state_of (M.machine live.new.stage.machine) (M.kept live.new.stage.machine)
+        live.new ≡ fitted (state_of (M.machine live.old.stage.machine)
+        (M.kept live.old.stage.machine) live.old) }
+    ensures machine { live.new.stage.machine ≡ live.old.stage.machine }
+    ensures inside { let t = state_of (M.machine live.new.stage.machine)
+        (M.kept live.new.stage.machine) live.new in IsArea (dims_at t) (area_of t.editor) }
+{
+    live.stage.machine.is_shown();
+    let dims = Look::dims(&live.stage.machine);
+    live.editor.fit(dims);
+}
+
+/// Does what a key does, where the editor is fitted to the grid.
+fn strike<M: Machine + Drop, F: Files + Drop, O: Outs + Drop, I: Inbox + Drop, L: Ledger>(
+    live: &mut Live<'_, M>,
+    desk: &mut Desk<F, O, I, L>,
     key: Key,
-    steps: &mut Steps<L>,
-) -> Result<Option<Ending>, NoMemory>
-    requires placed { IsPlaced (state_of (M.machine live.old.stage.machine) live.old) }
-    ensures did { let s = state_of (M.machine live.old.stage.machine) live.old in
-        (before : Told) → Does (key_course (setting_in setting.now) key s) s
-        (told_with_calls before (O.handed outs.old) (F.asked files.old) (F.contents files.old)
-        (F.faults files.old)) result
-        (state_of (M.machine live.new.stage.machine) live.new)
-        (told_with_calls before (O.handed outs.new) (F.asked files.new) (F.contents files.new)
-        (F.faults files.new)) }
-    ensures placed { OnOk result
-        (IsPlaced (state_of (M.machine live.new.stage.machine) live.new)) }
-    ensures recorded { RecordsFaults live.old.stage.sender.failed live.new.stage.sender.failed
-        (O.faults outs.old) (O.faults outs.new) }
-    ensures attached { O.attached outs.new ≡ O.attached outs.old }
-    ensures unsaved { RecordsFaults live.old.unsaved live.new.unsaved
-        (F.faults files.old) (F.faults files.new) }
+) -> Result<Option<Stop>, NoMemory>
+    requires inside { let s = state_of (M.machine live.old.stage.machine)
+        (M.kept live.old.stage.machine) live.old in IsArea (dims_at s) (area_of s.editor) }
+    ensures { let s = state_of (M.machine live.old.stage.machine) (M.kept live.old.stage.machine)
+        live.old in
+        Does live_stance (struck_course key s) s
+        (owing (M.residue live.old.stage.machine) desk.old) result
+        (state_of (M.machine live.new.stage.machine) (M.kept live.new.stage.machine) live.new)
+        (owing (M.residue live.new.stage.machine) desk.new) }
 {
     live.stage.machine.is_shown();
     let dims = Look::dims(&live.stage.machine);
     let moments = live.stage.machine.moments();
     let wish = live.editor.key(key, dims, moments);
-    grant(live, setting, files, outs, &wish, steps)
+    grant(live, desk, &wish)
 }
 
 /// Does what the key does that was ended, if any was.
-pub(crate) fn press<M: Machine + Drop, F: Files, O: Outs, L: Ledger>(
-    live: &mut Live<M>,
-    setting: &Setting<'_>,
-    files: &mut F,
-    outs: &mut O,
+pub(crate) fn press<M: Machine + Drop, F: Files + Drop, O: Outs + Drop, I: Inbox + Drop, L: Ledger>(
+    live: &mut Live<'_, M>,
+    desk: &mut Desk<F, O, I, L>,
     key: Option<Key>,
-    steps: &mut Steps<L>,
-) -> Result<Option<Ending>, NoMemory>
-    requires placed { IsPlaced (state_of (M.machine live.old.stage.machine) live.old) }
-    ensures did { let s = state_of (M.machine live.old.stage.machine) live.old in
-        (before : Told) → Does (press_course (setting_in setting.now) key s) s
-        (told_with_calls before (O.handed outs.old) (F.asked files.old) (F.contents files.old)
-        (F.faults files.old)) result
-        (state_of (M.machine live.new.stage.machine) live.new)
-        (told_with_calls before (O.handed outs.new) (F.asked files.new) (F.contents files.new)
-        (F.faults files.new)) }
-    ensures placed { OnOk result
-        (IsPlaced (state_of (M.machine live.new.stage.machine) live.new)) }
-    ensures recorded { RecordsFaults live.old.stage.sender.failed live.new.stage.sender.failed
-        (O.faults outs.old) (O.faults outs.new) }
-    ensures attached { O.attached outs.new ≡ O.attached outs.old }
-    ensures unsaved { RecordsFaults live.old.unsaved live.new.unsaved
-        (F.faults files.old) (F.faults files.new) }
+) -> Result<Option<Stop>, NoMemory>
+    ensures { let s = state_of (M.machine live.old.stage.machine) (M.kept live.old.stage.machine)
+        live.old in
+        Does live_stance (press_course key s) s
+        (owing (M.residue live.old.stage.machine) desk.old) result
+        (state_of (M.machine live.new.stage.machine) (M.kept live.new.stage.machine) live.new)
+        (owing (M.residue live.new.stage.machine) desk.new) }
 {
     match key {
         None => Ok(None),
-        Some(key) => strike(live, setting, files, outs, key, steps),
+        Some(key) => {
+            fit(live);
+            strike(live, desk, key)
+        }
     }
 }
 
+/// Reads a byte.
+fn take<M: Machine + Drop, F: Files + Drop, O: Outs + Drop, I: Inbox + Drop, L: Ledger>(
+    live: &mut Live<'_, M>,
+    desk: &mut Desk<F, O, I, L>,
+    byte: u8,
+) -> Result<Option<Stop>, NoMemory>
+    ensures { let s = state_of (M.machine live.old.stage.machine) (M.kept live.old.stage.machine)
+        live.old in
+        Does live_stance (byte_course byte s) s
+        (owing (M.residue live.old.stage.machine) desk.old) result
+        (state_of (M.machine live.new.stage.machine) (M.kept live.new.stage.machine) live.new)
+        (owing (M.residue live.new.stage.machine) desk.new) }
+{
+    let key = live.keys.feed(byte);
+    press(live, desk, key)
+}
+
 /// Reads bytes, one by one. Those behind the end of the performance are dropped.
-pub(crate) fn feed<M: Machine + Drop, F: Files, O: Outs, L: Ledger>(
-    live: &mut Live<M>,
-    setting: &Setting<'_>,
-    files: &mut F,
-    outs: &mut O,
+pub(crate) fn feed<M: Machine + Drop, F: Files + Drop, O: Outs + Drop, I: Inbox + Drop, L: Ledger>(
+    live: &mut Live<'_, M>,
+    desk: &mut Desk<F, O, I, L>,
     bytes: &[u8],
-    steps: &mut Steps<L>,
-) -> Result<Option<Ending>, NoMemory>
-    requires placed { IsPlaced (state_of (M.machine live.old.stage.machine) live.old) }
-    ensures did { let s = state_of (M.machine live.old.stage.machine) live.old in
-        (before : Told) → Does (bytes_course (setting_in setting.now) bytes.now s) s
-        (told_with_calls before (O.handed outs.old) (F.asked files.old) (F.contents files.old)
-        (F.faults files.old)) result
-        (state_of (M.machine live.new.stage.machine) live.new)
-        (told_with_calls before (O.handed outs.new) (F.asked files.new) (F.contents files.new)
-        (F.faults files.new)) }
-    ensures placed { OnOk result
-        (IsPlaced (state_of (M.machine live.new.stage.machine) live.new)) }
-    ensures recorded { RecordsFaults live.old.stage.sender.failed live.new.stage.sender.failed
-        (O.faults outs.old) (O.faults outs.new) }
-    ensures attached { O.attached outs.new ≡ O.attached outs.old }
-    ensures unsaved { RecordsFaults live.old.unsaved live.new.unsaved
-        (F.faults files.old) (F.faults files.new) }
+) -> Result<Option<Stop>, NoMemory>
+    ensures { let s = state_of (M.machine live.old.stage.machine) (M.kept live.old.stage.machine)
+        live.old in
+        Does live_stance (each byte_course bytes.now s) s
+        (owing (M.residue live.old.stage.machine) desk.old) result
+        (state_of (M.machine live.new.stage.machine) (M.kept live.new.stage.machine) live.new)
+        (owing (M.residue live.new.stage.machine) desk.new) }
 {
     for byte in bytes {
-        let key = live.keys.feed(*byte);
-        let ending = press(live, setting, files, outs, key, steps)?;
-        if ending.is_some() {
-            return Ok(ending);
+        if let Some(stop) = take(live, desk, *byte)? {
+            return Ok(Some(stop));
         }
     }
     Ok(None)

@@ -1,4 +1,5 @@
 ghost use Rattle.orca_live.specs.Laws.{CutsAlike, OnlyAppends, ReplaysScript};
+ghost use Rattle.orca_live.specs.Paintings.{ShowsPerformance};
 
 /// More answers only add acts: what was done before stays done. It does nothing.
 pub fn appending_law()
@@ -6,14 +7,20 @@ pub fn appending_law()
 {}
 
 /// How bytes were cut into answers changes no command: two lists of answers with the same bytes and
-/// due frames, in the same order, give the same commands, and leave the session, the keys, the
-/// editor and the commands that are kept the same. It does nothing.
+/// due frames, in the same order, give the same commands, and leave the session and the commands
+/// that are kept the same. It does nothing.
 pub fn cutting_law()
     ensures { CutsAlike }
 {}
 
-/// The commands that are kept are those that were given, and done again they lead to the same
-/// session. It does nothing.
+/// The commands that are kept are those that were given, and their script, done again, leads to the
+/// same session. It does nothing.
 pub fn script_law()
     ensures { ReplaysScript }
+{}
+
+/// A small terminal that is sent all paintings shows each picture, if it can show their cells: each
+/// is a printable byte with a style. It does nothing.
+pub fn painting_law()
+    ensures { ShowsPerformance }
 {}

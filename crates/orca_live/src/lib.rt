@@ -1,29 +1,25 @@
 //! A performance: a piece that plays while it is edited by keys.
 //!
-//! [`perform`] paints the first picture, and then does what the answers of an inbox bring: keys go
-//! to the editor, its commands to the session, and a due moment plays a frame. Each message is sent
-//! at once, and after each answer the picture is painted. At the end every note ends, and the grid
-//! and the script of the commands are saved.
+//! [`Live`] is a [`Performer`](orca_course::Performer): it paints the first picture, and then does
+//! what the answers of an inbox bring. Keys go to the editor, its commands to the session, and a
+//! due moment plays a frame. Each message is sent at once, and after each answer the picture is
+//! painted. At the end every note ends, and the grid and the script of the commands are saved.
 #![tactic(auto)]
 
 mod clock;
-mod ending;
 mod keyboard;
 mod laws;
 mod live;
 mod painting;
 mod performance;
-mod polls;
 mod saving;
 mod setting;
 mod silent;
-
-pub use ending::Ending;
-pub use laws::{appending_law, cutting_law, script_law};
-pub use live::Live;
-pub use performance::perform;
-pub use setting::Setting;
-pub use silent::Silent;
-
 #[cfg(test)]
 mod tests;
+mod unmarked;
+
+pub use laws::{appending_law, cutting_law, painting_law, script_law};
+pub use live::Live;
+pub use setting::Setting;
+pub use silent::Silent;

@@ -1,21 +1,23 @@
-ghost use Rattle.std.specs.Prelude.{◌≡◌, ◌≤◌, IfOk, false};
+ghost use Rattle.std.specs.Prelude.{◌≡◌, ◌≤◌, IfOk};
 ghost use Rattle.orca_base.specs.declared.limits.TheConstants.{MAX_SCREEN_COLUMNS, MAX_SCREEN_ROWS, MIN_SCREEN_COLUMNS, MIN_SCREEN_ROWS};
+ghost use Rattle.orca_course.specs.Standings.{standing};
 ghost use Rattle.orca_live.specs.Starting.{live_at_start};
-ghost use Rattle.orca_live.specs.States.{IsPlaced, LiveState, dims_at, is_full, line_at, piece_at, setting_in, state_of, until_at};
-ghost use Rattle.orca_term.specs.Editing.{editor_inside};
+ghost use Rattle.orca_live.specs.States.{is_full, line_at, setting_in, state_of, until_at};
 
-use crate::Setting;
-use orca_base::{Command, Look, Memory};
+use crate::{Setting, Silent};
+use orca_base::{Command, Memory};
+use orca_concert::Stage;
 use orca_edit::Machine;
-use orca_stage::Stage;
 use orca_term::{Editor, Keys, Pacer, ScreenSize, StatusLine, View};
 use std::alloc::Global;
 
 /// All that a performance keeps.
 #[derive(Drop)]
-pub struct Live<M> {
-    /// The session, and what it is sent by.
-    pub stage: Stage<M>,
+pub struct Live<'a, M> {
+    /// How it plays, and where it is saved.
+    pub setting: Setting<'a>,
+    /// The session, and what is counted of it.
+    pub stage: Stage<M, Silent>,
     /// The reader of keys.
     pub keys: Keys,
     /// The cursor, the selection and the pause.
@@ -26,52 +28,49 @@ pub struct Live<M> {
     pub view: View,
     /// The commands so far, if a script is saved at the end.
     pub given: Option<Vec<Command>>,
-    /// Whether a save has failed.
-    pub unsaved: bool,
     /// The moment of the last answer of the inbox, in microseconds.
     pub at: u64,
+    /// Room for what is saved.
+    pub text: Vec<u8>,
 }
 
-impl<M: Machine + Drop> Live<M> {
+impl<'a, M: Machine + Drop> Live<'a, M> {
     /// A performance on a screen of this size, before its first picture, that starts at a moment in
     /// microseconds. [`Memory`] if the room for the pictures is refused.
     pub fn start(
         alloc: Global,
-        stage: Stage<M>,
-        setting: &Setting<'_>,
+        stage: Stage<M, Silent>,
+        setting: Setting<'a>,
         screen: ScreenSize,
         at: u64,
-    ) -> Result<Live<M>, Memory>
+    ) -> Result<Live<'a, M>, Memory>
         requires rows { (MIN_SCREEN_ROWS ≤ screen.rows) × (screen.rows ≤ MAX_SCREEN_ROWS) }
         requires columns { (MIN_SCREEN_COLUMNS ≤ screen.columns)
             × (screen.columns ≤ MAX_SCREEN_COLUMNS) }
-        ensures state { IfOk result (λ live. state_of (M.machine live.stage.machine) live
-            ≡ live_at_start (setting_in setting.now) screen at (M.machine stage.machine)
-            stage.tally) }
+        ensures state { IfOk result (λ live.
+            state_of (M.machine live.stage.machine) (M.kept live.stage.machine) live
+            ≡ live_at_start (setting_in setting.entry) screen at
+            (standing (M.machine stage.machine) (M.kept stage.machine) stage.tally)) }
         ensures machine { IfOk result (λ live. live.stage.machine ≡ stage.machine) }
-        ensures failed { IfOk result (λ live. live.stage.sender.failed ≡ stage.sender.failed) }
-        ensures saved { IfOk result (λ live. live.unsaved ≡ false) }
-        ensures placed { IfOk result (λ live.
-            IsPlaced (state_of (M.machine live.stage.machine) live)) }
     {
         let view = View::start(alloc, screen.rows, screen.columns)?;
-        stage.machine.is_shown();
-        let _dims = Look::dims(&stage.machine);
         Ok(Live {
+            setting,
             stage,
             keys: Keys::start(),
             editor: Editor::start(),
             pacer: Pacer::start(at, setting.bpm),
             view,
             given: setting.script.map(|_| Vec::new(alloc)),
-            unsaved: false,
             at,
+            text: Vec::new(alloc),
         })
     }
 
     /// What the status line tells besides the editor.
     pub(crate) fn line(&self) -> StatusLine
-        ensures { result ≡ line_at (state_of (M.machine self.now.stage.machine) self.now) }
+        ensures { result ≡ line_at (state_of (M.machine self.now.stage.machine)
+            (M.kept self.now.stage.machine) self.now) }
     {
         StatusLine {
             tick: self.stage.machine.tick(),
@@ -82,8 +81,9 @@ impl<M: Machine + Drop> Live<M> {
     }
 
     /// The moment that a poll waits for.
-    pub(crate) fn until(&self) -> Option<u64>
-        ensures { result ≡ until_at (state_of (M.machine self.now.stage.machine) self.now) }
+    pub(crate) fn until_moment(&self) -> Option<u64>
+        ensures { result ≡ until_at (state_of (M.machine self.now.stage.machine)
+            (M.kept self.now.stage.machine) self.now) }
     {
         if self.editor.paused {
             return None;
@@ -93,7 +93,8 @@ impl<M: Machine + Drop> Live<M> {
 
     /// Whether the history has as many entries as it may have.
     pub(crate) fn is_full(&self) -> bool
-        ensures { result ≡ is_full (state_of (M.machine self.now.stage.machine) self.now) }
+        ensures { result ≡ is_full (state_of (M.machine self.now.stage.machine)
+            (M.kept self.now.stage.machine) self.now) }
     {
         self.stage.machine.limit() <= self.stage.machine.moments()
     }

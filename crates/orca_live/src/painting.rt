@@ -1,39 +1,69 @@
 //! What is shown.
 
-ghost use Rattle.std.specs.Prelude.{◌≡◌, OnOk};
-ghost use Rattle.orca_live.specs.Doing.{Does};
-ghost use Rattle.orca_live.specs.Performing.{paint_course, show_course};
-ghost use Rattle.orca_live.specs.States.{IsPlaced, state_of};
-ghost use Rattle.orca_send.specs.Sending.{RecordsFaults};
-ghost use Rattle.orca_stage.specs.Told.{Told, told_with_sends};
+ghost use Rattle.std.specs.Prelude.{[]};
+ghost use Rattle.orca_course.specs.Doing.{Does, goes_of};
+ghost use Rattle.orca_course.specs.Worlds.{owing};
+ghost use Rattle.orca_live.specs.Performing.{open_course, paint_course, painted_course, show_course};
+ghost use Rattle.orca_live.specs.States.{live_stance, state_of};
 
-use crate::{Ending, Live};
-use orca_base::{Port, Steps};
+use crate::Live;
+use crate::keyboard::fit;
+use crate::unmarked::Unmarked;
+use orca_base::Port;
+use orca_course::{Desk, NoMemory};
 use orca_edit::Machine;
-use orca_rig::Outs;
-use orca_send::NoMemory;
+use orca_rig::{Files, Inbox, Outs};
 use std::sync::ledger::Ledger;
 
-/// Paints the picture, with the marks that the session shows.
-pub(crate) fn paint<M: Machine + Drop, O: Outs>(
-    live: &mut Live<M>,
-    outs: &mut O,
-) -> Result<Option<Ending>, NoMemory>
-    requires placed { IsPlaced (state_of (M.machine live.old.stage.machine) live.old) }
-    ensures did { let s = state_of (M.machine live.old.stage.machine) live.old in
-        (before : Told) → Does (paint_course (M.marks live.old.stage.machine) s) s
-        (told_with_sends before (O.handed outs.old)) result
-        (state_of (M.machine live.new.stage.machine) live.new)
-        (told_with_sends before (O.handed outs.new)) }
-    ensures placed { OnOk result
-        (IsPlaced (state_of (M.machine live.new.stage.machine) live.new)) }
-    ensures recorded { RecordsFaults live.old.stage.sender.failed live.new.stage.sender.failed
-        (O.faults outs.old) (O.faults outs.new) }
-    ensures attached { O.attached outs.new ≡ O.attached outs.old }
-    ensures unsaved { live.new.unsaved ≡ live.old.unsaved }
+/// Paints the first picture, which has no marks.
+pub(crate) fn paint_first<
+    M: Machine + Drop,
+    F: Files + Drop,
+    O: Outs + Drop,
+    I: Inbox + Drop,
+    L: Ledger,
+>(live: &mut Live<'_, M>, desk: &mut Desk<F, O, I, L>) -> Result<(), NoMemory>
+    ensures { let s = state_of (M.machine live.old.stage.machine) (M.kept live.old.stage.machine)
+        live.old in
+        Does live_stance (open_course s) s
+        (owing (M.residue live.old.stage.machine) desk.old) (goes_of result)
+        (state_of (M.machine live.new.stage.machine) (M.kept live.new.stage.machine) live.new)
+        (owing (M.residue live.new.stage.machine) desk.new) }
 {
-    live.stage.machine.is_shown();
+    fit(live);
     let line = live.line();
+    live.stage.machine.is_shown();
+    let Live {
+        stage,
+        editor,
+        view,
+        ..
+    } = live;
+    let unmarked = Unmarked {
+        look: &stage.machine,
+    };
+    let bytes = view.paint(&unmarked, editor, &line);
+    if !bytes.is_empty() {
+        desk.send(Port::View, bytes)?;
+    }
+    Ok(())
+}
+
+/// Paints the picture, with the marks that the session shows.
+fn paint<M: Machine + Drop, F: Files + Drop, O: Outs + Drop, I: Inbox + Drop, L: Ledger>(
+    live: &mut Live<'_, M>,
+    desk: &mut Desk<F, O, I, L>,
+) -> Result<(), NoMemory>
+    ensures { let s = state_of (M.machine live.old.stage.machine) (M.kept live.old.stage.machine)
+        live.old in
+        Does live_stance (paint_course (M.marks live.old.stage.machine) s) s
+        (owing (M.residue live.old.stage.machine) desk.old) (goes_of result)
+        (state_of (M.machine live.new.stage.machine) (M.kept live.new.stage.machine) live.new)
+        (owing (M.residue live.new.stage.machine) desk.new) }
+{
+    fit(live);
+    let line = live.line();
+    live.stage.machine.is_shown();
     let Live {
         stage,
         editor,
@@ -42,30 +72,23 @@ pub(crate) fn paint<M: Machine + Drop, O: Outs>(
     } = live;
     let bytes = view.paint(&stage.machine, editor, &line);
     if !bytes.is_empty() {
-        stage.sender.send(outs, Port::View, bytes)?;
+        desk.send(Port::View, bytes)?;
     }
-    Ok(None)
+    Ok(())
 }
 
 /// Paints the picture, with the marks of a scan of the piece as it stands.
-pub(crate) fn show<M: Machine + Drop, O: Outs, L: Ledger>(
-    live: &mut Live<M>,
-    outs: &mut O,
-    steps: &mut Steps<L>,
-) -> Result<Option<Ending>, NoMemory>
-    requires placed { IsPlaced (state_of (M.machine live.old.stage.machine) live.old) }
-    ensures did { let s = state_of (M.machine live.old.stage.machine) live.old in
-        (before : Told) → Does (show_course s) s
-        (told_with_sends before (O.handed outs.old)) result
-        (state_of (M.machine live.new.stage.machine) live.new)
-        (told_with_sends before (O.handed outs.new)) }
-    ensures placed { OnOk result
-        (IsPlaced (state_of (M.machine live.new.stage.machine) live.new)) }
-    ensures recorded { RecordsFaults live.old.stage.sender.failed live.new.stage.sender.failed
-        (O.faults outs.old) (O.faults outs.new) }
-    ensures attached { O.attached outs.new ≡ O.attached outs.old }
-    ensures unsaved { live.new.unsaved ≡ live.old.unsaved }
+pub(crate) fn show<M: Machine + Drop, F: Files + Drop, O: Outs + Drop, I: Inbox + Drop, L: Ledger>(
+    live: &mut Live<'_, M>,
+    desk: &mut Desk<F, O, I, L>,
+) -> Result<(), NoMemory>
+    ensures { let s = state_of (M.machine live.old.stage.machine) (M.kept live.old.stage.machine)
+        live.old in
+        Does live_stance (show_course s) s
+        (owing (M.residue live.old.stage.machine) desk.old) (goes_of result)
+        (state_of (M.machine live.new.stage.machine) (M.kept live.new.stage.machine) live.new)
+        (owing (M.residue live.new.stage.machine) desk.new) }
 {
-    live.stage.machine.preview_marks(steps);
-    paint(live, outs)
+    desk.preview(&mut live.stage.machine);
+    paint(live, desk)
 }

@@ -1,183 +1,114 @@
 //! What is saved.
 
-ghost use Rattle.std.specs.Prelude.{◌≡◌, [], ◌∷◌, ◌++◌, ℕ, IfErr, List, Ok, OnOk, Some};
-ghost use Rattle.std.specs.List.{flat_map};
+ghost use Rattle.std.specs.Prelude.{◌≡◌, [], OnOk};
 ghost use Rattle.std.specs.Option.{option_map};
-ghost use Rattle.orca_cues.specs.Scripts.{one_a_line, script_of};
-ghost use Rattle.orca_live.specs.Doing.{Does, ReadsBack};
-ghost use Rattle.orca_live.specs.Performing.{save_course, script_course, script_text, where_named};
-ghost use Rattle.orca_live.specs.States.{setting_in, state_of};
-ghost use Rattle.orca_script.specs.Canonical.{printed};
-ghost use Rattle.orca_send.specs.Sending.{RecordsFaults};
-ghost use Rattle.orca_rig.specs.Outside.Ask.{Save};
-ghost use Rattle.orca_stage.specs.Acts.Act.{Store};
-ghost use Rattle.orca_stage.specs.Told.{Made, Told, told_with_calls};
+ghost use Rattle.orca_course.specs.Doing.{Does, goes_of};
+ghost use Rattle.orca_course.specs.Worlds.{owing};
+ghost use Rattle.orca_live.specs.Performing.{last_grid_course, last_script_course, save_course, script_course, script_text};
+ghost use Rattle.orca_live.specs.States.{live_stance, state_of};
 
-use crate::{Ending, Live, Setting};
+use crate::Live;
 use orca_base::{Command, Memory};
+use orca_course::{Desk, NoMemory};
 use orca_edit::Machine;
 use orca_grid::Grid;
-use orca_rig::{Files, StoreFault};
-use orca_script::print;
-use orca_send::NoMemory;
+use orca_rig::{Files, Inbox, Outs};
+use orca_script::print2;
+use std::sync::ledger::Ledger;
 
 /// Saves the grid under a name. A save that fails is recorded, and the performance goes on.
-pub(crate) fn save_grid<M: Machine + Drop, F: Files>(
-    live: &mut Live<M>,
-    files: &mut F,
-    name: &str,
-) -> Result<Option<Ending>, NoMemory>
-    ensures did { let s = state_of (M.machine live.old.stage.machine) live.old in
-        (before : Told) → Does (save_course name.now s) s
-        (told_with_calls before before.handed (F.asked files.old) (F.contents files.old)
-        (F.faults files.old)) result
-        (state_of (M.machine live.new.stage.machine) live.new)
-        (told_with_calls before before.handed (F.asked files.new) (F.contents files.new)
-        (F.faults files.new)) }
-    ensures same { state_of (M.machine live.new.stage.machine) live.new
-        ≡ state_of (M.machine live.old.stage.machine) live.old }
-    ensures failed { live.new.stage.sender.failed ≡ live.old.stage.sender.failed }
-    ensures unsaved { RecordsFaults live.old.unsaved live.new.unsaved
-        (F.faults files.old) (F.faults files.new) }
+pub(crate) fn save_grid<
+    M: Machine + Drop,
+    F: Files + Drop,
+    O: Outs + Drop,
+    I: Inbox + Drop,
+    L: Ledger,
+>(live: &mut Live<'_, M>, desk: &mut Desk<F, O, I, L>, name: &str) -> Result<(), NoMemory>
+    ensures { let s = state_of (M.machine live.old.stage.machine) (M.kept live.old.stage.machine)
+        live.old in
+        Does live_stance (save_course name.now s) s
+        (owing (M.residue live.old.stage.machine) desk.old) (goes_of result)
+        (state_of (M.machine live.new.stage.machine) (M.kept live.new.stage.machine) live.new)
+        (owing (M.residue live.new.stage.machine) desk.new) }
 {
-    let Live { stage, unsaved, .. } = live;
-    stage.machine.is_shown();
-    stage.sender.line.clear();
-    Grid::print(&stage.machine, &mut stage.sender.line)?;
-    save(files, unsaved, name, stage.sender.line.as_slice())?;
-    Ok(None)
+    live.stage.machine.is_shown();
+    live.text.clear();
+    Grid::print(&live.stage.machine, &mut live.text)?;
+    desk.save(name, live.text.as_slice())
 }
 
-/// Saves bytes under a name. A save that fails is recorded.
-fn save<F: Files>(
-    files: &mut F,
-    unsaved: &mut bool,
-    name: &str,
-    bytes: &[u8],
-) -> Result<(), NoMemory>
-    ensures made { OnOk result ((before : Told) → Made (Store (Save name.now bytes.now) ∷ [])
-        (told_with_calls before before.handed (F.asked files.old) (F.contents files.old)
-        (F.faults files.old))
-        (told_with_calls before before.handed (F.asked files.new) (F.contents files.new)
-        (F.faults files.new))) }
-    ensures err { IfErr result (λ refused. (refused ≡ NoMemory.Elsewhere)
-        × (F.asked files.new ≡ F.asked files.old) × (F.contents files.new ≡ F.contents files.old)
-        × (F.faults files.new ≡ F.faults files.old)) }
-    ensures recorded { RecordsFaults unsaved.old unsaved.new
-        (F.faults files.old) (F.faults files.new) }
+/// Saves the grid at the end, if it has a name.
+pub(crate) fn save_last_grid<
+    M: Machine + Drop,
+    F: Files + Drop,
+    O: Outs + Drop,
+    I: Inbox + Drop,
+    L: Ledger,
+>(live: &mut Live<'_, M>, desk: &mut Desk<F, O, I, L>) -> Result<(), NoMemory>
+    ensures { let s = state_of (M.machine live.old.stage.machine) (M.kept live.old.stage.machine)
+        live.old in
+        Does live_stance (last_grid_course s) s
+        (owing (M.residue live.old.stage.machine) desk.old) (goes_of result)
+        (state_of (M.machine live.new.stage.machine) (M.kept live.new.stage.machine) live.new)
+        (owing (M.residue live.new.stage.machine) desk.new) }
 {
-    match files.save(name, bytes) {
-        Ok(()) => Ok(()),
-        Err(StoreFault::Failed) => {
-            *unsaved = true;
-            Ok(())
-        }
-        Err(StoreFault::Memory) => Err(NoMemory::Elsewhere),
-    }
-}
-
-/// Saves the grid at the end, where it has a name.
-pub(crate) fn save_last_grid<M: Machine + Drop, F: Files>(
-    live: &mut Live<M>,
-    setting: &Setting<'_>,
-    files: &mut F,
-) -> Result<Option<Ending>, NoMemory>
-    ensures did { let s = state_of (M.machine live.old.stage.machine) live.old in
-        (before : Told) → Does (where_named (setting_in setting.now).save save_course s) s
-        (told_with_calls before before.handed (F.asked files.old) (F.contents files.old)
-        (F.faults files.old)) result
-        (state_of (M.machine live.new.stage.machine) live.new)
-        (told_with_calls before before.handed (F.asked files.new) (F.contents files.new)
-        (F.faults files.new)) }
-    ensures failed { live.new.stage.sender.failed ≡ live.old.stage.sender.failed }
-    ensures unsaved { RecordsFaults live.old.unsaved live.new.unsaved
-        (F.faults files.old) (F.faults files.new) }
-{
-    match setting.save {
-        Some(name) => save_grid(live, files, name),
-        None => Ok(None),
-    }
-}
-
-/// Saves the script of the commands under a name. A save that fails is recorded.
-fn save_script<M: Machine + Drop, F: Files>(
-    live: &mut Live<M>,
-    files: &mut F,
-    name: &str,
-) -> Result<Option<Ending>, NoMemory>
-    ensures did { let s = state_of (M.machine live.old.stage.machine) live.old in
-        (before : Told) → Does (script_course name.now s) s
-        (told_with_calls before before.handed (F.asked files.old) (F.contents files.old)
-        (F.faults files.old)) result
-        (state_of (M.machine live.new.stage.machine) live.new)
-        (told_with_calls before before.handed (F.asked files.new) (F.contents files.new)
-        (F.faults files.new)) }
-    ensures same { state_of (M.machine live.new.stage.machine) live.new
-        ≡ state_of (M.machine live.old.stage.machine) live.old }
-    ensures failed { live.new.stage.sender.failed ≡ live.old.stage.sender.failed }
-    ensures unsaved { RecordsFaults live.old.unsaved live.new.unsaved
-        (F.faults files.old) (F.faults files.new) }
-    ensures reads_back { OnOk result (ReadsBack (Some name.now)
-        (state_of (M.machine live.new.stage.machine) live.new).given) }
-{
-    let Live {
-        stage,
-        given,
-        unsaved,
-        ..
-    } = live;
-    stage.sender.line.clear();
-    print_script(given, &mut stage.sender.line)?;
-    save(files, unsaved, name, stage.sender.line.as_slice())?;
-    Ok(None)
-}
-
-/// Saves the script of the commands at the end, where it has a name.
-pub(crate) fn save_last_script<M: Machine + Drop, F: Files>(
-    live: &mut Live<M>,
-    setting: &Setting<'_>,
-    files: &mut F,
-) -> Result<Option<Ending>, NoMemory>
-    ensures did { let s = state_of (M.machine live.old.stage.machine) live.old in
-        (before : Told) → Does (where_named (setting_in setting.now).script script_course s) s
-        (told_with_calls before before.handed (F.asked files.old) (F.contents files.old)
-        (F.faults files.old)) result
-        (state_of (M.machine live.new.stage.machine) live.new)
-        (told_with_calls before before.handed (F.asked files.new) (F.contents files.new)
-        (F.faults files.new)) }
-    ensures failed { live.new.stage.sender.failed ≡ live.old.stage.sender.failed }
-    ensures unsaved { RecordsFaults live.old.unsaved live.new.unsaved
-        (F.faults files.old) (F.faults files.new) }
-    ensures reads_back { OnOk result (ReadsBack (setting_in setting.now).script
-        (state_of (M.machine live.new.stage.machine) live.new).given) }
-{
-    match setting.script {
-        Some(name) => save_script(live, files, name),
-        None => Ok(None),
-    }
-}
-
-/// Appends the script of the commands, where they are kept.
-pub(crate) fn print_script(given: &Option<Vec<Command>>, into: &mut Vec<u8>) -> Result<(), Memory>
-    ensures ok { let given = option_map (λ commands. commands.items) given.now in
-        OnOk result (into.new.items ≡ into.old.items ++ script_text given) }
-    ensures reads_back { let given = option_map (λ commands. commands.items) given.now in
-        OnOk result ((name : List ℕ) → ReadsBack (Some name) given) }
-{
-    match given {
-        Some(commands) => print_commands(commands.as_slice(), into),
+    match live.setting.save {
+        Some(name) => save_grid(live, desk, name),
         None => Ok(()),
     }
 }
 
-/// Appends the lines of commands. They are read as these commands, each on its own line.
-fn print_commands(commands: &[Command], into: &mut Vec<u8>) -> Result<(), Memory>
-    ensures ok { OnOk result (into.new.items ≡ into.old.items ++ flat_map printed commands.now) }
-    ensures reads_back { OnOk result
-        (script_of (flat_map printed commands.now) ≡ Ok (one_a_line 1 commands.now)) }
+/// Saves the script of the commands under a name. A save that fails is recorded.
+fn save_script<M: Machine + Drop, F: Files + Drop, O: Outs + Drop, I: Inbox + Drop, L: Ledger>(
+    live: &mut Live<'_, M>,
+    desk: &mut Desk<F, O, I, L>,
+    name: &str,
+) -> Result<(), NoMemory>
+    ensures { let s = state_of (M.machine live.old.stage.machine) (M.kept live.old.stage.machine)
+        live.old in
+        Does live_stance (script_course name.now s) s
+        (owing (M.residue live.old.stage.machine) desk.old) (goes_of result)
+        (state_of (M.machine live.new.stage.machine) (M.kept live.new.stage.machine) live.new)
+        (owing (M.residue live.new.stage.machine) desk.new) }
 {
-    for command in commands {
-        print(command, into)?;
+    live.text.clear();
+    print_script(live.setting.seed, &live.given, &mut live.text)?;
+    desk.save(name, live.text.as_slice())
+}
+
+/// Saves the script of the commands at the end, if it has a name.
+pub(crate) fn save_last_script<
+    M: Machine + Drop,
+    F: Files + Drop,
+    O: Outs + Drop,
+    I: Inbox + Drop,
+    L: Ledger,
+>(live: &mut Live<'_, M>, desk: &mut Desk<F, O, I, L>) -> Result<(), NoMemory>
+    ensures { let s = state_of (M.machine live.old.stage.machine) (M.kept live.old.stage.machine)
+        live.old in
+        Does live_stance (last_script_course s) s
+        (owing (M.residue live.old.stage.machine) desk.old) (goes_of result)
+        (state_of (M.machine live.new.stage.machine) (M.kept live.new.stage.machine) live.new)
+        (owing (M.residue live.new.stage.machine) desk.new) }
+{
+    match live.setting.script {
+        Some(name) => save_script(live, desk, name),
+        None => Ok(()),
     }
-    Ok(())
+}
+
+/// Makes `text`, which is empty, the script of the commands, if they are kept.
+pub(crate) fn print_script(
+    seed: u32,
+    given: &Option<Vec<Command>>,
+    text: &mut Vec<u8>,
+) -> Result<(), Memory>
+    requires { text.old.items ≡ [] }
+    ensures { OnOk result (text.new.items
+        ≡ script_text seed (option_map (λ commands. commands.items) given.now)) }
+{
+    match given {
+        Some(commands) => print2(seed, commands.as_slice(), text),
+        None => Ok(()),
+    }
 }

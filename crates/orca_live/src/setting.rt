@@ -1,11 +1,13 @@
 ghost use Rattle.std.specs.Prelude.{◌≡◌, ◌≤◌};
 ghost use Rattle.orca_base.specs.declared.limits.TheConstants.{MAX_BPM};
 
-/// How fast a performance plays, and the files that it is saved to.
+/// How a performance plays, and the files that it is saved to.
 #[derive(Clone, Copy, Debug, PartialEq, Eq)]
 pub struct Setting<'a> {
     /// The tempo in beats a minute: 1 to [`MAX_BPM`](orca_base::limits::MAX_BPM).
     pub bpm: u16,
+    /// The seed of the random operator, which the saved script carries.
+    pub seed: u32,
     /// The name of the grid's file. The key Save saves the grid there, unless `save` is given.
     pub grid: &'a str,
     /// The file that the grid is saved to, by the key Save and at the end.

@@ -1,53 +1,58 @@
-ghost use Rattle.orca_live.specs.Performing.{play_manner};
-ghost use Rattle.orca_live.specs.Quiet.{play_is_quiet};
+ghost use Rattle.orca_live.specs.Quiet.{silent_is_quiet, silent_manner};
 
 use orca_base::Message;
+use orca_concert::{Report, Turn};
+use orca_course::{Desk, NoMemory, Stop, Tally};
 use orca_edit::Machine;
-use orca_rig::Outs;
-use orca_send::{NoMemory, Sender};
-use orca_stage::{Report, Tally, Turn};
+use orca_rig::{Files, Inbox, Outs};
+use std::sync::ledger::Ledger;
 
-/// A report that prints nothing: what a performance shows is painted.
+/// A report that prints, keeps and saves nothing: what a performance shows is painted.
+#[derive(Drop)]
 pub struct Silent;
 
 impl Report for Silent {
-    ghost manner = { λ _. play_manner };
+    ghost Kept = { Unit {0} };
+
+    ghost kept = { λ _. tt };
+
+    ghost manner = { silent_manner };
 
     fn hands(&self) -> bool {
         true
     }
 
-    fn ends_when_full(&self) -> bool {
-        false
+    fn done<F: Files + Drop, O: Outs + Drop, I: Inbox + Drop, L: Ledger>(
+        &mut self,
+        _: &mut Desk<F, O, I, L>,
+        _: &Turn<'_>,
+    ) -> Result<Option<Stop>, NoMemory> {
+        Ok(None)
     }
 
-    fn done<O: Outs>(
-        &self,
-        _sender: &mut Sender,
-        _outs: &mut O,
-        _turn: &Turn<'_>,
-    ) -> Result<(), NoMemory> {
-        Ok(())
+    fn finish<M: Machine, F: Files + Drop, O: Outs + Drop, I: Inbox + Drop, L: Ledger>(
+        &mut self,
+        _: &mut Desk<F, O, I, L>,
+        _: &M,
+        _: Tally,
+    ) -> Result<Option<Stop>, NoMemory> {
+        Ok(None)
     }
 
-    fn last<M: Machine, O: Outs>(
-        &self,
-        _sender: &mut Sender,
-        _outs: &mut O,
-        _machine: &M,
-        _tally: Tally,
-    ) -> Result<(), NoMemory> {
-        Ok(())
+    fn close<F: Files + Drop, O: Outs + Drop, I: Inbox + Drop, L: Ledger>(
+        &mut self,
+        _: &mut Desk<F, O, I, L>,
+        _: &[Message],
+    ) -> Result<Option<Stop>, NoMemory> {
+        Ok(None)
     }
 
-    fn close<O: Outs>(
-        &self,
-        _sender: &mut Sender,
-        _outs: &mut O,
-        _messages: &[Message],
-    ) -> Result<(), NoMemory> {
-        Ok(())
+    fn save<F: Files + Drop, O: Outs + Drop, I: Inbox + Drop, L: Ledger>(
+        &mut self,
+        _: &mut Desk<F, O, I, L>,
+    ) -> Result<Option<Stop>, NoMemory> {
+        Ok(None)
     }
 
-    ghost quiet = { λ _. play_is_quiet };
+    ghost quiet = { silent_is_quiet };
 }

@@ -1,11 +1,10 @@
-//! The saved script, and a report that prints nothing. Whole performances stand with the program.
+//! The saved script, the name that the key saves under, and the laws. Whole performances stand with
+//! the program.
 
 use crate::saving::print_script;
-use crate::{Setting, Silent, appending_law, cutting_law, script_law};
-use orca_base::{Command, Glyph, Reply};
-use orca_rig::MemOuts;
-use orca_send::Sender;
-use orca_stage::{Report, Turn};
+use crate::{Setting, Silent, appending_law, cutting_law, painting_law, script_law};
+use orca_base::{Command, Glyph};
+use orca_concert::Report;
 use std::test::Fail;
 
 #[test]
@@ -13,41 +12,31 @@ fn the_laws_can_be_called(rt: HostRuntime) {
     appending_law();
     cutting_law();
     script_law();
+    painting_law();
 }
 
 #[test]
-fn each_command_has_a_line_of_the_script(rt: HostRuntime) -> Result<(), Fail> {
+fn commands_that_are_not_kept_have_no_script(rt: HostRuntime) {
+    let mut script = Vec::new(rt.alloc());
+    assert_eq!(rt; print_script(7, &None, &mut script), Ok(()));
+    assert_eq!(rt; script.as_slice(), b"".as_slice());
+}
+
+#[test]
+fn a_script_has_its_seed_and_one_line_for_frames_in_a_row(rt: HostRuntime) -> Result<(), Fail> {
     let alloc = rt.alloc();
     let mut script = Vec::new(alloc);
-    assert_eq!(rt; print_script(&None, &mut script), Ok(()));
-    assert_eq!(rt; script.as_slice(), b"".as_slice());
     let write = Command::Write {
         y: 2,
         x: 11,
         glyph: Glyph::of(b'A').ok_or("a glyph")?,
     };
-    let commands = Some(vec![in alloc; Command::Frame, write, Command::Undo]?);
-    assert_eq!(rt; print_script(&commands, &mut script), Ok(()));
+    let commands = vec![in alloc; Command::Frame, Command::Frame, write, Command::Undo]?;
+    assert_eq!(rt; print_script(7, &Some(commands), &mut script), Ok(()));
     assert_eq!(rt;
         script.as_slice(),
-        b"frame\nwrite 2 11 A\nundo\n".as_slice()
+        b"!orca 2 seed 7\nframes 2\nwrite 2 11 A\nundo\n".as_slice()
     );
-    Ok(())
-}
-
-#[test]
-fn a_performance_prints_nothing(rt: HostRuntime) -> Result<(), Fail> {
-    let alloc = rt.alloc();
-    let mut sender = Sender::start(alloc);
-    let mut outs = MemOuts::new(Vec::new(alloc))?;
-    let turn = Turn {
-        line: 0,
-        answer: Ok(Reply::Edited),
-        messages: &[],
-    };
-    assert_eq!(rt; Silent.done(&mut sender, &mut outs, &turn), Ok(()));
-    assert_eq!(rt; Silent.close(&mut sender, &mut outs, &[]), Ok(()));
-    assert_eq!(rt; outs.handed_at(0), None);
     Ok(())
 }
 
@@ -55,6 +44,7 @@ fn a_performance_prints_nothing(rt: HostRuntime) -> Result<(), Fail> {
 fn the_key_saves_under_the_name_that_was_given(rt: HostRuntime) {
     let setting = Setting {
         bpm: 120,
+        seed: 0,
         grid: "song.orca",
         save: None,
         script: None,
@@ -62,9 +52,15 @@ fn the_key_saves_under_the_name_that_was_given(rt: HostRuntime) {
     assert_eq!(rt; setting.key_name(), "song.orca");
     let other = Setting {
         bpm: 120,
+        seed: 0,
         grid: "song.orca",
         save: Some("take.orca"),
         script: None,
     };
     assert_eq!(rt; other.key_name(), "take.orca");
+}
+
+#[test]
+fn a_performance_hands_its_messages_out(rt: HostRuntime) {
+    assert!(rt; Silent.hands());
 }

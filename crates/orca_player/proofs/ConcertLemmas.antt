@@ -1,202 +1,244 @@
--- A list of commands, as the outline of a run.
-use Rattle.std.proofs.Common.{◌≡◌, ◌≢◌, ℕ, Bool, true, false, List, [], ◌∷◌, ◌++◌, length, refl, sym, ◌∙◌, ap, subst, append-nil, arith}
-use Rattle.std.specs.Prelude.{Option, Result, Ok, Err}
-use Rattle.std.proofs.lemmas.List.{map-append}
-use Rattle.orca_base.specs.declared.note.Note.{Note}
-use Rattle.orca_base.specs.Grids.{Sheet}
+-- A list of commands: where it leads, and that it does not ask the inbox.
+use Rattle.std.proofs.Common.{◌≡◌, ◌≢◌, ℕ, Bool, true, false, List, [], ◌∷◌, ◌++◌, replicate, refl, sym, ◌∙◌, ap, subst}
+use Rattle.std.specs.Prelude.{Option, Some, None, Result, Ok, Err}
+use Rattle.orca_base.specs.declared.command.Command.{Command}
 use Rattle.orca_base.specs.Ports.{Sent}
-use Rattle.orca_cues.specs.declared.source.Cue.{Cue}
-use Rattle.orca_edit.specs.Pieces.{Piece, piece_after}
-use Rattle.orca_edit.proofs.FoldLemmas.{piece_after-closed}
-use Rattle.orca_notes.specs.Device.{Voice, voices}
+use Rattle.orca_concert.specs.Concerts.{Concert, after_cue, close_course, command_at, command_course, concert as concert_at, concert_course, cue_course, cues_course, final_course, halt_of, halted, handed_of, last_course, obeyed_course, order_course, reported, saved_course, silenced_course, stance_of, told_course, with_kept}
+use Rattle.orca_concert.specs.Manners.{IsQuiet, Manner}
+use Rattle.orca_course.specs.Acts.{Act, AreDeaf, gives, polls_in}
+use Rattle.orca_course.specs.Acts.Act.{Give, Stand}
+use Rattle.orca_course.specs.Courses.{Course, afterwards, course, each, ended, joined, keeping, mapped, onward, onward_by, still}
+use Rattle.orca_course.specs.Standings.{Standing, notes_of, standing_after, standing_closed}
+use Rattle.orca_edit.specs.Obeying.{obey}
 use Rattle.orca_notes.specs.Sound.{ends}
-use Rattle.orca_send.specs.Sending.{Says, added, sends_of}
-use Rattle.orca_send.specs.declared.sender.NoMemory.TheVariants.{InSend, Elsewhere}
-use Rattle.orca_stage.specs.Acts.{Act, gives, stand_after}
-use Rattle.orca_stage.specs.Acts.Act.{Give, Stand}
-use Rattle.orca_stage.specs.Following.{Follows, Silences, keys_after_acts}
-use Rattle.orca_stage.specs.Manners.{Manner}
-use Rattle.orca_stage.specs.Plans.{Plan, close_plan, handed_of, joined, last_plan, list_plan, over, run_plan}
-use Rattle.orca_stage.specs.Runs.{Did, SoFar}
-use Rattle.orca_stage.specs.Standings.{Standing, notes_of, standing_closed}
-use Rattle.orca_stage.specs.Told.{Made, Told, told_with_sends}
-use Rattle.orca_stage.specs.declared.flow.Flow.{Flow}
-use Rattle.orca_stage.specs.declared.flow.Flow.TheVariants.{Goes, Drops, Ends}
-use Rattle.orca_stage.proofs.ActLemmas.{AreSends-append, AreSends-gives, given-gives}
-use Rattle.orca_stage.proofs.FollowLemmas.{Follows-front, follows_later}
-use Rattle.orca_stage.proofs.RunLemmas.{all_done, made_twice as handed_twice}
-use Rattle.orca_stage.proofs.ToldLemmas.{made_sends}
-use Rattle.orca_player.specs.Outlines.{concert, standing_at, status_of_flow}
-use Rattle.orca_player.specs.Running.{EndsAs, IsCutShort, IsWhole, Went, sounding_after, status_of}
+use Rattle.orca_course.specs.Doing.{Does}
+use Rattle.orca_course.specs.Following.{Accompanies}
+use Rattle.orca_course.specs.Worlds.{Calls, Made, World, owing}
+use Rattle.orca_course.specs.declared.refused.NoMemory.{NoMemory}
+use Rattle.orca_course.specs.declared.refused.NoMemory.TheVariants.{InSend, Elsewhere}
+use Rattle.orca_course.specs.declared.ending.Stop.{Stop}
+use Rattle.orca_course.specs.declared.ending.Stop.TheVariants.{Left, Full, TooLong}
+use Rattle.orca_course.proofs.ActLemmas.{AreDeaf-append, lost-deaf, polls-deaf}
+use Rattle.orca_course.proofs.CourseLemmas.{each-holds}
+use Rattle.orca_cues.specs.declared.source.Cue.{Cue}
+use Rattle.orca_cues.specs.declared.source.Order.{Order}
+use Rattle.orca_send.specs.Sending.{sends_of}
+use Rattle.orca_player.specs.Doing.{Came, IsBlamed, status_at}
 use Rattle.orca_player.specs.declared.status.Status.TheVariants.{Memory}
-use Rattle.orca_player.proofs.WentLemmas.{went_cut, went_whole}
+use Rattle.orca_player.specs.Outlines.{concert, opening, status_of_end}
+use Rattle.orca_player.proofs.OpeningLemmas.{StandsBy, notes-standing_closed, opened_elsewhere, opened_in_send, opened_whole}
 
--- no note sounds at the start, and none after a close
+-- ---- where it leads
 
-pub notes-standing_at : (sheet : Sheet) (seed limit : ℕ)
-    → notes_of (standing_at sheet seed limit) ≡ []
-unfolding piece_after
-notes-standing_at sheet seed limit = refl
+final-standing : {R : Type 0} (m : Manner R) (end : Option Stop) (s : Concert R)
+    → (final_course m end s).state.standing ≡ s.standing
+unfolding final_course mapped
+final-standing m None s = refl
+final-standing m (Some stop) s = refl
 
-pub notes-standing_closed : (s : Standing) → notes_of (standing_closed s) ≡ []
-notes-standing_closed s =
-    let m = s.machine in
-    ap (λ (p : Piece). p.notes)
-    (piece_after-closed m.opened m.seed m.history (length m.history) m.closed (omega arith))
+saved-standing : {R : Type 0} (m : Manner R) (end : Option Stop) (s : Concert R)
+    → (saved_course m end s).state.standing ≡ s.standing
+unfolding saved_course mapped
+saved-standing m None s = refl
+saved-standing m (Some stop) s = refl
 
-notes-run_plan : (m : Manner) (cues : List Cue) (s : Standing)
-    → notes_of (run_plan m cues s).standing ≡ []
-unfolding run_plan close_plan
-notes-run_plan m cues s =
-    notes-standing_closed (joined (list_plan m cues s) (last_plan m)).standing
+close-standing : {R : Type 0} (m : Manner R) (s : Concert R)
+    → (close_course m s).state.standing ≡ standing_closed s.standing
+unfolding close_course onward mapped
+close-standing m s = refl
 
--- the notes that sound after acts are those of the standing after them
-pub sounding-stand : (s : Standing) (acts : List Act)
-    → notes_of (stand_after s acts) ≡ sounding_after (notes_of s) acts
-sounding-stand s [] = refl
-sounding-stand s (Stand t ∷ acts) = sounding-stand t acts
-sounding-stand s (_ ∷ acts) = sounding-stand s acts
+last-standing : {R : Type 0} (m : Manner R) (end : Option Stop) (s : Concert R)
+    → (last_course m end s).state.standing ≡ standing_closed s.standing
+unfolding last_course afterwards keeping
+last-standing m end s =
+    let told = final_course m end s in
+    let over = keeping told.ending (close_course m told.state) in
+    saved-standing m over.ending over.state
+    ∙ (close-standing m told.state ∙ ap standing_closed (final-standing m end s))
 
--- statuses
+-- a run of cues ends closed
+pub concert-standing : {R : Type 0} (m : Manner R) (cues : List Cue) (s : Concert R)
+    → (concert_course m cues s).state.standing
+    ≡ standing_closed (cues_course m cues s).state.standing
+unfolding concert_course afterwards
+concert-standing m cues s =
+    let c = cues_course m cues s in
+    last-standing m c.ending c.state
 
-no_memory : (flow : Flow) (failed : Bool) → status_of flow failed ≢ Memory
-no_memory Goes true is = cc
-no_memory Goes false is = cc
-no_memory Drops true is = cc
-no_memory Drops false is = cc
-no_memory Ends failed is = cc
+-- and so with no note
+pub concert-silent : {R : Type 0} (m : Manner R) (cues : List Cue) (s t : Concert R)
+    → (concert_course m cues s).state ≡ t → notes_of t.standing ≡ []
+concert-silent m cues s t is =
+    ap (λ (t : Concert _). notes_of t.standing) (sym is)
+    ∙ (ap notes_of (concert-standing m cues s)
+    ∙ notes-standing_closed (cues_course m cues s).state.standing)
 
-ends_as : (flow : Flow) (failed : Bool) → EndsAs (status_of_flow flow) (status_of flow failed)
-ends_as Goes true = refl
-ends_as Goes false = refl
-ends_as Drops true = refl
-ends_as Drops false = refl
-ends_as Ends failed = refl
+-- ---- it does not ask the inbox
 
--- acts that were all done
-all_of : (whole done : List Act) → whole ≡ done ++ [] → done ≡ whole
-all_of whole done splits = sym (splits ∙ append-nil done)
+deaf-gives : (sends : List Sent) → AreDeaf (gives sends)
+deaf-gives [] = tt
+deaf-gives (sent ∷ sends) = deaf-gives sends
 
--- the whole of it was done
+deaf-handed : (sends : List Sent) (s : Standing) → AreDeaf (gives sends ++ Stand s ∷ [])
+deaf-handed sends s = AreDeaf-append (gives sends) (Stand s ∷ []) (deaf-gives sends) tt
 
-concert_whole : (m : Manner) (cues : List Cue) (s t : Standing) (flow : Flow) (failed : Bool)
-    (told : Told) (y : Option (List Sent)) → m.hands ≡ true → notes_of s ≡ []
-    → SoFar m.hands (run_plan m cues s) (over flow t) s t told.handed y
-    → IsWhole (concert m cues s) [] told (status_of flow failed) (told_with_sends told y)
+deaf_by : {S E : Type 0} (end : Option E) (c : Course S E) (next : S → Course S E)
+    → AreDeaf c.acts → AreDeaf (next c.state).acts → AreDeaf (onward_by end c next).acts
+deaf_by None c next first second = AreDeaf-append c.acts (next c.state).acts first second
+deaf_by (Some e) c next first second = first
+
+pub deaf-onward : {S E : Type 0} (c : Course S E) (next : S → Course S E) → AreDeaf c.acts
+    → AreDeaf (next c.state).acts → AreDeaf (onward c next).acts
+unfolding onward
+deaf-onward c next first second = deaf_by c.ending c next first second
+
+deaf-command : {R : Type 0} (m : Manner R) (line : ℕ) (command : Command) (s : Concert R)
+    → IsQuiet m → AreDeaf (command_course m line command s).acts
+unfolding command_course mapped
+deaf-command m line command s quiet =
+    let o = obey s.standing.machine command in
+    let t = standing_after s.standing o in
+    deaf-onward (obeyed_course m command o s)
+    (λ t. reported (m.done line o.answer o.messages t.kept) t)
+    (deaf-handed (handed_of m.hands o.messages) t)
+    (quiet.done line o.answer o.messages s.kept).deaf
+
+deaf-order : {R : Type 0} (m : Manner R) (line : ℕ) (order : Order) (s : Concert R) → IsQuiet m
+    → AreDeaf (order_course m line order s).acts
+unfolding order_course mapped
+deaf-order m line order s quiet =
+    deaf-command m line (command_at order s.standing.machine) s quiet
+
+deaf-cue : {R : Type 0} (m : Manner R) (cue : Cue) (s : Concert R) → IsQuiet m
+    → AreDeaf (cue_course m cue s).acts
+unfolding cue_course mapped
+deaf-cue m cue s quiet =
+    each-holds (λ s acts t. AreDeaf acts) (order_course m cue.line) (λ s. tt)
+    (λ r s t xs ys first second. AreDeaf-append xs ys first second)
+    (λ order s. deaf-order m cue.line order s quiet) (replicate cue.times cue.order) s
+
+deaf-cues : {R : Type 0} (m : Manner R) (cues : List Cue) (s : Concert R) → IsQuiet m
+    → AreDeaf (cues_course m cues s).acts
+unfolding cues_course
+deaf-cues m cues s quiet =
+    each-holds (λ s acts t. AreDeaf acts) (cue_course m) (λ s. tt)
+    (λ r s t xs ys first second. AreDeaf-append xs ys first second)
+    (λ cue s. deaf-cue m cue s quiet) cues s
+
+deaf-final : {R : Type 0} (m : Manner R) (end : Option Stop) (s : Concert R) → IsQuiet m
+    → AreDeaf (final_course m end s).acts
+unfolding final_course mapped
+deaf-final m None s quiet = (quiet.final s.standing s.kept).deaf
+deaf-final m (Some stop) s quiet = tt
+
+deaf-saved : {R : Type 0} (m : Manner R) (end : Option Stop) (s : Concert R) → IsQuiet m
+    → AreDeaf (saved_course m end s).acts
+unfolding saved_course mapped
+deaf-saved m None s quiet = (quiet.saves s.kept).deaf
+deaf-saved m (Some stop) s quiet = tt
+
+deaf-close : {R : Type 0} (m : Manner R) (s : Concert R) → IsQuiet m
+    → AreDeaf (close_course m s).acts
+unfolding close_course mapped
+deaf-close m s quiet =
+    deaf-onward (silenced_course m s)
+    (λ t. reported (m.close (ends (notes_of s.standing)) t.kept) t)
+    (deaf-handed (handed_of m.hands (ends (notes_of s.standing))) (standing_closed s.standing))
+    (quiet.close (ends (notes_of s.standing)) s.kept).deaf
+
+deaf-last : {R : Type 0} (m : Manner R) (end : Option Stop) (s : Concert R) → IsQuiet m
+    → AreDeaf (last_course m end s).acts
+unfolding last_course afterwards keeping
+deaf-last m end s quiet =
+    let told = final_course m end s in
+    let over = keeping told.ending (close_course m told.state) in
+    let saved = saved_course m over.ending over.state in
+    AreDeaf-append told.acts (over.acts ++ saved.acts) (deaf-final m end s quiet)
+    (AreDeaf-append over.acts saved.acts (deaf-close m told.state quiet)
+    (deaf-saved m over.ending over.state quiet))
+
+pub deaf-concert : {R : Type 0} (m : Manner R) (cues : List Cue) (s : Concert R) → IsQuiet m
+    → AreDeaf (concert_course m cues s).acts
+unfolding concert_course afterwards
+deaf-concert m cues s quiet =
+    let c = cues_course m cues s in
+    AreDeaf-append c.acts (last_course m c.ending c.state).acts (deaf-cues m cues s quiet)
+    (deaf-last m c.ending c.state quiet)
+
+-- so no poll is heard
+pub polls-concert : {R : Type 0} (m : Manner R) (r : R) (cues : List Cue) (s : Standing)
+    → IsQuiet m → polls_in (concert m r cues s).course.acts ≡ []
+unfolding concert opening mapped
+polls-concert m r cues s quiet =
+    polls-deaf (concert_course m cues (concert_at s r)).acts
+    (deaf-concert m cues (concert_at s r) quiet)
+
+-- and the inbox does not fail
+pub lost-concert : {R : Type 0} (m : Manner R) (cues : List Cue) (s : Concert R) {bill : ℕ}
+    {x y : World} → IsQuiet m → Made (concert_course m cues s).acts bill x y → y.lost ≡ x.lost
+lost-concert m cues s {x = x} quiet made =
+    made.mail.lost
+    ∙ lost-deaf (concert_course m cues s).acts x.lost (deaf-concert m cues s quiet)
+
+pub blamed-concert : (end : Option Stop) (x y : World) → y.lost ≡ x.lost
+    → IsBlamed (status_of_end end) x y
+blamed-concert None x y lost = lost
+blamed-concert (Some Left) x y lost = lost
+blamed-concert (Some Full) x y lost = lost
+blamed-concert (Some TooLong) x y lost = lost
+
+-- a run stands where its session does
+pub stands-concert : {R : Type 0} (m : Manner R)
+    → StandsBy (stance_of m) (λ s. s.standing) m.hands
+stands-concert m = record { standing = λ t. refl; handing = refl }
+
+-- ---- what was done of it
+
+concert-opens : {R : Type 0} (m : Manner R) (r : R) (cues : List Cue) (s : Standing)
+    → (concert m r cues s).course
+    ≡ opening (λ t. t.standing) (λ end. Some (status_of_end end)) s
+    (concert_course m cues (concert_at s r))
 unfolding concert
-concert_whole m cues s t flow failed told y hands silent done =
-    let p = run_plan m cues s in
-    let all : done.done ≡ p.acts = all_of p.acts done.done done.splits in
-    let with = done.accompanies hands in
-    let none : voices (notes_of s) ≡ [] = ap voices silent in
-    record {
-      ends = subst (λ (f : Flow). EndsAs (status_of_flow f) (status_of flow failed)) (sym done.flow)
-          (ends_as flow failed);
-      made = subst (λ (acts : List Act). Made acts told (told_with_sends told y))
-          (all ∙ sym (append-nil p.acts)) (made_sends done.done told y done.sends done.made);
-      follows = subst (λ (on : List Voice). Follows on p.acts) none
-          (subst (Follows (voices (notes_of s))) all with.follows);
-      silent = subst (λ (on : List Voice). keys_after_acts on p.acts ≡ []) none
-          (ap (keys_after_acts (voices (notes_of s))) (sym all)
-          ∙ (with.keys
-          ∙ (ap (λ (u : Standing). voices (notes_of u)) (sym done.standing)
-          ∙ ap voices (notes-run_plan m cues s))));
-      shows = tt;
-      reads = tt;
-    }
+concert-opens m r cues s = refl
 
-pub concert_done : (m : Manner) (cues : List Cue) (s t : Standing) (flow : Flow) (failed : Bool)
-    (told : Told) (y : Option (List Sent)) → m.hands ≡ true → notes_of s ≡ []
-    → Did m.hands (run_plan m cues s) s told.handed (Ok flow) t y
-    → Went (concert m cues s) [] told (status_of flow failed) (told_with_sends told y)
-concert_done m cues s t flow failed told y hands silent did =
-    went_whole (status_of flow failed) (no_memory flow failed)
-    (concert_whole m cues s t flow failed told y hands silent
-    (all_done m.hands (run_plan m cues s) flow s t told.handed y did))
-
--- memory was refused by a send
-pub concert_cut_in_send : (m : Manner) (cues : List Cue) (s t : Standing) (told : Told)
-    (y : Option (List Sent)) → m.hands ≡ true → notes_of s ≡ []
-    → Did m.hands (run_plan m cues s) s told.handed (Err InSend) t y
-    → Went (concert m cues s) [] told Memory (told_with_sends told y)
-unfolding concert Did
-concert_cut_in_send m cues s t told y hands silent begun =
-    let none : voices (notes_of s) ≡ [] = ap voices silent in
-    went_cut (record {
-      begun = begun.done;
-      left = begun.left;
-      splits = begun.splits;
-      closing = [];
-      unsaid = sends_of (ends (sounding_after [] begun.done));
-      closes = refl;
-      made = subst (λ (acts : List Act). Made acts told (told_with_sends told y))
-          (sym (append-nil begun.done)) (made_sends begun.done told y begun.sends begun.made);
-      follows = subst (Follows []) (sym (append-nil begun.done))
-          (subst (λ (on : List Voice). Follows on begun.done) none (begun.follows hands));
-    })
-
--- memory was refused elsewhere, and then a beginning of the ends of the notes was sent
-
-cut_closing : (m : Manner) (cues : List Cue) (s t : Standing) (left : Plan) (told : Told)
-    (x y : Option (List Sent)) (closing unsaid : List Sent) → m.hands ≡ true → notes_of s ≡ []
-    → SoFar m.hands (run_plan m cues s) left s t told.handed x → Silences t
-    → sends_of (ends (notes_of t)) ≡ closing ++ unsaid → y ≡ added x closing
-    → IsCutShort (concert m cues s) [] told (told_with_sends told y)
+concert-stands : {R : Type 0} (m : Manner R) (r : R) (cues : List Cue) (s : Standing)
+    → StandsBy (stance_of m) (λ s. s.standing) (concert m r cues s).hands
 unfolding concert
-cut_closing m cues s t left told x y closing unsaid hands silent so_far silences splits made =
-    let none : voices (notes_of s) ≡ [] = ap voices silent in
-    let acts = so_far.done ++ gives closing in
-    let all : gives (sends_of (ends (notes_of t))) ≡ gives closing ++ gives unsaid =
-    ap gives splits ∙ map-append Give closing unsaid in
-    let closes : Follows (voices (notes_of t)) (gives closing) =
-    Follows-front (voices (notes_of t)) (gives closing) (gives unsaid)
-    (subst (Follows (voices (notes_of t))) all silences.follows) in
-    let sounding : sounding_after [] so_far.done ≡ notes_of t =
-    ap (λ (notes : List Note). sounding_after notes so_far.done) (sym silent)
-    ∙ (sym (sounding-stand s so_far.done) ∙ ap notes_of (sym so_far.stands)) in
-    record {
-      begun = so_far.done;
-      left = left.acts;
-      splits = so_far.splits;
-      closing = closing;
-      unsaid = unsaid;
-      closes = ap (λ (notes : List Note). sends_of (ends notes)) sounding ∙ splits;
-      made = subst (λ (sends : List Sent).
-          Made (so_far.done ++ gives sends) told (told_with_sends told y))
-          (sym (append-nil closing))
-          (made_sends acts told y
-          (AreSends-append so_far.done (gives closing) so_far.sends (AreSends-gives closing))
-          (handed_twice so_far.done (gives closing) told.handed x y so_far.made
-          (made ∙ ap (added x) (sym (given-gives closing)))));
-      follows = subst (λ (on : List Voice). Follows on acts) none
-          (follows_later (gives closing) (so_far.accompanies hands) closes);
-    }
+concert-stands m r cues s = stands-concert m
 
--- what the early close sent of the ends
-pub record ClosedEarly (t : Standing) (x y : Option (List Sent)) : Type 0 where
-  pub closing : List Sent
-  pub unsaid : List Sent
-  pub splits : sends_of (ends (notes_of t)) ≡ closing ++ unsaid
-  pub made : y ≡ added x closing
+pub concert_done : {R : Type 0} (m : Manner R) (r : R) (cues : List Cue) (s : Standing)
+    (t : Concert R) (most n : ℕ) {x y : World} (end : Option Stop) → IsQuiet m → most ≡ 0
+    → notes_of s ≡ []
+    → Does (stance_of m) (concert_course m cues (concert_at s r)) (concert_at s r) (owing most x)
+    (Ok end) t (owing n y)
+    → Came (concert m r cues s) x (status_at (status_of_end end) y) y
+concert_done m r cues s t most n {x = x} {y = y} end quiet none begins did =
+    opened_whole (λ end. Some (status_of_end end)) (concert m r cues s) n (status_of_end end)
+    (concert-stands m r cues s) none begins
+    (concert-silent m cues (concert_at s r) t did.did.state)
+    (concert-opens m r cues s) refl
+    (blamed-concert end x y (lost-concert m cues (concert_at s r) quiet did.did.made)) did
 
-pub closed_early : {T E : Type 0} (hands : Bool) (t : Standing) (r : Result T E)
-    (x y : Option (List Sent)) → hands ≡ true
-    → Says (handed_of hands (ends (notes_of t))) r x y → ClosedEarly t x y
-closed_early true t (Ok done) x y on says = record {
-  closing = sends_of (ends (notes_of t));
-  unsaid = [];
-  splits = sym (append-nil (sends_of (ends (notes_of t))));
-  made = says;
-}
-closed_early true t (Err refused) x y on says =
-    record { closing = says.1.done; unsaid = says.0; splits = says.1.splits; made = says.1.made }
-closed_early false t r x y on says = absurd cc
+pub concert_in_send : {R : Type 0} (m : Manner R) (r : R) (cues : List Cue) (s : Standing)
+    (t : Concert R) (most n : ℕ) {x y : World} → most ≡ 0 → notes_of s ≡ []
+    → Does (stance_of m) (concert_course m cues (concert_at s r)) (concert_at s r) (owing most x)
+    (Err InSend) t (owing n y)
+    → Came (concert m r cues s) x Memory y
+concert_in_send m r cues s t most n none begins cut =
+    opened_in_send (λ end. Some (status_of_end end)) (concert m r cues s) n
+    (concert-stands m r cues s) none begins (concert-opens m r cues s) cut
 
-pub concert_cut_elsewhere : (m : Manner) (cues : List Cue) (s t : Standing) (told : Told)
-    (x y : Option (List Sent)) → m.hands ≡ true → notes_of s ≡ []
-    → Did m.hands (run_plan m cues s) s told.handed (Err Elsewhere) t x → Silences t
-    → ClosedEarly t x y → Went (concert m cues s) [] told Memory (told_with_sends told y)
-unfolding Did
-concert_cut_elsewhere m cues s t told x y hands silent cut silences closed =
-    went_cut (cut_closing m cues s t cut.0 told x y closed.closing closed.unsaid hands silent cut.1
-    silences closed.splits closed.made)
+pub concert_elsewhere : {R T : Type 0} (m : Manner R) (r : R) (cues : List Cue) (s : Standing)
+    (t : Concert R) (most n : ℕ) {x y z : World} (result : Result T NoMemory) → most ≡ 0
+    → notes_of s ≡ []
+    → Does (stance_of m) (concert_course m cues (concert_at s r)) (concert_at s r) (owing most x)
+    (Err Elsewhere) t (owing n y)
+    → result ≢ Err Elsewhere
+    → Calls (gives (handed_of m.hands (ends (notes_of t.standing)))) result y z
+    → Accompanies (Some t.standing) (gives (sends_of (ends (notes_of t.standing))))
+    (Some (standing_closed t.standing))
+    → Came (concert m r cues s) x Memory z
+unfolding concert
+concert_elsewhere m r cues s t most n result none begins cut other calls with =
+    opened_elsewhere (λ end. Some (status_of_end end)) (concert m r cues s) n result
+    (concert-stands m r cues s) none begins (concert-opens m r cues s) cut other calls with

@@ -1,38 +1,45 @@
 -- The laws of performances, on the outlines of runs.
-use Rattle.std.proofs.Common.{◌≡◌, ◌≢◌, ℕ, List, [], ◌∷◌, ◌++◌, refl, sym, ◌∙◌, ap, subst}
+use Rattle.std.proofs.Common.{◌≡◌, ◌≢◌, ◌≤◌, ℕ, List, [], ◌∷◌, ◌++◌, length, refl, sym, ◌∙◌, ap, subst}
 use Rattle.std.specs.Prelude.{Option, Some, None, is_some, unwrap_or, Result, Ok, Err}
 use Rattle.std.specs.Option.{option_map}
-use Rattle.std.specs.List.{flat_map}
 use Rattle.orca_base.specs.declared.command.Command.{Command}
+use Rattle.orca_base.specs.declared.command.Reply.{Reply}
+use Rattle.orca_base.specs.declared.command.Rule.{Rule}
+use Rattle.orca_base.specs.declared.message.Message.{Message}
 use Rattle.orca_base.specs.Grids.{Sheet}
-use Rattle.orca_cues.specs.Scripts.{one_a_line}
+use Rattle.orca_base.specs.declared.limits.TheConstants.{MAX_POLLS}
+use Rattle.orca_concert.specs.Concerts.{concert as concert_at, concert_course, cues_course}
+use Rattle.orca_course.specs.Acts.{Act, commands_in}
+use Rattle.orca_course.specs.Acts.Act.{Attach, Listen, Load}
+use Rattle.orca_course.specs.Courses.{Course, course, joined, mapped}
+use Rattle.orca_course.specs.Performers.{performance}
+use Rattle.orca_course.specs.Standings.{Standing}
+use Rattle.orca_course.specs.declared.ending.Ending.{Ending}
+use Rattle.orca_course.proofs.ActLemmas.{commands_in-append}
+use Rattle.orca_cues.specs.Scripts.{any_script_of, cues_asking, seed_in}
+use Rattle.orca_cues.proofs.Printed.{script2_read}
 use Rattle.orca_cues.specs.declared.fault.ScriptFault.{ScriptFault}
 use Rattle.orca_cues.specs.declared.source.Cue.{Cue}
-use Rattle.orca_edit.specs.Obeying.{machine_closed}
+use Rattle.orca_edit.specs.Obeying.{MachineState, machine_closed}
 use Rattle.orca_grid.specs.GridText.{grid_text}
 use Rattle.orca_grid.specs.declared.refusal.GridRefusal.{GridRefusal}
-use Rattle.orca_live.specs.Performing.{live_course}
-use Rattle.orca_live.specs.Starting.{live_at_start}
-use Rattle.orca_live.specs.declared.ending.Ending.{Ending}
-use Rattle.orca_live.proofs.ScriptLaw.{commands_in-append}
-use Rattle.orca_live.proofs.WholeLaws.{live_replays, lives_alike}
-use Rattle.orca_op.specs.State.{blank_marks}
+use Rattle.orca_live.specs.Items.{items_of}
+use Rattle.orca_live.specs.Laws.{CutsAlike as LiveCuts, GoesOn, ReplaysScript as LiveReplays, replayed}
+use Rattle.orca_live.specs.Performing.{live_part}
+use Rattle.orca_live.specs.States.{LiveState}
 use Rattle.orca_reports.specs.Manners.{replay_manner}
-use Rattle.orca_rig.specs.Outside.Ask.{Load}
-use Rattle.orca_script.specs.Canonical.{printed}
-use Rattle.orca_stage.specs.Acts.{Act, commands_in}
-use Rattle.orca_stage.specs.Acts.Act.{Listen, Store}
-use Rattle.orca_stage.specs.Plans.{close_plan, last_plan, list_plan, run_plan}
-use Rattle.orca_stage.specs.Standings.{Standing}
+use Rattle.orca_rig.specs.Arrived.{Poll}
+use Rattle.orca_script.specs.Runs.{ScriptReadsBack, lines_behind, printed_script}
 use Rattle.orca_words.specs.Requests.{Events, Make, Perform, Performance, Play, Replay, Request, Run, Setup, Work, request_of}
+use Rattle.orca_player.specs.Doing.{ReadsBack}
 use Rattle.orca_player.specs.Laws.{CutsAlike, EndAlike, HasEnd, HearAlike, IsReplayed, ReplaysAlike, with_script}
-use Rattle.orca_player.specs.Outlines.{Heard, Outline, after, asked_outline, attaches, concert, grid_outline, live_outline, loaded_grid, loaded_script, outline, play_outline, request_outline, saved_commands, screen_of, script_outline, setting_of, standing_at, started_outline, status_of_ending, work_outline}
-use Rattle.orca_player.specs.Running.{ReadsBack}
+use Rattle.orca_player.specs.Outlines.{Brought, Heard, Outline, Script, after, asked_outline, attaches, concert, grid_outline, live_outline, live_start, loaded_grid, loaded_script, opening, outline, request_outline, script_kept, script_outline, standing_at, started_outline, status_of_ending, work_outline}
+use Rattle.orca_player.proofs.ConcertLemmas.{concert-standing}
 
--- outlines that end alike
+-- ---- outlines that end alike
 
 alike_none : (o : Outline) → EndAlike o o
-alike_none o = record { commands = refl; session = refl; given = refl }
+alike_none o = record { commands = refl; standing = refl; given = refl }
 
 alike_same : (o p : Outline) → o ≡ p → EndAlike o p
 alike_same o p is = subst (EndAlike o) is (alike_none o)
@@ -40,265 +47,340 @@ alike_same o p is = subst (EndAlike o) is (alike_none o)
 after_alike : (xs ys : List Act) (o p : Outline) → commands_in xs ≡ commands_in ys → EndAlike o p
     → EndAlike (after xs o) (after ys p)
 after_alike xs ys o p first same = record {
-  commands = commands_in-append xs o.acts
-      ∙ (ap (λ (before : List Command). before ++ commands_in o.acts) first
+  commands = commands_in-append xs o.course.acts
+      ∙ (ap (λ (before : List Command). before ++ commands_in o.course.acts) first
       ∙ (ap (λ (more : List Command). commands_in ys ++ more) same.commands
-      ∙ sym (commands_in-append ys p.acts)));
-  session = same.session;
+      ∙ sym (commands_in-append ys p.course.acts)));
+  standing = same.standing;
   given = same.given;
 }
 
--- how a course ended, where the outline has an end
-record IsEnded (end : Option Ending) : Type 0 where
-  pub ending : Ending
-  pub is : end ≡ Some ending
+-- how a course ended, if the outline has an end
+ended_by : (end : Option Ending) → option_map status_of_ending end ≢ None → end ≢ None
+ended_by None is none = is refl
+ended_by (Some ending) is none = cc
 
-ended_by : (end : Option Ending) → option_map status_of_ending end ≢ None → IsEnded end
-ended_by None is = absurd (is refl)
-ended_by (Some ending) is = record { ending = ending; is = refl }
+-- ---- any cutting
 
--- any cutting
+-- what the outside brought is alike
+record Alike (h k : Brought) : Type 0 where
+  pub script : k.script ≡ h.script
+  pub starts : is_some k.start ≡ is_some h.start
+  pub items : items_of h.polls ≡ items_of k.polls
+  pub few : length h.polls ≤ MAX_POLLS
+  pub few_others : length k.polls ≤ MAX_POLLS
 
-live_alike : (grid : List ℕ) (performance : Performance) (at at' : ℕ) (h k : Heard) (s : Standing)
-    → HearAlike h k → HasEnd (live_outline grid performance at h.polls s)
-    → HasEnd (live_outline grid performance at' k.polls s)
-    → EndAlike (live_outline grid performance at h.polls s)
-    (live_outline grid performance at' k.polls s)
-unfolding live_outline
-live_alike grid performance at at' h k s same ends others =
-    let set = setting_of grid performance in
-    let screen = screen_of performance in
-    let marks = blank_marks s.machine.opened.dims in
-    let u = live_at_start set screen at s.machine s.tally in
-    let v = live_at_start set screen at' s.machine s.tally in
-    let e = ended_by (live_course set marks h.polls u).ending ends in
-    let f = ended_by (live_course set marks k.polls v).ending others in
-    let alike = lives_alike set marks h.polls k.polls u v e.ending f.ending same.few
-    same.few_others same.items
-    (record { standing = refl; pending = refl; editor = refl; given = refl }) e.is f.is in
+live_alike : (cutting : LiveCuts) (setup : Setup) (play : Performance) (a b : ℕ) (h k : Brought)
+    (s : Standing) → Alike h k → HasEnd (live_outline setup play a h.polls s)
+    → HasEnd (live_outline setup play b k.polls s)
+    → EndAlike (live_outline setup play a h.polls s) (live_outline setup play b k.polls s)
+unfolding live_outline opening mapped
+live_alike cutting setup play a b h k s same ends others =
+    let u = live_start setup play a s in
+    let v = live_start setup play b s in
+    let alike = cutting h.polls k.polls u v same.few same.few_others same.items
+    (record {
+      setting = refl;
+      standing = refl;
+      pending = refl;
+      editor = refl;
+      given = refl;
+    })
+    (ended_by (performance live_part u h.polls).ending ends)
+    (ended_by (performance live_part v k.polls).ending others) in
     record {
       commands = alike.commands;
-      session = ap (λ (t : Standing). Some t.machine) alike.states.standing;
-      given = ap (saved_commands performance.script) alike.states.given;
+      standing = ap Some alike.standing;
+      given = ap (script_kept play.script setup.seed) alike.given;
     }
 
-started_alike : (grid : List ℕ) (performance : Performance) (a b : Option ℕ) (h k : Heard)
-    (s : Standing) → is_some b ≡ is_some a → HearAlike h k
-    → HasEnd (started_outline grid performance a h.polls s)
-    → HasEnd (started_outline grid performance b k.polls s)
-    → EndAlike (started_outline grid performance a h.polls s)
-    (started_outline grid performance b k.polls s)
+started_alike : (cutting : LiveCuts) (setup : Setup) (play : Performance) (a b : Option ℕ)
+    (h k : Brought) (s : Standing) → is_some b ≡ is_some a → Alike h k
+    → HasEnd (started_outline setup play a h.polls s)
+    → HasEnd (started_outline setup play b k.polls s)
+    → EndAlike (started_outline setup play a h.polls s) (started_outline setup play b k.polls s)
 unfolding started_outline
-started_alike grid performance None None h k s starts same ends others = alike_none _
-started_alike grid performance None (Some at) h k s starts same ends others = absurd cc
-started_alike grid performance (Some at) None h k s starts same ends others = absurd cc
-started_alike grid performance (Some at) (Some at') h k s starts same ends others =
-    live_alike grid performance at at' h k s same ends others
+started_alike cutting setup play None None h k s starts same ends others = alike_none _
+started_alike cutting setup play None (Some b) h k s starts same ends others = absurd cc
+started_alike cutting setup play (Some a) None h k s starts same ends others = absurd cc
+started_alike cutting setup play (Some a) (Some b) h k s starts same ends others =
+    live_alike cutting setup play a b h k s same ends others
 
-work_alike : (grid : List ℕ) (work : Work) (h k : Heard) (s : Standing) → HearAlike h k
-    → HasEnd (work_outline grid work h s) → HasEnd (work_outline grid work k s)
-    → EndAlike (work_outline grid work h s) (work_outline grid work k s)
-unfolding work_outline play_outline
-work_alike grid (Run frames) h k s same ends others = alike_none _
-work_alike grid (Events frames) h k s same ends others = alike_none _
-work_alike grid (Replay name) h k s same ends others =
+work_alike : (cutting : LiveCuts) (setup : Setup) (work : Work) (sheet : Sheet) (h k : Brought)
+    → Alike h k → HasEnd (work_outline setup work sheet h)
+    → HasEnd (work_outline setup work sheet k)
+    → EndAlike (work_outline setup work sheet h) (work_outline setup work sheet k)
+unfolding work_outline
+work_alike cutting setup (Run frames) sheet h k same ends others = alike_none _
+work_alike cutting setup (Events frames) sheet h k same ends others = alike_none _
+work_alike cutting setup (Replay name) sheet h k same ends others =
     alike_same _ _
-    (ap (λ (script : Option (List ℕ)). after (Store (Load name) ∷ []) (loaded_script script s))
+    (ap (λ (script : Option (List ℕ)).
+    after (Load name script ∷ []) (loaded_script sheet setup.seed setup.limit script))
     (sym same.script))
-work_alike grid (Play performance) h k s same ends others =
-    after_alike (Listen performance.address 1 h.start ∷ [])
-    (Listen performance.address 1 k.start ∷ [])
-    (started_outline grid performance h.start h.polls s)
-    (started_outline grid performance k.start k.polls s) refl
-    (started_alike grid performance h.start k.start h k s same.starts same ends others)
+work_alike cutting setup (Play play) sheet h k same ends others =
+    let s = standing_at sheet setup.seed setup.limit in
+    after_alike (Listen play.address 1 h.start ∷ []) (Listen play.address 1 k.start ∷ [])
+    (started_outline setup play h.start h.polls s) (started_outline setup play k.start k.polls s)
+    refl
+    (started_alike cutting setup play h.start k.start h k s same.starts same ends others)
 
-grid_alike : (setup : Setup) (work : Work) (h k : Heard) (read : Result Sheet GridRefusal)
-    → HearAlike h k → HasEnd (grid_outline setup work h read)
+grid_alike : (cutting : LiveCuts) (setup : Setup) (work : Work) (h k : Brought)
+    (read : Result Sheet GridRefusal) → Alike h k → HasEnd (grid_outline setup work h read)
     → HasEnd (grid_outline setup work k read)
     → EndAlike (grid_outline setup work h read) (grid_outline setup work k read)
 unfolding grid_outline
-grid_alike setup work h k (Err refusal) same ends others = alike_none _
-grid_alike setup work h k (Ok sheet) same ends others =
-    work_alike setup.grid work h k (standing_at sheet setup.seed setup.limit) same ends others
+grid_alike cutting setup work h k (Err refusal) same ends others = alike_none _
+grid_alike cutting setup work h k (Ok sheet) same ends others =
+    work_alike cutting setup work sheet h k same ends others
 
-loaded_alike : (setup : Setup) (work : Work) (h k : Heard) (grid : Option (List ℕ))
-    → HearAlike h k → HasEnd (loaded_grid setup work h grid)
+loaded_alike : (cutting : LiveCuts) (setup : Setup) (work : Work) (h k : Brought)
+    (grid : Option (List ℕ)) → Alike h k → HasEnd (loaded_grid setup work h grid)
     → HasEnd (loaded_grid setup work k grid)
     → EndAlike (loaded_grid setup work h grid) (loaded_grid setup work k grid)
 unfolding loaded_grid
-loaded_alike setup work h k None same ends others = alike_none _
-loaded_alike setup work h k (Some text) same ends others =
-    grid_alike setup work h k (grid_text text) same ends others
+loaded_alike cutting setup work h k None same ends others = alike_none _
+loaded_alike cutting setup work h k (Some text) same ends others =
+    grid_alike cutting setup work h k (grid_text text) same ends others
 
-request_alike : (request : Request) (h k : Heard) → HearAlike h k
+-- the outline of a loaded grid, with its load
+abbrev with_grid : Setup → Work → Brought → Option (List ℕ) → Outline
+with_grid setup work b grid =
+    after (attaches setup) (after (Load setup.grid grid ∷ []) (loaded_grid setup work b grid))
+
+request_alike : (cutting : LiveCuts) (request : Request) (h k : Heard) → HearAlike h k
     → HasEnd (request_outline request h) → HasEnd (request_outline request k)
     → EndAlike (request_outline request h) (request_outline request k)
 unfolding request_outline
-request_alike (Make load) h k same ends others = alike_none _
-request_alike (Perform setup work) h k same ends others =
-    let xs = attaches setup ++ Store (Load setup.grid) ∷ [] in
-    after_alike xs xs (loaded_grid setup work h h.grid) (loaded_grid setup work k k.grid) refl
-    (subst (λ (grid : Option (List ℕ)).
-    EndAlike (loaded_grid setup work h h.grid) (loaded_grid setup work k grid)) (sym same.grid)
-    (loaded_alike setup work h k h.grid same ends
-    (subst (λ (grid : Option (List ℕ)). HasEnd (loaded_grid setup work k grid)) same.grid others)))
+request_alike cutting (Make load) h k same ends others = alike_none _
+request_alike cutting (Perform setup work) h k same ends others =
+    let alike : Alike h.brought k.brought = record {
+      script = same.script;
+      starts = same.starts;
+      items = same.items;
+      few = same.few;
+      few_others = same.few_others;
+    } in
+    subst (λ (grid : Option (List ℕ)).
+    EndAlike (with_grid setup work h.brought h.grid) (with_grid setup work k.brought grid))
+    (sym same.grid)
+    (after_alike (attaches setup) (attaches setup) _ _ refl
+    (after_alike (Load setup.grid h.grid ∷ []) (Load setup.grid h.grid ∷ []) _ _ refl
+    (loaded_alike cutting setup work h.brought k.brought h.grid alike ends
+    (subst (λ (grid : Option (List ℕ)). HasEnd (loaded_grid setup work k.brought grid)) same.grid
+    others))))
 
-asked_alike : (request : Option Request) (h k : Heard) → HearAlike h k
+asked_alike : (cutting : LiveCuts) (request : Option Request) (h k : Heard) → HearAlike h k
     → HasEnd (asked_outline request h) → HasEnd (asked_outline request k)
     → EndAlike (asked_outline request h) (asked_outline request k)
-asked_alike None h k same ends others = alike_none _
-asked_alike (Some request) h k same ends others = request_alike request h k same ends others
+asked_alike cutting None h k same ends others = alike_none _
+asked_alike cutting (Some request) h k same ends others =
+    request_alike cutting request h k same ends others
 
-pub cuts_alike : (words : List (List ℕ)) → CutsAlike words
+pub cuts_alike : (cutting : LiveCuts) (words : List (List ℕ)) → CutsAlike words
 unfolding outline
-cuts_alike words h k same ends others = asked_alike (request_of words) h k same ends others
+cuts_alike cutting words h k same ends others =
+    asked_alike cutting (request_of words) h k same ends others
 
--- the script
+-- ---- the script
 
--- what is saved was given
-saved_given : (script : Option (List ℕ)) (given : Option (List Command)) (commands : List Command)
-    → saved_commands script given ≡ Some commands → given ≡ Some commands
-saved_given None given commands is = absurd cc
-saved_given (Some name) given commands is = is
+replay-goes-on : GoesOn replay_manner
+replay-goes-on line (Ok reply) messages r = refl
+replay-goes-on line (Err rule) messages r = refl
 
--- commands are kept from the start where they are saved
-kept_first : (script : Option (List ℕ)) (given : Option (List Command)) (commands : List Command)
-    → saved_commands script given ≡ Some commands
-    → option_map {U = List Command} (λ name. []) script ≡ Some []
-kept_first None given commands is = absurd cc
-kept_first (Some name) given commands is = refl
+-- where a replay of a script leads on an opened grid
+replay_state : (script : Script) (sheet : Sheet) (seed limit : ℕ)
+    → any_script_of (printed_script script.seed script.commands)
+    ≡ Ok (cues_asking 2 (lines_behind 0 script.commands))
+    → seed_in (printed_script script.seed script.commands) ≡ Some script.seed
+    → option_map (λ s. s.machine)
+    (loaded_script sheet seed limit (Some (printed_script script.seed script.commands))).course.state
+    ≡ Some (machine_closed
+    (replayed replay_manner script.commands (standing_at sheet script.seed limit)))
+unfolding loaded_script script_outline concert opening mapped
+replay_state script sheet seed limit reads gives =
+    let s = standing_at sheet script.seed limit in
+    let cues = cues_asking 2 (lines_behind 0 script.commands) in
+    ap (λ (found : Option ℕ). option_map (λ s. s.machine)
+    (script_outline (any_script_of (printed_script script.seed script.commands))
+    (standing_at sheet (unwrap_or found seed) limit)).course.state) gives
+    ∙ (ap (λ (read : Result (List Cue) ScriptFault).
+    option_map (λ s. s.machine) (script_outline read s).course.state) reads
+    ∙ ap (λ (s : Standing). Some s.machine) (concert-standing replay_manner cues (concert_at s tt)))
 
--- a script that is read as these commands, on an opened grid
-replay_session : (commands : List Command) (s : Standing) → ReadsBack commands
-    → (loaded_script (Some (flat_map printed commands)) s).session
-    ≡ Some (machine_closed (list_plan replay_manner (one_a_line 1 commands) s).standing.machine)
-unfolding loaded_script script_outline concert run_plan last_plan close_plan
-replay_session commands s reads =
-    ap (λ (read : Result (List Cue) ScriptFault). (script_outline read s).session) reads
+-- the machine at the end of an outline
+abbrev machine_of : Outline → Option MachineState
+machine_of o = option_map (λ s. s.machine) o.course.state
 
 -- a performance is replayed from where it began
-record IsPlayedAgain (commands : List Command) (s : Standing) (o : Outline) : Type 0 where
-  pub all : commands ≡ commands_in o.acts
-  pub session : (loaded_script (Some (flat_map printed commands)) s).session ≡ o.session
+record IsPlayedAgain (setup : Setup) (sheet : Sheet) (script : Script) (o : Outline) : Type 0 where
+  pub seed : script.seed ≡ setup.seed
+  pub all : script.commands ≡ commands_in o.course.acts
+  pub session : (seed limit : ℕ) → limit ≡ setup.limit
+      → machine_of (loaded_script sheet seed limit
+      (Some (printed_script script.seed script.commands))) ≡ machine_of o
 
-live_again : (grid : List ℕ) (performance : Performance) (at : ℕ) (h : Heard) (s : Standing)
-    (commands : List Command) → HasEnd (live_outline grid performance at h.polls s)
-    → (live_outline grid performance at h.polls s).given ≡ Some commands → ReadsBack commands
-    → IsPlayedAgain commands s (live_outline grid performance at h.polls s)
-unfolding live_outline
-live_again grid performance at h s commands ends given reads =
-    let set = setting_of grid performance in
-    let marks = blank_marks s.machine.opened.dims in
-    let u = live_at_start set (screen_of performance) at s.machine s.tally in
-    let c = live_course set marks h.polls u in
-    let e = ended_by c.ending ends in
-    let kept = live_replays set marks h.polls u e.ending
-    (kept_first performance.script c.state.given commands given) e.is in
-    let all : commands ≡ commands_in c.acts =
-    ap (λ (list : Option (List Command)). unwrap_or list [])
-    (sym (saved_given performance.script c.state.given commands given) ∙ kept.given) in
-    record {
-      all = all;
-      session = replay_session commands s reads
-          ∙ (ap (λ (list : List Command).
-          Some (machine_closed (list_plan replay_manner (one_a_line 1 list) s).standing.machine))
-          all
-          ∙ ap Some (kept.machine replay_manner refl));
-    }
+-- the script that was kept
+abbrev IsKept : Option (List ℕ) → ℕ → Option (List Command) → Option Script → Type 0
+IsKept name seed given None = Unit {0}
+IsKept name seed given (Some script) =
+    (script.seed ≡ seed) × (given ≡ Some script.commands)
+    × (option_map {U = List Command} (λ name. []) name ≡ Some [])
 
-started_again : (grid : List ℕ) (performance : Performance) (start : Option ℕ) (h : Heard)
-    (s : Standing) (commands : List Command)
-    → HasEnd (started_outline grid performance start h.polls s)
-    → (started_outline grid performance start h.polls s).given ≡ Some commands → ReadsBack commands
-    → IsPlayedAgain commands s (started_outline grid performance start h.polls s)
-unfolding started_outline
-started_again grid performance None h s commands ends given reads = absurd cc
-started_again grid performance (Some at) h s commands ends given reads =
-    live_again grid performance at h s commands ends given reads
+is_kept : (name : Option (List ℕ)) (seed : ℕ) (given : Option (List Command))
+    → IsKept name seed given (script_kept name seed given)
+is_kept None seed given = tt
+is_kept (Some name) seed None = tt
+is_kept (Some name) seed (Some commands) = (refl, refl, refl)
 
--- the session of a replay on a grid that was read
-again_session : (other : Setup) (name : List ℕ) (k : Heard) (sheet : Sheet)
-    → (grid_outline other (Replay name) k (Ok sheet)).session
-    ≡ (loaded_script k.script (standing_at sheet other.seed other.limit)).session
-unfolding grid_outline work_outline
-again_session other name k sheet = refl
+kept_script : (name : Option (List ℕ)) (seed : ℕ) (given : Option (List Command))
+    (script : Script) → script_kept name seed given ≡ Some script
+    → IsKept name seed given (Some script)
+kept_script name seed given script is =
+    subst (IsKept name seed given) is (is_kept name seed given)
 
-grid_again : (setup : Setup) (performance : Performance) (h : Heard) (commands : List Command)
-    (read : Result Sheet GridRefusal) → HasEnd (grid_outline setup (Play performance) h read)
-    → (grid_outline setup (Play performance) h read).given ≡ Some commands → ReadsBack commands
-    → (commands ≡ commands_in (grid_outline setup (Play performance) h read).acts)
-    × ((other : Setup) (name : List ℕ) → other.seed ≡ setup.seed → other.limit ≡ setup.limit
-    → (grid_outline other (Replay name) (with_script commands h) read).session
-    ≡ (grid_outline setup (Play performance) h read).session)
-unfolding grid_outline work_outline play_outline
-grid_again setup performance h commands (Err refusal) ends given reads = absurd cc
-grid_again setup performance h commands (Ok sheet) ends given reads =
+live_again : (replays : LiveReplays) (setup : Setup) (play : Performance) (at : ℕ)
+    (polls : List Poll) (sheet : Sheet) (script : Script)
+    → HasEnd (live_outline setup play at polls (standing_at sheet setup.seed setup.limit))
+    → (live_outline setup play at polls (standing_at sheet setup.seed setup.limit)).given
+    ≡ Some script → ReadsBack script
+    → IsPlayedAgain setup sheet script
+    (live_outline setup play at polls (standing_at sheet setup.seed setup.limit))
+unfolding live_outline opening mapped
+live_again replays setup play at polls sheet script ends given reads =
     let s = standing_at sheet setup.seed setup.limit in
-    let again = started_again setup.grid performance h.start h s commands ends given reads in (
-      again.all,
-      λ other name seed limit.
-          again_session other name (with_script commands h) sheet
-          ∙ (ap (λ (seed : ℕ).
-          (loaded_script (Some (flat_map printed commands))
-          (standing_at sheet seed other.limit)).session) seed
-          ∙ (ap (λ (limit : ℕ).
-          (loaded_script (Some (flat_map printed commands))
-          (standing_at sheet setup.seed limit)).session) limit
-          ∙ again.session)),
-    )
-
-loaded_again : (setup : Setup) (performance : Performance) (h : Heard) (commands : List Command)
-    (grid : Option (List ℕ)) → HasEnd (loaded_grid setup (Play performance) h grid)
-    → (loaded_grid setup (Play performance) h grid).given ≡ Some commands → ReadsBack commands
-    → (commands ≡ commands_in (loaded_grid setup (Play performance) h grid).acts)
-    × ((other : Setup) (name : List ℕ) → other.seed ≡ setup.seed → other.limit ≡ setup.limit
-    → (loaded_grid other (Replay name) (with_script commands h) grid).session
-    ≡ (loaded_grid setup (Play performance) h grid).session)
-unfolding loaded_grid
-loaded_again setup performance h commands None ends given reads = absurd cc
-loaded_again setup performance h commands (Some text) ends given reads =
-    grid_again setup performance h commands (grid_text text) ends given reads
-
--- ports and files give no command
-attach_commands : (setup : Setup)
-    → commands_in (attaches setup ++ Store (Load setup.grid) ∷ []) ≡ []
-attach_commands setup = attach_by setup.midi setup.udp setup.osc
-  where
-    attach_by : (midi udp osc : Option (List ℕ))
-        → commands_in (attaches (record setup { midi = midi; udp = udp; osc = osc })
-        ++ Store (Load setup.grid) ∷ []) ≡ []
-    attach_by None None None = refl
-    attach_by (Some midi) None None = refl
-    attach_by None (Some udp) None = refl
-    attach_by (Some midi) (Some udp) None = refl
-    attach_by None None (Some osc) = refl
-    attach_by (Some midi) None (Some osc) = refl
-    attach_by None (Some udp) (Some osc) = refl
-    attach_by (Some midi) (Some udp) (Some osc) = refl
-
-request_again : (setup : Setup) (performance : Performance) (h : Heard) (commands : List Command)
-    → HasEnd (request_outline (Perform setup (Play performance)) h)
-    → (request_outline (Perform setup (Play performance)) h).given ≡ Some commands
-    → ReadsBack commands
-    → IsReplayed setup h commands (request_outline (Perform setup (Play performance)) h)
-unfolding request_outline
-request_again setup performance h commands ends given reads =
-    let again = loaded_again setup performance h commands h.grid ends given reads in
-    let xs = attaches setup ++ Store (Load setup.grid) ∷ [] in
-    let acts = (loaded_grid setup (Play performance) h h.grid).acts in
+    let u = live_start setup play at s in
+    let c = performance live_part u polls in
+    let kept = kept_script play.script setup.seed c.state.given script given in
+    let again = replays polls u kept.2 (ended_by c.ending ends) in
+    let all : script.commands ≡ commands_in c.acts =
+    ap (λ (list : Option (List Command)). unwrap_or list []) (sym kept.1 ∙ again.given) in
+    let read = script2_read script.seed script.commands reads in
     record {
-      all = again.0
-          ∙ sym (commands_in-append xs acts
-          ∙ ap (λ (before : List Command). before ++ commands_in acts) (attach_commands setup));
-      session = again.1;
+      seed = kept.0;
+      all = all;
+      session = λ seed limit same.
+          replay_state script sheet seed limit read.0 read.1
+          ∙ (ap (λ (n : ℕ). Some (machine_closed
+          (replayed replay_manner script.commands (standing_at sheet script.seed n)))) same
+          ∙ (ap (λ (n : ℕ). Some (machine_closed
+          (replayed replay_manner script.commands (standing_at sheet n setup.limit)))) kept.0
+          ∙ (ap (λ (list : List Command). Some (machine_closed
+          (replayed replay_manner list s))) all
+          ∙ ap Some (again.machine replay_manner replay-goes-on))));
     }
 
-pub replays_alike : (words : List (List ℕ)) → ReplaysAlike words
+-- what is asked of the outline of a played grid
+record IsPlayed (setup : Setup) (script : Script) (o : Outline) (replay : Setup → Outline)
+    : Type 0 where
+  pub seed : script.seed ≡ setup.seed
+  pub all : script.commands ≡ commands_in o.course.acts
+  pub session : (other : Setup) → other.limit ≡ setup.limit
+      → machine_of (replay other) ≡ machine_of o
+
+played_after : {setup : Setup} {script : Script} {o : Outline} {replay : Setup → Outline}
+    (xs : List Act) (ys : Setup → List Act) → commands_in xs ≡ []
+    → IsPlayed setup script o replay
+    → IsPlayed setup script (after xs o) (λ other. after (ys other) (replay other))
+played_after {o = o} xs ys none played = record {
+  seed = played.seed;
+  all = played.all
+      ∙ sym (commands_in-append xs o.course.acts
+      ∙ ap (λ (before : List Command). before ++ commands_in o.course.acts) none);
+  session = played.session;
+}
+
+started_again : (replays : LiveReplays) (setup : Setup) (play : Performance) (start : Option ℕ)
+    (polls : List Poll) (sheet : Sheet) (script : Script)
+    → HasEnd (started_outline setup play start polls (standing_at sheet setup.seed setup.limit))
+    → (started_outline setup play start polls (standing_at sheet setup.seed setup.limit)).given
+    ≡ Some script → ReadsBack script
+    → IsPlayedAgain setup sheet script
+    (started_outline setup play start polls (standing_at sheet setup.seed setup.limit))
+unfolding started_outline
+started_again replays setup play None polls sheet script ends given reads = absurd cc
+started_again replays setup play (Some at) polls sheet script ends given reads =
+    live_again replays setup play at polls sheet script ends given reads
+
+work_again : (replays : LiveReplays) (setup : Setup) (play : Performance) (b : Brought)
+    (sheet : Sheet) (script : Script) (name : List ℕ)
+    → HasEnd (work_outline setup (Play play) sheet b)
+    → (work_outline setup (Play play) sheet b).given ≡ Some script → ReadsBack script
+    → IsPlayed setup script (work_outline setup (Play play) sheet b)
+    (λ other. work_outline other (Replay name) sheet
+    (record b { script = Some (printed_script script.seed script.commands) }))
+unfolding work_outline
+work_again replays setup play b sheet script name ends given reads =
+    let s = standing_at sheet setup.seed setup.limit in
+    let again = started_again replays setup play b.start b.polls sheet script ends given reads in
+    record {
+      seed = again.seed;
+      all = again.all;
+      session = λ other same. again.session other.seed other.limit same;
+    }
+
+grid_again : (replays : LiveReplays) (setup : Setup) (play : Performance) (b : Brought)
+    (read : Result Sheet GridRefusal) (script : Script) (name : List ℕ)
+    → HasEnd (grid_outline setup (Play play) b read)
+    → (grid_outline setup (Play play) b read).given ≡ Some script → ReadsBack script
+    → IsPlayed setup script (grid_outline setup (Play play) b read)
+    (λ other. grid_outline other (Replay name)
+    (record b { script = Some (printed_script script.seed script.commands) }) read)
+unfolding grid_outline
+grid_again replays setup play b (Err refusal) script name ends given reads = absurd cc
+grid_again replays setup play b (Ok sheet) script name ends given reads =
+    work_again replays setup play b sheet script name ends given reads
+
+loaded_again : (replays : LiveReplays) (setup : Setup) (play : Performance) (b : Brought)
+    (grid : Option (List ℕ)) (script : Script) (name : List ℕ)
+    → HasEnd (loaded_grid setup (Play play) b grid)
+    → (loaded_grid setup (Play play) b grid).given ≡ Some script → ReadsBack script
+    → IsPlayed setup script (loaded_grid setup (Play play) b grid)
+    (λ other. loaded_grid other (Replay name)
+    (record b { script = Some (printed_script script.seed script.commands) }) grid)
+unfolding loaded_grid
+loaded_again replays setup play b None script name ends given reads = absurd cc
+loaded_again replays setup play b (Some text) script name ends given reads =
+    grid_again replays setup play b (grid_text text) script name ends given reads
+
+-- ports give no command
+attach_by : (setup : Setup) (midi udp osc : Option (List ℕ))
+    → commands_in (attaches (record setup { midi = midi; udp = udp; osc = osc })) ≡ []
+attach_by setup None None None = refl
+attach_by setup (Some midi) None None = refl
+attach_by setup None (Some udp) None = refl
+attach_by setup (Some midi) (Some udp) None = refl
+attach_by setup None None (Some osc) = refl
+attach_by setup (Some midi) None (Some osc) = refl
+attach_by setup None (Some udp) (Some osc) = refl
+attach_by setup (Some midi) (Some udp) (Some osc) = refl
+
+request_again : (replays : LiveReplays) (setup : Setup) (play : Performance) (h : Heard)
+    (script : Script) → HasEnd (request_outline (Perform setup (Play play)) h)
+    → (request_outline (Perform setup (Play play)) h).given ≡ Some script → ReadsBack script
+    → IsReplayed setup h script (request_outline (Perform setup (Play play)) h)
+unfolding request_outline
+request_again replays setup play h script ends given reads =
+    let played : (name : List ℕ) → IsPlayed setup script
+    (request_outline (Perform setup (Play play)) h)
+    (λ other. request_outline (Perform other (Replay name)) (with_script script h)) =
+    λ name.
+    played_after (attaches setup) (λ other. attaches other)
+    (attach_by setup setup.midi setup.udp setup.osc)
+    (played_after (Load setup.grid h.grid ∷ []) (λ other. Load other.grid h.grid ∷ []) refl
+    (loaded_again replays setup play h.brought h.grid script name ends given reads)) in
+    record {
+      seed = (played []).seed;
+      all = (played []).all;
+      session = λ other name same. (played name).session other same;
+    }
+
+pub replays_alike : (replays : LiveReplays) (words : List (List ℕ)) → ReplaysAlike words
 unfolding outline
-replays_alike words setup performance h commands is ends given reads =
-    let o : Outline = request_outline (Perform setup (Play performance)) h in
+replays_alike replays words setup play h script is ends given reads =
+    let o : Outline = request_outline (Perform setup (Play play)) h in
     let same : asked_outline (request_of words) h ≡ o =
     ap (λ (request : Option Request). asked_outline request h) is in
-    subst (IsReplayed setup h commands) (sym same)
-    (request_again setup performance h commands (subst HasEnd same ends)
-    (subst (λ (p : Outline). p.given ≡ Some commands) same given) reads)
+    subst (IsReplayed setup h script) (sym same)
+    (request_again replays setup play h script (subst HasEnd same ends)
+    (subst (λ (p : Outline). p.given ≡ Some script) same given) reads)

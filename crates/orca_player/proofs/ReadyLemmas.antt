@@ -1,50 +1,42 @@
 -- A run that can be done whole, and that meets no fault, is done whole.
-use Rattle.std.proofs.Common.{◌≡◌, ◌≢◌, ◌⊎◌, inl, inr, ℕ, zero, suc, ◌+◌, ◌<◌, ◌≤◌, length, arith, Bool, true, false, List, [], ◌∷◌, refl, sym, ◌∙◌, ap, subst}
-use Rattle.std.specs.Prelude.{◌||◌, nat_le, if◌then◌else◌, Option, Some, None, IfSome, IsSomeAnd, Result, Ok, Err}
-use Rattle.std.specs.Option.{option_map, option_map_or}
-use Rattle.std.proofs.Math.Bool.{or-false}
-use Rattle.std.proofs.lemmas.Bool.{lt-leb}
-use Rattle.std.proofs.lemmas.List.{length-append}
-use Rattle.orca_base.specs.declared.command.Command.TheVariants as command
-use Rattle.orca_base.specs.declared.command.Entry.TheVariants as entry
+use Rattle.std.proofs.Common.{◌≡◌, ◌≢◌, ◌⊎◌, inl, inr, ℕ, ◌+◌, ◌<◌, ◌≤◌, length, arith, List, [], ◌∷◌, refl, sym, ◌∙◌, ap, subst}
+use Rattle.std.specs.Prelude.{Option, Some, None, IfSome, IsSomeAnd, Result, Ok, Err}
+use Rattle.std.specs.Option.{option_map}
 use Rattle.orca_base.specs.declared.command.Reply.{Reply}
 use Rattle.orca_base.specs.declared.command.Rule.{Rule}
-use Rattle.orca_base.specs.declared.command.Rule.TheVariants.{HistoryFull as Full}
 use Rattle.orca_base.specs.declared.limits.TheConstants.{DEFAULT_HISTORY, MAX_POLLS}
 use Rattle.orca_base.specs.Grids.{Sheet}
-use Rattle.orca_base.specs.Ports.{Sent}
+use Rattle.orca_concert.specs.Concerts.{concert as concert_at, concert_course, cues_course}
+use Rattle.orca_concert.specs.Manners.{Manner}
+use Rattle.orca_course.specs.Courses.{course, joined, mapped}
+use Rattle.orca_course.specs.Performers.{performance}
+use Rattle.orca_course.specs.Standings.{Standing}
+use Rattle.orca_course.specs.Worlds.{World}
+use Rattle.orca_course.specs.declared.ending.Ending.{Ending}
+use Rattle.orca_course.specs.declared.ending.Ending.TheVariants.{Stopped, Lost, Spent}
+use Rattle.orca_course.specs.declared.ending.Stop.{Stop}
+use Rattle.orca_course.specs.declared.ending.Stop.TheVariants.{Left, Full, TooLong}
 use Rattle.orca_cues.specs.Cues.{frames_cue}
 use Rattle.orca_cues.specs.Made.{made_cues, made_sheet}
-use Rattle.orca_cues.specs.Scripts.{script_of}
+use Rattle.orca_cues.specs.Scripts.{any_script_of}
 use Rattle.orca_cues.specs.declared.fault.ScriptFault.{ScriptFault}
 use Rattle.orca_cues.specs.declared.source.Cue.{Cue}
-use Rattle.orca_cues.specs.declared.source.Order.{Order}
-use Rattle.orca_cues.specs.declared.source.Order.TheVariants.{Do}
-use Rattle.orca_edit.specs.Obeying.{MachineState, Obeyed, accept, entry_of, extend, obey, refuse, rule_against, taken_area}
 use Rattle.orca_grid.specs.GridText.{grid_text}
 use Rattle.orca_grid.specs.declared.refusal.GridRefusal.{GridRefusal}
 use Rattle.orca_live.specs.Items.{turns_of}
-use Rattle.orca_live.specs.Performing.{close_course, finish_by, finish_course, live_course, paint_course, picture_at, polls_course, save_course, script_course}
-use Rattle.orca_live.specs.Starting.{live_at_start}
-use Rattle.orca_live.specs.States.{LiveState, Setting}
-use Rattle.orca_live.specs.declared.ending.Ending.{Ending}
-use Rattle.orca_live.specs.declared.ending.Ending.TheVariants as ending
-use Rattle.orca_live.proofs.LostLemmas.{spent_late}
-use Rattle.orca_op.specs.State.{blank_marks}
+use Rattle.orca_live.specs.Performing.{live_part}
+use Rattle.orca_live.specs.States.{LiveState}
 use Rattle.orca_reports.specs.Manners.{events_manner, make_manner, replay_manner, run_manner}
 use Rattle.orca_rig.specs.Arrived.{Poll}
-use Rattle.orca_stage.specs.Manners.{Manner}
-use Rattle.orca_stage.specs.Plans.{Plan, after_cue, close_plan, command_at, command_plan, cue_plan, flow_of, last_plan, list_plan, onward_by, over, repeat_plan, run_plan}
-use Rattle.orca_stage.specs.Standings.{Standing}
-use Rattle.orca_stage.specs.Told.{Told}
-use Rattle.orca_stage.specs.declared.flow.Flow.{Flow}
-use Rattle.orca_stage.specs.declared.flow.Flow.TheVariants.{Goes, Drops, Ends}
+use Rattle.orca_rig.specs.Outside.{Rose, last_count}
 use Rattle.orca_words.specs.Requests.{Events, Make, Perform, Performance, Play, Replay, Request, Run, Setup, Work, request_of}
-use Rattle.orca_player.specs.Outlines.{Heard, Outline, asked_outline, concert, grid_outline, live_outline, loaded_grid, loaded_script, made_outline, outline, play_outline, request_outline, screen_of, script_outline, setting_of, size_of, standing_at, started_outline, status_of_ending, status_of_flow, work_outline}
-use Rattle.orca_player.specs.Ready.{CanDo, CanOpen, IsReady, IsScript}
-use Rattle.orca_player.specs.Running.{EndsAs, ReportsNoFault, Went}
+use Rattle.orca_player.specs.Outlines.{Brought, Heard, Outline, after, asked_outline, concert, grid_outline, live_outline, live_start, loaded_grid, loaded_script, made_outline, opening, outline, request_outline, script_outline, size_of, standing_at, started_outline, status_of_end, status_of_ending, work_outline}
+use Rattle.orca_player.specs.Ready.{CanDo, CanOpen, HasRoom, IsReady, IsScript}
+use Rattle.orca_player.specs.Running.{AreLow, Counts, EndsAs, IsCaused, Went, counts_of}
 use Rattle.orca_player.specs.declared.status.Status.{Status}
 use Rattle.orca_player.specs.declared.status.Status.TheVariants.{Done, Usage, GridRefused, OutFault, FileFault, ScriptRefused, HistoryFull, InboxFault, TurnsSpent, Memory}
+use Rattle.orca_player.proofs.FineLemmas.{Closes, Frames, Goes, concert-goes, cues-go, frames-cue}
+use Rattle.orca_player.proofs.PlayLemmas.{IsFineEnd, performance-fine}
 
 -- a run that would end without a refusal: all is done, or something outside fails
 abbrev IsFine : Status → Type 0
@@ -52,6 +44,13 @@ IsFine Done = Unit {0}
 IsFine FileFault = Unit {0}
 IsFine InboxFault = Unit {0}
 IsFine status = ⊥
+
+-- a status that reports no fault of the outside
+abbrev ReportsNoFault : Status → Type 0
+ReportsNoFault OutFault = ⊥
+ReportsNoFault FileFault = ⊥
+ReportsNoFault InboxFault = ⊥
+ReportsNoFault status = Unit {0}
 
 fine_ends : (planned status : Status) → IsFine planned → EndsAs planned status
     → ReportsNoFault status → (status ≡ Done) ⊎ (status ≡ Memory)
@@ -66,214 +65,173 @@ fine_ends planned HistoryFull fine ends none = absurd (subst IsFine ends fine)
 fine_ends planned TurnsSpent fine ends none = absurd (subst IsFine ends fine)
 fine_ends planned Memory fine ends none = inr refl
 
--- lists of commands
+-- an outline that would end so
+abbrev FineOutline : Outline → Type 0
+FineOutline o = IfSome o.course.ending IsFine
 
--- commands go on in a run that no full history ends
-stays_on : (answer : Result Reply Rule) → after_cue (flow_of false answer) ≡ Goes
-stays_on (Ok reply) = refl
-stays_on (Err Full) = refl
-stays_on (Err _) = refl
+-- ---- lists of commands
 
-onward_stays : (flow : Flow) (p : Plan) (next : Standing → Plan) → p.flow ≡ flow
-    → after_cue flow ≡ Goes → ((t : Standing) → after_cue (next t).flow ≡ Goes)
-    → after_cue (onward_by flow p next).flow ≡ Goes
-onward_stays Goes p next is goes more = more p.standing
-onward_stays Drops p next is goes more = ap after_cue is
-onward_stays Ends p next is goes more = absurd cc
+concert_fine : {R : Type 0} (m : Manner R) (r : R) (cues : List Cue) (s : Standing) → Closes m
+    → (cues_course m cues (concert_at s r)).ending ≡ None → FineOutline (concert m r cues s)
+unfolding concert opening mapped
+concert_fine m r cues s closes goes =
+    subst (λ (end : Option Stop). IsFine (status_of_end end))
+    (sym (concert-goes m cues (concert_at s r) closes goes)) tt
 
-repeat_stays : (m : Manner) (line : ℕ) (order : Order) (n : ℕ) (s : Standing)
-    → m.ends_when_full ≡ false → after_cue (repeat_plan m line order n s).flow ≡ Goes
-unfolding command_plan
-repeat_stays m line order zero s stays = refl
-repeat_stays m line order (suc n) s stays =
-    let command = command_at order s.machine in
-    let p = command_plan m line command s in
-    onward_stays p.flow p (λ t. repeat_plan m line order n t) refl
-    (ap (λ (ends : Bool). after_cue (flow_of ends (obey s.machine command).answer)) stays
-    ∙ stays_on (obey s.machine command).answer)
-    (λ t. repeat_stays m line order n t stays)
+run-closes : Closes run_manner
+run-closes = record {
+  final = λ s r. refl;
+  close = λ messages r. refl;
+  saves = λ r. refl;
+}
 
-onward_goes : (flow : Flow) (p : Plan) (next : Standing → Plan) → flow ≡ Goes
-    → ((t : Standing) → (next t).flow ≡ Goes) → (onward_by flow p next).flow ≡ Goes
-onward_goes Goes p next is more = more p.standing
-onward_goes Drops p next is more = absurd cc
-onward_goes Ends p next is more = absurd cc
+run-frames : Frames run_manner
+run-frames line tick messages r = refl
 
-list_stays : (m : Manner) (cues : List Cue) (s : Standing) → m.ends_when_full ≡ false
-    → (list_plan m cues s).flow ≡ Goes
-list_stays m [] s stays = refl
-list_stays m (cue ∷ cues) s stays =
-    onward_goes (cue_plan m cue s).flow (cue_plan m cue s) (λ t. list_plan m cues t)
-    (repeat_stays m cue.line cue.order cue.times s stays) (λ t. list_stays m cues t stays)
+events-closes : Closes events_manner
+events-closes = record {
+  final = λ s r. refl;
+  close = λ messages r. refl;
+  saves = λ r. refl;
+}
 
--- frames, where the history has room for them
+events-frames : Frames events_manner
+events-frames line tick messages r = refl
 
-if_false : (b : Bool) (m : MachineState) (o : Obeyed) → b ≡ false
-    → option_map_or (refuse m) (if b then Some Full else None) o ≡ o
-if_false true m o off = absurd cc
-if_false false m o off = refl
+replay-closes : Closes replay_manner
+replay-closes = record {
+  final = λ s r. refl;
+  close = λ messages r. refl;
+  saves = λ r. refl;
+}
 
-frame_obeyed : (m : MachineState) → length m.history < m.limit
-    → obey m command.Frame ≡ extend m command.Frame m.clip entry.Frame
-unfolding obey rule_against accept entry_of taken_area
-frame_obeyed m room =
-    if_false (nat_le m.limit (length m.history) || false) m
-    (extend m command.Frame m.clip entry.Frame)
-    (or-false (nat_le m.limit (length m.history)) ∙ lt-leb m.limit (length m.history) room)
+replay-goes : Goes replay_manner
+replay-goes line (Ok reply) messages r = refl
+replay-goes line (Err rule) messages r = refl
 
-frames_go : (m : Manner) (line n : ℕ) (s : Standing)
-    → length s.machine.history + n ≤ s.machine.limit
-    → (repeat_plan m line (Do command.Frame) n s).flow ≡ Goes
-unfolding command_plan
-frames_go m line zero s room = refl
-frames_go m line (suc n) s room =
-    let p = command_plan m line command.Frame s in
-    let next : Standing → Plan = λ (t : Standing). repeat_plan m line (Do command.Frame) n t in
-    let done = frame_obeyed s.machine (omega arith) in
-    let goes : p.flow ≡ Goes =
-    ap (λ (o : Obeyed). flow_of m.ends_when_full o.answer) done in
-    let longer : length p.standing.machine.history ≡ length s.machine.history + 1 =
-    ap (λ (o : Obeyed). length o.machine.history) done
-    ∙ length-append s.machine.history (entry.Frame ∷ []) in
-    let limit : p.standing.machine.limit ≡ s.machine.limit =
-    ap (λ (o : Obeyed). o.machine.limit) done in
-    ap (λ (flow : Flow). (onward_by flow p next).flow) goes
-    ∙ frames_go m line n p.standing (omega (arith, longer, limit))
+make-closes : Closes make_manner
+make-closes = record {
+  final = λ s r. refl;
+  close = λ messages r. refl;
+  saves = λ r. refl;
+}
 
-frames_list : (m : Manner) (n : ℕ) (s : Standing)
-    → length s.machine.history + n ≤ s.machine.limit → (list_plan m (frames_cue n) s).flow ≡ Goes
-frames_list m n s room =
-    let cue : Cue = record { line = 0; times = n; order = Do command.Frame } in
-    onward_goes (cue_plan m cue s).flow (cue_plan m cue s) (λ t. over Goes t)
-    (ap after_cue (frames_go m 0 n s room)) (λ t. refl)
+make-goes : Goes make_manner
+make-goes line answer messages r = refl
 
-concert_fine : (m : Manner) (cues : List Cue) (s : Standing) → (list_plan m cues s).flow ≡ Goes
-    → IfSome (concert m cues s).status IsFine
-unfolding concert run_plan last_plan close_plan
-concert_fine m cues s goes =
-    subst (λ (flow : Flow). IsFine (status_of_flow flow)) (sym goes) tt
-
--- scripts
+-- ---- scripts
 
 script_fine : (read : Result (List Cue) ScriptFault) (cues : List Cue) (s : Standing)
-    → read ≡ Ok cues → IfSome (script_outline read s).status IsFine
+    → read ≡ Ok cues → FineOutline (script_outline read s)
 unfolding script_outline
 script_fine (Ok others) cues s is =
-    concert_fine replay_manner others s (list_stays replay_manner others s refl)
+    concert_fine replay_manner tt others s replay-closes
+    (cues-go replay_manner others (concert_at s tt) replay-goes)
 script_fine (Err fault) cues s is = absurd cc
 
-loaded_fine : (script : Option (List ℕ)) (s : Standing) → IfSome script IsScript
-    → IfSome (loaded_script script s).status IsFine
+loaded_fine : (sheet : Sheet) (seed limit : ℕ) (script : Option (List ℕ))
+    → IfSome script IsScript → FineOutline (loaded_script sheet seed limit script)
 unfolding loaded_script
-loaded_fine None s ready = tt
-loaded_fine (Some text) s ready = script_fine (script_of text) ready.0 s ready.1
+loaded_fine sheet seed limit None ready = tt
+loaded_fine sheet seed limit (Some text) ready =
+    script_fine (any_script_of text) ready.0 _ ready.1
 
--- performances
+-- ---- performances
 
-finish_ends : (set : Setting) (save script : Option (List ℕ)) (e : Ending) (s : LiveState)
-    → (finish_course (record set { save = save; script = script }) e s).ending ≡ Some e
-unfolding finish_course close_course save_course script_course
-finish_ends set None None e s = refl
-finish_ends set (Some name) None e s = refl
-finish_ends set None (Some name) e s = refl
-finish_ends set (Some save) (Some script) e s = refl
-
-finish_spent : (set : Setting) (end : Option Ending) (s : LiveState)
-    → (finish_by set end s).ending ≡ Some ending.Spent → end ≡ Some ending.Spent
-finish_spent set None s spent = absurd cc
-finish_spent set (Some e) s spent = sym (finish_ends set set.save set.script e s) ∙ spent
-
-live_spent : (set : Setting) (polls : List Poll) (s : LiveState)
-    → (live_course set (blank_marks s.standing.machine.opened.dims) polls s).ending
-    ≡ Some ending.Spent → MAX_POLLS ≤ turns_of polls
-unfolding live_course paint_course
-live_spent set polls s spent =
-    let marks = blank_marks s.standing.machine.opened.dims in
-    let u = record s { shown = Some (picture_at marks s) } in
-    let c = polls_course set 0 polls u in
-    let late = spent_late set 0 polls u (finish_spent set c.ending c.state spent) in
-    omega (arith, late)
-
-ending_fine : (end : Option Ending) → end ≢ Some ending.Spent
-    → option_map status_of_ending end ≢ Some HistoryFull
+ending_fine : (end : Option Ending) → IsFineEnd end
     → IfSome (option_map status_of_ending end) IsFine
-ending_fine None kept room = tt
-ending_fine (Some ending.Left) kept room = tt
-ending_fine (Some ending.Full) kept room = room refl
-ending_fine (Some ending.Lost) kept room = tt
-ending_fine (Some ending.Spent) kept room = kept refl
+ending_fine None fine = tt
+ending_fine (Some (Stopped Left)) fine = tt
+ending_fine (Some (Stopped Full)) fine = absurd fine
+ending_fine (Some (Stopped TooLong)) fine = absurd fine
+ending_fine (Some Lost) fine = tt
+ending_fine (Some Spent) fine = absurd fine
 
-live_fine : (grid : List ℕ) (performance : Performance) (at : ℕ) (polls : List Poll)
+started_fine : (setup : Setup) (play : Performance) (start : Option ℕ) (polls : List Poll)
     (s : Standing) → turns_of polls < MAX_POLLS
-    → (live_outline grid performance at polls s).status ≢ Some HistoryFull
-    → IfSome (live_outline grid performance at polls s).status IsFine
-unfolding live_outline
-live_fine grid performance at polls s few room =
-    let set = setting_of grid performance in
-    let u = live_at_start set (screen_of performance) at s.machine s.tally in
-    ending_fine (live_course set (blank_marks s.machine.opened.dims) polls u).ending
-    (λ spent. omega (arith, few, live_spent set polls u spent)) room
+    → IfSome start (λ at. HasRoom (live_start setup play at s) polls)
+    → FineOutline (started_outline setup play start polls s)
+unfolding started_outline live_outline opening mapped
+started_fine setup play None polls s few room = tt
+started_fine setup play (Some at) polls s few room =
+    ending_fine (performance live_part (live_start setup play at s) polls).ending
+    (performance-fine (live_start setup play at s) polls room few)
 
-started_fine : (grid : List ℕ) (performance : Performance) (start : Option ℕ) (polls : List Poll)
-    (s : Standing) → turns_of polls < MAX_POLLS
-    → IfSome start (λ at. (live_outline grid performance at polls s).status ≢ Some HistoryFull)
-    → IfSome (started_outline grid performance start polls s).status IsFine
-unfolding started_outline
-started_fine grid performance None polls s few room = tt
-started_fine grid performance (Some at) polls s few room =
-    live_fine grid performance at polls s few room
+-- ---- requests
 
--- requests
+work_fine : (setup : Setup) (work : Work) (sheet : Sheet) (b : Brought)
+    → CanDo setup work sheet b → FineOutline (work_outline setup work sheet b)
+unfolding work_outline
+work_fine setup (Run frames) sheet b ready =
+    let s = standing_at sheet setup.seed setup.limit in
+    concert_fine run_manner tt (frames_cue frames) s run-closes
+    (frames-cue run_manner frames (concert_at s tt) run-frames (omega (arith, ready)))
+work_fine setup (Events frames) sheet b ready =
+    let s = standing_at sheet setup.seed setup.limit in
+    concert_fine events_manner tt (frames_cue frames) s events-closes
+    (frames-cue events_manner frames (concert_at s tt) events-frames (omega (arith, ready)))
+work_fine setup (Replay name) sheet b ready =
+    loaded_fine sheet setup.seed setup.limit b.script ready
+work_fine setup (Play play) sheet b ready =
+    started_fine setup play b.start b.polls (standing_at sheet setup.seed setup.limit) ready.0
+    ready.1
 
-work_fine : (grid : List ℕ) (work : Work) (h : Heard) (s : Standing) → s.machine.history ≡ []
-    → CanDo grid work h s → IfSome (work_outline grid work h s).status IsFine
-unfolding work_outline play_outline
-work_fine grid (Run frames) h s empty ready =
-    concert_fine run_manner (frames_cue frames) s
-    (frames_list run_manner frames s (omega (arith, ready, ap length empty)))
-work_fine grid (Events frames) h s empty ready =
-    concert_fine events_manner (frames_cue frames) s
-    (frames_list events_manner frames s (omega (arith, ready, ap length empty)))
-work_fine grid (Replay name) h s empty ready = loaded_fine h.script s ready
-work_fine grid (Play performance) h s empty ready =
-    started_fine grid performance h.start h.polls s ready.0 ready.1
-
-grid_fine : (setup : Setup) (work : Work) (h : Heard) (read : Result Sheet GridRefusal)
-    → CanOpen setup work h read → IfSome (grid_outline setup work h read).status IsFine
+grid_fine : (setup : Setup) (work : Work) (b : Brought) (read : Result Sheet GridRefusal)
+    → CanOpen setup work b read → FineOutline (grid_outline setup work b read)
 unfolding grid_outline
-grid_fine setup work h (Err refusal) ready = absurd ready
-grid_fine setup work h (Ok sheet) ready =
-    work_fine setup.grid work h (standing_at sheet setup.seed setup.limit) refl ready
+grid_fine setup work b (Err refusal) ready = absurd ready
+grid_fine setup work b (Ok sheet) ready = work_fine setup work sheet b ready
 
-loaded_grid_fine : (setup : Setup) (work : Work) (h : Heard) (grid : Option (List ℕ))
-    → IfSome grid (λ text. CanOpen setup work h (grid_text text))
-    → IfSome (loaded_grid setup work h grid).status IsFine
+loaded_grid_fine : (setup : Setup) (work : Work) (b : Brought) (grid : Option (List ℕ))
+    → IfSome grid (λ text. CanOpen setup work b (grid_text text))
+    → FineOutline (loaded_grid setup work b grid)
 unfolding loaded_grid
-loaded_grid_fine setup work h None ready = tt
-loaded_grid_fine setup work h (Some text) ready = grid_fine setup work h (grid_text text) ready
+loaded_grid_fine setup work b None ready = tt
+loaded_grid_fine setup work b (Some text) ready = grid_fine setup work b (grid_text text) ready
 
 request_fine : (request : Request) (h : Heard) → IsReady request h
-    → IfSome (request_outline request h).status IsFine
+    → FineOutline (request_outline request h)
 unfolding request_outline made_outline
 request_fine (Make load) h ready =
     let cues = made_cues load.seed (size_of load) load.frames in
     let s = standing_at (made_sheet load.seed (size_of load)) load.seed DEFAULT_HISTORY in
-    concert_fine make_manner cues s (list_stays make_manner cues s refl)
-request_fine (Perform setup work) h ready = loaded_grid_fine setup work h h.grid ready
+    concert_fine make_manner tt cues s make-closes
+    (cues-go make_manner cues (concert_at s tt) make-goes)
+request_fine (Perform setup work) h ready = loaded_grid_fine setup work h.brought h.grid ready
 
 asked_fine : (request : Option Request) (h : Heard)
-    → IsSomeAnd request (λ some. IsReady some h)
-    → IfSome (asked_outline request h).status IsFine
+    → IsSomeAnd request (λ some. IsReady some h) → FineOutline (asked_outline request h)
 asked_fine None h ready = absurd ready
 asked_fine (Some request) h ready = request_fine request h ready
 
 outline_fine : (words : List (List ℕ)) (h : Heard)
-    → IsSomeAnd (request_of words) (λ request. IsReady request h)
-    → IfSome (outline words h).status IsFine
+    → IsSomeAnd (request_of words) (λ request. IsReady request h) → FineOutline (outline words h)
 unfolding outline
 outline_fine words h ready = asked_fine (request_of words) h ready
 
--- a run
+-- ---- a run
+
+-- a count that stands still below its last value did not rise
+no_rise : (m n : ℕ) → n ≡ m → m < last_count → Rose m n → ⊥
+no_rise m n same low (inl more) = omega (arith, same, more)
+no_rise m n same low (inr last) = omega (arith, same, low, last)
+
+-- a status that was caused without a fault reports none
+reports_none : (status : Status) (x y : Counts) → IsCaused status x y → y ≡ x → AreLow x
+    → ReportsNoFault status
+reports_none Done x y caused same low = tt
+reports_none Usage x y caused same low = tt
+reports_none (GridRefused refusal) x y caused same low = tt
+reports_none OutFault x y caused same low =
+    no_rise x.outs y.outs (ap (λ (c : Counts). c.outs) same) low.outs caused.3
+reports_none FileFault x y caused same low =
+    no_rise x.files y.files (ap (λ (c : Counts). c.files) same) low.files caused.0
+reports_none (ScriptRefused line column) x y caused same low = tt
+reports_none HistoryFull x y caused same low = tt
+reports_none InboxFault x y caused same low =
+    no_rise x.inbox y.inbox (ap (λ (c : Counts). c.inbox) same) low.inbox caused
+reports_none TurnsSpent x y caused same low = tt
+reports_none Memory x y caused same low = tt
 
 planned_ends : (planned : Option Status) (status : Status) → IfSome planned IsFine
     → IsSomeAnd planned (λ some. EndsAs some status) → ReportsNoFault status
@@ -281,28 +239,28 @@ planned_ends : (planned : Option Status) (status : Status) → IfSome planned Is
 planned_ends None status fine ends none = absurd ends
 planned_ends (Some planned) status fine ends none = fine_ends planned status fine ends none
 
-whole_ends : (o : Outline) (status : Status) (said : List Sent) (x y : Told)
-    → IfSome o.status IsFine → ReportsNoFault status → Went o said x status y
-    → (status ≡ Done) ⊎ (status ≡ Memory)
+whole_ends : (o : Outline) (status : Status) (x y : World) → FineOutline o
+    → ReportsNoFault status → Went o x status y → (status ≡ Done) ⊎ (status ≡ Memory)
 unfolding Went
-whole_ends o Done said x y fine none went = inl refl
-whole_ends o Usage said x y fine none went = planned_ends o.status Usage fine went.ends none
-whole_ends o (GridRefused refusal) said x y fine none went =
-    planned_ends o.status (GridRefused refusal) fine went.ends none
-whole_ends o OutFault said x y fine none went = absurd none
-whole_ends o FileFault said x y fine none went = absurd none
-whole_ends o (ScriptRefused line column) said x y fine none went =
-    planned_ends o.status (ScriptRefused line column) fine went.ends none
-whole_ends o HistoryFull said x y fine none went =
-    planned_ends o.status HistoryFull fine went.ends none
-whole_ends o InboxFault said x y fine none went = absurd none
-whole_ends o TurnsSpent said x y fine none went =
-    planned_ends o.status TurnsSpent fine went.ends none
-whole_ends o Memory said x y fine none went = inr refl
+whole_ends o Done x y fine none went = inl refl
+whole_ends o Usage x y fine none went = planned_ends o.course.ending Usage fine went.ends none
+whole_ends o (GridRefused refusal) x y fine none went =
+    planned_ends o.course.ending (GridRefused refusal) fine went.ends none
+whole_ends o OutFault x y fine none went = absurd none
+whole_ends o FileFault x y fine none went = absurd none
+whole_ends o (ScriptRefused line column) x y fine none went =
+    planned_ends o.course.ending (ScriptRefused line column) fine went.ends none
+whole_ends o HistoryFull x y fine none went =
+    planned_ends o.course.ending HistoryFull fine went.ends none
+whole_ends o InboxFault x y fine none went = absurd none
+whole_ends o TurnsSpent x y fine none went =
+    planned_ends o.course.ending TurnsSpent fine went.ends none
+whole_ends o Memory x y fine none went = inr refl
 
-pub completes : (words : List (List ℕ)) (h : Heard) (status : Status) (said : List Sent)
-    (x y : Told) → ReportsNoFault status
+pub completes : (words : List (List ℕ)) (h : Heard) (status : Status) (x mid y : World)
+    → Went (outline words h) x status mid → IsCaused status (counts_of x) (counts_of y)
     → IsSomeAnd (request_of words) (λ request. IsReady request h)
-    → Went (outline words h) said x status y → (status ≡ Done) ⊎ (status ≡ Memory)
-completes words h status said x y none ready went =
-    whole_ends (outline words h) status said x y (outline_fine words h ready) none went
+    → counts_of y ≡ counts_of x → AreLow (counts_of x) → (status ≡ Done) ⊎ (status ≡ Memory)
+completes words h status x mid y went caused ready same low =
+    whole_ends (outline words h) status x mid (outline_fine words h ready)
+    (reports_none status (counts_of x) (counts_of y) caused same low) went

@@ -1,34 +1,33 @@
 -- Laws of performances, on the outlines of runs: how bytes were cut into answers changes nothing
 -- that lasts, and the script that is saved ends in the same session.
 use Rattle.std.specs.Prelude.{◌≡◌, ◌≢◌, ◌≤◌, ℕ, List, length, Some, None, is_some}
-use Rattle.std.specs.List.{flat_map}
-use Rattle.orca_base.specs.declared.command.Command.{Command}
+use Rattle.std.specs.Option.{option_map}
 use Rattle.orca_base.specs.declared.limits.TheConstants.{MAX_POLLS}
+use Rattle.orca_course.specs.Acts.{commands_in}
 use Rattle.orca_live.specs.Items.{items_of}
-use Rattle.orca_script.specs.Canonical.{printed}
-use Rattle.orca_stage.specs.Acts.{commands_in}
+use Rattle.orca_script.specs.Runs.{printed_script}
 use Rattle.orca_words.specs.Requests.{Perform, Performance, Play, Replay, Setup, request_of}
-use Rattle.orca_player.specs.Outlines.{Heard, Outline, outline, request_outline}
-use Rattle.orca_player.specs.Running.{ReadsBack}
+use Rattle.orca_player.specs.Outlines.{Heard, Outline, Script, outline, request_outline}
+use Rattle.orca_player.specs.Doing.{ReadsBack}
 
 -- the answers of the inbox do not break off
 abbrev pub HasEnd : Outline → Type 0
-HasEnd o = o.status ≢ None
+HasEnd o = o.course.ending ≢ None
 
 -- the files hold the same, and the same bytes and due frames come, in the same order; moments, and
 -- how the bytes are cut into answers, may differ
 pub record HearAlike (h k : Heard) : Type 0 where
   pub grid : k.grid ≡ h.grid
-  pub script : k.script ≡ h.script
-  pub starts : is_some k.start ≡ is_some h.start
-  pub items : items_of h.polls ≡ items_of k.polls
-  pub few : length h.polls ≤ MAX_POLLS
-  pub few_others : length k.polls ≤ MAX_POLLS
+  pub script : k.brought.script ≡ h.brought.script
+  pub starts : is_some k.brought.start ≡ is_some h.brought.start
+  pub items : items_of h.brought.polls ≡ items_of k.brought.polls
+  pub few : length h.brought.polls ≤ MAX_POLLS
+  pub few_others : length k.brought.polls ≤ MAX_POLLS
 
 -- the same commands, the same session at last, and the same script that is saved
 pub record EndAlike (o p : Outline) : Type 0 where
-  pub commands : commands_in o.acts ≡ commands_in p.acts
-  pub session : o.session ≡ p.session
+  pub commands : commands_in o.course.acts ≡ commands_in p.course.acts
+  pub standing : o.course.state ≡ p.course.state
   pub given : o.given ≡ p.given
 
 -- any cutting
@@ -37,23 +36,26 @@ CutsAlike words =
     (h k : Heard) → HearAlike h k → HasEnd (outline words h) → HasEnd (outline words k)
     → EndAlike (outline words h) (outline words k)
 
--- the same files, but with the script of these commands
-abbrev pub with_script : List Command → Heard → Heard
-with_script commands h = record h { script = Some (flat_map printed commands) }
+-- the same files, but with the text of this script
+abbrev pub with_script : Script → Heard → Heard
+with_script script h = record h {
+  brought = record h.brought { script = Some (printed_script script.seed script.commands) };
+}
 
--- the script that a performance saves is that of all its commands. A `replay` of it on the same
--- grid, with the same seed and limit, ends in the same session
-pub record IsReplayed (setup : Setup) (h : Heard) (commands : List Command) (o : Outline)
+-- the script that a performance saves is that of its seed and all its commands. A `replay` of it on
+-- the same grid, with the same limit and any seed, ends in the same session
+pub record IsReplayed (setup : Setup) (h : Heard) (script : Script) (o : Outline)
     : Type 0 where
-  pub all : commands ≡ commands_in o.acts
-  pub session : (other : Setup) (name : List ℕ) → other.seed ≡ setup.seed
-      → other.limit ≡ setup.limit
-      → (request_outline (Perform other (Replay name)) (with_script commands h)).session
-      ≡ o.session
+  pub seed : script.seed ≡ setup.seed
+  pub all : script.commands ≡ commands_in o.course.acts
+  pub session : (other : Setup) (name : List ℕ) → other.limit ≡ setup.limit
+      → option_map (λ s. s.machine) (request_outline (Perform other (Replay name))
+      (with_script script h)).course.state
+      ≡ option_map (λ s. s.machine) o.course.state
 
 abbrev pub ReplaysAlike : List (List ℕ) → Type 0
 ReplaysAlike words =
-    (setup : Setup) (performance : Performance) (h : Heard) (commands : List Command)
+    (setup : Setup) (performance : Performance) (h : Heard) (script : Script)
     → request_of words ≡ Some (Perform setup (Play performance))
-    → HasEnd (outline words h) → (outline words h).given ≡ Some commands → ReadsBack commands
-    → IsReplayed setup h commands (outline words h)
+    → HasEnd (outline words h) → (outline words h).given ≡ Some script
+    → ReadsBack script → IsReplayed setup h script (outline words h)

@@ -1,5 +1,6 @@
 pub mod Statuses
 pub mod Outlines
 pub mod Ready
+pub mod Doing
 pub mod Running
 pub mod Laws

@@ -1,124 +1,134 @@
--- The definition of a run: all that it does on the outside, in order, and how it ends, by its words
--- and by what the files give to it.
-use Rattle.std.specs.Prelude.{ℕ, List, [], ◌∷◌, ◌++◌, Option, Some, None, Result, Ok, Err}
+-- The definition of a run: all that it does on the outside, in order, what it may cost, and how it
+-- ends, by its words and by what the outside gives to it.
+use Rattle.std.specs.Prelude.{ℕ, Bool, true, List, [], ◌∷◌, ◌++◌, Option, Some, None, Result, Ok, Err, unwrap_or}
 use Rattle.std.specs.Option.{option_map}
 use Rattle.orca_base.specs.declared.limits.TheConstants.{DEFAULT_HISTORY}
 use Rattle.orca_base.specs.declared.port.Port.{Port}
 use Rattle.orca_base.specs.declared.port.Port.TheVariants as port
 use Rattle.orca_base.specs.declared.command.Command.{Command}
 use Rattle.orca_base.specs.Grids.{Sheet, Size}
+use Rattle.orca_concert.specs.Concerts.{Concert, concert as concert_at, concert_course}
+use Rattle.orca_concert.specs.Manners.{Manner}
+use Rattle.orca_course.specs.Acts.{Act}
+use Rattle.orca_course.specs.Acts.Act.{Attach, Listen, Load, Stand}
+use Rattle.orca_course.specs.Courses.{Course, course, ended, joined, mapped}
+use Rattle.orca_course.specs.Performers.{performance}
+use Rattle.orca_course.specs.Standings.{Standing, standing, tally_at_start}
+use Rattle.orca_course.specs.declared.ending.Ending.{Ending}
+use Rattle.orca_course.specs.declared.ending.Ending.TheVariants.{Stopped, Lost, Spent}
+use Rattle.orca_course.specs.declared.ending.Stop.{Stop}
+use Rattle.orca_course.specs.declared.ending.Stop.TheVariants.{Left, Full, TooLong}
 use Rattle.orca_cues.specs.Cues.{frames_cue}
 use Rattle.orca_cues.specs.Made.{made_cues, made_sheet}
-use Rattle.orca_cues.specs.Scripts.{script_of}
+use Rattle.orca_cues.specs.Scripts.{any_script_of, seed_in}
 use Rattle.orca_cues.specs.declared.fault.ScriptFault.{ScriptFault}
 use Rattle.orca_cues.specs.declared.source.Cue.{Cue}
-use Rattle.orca_edit.specs.Obeying.{MachineState, machine_at_start}
+use Rattle.orca_edit.specs.Obeying.{machine_at_start}
+use Rattle.orca_edit.specs.Prices.{kept_at_start}
 use Rattle.orca_grid.specs.GridText.{grid_text}
 use Rattle.orca_grid.specs.declared.refusal.GridRefusal.{GridRefusal}
-use Rattle.orca_live.specs.Courses.{Course}
-use Rattle.orca_live.specs.Performing.{live_course}
+use Rattle.orca_live.specs.Performing.{live_part}
 use Rattle.orca_live.specs.Starting.{live_at_start}
-use Rattle.orca_live.specs.States.{Setting}
-use Rattle.orca_live.specs.declared.ending.Ending.{Ending}
-use Rattle.orca_live.specs.declared.ending.Ending.TheVariants.{Full, Left, Lost, Spent}
-use Rattle.orca_op.specs.State.{blank_marks}
+use Rattle.orca_live.specs.States.{LiveState, Setting}
 use Rattle.orca_reports.specs.Manners.{events_manner, make_manner, replay_manner, run_manner}
 use Rattle.orca_rig.specs.Arrived.{Poll}
-use Rattle.orca_rig.specs.Outside.Ask.{Load}
-use Rattle.orca_stage.specs.Acts.{Act}
-use Rattle.orca_stage.specs.Acts.Act.{Attach, Listen, Store}
-use Rattle.orca_stage.specs.Manners.{Manner}
-use Rattle.orca_stage.specs.Plans.{run_plan}
-use Rattle.orca_stage.specs.Standings.{Standing, standing, tally_at_start}
-use Rattle.orca_stage.specs.declared.flow.Flow.{Flow}
-use Rattle.orca_stage.specs.declared.flow.Flow.TheVariants.{Goes, Drops, Ends}
 use Rattle.orca_term.specs.declared.cell.ScreenSize.{ScreenSize}
 use Rattle.orca_words.specs.Requests.{Events, Make, Perform, Performance, Play, Replay, Request, Run, Setup, Work, Workload, request_of}
 use Rattle.orca_player.specs.declared.status.Status.{Status}
 use Rattle.orca_player.specs.declared.status.Status.TheVariants.{Done, Usage, GridRefused, FileFault, ScriptRefused, HistoryFull, InboxFault, TurnsSpent}
 
--- what the outside gives to a run: the texts of the files of its grid and of its script, each
--- unless its load fails; the moment at which its inbox listens, unless that fails; and the polls
--- of the inbox with their answers
-pub record Heard : Type 0 where
-  pub grid : Option (List ℕ)
+-- what the outside gives to the work on a grid: the text of the file of its script, unless its load
+-- fails; the moment at which its inbox listens, unless that fails; and the polls of the inbox with
+-- their answers
+pub record Brought : Type 0 where
   pub script : Option (List ℕ)
   pub start : Option ℕ
   pub polls : List Poll
 
--- texts alone
-abbrev pub heard : Option (List ℕ) → Option (List ℕ) → Heard
-heard grid script = record { grid = grid; script = script; start = None; polls = [] }
+-- nothing
+abbrev pub nothing : Brought
+nothing = record { script = None; start = None; polls = [] }
 
--- with another text of the grid
-abbrev pub with_grid : Option (List ℕ) → Heard → Heard
-with_grid grid h = record h { grid = grid }
+-- and to a run: the text of the file of its grid too, unless its load fails
+pub record Heard : Type 0 where
+  pub grid : Option (List ℕ)
+  pub brought : Brought
 
--- what a run does on the outside; how it ends, unless the answers of its inbox break off; where
--- its session stands at last; the screen that it paints on, and the commands of the script that it
--- saves, where it has them
+-- the seed and the commands of a script
+pub record Script : Type 0 where
+  pub seed : ℕ
+  pub commands : List Command
+
+-- whether the messages of commands are handed out; what a run does, where its session stands at
+-- last, and how it ends, unless the answers of its inbox break off; the screen that it paints on, and
+-- the script that it saves, if it has them
 pub record Outline : Type 0 where
-  pub acts : List Act
-  pub status : Option Status
-  pub session : Option MachineState
+  pub hands : Bool
+  pub course : Course (Option Standing) Status
   pub screen : Option ScreenSize
-  pub given : Option (List Command)
+  pub given : Option Script
 
 -- without a screen and a script
-abbrev pub plain : List Act → Status → Option MachineState → Outline
-plain acts status session = record {
-  acts = acts;
-  status = Some status;
-  session = session;
-  screen = None;
-  given = None;
-}
+abbrev pub plain : Bool → Course (Option Standing) Status → Outline
+plain hands c = record { hands = hands; course = c; screen = None; given = None }
 
 -- nothing more is done, and the run ends so
 abbrev pub stopped : Status → Outline
-stopped status = plain [] status None
+stopped status = plain true (ended status None)
 
--- acts, and then the rest of a run
+-- acts before the session is opened, and then the rest of a run
 abbrev pub after : List Act → Outline → Outline
-after acts o = record o { acts = acts ++ o.acts }
+after acts o = record o { course = joined (course {S = Option Standing} {E = Status} acts 0 None) o.course }
 
 -- ---- a list of commands
 
 -- an opened grid, and nothing done yet
 abbrev pub standing_at : Sheet → ℕ → ℕ → Standing
-standing_at sheet seed limit = standing (machine_at_start sheet seed limit) tally_at_start
+standing_at sheet seed limit = standing (machine_at_start sheet seed limit) kept_at_start tally_at_start
 
--- a full history ended it, or all was done
-abbrev pub status_of_flow : Flow → Status
-status_of_flow Goes = Done
-status_of_flow Drops = Done
-status_of_flow Ends = HistoryFull
+-- the session is opened, and then a course of what stands on it
+unfoldable pub opening : {S E : Type 0} → (S → Standing) → (Option E → Option Status) → Standing
+    → Course S E → Course (Option Standing) Status
+opening f g s c =
+    joined (course {S = Option Standing} {E = Status} (Stand s ∷ []) 0 (Some s)) (mapped (λ t. Some (f t)) g c)
 
--- all cues are done, and the run closes
-unfoldable pub concert : Manner → List Cue → Standing → Outline
-concert m cues s =
-    let p = run_plan m cues s in
-    plain p.acts (status_of_flow p.flow) (Some p.standing.machine)
+abbrev pub status_of_stop : Stop → Status
+status_of_stop Left = Done
+status_of_stop Full = HistoryFull
+status_of_stop TooLong = Done
+
+-- all was done, or what ended it early decides
+abbrev pub status_of_end : Option Stop → Status
+status_of_end None = Done
+status_of_end (Some stop) = status_of_stop stop
+
+-- the session is opened, all cues are done, and the run closes
+unfoldable pub concert : {R : Type 0} → Manner R → R → List Cue → Standing → Outline
+concert m r cues s =
+    plain m.hands (opening (λ t. t.standing) (λ end. Some (status_of_end end)) s
+    (concert_course m cues (concert_at s r)))
 
 -- ---- a script
 
 -- every line is read before the first command is done
 unfoldable pub script_outline : Result (List Cue) ScriptFault → Standing → Outline
 script_outline (Err fault) s = stopped (ScriptRefused fault.line fault.column)
-script_outline (Ok cues) s = concert replay_manner cues s
+script_outline (Ok cues) s = concert replay_manner tt cues s
 
--- a script that can't be loaded ends the run
-unfoldable pub loaded_script : Option (List ℕ) → Standing → Outline
-loaded_script None s = stopped FileFault
-loaded_script (Some text) s = script_outline (script_of text) s
+-- a script may give the seed; one that can't be loaded ends the run
+unfoldable pub loaded_script : Sheet → ℕ → ℕ → Option (List ℕ) → Outline
+loaded_script sheet seed limit None = stopped FileFault
+loaded_script sheet seed limit (Some text) =
+    script_outline (any_script_of text) (standing_at sheet (unwrap_or (seed_in text) seed) limit)
 
 -- ---- a performance
 
--- how fast the grid of this name is played, and the files that it is saved to
-abbrev pub setting_of : List ℕ → Performance → Setting
-setting_of grid performance = record {
+-- how a grid is played, and the files that it is saved to
+abbrev pub setting_of : Setup → Performance → Setting
+setting_of setup performance = record {
   bpm = performance.bpm;
-  grid = grid;
+  seed = setup.seed;
+  grid = setup.grid;
   save = performance.save;
   script = performance.script;
 }
@@ -128,67 +138,68 @@ abbrev pub screen_of : Performance → ScreenSize
 screen_of performance = record { rows = performance.rows; columns = performance.cols }
 
 abbrev pub status_of_ending : Ending → Status
-status_of_ending Left = Done
-status_of_ending Full = HistoryFull
+status_of_ending (Stopped stop) = status_of_stop stop
 status_of_ending Lost = InboxFault
 status_of_ending Spent = TurnsSpent
 
--- the commands of a script that is saved
-abbrev pub saved_commands : Option (List ℕ) → Option (List Command) → Option (List Command)
-saved_commands None given = None
-saved_commands (Some name) given = given
+-- a performance that starts at a moment
+abbrev pub live_start : Setup → Performance → ℕ → Standing → LiveState
+live_start setup play at s = live_at_start (setting_of setup play) (screen_of play) at s
 
--- a course of a performance
-abbrev pub outline_of : Performance → Course → Outline
-outline_of performance c = record {
-  acts = c.acts;
-  status = option_map status_of_ending c.ending;
-  session = Some c.state.standing.machine;
-  screen = Some (screen_of performance);
-  given = saved_commands performance.script c.state.given;
+-- the script of a seed and the commands that were kept, if it is saved
+abbrev pub script_kept : Option (List ℕ) → ℕ → Option (List Command) → Option Script
+script_kept None seed given = None
+script_kept (Some name) seed given =
+    option_map (λ commands. record { seed = seed; commands = commands }) given
+
+-- the outline of the course of a performance
+abbrev pub outline_of : LiveState → Course LiveState Ending → Outline
+outline_of s c = record {
+  hands = true;
+  course = opening (λ t. t.standing) (option_map status_of_ending) s.standing c;
+  screen = Some s.screen;
+  given = script_kept s.setting.script s.setting.seed c.state.given;
 }
 
--- a performance that starts at a moment
-unfoldable pub live_outline : List ℕ → Performance → ℕ → List Poll → Standing → Outline
-live_outline grid performance at polls s =
-    let set = setting_of grid performance in
-    outline_of performance
-    (live_course set (blank_marks s.machine.opened.dims) polls
-    (live_at_start set (screen_of performance) at s.machine s.tally))
+-- the session is opened, and a performance plays from where it stands
+abbrev pub played : LiveState → List Poll → Outline
+played s polls = outline_of s (performance live_part s polls)
+
+-- the same from its start
+unfoldable pub live_outline : Setup → Performance → ℕ → List Poll → Standing → Outline
+live_outline setup play at polls s = played (live_start setup play at s) polls
 
 -- an inbox that can't listen ends the run
-unfoldable pub started_outline : List ℕ → Performance → Option ℕ → List Poll → Standing → Outline
-started_outline grid performance None polls s = stopped InboxFault
-started_outline grid performance (Some at) polls s = live_outline grid performance at polls s
-
--- the inbox listens at its address for one hand, and the performance starts
-unfoldable pub play_outline : List ℕ → Performance → Option ℕ → List Poll → Standing → Outline
-play_outline grid performance start polls s =
-    after (Listen performance.address 1 start ∷ [])
-    (started_outline grid performance start polls s)
+unfoldable pub started_outline : Setup → Performance → Option ℕ → List Poll → Standing → Outline
+started_outline setup play None polls s = stopped InboxFault
+started_outline setup play (Some at) polls s = live_outline setup play at polls s
 
 -- ---- a grid
 
--- what is done on the opened grid of this name
-unfoldable pub work_outline : List ℕ → Work → Heard → Standing → Outline
-work_outline grid (Run frames) h s = concert run_manner (frames_cue frames) s
-work_outline grid (Events frames) h s = concert events_manner (frames_cue frames) s
-work_outline grid (Replay name) h s =
-    after (Store (Load name) ∷ []) (loaded_script h.script s)
-work_outline grid (Play performance) h s = play_outline grid performance h.start h.polls s
+-- what is done on an opened grid. The inbox listens at its address for one hand before a performance
+-- starts
+unfoldable pub work_outline : Setup → Work → Sheet → Brought → Outline
+work_outline setup (Run frames) sheet b =
+    concert run_manner tt (frames_cue frames) (standing_at sheet setup.seed setup.limit)
+work_outline setup (Events frames) sheet b =
+    concert events_manner tt (frames_cue frames) (standing_at sheet setup.seed setup.limit)
+work_outline setup (Replay name) sheet b =
+    after (Load name b.script ∷ []) (loaded_script sheet setup.seed setup.limit b.script)
+work_outline setup (Play play) sheet b =
+    after (Listen play.address 1 b.start ∷ [])
+    (started_outline setup play b.start b.polls (standing_at sheet setup.seed setup.limit))
 
 -- a text that is no grid ends the run
-unfoldable pub grid_outline : Setup → Work → Heard → Result Sheet GridRefusal → Outline
-grid_outline setup work h (Err refusal) = stopped (GridRefused refusal)
-grid_outline setup work h (Ok sheet) =
-    work_outline setup.grid work h (standing_at sheet setup.seed setup.limit)
+unfoldable pub grid_outline : Setup → Work → Brought → Result Sheet GridRefusal → Outline
+grid_outline setup work b (Err refusal) = stopped (GridRefused refusal)
+grid_outline setup work b (Ok sheet) = work_outline setup work sheet b
 
 -- a grid that can't be loaded ends the run
-unfoldable pub loaded_grid : Setup → Work → Heard → Option (List ℕ) → Outline
-loaded_grid setup work h None = stopped FileFault
-loaded_grid setup work h (Some text) = grid_outline setup work h (grid_text text)
+unfoldable pub loaded_grid : Setup → Work → Brought → Option (List ℕ) → Outline
+loaded_grid setup work b None = stopped FileFault
+loaded_grid setup work b (Some text) = grid_outline setup work b (grid_text text)
 
--- a port is attached to its name, where it has one
+-- a port is attached to its name, if it has one
 abbrev pub attaches_to : Port → Option (List ℕ) → List Act
 attaches_to port None = []
 attaches_to port (Some name) = Attach (record { port = port; name = name }) ∷ []
@@ -208,15 +219,15 @@ size_of load = record { h = load.height; w = load.width }
 -- a generated grid, and its commands
 unfoldable pub made_outline : Workload → Outline
 made_outline load =
-    concert make_manner (made_cues load.seed (size_of load) load.frames)
+    concert make_manner tt (made_cues load.seed (size_of load) load.frames)
     (standing_at (made_sheet load.seed (size_of load)) load.seed DEFAULT_HISTORY)
 
 -- the ports are attached, the grid is loaded, and the work is done
 unfoldable pub request_outline : Request → Heard → Outline
 request_outline (Make load) h = made_outline load
 request_outline (Perform setup work) h =
-    after (attaches setup ++ Store (Load setup.grid) ∷ [])
-    (loaded_grid setup work h h.grid)
+    after (attaches setup)
+    (after (Load setup.grid h.grid ∷ []) (loaded_grid setup work h.brought h.grid))
 
 -- words that ask for nothing are refused
 abbrev pub asked_outline : Option Request → Heard → Outline

@@ -1,79 +1,118 @@
 //! A list of commands on an opened grid.
 
-ghost use Rattle.std.specs.Prelude.{◌≡◌, ◌≢◌, ℕ, [], false, true, IfOk};
-ghost use Rattle.orca_op.specs.State.{blank_marks};
-ghost use Rattle.orca_player.specs.Outlines.{concert, standing_at, status_of_flow};
-ghost use Rattle.orca_player.specs.Running.{IsCaused, Went, counts, status_of};
-ghost use Rattle.orca_send.specs.Sending.{RecordsFaults};
-ghost use Rattle.orca_stage.specs.Standings.{standing};
-ghost use Rattle.orca_stage.specs.Told.{Told, told_with_sends};
+ghost use Rattle.std.specs.Prelude.{◌≡◌, [], IfOk};
+ghost use Rattle.orca_course.specs.Standings.{notes_of, standing};
+ghost use Rattle.orca_player.specs.Doing.{Came, status_at};
+ghost use Rattle.orca_player.specs.Outlines.{concert, standing_at, status_of_end, status_of_stop};
 
 use crate::Status;
 use crate::opening::Opening;
-use orca_base::{Memory, Steps};
+use orca_base::Memory;
+use orca_concert::{Report, Stage, close_early, play};
+use orca_course::{Desk, NoMemory, Stop};
 use orca_cues::Source;
-use orca_rig::Outs;
-use orca_send::NoMemory;
+use orca_edit::Machine;
+use orca_rig::{Files, Inbox, Outs};
 use orca_session::Session;
-use orca_stage::{Flow, Report, Stage, close_early, play};
 use std::sync::ledger::Ledger;
 
-/// Does all that the source gives, and ends the run. If memory is refused once the session is open,
-/// and not by a send, the notes that sound are ended.
-pub(crate) fn concert<S: Source, R: Report, O: Outs, L: Ledger>(
-    opening: &Opening<'_>,
-    source: &mut S,
-    report: &R,
-    outs: &mut O,
-    steps: &mut Steps<L>,
-) -> Status
-    requires hands { (R.manner report.now).hands ≡ true }
-    ensures usage { result ≢ Status.Usage }
-    ensures went { (before : Told) → Went
-        (concert (R.manner report.now) (S.left source.old)
-        (standing_at opening.now.grid opening.now.seed opening.now.limit)) []
-        (told_with_sends before (O.handed outs.old)) result
-        (told_with_sends before (O.handed outs.new)) }
-    ensures attached { O.attached outs.new ≡ O.attached outs.old }
-    ensures caused { (files inbox start : ℕ)
-        → RecordsFaults false opening.now.failed start (O.faults outs.old)
-        → IsCaused result (counts files start inbox) (counts files (O.faults outs.new) inbox) }
+/// Opens a session, does all that the source gives, and ends the run.
+pub(crate) fn concert<
+    S: Source,
+    R: Report + Drop,
+    F: Files + Drop,
+    O: Outs + Drop,
+    I: Inbox + Drop,
+    L: Ledger,
+>(opening: &Opening, source: &mut S, report: R, desk: &mut Desk<F, O, I, L>) -> Status
+    ensures { Came (concert R.manner (R.kept report) (S.left source.old)
+        (standing_at opening.now.grid opening.now.seed opening.now.limit))
+        desk.old result desk.new }
 {
-    let Ok(mut stage) = open_stage(opening) else {
-        return Status::Memory;
-    };
-    match play(&mut stage, source, report, outs, steps) {
-        Ok(flow) => status_of(flow, stage.sender.failed),
+    match open_stage(opening, report) {
+        Ok(mut stage) => do_all(&mut stage, source, desk),
+        Err(Memory) => Status::Memory,
+    }
+}
+
+/// Does all that the source gives, and ends the run. If memory is refused, and not by a send, the
+/// notes that sound are ended.
+///
+/// It knows no session but as a machine, so that what a session holds is not looked at here.
+fn do_all<
+    M: Machine + Drop,
+    S: Source,
+    R: Report + Drop,
+    F: Files + Drop,
+    O: Outs + Drop,
+    I: Inbox + Drop,
+    L: Ledger,
+>(stage: &mut Stage<M, R>, source: &mut S, desk: &mut Desk<F, O, I, L>) -> Status
+    requires begins { notes_of (standing (M.machine stage.old.machine) (M.kept stage.old.machine)
+        stage.old.tally) ≡ [] }
+    requires residue { M.residue stage.old.machine ≡ 0 }
+    ensures { Came (concert R.manner (R.kept stage.old.report) (S.left source.old)
+        (standing (M.machine stage.old.machine) (M.kept stage.old.machine) stage.old.tally))
+        desk.old result desk.new }
+{
+    stage.report.is_quiet();
+    match play(stage, source, desk) {
+        Ok(end) => settled(status_of_end(end), desk),
         Err(NoMemory::InSend) => Status::Memory,
         Err(NoMemory::Elsewhere) => {
             // The status is decided already, so a second refusal changes nothing.
-            let _ = close_early(&mut stage, report, outs);
+            let _ = close_early(stage, desk);
             Status::Memory
         }
     }
 }
 
 /// A session on the opened grid, before its first command.
-pub(crate) fn open_stage(opening: &Opening<'_>) -> Result<Stage<Session>, Memory>
-    ensures standing { IfOk result (λ stage. standing stage.machine.machine stage.tally
+pub(crate) fn open_stage<R: Report + Drop>(
+    opening: &Opening,
+    report: R,
+) -> Result<Stage<Session, R>, Memory>
+    ensures standing { IfOk result (λ stage.
+        standing stage.machine.machine stage.machine.kept stage.tally
         ≡ standing_at opening.now.grid opening.now.seed opening.now.limit) }
-    ensures failed { IfOk result (λ stage. stage.sender.failed ≡ opening.now.failed) }
-    ensures unmarked { IfOk result (λ stage.
-        stage.machine.marks ≡ blank_marks opening.now.grid.dims) }
+    ensures residue { IfOk result (λ stage. stage.machine.residue ≡ 0) }
+    ensures report { IfOk result (λ stage. stage.report ≡ report) }
 {
     let session = Session::start(opening.alloc, &opening.grid, opening.seed, opening.limit)?;
-    let mut stage = Stage::start(opening.alloc, session)?;
-    stage.sender.failed = opening.failed;
-    Ok(stage)
+    Stage::start(opening.alloc, session, report)
 }
 
-/// The status of a run that was done whole.
-fn status_of(flow: Flow, failed: bool) -> Status
-    ensures { result ≡ status_of flow failed }
+/// The status of a run that would end as planned: if all was done, a file that failed or a port that
+/// failed decides.
+pub(crate) fn settled<F: Files + Drop, O: Outs + Drop, I: Inbox + Drop, L: Ledger>(
+    planned: Status,
+    desk: &Desk<F, O, I, L>,
+) -> Status
+    ensures { result ≡ status_at planned desk.now }
 {
-    match flow {
-        Flow::Ends => Status::HistoryFull,
-        Flow::Goes | Flow::Drops if failed => Status::OutFault,
-        Flow::Goes | Flow::Drops => Status::Done,
+    match planned {
+        Status::Done if desk.is_unstored() => Status::FileFault,
+        Status::Done if desk.has_failed() => Status::OutFault,
+        planned => planned,
+    }
+}
+
+/// How a run would end that this has ended.
+pub(crate) fn status_of_stop(stop: Stop) -> Status
+    ensures { result ≡ status_of_stop stop }
+{
+    match stop {
+        Stop::Left | Stop::TooLong => Status::Done,
+        Stop::Full => Status::HistoryFull,
+    }
+}
+
+/// How a run would end that was done whole, or that this has ended early.
+fn status_of_end(end: Option<Stop>) -> Status
+    ensures { result ≡ status_of_end end }
+{
+    match end {
+        None => Status::Done,
+        Some(stop) => status_of_stop(stop),
     }
 }

@@ -1,73 +1,75 @@
 //! The line of a status.
 
-ghost use Rattle.std.specs.Prelude.{◌≡◌, ◌≢◌, ◌≤◌, ◌⊎◌, [], ◌∷◌, ◌++◌, IfOk};
+ghost use Rattle.std.specs.Prelude.{◌≡◌, ◌≢◌, ◌∷◌, ◌++◌, [], IfOk};
 ghost use Rattle.orca_base.specs.Ascii.{line_feed};
-ghost use Rattle.orca_player.specs.Running.{SaysLast};
+ghost use Rattle.orca_player.specs.Doing.{Said};
 ghost use Rattle.orca_player.specs.Statuses.{refusal_text, status_text};
 
 use crate::Status;
 use orca_base::{Memory, Port};
+use orca_course::Desk;
 use orca_grid::GridRefusal;
-use orca_rig::{Outs, SendFault};
+use orca_rig::{Files, Inbox, Outs};
 use orca_send::push_decimal;
 use std::alloc::Global;
+use std::sync::ledger::Ledger;
 
 /// Sends the line of a status that is no success, and answers the status; or
 /// [`Status::Memory`] if memory is refused for it.
 #[tactic(auto, unfolding(crate::specs::Statuses::status_text))]
-pub fn end<O: Outs>(alloc: Global, outs: &mut O, status: Status) -> Status
-    ensures status { (result ≡ status) ⊎ (result ≡ Status.Memory) }
-    ensures said { SaysLast result (O.handed outs.old) (O.handed outs.new) }
-    ensures attached { O.attached outs.new ≡ O.attached outs.old }
-    ensures count { O.faults outs.old ≤ O.faults outs.new }
-    ensures done { status ≡ Status.Done
-        → (result ≡ Status.Done) × (O.faults outs.new ≡ O.faults outs.old) }
+pub fn end<F: Files + Drop, O: Outs + Drop, I: Inbox + Drop, L: Ledger>(
+    alloc: Global,
+    desk: &mut Desk<F, O, I, L>,
+    status: Status,
+) -> Status
+    ensures { Said status result desk.old desk.new }
 {
     match status {
         Status::Done => Status::Done,
-        Status::Usage => say(outs, status, b"usage: orca run|events|replay|make|play\n"),
-        Status::GridRefused(refusal) => say_line(outs, status, refusal_line(alloc, refusal)),
-        Status::OutFault => say(outs, status, b"output fault\n"),
-        Status::FileFault => say(outs, status, b"file fault\n"),
+        Status::Usage => say(desk, status, b"usage: orca run|events|replay|make|play\n"),
+        Status::GridRefused(refusal) => say_line(desk, status, refusal_line(alloc, refusal)),
+        Status::OutFault => say(desk, status, b"output fault\n"),
+        Status::FileFault => say(desk, status, b"file fault\n"),
         Status::ScriptRefused { line, column } => {
-            say_line(outs, status, script_line(alloc, line, column))
+            say_line(desk, status, script_line(alloc, line, column))
         }
-        Status::HistoryFull => say(outs, status, b"history full\n"),
-        Status::InboxFault => say(outs, status, b"inbox fault\n"),
-        Status::TurnsSpent => say(outs, status, b"turns spent\n"),
-        Status::Memory => say(outs, status, b"no memory\n"),
+        Status::HistoryFull => say(desk, status, b"history full\n"),
+        Status::InboxFault => say(desk, status, b"inbox fault\n"),
+        Status::TurnsSpent => say(desk, status, b"turns spent\n"),
+        Status::Memory => say(desk, status, b"no memory\n"),
     }
 }
 
 /// Sends the last line of a run. A failed send of it changes nothing: the status is decided.
-fn say<O: Outs>(outs: &mut O, status: Status, line: &[u8]) -> Status
+fn say<F: Files + Drop, O: Outs + Drop, I: Inbox + Drop, L: Ledger>(
+    desk: &mut Desk<F, O, I, L>,
+    status: Status,
+    line: &[u8],
+) -> Status
     requires line { line.now ≡ status_text status ++ line_feed ∷ [] }
     requires some { status ≢ Status.Done }
-    ensures status { (result ≡ status) ⊎ (result ≡ Status.Memory) }
-    ensures said { SaysLast result (O.handed outs.old) (O.handed outs.new) }
-    ensures attached { O.attached outs.new ≡ O.attached outs.old }
-    ensures count { O.faults outs.old ≤ O.faults outs.new }
+    ensures { Said status result desk.old desk.new }
 {
-    match outs.send(Port::Fault, line) {
+    match desk.send(Port::Fault, line) {
         Ok(()) => status,
-        Err(SendFault::Failed) => status,
-        Err(SendFault::Memory) => Status::Memory,
+        Err(_) => Status::Memory,
     }
 }
 
 /// Sends the last line of a run, unless memory was refused for it.
 #[tactic(auto, unfolding(crate::specs::Statuses::status_text))]
-fn say_line<O: Outs>(outs: &mut O, status: Status, line: Result<Vec<u8>, Memory>) -> Status
+fn say_line<F: Files + Drop, O: Outs + Drop, I: Inbox + Drop, L: Ledger>(
+    desk: &mut Desk<F, O, I, L>,
+    status: Status,
+    line: Result<Vec<u8>, Memory>,
+) -> Status
     requires line { IfOk line (λ line. line.items ≡ status_text status ++ line_feed ∷ []) }
     requires some { status ≢ Status.Done }
-    ensures status { (result ≡ status) ⊎ (result ≡ Status.Memory) }
-    ensures said { SaysLast result (O.handed outs.old) (O.handed outs.new) }
-    ensures attached { O.attached outs.new ≡ O.attached outs.old }
-    ensures count { O.faults outs.old ≤ O.faults outs.new }
+    ensures { Said status result desk.old desk.new }
 {
     match line {
-        Ok(line) => say(outs, status, line.as_slice()),
-        Err(Memory) => say(outs, Status::Memory, b"no memory\n"),
+        Ok(line) => say(desk, status, line.as_slice()),
+        Err(Memory) => say(desk, Status::Memory, b"no memory\n"),
     }
 }
 

@@ -5,6 +5,8 @@ mod concert;
 mod ending;
 mod live;
 mod opening;
+mod reading;
+mod replay;
 mod status;
 #[cfg(test)]
 mod tests;

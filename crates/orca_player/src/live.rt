@@ -1,121 +1,160 @@
 //! A grid that is edited while it plays.
 
-ghost use Rattle.std.specs.Prelude.{◌≡◌, ◌≢◌, ℕ, List, Option, [], false, IfOk};
-ghost use Rattle.orca_live.specs.Starting.{live_at_start};
-ghost use Rattle.orca_live.specs.States.{IsPlaced, setting_in, state_of};
-ghost use Rattle.orca_op.specs.State.{blank_marks};
-ghost use Rattle.orca_player.specs.Outlines.{play_outline, screen_of, setting_of, standing_at};
-ghost use Rattle.orca_player.specs.Running.{IsCaused, Went, counts, status_at};
-ghost use Rattle.orca_rig.specs.Arrived.{Poll};
-ghost use Rattle.orca_send.specs.Sending.{RecordsFaults};
-ghost use Rattle.orca_stage.specs.Told.{told};
-ghost use Rattle.orca_words.specs.RequestIn.{performance_in};
+ghost use Rattle.std.specs.Prelude.{◌≡◌, IfOk, IfSome, [], ◌∷◌, false};
+ghost use Rattle.orca_course.specs.Acts.Act.{Listen};
+ghost use Rattle.std.specs.Option.{option_map};
+ghost use Rattle.orca_course.specs.Standings.{notes_of, standing};
+ghost use Rattle.orca_live.specs.States.{setting_in, state_of};
+ghost use Rattle.orca_player.specs.Doing.{CameBy};
+ghost use Rattle.orca_player.specs.Outlines.{after, live_outline, live_start, played, setting_of, standing_at, started_outline, status_of_ending};
+ghost use Rattle.orca_script.specs.Runs.{ScriptReadsBack};
+ghost use Rattle.orca_term.specs.Picture.{IsScreen};
+ghost use Rattle.orca_words.specs.RequestIn.{performance_in, setup_in};
 
 use crate::Status;
-use crate::concert::open_stage;
+use crate::concert::{open_stage, settled, status_of_stop};
 use crate::opening::Opening;
-use orca_base::{Memory, Steps};
-use orca_live::{Ending, Live, Setting, Silent, perform};
-use orca_rig::{Files, Inbox, Outs, SendFault};
-use orca_send::NoMemory;
+use crate::reading::reading_law;
+use orca_base::{Command, Memory};
+use orca_concert::close_early;
+use orca_course::{Desk, Ending, NoMemory, perform};
+use orca_edit::Machine;
+use orca_live::{Live, Setting, Silent};
+use orca_rig::{Files, Inbox, Outs};
 use orca_session::Session;
-use orca_stage::close_early;
 use orca_term::ScreenSize;
-use orca_words::Performance;
+use orca_words::{Performance, Setup};
 use std::sync::ledger::Ledger;
 
-/// Waits for a player at the address, and plays the grid until the performance ends. If memory is
-/// refused once the session is open, and not by a send, the notes that sound are ended.
-pub(crate) fn play<F: Files, O: Outs, I: Inbox, L: Ledger>(
-    opening: &Opening<'_>,
+/// Waits for a player at the address, and plays the grid until the performance ends.
+pub(crate) fn play<F: Files + Drop, O: Outs + Drop, I: Inbox + Drop, L: Ledger>(
+    opening: &Opening,
+    setup: &Setup<'_>,
     performance: &Performance<'_>,
-    files: &mut F,
-    outs: &mut O,
-    inbox: &mut I,
-    steps: &mut Steps<L>,
+    desk: &mut Desk<F, O, I, L>,
 ) -> Status
-    requires fresh { I.listened inbox.old ≡ false }
-    requires open { I.ended inbox.old ≡ false }
-    ensures usage { result ≢ Status.Usage }
-    ensures went { (start : Option ℕ) × (polls : List Poll) × Went
-        (play_outline opening.now.name.now (performance_in performance.now) start polls
-        (standing_at opening.now.grid opening.now.seed opening.now.limit)) []
-        (told (O.handed outs.old) (O.attached outs.old) (F.asked files.old) (F.contents files.old)
-        (F.faults files.old) (I.log inbox.old)) result
-        (told (O.handed outs.new) (O.attached outs.new) (F.asked files.new) (F.contents files.new)
-        (F.faults files.new) (I.log inbox.new)) }
-    ensures causes { (start : ℕ)
-        → RecordsFaults false opening.now.failed start (O.faults outs.old)
-        → IsCaused result (counts (F.faults files.old) start (I.faults inbox.old))
-        (counts (F.faults files.new) (O.faults outs.new) (I.faults inbox.new)) }
+    requires fresh { desk.old.mail.listened ≡ false }
+    requires open { desk.old.mail.ended ≡ false }
+    requires sound { desk.old.lost ≡ false }
+    requires same { (opening.now.seed ≡ setup.now.seed) × (opening.now.limit ≡ setup.now.limit) }
+    ensures { CameBy (λ b. let s = standing_at opening.now.grid opening.now.seed opening.now.limit in
+        after (Listen performance.now.address.now 1 b.start ∷ [])
+        (started_outline (setup_in setup.now) (performance_in performance.now) b.start b.polls s))
+        desk.old result desk.new }
 {
-    let at = match inbox.listen_hands(performance.address, 1) {
-        Ok(at) => at,
-        Err(SendFault::Failed) => return Status::InboxFault,
-        Err(SendFault::Memory) => return Status::Memory,
-    };
-    let setting = setting_of(opening.name, performance);
-    let Ok(mut live) = open_live(opening, &setting, performance, at) else {
-        return Status::Memory;
-    };
-    match perform(&mut live, &setting, files, outs, inbox, steps) {
-        Ok(ending) => status_at(ending, live.stage.sender.failed, live.unsaved),
+    match desk.listen(performance.address, 1) {
+        Ok(Some(at)) => start(opening, setup, performance, at, desk),
+        Ok(None) => Status::InboxFault,
+        Err(_) => Status::Memory,
+    }
+}
+
+/// Opens a session, and plays the grid from a moment on.
+fn start<F: Files + Drop, O: Outs + Drop, I: Inbox + Drop, L: Ledger>(
+    opening: &Opening,
+    setup: &Setup<'_>,
+    performance: &Performance<'_>,
+    at: u64,
+    desk: &mut Desk<F, O, I, L>,
+) -> Status
+    requires open { desk.old.mail.ended ≡ false }
+    requires same { (opening.now.seed ≡ setup.now.seed) × (opening.now.limit ≡ setup.now.limit) }
+    ensures { CameBy (λ b. live_outline (setup_in setup.now) (performance_in performance.now) at
+        b.polls (standing_at opening.now.grid opening.now.seed opening.now.limit))
+        desk.old result desk.new }
+{
+    match open_live(opening, setup, performance, at) {
+        Ok(mut live) => play_all(&mut live, desk),
+        Err(Memory) => Status::Memory,
+    }
+}
+
+/// Plays until the performance ends. If memory is refused, and not by a send, the notes that sound
+/// are ended.
+///
+/// It knows no session but as a machine, so that what a session holds is not looked at here.
+fn play_all<M: Machine + Drop, F: Files + Drop, O: Outs + Drop, I: Inbox + Drop, L: Ledger>(
+    live: &mut Live<'_, M>,
+    desk: &mut Desk<F, O, I, L>,
+) -> Status
+    requires open { desk.old.mail.ended ≡ false }
+    requires begins { notes_of (standing (M.machine live.old.stage.machine)
+        (M.kept live.old.stage.machine) live.old.stage.tally) ≡ [] }
+    requires residue { M.residue live.old.stage.machine ≡ 0 }
+    requires sized { IsScreen live.old.view.size }
+    ensures { CameBy (λ b. played (state_of (M.machine live.old.stage.machine)
+        (M.kept live.old.stage.machine) live.old) b.polls) desk.old result desk.new }
+{
+    let seed = live.setting.seed;
+    match perform(live, desk) {
+        Ok(ending) => {
+            read_back(seed, &live.given);
+            settled(status_of_ending(ending), desk)
+        }
         Err(NoMemory::InSend) => Status::Memory,
         Err(NoMemory::Elsewhere) => {
             // The status is decided already, so a second refusal changes nothing.
-            let _ = close_early(&mut live.stage, &Silent, outs);
+            let _ = close_early(&mut live.stage, desk);
             Status::Memory
         }
     }
 }
 
-/// How fast the grid of this name is played, and the files that it is saved to.
-fn setting_of<'a>(grid: &'a str, performance: &Performance<'a>) -> Setting<'a>
-    ensures { setting_in result ≡ setting_of grid.entry.now (performance_in performance.now) }
+/// The script of the commands is read as its seed and them, if they are kept. It does nothing.
+fn read_back(seed: u32, given: &Option<Vec<Command>>)
+    ensures { IfSome (option_map (λ commands. commands.items) given.now) (ScriptReadsBack seed) }
+{
+    if let Some(given) = given {
+        reading_law(seed, given.as_slice());
+    }
+}
+
+/// How a grid is played, and the files that it is saved to.
+fn setting_of<'a>(setup: &Setup<'a>, performance: &Performance<'a>) -> Setting<'a>
+    ensures { setting_in result ≡ setting_of (setup_in setup.now) (performance_in performance.now) }
 {
     Setting {
         bpm: performance.bpm,
-        grid,
+        seed: setup.seed,
+        grid: setup.grid,
         save: performance.save,
         script: performance.script,
     }
 }
 
 /// A performance on the opened grid, before its first picture, that starts at this moment.
-fn open_live(
-    opening: &Opening<'_>,
-    setting: &Setting<'_>,
-    performance: &Performance<'_>,
+fn open_live<'a>(
+    opening: &Opening,
+    setup: &Setup<'a>,
+    performance: &Performance<'a>,
     at: u64,
-) -> Result<Live<Session>, Memory>
-    ensures state { IfOk result (λ live. state_of live.stage.machine.machine live
-        ≡ live_at_start (setting_in setting.now) (screen_of (performance_in performance.now)) at
-        (standing_at opening.now.grid opening.now.seed opening.now.limit).machine
-        (standing_at opening.now.grid opening.now.seed opening.now.limit).tally) }
-    ensures unmarked { IfOk result (λ live.
-        live.stage.machine.marks ≡ blank_marks opening.now.grid.dims) }
-    ensures failed { IfOk result (λ live. live.stage.sender.failed ≡ opening.now.failed) }
-    ensures saved { IfOk result (λ live. live.unsaved ≡ false) }
-    ensures placed { IfOk result (λ live.
-        IsPlaced (state_of live.stage.machine.machine live)) }
+) -> Result<Live<'a, Session>, Memory>
+    ensures state { IfOk result (λ live.
+        state_of live.stage.machine.machine live.stage.machine.kept live
+        ≡ live_start (setup_in setup.now) (performance_in performance.now) at
+        (standing_at opening.now.grid opening.now.seed opening.now.limit)) }
+    ensures residue { IfOk result (λ live. live.stage.machine.residue ≡ 0) }
 {
-    let stage = open_stage(opening)?;
+    let stage = open_stage(opening, Silent)?;
     let screen = ScreenSize {
         rows: performance.rows,
         columns: performance.cols,
     };
-    Live::start(opening.alloc, stage, setting, screen, at)
+    Live::start(
+        opening.alloc,
+        stage,
+        setting_of(setup, performance),
+        screen,
+        at,
+    )
 }
 
-/// The status of a performance that was done whole.
-fn status_at(ending: Ending, failed: bool, unsaved: bool) -> Status
-    ensures { result ≡ status_at ending failed unsaved }
+/// How a performance would end that ended so.
+fn status_of_ending(ending: Ending) -> Status
+    ensures { result ≡ status_of_ending ending }
 {
     match ending {
-        Ending::Left if unsaved => Status::FileFault,
-        Ending::Left if failed => Status::OutFault,
-        Ending::Left => Status::Done,
-        Ending::Full => Status::HistoryFull,
+        Ending::Stopped(stop) => status_of_stop(stop),
         Ending::Lost => Status::InboxFault,
         Ending::Spent => Status::TurnsSpent,
     }

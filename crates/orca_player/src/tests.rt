@@ -1,10 +1,11 @@
-//! Whole runs, out of memory.
+//! Whole runs, where a port refuses memory to one of its sends.
 
 ghost use Rattle.std.specs.Prelude.{◌≡◌, ◌<◌, ◌≤◌, Some, false, length, IsErrOf, OnOk};
 ghost use Rattle.orca_rig.specs.Outside.{Rose};
 
 use crate::Status;
 use orca_base::{Port, Steps};
+use orca_course::Desk;
 use orca_rig::{MemFiles, MemInbox, MemOuts, Outs, SendFault, names_differ};
 use std::alloc::Global;
 use std::marker::Brand;
@@ -12,10 +13,11 @@ use std::process::Abort;
 use std::sync::ledger::{Blank, Ledger};
 use std::test::Fail;
 
-/// Ports in memory that are refused memory at their second send, and keep the others.
+/// Ports in memory that are refused memory at the send of this number, and keep the others.
 #[derive(Drop)]
 struct Tight {
     kept: MemOuts,
+    tight: u64,
     sends: u64,
     refused: u64,
 }
@@ -56,7 +58,7 @@ impl Outs for Tight {
 
     fn send(&mut self, port: Port, bytes: &[u8]) -> Result<(), SendFault> {
         self.sends = self.sends.saturating_add(1);
-        if self.sends == 2 {
+        if self.sends == self.tight {
             return self.count(Err(SendFault::Memory));
         }
         let done = self.kept.send(port, bytes);
@@ -70,66 +72,99 @@ impl Outs for Tight {
     ghost sent_is_length = { λ outs pieces told fits. Prim.cc };
 }
 
-/// Does the run.
+type TightDesk<L> = Desk<MemFiles, Tight, MemInbox, L>;
+
+/// Does the words over a store of one file, a banged text operator whose message is sent at the first
+/// frame. The send of this number is refused memory.
 fn run<L: Ledger>(
+    rt: &impl Abort,
     alloc: Global,
-    words: &Vec<String>,
-    files: &mut MemFiles,
-    outs: &mut Tight,
-    inbox: &mut MemInbox,
+    line: &str,
+    tight: u64,
     blank: Blank,
-) -> Status
-    requires fresh { inbox.old.listened ≡ false }
-    requires open { inbox.old.ended ≡ false }
+) -> Result<(TightDesk<L>, Status), Fail>
     requires name { blank.name ≡ L.name }
     requires parts { blank.parts ≡ L.parts }
     requires some { 0 < blank.parts }
 {
-    let mut steps = Steps::<L>::start(blank);
-    crate::run(alloc, words, files, outs, inbox, &mut steps)
-}
-
-/// A store of one file: a banged text operator, whose message is sent at the first frame.
-fn greeting(rt: &impl Abort, alloc: Global) -> Result<MemFiles, Fail> {
+    let mut words = Vec::new(alloc);
+    for word in line.split(' ') {
+        words.push(String::from_str(alloc, word)?)?;
+    }
     let mut contents = Vec::new(alloc);
     contents.push((
         String::from_str(alloc, "hi.orca")?,
         b";hi\n*..\n".to_vec(alloc)?,
     ))?;
     assert!(rt; names_differ(&contents));
-    Ok(MemFiles::new(contents, Vec::new(alloc))?)
-}
-
-#[test]
-fn a_send_that_is_refused_memory_ends_the_run(rt: HostRuntime) -> Result<(), Fail> {
-    let alloc = rt.alloc();
-    let mut words = Vec::new(alloc);
-    for word in ["events", "hi.orca", "2"] {
-        words.push(String::from_str(alloc, word)?)?;
-    }
-    let mut files = greeting(&rt, alloc)?;
-    let mut outs = Tight {
+    let files = MemFiles::new(contents, Vec::new(alloc))?;
+    let outs = Tight {
         kept: MemOuts::new(Vec::new(alloc))?,
+        tight,
         sends: 0,
         refused: 0,
     };
-    // The line of the message is refused memory, so that only the line of the status follows.
-    let mut inbox = MemInbox::new(0, Vec::new(alloc), Vec::new(alloc))?;
-    let status = run::<Brand>(
-        alloc,
-        &words,
-        &mut files,
-        &mut outs,
-        &mut inbox,
-        Blank::new(1),
-    );
-    assert_eq!(rt; status, Status::Memory);
-    assert_eq!(rt; outs.kept.handed_at(0), Some((Port::Udp, b"hi".as_slice())));
-    assert_eq!(rt;
-        outs.kept.handed_at(1),
-        Some((Port::Fault, b"no memory\n".as_slice()))
-    );
-    assert_eq!(rt; outs.kept.handed_at(2), None);
-    assert_eq!(rt; outs.refused, 1);
+    let inbox = MemInbox::new(0, Vec::new(alloc), Vec::new(alloc))?;
+    let mut desk = Desk::new(files, outs, inbox, Steps::<L>::start(blank));
+    let status = crate::run(alloc, &words, &mut desk);
+    Ok((desk, status))
+}
+
+/// A run: its words, the send that is refused memory, what is sent nevertheless, and the status.
+type Run = (&'static str, u64, &'static [(Port, &'static [u8])], Status);
+
+/// Does the run, and compares what it sent and how it ended.
+fn try_run<L: Ledger>(rt: &impl Abort, alloc: Global, wanted: Run, blank: Blank) -> Result<(), Fail>
+    requires name { blank.name ≡ L.name }
+    requires parts { blank.parts ≡ L.parts }
+    requires some { 0 < blank.parts }
+{
+    let (line, tight, sends, status) = wanted;
+    let (desk, ended) = run::<L>(rt, alloc, line, tight, blank)?;
+    assert_eq!(rt; ended, status);
+    let mut index = 0u64;
+    for (port, bytes) in sends {
+        assert_eq!(rt; desk.outs().kept.handed_at(index), Some((*port, *bytes)));
+        index = index.saturating_add(1);
+    }
+    assert_eq!(rt; desk.outs().kept.handed_at(index), None);
+    assert_eq!(rt; desk.outs().refused, u64::from(tight > 0));
+    Ok(())
+}
+
+const RUNS: [Run; 6] = [
+    (
+        "events hi.orca 2",
+        0,
+        &[(Port::Udp, b"hi"), (Port::Text, b"0 udp 68 69\n")],
+        Status::Done,
+    ),
+    (
+        "events hi.orca 2",
+        1,
+        &[(Port::Fault, b"no memory\n")],
+        Status::Memory,
+    ),
+    (
+        "events hi.orca 2",
+        2,
+        &[(Port::Udp, b"hi"), (Port::Fault, b"no memory\n")],
+        Status::Memory,
+    ),
+    (
+        "run hi.orca 1",
+        2,
+        &[(Port::Udp, b"hi"), (Port::Fault, b"no memory\n")],
+        Status::Memory,
+    ),
+    ("run no.orca 1", 1, &[], Status::Memory),
+    ("run", 1, &[], Status::Memory),
+];
+
+#[test]
+fn a_send_that_is_refused_memory_ends_the_run(rt: HostRuntime) -> Result<(), Fail> {
+    for wanted in RUNS {
+        try_run::<Brand>(&rt, rt.alloc(), wanted, Blank::new(1))?;
+    }
     Ok(())
 }

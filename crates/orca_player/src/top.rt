@@ -1,14 +1,10 @@
-ghost use Rattle.std.specs.Prelude.{◌≡◌, ◌≢◌, ◌⊎◌, ◌≤◌, ℕ, List, [], ◌∷◌, None, Option, IfSome, Ok, false, length, map, string_bytes};
+ghost use Rattle.std.specs.Prelude.{◌≡◌, ◌⊎◌, ◌≤◌, false, length, List, map, None, Option, string_bytes, ℕ};
 ghost use Rattle.orca_base.specs.declared.limits.TheConstants.{MAX_FILE_BYTES};
-ghost use Rattle.orca_cues.specs.Scripts.{script_of};
 ghost use Rattle.orca_grid.specs.GridText.{grid_text};
-ghost use Rattle.orca_player.specs.Outlines.{Heard, after, grid_outline, loaded_script, made_outline, script_outline, standing_at, with_grid, work_outline};
+ghost use Rattle.orca_player.specs.Doing.{Came, CameBy, refused_status};
+ghost use Rattle.orca_player.specs.Outlines.{Heard, grid_outline, made_outline, outline, request_outline, work_outline};
 ghost use Rattle.orca_player.specs.Laws.{CutsAlike, ReplaysAlike};
-ghost use Rattle.orca_player.specs.Running.{HearsScript, IsCaused, IsTextOf, Ran, Went, WentFor, WentSo, counts, refused_status};
-ghost use Rattle.orca_rig.specs.Outside.Ask.{Load};
-ghost use Rattle.orca_send.specs.Sending.{RecordsFaults};
-ghost use Rattle.orca_stage.specs.Acts.Act.{Store};
-ghost use Rattle.orca_stage.specs.Told.{Told, told, told_with_calls, told_with_sends};
+ghost use Rattle.orca_player.specs.Running.{IsCaused, Ran, counts_of};
 ghost use Rattle.orca_words.specs.RequestIn.{request_in, setup_in, work_in, workload_in};
 ghost use Rattle.orca_words.specs.Requests.{Perform, request_of};
 
@@ -16,12 +12,14 @@ use crate::Status;
 use crate::concert::concert;
 use crate::ending::end;
 use crate::live::play;
-use crate::opening::{Opening, attach_all, load};
+use crate::opening::{Opening, attach_all};
+use crate::replay::replay;
+use orca_base::Dims;
 use orca_base::limits::DEFAULT_HISTORY;
-use orca_base::{Dims, Steps};
-use orca_cues::{Frames, Maker, Script, Turns, check_script};
+use orca_course::Desk;
+use orca_cues::{Frames, Maker, Turns};
 use orca_grid::{Grid, GridRefusal};
-use orca_reports::{EventsReport, MakeReport, ReplayReport, RunReport};
+use orca_reports::{EventsReport, MakeReport, RunReport};
 use orca_rig::{Files, Inbox, Outs};
 use orca_words::{Request, Setup, WordsFault, Work, Workload, read_words};
 use std::alloc::Global;
@@ -29,8 +27,8 @@ use std::sync::ledger::Ledger;
 
 /// Does what the words ask for, and answers how it ended. They are the words after the program's own
 /// name: `run` and `events` play frames, `replay` does the commands of a script, `make` those of a
-/// generated run, and `play` lets a player edit the grid while it plays. `steps` counts the deeds and
-/// looks of the frames.
+/// generated run, and `play` lets a player edit the grid while it plays. The desk owns the files, the
+/// ports, the inbox and the counter of steps.
 ///
 /// The named ports are attached in the order MIDI, UDP, OSC, then the grid is loaded and read, and
 /// then the script of `replay`, whose lines are all read before the first command is done. The
@@ -41,20 +39,22 @@ use std::sync::ledger::Ledger;
 /// [`Status::OutFault`]. Neither does a save, with [`Status::FileFault`]. A status other than 0 sends
 /// one line on the fault port, as the last send.
 ///
-/// Out of memory is [`Status::Memory`]. A beginning of the outline was done then, and after it a
-/// beginning of the ends of the notes that sounded. No clause says how many ends these are: none if
-/// it was a send that was refused memory, and else all of them, unless their sends are refused it.
-pub fn run<F: Files, O: Outs, I: Inbox, L: Ledger>(
+/// Out of memory is [`Status::Memory`], in one of three ways. A port refused it to a send: then a
+/// beginning of the outline was done, all of it if the send was that line, and nothing else is sent
+/// but the line. It was refused elsewhere once the session was open: then a beginning was done that
+/// ends with a command, and every note that sounded ends, unless a port refuses memory to one of
+/// these sends. Or it was refused before, as a port was attached or elsewhere: then nothing is sent
+/// but that line.
+pub fn run<F: Files + Drop, O: Outs + Drop, I: Inbox + Drop, L: Ledger>(
     alloc: Global,
     words: &Vec<String>,
-    files: &mut F,
-    outs: &mut O,
-    inbox: &mut I,
-    steps: &mut Steps<L>,
+    desk: &mut Desk<F, O, I, L>,
 ) -> Status
-    // Nobody has listened to the inbox, and it has not ended.
-    requires fresh { I.listened inbox.old ≡ false }
-    requires open { I.ended inbox.old ≡ false }
+    // Nobody has listened to the inbox, and it has not ended; and nothing has failed at the desk.
+    requires fresh { desk.old.mail.listened ≡ false }
+    requires open { desk.old.mail.ended ≡ false }
+    requires sound { (desk.old.failed ≡ false) × (desk.old.unstored ≡ false)
+        × (desk.old.lost ≡ false) }
 
     // Invalid words, whatever the outside tells.
     ensures usage { request_of (map string_bytes words.now.items) ≡ None
@@ -65,156 +65,84 @@ pub fn run<F: Files, O: Outs, I: Inbox, L: Ledger>(
     // All of the outline of the words was done, in order, and how it ended: every grid is that of a
     // full scan of every cell, folded over what the history keeps, and every message is of its
     // events. A device that is sent all MIDI messages has exactly the keys of the notes that sound.
-    // Without a fault of the outside it is done whole wherever that can be.
-    ensures ran { Ran (map string_bytes words.now.items)
-        (told (O.handed outs.old) (O.attached outs.old) (F.asked files.old) (F.contents files.old)
-        (F.faults files.old) (I.log inbox.old))
-        (counts (F.faults files.old) (O.faults outs.old) (I.faults inbox.old)) result
-        (told (O.handed outs.new) (O.attached outs.new) (F.asked files.new) (F.contents files.new)
-        (F.faults files.new) (I.log inbox.new))
-        (counts (F.faults files.new) (O.faults outs.new) (I.faults inbox.new)) }
+    // The steps are at most the bill of the outline. Without a fault of the outside it is done whole
+    // wherever that can be.
+    ensures ran { Ran (map string_bytes words.now.items) desk.old result desk.new }
 
     // A fault of the outside is reported only if its count rose.
-    ensures causes { IsCaused result
-        (counts (F.faults files.old) (O.faults outs.old) (I.faults inbox.old))
-        (counts (F.faults files.new) (O.faults outs.new) (I.faults inbox.new)) }
+    ensures causes { IsCaused result (counts_of desk.old) (counts_of desk.new) }
 
     // How the bytes of a performance are cut into answers changes no command, no state at last, and
     // no saved script; and a replay of that script ends in the same session.
     ensures cutting { CutsAlike (map string_bytes words.now.items) }
     ensures replays { ReplaysAlike (map string_bytes words.now.items) }
 {
-    let status = work(alloc, words, files, outs, inbox, steps);
-    end(alloc, outs, status)
+    let status = work(alloc, words, desk);
+    end(alloc, desk, status)
 }
 
 /// Does what the words ask for, but for the line of the status.
-fn work<F: Files, O: Outs, I: Inbox, L: Ledger>(
+fn work<F: Files + Drop, O: Outs + Drop, I: Inbox + Drop, L: Ledger>(
     alloc: Global,
     words: &Vec<String>,
-    files: &mut F,
-    outs: &mut O,
-    inbox: &mut I,
-    steps: &mut Steps<L>,
+    desk: &mut Desk<F, O, I, L>,
 ) -> Status
-    requires fresh { I.listened inbox.old ≡ false }
-    requires open { I.ended inbox.old ≡ false }
-    ensures usage { request_of (map string_bytes words.now.items) ≡ None
-        → (result ≡ Status.Usage) ⊎ (result ≡ Status.Memory) }
-    ensures usage_only { result ≡ Status.Usage
-        → request_of (map string_bytes words.now.items) ≡ None }
-    ensures went { WentSo (map string_bytes words.now.items) []
-        (told (O.handed outs.old) (O.attached outs.old) (F.asked files.old) (F.contents files.old)
-        (F.faults files.old) (I.log inbox.old)) result
-        (told (O.handed outs.new) (O.attached outs.new) (F.asked files.new) (F.contents files.new)
-        (F.faults files.new) (I.log inbox.new)) }
-    ensures causes { IsCaused result
-        (counts (F.faults files.old) (O.faults outs.old) (I.faults inbox.old))
-        (counts (F.faults files.new) (O.faults outs.new) (I.faults inbox.new)) }
+    requires fresh { desk.old.mail.listened ≡ false }
+    requires open { desk.old.mail.ended ≡ false }
+    requires sound { desk.old.lost ≡ false }
+    ensures { (grid : Option (List ℕ)) × CameBy (λ brought.
+        outline (map string_bytes words.now.items) (record { grid = grid; brought = brought }))
+        desk.old result desk.new }
 {
     match read_words(alloc, words) {
-        Ok(Request::Make(load)) => make(alloc, load, outs, steps),
-        Ok(Request::Perform { setup, work }) => {
-            let task = Task {
-                alloc,
-                setup: &setup,
-                work: &work,
-                failed: false,
-            };
-            open(task, files, outs, inbox, steps)
-        }
+        Ok(Request::Make(load)) => make(alloc, load, desk),
+        Ok(Request::Perform { setup, work }) => open(alloc, &setup, &work, desk),
         Err(WordsFault::Usage) => Status::Usage,
         Err(WordsFault::Memory) => Status::Memory,
     }
 }
 
-/// The work on a grid, as the words ask for it.
-#[derive(Clone, Copy)]
-struct Task<'a> {
-    alloc: Global,
-    /// The grid and the options.
-    setup: &'a Setup<'a>,
-    /// What is done.
-    work: &'a Work<'a>,
-    /// Whether a port has failed since the run began.
-    failed: bool,
-}
-
 /// Attaches the ports, loads the grid, and does the work.
-fn open<F: Files, O: Outs, I: Inbox, L: Ledger>(
-    task: Task<'_>,
-    files: &mut F,
-    outs: &mut O,
-    inbox: &mut I,
-    steps: &mut Steps<L>,
+fn open<F: Files + Drop, O: Outs + Drop, I: Inbox + Drop, L: Ledger>(
+    alloc: Global,
+    setup: &Setup<'_>,
+    work: &Work<'_>,
+    desk: &mut Desk<F, O, I, L>,
 ) -> Status
-    requires fresh { I.listened inbox.old ≡ false }
-    requires open { I.ended inbox.old ≡ false }
-    requires failed { task.failed ≡ false }
-    ensures usage { result ≢ Status.Usage }
-    ensures went { WentFor
-        (Perform (setup_in task.entry.setup.now) (work_in task.entry.work.now))
-        (told (O.handed outs.old) (O.attached outs.old) (F.asked files.old) (F.contents files.old)
-        (F.faults files.old) (I.log inbox.old)) result
-        (told (O.handed outs.new) (O.attached outs.new) (F.asked files.new) (F.contents files.new)
-        (F.faults files.new) (I.log inbox.new)) }
-    ensures causes { IsCaused result
-        (counts (F.faults files.old) (O.faults outs.old) (I.faults inbox.old))
-        (counts (F.faults files.new) (O.faults outs.new) (I.faults inbox.new)) }
+    requires fresh { desk.old.mail.listened ≡ false }
+    requires open { desk.old.mail.ended ≡ false }
+    requires sound { desk.old.lost ≡ false }
+    ensures { (grid : Option (List ℕ)) × CameBy (λ brought.
+        request_outline (Perform (setup_in setup.now) (work_in work.now))
+        (record { grid = grid; brought = brought })) desk.old result desk.new }
 {
-    let mut failed = task.failed;
-    let Ok(()) = attach_all(outs, &mut failed, task.setup) else {
+    let Ok(()) = attach_all(desk, setup) else {
         return Status::Memory;
     };
-    match load(task.alloc, files, task.setup.grid) {
-        Ok(Some(text)) => {
-            let attached = Task { failed, ..task };
-            read_grid(attached, text.as_slice(), files, outs, inbox, steps)
-        }
+    match desk.load(alloc, setup.grid) {
+        Ok(Some(text)) => read_grid(alloc, setup, work, text.as_slice(), desk),
         Ok(None) => Status::FileFault,
         Err(_) => Status::Memory,
     }
 }
 
 /// Reads the text of the grid, and does the work.
-fn read_grid<F: Files, O: Outs, I: Inbox, L: Ledger>(
-    task: Task<'_>,
+fn read_grid<F: Files + Drop, O: Outs + Drop, I: Inbox + Drop, L: Ledger>(
+    alloc: Global,
+    setup: &Setup<'_>,
+    work: &Work<'_>,
     text: &[u8],
-    files: &mut F,
-    outs: &mut O,
-    inbox: &mut I,
-    steps: &mut Steps<L>,
+    desk: &mut Desk<F, O, I, L>,
 ) -> Status
     requires short { length text.now ≤ MAX_FILE_BYTES }
-    requires fresh { I.listened inbox.old ≡ false }
-    requires open { I.ended inbox.old ≡ false }
-    ensures usage { result ≢ Status.Usage }
-    ensures went { (h : Heard)
-        × HearsScript (work_in task.entry.work.now) (F.contents files.old) h.script
-        × ((grid : Option (List ℕ)) → Went
-        (grid_outline (setup_in task.entry.setup.now) (work_in task.entry.work.now)
-        (with_grid grid h) (grid_text text.now)) []
-        (told (O.handed outs.old) (O.attached outs.old) (F.asked files.old) (F.contents files.old)
-        (F.faults files.old) (I.log inbox.old)) result
-        (told (O.handed outs.new) (O.attached outs.new) (F.asked files.new) (F.contents files.new)
-        (F.faults files.new) (I.log inbox.new))) }
-    ensures causes { (start : ℕ)
-        → RecordsFaults false task.entry.failed start (O.faults outs.old)
-        → IsCaused result (counts (F.faults files.old) start (I.faults inbox.old))
-        (counts (F.faults files.new) (O.faults outs.new) (I.faults inbox.new)) }
+    requires fresh { desk.old.mail.listened ≡ false }
+    requires open { desk.old.mail.ended ≡ false }
+    requires sound { desk.old.lost ≡ false }
+    ensures { CameBy (λ brought. grid_outline (setup_in setup.now) (work_in work.now) brought
+        (grid_text text.now)) desk.old result desk.new }
 {
-    match Grid::read(task.alloc, text) {
-        Ok(grid) => {
-            let opening = Opening {
-                alloc: task.alloc,
-                name: task.setup.grid,
-                grid,
-                seed: task.setup.seed,
-                limit: task.setup.limit,
-                failed: task.failed,
-            };
-            do_work(&opening, task.work, files, outs, inbox, steps)
-        }
+    match Grid::read(alloc, text) {
+        Ok(grid) => do_work(alloc, setup, work, grid, desk),
         Err(refusal) => refused_status(refusal),
     }
 }
@@ -230,123 +158,47 @@ fn refused_status(refusal: GridRefusal) -> Status
 }
 
 /// Does the work on the opened grid.
-fn do_work<F: Files, O: Outs, I: Inbox, L: Ledger>(
-    opening: &Opening<'_>,
+fn do_work<F: Files + Drop, O: Outs + Drop, I: Inbox + Drop, L: Ledger>(
+    alloc: Global,
+    setup: &Setup<'_>,
     work: &Work<'_>,
-    files: &mut F,
-    outs: &mut O,
-    inbox: &mut I,
-    steps: &mut Steps<L>,
+    grid: Grid,
+    desk: &mut Desk<F, O, I, L>,
 ) -> Status
-    requires fresh { I.listened inbox.old ≡ false }
-    requires open { I.ended inbox.old ≡ false }
-    ensures usage { result ≢ Status.Usage }
-    ensures went { (h : Heard)
-        × HearsScript (work_in work.now) (F.contents files.old) h.script
-        × ((grid : Option (List ℕ)) → Went
-        (work_outline opening.now.name.now (work_in work.now) (with_grid grid h)
-        (standing_at opening.now.grid opening.now.seed opening.now.limit)) []
-        (told (O.handed outs.old) (O.attached outs.old) (F.asked files.old) (F.contents files.old)
-        (F.faults files.old) (I.log inbox.old)) result
-        (told (O.handed outs.new) (O.attached outs.new) (F.asked files.new) (F.contents files.new)
-        (F.faults files.new) (I.log inbox.new))) }
-    ensures causes { (start : ℕ)
-        → RecordsFaults false opening.now.failed start (O.faults outs.old)
-        → IsCaused result (counts (F.faults files.old) start (I.faults inbox.old))
-        (counts (F.faults files.new) (O.faults outs.new) (I.faults inbox.new)) }
+    requires fresh { desk.old.mail.listened ≡ false }
+    requires open { desk.old.mail.ended ≡ false }
+    requires sound { desk.old.lost ≡ false }
+    ensures { CameBy (work_outline (setup_in setup.now) (work_in work.now) grid)
+        desk.old result desk.new }
 {
+    let mut opening = Opening {
+        alloc,
+        grid,
+        seed: setup.seed,
+        limit: setup.limit,
+    };
     match work {
         Work::Run { frames } => {
             let mut source = Frames::of(*frames);
-            concert(opening, &mut source, &RunReport, outs, steps)
+            concert(&opening, &mut source, RunReport::new(alloc), desk)
         }
         Work::Events { frames } => {
             let mut source = Frames::of(*frames);
-            concert(opening, &mut source, &EventsReport, outs, steps)
+            concert(&opening, &mut source, EventsReport::new(alloc), desk)
         }
-        Work::Replay { script } => replay(opening, script, files, outs, steps),
-        Work::Play(performance) => play(opening, performance, files, outs, inbox, steps),
-    }
-}
-
-/// Loads and reads a script, and does its commands.
-fn replay<F: Files, O: Outs, L: Ledger>(
-    opening: &Opening<'_>,
-    name: &str,
-    files: &mut F,
-    outs: &mut O,
-    steps: &mut Steps<L>,
-) -> Status
-    ensures usage { result ≢ Status.Usage }
-    ensures went { (script : Option (List ℕ))
-        × IfSome script (IsTextOf (F.contents files.old) name.now)
-        × ((before : Told) → Went
-        (after (Store (Load name.now) ∷ []) (loaded_script script
-        (standing_at opening.now.grid opening.now.seed opening.now.limit))) []
-        (told_with_calls before (O.handed outs.old) (F.asked files.old) (F.contents files.old)
-        (F.faults files.old)) result
-        (told_with_calls before (O.handed outs.new) (F.asked files.new) (F.contents files.new)
-        (F.faults files.new))) }
-    ensures attached { O.attached outs.new ≡ O.attached outs.old }
-    ensures causes { (inbox start : ℕ)
-        → RecordsFaults false opening.now.failed start (O.faults outs.old)
-        → IsCaused result (counts (F.faults files.old) start inbox)
-        (counts (F.faults files.new) (O.faults outs.new) inbox) }
-{
-    match load(opening.alloc, files, name) {
-        Ok(Some(text)) => follow(opening, text.as_slice(), outs, steps),
-        Ok(None) => Status::FileFault,
-        Err(_) => Status::Memory,
-    }
-}
-
-/// Reads all lines of a script, and then does its commands.
-#[tactic(auto, unfolding(crate::specs::Outlines::script_outline))]
-fn follow<O: Outs, L: Ledger>(
-    opening: &Opening<'_>,
-    text: &[u8],
-    outs: &mut O,
-    steps: &mut Steps<L>,
-) -> Status
-    requires short { length text.now ≤ MAX_FILE_BYTES }
-    ensures usage { result ≢ Status.Usage }
-    ensures went { (before : Told) → Went
-        (script_outline (script_of text.now)
-        (standing_at opening.now.grid opening.now.seed opening.now.limit)) []
-        (told_with_sends before (O.handed outs.old)) result
-        (told_with_sends before (O.handed outs.new)) }
-    ensures attached { O.attached outs.new ≡ O.attached outs.old }
-    ensures causes { (files inbox start : ℕ)
-        → RecordsFaults false opening.now.failed start (O.faults outs.old)
-        → IsCaused result (counts files start inbox) (counts files (O.faults outs.new) inbox) }
-{
-    match check_script(text) {
-        Ok(()) => {
-            let mut source = Script::of(text);
-            concert(opening, &mut source, &ReplayReport, outs, steps)
-        }
-        Err(fault) => Status::ScriptRefused {
-            line: fault.line,
-            column: fault.column,
-        },
+        Work::Replay { script } => replay(&mut opening, script, desk),
+        Work::Play(performance) => play(&opening, setup, performance, desk),
     }
 }
 
 /// Makes a grid and its commands, does them, and prints a summary.
 #[tactic(auto, unfolding(crate::specs::Outlines::made_outline))]
-fn make<O: Outs, L: Ledger>(
+fn make<F: Files + Drop, O: Outs + Drop, I: Inbox + Drop, L: Ledger>(
     alloc: Global,
     load: Workload,
-    outs: &mut O,
-    steps: &mut Steps<L>,
+    desk: &mut Desk<F, O, I, L>,
 ) -> Status
-    ensures usage { result ≢ Status.Usage }
-    ensures went { (before : Told) → Went (made_outline (workload_in load)) []
-        (told_with_sends before (O.handed outs.old)) result
-        (told_with_sends before (O.handed outs.new)) }
-    ensures attached { O.attached outs.new ≡ O.attached outs.old }
-    ensures causes { (files inbox : ℕ) → IsCaused result
-        (counts files (O.faults outs.old) inbox) (counts files (O.faults outs.new) inbox) }
+    ensures { Came (made_outline (workload_in load)) desk.old result desk.new }
 {
     let dims = Dims {
         h: load.height,
@@ -358,12 +210,10 @@ fn make<O: Outs, L: Ledger>(
     };
     let opening = Opening {
         alloc,
-        name: "",
         grid,
         seed: load.seed,
         limit: DEFAULT_HISTORY,
-        failed: false,
     };
     let mut turns = Turns::of(maker, load.frames);
-    concert(&opening, &mut turns, &MakeReport, outs, steps)
+    concert(&opening, &mut turns, MakeReport::new(alloc), desk)
 }

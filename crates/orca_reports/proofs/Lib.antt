@@ -1,1 +1,1 @@
-pub mod SayLemmas
+pub mod SaidLemmas

@@ -1,3 +1,4 @@
+pub mod Asides
 pub mod Manners
 pub mod Quiet
 pub mod Sums

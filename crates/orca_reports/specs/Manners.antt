@@ -1,19 +1,26 @@
 -- What each report prints, and whether a full history ends its run.
-use Rattle.std.specs.Prelude.{ℕ, true, false, List, [], ◌∷◌, ◌++◌, length, Result, Ok, Err}
+use Rattle.std.specs.Prelude.{ℕ, true, List, [], ◌∷◌, ◌++◌, length, Result, Ok, Err}
 use Rattle.orca_base.specs.declared.command.Reply.{Reply}
 use Rattle.orca_base.specs.declared.command.Reply.TheVariants.{Framed}
 use Rattle.orca_base.specs.declared.command.Rule.{Rule}
+use Rattle.orca_base.specs.declared.command.Rule.TheVariants.{HistoryFull}
 use Rattle.orca_base.specs.declared.message.Message.{Message}
-use Rattle.orca_base.specs.Ports.{Sent}
+use Rattle.orca_concert.specs.Manners.{Manner, says}
+use Rattle.orca_course.specs.Courses.{Course, ended, still}
+use Rattle.orca_course.specs.Standings.{Standing}
+use Rattle.orca_course.specs.declared.ending.Stop.{Stop}
+use Rattle.orca_course.specs.declared.ending.Stop.TheVariants.{Full}
 use Rattle.orca_edit.specs.Obeying.{MachineState, piece_of}
 use Rattle.orca_grid.specs.GridText.{text_of}
 use Rattle.orca_send.specs.declared.lines.Label.TheVariants.{Tick, End}
 use Rattle.orca_send.specs.Lines.{lines_of}
 use Rattle.orca_send.specs.Sending.{text_sent}
-use Rattle.orca_stage.specs.Manners.{Manner}
-use Rattle.orca_stage.specs.Standings.{Standing}
 use Rattle.orca_reports.specs.Sums.{sum_of}
 use Rattle.orca_reports.specs.Texts.{refusal_text, state_text, figures_text}
+
+-- a report that keeps nothing, of what it does
+abbrev pub Report : Type 0
+Report = Course (Unit {0}) Stop
 
 -- the grid
 abbrev pub grid_at : MachineState → List ℕ
@@ -32,52 +39,57 @@ figures_at s =
     figures_text piece.sheet.dims (length s.machine.history) piece.tick s.tally.messages
     (sum_of piece.sheet)
 
--- a line for each message of a frame
-abbrev pub frame_lines : Result Reply Rule → List Message → List Sent
-frame_lines (Ok (Framed tick)) messages = lines_of (Tick tick) messages
-frame_lines _ messages = []
+-- a full history ends the run
+abbrev pub unless_full : Result Reply Rule → Unit {0} → Report
+unless_full (Err HistoryFull) r = ended Full r
+unless_full answer r = still r
+
+-- a line for each message of a frame; a full history ends the run
+abbrev pub frame_report : Result Reply Rule → List Message → Unit {0} → Report
+frame_report (Ok (Framed tick)) messages r = says (lines_of (Tick tick) messages) r
+frame_report answer messages r = unless_full answer r
 
 -- the line of a refused command
-abbrev pub refusal_lines : ℕ → Result Reply Rule → List Sent
-refusal_lines line (Ok reply) = []
-refusal_lines line (Err rule) = text_sent (refusal_text line rule) ∷ []
+abbrev pub refusal_report : ℕ → Result Reply Rule → Unit {0} → Report
+refusal_report line (Ok reply) r = still r
+refusal_report line (Err rule) r = says (text_sent (refusal_text line rule) ∷ []) r
 
 -- `run` prints the grid at last, and a full history ends it
-abbrev pub run_manner : Manner
+abbrev pub run_manner : Manner (Unit {0})
 run_manner = record {
   hands = true;
-  ends_when_full = true;
-  done = λ line answer messages. [];
-  final = λ s. text_sent (grid_at s.machine) ∷ [];
-  close = λ messages. [];
+  done = λ line answer messages r. unless_full answer r;
+  final = λ s r. says (text_sent (grid_at s.machine) ∷ []) r;
+  close = λ messages r. still r;
+  saves = λ r. still r;
 }
 
 -- `events` prints the messages of frames and those of the close, and a full history ends it
-abbrev pub events_manner : Manner
+abbrev pub events_manner : Manner (Unit {0})
 events_manner = record {
   hands = true;
-  ends_when_full = true;
-  done = λ line answer messages. frame_lines answer messages;
-  final = λ s. [];
-  close = λ messages. lines_of End messages;
+  done = λ line answer messages r. frame_report answer messages r;
+  final = λ s r. still r;
+  close = λ messages r. says (lines_of End messages) r;
+  saves = λ r. still r;
 }
 
 -- `replay` prints each refusal, and at last the grid and where the run stands, as one text
-abbrev pub replay_manner : Manner
+abbrev pub replay_manner : Manner (Unit {0})
 replay_manner = record {
   hands = true;
-  ends_when_full = false;
-  done = λ line answer messages. refusal_lines line answer;
-  final = λ s. text_sent (state_at s.machine) ∷ [];
-  close = λ messages. [];
+  done = λ line answer messages r. refusal_report line answer r;
+  final = λ s r. says (text_sent (state_at s.machine) ∷ []) r;
+  close = λ messages r. still r;
+  saves = λ r. still r;
 }
 
 -- `make` prints its five lines at last, as one text
-abbrev pub make_manner : Manner
+abbrev pub make_manner : Manner (Unit {0})
 make_manner = record {
   hands = true;
-  ends_when_full = false;
-  done = λ line answer messages. [];
-  final = λ s. text_sent (figures_at s) ∷ [];
-  close = λ messages. [];
+  done = λ line answer messages r. still r;
+  final = λ s r. says (text_sent (figures_at s) ∷ []) r;
+  close = λ messages r. still r;
+  saves = λ r. still r;
 }

@@ -1,70 +1,69 @@
--- No report prints on the MIDI port.
-use Rattle.std.specs.Prelude.{◌≡◌, ℕ, false, List, [], ◌∷◌, Result, Ok, Err, refl}
-use Rattle.std.proofs.lemmas.List.Elements.{All-nil, All-cons, All-map}
+-- No report gives a message, and none asks the inbox.
+use Rattle.std.specs.Prelude.{ℕ, List, Result, Ok, Err}
 use Rattle.orca_base.specs.declared.command.Reply.{Reply}
 use Rattle.orca_base.specs.declared.command.Reply.TheVariants.{Edited, Copied, Framed, Jumped, Redone}
 use Rattle.orca_base.specs.declared.command.Rule.{Rule}
+use Rattle.orca_base.specs.declared.command.Rule.TheVariants.{OutOfGrid, EmptyBlock, BadSize, EmptyClip, NothingToUndo, NoSuchMoment, HistoryFull, NothingToRedo}
 use Rattle.orca_base.specs.declared.message.Message.{Message}
-use Rattle.orca_base.specs.declared.port.Port.TheVariants as port
-use Rattle.orca_base.specs.Ports.{Sent, is_same_port}
-use Rattle.orca_send.specs.declared.lines.Label.{Label}
+use Rattle.orca_concert.specs.Manners.{IsAside, IsQuiet}
+use Rattle.orca_course.specs.declared.ending.Stop.TheVariants.{Full}
 use Rattle.orca_send.specs.declared.lines.Label.TheVariants.{Tick, End}
-use Rattle.orca_send.specs.Lines.{line_sent, lines_of}
-use Rattle.orca_send.specs.Sending.{text_sent}
-use Rattle.orca_stage.specs.Manners.{AreQuiet, IsQuiet}
-use Rattle.orca_reports.specs.Manners.{run_manner, events_manner, replay_manner, make_manner, frame_lines, refusal_lines}
+use Rattle.orca_reports.specs.Manners.{run_manner, events_manner, replay_manner, make_manner, frame_report, refusal_report, unless_full}
+use Rattle.orca_reports.specs.Asides.{aside_ended, aside_lines, aside_still, aside_text}
 
--- a send that isn't on the MIDI port
-abbrev IsApart : Sent → Type 0
-IsApart sent = is_same_port sent.port port.Midi ≡ false
+aside_unless_full : (answer : Result Reply Rule) (r : Unit {0}) → IsAside (unless_full answer r)
+aside_unless_full (Ok reply) r = aside_still r
+aside_unless_full (Err OutOfGrid) r = aside_still r
+aside_unless_full (Err EmptyBlock) r = aside_still r
+aside_unless_full (Err BadSize) r = aside_still r
+aside_unless_full (Err EmptyClip) r = aside_still r
+aside_unless_full (Err NothingToUndo) r = aside_still r
+aside_unless_full (Err (NoSuchMoment kept)) r = aside_still r
+aside_unless_full (Err HistoryFull) r = aside_ended Full r
+aside_unless_full (Err NothingToRedo) r = aside_still r
 
-nothing-quiet : AreQuiet []
-nothing-quiet = All-nil IsApart
+aside_frame : (answer : Result Reply Rule) (messages : List Message) (r : Unit {0})
+    → IsAside (frame_report answer messages r)
+aside_frame (Ok (Framed tick)) messages r = aside_lines (Tick tick) messages r
+aside_frame (Ok Edited) messages r = aside_still r
+aside_frame (Ok Copied) messages r = aside_still r
+aside_frame (Ok (Jumped moment)) messages r = aside_still r
+aside_frame (Ok (Redone entries)) messages r = aside_still r
+aside_frame (Err rule) messages r = aside_unless_full (Err rule) r
 
-text-quiet : (bytes : List ℕ) → AreQuiet (text_sent bytes ∷ [])
-text-quiet bytes = All-cons IsApart (text_sent bytes) [] refl nothing-quiet
-
-lines-quiet : (label : Label) (messages : List Message) → AreQuiet (lines_of label messages)
-lines-quiet label messages =
-    All-map IsApart (line_sent label) messages (λ k d below. refl)
-
-frame-quiet : (answer : Result Reply Rule) (messages : List Message)
-    → AreQuiet (frame_lines answer messages)
-frame-quiet (Ok (Framed tick)) messages = lines-quiet (Tick tick) messages
-frame-quiet (Ok Edited) messages = nothing-quiet
-frame-quiet (Ok Copied) messages = nothing-quiet
-frame-quiet (Ok (Jumped moment)) messages = nothing-quiet
-frame-quiet (Ok (Redone entries)) messages = nothing-quiet
-frame-quiet (Err rule) messages = nothing-quiet
-
-refusal-quiet : (line : ℕ) (answer : Result Reply Rule) → AreQuiet (refusal_lines line answer)
-refusal-quiet line (Ok reply) = nothing-quiet
-refusal-quiet line (Err rule) = text-quiet _
+aside_refusal : (line : ℕ) (answer : Result Reply Rule) (r : Unit {0})
+    → IsAside (refusal_report line answer r)
+aside_refusal line (Ok reply) r = aside_still r
+aside_refusal line (Err rule) r = aside_text _ r
 
 pub quiet-run : IsQuiet run_manner
 quiet-run = record {
-  done = λ line answer messages. nothing-quiet;
-  final = λ s. text-quiet _;
-  close = λ messages. nothing-quiet;
+  done = λ line answer messages r. aside_unless_full answer r;
+  final = λ s r. aside_text _ r;
+  close = λ messages r. aside_still r;
+  saves = λ r. aside_still r;
 }
 
 pub quiet-events : IsQuiet events_manner
 quiet-events = record {
-  done = λ line answer messages. frame-quiet answer messages;
-  final = λ s. nothing-quiet;
-  close = λ messages. lines-quiet End messages;
+  done = λ line answer messages r. aside_frame answer messages r;
+  final = λ s r. aside_still r;
+  close = λ messages r. aside_lines End messages r;
+  saves = λ r. aside_still r;
 }
 
 pub quiet-replay : IsQuiet replay_manner
 quiet-replay = record {
-  done = λ line answer messages. refusal-quiet line answer;
-  final = λ s. text-quiet _;
-  close = λ messages. nothing-quiet;
+  done = λ line answer messages r. aside_refusal line answer r;
+  final = λ s r. aside_text _ r;
+  close = λ messages r. aside_still r;
+  saves = λ r. aside_still r;
 }
 
 pub quiet-make : IsQuiet make_manner
 quiet-make = record {
-  done = λ line answer messages. nothing-quiet;
-  final = λ s. text-quiet _;
-  close = λ messages. nothing-quiet;
+  done = λ line answer messages r. aside_still r;
+  final = λ s r. aside_text _ r;
+  close = λ messages r. aside_still r;
+  saves = λ r. aside_still r;
 }

@@ -1,60 +1,82 @@
-use orca_base::{Message, Reply};
+use orca_base::{Message, Reply, Rule};
+use orca_concert::{Report, Turn, print_messages};
+use orca_course::{Desk, NoMemory, Stop, Tally};
 use orca_edit::Machine;
-use orca_rig::Outs;
-use orca_send::{Label, NoMemory, Sender};
-use orca_stage::{Report, Tally, Turn};
+use orca_rig::{Files, Inbox, Outs};
+use orca_send::Label;
+use std::alloc::Global;
+use std::sync::ledger::Ledger;
 
 /// The report of `events`: a line for each message of a frame, and for each message of the close. A
 /// full history ends the run.
 #[derive(Drop)]
-pub struct EventsReport;
+pub struct EventsReport {
+    /// Room for what is printed.
+    line: Vec<u8>,
+}
+
+impl EventsReport {
+    /// The report of a run.
+    pub fn new(alloc: Global) -> EventsReport {
+        EventsReport {
+            line: Vec::new(alloc),
+        }
+    }
+}
 
 impl Report for EventsReport {
     ghost use Rattle.orca_reports.specs.Manners.{events_manner};
     ghost use Rattle.orca_reports.specs.Quiet.{quiet-events};
 
-    ghost manner = { λ _. events_manner };
+    ghost Kept = { Unit {0} };
 
-    ghost quiet = { λ _. quiet-events };
+    ghost kept = { λ _. tt };
+
+    ghost manner = { events_manner };
+
+    ghost quiet = { quiet-events };
 
     fn hands(&self) -> bool {
         true
     }
 
-    fn ends_when_full(&self) -> bool {
-        true
-    }
-
-    fn done<O: Outs>(
-        &self,
-        sender: &mut Sender,
-        outs: &mut O,
+    fn done<F: Files + Drop, O: Outs + Drop, I: Inbox + Drop, L: Ledger>(
+        &mut self,
+        desk: &mut Desk<F, O, I, L>,
         turn: &Turn<'_>,
-    ) -> Result<(), NoMemory> {
+    ) -> Result<Option<Stop>, NoMemory> {
         match turn.answer {
             Ok(Reply::Framed { tick }) => {
-                sender.print_messages(outs, Label::Tick(tick), turn.messages)
+                print_messages(desk, &mut self.line, Label::Tick(tick), turn.messages)?;
+                Ok(None)
             }
-            Ok(_) | Err(_) => Ok(()),
+            Err(Rule::HistoryFull) => Ok(Some(Stop::Full)),
+            Ok(_) | Err(_) => Ok(None),
         }
     }
 
-    fn last<M: Machine, O: Outs>(
-        &self,
-        _: &mut Sender,
-        _: &mut O,
+    fn finish<M: Machine, F: Files + Drop, O: Outs + Drop, I: Inbox + Drop, L: Ledger>(
+        &mut self,
+        _: &mut Desk<F, O, I, L>,
         _: &M,
         _: Tally,
-    ) -> Result<(), NoMemory> {
-        Ok(())
+    ) -> Result<Option<Stop>, NoMemory> {
+        Ok(None)
     }
 
-    fn close<O: Outs>(
-        &self,
-        sender: &mut Sender,
-        outs: &mut O,
+    fn close<F: Files + Drop, O: Outs + Drop, I: Inbox + Drop, L: Ledger>(
+        &mut self,
+        desk: &mut Desk<F, O, I, L>,
         messages: &[Message],
-    ) -> Result<(), NoMemory> {
-        sender.print_messages(outs, Label::End, messages)
+    ) -> Result<Option<Stop>, NoMemory> {
+        print_messages(desk, &mut self.line, Label::End, messages)?;
+        Ok(None)
+    }
+
+    fn save<F: Files + Drop, O: Outs + Drop, I: Inbox + Drop, L: Ledger>(
+        &mut self,
+        _: &mut Desk<F, O, I, L>,
+    ) -> Result<Option<Stop>, NoMemory> {
+        Ok(None)
     }
 }

@@ -1,5 +1,5 @@
-//! What is printed of a run: a report for each of the words whose commands are a list. No report
-//! prints anything on the MIDI port.
+//! What is printed of a run: a report for each of the words whose commands are a list. No report gives
+//! a message.
 #![tactic(auto)]
 
 mod events;

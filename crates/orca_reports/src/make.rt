@@ -1,54 +1,83 @@
 ghost use Rattle.std.specs.Prelude.{◌≡◌, ◌++◌, OnOk};
+ghost use Rattle.orca_course.specs.Standings.{standing};
 ghost use Rattle.orca_reports.specs.Sums.{sum_after, sum_of};
 ghost use Rattle.orca_reports.specs.Manners.{figures_at};
 ghost use Rattle.orca_reports.specs.Texts.{figure_line, figures_text, size_line};
-ghost use Rattle.orca_stage.specs.Standings.{standing};
 
 use crate::figures::push_figure;
 use orca_base::{Dims, Glyph, Look, Memory, Message};
+use orca_concert::{Report, Turn, say};
+use orca_course::{Desk, NoMemory, Stop, Tally};
 use orca_edit::Machine;
-use orca_rig::Outs;
-use orca_send::{NoMemory, Sender, push_decimal};
-use orca_stage::{Report, Tally, Turn};
+use orca_rig::{Files, Inbox, Outs};
+use orca_send::push_decimal;
+use std::alloc::Global;
+use std::sync::ledger::Ledger;
 
 /// The report of `make`: five lines at last. A full history does not end the run.
 #[derive(Drop)]
-pub struct MakeReport;
+pub struct MakeReport {
+    /// Room for what is printed.
+    line: Vec<u8>,
+}
+
+impl MakeReport {
+    /// The report of a run.
+    pub fn new(alloc: Global) -> MakeReport {
+        MakeReport {
+            line: Vec::new(alloc),
+        }
+    }
+}
 
 impl Report for MakeReport {
     ghost use Rattle.orca_reports.specs.Manners.{make_manner};
     ghost use Rattle.orca_reports.specs.Quiet.{quiet-make};
 
-    ghost manner = { λ _. make_manner };
+    ghost Kept = { Unit {0} };
 
-    ghost quiet = { λ _. quiet-make };
+    ghost kept = { λ _. tt };
+
+    ghost manner = { make_manner };
+
+    ghost quiet = { quiet-make };
 
     fn hands(&self) -> bool {
         true
     }
 
-    fn ends_when_full(&self) -> bool {
-        false
+    fn done<F: Files + Drop, O: Outs + Drop, I: Inbox + Drop, L: Ledger>(
+        &mut self,
+        _: &mut Desk<F, O, I, L>,
+        _: &Turn<'_>,
+    ) -> Result<Option<Stop>, NoMemory> {
+        Ok(None)
     }
 
-    fn done<O: Outs>(&self, _: &mut Sender, _: &mut O, _: &Turn<'_>) -> Result<(), NoMemory> {
-        Ok(())
-    }
-
-    #[tactic(auto, using(crate::proofs::SayLemmas::says_none))]
-    fn last<M: Machine, O: Outs>(
-        &self,
-        sender: &mut Sender,
-        outs: &mut O,
+    fn finish<M: Machine, F: Files + Drop, O: Outs + Drop, I: Inbox + Drop, L: Ledger>(
+        &mut self,
+        desk: &mut Desk<F, O, I, L>,
         machine: &M,
         tally: Tally,
-    ) -> Result<(), NoMemory> {
-        write_five_lines(&mut sender.line, machine, tally)?;
-        sender.send_line(outs)
+    ) -> Result<Option<Stop>, NoMemory> {
+        write_five_lines(&mut self.line, machine, tally)?;
+        say(desk, self.line.as_slice())?;
+        Ok(None)
     }
 
-    fn close<O: Outs>(&self, _: &mut Sender, _: &mut O, _: &[Message]) -> Result<(), NoMemory> {
-        Ok(())
+    fn close<F: Files + Drop, O: Outs + Drop, I: Inbox + Drop, L: Ledger>(
+        &mut self,
+        _: &mut Desk<F, O, I, L>,
+        _: &[Message],
+    ) -> Result<Option<Stop>, NoMemory> {
+        Ok(None)
+    }
+
+    fn save<F: Files + Drop, O: Outs + Drop, I: Inbox + Drop, L: Ledger>(
+        &mut self,
+        _: &mut Desk<F, O, I, L>,
+    ) -> Result<Option<Stop>, NoMemory> {
+        Ok(None)
     }
 }
 
@@ -69,7 +98,8 @@ pub(crate) struct Figures {
 
 /// Makes `line` the five lines of a machine and a tally.
 fn write_five_lines<M: Machine>(line: &mut Vec<u8>, machine: &M, tally: Tally) -> Result<(), Memory>
-    ensures { OnOk result (line.new.items ≡ figures_at (standing (M.machine machine.now) tally)) }
+    ensures { OnOk result (line.new.items ≡ figures_at
+        (standing (M.machine machine.now) (M.kept machine.now) tally)) }
 {
     machine.is_shown();
     let figures = Figures {

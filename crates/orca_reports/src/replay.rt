@@ -5,62 +5,85 @@ ghost use Rattle.orca_reports.specs.Texts.{kept_text, refusal_text, state_text};
 use crate::figures::push_figure;
 use crate::run::write_grid;
 use orca_base::{Memory, Message, Rule};
+use orca_concert::{Report, Turn, say};
+use orca_course::{Desk, NoMemory, Stop, Tally};
 use orca_edit::Machine;
-use orca_rig::Outs;
-use orca_send::{NoMemory, Sender};
-use orca_stage::{Report, Tally, Turn};
+use orca_rig::{Files, Inbox, Outs};
+use std::alloc::Global;
+use std::sync::ledger::Ledger;
 
 /// The report of `replay`: a line for each refused command, and at last the grid and where the run
 /// stands. A full history does not end the run.
 #[derive(Drop)]
-pub struct ReplayReport;
+pub struct ReplayReport {
+    /// Room for what is printed.
+    line: Vec<u8>,
+}
+
+impl ReplayReport {
+    /// The report of a run.
+    pub fn new(alloc: Global) -> ReplayReport {
+        ReplayReport {
+            line: Vec::new(alloc),
+        }
+    }
+}
 
 impl Report for ReplayReport {
     ghost use Rattle.orca_reports.specs.Manners.{replay_manner};
     ghost use Rattle.orca_reports.specs.Quiet.{quiet-replay};
 
-    ghost manner = { λ _. replay_manner };
+    ghost Kept = { Unit {0} };
 
-    ghost quiet = { λ _. quiet-replay };
+    ghost kept = { λ _. tt };
+
+    ghost manner = { replay_manner };
+
+    ghost quiet = { quiet-replay };
 
     fn hands(&self) -> bool {
         true
     }
 
-    fn ends_when_full(&self) -> bool {
-        false
-    }
-
-    #[tactic(auto, using(crate::proofs::SayLemmas::says_none))]
-    fn done<O: Outs>(
-        &self,
-        sender: &mut Sender,
-        outs: &mut O,
+    fn done<F: Files + Drop, O: Outs + Drop, I: Inbox + Drop, L: Ledger>(
+        &mut self,
+        desk: &mut Desk<F, O, I, L>,
         turn: &Turn<'_>,
-    ) -> Result<(), NoMemory> {
+    ) -> Result<Option<Stop>, NoMemory> {
         match turn.answer {
-            Ok(_) => Ok(()),
+            Ok(_) => Ok(None),
             Err(rule) => {
-                write_refusal(&mut sender.line, turn.line, rule)?;
-                sender.send_line(outs)
+                write_refusal(&mut self.line, turn.line, rule)?;
+                say(desk, self.line.as_slice())?;
+                Ok(None)
             }
         }
     }
 
-    #[tactic(auto, using(crate::proofs::SayLemmas::says_none))]
-    fn last<M: Machine, O: Outs>(
-        &self,
-        sender: &mut Sender,
-        outs: &mut O,
+    fn finish<M: Machine, F: Files + Drop, O: Outs + Drop, I: Inbox + Drop, L: Ledger>(
+        &mut self,
+        desk: &mut Desk<F, O, I, L>,
         machine: &M,
         _: Tally,
-    ) -> Result<(), NoMemory> {
-        write_state(&mut sender.line, machine)?;
-        sender.send_line(outs)
+    ) -> Result<Option<Stop>, NoMemory> {
+        write_state(&mut self.line, machine)?;
+        say(desk, self.line.as_slice())?;
+        Ok(None)
     }
 
-    fn close<O: Outs>(&self, _: &mut Sender, _: &mut O, _: &[Message]) -> Result<(), NoMemory> {
-        Ok(())
+    fn close<F: Files + Drop, O: Outs + Drop, I: Inbox + Drop, L: Ledger>(
+        &mut self,
+        _: &mut Desk<F, O, I, L>,
+        _: &[Message],
+    ) -> Result<Option<Stop>, NoMemory> {
+        Ok(None)
+    }
+
+    fn save<F: Files + Drop, O: Outs + Drop, I: Inbox + Drop, L: Ledger>(
+        &mut self,
+        _: &mut Desk<F, O, I, L>,
+    ) -> Result<Option<Stop>, NoMemory> {
+        Ok(None)
     }
 }
 

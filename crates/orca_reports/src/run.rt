@@ -1,52 +1,83 @@
 ghost use Rattle.std.specs.Prelude.{◌≡◌, OnOk};
 ghost use Rattle.orca_grid.specs.GridText.{text_of};
 
-use orca_base::{Look, Memory, Message};
+use orca_base::{Look, Memory, Message, Rule};
+use orca_concert::{Report, Turn, say};
+use orca_course::{Desk, NoMemory, Stop, Tally};
 use orca_edit::Machine;
 use orca_grid::Grid;
-use orca_rig::Outs;
-use orca_send::{NoMemory, Sender};
-use orca_stage::{Report, Tally, Turn};
+use orca_rig::{Files, Inbox, Outs};
+use std::alloc::Global;
+use std::sync::ledger::Ledger;
 
 /// The report of `run`: the grid at last. A full history ends the run.
 #[derive(Drop)]
-pub struct RunReport;
+pub struct RunReport {
+    /// Room for what is printed.
+    line: Vec<u8>,
+}
+
+impl RunReport {
+    /// The report of a run.
+    pub fn new(alloc: Global) -> RunReport {
+        RunReport {
+            line: Vec::new(alloc),
+        }
+    }
+}
 
 impl Report for RunReport {
     ghost use Rattle.orca_reports.specs.Manners.{run_manner};
     ghost use Rattle.orca_reports.specs.Quiet.{quiet-run};
 
-    ghost manner = { λ _. run_manner };
+    ghost Kept = { Unit {0} };
 
-    ghost quiet = { λ _. quiet-run };
+    ghost kept = { λ _. tt };
+
+    ghost manner = { run_manner };
+
+    ghost quiet = { quiet-run };
 
     fn hands(&self) -> bool {
         true
     }
 
-    fn ends_when_full(&self) -> bool {
-        true
+    fn done<F: Files + Drop, O: Outs + Drop, I: Inbox + Drop, L: Ledger>(
+        &mut self,
+        _: &mut Desk<F, O, I, L>,
+        turn: &Turn<'_>,
+    ) -> Result<Option<Stop>, NoMemory> {
+        match turn.answer {
+            Err(Rule::HistoryFull) => Ok(Some(Stop::Full)),
+            Ok(_) | Err(_) => Ok(None),
+        }
     }
 
-    fn done<O: Outs>(&self, _: &mut Sender, _: &mut O, _: &Turn<'_>) -> Result<(), NoMemory> {
-        Ok(())
-    }
-
-    #[tactic(auto, using(crate::proofs::SayLemmas::says_none))]
-    fn last<M: Machine, O: Outs>(
-        &self,
-        sender: &mut Sender,
-        outs: &mut O,
+    fn finish<M: Machine, F: Files + Drop, O: Outs + Drop, I: Inbox + Drop, L: Ledger>(
+        &mut self,
+        desk: &mut Desk<F, O, I, L>,
         machine: &M,
         _: Tally,
-    ) -> Result<(), NoMemory> {
+    ) -> Result<Option<Stop>, NoMemory> {
         machine.is_shown();
-        write_grid(&mut sender.line, machine)?;
-        sender.send_line(outs)
+        write_grid(&mut self.line, machine)?;
+        say(desk, self.line.as_slice())?;
+        Ok(None)
     }
 
-    fn close<O: Outs>(&self, _: &mut Sender, _: &mut O, _: &[Message]) -> Result<(), NoMemory> {
-        Ok(())
+    fn close<F: Files + Drop, O: Outs + Drop, I: Inbox + Drop, L: Ledger>(
+        &mut self,
+        _: &mut Desk<F, O, I, L>,
+        _: &[Message],
+    ) -> Result<Option<Stop>, NoMemory> {
+        Ok(None)
+    }
+
+    fn save<F: Files + Drop, O: Outs + Drop, I: Inbox + Drop, L: Ledger>(
+        &mut self,
+        _: &mut Desk<F, O, I, L>,
+    ) -> Result<Option<Stop>, NoMemory> {
+        Ok(None)
     }
 }
 

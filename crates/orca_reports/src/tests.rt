@@ -1,17 +1,26 @@
-// The texts of reports, and what each prints of a command and of the close.
+//! The texts of reports, and what each does at a command and at the close.
+
+ghost use Rattle.std.specs.Prelude.{◌≡◌, ◌<◌};
+
 use crate::make::{Figures, sum_of, write_figures};
 use crate::replay::{push_state, write_refusal};
 use crate::run::write_grid;
 use crate::{EventsReport, MakeReport, ReplayReport, RunReport};
-use orca_base::{Dims, Message, Port, Reply, Rule};
+use orca_base::{Dims, Message, Port, Reply, Rule, Steps};
+use orca_concert::{Report, Turn};
+use orca_course::{Desk, NoMemory, Stop};
 use orca_grid::Grid;
-use orca_rig::MemOuts;
-use orca_send::{NoMemory, Sender};
-use orca_stage::{Report, Turn};
+use orca_rig::{MemFiles, MemInbox, MemOuts};
+use std::alloc::Global;
+use std::marker::Brand;
+use std::process::Abort;
+use std::sync::ledger::{Blank, Ledger};
 use std::test::Fail;
 
+type MemDesk<L> = Desk<MemFiles, MemOuts, MemInbox, L>;
+
 /// The lines of refused commands, by their line and the rule.
-const REFUSALS: [(u32, Rule, &[u8]); 8] = [
+const REFUSALS: [(u32, Rule, &[u8]); 9] = [
     (1, Rule::OutOfGrid, b"refused 1 OutOfGrid\n"),
     (2, Rule::EmptyBlock, b"refused 2 EmptyBlock\n"),
     (35, Rule::BadSize, b"refused 35 BadSize\n"),
@@ -30,6 +39,7 @@ const REFUSALS: [(u32, Rule, &[u8]); 8] = [
         b"refused 4294967295 NoSuchMoment kept 4294967295\n",
     ),
     (0, Rule::HistoryFull, b"refused 0 HistoryFull\n"),
+    (12, Rule::NothingToRedo, b"refused 12 NothingToRedo\n"),
 ];
 
 #[test]
@@ -109,13 +119,24 @@ fn the_sum_goes_in_reading_order_and_wraps(rt: HostRuntime) -> Result<(), Fail> 
     Ok(())
 }
 
-/// What a report prints of a command on line 3, and then of a close that has the same message.
-fn print_turn<R: Report>(
-    report: &R,
-    sender: &mut Sender,
-    outs: &mut MemOuts,
+/// A desk with no file, sound ports and an inbox to which nothing comes.
+fn make_desk<L: Ledger>(alloc: Global, blank: Blank) -> Result<MemDesk<L>, Fail>
+    requires name { blank.name ≡ L.name }
+    requires parts { blank.parts ≡ L.parts }
+    requires some { 0 < blank.parts }
+{
+    let files = MemFiles::new(Vec::new(alloc), Vec::new(alloc))?;
+    let outs = MemOuts::new(Vec::new(alloc))?;
+    let inbox = MemInbox::new(0, Vec::new(alloc), Vec::new(alloc))?;
+    Ok(Desk::new(files, outs, inbox, Steps::<L>::start(blank)))
+}
+
+/// What ends a run at a command on line 3. The close then has the same message.
+fn report_turn<R: Report, L: Ledger>(
+    report: &mut R,
+    desk: &mut MemDesk<L>,
     answer: Result<Reply, Rule>,
-) -> Result<(), NoMemory> {
+) -> Result<Option<Stop>, NoMemory> {
     let messages = [Message::Off {
         channel: 0,
         key: 48,
@@ -125,67 +146,57 @@ fn print_turn<R: Report>(
         answer,
         messages: &messages,
     };
-    report.done(sender, outs, &turn)?;
-    report.close(sender, outs, &messages)
+    let end = report.done(desk, &turn)?;
+    Ok(end.or(report.close(desk, &messages)?))
 }
 
-#[test]
-fn events_are_printed_of_frames_and_of_the_close(rt: HostRuntime) -> Result<(), Fail> {
-    let mut sender = Sender::start(rt.alloc());
-    let mut outs = MemOuts::new(Vec::new(rt.alloc()))?;
-    let report = EventsReport;
-    assert!(rt; report.hands() && report.ends_when_full());
+/// Each report at commands, one after another at one desk.
+fn turns_with<L: Ledger>(rt: &impl Abort, alloc: Global, blank: Blank) -> Result<(), Fail>
+    requires name { blank.name ≡ L.name }
+    requires parts { blank.parts ≡ L.parts }
+    requires some { 0 < blank.parts }
+{
+    let mut desk: MemDesk<L> = make_desk(alloc, blank)?;
     let framed = Ok(Reply::Framed { tick: 7 });
-    assert_eq!(rt; print_turn(&report, &mut sender, &mut outs, framed), Ok(()));
     let jumped = Ok(Reply::Jumped { moment: 7 });
-    assert_eq!(rt; print_turn(&report, &mut sender, &mut outs, jumped), Ok(()));
-    let lines: [&[u8]; 3] = [
+    let full = Err(Rule::HistoryFull);
+    let mut events = EventsReport::new(alloc);
+    assert_eq!(rt; report_turn(&mut events, &mut desk, framed), Ok(None));
+    assert_eq!(rt; report_turn(&mut events, &mut desk, jumped), Ok(None));
+    assert_eq!(rt;
+        report_turn(&mut events, &mut desk, full),
+        Ok(Some(Stop::Full))
+    );
+    let mut replay = ReplayReport::new(alloc);
+    assert_eq!(rt; report_turn(&mut replay, &mut desk, framed), Ok(None));
+    assert_eq!(rt; report_turn(&mut replay, &mut desk, full), Ok(None));
+    let mut run = RunReport::new(alloc);
+    assert_eq!(rt;
+        report_turn(&mut run, &mut desk, full),
+        Ok(Some(Stop::Full))
+    );
+    let mut make = MakeReport::new(alloc);
+    assert_eq!(rt; report_turn(&mut make, &mut desk, full), Ok(None));
+    assert!(rt; events.hands() && replay.hands() && run.hands() && make.hands());
+    let lines: [&[u8]; 5] = [
         b"7 midi 80 30 00\n",
         b"end midi 80 30 00\n",
         b"end midi 80 30 00\n",
+        b"end midi 80 30 00\n",
+        b"refused 3 HistoryFull\n",
     ];
     let mut index = 0u64;
     for line in lines {
-        assert_eq!(rt; outs.handed_at(index), Some((Port::Text, line)));
+        assert_eq!(rt; desk.outs().handed_at(index), Some((Port::Text, line)));
         index = index.saturating_add(1);
     }
-    assert_eq!(rt; outs.handed_at(index), None);
+    assert_eq!(rt; desk.outs().handed_at(index), None);
     Ok(())
 }
 
+/// Events are printed of frames and of the close, and refusals of a replay. A full history ends the
+/// run of two of the reports.
 #[test]
-fn refusals_are_printed_of_a_replay(rt: HostRuntime) -> Result<(), Fail> {
-    let mut sender = Sender::start(rt.alloc());
-    let mut outs = MemOuts::new(Vec::new(rt.alloc()))?;
-    let report = ReplayReport;
-    assert!(rt; report.hands() && !report.ends_when_full());
-    let framed = Ok(Reply::Framed { tick: 7 });
-    assert_eq!(rt; print_turn(&report, &mut sender, &mut outs, framed), Ok(()));
-    let full = Err(Rule::HistoryFull);
-    assert_eq!(rt; print_turn(&report, &mut sender, &mut outs, full), Ok(()));
-    assert_eq!(rt;
-        outs.handed_at(0),
-        Some((Port::Text, b"refused 3 HistoryFull\n".as_slice()))
-    );
-    assert_eq!(rt; outs.handed_at(1), None);
-    Ok(())
-}
-
-#[test]
-fn the_others_print_nothing_of_commands(rt: HostRuntime) -> Result<(), Fail> {
-    let mut sender = Sender::start(rt.alloc());
-    let mut outs = MemOuts::new(Vec::new(rt.alloc()))?;
-    assert!(rt; RunReport.hands() && RunReport.ends_when_full());
-    assert!(rt; MakeReport.hands() && !MakeReport.ends_when_full());
-    let full = Err(Rule::HistoryFull);
-    assert_eq!(rt;
-        print_turn(&RunReport, &mut sender, &mut outs, full),
-        Ok(())
-    );
-    assert_eq!(rt;
-        print_turn(&MakeReport, &mut sender, &mut outs, full),
-        Ok(())
-    );
-    assert_eq!(rt; outs.handed_at(0), None);
-    Ok(())
+fn commands_and_closes(rt: HostRuntime) -> Result<(), Fail> {
+    turns_with::<Brand>(&rt, rt.alloc(), Blank::new(1))
 }

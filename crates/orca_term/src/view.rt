@@ -47,11 +47,11 @@ impl Model for View {
 }
 
 impl View {
-    ghost use Rattle.std.specs.Prelude.{◌≡◌, ◌↔◌, ◌≤◌, ◌++◌, [], Some, None, List, ℕ, IfOk};
+    ghost use Rattle.std.specs.Prelude.{◌≡◌, ◌↔◌, ◌≤◌, ◌++◌, [], All, Some, None, List, ℕ, IfOk};
     ghost use Rattle.std.specs.Borrow.{sem};
     ghost use Rattle.orca_base.specs.declared.limits.TheConstants.{MIN_SCREEN_ROWS, MAX_SCREEN_ROWS, MIN_SCREEN_COLUMNS, MAX_SCREEN_COLUMNS};
     ghost use Rattle.orca_term.specs.Lending.{Rests};
-    ghost use Rattle.orca_term.specs.Picture.{scene_of, picture};
+    ghost use Rattle.orca_term.specs.Picture.{IsPrintable, scene_of, picture};
     ghost use Rattle.orca_term.specs.Terminal.{IsWhole};
     ghost use Rattle.orca_term.specs.Viewing.{painting_bytes, Shows};
 
@@ -97,6 +97,10 @@ impl View {
         ensures same { let scene = scene_of (T.sheet look.now) (T.marks look.now) editor.now in
             (result.now ≡ []) ↔ (self.old.last ≡ Some (picture self.old.size scene line.now)) }
 
+        // A terminal can show each cell of the picture.
+        ensures printable { let scene = scene_of (T.sheet look.now) (T.marks look.now) editor.now in
+            All IsPrintable (picture self.old.size scene line.now) }
+
         // A small terminal that was sent all paintings so far shows the new picture after this one.
         ensures shows { let scene = scene_of (T.sheet look.now) (T.marks look.now) editor.now in
             let cells = picture self.old.size scene line.now in
@@ -128,6 +132,9 @@ impl View {
 
         ensures same { let scene = scene_of (T.sheet look.now) (T.marks look.now) editor.now in
             (self.new.bytes ≡ []) ↔ (self.old.last ≡ Some (picture self.old.size scene line.now)) }
+
+        ensures printable { let scene = scene_of (T.sheet look.now) (T.marks look.now) editor.now in
+            All IsPrintable (picture self.old.size scene line.now) }
 
         ensures shows { let scene = scene_of (T.sheet look.now) (T.marks look.now) editor.now in
             let cells = picture self.old.size scene line.now in

@@ -1,26 +1,25 @@
-use Rattle.orca_stage.specs.Told.{told_with_calls}
-use Rattle.orca_live.proofs.CourseLemmas.{due_cut, due_done, due_ended, item_done}
-use Rattle.orca_live.proofs.DoingLemmas.{does_err}
+use Rattle.std.specs.Prelude.{Some, None, Ok, Err}
+use Rattle.orca_course.proofs.DoingLemmas.{does_err}
+use Rattle.orca_live.proofs.ClockLemmas.{due_cut, due_did, due_stop}
+use Rattle.orca_live.proofs.KeyLemmas.{item_did}
 use Rattle.orca_live.proofs.clock.due.Goals as goal
 
-pub returns-in_err-ending-clause-did : goal.returns-in_err-ending-clause-did
-returns-in_err-ending-clause-did g c = λ before.
-    does_err _ _ _ _ _ _ _ c.from_residual.ensures.1
-    (due_cut _ _ _ _ _ _
-    (item_done _ _ _ _ _ _ _ _ _ c.due-key.ensures.key c.due-key.ensures.pending
-    (c.in_err-ending.ensures.did before)))
+pub returns-in_err-stop : goal.returns-in_err-stop
+returns-in_err-stop g c =
+    does_err _ _ c.from_residual.ensures.1
+    (due_cut
+    (item_did _ _ _ _ (Err _) c.due-key.ensures.key c.due-key.ensures.pending
+    c.in_err-stop.ensures))
 
-pub returns-then-is_some-clause-did : goal.returns-then-is_some-clause-did
-returns-then-is_some-clause-did g c = λ before.
-    due_ended _ _ _ _ _ _ _ c.is_some.ensures c.if-is_some.true
-    (item_done _ _ _ _ _ _ _ _ _ c.due-key.ensures.key c.due-key.ensures.pending
-    (c.in_ok-ending.ensures.did before))
+pub returns-in-Some : goal.returns-in-Some
+returns-in-Some g c =
+    due_stop
+    (item_did _ _ _ _ (Ok (Some _)) c.due-key.ensures.key c.due-key.ensures.pending
+    (rw c.in-Some.is at c.in_ok-stop.ensures))
 
-pub returns-clause-did : goal.returns-clause-did
-returns-clause-did g c = λ before.
-    due_done _ _ _ _ _ _ _ _ _ _ c.is_some.ensures c.if-is_some.false
-    (item_done _ _ _ _ _ _ _ _ _ c.due-key.ensures.key c.due-key.ensures.pending
-    (c.in_ok-ending.ensures.did before))
-    (c.play_frame.ensures.did (told_with_calls before (g.O.Outs.handed c.press.new.outs)
-    (g.F.Files.asked c.press.new.files) (g.F.Files.contents c.press.new.files)
-    (g.F.Files.faults c.press.new.files)))
+pub returns : goal.returns
+returns g c =
+    due_did
+    (item_did _ _ _ _ (Ok None) c.due-key.ensures.key c.due-key.ensures.pending
+    (rw c.in_default.is at c.in_ok-stop.ensures))
+    c.play_frame.ensures

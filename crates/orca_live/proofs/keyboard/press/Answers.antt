@@ -1,9 +1,10 @@
-use Rattle.orca_live.proofs.CourseLemmas.{press_key, press_nothing}
+use Rattle.orca_live.proofs.KeyLemmas.{press_none, press_some}
 use Rattle.orca_live.proofs.keyboard.press.Goals as goal
 
-pub returns-in-None-clause-did : goal.returns-in-None-clause-did
-returns-in-None-clause-did g c = λ before. press_nothing _ _ _ _ c.in-None.is
+pub returns-in-None : goal.returns-in-None
+returns-in-None g c = press_none _ _ _ c.in-None.is
 
-pub returns-in-Some-clause-did : goal.returns-in-Some-clause-did
-returns-in-Some-clause-did g c = λ before.
-    press_key _ _ _ _ _ _ _ _ c.in-Some.is (c.strike.ensures.did before)
+pub returns-in-Some : goal.returns-in-Some
+returns-in-Some g c =
+    press_some _ _ _ _ _ c.in-Some.is (rw c.fit.ensures.machine at c.fit.ensures.fitted)
+    (rw c.fit.ensures.machine at c.strike.ensures)

@@ -1,10 +1,10 @@
 use Rattle.std.proofs.Common.{◌∙◌, ap}
 use Rattle.orca_base.specs.Grids.{Sheet}
-use Rattle.orca_live.proofs.CourseLemmas.{key_done}
+use Rattle.orca_live.proofs.KeyLemmas.{struck_did}
 use Rattle.orca_live.proofs.keyboard.strike.Goals as goal
 
-pub returns-clause-did : goal.returns-clause-did
-returns-clause-did g c = λ before.
-    key_done _ _ _ _ _ _ _ _ _ _ _ c.key-wish.ensures.act c.key-wish.ensures.editor
+pub returns : goal.returns
+returns g c =
+    struck_did _ _ _ _ _ _ _ c.key-wish.ensures.act c.key-wish.ensures.editor
     (c.dims-dims.ensures.size ∙ ap (λ (sheet : Sheet). sheet.dims) c.is_shown.ensures)
-    c.moments-moments.ensures.moments (c.grant.ensures.did before)
+    c.moments-moments.ensures.moments c.grant.ensures

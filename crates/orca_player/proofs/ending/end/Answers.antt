@@ -1,5 +1,5 @@
-use Rattle.orca_player.proofs.EndingLemmas.{says_none}
+use Rattle.orca_player.proofs.EndingLemmas.{said_none}
 use Rattle.orca_player.proofs.ending.end.Goals as goal
 
-pub returns-in-Done-clause-said : goal.returns-in-Done-clause-said
-returns-in-Done-clause-said g c = says_none _
+pub returns-in-Done : goal.returns-in-Done
+returns-in-Done g c = rw c.in-Done.is (said_none _)

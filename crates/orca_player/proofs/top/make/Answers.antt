@@ -1,5 +1,5 @@
-use Rattle.orca_player.proofs.WentLemmas.{went_none}
+use Rattle.orca_player.proofs.CameLemmas.{came_none}
 use Rattle.orca_player.proofs.top.make.Goals as goal
 
-pub returns-in_default-clause-went : goal.returns-in_default-clause-went
-returns-in_default-clause-went g c = λ before. went_none _ _
+pub returns-in_default : goal.returns-in_default
+returns-in_default g c = came_none _ _

@@ -1,30 +1,37 @@
+use Rattle.orca_live.proofs.CuttingLaw.{cuts_alike as live_cuts_alike}
+use Rattle.orca_live.proofs.PaintingLaw.{shows_performance}
+use Rattle.orca_live.proofs.ScriptLaw.{replays_script}
+use Rattle.orca_player.proofs.CauseLemmas.{caused_came}
 use Rattle.orca_player.proofs.LawLemmas.{cuts_alike, replays_alike}
-use Rattle.orca_player.proofs.ReadyLemmas.{completes}
-use Rattle.orca_player.proofs.RunLemmas.{reports_none, run_caused, run_said}
+use Rattle.orca_player.proofs.RunLemmas.{ran_by, ran_usage, ran_usage_only}
 use Rattle.orca_player.proofs.top.run.Goals as goal
 
-pub returns-clause-causes : goal.returns-clause-causes
-returns-clause-causes g c =
-    run_caused _ _ _ _ _ c.work-status.ensures.causes c.end.ensures.status c.end.ensures.count
-    c.end.ensures.done
+pub returns-clause-cutting : goal.returns-clause-cutting
+returns-clause-cutting g c = cuts_alike live_cuts_alike _
+
+pub returns-clause-replays : goal.returns-clause-replays
+returns-clause-replays g c = replays_alike replays_script _
 
 pub returns-clause-ran : goal.returns-clause-ran
 returns-clause-ran g c =
-    let said = run_said _ _ _ _ _ _ c.work-status.ensures.went.2 c.end.ensures.status
-    c.end.ensures.said in
-    let caused = returns-clause-causes g c in
-    record {
-      heard = c.work-status.ensures.went.0;
-      hears = c.work-status.ensures.went.1;
-      said = said.said;
-      last = said.last;
-      went = rw c.end.ensures.attached said.went;
-      complete = λ ready same low.
-          completes _ _ _ said.said _ _ (reports_none _ _ _ caused same low) ready said.went;
-    }
+    let did = c.work-status.ensures in
+    ran_by shows_performance _ did.0 (record {
+      failed = c.requires.sound.0;
+      unstored = c.requires.sound.1;
+      lost = c.requires.sound.2;
+    }) did.1 c.end.ensures
 
-pub returns-clause-cutting : goal.returns-clause-cutting
-returns-clause-cutting g c = cuts_alike _
+pub returns-clause-causes : goal.returns-clause-causes
+returns-clause-causes g c =
+    let did = c.work-status.ensures in
+    caused_came (record {
+      failed = c.requires.sound.0;
+      unstored = c.requires.sound.1;
+      lost = c.requires.sound.2;
+    }) did.1.came c.end.ensures
 
-pub returns-clause-replays : goal.returns-clause-replays
-returns-clause-replays g c = replays_alike _
+pub returns-clause-usage : goal.returns-clause-usage
+returns-clause-usage g c = λ none. ran_usage _ (returns-clause-ran g c) none
+
+pub returns-clause-usage_only : goal.returns-clause-usage_only
+returns-clause-usage_only g c = λ is. ran_usage_only _ (returns-clause-ran g c) is

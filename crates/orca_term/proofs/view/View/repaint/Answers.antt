@@ -51,3 +51,19 @@ returns-clause-shows g c =
     c.self.invariant.0 c.self.invariant.1 c.draw.ensures.whole c.draw.ensures.printable same
     bytes_are in
     shown_bytes now.size now.last cells bytes paints
+
+pub returns-clause-printable : goal.returns-clause-printable
+returns-clause-printable g c =
+    let now = c.args.self.now in
+    let bytes = c.paint_rows.new.bytes.items in
+    let cells =
+    picture now.size (scene_of (g.T.Look.sheet c.args.look.now)
+    (g.T.Look.marks c.args.look.now) c.args.editor.now) c.args.line.now in
+    let same : c.draw.new.cells.items ≡ cells = search rules in
+    let bytes_are : bytes ≡ painting_bytes now.size now.last cells = search rules in
+    let paints =
+    paints-view c.self.inside.size c.self.inside.painted c.self.inside.last.items
+    c.self.inside.bytes.items bytes now c.draw.new.cells.items cells c.self.view_is
+    c.self.invariant.0 c.self.invariant.1 c.draw.ensures.whole c.draw.ensures.printable same
+    bytes_are in
+    paints.printable

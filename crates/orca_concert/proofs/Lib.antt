@@ -1,0 +1,4 @@
+pub mod ChargeLemmas
+pub mod SendLemmas
+pub mod CommandLemmas
+pub mod ConcertLemmas

@@ -1,0 +1,2 @@
+pub mod Manners
+pub mod Concerts

@@ -1,0 +1,268 @@
+//! A run of commands, from its first command to its end.
+
+ghost use Rattle.std.specs.Prelude.{◌≡◌, ◌≢◌, Err, Some};
+ghost use Rattle.orca_course.specs.Acts.{gives};
+ghost use Rattle.orca_course.specs.Doing.{Does};
+ghost use Rattle.orca_course.specs.Following.{Accompanies};
+ghost use Rattle.orca_course.specs.Standings.{notes_of, standing, standing_closed};
+ghost use Rattle.orca_course.specs.Worlds.{Calls, owing};
+ghost use Rattle.orca_notes.specs.Sound.{ends};
+ghost use Rattle.orca_send.specs.Sending.{sends_of};
+ghost use Rattle.orca_concert.specs.Concerts.{close_course, command_at, concert, concert_course, cue_course, cues_course, final_course, handed_of, last_course, order_course, saved_course, stance_of};
+
+use crate::halt::Halt;
+use crate::sending::hand_messages;
+use crate::{Report, Stage};
+use orca_base::Command;
+use orca_course::{Desk, NoMemory, Stop};
+use orca_cues::{Cue, Order, Source};
+use orca_edit::Machine;
+use orca_rig::{Files, Inbox, Outs};
+use std::sync::ledger::Ledger;
+
+/// Does all that the source gives, and ends the run: the report is told where the run stands, every
+/// note ends, and the report saves. What has ended the run early is answered; then nothing is told
+/// of where it stands, and nothing is saved.
+pub fn play<
+    M: Machine + Drop,
+    S: Source,
+    R: Report + Drop,
+    F: Files + Drop,
+    O: Outs + Drop,
+    I: Inbox + Drop,
+    L: Ledger,
+>(
+    stage: &mut Stage<M, R>,
+    source: &mut S,
+    desk: &mut Desk<F, O, I, L>,
+) -> Result<Option<Stop>, NoMemory>
+    ensures { let s = concert (standing (M.machine stage.old.machine) (M.kept stage.old.machine)
+        stage.old.tally) (R.kept stage.old.report) in
+        Does (stance_of R.manner) (concert_course R.manner (S.left source.old) s) s
+        (owing (M.residue stage.old.machine) desk.old) result
+        (concert (standing (M.machine stage.new.machine) (M.kept stage.new.machine)
+        stage.new.tally) (R.kept stage.new.report)) (owing (M.residue stage.new.machine) desk.new) }
+{
+    let end = do_cues(stage, source, desk)?;
+    finish(stage, desk, end)
+}
+
+/// The command that an order means now.
+fn command_at<M: Machine>(order: Order, machine: &M) -> Command
+    ensures { result ≡ command_at order (M.machine machine.now) }
+{
+    match order {
+        Order::Do(command) => command,
+        Order::RewindHalf => Command::Rewind {
+            moment: machine.moments() / 2,
+        },
+    }
+}
+
+/// Does an order once, and tells whether its cue goes on.
+fn do_order<
+    M: Machine + Drop,
+    R: Report + Drop,
+    F: Files + Drop,
+    O: Outs + Drop,
+    I: Inbox + Drop,
+    L: Ledger,
+>(
+    stage: &mut Stage<M, R>,
+    desk: &mut Desk<F, O, I, L>,
+    line: u32,
+    order: Order,
+) -> Result<Option<Halt>, NoMemory>
+    ensures { let s = concert (standing (M.machine stage.old.machine) (M.kept stage.old.machine)
+        stage.old.tally) (R.kept stage.old.report) in
+        Does (stance_of R.manner) (order_course R.manner line order s) s
+        (owing (M.residue stage.old.machine) desk.old) result
+        (concert (standing (M.machine stage.new.machine) (M.kept stage.new.machine)
+        stage.new.tally) (R.kept stage.new.report)) (owing (M.residue stage.new.machine) desk.new) }
+{
+    let command = command_at(order, &stage.machine);
+    let end = stage.do_command(desk, line, &command)?;
+    match (end, stage.tally.note) {
+        (Some(stop), _) => Ok(Some(Halt::Ended(stop))),
+        (None, Some(_)) => Ok(Some(Halt::Dropped)),
+        (None, None) => Ok(None),
+    }
+}
+
+/// Does an order as often as its cue says. A refusal drops the rest.
+fn do_cue<
+    M: Machine + Drop,
+    R: Report + Drop,
+    F: Files + Drop,
+    O: Outs + Drop,
+    I: Inbox + Drop,
+    L: Ledger,
+>(stage: &mut Stage<M, R>, desk: &mut Desk<F, O, I, L>, cue: Cue) -> Result<Option<Stop>, NoMemory>
+    ensures { let s = concert (standing (M.machine stage.old.machine) (M.kept stage.old.machine)
+        stage.old.tally) (R.kept stage.old.report) in
+        Does (stance_of R.manner) (cue_course R.manner cue s) s
+        (owing (M.residue stage.old.machine) desk.old) result
+        (concert (standing (M.machine stage.new.machine) (M.kept stage.new.machine)
+        stage.new.tally) (R.kept stage.new.report)) (owing (M.residue stage.new.machine) desk.new) }
+{
+    for _time in 0..cue.times {
+        match do_order(stage, desk, cue.line, cue.order)? {
+            None => {}
+            Some(Halt::Dropped) => return Ok(None),
+            Some(Halt::Ended(stop)) => return Ok(Some(stop)),
+        }
+    }
+    Ok(None)
+}
+
+/// Does all that the source gives.
+fn do_cues<
+    M: Machine + Drop,
+    S: Source,
+    R: Report + Drop,
+    F: Files + Drop,
+    O: Outs + Drop,
+    I: Inbox + Drop,
+    L: Ledger,
+>(
+    stage: &mut Stage<M, R>,
+    source: &mut S,
+    desk: &mut Desk<F, O, I, L>,
+) -> Result<Option<Stop>, NoMemory>
+    ensures { let s = concert (standing (M.machine stage.old.machine) (M.kept stage.old.machine)
+        stage.old.tally) (R.kept stage.old.report) in
+        Does (stance_of R.manner) (cues_course R.manner (S.left source.old) s) s
+        (owing (M.residue stage.old.machine) desk.old) result
+        (concert (standing (M.machine stage.new.machine) (M.kept stage.new.machine)
+        stage.new.tally) (R.kept stage.new.report)) (owing (M.residue stage.new.machine) desk.new) }
+{
+    while let Some(cue) = source.next() {
+        if let Some(stop) = do_cue(stage, desk, cue)? {
+            return Ok(Some(stop));
+        }
+    }
+    Ok(None)
+}
+
+/// Ends a run, by what has ended it early, if anything has.
+fn finish<
+    M: Machine + Drop,
+    R: Report + Drop,
+    F: Files + Drop,
+    O: Outs + Drop,
+    I: Inbox + Drop,
+    L: Ledger,
+>(
+    stage: &mut Stage<M, R>,
+    desk: &mut Desk<F, O, I, L>,
+    end: Option<Stop>,
+) -> Result<Option<Stop>, NoMemory>
+    ensures { let s = concert (standing (M.machine stage.old.machine) (M.kept stage.old.machine)
+        stage.old.tally) (R.kept stage.old.report) in
+        Does (stance_of R.manner) (last_course R.manner end s) s
+        (owing (M.residue stage.old.machine) desk.old) result
+        (concert (standing (M.machine stage.new.machine) (M.kept stage.new.machine)
+        stage.new.tally) (R.kept stage.new.report)) (owing (M.residue stage.new.machine) desk.new) }
+{
+    let end = tell_last(stage, desk, end)?;
+    let closed = close(stage, desk)?;
+    save(stage, desk, end.or(closed))
+}
+
+/// Tells the report where the run stands at last, unless it was ended.
+fn tell_last<
+    M: Machine + Drop,
+    R: Report + Drop,
+    F: Files + Drop,
+    O: Outs + Drop,
+    I: Inbox + Drop,
+    L: Ledger,
+>(
+    stage: &mut Stage<M, R>,
+    desk: &mut Desk<F, O, I, L>,
+    end: Option<Stop>,
+) -> Result<Option<Stop>, NoMemory>
+    ensures { let s = concert (standing (M.machine stage.old.machine) (M.kept stage.old.machine)
+        stage.old.tally) (R.kept stage.old.report) in
+        Does (stance_of R.manner) (final_course R.manner end s) s
+        (owing (M.residue stage.old.machine) desk.old) result
+        (concert (standing (M.machine stage.new.machine) (M.kept stage.new.machine)
+        stage.new.tally) (R.kept stage.new.report)) (owing (M.residue stage.new.machine) desk.new) }
+{
+    match end {
+        Some(stop) => Ok(Some(stop)),
+        None => stage.report.finish(desk, &stage.machine, stage.tally),
+    }
+}
+
+/// Ends all notes that sound, and tells the report.
+pub fn close<
+    M: Machine + Drop,
+    R: Report + Drop,
+    F: Files + Drop,
+    O: Outs + Drop,
+    I: Inbox + Drop,
+    L: Ledger,
+>(stage: &mut Stage<M, R>, desk: &mut Desk<F, O, I, L>) -> Result<Option<Stop>, NoMemory>
+    ensures { let s = concert (standing (M.machine stage.old.machine) (M.kept stage.old.machine)
+        stage.old.tally) (R.kept stage.old.report) in
+        Does (stance_of R.manner) (close_course R.manner s) s
+        (owing (M.residue stage.old.machine) desk.old) result
+        (concert (standing (M.machine stage.new.machine) (M.kept stage.new.machine)
+        stage.new.tally) (R.kept stage.new.report)) (owing (M.residue stage.new.machine) desk.new) }
+{
+    stage.messages.clear();
+    stage.machine.close(&mut stage.messages);
+    let messages = stage.messages.as_slice();
+    hand_messages(desk, stage.report.hands(), messages)?;
+    stage.report.close(desk, messages)
+}
+
+/// Lets the report save, unless the run was ended.
+fn save<
+    M: Machine + Drop,
+    R: Report + Drop,
+    F: Files + Drop,
+    O: Outs + Drop,
+    I: Inbox + Drop,
+    L: Ledger,
+>(
+    stage: &mut Stage<M, R>,
+    desk: &mut Desk<F, O, I, L>,
+    end: Option<Stop>,
+) -> Result<Option<Stop>, NoMemory>
+    ensures { let s = concert (standing (M.machine stage.old.machine) (M.kept stage.old.machine)
+        stage.old.tally) (R.kept stage.old.report) in
+        Does (stance_of R.manner) (saved_course R.manner end s) s
+        (owing (M.residue stage.old.machine) desk.old) result
+        (concert (standing (M.machine stage.new.machine) (M.kept stage.new.machine)
+        stage.new.tally) (R.kept stage.new.report)) (owing (M.residue stage.new.machine) desk.new) }
+{
+    match end {
+        Some(stop) => Ok(Some(stop)),
+        None => stage.report.save(desk),
+    }
+}
+
+/// Ends all notes that sound, if memory was refused; the report is not told.
+pub fn close_early<
+    M: Machine + Drop,
+    R: Report + Drop,
+    F: Files + Drop,
+    O: Outs + Drop,
+    I: Inbox + Drop,
+    L: Ledger,
+>(stage: &mut Stage<M, R>, desk: &mut Desk<F, O, I, L>) -> Result<(), NoMemory>
+    ensures called { let s = standing (M.machine stage.old.machine) (M.kept stage.old.machine)
+        stage.old.tally in
+        Calls (gives (handed_of R.manner.hands (ends (notes_of s)))) result desk.old desk.new }
+    ensures in_send { result ≢ Err NoMemory.Elsewhere }
+    // A device that follows the run follows these sends too, and has no key at their end.
+    ensures device { let s = standing (M.machine stage.old.machine) (M.kept stage.old.machine)
+        stage.old.tally in
+        Accompanies (Some s) (gives (sends_of (ends (notes_of s)))) (Some (standing_closed s)) }
+{
+    stage.messages.clear();
+    stage.machine.close(&mut stage.messages);
+    hand_messages(desk, stage.report.hands(), stage.messages.as_slice())
+}

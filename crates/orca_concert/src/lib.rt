@@ -1,0 +1,18 @@
+//! How a run does its commands: one function does one command and is the only one that asks a
+//! session to act, and one loop does a list of them. What is printed, kept and saved of them is a
+//! report's.
+#![tactic(auto)]
+
+mod concert;
+mod halt;
+mod report;
+mod sending;
+mod stage;
+
+pub use concert::{close, close_early, play};
+pub use report::{Report, Turn};
+pub use sending::{print_messages, say, send_messages};
+pub use stage::Stage;
+
+#[cfg(test)]
+mod tests;

@@ -1,0 +1,87 @@
+ghost use Rattle.std.specs.Prelude.{◌≡◌, IfOk};
+ghost use Rattle.orca_course.specs.Doing.{Does};
+ghost use Rattle.orca_course.specs.Standings.{standing, tally_at_start};
+ghost use Rattle.orca_course.specs.Worlds.{owing};
+ghost use Rattle.orca_concert.specs.Concerts.{answer_of, command_course, concert, stance_of};
+
+use crate::sending::hand_messages;
+use crate::{Report, Turn};
+use orca_base::{Command, Fault, Memory, Reply, Rule};
+use orca_course::{Desk, NoMemory, Stop, Tally};
+use orca_edit::Machine;
+use orca_notes::Messages;
+use orca_rig::{Files, Inbox, Outs};
+use std::alloc::Global;
+use std::sync::ledger::Ledger;
+
+/// A session, the messages of its last command, what is counted of a run, and its report.
+#[derive(Drop)]
+pub struct Stage<M, R> {
+    /// The session.
+    pub machine: M,
+    /// The messages of the last command.
+    pub messages: Messages,
+    /// What is counted.
+    pub tally: Tally,
+    /// What is printed, kept and saved.
+    pub report: R,
+}
+
+impl<M: Machine + Drop, R: Report + Drop> Stage<M, R> {
+    /// A run of this session, before its first command. [`Memory`] if the room for the messages of
+    /// a command is refused.
+    pub fn start(alloc: Global, machine: M, report: R) -> Result<Stage<M, R>, Memory>
+        ensures machine { IfOk result (λ stage. stage.machine ≡ machine) }
+        ensures tally { IfOk result (λ stage. stage.tally ≡ tally_at_start) }
+        ensures report { IfOk result (λ stage. stage.report ≡ report) }
+    {
+        Ok(Stage {
+            machine,
+            messages: Messages::start(alloc)?,
+            tally: Tally::start(),
+            report,
+        })
+    }
+
+    /// Does a command: the session acts, its messages are handed out, and the report is told. The
+    /// command stands on this line of a script; 0 where there is none.
+    pub fn do_command<F: Files + Drop, O: Outs + Drop, I: Inbox + Drop, L: Ledger>(
+        &mut self,
+        desk: &mut Desk<F, O, I, L>,
+        line: u32,
+        command: &Command,
+    ) -> Result<Option<Stop>, NoMemory>
+        ensures { let s = concert (standing (M.machine self.old.machine) (M.kept self.old.machine)
+            self.old.tally) (R.kept self.old.report) in
+            Does (stance_of R.manner) (command_course R.manner line command.now s) s
+            (owing (M.residue self.old.machine) desk.old) result
+            (concert (standing (M.machine self.new.machine) (M.kept self.new.machine)
+            self.new.tally) (R.kept self.new.report))
+            (owing (M.residue self.new.machine) desk.new) }
+    {
+        self.report.is_quiet();
+        self.messages.clear();
+        let acted = desk.act(&mut self.machine, command, &mut self.messages);
+        let answer = answer_of(acted)?;
+        let messages = self.messages.as_slice();
+        hand_messages(desk, self.report.hands(), messages)?;
+        self.tally.count(answer, messages);
+        let turn = Turn {
+            line,
+            answer,
+            messages,
+        };
+        self.report.done(desk, &turn)
+    }
+}
+
+/// The answer to a command, if memory was not refused.
+fn answer_of(acted: Result<Reply, Fault>) -> Result<Result<Reply, Rule>, NoMemory>
+    ensures { result ≡ answer_of acted }
+{
+    match acted {
+        Ok(reply) => Ok(Ok(reply)),
+        Err(Fault::Refused(rule)) => Ok(Err(rule)),
+        Err(Fault::Memory) => Err(NoMemory::Elsewhere),
+    }
+}

@@ -1,0 +1,148 @@
+-- What a run does on the outside, in order, and what is read off it.
+use Rattle.std.specs.Prelude.{◌≡◌, ℕ, Bool, true, false, ◌||◌, List, [], ◌∷◌, map, Option, Some, None, All}
+use Rattle.orca_base.specs.declared.command.Command.{Command}
+use Rattle.orca_base.specs.declared.port.Port.{Port}
+use Rattle.orca_base.specs.declared.port.Port.TheVariants as port
+use Rattle.orca_base.specs.Ports.{Sent}
+use Rattle.orca_rig.specs.Arrived.{Log, Poll, after_poll, is_ending, with_listen}
+use Rattle.orca_rig.specs.declared.inbox.Answer.{Answer}
+use Rattle.orca_rig.specs.declared.inbox.Answer.TheVariants as answer
+use Rattle.orca_rig.specs.Handed.{Attached}
+use Rattle.orca_rig.specs.Outside.{Ask}
+use Rattle.orca_rig.specs.Outside.Ask.{Load as AskLoad, Save as AskSave}
+use Rattle.orca_term.specs.Picture.{IsPrintable}
+use Rattle.orca_term.specs.declared.cell.Cell.{Cell}
+use Rattle.orca_course.specs.Standings.{Standing}
+
+-- one call on the outside, with its answer where that decides what follows; and, between calls, the
+-- commands, where they leave the run, and the pictures that were painted
+pub data Act : Type 0 where
+  -- a port is attached to a name
+  Attach : Attached → Act
+  -- a file is loaded: its text, unless the load fails
+  Load : List ℕ → Option (List ℕ) → Act
+  -- these bytes are saved under a name
+  Save : List ℕ → List ℕ → Act
+  -- the inbox listens at a name for so many hands; and the moment that it answers, unless it fails
+  Listen : List ℕ → ℕ → Option ℕ → Act
+  -- a poll of the inbox, with its answer
+  Await : Poll → Act
+  -- bytes are given to a port
+  Give : Sent → Act
+  -- a command is given to the session; no call
+  Obey : Command → Act
+  -- the run stands so, between two commands; no call
+  Stand : Standing → Act
+  -- the picture is painted; no call
+  Show : List Cell → Act
+
+-- ---- calls
+
+-- the sends among acts
+abbrev pub given : List Act → List Sent
+given [] = []
+given (Give sent ∷ acts) = sent ∷ given acts
+given (_ ∷ acts) = given acts
+
+-- the attached ports among acts
+abbrev pub attached_in : List Act → List Attached
+attached_in [] = []
+attached_in (Attach attached ∷ acts) = attached ∷ attached_in acts
+attached_in (_ ∷ acts) = attached_in acts
+
+-- the loads and saves among acts, as a store is asked for them
+abbrev pub asked_in : List Act → List Ask
+asked_in [] = []
+asked_in (Load name text ∷ acts) = AskLoad name ∷ asked_in acts
+asked_in (Save name bytes ∷ acts) = AskSave name bytes ∷ asked_in acts
+asked_in (_ ∷ acts) = asked_in acts
+
+-- the polls among acts
+abbrev pub polls_in : List Act → List Poll
+polls_in [] = []
+polls_in (Await poll ∷ acts) = poll ∷ polls_in acts
+polls_in (_ ∷ acts) = polls_in acts
+
+-- what acts make of the log of the inbox
+abbrev pub log_after : List Act → Log → Log
+log_after [] log = log
+log_after (Listen name hands start ∷ acts) log =
+    log_after acts (with_listen name hands start log)
+log_after (Await poll ∷ acts) log = log_after acts (after_poll poll log)
+log_after (_ ∷ acts) log = log_after acts log
+
+-- whether the inbox has ended, after acts
+abbrev pub ended_after : List Act → Bool → Bool
+ended_after [] before = before
+ended_after (Await poll ∷ acts) before = ended_after acts (is_ending poll.answer)
+ended_after (_ ∷ acts) before = ended_after acts before
+
+-- whether an answer of the inbox is a failure
+abbrev pub is_failure : Answer → Bool
+is_failure (answer.Bytes hand count at) = false
+is_failure (answer.Due at) = false
+is_failure answer.End = false
+is_failure answer.Failed = true
+
+-- whether the inbox has failed, after acts
+abbrev pub lost_after : List Act → Bool → Bool
+lost_after [] before = before
+lost_after (Listen name hands None ∷ acts) before = lost_after acts true
+lost_after (Await poll ∷ acts) before = lost_after acts (before || is_failure poll.answer)
+lost_after (_ ∷ acts) before = lost_after acts before
+
+-- ---- between calls
+
+-- the commands among acts
+abbrev pub commands_in : List Act → List Command
+commands_in [] = []
+commands_in (Obey command ∷ acts) = command ∷ commands_in acts
+commands_in (_ ∷ acts) = commands_in acts
+
+-- where a run stands after acts, if it has a session
+abbrev pub stand_after : Option Standing → List Act → Option Standing
+stand_after s [] = s
+stand_after s (Stand t ∷ acts) = stand_after (Some t) acts
+stand_after s (_ ∷ acts) = stand_after s acts
+
+-- whether a message goes to this port
+abbrev pub is_of_messages : Port → Bool
+is_of_messages port.Midi = true
+is_of_messages port.Udp = true
+is_of_messages port.Osc = true
+is_of_messages port.Text = false
+is_of_messages port.Fault = false
+is_of_messages port.View = false
+
+-- whether messages were given since the run stood somewhere, after acts
+abbrev pub open_after : Bool → List Act → Bool
+open_after before [] = before
+open_after before (Give sent ∷ acts) = open_after (before || is_of_messages sent.port) acts
+open_after before (Stand s ∷ acts) = open_after false acts
+open_after before (_ ∷ acts) = open_after before acts
+
+-- ---- lists of acts
+
+-- no message is given among acts, and they leave a run where it stands
+abbrev pub AreMute : List Act → Type 0
+AreMute [] = Unit {0}
+AreMute (Give sent ∷ acts) = (is_of_messages sent.port ≡ false) × AreMute acts
+AreMute (Stand s ∷ acts) = ⊥
+AreMute (_ ∷ acts) = AreMute acts
+
+-- the cells of each picture among acts are such as a terminal can show
+abbrev pub ArePrintable : List Act → Type 0
+ArePrintable [] = Unit {0}
+ArePrintable (Show cells ∷ acts) = All IsPrintable cells × ArePrintable acts
+ArePrintable (_ ∷ acts) = ArePrintable acts
+
+-- the inbox is not asked among acts
+abbrev pub AreDeaf : List Act → Type 0
+AreDeaf [] = Unit {0}
+AreDeaf (Listen name hands start ∷ acts) = ⊥
+AreDeaf (Await poll ∷ acts) = ⊥
+AreDeaf (_ ∷ acts) = AreDeaf acts
+
+-- these sends, one by one
+abbrev pub gives : List Sent → List Act
+gives = map Give

@@ -1,0 +1,314 @@
+-- What holds of each step of a performance, and of two in turn, holds of all of it. It is proved
+-- here, since that a player is deaf is said of it as a performer, and follows from this.
+use Rattle.std.proofs.Common.{◌≡◌, ◌==◌, ℕ, Bool, true, false, List, [], ◌∷◌, ◌++◌, refl}
+use Rattle.std.specs.Prelude.{if◌then◌else◌, Option, Some, None}
+use Rattle.orca_base.specs.declared.command.Command.{Command}
+use Rattle.orca_base.specs.declared.command.Command.TheVariants.{Frame}
+use Rattle.orca_base.specs.MarkSet.{MarkSet}
+use Rattle.orca_course.specs.Acts.{Act}
+use Rattle.orca_course.specs.Acts.Act.{Await, Save}
+use Rattle.orca_course.specs.Courses.{Course, each, ended, lastly, lastly_by, mapped, onward, onward_by, still}
+use Rattle.orca_course.specs.Performers.{attended, begun, finished, heard, opened, performance, polled, spent}
+use Rattle.orca_course.specs.declared.ending.Ending.{Ending}
+use Rattle.orca_course.specs.declared.ending.Ending.TheVariants.{Spent}
+use Rattle.orca_course.specs.declared.ending.Stop.{Stop}
+use Rattle.orca_course.specs.declared.ending.Stop.TheVariants.{Full}
+use Rattle.orca_course.proofs.CourseLemmas.{each-holds}
+use Rattle.orca_edit.specs.Machines.{preview_of}
+use Rattle.orca_rig.specs.Arrived.{Poll}
+use Rattle.orca_rig.specs.declared.inbox.Answer.{Answer}
+use Rattle.orca_rig.specs.declared.inbox.Answer.TheVariants as answer
+use Rattle.orca_term.specs.Editing.{act_of, editor_after}
+use Rattle.orca_term.specs.Keys.{Byte, Due, Item, turn}
+use Rattle.orca_term.specs.declared.editor.Act.{Act as Wish}
+use Rattle.orca_term.specs.declared.editor.Act.TheVariants as wish
+use Rattle.orca_term.specs.declared.keys.Key.{Key}
+use Rattle.orca_live.specs.Performing.{answer_course, answered_at, byte_course, close_course, command_course, due_course, finish_course, fired, frame_course, heard_course, if_named, item_course, key_course, last_grid_course, last_script_course, live_part, open_course, pace_from, paint_course, painted_course, press_course, preview_course, save_course, script_course, show_course, struck_course, toggled, wish_course}
+use Rattle.orca_live.specs.States.{LiveState, dims_at, fitted, is_full, moments_at, piece_at}
+
+-- two states are the same to the session, to the terminal and to the script
+pub record LooksAlike (s t : LiveState) : Type 0 where
+  pub setting : t.setting ≡ s.setting
+  pub standing : t.standing ≡ s.standing
+  pub screen : t.screen ≡ s.screen
+  pub shown : t.shown ≡ s.shown
+  pub given : t.given ≡ s.given
+
+pub looks_same : (s : LiveState) → LooksAlike s s
+looks_same s = record {
+  setting = refl;
+  standing = refl;
+  screen = refl;
+  shown = refl;
+  given = refl;
+}
+
+-- what holds of each step, and of two in turn
+pub record Carries (holds : LiveState → List Act → LiveState → Type 0) : Type 0 where
+  pub none : (s t : LiveState) → LooksAlike s t → holds s [] t
+  pub both : (r s t : LiveState) (xs ys : List Act) → holds r xs s → holds s ys t
+      → holds r (xs ++ ys) t
+  pub command : (command : Command) (s : LiveState)
+      → holds s (command_course command s).acts (command_course command s).state
+  pub save : (name bytes : List ℕ) (s : LiveState) → holds s (Save name bytes ∷ []) s
+  pub paint : (marks : List MarkSet) (s : LiveState)
+      → holds s (painted_course marks s).acts (painted_course marks s).state
+
+-- it holds of a course
+abbrev pub Along : {E : Type 0} → (LiveState → List Act → LiveState → Type 0)
+    → Course LiveState E → LiveState → Type 0
+Along holds c s = holds s c.acts c.state
+
+-- ---- courses
+
+-- from a state that looks alike
+from_alike : {holds : LiveState → List Act → LiveState → Type 0} {E : Type 0} → Carries holds
+    → (r s : LiveState) (c : Course LiveState E) → LooksAlike r s → Along holds c s
+    → Along holds c r
+from_alike carry r s c alike more = carry.both r s c.state [] c.acts (carry.none r s alike) more
+
+onward_carried : {holds : LiveState → List Act → LiveState → Type 0} {E : Type 0} → Carries holds
+    → (s : LiveState) (end : Option E) (c : Course LiveState E)
+    (next : LiveState → Course LiveState E) → Along holds c s
+    → ((t : LiveState) → Along holds (next t) t) → Along holds (onward_by end c next) s
+onward_carried carry s None c next first more =
+    carry.both s c.state (next c.state).state c.acts (next c.state).acts first (more c.state)
+onward_carried carry s (Some e) c next first more = first
+
+if_carried : (holds : LiveState → List Act → LiveState → Type 0) {E : Type 0} (s : LiveState)
+    (b : Bool) (c d : Course LiveState E) → Along holds c s → Along holds d s
+    → Along holds (if b then c else d) s
+if_carried holds s true c d first second = first
+if_carried holds s false c d first second = second
+
+-- ---- keys
+
+toggled_by : (paused : Bool) (s t : LiveState) → LooksAlike s t
+    → LooksAlike s (if paused then s else t)
+toggled_by true s t alike = looks_same s
+toggled_by false s t alike = alike
+
+toggled_alike : (s : LiveState) → LooksAlike s (toggled s)
+toggled_alike s =
+    toggled_by s.editor.paused s (record s { pace = pace_from s.setting.bpm s.at }) (record {
+      setting = refl;
+      standing = refl;
+      screen = refl;
+      shown = refl;
+      given = refl;
+    })
+
+wish_carried : {holds : LiveState → List Act → LiveState → Type 0} → Carries holds → (w : Wish)
+    (s : LiveState) → Along holds (wish_course w s) s
+unfolding wish_course save_course
+wish_carried carry wish.Nothing s = carry.none s s (looks_same s)
+wish_carried carry (wish.Do command) s = carry.command command s
+wish_carried carry wish.Toggle s = carry.none s (toggled s) (toggled_alike s)
+wish_carried carry wish.Save s = carry.save _ _ s
+wish_carried carry wish.Quit s = carry.none s s (looks_same s)
+
+struck_carried : {holds : LiveState → List Act → LiveState → Type 0} → Carries holds → (key : Key)
+    (s : LiveState) → Along holds (struck_course key s) s
+unfolding struck_course
+struck_carried carry key s =
+    let t : LiveState = record s { editor = editor_after key (dims_at s) s.editor } in
+    let w = act_of key (moments_at s) s.editor in
+    from_alike carry s t (wish_course w t)
+    (record { setting = refl; standing = refl; screen = refl; shown = refl; given = refl })
+    (wish_carried carry w t)
+
+press_carried : {holds : LiveState → List Act → LiveState → Type 0} → Carries holds
+    → (key : Option Key) (s : LiveState) → Along holds (press_course key s) s
+unfolding press_course key_course
+press_carried carry None s = carry.none s s (looks_same s)
+press_carried carry (Some key) s =
+    from_alike carry s (fitted s) (struck_course key (fitted s))
+    (record { setting = refl; standing = refl; screen = refl; shown = refl; given = refl })
+    (struck_carried carry key (fitted s))
+
+item_carried : {holds : LiveState → List Act → LiveState → Type 0} → Carries holds
+    → (item : Item) (s : LiveState) → Along holds (item_course item s) s
+unfolding item_course
+item_carried carry item s =
+    let t : LiveState = record s { pending = (turn s.pending item).pending } in
+    let key = (turn s.pending item).key in
+    from_alike carry s t (press_course key t)
+    (record { setting = refl; standing = refl; screen = refl; shown = refl; given = refl })
+    (press_carried carry key t)
+
+bytes_carried : {holds : LiveState → List Act → LiveState → Type 0} → Carries holds
+    → (bytes : List ℕ) (s : LiveState) → Along holds (each byte_course bytes s) s
+unfolding byte_course
+bytes_carried {holds = holds} carry bytes s =
+    each-holds holds byte_course (λ t. carry.none t t (looks_same t)) carry.both
+    (λ byte t. item_carried carry (Byte byte) t) bytes s
+
+-- ---- the clock
+
+frame_carried : {holds : LiveState → List Act → LiveState → Type 0} → Carries holds
+    → (s : LiveState) → Along holds (frame_course s) s
+unfolding frame_course onward
+frame_carried {holds = holds} carry s =
+    let next : LiveState → Course LiveState Stop = λ (t : LiveState). still (fired t) in
+    let c = command_course Frame s in
+    if_carried holds s (is_full s) (ended Full s) (onward c next) (carry.none s s (looks_same s))
+    (onward_carried carry s c.ending c next (carry.command Frame s)
+    (λ t. carry.none t (fired t) (record {
+      setting = refl;
+      standing = refl;
+      screen = refl;
+      shown = refl;
+      given = refl;
+    })))
+
+due_carried : {holds : LiveState → List Act → LiveState → Type 0} → Carries holds
+    → (s : LiveState) → Along holds (due_course s) s
+unfolding due_course onward
+due_carried carry s =
+    let c = item_course Due s in
+    onward_carried carry s c.ending c frame_course (item_carried carry Due s)
+    (frame_carried carry)
+
+-- ---- what is shown
+
+paint_carried : {holds : LiveState → List Act → LiveState → Type 0} → Carries holds
+    → (marks : List MarkSet) (s : LiveState) → Along holds (paint_course marks s) s
+unfolding paint_course
+paint_carried carry marks s =
+    from_alike carry s (fitted s) (painted_course marks (fitted s))
+    (record { setting = refl; standing = refl; screen = refl; shown = refl; given = refl })
+    (carry.paint marks (fitted s))
+
+show_carried : {holds : LiveState → List Act → LiveState → Type 0} → Carries holds
+    → (s : LiveState) → Along holds (show_course s) s
+unfolding show_course preview_course
+show_carried carry s = paint_carried carry (preview_of (piece_at s)) s
+
+-- ---- answers
+
+answer_carried : {holds : LiveState → List Act → LiveState → Type 0} → Carries holds
+    → (a : Answer) (bytes : List ℕ) (s : LiveState) → Along holds (answer_course a bytes s) s
+unfolding answer_course
+answer_carried {holds = holds} carry (answer.Bytes hand count at) bytes s =
+    let t = answered_at at s in
+    let alike : LooksAlike s t =
+    record { setting = refl; standing = refl; screen = refl; shown = refl; given = refl } in
+    if_carried holds s (hand == 0) (each byte_course bytes t) (still t)
+    (from_alike carry s t (each byte_course bytes t) alike (bytes_carried carry bytes t))
+    (carry.none s t alike)
+answer_carried carry (answer.Due at) bytes s =
+    let t = answered_at at s in
+    from_alike carry s t (due_course t)
+    (record { setting = refl; standing = refl; screen = refl; shown = refl; given = refl })
+    (due_carried carry t)
+answer_carried carry answer.End bytes s = carry.none s s (looks_same s)
+answer_carried carry answer.Failed bytes s = carry.none s s (looks_same s)
+
+pub heard_carried : {holds : LiveState → List Act → LiveState → Type 0} → Carries holds
+    → (a : Answer) (bytes : List ℕ) (s : LiveState) → Along holds (heard_course a bytes s) s
+unfolding heard_course onward
+heard_carried carry a bytes s =
+    let c = answer_course a bytes s in
+    onward_carried carry s c.ending c show_course (answer_carried carry a bytes s)
+    (show_carried carry)
+
+-- ---- the end
+
+grid_carried : {holds : LiveState → List Act → LiveState → Type 0} → Carries holds
+    → (name : Option (List ℕ)) (s : LiveState) → Along holds (if_named name save_course s) s
+unfolding save_course
+grid_carried carry None s = carry.none s s (looks_same s)
+grid_carried carry (Some name) s = carry.save name _ s
+
+script_carried : {holds : LiveState → List Act → LiveState → Type 0} → Carries holds
+    → (name : Option (List ℕ)) (s : LiveState) → Along holds (if_named name script_course s) s
+unfolding script_course
+script_carried carry None s = carry.none s s (looks_same s)
+script_carried carry (Some name) s = carry.save name _ s
+
+-- it holds of a close too
+abbrev pub Silences : (LiveState → List Act → LiveState → Type 0) → Type 0
+Silences holds = (s : LiveState) → Along holds (close_course s) s
+
+pub finish_carried : {holds : LiveState → List Act → LiveState → Type 0} → Carries holds
+    → Silences holds → (s : LiveState) → Along holds (finish_course s) s
+unfolding finish_course last_grid_course last_script_course onward
+finish_carried carry silences s =
+    let last : LiveState → Course LiveState Stop =
+    λ (t : LiveState). onward (last_grid_course t) last_script_course in
+    onward_carried carry s (close_course s).ending (close_course s) last (silences s)
+    (λ t. onward_carried carry t (last_grid_course t).ending (last_grid_course t)
+    last_script_course (grid_carried carry t.setting.save t)
+    (λ u. script_carried carry u.setting.script u))
+
+pub open_carried : {holds : LiveState → List Act → LiveState → Type 0} → Carries holds
+    → (s : LiveState) → Along holds (open_course s) s
+unfolding open_course
+open_carried carry s = paint_carried carry [] s
+
+-- ---- a performance
+
+answered_carried : {holds : LiveState → List Act → LiveState → Type 0} → Carries holds
+    → (a : Answer) (bytes : List ℕ) (s : LiveState) → Along holds (heard live_part a bytes s) s
+unfolding heard mapped
+answered_carried carry (answer.Bytes hand count at) bytes s =
+    heard_carried carry (answer.Bytes hand count at) bytes s
+answered_carried carry (answer.Due at) bytes s = heard_carried carry (answer.Due at) bytes s
+answered_carried carry answer.End bytes s = carry.none s s (looks_same s)
+answered_carried carry answer.Failed bytes s = carry.none s s (looks_same s)
+
+-- it holds of a poll too
+abbrev pub Awaits : (LiveState → List Act → LiveState → Type 0) → Type 0
+Awaits holds = (poll : Poll) (s : LiveState) → holds s (Await poll ∷ []) s
+
+polled_carried : {holds : LiveState → List Act → LiveState → Type 0} → Carries holds
+    → Awaits holds → (poll : Poll) (s : LiveState) → Along holds (polled live_part poll s) s
+unfolding polled onward
+polled_carried carry awaits poll s =
+    let c = heard live_part poll.answer poll.bytes s in
+    carry.both s s c.state (Await (record poll { until = live_part.until s }) ∷ []) c.acts
+    (awaits (record poll { until = live_part.until s }) s)
+    (answered_carried carry poll.answer poll.bytes s)
+
+spent_by : {holds : LiveState → List Act → LiveState → Type 0} → Carries holds → (b : Bool)
+    (s : LiveState) → Along {E = Ending} holds (if b then ended Spent s else still s) s
+spent_by carry true s = carry.none s s (looks_same s)
+spent_by carry false s = carry.none s s (looks_same s)
+
+attended_carried : {holds : LiveState → List Act → LiveState → Type 0} → Carries holds
+    → Awaits holds → (polls : List Poll) (s : LiveState)
+    → Along holds (attended live_part polls s) s
+unfolding attended onward spent
+attended_carried {holds = holds} carry awaits polls s =
+    let c = each (polled live_part) polls s in
+    onward_carried carry s c.ending c (spent polls)
+    (each-holds holds (polled live_part) (λ t. carry.none t t (looks_same t)) carry.both
+    (polled_carried carry awaits) polls s)
+    (λ t. spent_by carry _ t)
+
+pub begun_carried : {holds : LiveState → List Act → LiveState → Type 0} → Carries holds
+    → Awaits holds → (s : LiveState) (polls : List Poll)
+    → Along holds (begun live_part s polls) s
+unfolding begun opened onward mapped
+begun_carried carry awaits s polls =
+    let c = opened live_part s in
+    onward_carried carry s c.ending c (attended live_part polls) (open_carried carry s)
+    (attended_carried carry awaits polls)
+
+lastly_carried : {holds : LiveState → List Act → LiveState → Type 0} → Carries holds
+    → Silences holds → (end : Option Ending) (c : Course LiveState Ending) (s : LiveState)
+    → Along holds c s → Along holds (lastly_by end c (finished live_part)) s
+unfolding finished mapped
+lastly_carried carry silences None c s first = first
+lastly_carried carry silences (Some e) c s first =
+    let d = finish_course c.state in
+    carry.both s c.state d.state c.acts d.acts first
+    (finish_carried carry silences c.state)
+
+pub performance_carried : {holds : LiveState → List Act → LiveState → Type 0} → Carries holds
+    → Awaits holds → Silences holds → (s : LiveState) (polls : List Poll)
+    → Along holds (performance live_part s polls) s
+unfolding performance lastly
+performance_carried carry awaits silences s polls =
+    let c = begun live_part s polls in
+    lastly_carried carry silences c.ending c s (begun_carried carry awaits s polls)

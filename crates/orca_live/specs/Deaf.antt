@@ -1,0 +1,67 @@
+-- A player does not ask the inbox: the loop alone does.
+use Rattle.std.proofs.Common.{ℕ, true, List, [], ◌∷◌, ◌++◌}
+use Rattle.orca_base.specs.declared.command.Command.{Command}
+use Rattle.orca_base.specs.MarkSet.{MarkSet}
+use Rattle.orca_base.specs.Ports.{Sent}
+use Rattle.orca_concert.specs.Concerts.{close_course as silence_course, command_course as obey_course, handed_of}
+use Rattle.orca_course.specs.Acts.{Act, AreDeaf, gives}
+use Rattle.orca_course.specs.Acts.Act.{Show, Stand}
+use Rattle.orca_course.specs.Courses.{mapped, onward}
+use Rattle.orca_course.specs.Performers.{IsDeaf}
+use Rattle.orca_course.proofs.ActLemmas.{AreDeaf-append}
+use Rattle.orca_course.specs.Standings.{notes_of, standing_after, standing_closed}
+use Rattle.orca_edit.specs.Obeying.{obey}
+use Rattle.orca_notes.specs.Sound.{ends}
+use Rattle.orca_term.specs.Viewing.{painting_bytes}
+use Rattle.orca_live.specs.Performing.{close_course, command_course, live_part, painted_course, picture_at, view_sends}
+use Rattle.orca_live.specs.States.{LiveState}
+use Rattle.orca_live.specs.Carrying.{Carries, finish_carried, heard_carried, open_carried}
+
+deaf_gives : (sends : List Sent) → AreDeaf (gives sends)
+deaf_gives [] = tt
+deaf_gives (sent ∷ sends) = deaf_gives sends
+
+-- messages that are handed out, and where the run stands then
+deaf_handed : (sends : List Sent) (acts : List Act) → AreDeaf acts
+    → AreDeaf ((gives sends ++ acts) ++ [])
+deaf_handed sends acts deaf =
+    AreDeaf-append (gives sends ++ acts) []
+    (AreDeaf-append (gives sends) acts (deaf_gives sends) deaf) tt
+
+deaf_views : (bytes : List ℕ) (acts : List Act) → AreDeaf acts → AreDeaf (view_sends bytes ++ acts)
+deaf_views [] acts deaf = deaf
+deaf_views (byte ∷ bytes) acts deaf = deaf
+
+command_deaf : (command : Command) (s : LiveState) → AreDeaf (command_course command s).acts
+unfolding command_course obey_course onward mapped
+command_deaf command s =
+    let o = obey s.standing.machine command in
+    deaf_handed (handed_of true o.messages) (Stand (standing_after s.standing o) ∷ []) tt
+
+close_deaf : (s : LiveState) → AreDeaf (close_course s).acts
+unfolding close_course silence_course onward mapped
+close_deaf s =
+    deaf_handed (handed_of true (ends (notes_of s.standing)))
+    (Stand (standing_closed s.standing) ∷ []) tt
+
+paint_deaf : (marks : List MarkSet) (s : LiveState) → AreDeaf (painted_course marks s).acts
+unfolding painted_course
+paint_deaf marks s =
+    let cells = picture_at marks s in
+    deaf_views (painting_bytes s.screen s.shown cells) (Show cells ∷ []) tt
+
+deaf_carries : Carries (λ r xs t. AreDeaf xs)
+deaf_carries = record {
+  none = λ s t alike. tt;
+  both = λ r s t xs ys first second. AreDeaf-append xs ys first second;
+  command = command_deaf;
+  save = λ name bytes s. tt;
+  paint = paint_deaf;
+}
+
+pub live_is_deaf : IsDeaf live_part
+live_is_deaf = record {
+  opens = open_carried deaf_carries;
+  hears = heard_carried deaf_carries;
+  finishes = λ ending s. finish_carried deaf_carries close_deaf s;
+}

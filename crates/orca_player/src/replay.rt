@@ -1,0 +1,63 @@
+//! The commands of a script on an opened grid.
+
+ghost use Rattle.std.specs.Prelude.{◌≡◌, ◌≤◌, Option, List, ℕ, [], ◌∷◌, length};
+ghost use Rattle.orca_base.specs.declared.limits.TheConstants.{MAX_FILE_BYTES};
+ghost use Rattle.orca_course.specs.Acts.Act.{Load};
+ghost use Rattle.orca_cues.specs.Scripts.{any_script_of};
+ghost use Rattle.orca_player.specs.Doing.{Came};
+ghost use Rattle.orca_player.specs.Outlines.{after, loaded_script, script_outline, standing_at};
+
+use crate::Status;
+use crate::concert::concert;
+use crate::opening::Opening;
+use orca_course::Desk;
+use orca_cues::{Script, check_any_script, script_seed};
+use orca_reports::ReplayReport;
+use orca_rig::{Files, Inbox, Outs};
+use std::sync::ledger::Ledger;
+
+/// Loads and reads a script, and does its commands. A script that has a seed gives it to the session.
+pub(crate) fn replay<F: Files + Drop, O: Outs + Drop, I: Inbox + Drop, L: Ledger>(
+    opening: &mut Opening,
+    name: &str,
+    desk: &mut Desk<F, O, I, L>,
+) -> Status
+    ensures { (script : Option (List ℕ)) × Came
+        (after (Load name.now script ∷ [])
+        (loaded_script opening.old.grid opening.old.seed opening.old.limit script))
+        desk.old result desk.new }
+{
+    match desk.load(opening.alloc, name) {
+        Ok(Some(text)) => {
+            let script = text.as_slice();
+            opening.seed = script_seed(script).unwrap_or(opening.seed);
+            follow(opening, script, desk)
+        }
+        Ok(None) => Status::FileFault,
+        Err(_) => Status::Memory,
+    }
+}
+
+/// Reads all lines of a script, and then does its commands.
+#[tactic(auto, unfolding(crate::specs::Outlines::script_outline))]
+fn follow<F: Files + Drop, O: Outs + Drop, I: Inbox + Drop, L: Ledger>(
+    opening: &Opening,
+    text: &[u8],
+    desk: &mut Desk<F, O, I, L>,
+) -> Status
+    requires short { length text.now ≤ MAX_FILE_BYTES }
+    ensures { Came (script_outline (any_script_of text.now)
+        (standing_at opening.now.grid opening.now.seed opening.now.limit))
+        desk.old result desk.new }
+{
+    match check_any_script(text) {
+        Ok(()) => {
+            let mut source = Script::of_any(text);
+            concert(opening, &mut source, ReplayReport::new(opening.alloc), desk)
+        }
+        Err(fault) => Status::ScriptRefused {
+            line: fault.line,
+            column: fault.column,
+        },
+    }
+}
