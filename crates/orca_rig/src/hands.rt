@@ -224,7 +224,6 @@ mod tests {
     use super::{Hands, Turn};
     use crate::{Answer, MAX_HANDS};
     use orca_base::limits::ARRIVAL_BYTES;
-    use std::test::Fail;
 
     /// What a turn answered: the hand, and how many of its bytes.
     fn heard(turn: Turn) -> Option<(u8, u8)> {
@@ -235,14 +234,14 @@ mod tests {
     }
 
     #[test]
-    fn hands_are_heard_in_turn_until_all_have_ended(rt: HostRuntime) -> Result<(), Fail> {
+    fn hands_are_heard_in_turn_until_all_have_ended(rt: HostRuntime) {
         // Hand 0 has more than one arrival holds, and hand 2 ends at once.
         let long = [b'a'; ARRIVAL_BYTES + 1];
-        let mut hands = Hands::new(rt.alloc(), MAX_HANDS)?;
-        hands.add(long.as_slice())?;
+        let mut hands = Hands::new(rt.alloc(), MAX_HANDS).expect(&rt, "memory");
+        hands.add(long.as_slice()).expect(&rt, "memory");
         let others: [&[u8]; 7] = [b"b", b"", b"ddd", b"eeee", b"f", b"gg", b"hhh"];
         for bytes in others {
-            hands.add(bytes)?;
+            hands.add(bytes).expect(&rt, "memory");
         }
         let mut bytes = [0u8; ARRIVAL_BYTES];
         for (hand, count) in [
@@ -256,15 +255,14 @@ mod tests {
             (7, 3),
         ] {
             let wanted = if count > 0 { Some((hand, count)) } else { None };
-            assert_eq!(rt; heard(hands.turn(None, 0, &mut bytes)), wanted);
+            assert!(rt; heard(hands.turn(None, 0, &mut bytes)) == wanted, "{hand}");
         }
         // The rest of hand 0 comes in the second round, in which all others have ended.
-        assert_eq!(rt; heard(hands.turn(None, 0, &mut bytes)), Some((0, 1)));
+        assert!(rt; heard(hands.turn(None, 0, &mut bytes)) == Some((0, 1)));
         for _ in 1..MAX_HANDS {
             assert!(rt; matches!(hands.turn(None, 0, &mut bytes), Turn::Nothing));
         }
         let last = hands.turn(None, 0, &mut bytes);
         assert!(rt; matches!(last, Turn::Answered(Answer::End)));
-        Ok(())
     }
 }

@@ -9,15 +9,22 @@ use std::io;
 use std::rt::Clock;
 use std::time::Duration;
 
-/// How long before a moment no wait for events goes on, in microseconds: its limit is in whole
-/// milliseconds.
-pub(crate) const LEAD: u64 = 2_000;
+/// How long before a moment no wait for events goes on, in microseconds. Its limit is rounded up to
+/// whole milliseconds, and the system ends it late by up to a thousandth of it.
+pub(crate) const LEAD: u64 = 1_300;
 
-/// The longest wait for events where there is a moment to wait for, in microseconds.
-pub(crate) const LONGEST_STEP: u64 = 1_000_000;
+/// The longest wait for events where there is a moment to wait for, in microseconds. A longer one
+/// might end too late.
+pub(crate) const LONGEST_STEP: u64 = 200_000;
 
-/// The longest sleep between two looks at the connections, in microseconds.
-pub(crate) const NAP: u64 = 500;
+/// The longest sleep between two looks at the connections, in microseconds. Bytes that come
+/// meanwhile wait for its end.
+pub(crate) const NAP: u64 = 300;
+
+/// How long before a moment no sleep goes on, in microseconds. The system lets a sleep end 50
+/// microseconds late, so that it can wake several sleepers at once, and takes some 10 more to wake
+/// one. The 20 or so that are left are spent on looking, which costs a processor little.
+pub(crate) const MARGIN: u64 = 80;
 
 /// A clock, what it showed at the start, and the last moment that was answered, in microseconds.
 #[derive(Drop)]
@@ -36,6 +43,8 @@ pub(crate) enum Wait {
     Events(u64),
     /// By a sleep of so long.
     Sleep(u64),
+    /// Not at all: the moment is so near that the turns go on without a rest.
+    Look,
 }
 
 impl<R: Clock> Watch<'_, R> {
@@ -73,7 +82,7 @@ pub(crate) fn has_come(until: Option<u64>, now: u64) -> bool
     }
 }
 
-/// How a turn may wait: for events to shortly before the moment, and by a sleep to the moment.
+/// How a turn may wait: for events, then by a sleep, and then not at all, the nearer the moment is.
 pub(crate) fn wait_of(until: Option<u64>, now: u64) -> Wait
     ensures { IsTimely until now result }
 {
@@ -83,7 +92,9 @@ pub(crate) fn wait_of(until: Option<u64>, now: u64) -> Wait
     let left = moment.saturating_sub(now);
     if left > LEAD {
         Wait::Events((left - LEAD).min(LONGEST_STEP))
+    } else if left > MARGIN {
+        Wait::Sleep((left - MARGIN).min(NAP))
     } else {
-        Wait::Sleep(left.min(NAP))
+        Wait::Look
     }
 }

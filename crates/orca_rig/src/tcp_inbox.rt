@@ -37,7 +37,8 @@ const EVENTS: usize = MAX_HANDS as usize;
 /// A poll waits for events of the connections until shortly before its moment, and takes no
 /// processor. From there on it looks at the connections and sleeps, in turn, since the system ends
 /// a sleep nearer to its time than a wait for events. So bytes that come shortly before the moment
-/// wait for the end of a short sleep.
+/// wait for the end of a short sleep. The last sleep ends a little before the moment, since the
+/// system ends it late, and from there on the poll looks without a rest.
 ///
 /// Neither side can hold the other up: of a moment that has come and bytes that have come, a poll
 /// answers the moment, and the next poll the bytes. Hands are heard in turn. No read waits, so a
@@ -111,15 +112,14 @@ impl<S: Read> Line<S> {
         Answer::Failed
     }
 
-    /// Waits for events, or sleeps.
+    /// Waits for events, or sleeps, or goes on at once.
     fn rest<R: Clock>(&mut self, clock: &Watch<'_, R>, wait: Wait) -> io::Result<()>
         ensures { self.new.hands ≡ self.old.hands }
     {
         let limit = match wait {
+            Wait::Look => return Ok(()),
             Wait::Sleep(pause) => {
-                if pause > 0 {
-                    thread::sleep(clock.rt, Duration::from_micros(pause));
-                }
+                thread::sleep(clock.rt, Duration::from_micros(pause));
                 return Ok(());
             }
             Wait::Events(limit) => Some(Duration::from_micros(limit)),
@@ -303,23 +303,28 @@ mod tests {
     use crate::Answer;
     use crate::moments::Watch;
     use orca_base::limits::ARRIVAL_BYTES;
+    use std::io;
     use std::io::Write;
     use std::net::{TcpListener, TcpStream};
-    use std::test::Fail;
+
+    /// A player who connects, and the connection.
+    fn pair(rt: &HostRuntime, listener: &TcpListener) -> io::Result<(TcpStream, TcpStream)> {
+        let player = TcpStream::connect(rt, listener.local_addr()?)?;
+        let (connection, _) = listener.accept()?;
+        Ok((player, connection))
+    }
 
     #[test]
-    fn a_connection_that_is_reset_is_a_failure(rt: HostRuntime) -> Result<(), Fail> {
-        let listener = TcpListener::bind(&rt, "127.0.0.1:0")?;
-        let resets = TcpStream::connect(&rt, listener.local_addr()?)?;
-        let (mut first, _) = listener.accept()?;
-        let mut stays = TcpStream::connect(&rt, listener.local_addr()?)?;
-        let (second, _) = listener.accept()?;
+    fn a_connection_that_is_reset_is_a_failure(rt: HostRuntime) {
+        let listener = TcpListener::bind(&rt, "127.0.0.1:0").expect(&rt, "a listener");
+        let (resets, mut first) = pair(&rt, &listener).expect(&rt, "a player");
+        let (mut stays, second) = pair(&rt, &listener).expect(&rt, "a player");
         // What the peer has not read when it closes lets it reset the connection.
-        first.write_all(b"unread")?;
+        first.write_all(b"unread").expect(&rt, "a write");
         drop(resets);
-        stays.write_all(b"z")?;
+        stays.write_all(b"z").expect(&rt, "a write");
         let mut line = Line::new(&rt, 2).expect(&rt, "a line");
-        assert_eq!(rt; (line.add(0, first), line.add(1, second)), (Ok(()), Ok(())));
+        assert!(rt; line.add(0, first) == Ok(()) && line.add(1, second) == Ok(()));
         let (origin, last) = (0, 0);
         let clock = Watch {
             rt: &rt,
@@ -339,7 +344,6 @@ mod tests {
             )
         );
         drop(stays);
-        assert_eq!(rt; line.wait(&clock, false, None, &mut bytes), Answer::Failed);
-        Ok(())
+        assert!(rt; line.wait(&clock, false, None, &mut bytes) == Answer::Failed);
     }
 }

@@ -73,7 +73,6 @@ mod tests {
     use super::{read_whole, write_whole};
     use std::io;
     use std::io::{ErrorKind, Read, Write};
-    use std::test::Fail;
 
     /// A reader that gives one byte at each second turn, and then ends in this way.
     #[derive(Drop)]
@@ -145,7 +144,7 @@ mod tests {
     }
 
     #[test]
-    fn reads_go_on_until_the_end(rt: HostRuntime) -> Result<(), Fail> {
+    fn reads_go_on_until_the_end(rt: HostRuntime) {
         for (count, end) in [
             (0, None),
             (3, None),
@@ -156,11 +155,10 @@ mod tests {
             let wanted = if end.is_none() { Some(count) } else { None };
             assert_eq!(rt; bytes.map(|bytes| bytes.len()), wanted);
         }
-        Ok(())
     }
 
     #[test]
-    fn writes_go_on_until_all_is_written(rt: HostRuntime) -> Result<(), Fail> {
+    fn writes_go_on_until_all_is_written(rt: HostRuntime) {
         // Each second turn is interrupted. All that fits is one write.
         for (most, turns) in [(2, 6), (5, 2), (0, 2)] {
             let mut to = slow_writer(&rt, most);
@@ -168,6 +166,5 @@ mod tests {
             assert_eq!(rt; (is_written, to.turns), (most > 0, turns));
             assert_eq!(rt; to.kept.as_slice() == b"three".as_slice(), most > 0);
         }
-        Ok(())
     }
 }

@@ -1,122 +1,139 @@
+use super::check_file;
 use crate::{Files, MemFiles, RealFiles, StoreFault, names_differ};
 use orca_base::limits::MAX_FILE_BYTES;
-use std::alloc::{AllocError, Global};
-use std::fs;
+use std::alloc::Global;
 use std::fs::Permissions;
 use std::os::unix::fs::{MetadataExt, PermissionsExt, symlink};
 use std::process::Abort;
-use std::test::Fail;
+use std::{fs, rt};
 
-type Loaded<'a> = (&'a str, Result<(), StoreFault>, &'a [u8]);
+/// A call of the files, with its answer, and what stands in the buffer after a load.
+#[derive(Clone, Copy)]
+enum Call {
+    Save(&'static str, &'static [u8], Result<(), StoreFault>),
+    Load(&'static str, Result<(), StoreFault>, &'static [u8]),
+}
 
-type Saved<'a> = (&'a str, &'a [u8], Result<(), StoreFault>);
+use Call::{Load, Save};
 
-/// Loads the files one after another, and looks at each answer and at the bytes after it.
-fn check_loads<F: Files>(rt: &impl Abort, files: &mut F, into: &mut Vec<u8>, turns: &[Loaded<'_>]) {
-    for (name, answer, after) in turns {
-        assert_eq!(rt; files.load(name, into), *answer, "{name}");
-        assert_eq!(rt; into.as_slice(), *after, "{name}");
+const FAILED: Result<(), StoreFault> = Err(StoreFault::Failed);
+
+/// Makes the calls one after another, and looks at each answer and at the bytes after a load.
+fn check_calls<F: Files>(rt: &impl Abort, alloc: Global, files: &mut F, calls: &[Call]) {
+    let mut into = b"before".to_vec(alloc).expect(rt, "memory");
+    for call in calls {
+        match *call {
+            Save(name, bytes, answer) => {
+                assert!(rt; files.save(name, bytes) == answer, "{name}");
+            }
+            Load(name, answer, after) => {
+                assert!(rt; files.load(name, &mut into) == answer, "{name}");
+                assert!(rt; into.as_slice() == after, "{name}");
+            }
+        }
     }
 }
 
-/// Saves the files one after another, and looks at each answer.
-fn check_saves<F: Files>(rt: &impl Abort, files: &mut F, turns: &[Saved<'_>]) {
-    for (name, bytes, answer) in turns {
-        assert_eq!(rt; files.save(name, bytes), *answer, "{name}");
-    }
+/// A file in memory: its name, and its bytes.
+fn file(rt: &impl Abort, alloc: Global, name: &str, bytes: &[u8]) -> (String, Vec<u8>) {
+    let name = String::from_str(alloc, name).expect(rt, "memory");
+    (name, bytes.to_vec(alloc).expect(rt, "memory"))
 }
 
-fn file(alloc: Global, name: &str, bytes: &[u8]) -> Result<(String, Vec<u8>), AllocError> {
-    Ok((String::from_str(alloc, name)?, bytes.to_vec(alloc)?))
-}
+// The second and the fifth call are listed, and there is no file of the third name.
+const IN_MEMORY: [Call; 11] = [
+    Load("a.orca", Ok(()), b"E.E"),
+    Load("b.orca", FAILED, b"E.E"),
+    Load("c.orca", FAILED, b"E.E"),
+    Save("a.orca", b"D2", Ok(())),
+    Save("b.orca", b"lost", FAILED),
+    Save("new.orca", b"..", Ok(())),
+    Save("", b"no name", Ok(())),
+    Load("a.orca", Ok(()), b"D2"),
+    Load("b.orca", Ok(()), b""),
+    Load("new.orca", Ok(()), b".."),
+    Load("", Ok(()), b"no name"),
+];
 
 #[test]
-fn files_in_memory_are_saved_and_loaded_or_fail(rt: HostRuntime) -> Result<(), Fail> {
+fn files_in_memory_are_saved_and_loaded_or_fail(rt: HostRuntime) {
     let alloc = rt.alloc();
-    let mut contents = Vec::new(alloc);
-    contents.push(file(alloc, "a.orca", b"E.E")?)?;
-    contents.push(file(alloc, "b.orca", b"")?)?;
+    let first = file(&rt, alloc, "a.orca", b"E.E");
+    let second = file(&rt, alloc, "b.orca", b"");
+    let contents = vec![in alloc; first, second].expect(&rt, "memory");
     assert!(rt; names_differ(&contents));
-    let mut files = MemFiles::new(contents, vec![in alloc; 2u64, 5u64]?)?;
-    let mut into = b"before".to_vec(alloc)?;
-    // The second and the fifth call are listed, and there is no file of the third name.
-    let loads: [Loaded; 3] = [
-        ("a.orca", Ok(()), b"E.E"),
-        ("b.orca", Err(StoreFault::Failed), b"E.E"),
-        ("c.orca", Err(StoreFault::Failed), b"E.E"),
-    ];
-    check_loads(&rt, &mut files, &mut into, &loads);
-    let saves: [Saved; 4] = [
-        ("a.orca", b"D2", Ok(())),
-        ("b.orca", b"lost", Err(StoreFault::Failed)),
-        ("new.orca", b"..", Ok(())),
-        ("", b"no name", Ok(())),
-    ];
-    check_saves(&rt, &mut files, &saves);
-    let after: [Loaded; 4] = [
-        ("a.orca", Ok(()), b"D2"),
-        ("b.orca", Ok(()), b""),
-        ("new.orca", Ok(()), b".."),
-        ("", Ok(()), b"no name"),
-    ];
-    check_loads(&rt, &mut files, &mut into, &after);
+    let fail = [2u64, 5].to_vec(alloc).expect(&rt, "memory");
+    let mut files = MemFiles::new(contents, fail).expect(&rt, "memory");
+    check_calls(&rt, alloc, &mut files, &IN_MEMORY);
     assert!(rt; files.file("new.orca").is_some() && files.file("a").is_none());
-    Ok(())
 }
 
+/// A name of 256 bytes.
+const LONG_NAME: &str = "nnnnnnnnnnnnnnnnnnnnnnnnnnnnnnnnnnnnnnnnnnnnnnnnnnnnnnnnnnnnnnnn\
+    nnnnnnnnnnnnnnnnnnnnnnnnnnnnnnnnnnnnnnnnnnnnnnnnnnnnnnnnnnnnnnnn\
+    nnnnnnnnnnnnnnnnnnnnnnnnnnnnnnnnnnnnnnnnnnnnnnnnnnnnnnnnnnnnnnnn\
+    nnnnnnnnnnnnnnnnnnnnnnnnnnnnnnnnnnnnnnnnnnnnnnnnnnnnnnnnnnnnnnnn";
+
+// Before this `rig_long.orca` is saved, which is too long to be loaded.
+const OF_THE_SYSTEM: [Call; 15] = [
+    Save("rig_small.orca", b"longer than the next", Ok(())),
+    Save("rig_small.orca", b"E.E\n", Ok(())),
+    Save("rig_empty.orca", b"", Ok(())),
+    Save("/dev/null", b"a device", Ok(())),
+    Save(".", b"a folder", FAILED),
+    Save("", b"no name", FAILED),
+    Save("rig_missing/a.orca", b"no folder", FAILED),
+    Save(LONG_NAME, b"256 bytes", FAILED),
+    Save("/dev/full", b"a disk that is full", FAILED),
+    Load("rig_long.orca", FAILED, b"before"),
+    Load("rig_small.orca", Ok(()), b"E.E\n"),
+    Load("rig_missing.orca", FAILED, b"E.E\n"),
+    Load(".", FAILED, b"E.E\n"),
+    Load(LONG_NAME, FAILED, b"E.E\n"),
+    Load("rig_empty.orca", Ok(()), b""),
+];
+
 #[test]
-fn files_of_the_system_are_saved_and_loaded_or_fail(rt: HostRuntime) -> Result<(), Fail> {
+fn files_of_the_system_are_saved_and_loaded_or_fail(rt: HostRuntime) {
     let alloc = rt.alloc();
-    let long_name = String::from_utf8(vec![in alloc; b'n'; 256]?)?;
-    let long = vec![in alloc; b'.'; MAX_FILE_BYTES + 1]?;
+    assert!(rt; LONG_NAME.len() == 256);
     let mut files = RealFiles::new(&rt);
-    let saves: [Saved; 10] = [
-        ("rig_small.orca", b"longer than the next", Ok(())),
-        ("rig_small.orca", b"E.E\n", Ok(())),
-        ("rig_empty.orca", b"", Ok(())),
-        ("rig_long.orca", &long, Ok(())),
-        ("/dev/null", b"a device", Ok(())),
-        (".", b"a folder", Err(StoreFault::Failed)),
-        ("", b"no name", Err(StoreFault::Failed)),
-        ("rig_missing/a.orca", b"no folder", Err(StoreFault::Failed)),
-        (long_name.as_str(), b"256 bytes", Err(StoreFault::Failed)),
-        ("/dev/full", b"a disk that is full", Err(StoreFault::Failed)),
-    ];
-    check_saves(&rt, &mut files, &saves);
-    let mut into = b"before".to_vec(alloc)?;
-    let loads: [Loaded; 6] = [
-        ("rig_long.orca", Err(StoreFault::Failed), b"before"),
-        ("rig_small.orca", Ok(()), b"E.E\n"),
-        ("rig_missing.orca", Err(StoreFault::Failed), b"E.E\n"),
-        (".", Err(StoreFault::Failed), b"E.E\n"),
-        (long_name.as_str(), Err(StoreFault::Failed), b"E.E\n"),
-        ("rig_empty.orca", Ok(()), b""),
-    ];
-    check_loads(&rt, &mut files, &mut into, &loads);
+    let long = vec![in alloc; b'.'; MAX_FILE_BYTES + 1].expect(&rt, "memory");
+    assert!(rt; files.save("rig_long.orca", &long) == Ok(()));
+    check_calls(&rt, alloc, &mut files, &OF_THE_SYSTEM);
     for name in ["rig_small.orca", "rig_empty.orca", "rig_long.orca"] {
-        fs::remove_file(&rt, name)?;
+        fs::remove_file(&rt, name).expect(&rt, "a removal");
     }
-    Ok(())
 }
 
+/// The name is still that of a link. It is removed.
+fn check_link(rt: &(impl rt::Files + Abort), name: &str) {
+    let data = fs::symlink_metadata(rt, name).expect(rt, "a link");
+    assert!(rt; data.is_symlink(), "{name}");
+    fs::remove_file(rt, name).expect(rt, "a removal");
+}
+
+const THROUGH_LINKS: [Call; 2] = [
+    Save("rig_link.orca", b"E.E\n", Ok(())),
+    Save("rig_other.orca", b"E.E\n", Ok(())),
+];
+
 #[test]
-fn a_save_keeps_permissions_and_links(rt: HostRuntime) -> Result<(), Fail> {
-    let mut files = RealFiles::new(&rt);
+fn a_save_keeps_permissions_and_links(rt: HostRuntime) {
     let (old, new) = ("rig_old.orca", "rig_new.orca");
-    fs::write(&rt, old, b"what stood there before".as_slice())?;
-    fs::set_permissions(&rt, old, Permissions::from_mode(0o640))?;
+    let before = b"what stood there before".as_slice();
+    fs::write(&rt, old, before).expect(&rt, "a file");
+    fs::set_permissions(&rt, old, Permissions::from_mode(0o640)).expect(&rt, "permissions");
     // The second link leads to no file.
-    symlink(&rt, old, "rig_link.orca")?;
-    symlink(&rt, new, "rig_other.orca")?;
-    for (link, name) in [("rig_link.orca", old), ("rig_other.orca", new)] {
-        assert_eq!(rt; files.save(link, b"E.E\n"), Ok(()));
-        assert!(rt; fs::symlink_metadata(&rt, link)?.is_symlink());
-        assert_eq!(rt; fs::read(&rt, name)?.as_slice(), b"E.E\n".as_slice());
-        fs::remove_file(&rt, link)?;
-    }
-    assert_eq!(rt; fs::metadata(&rt, old)?.mode() & 0o777, 0o640);
-    assert!(rt; !fs::exists(&rt, ".orca-save-0")?, "nothing stays behind");
-    fs::remove_file(&rt, old)?;
-    fs::remove_file(&rt, new)?;
-    Ok(())
+    symlink(&rt, old, "rig_link.orca").expect(&rt, "a link");
+    symlink(&rt, new, "rig_other.orca").expect(&rt, "a link");
+    check_calls(&rt, rt.alloc(), &mut RealFiles::new(&rt), &THROUGH_LINKS);
+    check_link(&rt, "rig_link.orca");
+    check_link(&rt, "rig_other.orca");
+    let data = fs::metadata(&rt, old).expect(&rt, "a file");
+    assert!(rt; data.mode() & 0o777 == 0o640);
+    check_file(&rt, old, b"E.E\n");
+    check_file(&rt, new, b"E.E\n");
+    let stays = fs::exists(&rt, ".orca-save-0").expect(&rt, "an answer");
+    assert!(rt; !stays, "a file of a save stays behind");
 }

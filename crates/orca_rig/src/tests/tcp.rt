@@ -1,153 +1,207 @@
-ghost use Rattle.std.specs.Prelude.{◌≡◌, false, IfOk};
-ghost use Rattle.orca_rig.specs.Arrived.{is_ending};
+ghost use Rattle.std.specs.Prelude.{◌≡◌, false};
 
-use super::UNKNOWN;
+use super::{UNKNOWN, make_outs, name_of};
 use crate::{Answer, Inbox, MAX_HANDS, MemOuts, SendFault, TcpInbox};
 use orca_base::limits::ARRIVAL_BYTES;
 use std::io::Write;
-use std::net::{TcpListener, TcpStream};
+use std::net::{Net, OpenListener, SocketAddr, TcpListener, TcpStream};
 use std::process::Abort;
-use std::test::Fail;
+use std::rt::Clock;
 use std::time::{Duration, Instant};
 
-/// So many players who have connected, hand 0 first, and the inbox that will accept them.
-fn connect(rt: &HostRuntime, hands: u8) -> Result<(Vec<TcpStream>, TcpInbox<'_, HostRuntime>), Fail>
-    ensures listened { IfOk result (λ pair. pair.1.listened ≡ false) }
-    ensures ended { IfOk result (λ pair. pair.1.ended ≡ false) }
+/// The players, hand 0 first, and the inbox that hears them.
+#[derive(Drop)]
+struct Room<'a, R: Net> {
+    players: Vec<TcpStream>,
+    inbox: TcpInbox<'a, R>,
+}
+
+/// What happens in a room.
+#[derive(Clone, Copy)]
+enum Step {
+    /// This hand sends the bytes.
+    Send(usize, &'static [u8]),
+    /// All go but the first so many.
+    Leave(usize),
+    /// A poll up to this moment, where there is one, answers these bytes of this hand, or a Due.
+    Poll(Option<u64>, Option<(u8, &'static [u8])>),
+}
+
+use Step::{Leave, Poll, Send};
+
+const STEPS: [Step; 28] = [
+    // More than one arrival holds.
+    Send(0, &[b'x'; ARRIVAL_BYTES + 1]),
+    Poll(None, Some((0, &[b'x'; ARRIVAL_BYTES]))),
+    Poll(None, Some((0, b"x"))),
+    // All but hand 3 send, and nobody waits for it. The hand that was heard last comes last.
+    Send(7, b"g"),
+    Send(6, b"f"),
+    Send(5, b"e"),
+    Send(4, b"d"),
+    Send(2, b"cc"),
+    Send(1, b"b"),
+    Send(0, b"a"),
+    Poll(None, Some((1, b"b"))),
+    Poll(None, Some((2, b"cc"))),
+    Poll(None, Some((4, b"d"))),
+    Poll(None, Some((5, b"e"))),
+    Poll(None, Some((6, b"f"))),
+    Poll(None, Some((7, b"g"))),
+    Poll(None, Some((0, b"a"))),
+    // A moment that has come is answered before bytes that have come, but not twice.
+    Send(0, b"y"),
+    Poll(Some(0), None),
+    Poll(Some(0), Some((0, b"y"))),
+    Poll(Some(100_000), None),
+    // The others stay.
+    Leave(7),
+    Poll(Some(0), None),
+    Send(3, b"z"),
+    Poll(None, Some((3, b"z"))),
+    // What was sent is read before the end.
+    Send(6, b"last"),
+    Leave(0),
+    Poll(None, Some((6, b"last"))),
+];
+
+/// As many players as may be, who connect to this address.
+fn connect<R>(rt: &R, address: SocketAddr) -> Vec<TcpStream>
+where
+    R: AllocGlobal + Net<Stream = TcpStream> + Abort,
 {
-    let listener = TcpListener::bind(rt, "127.0.0.1:0")?;
     let mut players = Vec::new(rt.alloc());
-    for _ in 0..hands {
-        players.push(TcpStream::connect(rt, listener.local_addr()?)?)?;
+    for _ in 0..MAX_HANDS {
+        let player = TcpStream::connect(rt, address).expect(rt, "a connection");
+        players.push(player).expect(rt, "memory");
     }
-    Ok((players, TcpInbox::over(rt, listener)))
+    players
 }
 
-/// The moment of an answer that is not the last: of so many bytes of this hand, or of a Due where
-/// none are wanted.
-fn moment_of(rt: &impl Abort, answer: Answer, wanted: Option<(u8, u8)>) -> u64
-    ensures { is_ending answer ≡ false }
+/// As many players as may be, and an inbox that will accept them.
+fn open<R>(rt: &R) -> Room<'_, R>
+where
+    R: AllocGlobal + Net<Stream = TcpStream> + Clock + Abort,
+    ensures listened { result.inbox.listened ≡ false }
+    ensures ended { result.inbox.ended ≡ false }
 {
-    match answer {
-        Answer::Bytes { hand, count, at } => {
-            assert_eq!(rt; Some((hand, count)), wanted);
-            at
+    let listener = TcpListener::bind(rt, "127.0.0.1:0").expect(rt, "a listener");
+    let address = listener.local_addr().expect(rt, "an address");
+    let players = connect(rt, address);
+    let inbox = TcpInbox::over(rt, listener);
+    Room { players, inbox }
+}
+
+impl<R: AllocGlobal + Net<Stream = TcpStream> + Clock> Room<'_, R> {
+    /// The inbox accepts the players.
+    fn listen(&mut self, rt: &impl Abort)
+        requires { self.old.inbox.listened ≡ false }
+        ensures { self.new.inbox.ended ≡ self.old.inbox.ended }
+    {
+        let start = self.inbox.listen_hands("no address", MAX_HANDS);
+        assert!(rt; start == Ok(0));
+    }
+
+    fn step(&mut self, rt: &impl Abort, outs: &MemOuts, step: Step)
+        requires { self.old.inbox.ended ≡ false }
+        ensures { self.new.inbox.ended ≡ false }
+    {
+        match step {
+            Send(hand, bytes) => self.send(rt, hand, bytes),
+            Leave(count) => self.players.truncate(count),
+            Poll(until, wanted) => {
+                self.hear(rt, outs, until, wanted);
+            }
         }
-        Answer::Due { at } => {
-            assert_eq!(rt; wanted, None, "a moment came");
-            at
+    }
+
+    /// The player of this hand sends the bytes.
+    fn send(&self, rt: &impl Abort, hand: usize, bytes: &[u8]) {
+        let mut player = self.players.get(hand).expect(rt, "a player");
+        player.write_all(bytes).expect(rt, "a write");
+    }
+
+    /// Polls, and looks at the answer: these bytes of this hand, or a Due where none are wanted. It
+    /// gives the moment of the answer.
+    fn hear(
+        &mut self,
+        rt: &impl Abort,
+        outs: &MemOuts,
+        until: Option<u64>,
+        wanted: Option<(u8, &[u8])>,
+    ) -> u64
+        requires { self.old.inbox.ended ≡ false }
+        ensures { self.new.inbox.ended ≡ false }
+    {
+        let mut bytes = [0u8; ARRIVAL_BYTES];
+        match (self.inbox.poll(outs, until, &mut bytes), wanted) {
+            (Answer::Bytes { hand, count, at }, Some((from, sent)))
+                if hand == from && &bytes[..usize::from(count)] == sent => { at }
+            (Answer::Due { at }, None) => at,
+            (answer, _) => panic!(rt; "{answer:?} up to {until:?}"),
         }
-        Answer::End | Answer::Failed => panic!(rt; "{answer:?}"),
+    }
+
+    /// What a poll answers that waits for no moment.
+    fn last(&mut self, outs: &MemOuts) -> Answer
+        requires { self.old.inbox.ended ≡ false }
+    {
+        self.inbox.poll(outs, None, &mut [0; ARRIVAL_BYTES])
     }
 }
 
-type Step<'a> = (&'a [u8], Option<u64>, Option<u8>);
-
 #[test]
-fn bytes_and_moments_come_in_turn(rt: HostRuntime) -> Result<(), Fail> {
-    let (mut players, mut inbox) = connect(&rt, 1)?;
-    let mut player = players.pop().expect(&rt, "a player");
-    let outs = MemOuts::new(Vec::new(rt.alloc()))?;
-    let mut bytes = [0u8; ARRIVAL_BYTES];
-    assert_eq!(rt; inbox.listen_hands("no address", 1), Ok(0));
-    let steps: [Step; 6] = [
-        // More than one arrival holds.
-        (&[b'x'; ARRIVAL_BYTES + 1], None, Some(64)),
-        (b"", None, Some(1)),
-        // A moment that has come is answered before bytes that have come, but not twice.
-        (b"y", Some(0), None),
-        (b"", Some(0), Some(1)),
-        (b"", Some(100_000), None),
-        // What was sent is read before the end.
-        (b"z", None, Some(1)),
-    ];
-    for (sent, until, wanted) in steps {
-        player.write_all(sent)?;
-        let wanted = wanted.map(|count| (0, count));
-        moment_of(&rt, inbox.poll(&outs, until, &mut bytes), wanted);
+fn bytes_and_moments_come_in_turn(rt: HostRuntime) {
+    let outs = make_outs(&rt, rt.alloc());
+    let mut room = open(&rt);
+    room.listen(&rt);
+    for step in STEPS {
+        room.step(&rt, &outs, step);
     }
-    drop(player);
-    assert_eq!(rt; inbox.poll(&outs, None, &mut bytes), Answer::End);
-    Ok(())
+    assert!(rt; room.last(&outs) == Answer::End);
 }
 
 #[test]
-fn eight_hands_are_heard_in_turn(rt: HostRuntime) -> Result<(), Fail> {
-    let (mut players, mut inbox) = connect(&rt, MAX_HANDS)?;
-    let outs = MemOuts::new(Vec::new(rt.alloc()))?;
-    let mut bytes = [0u8; ARRIVAL_BYTES];
-    assert_eq!(rt; inbox.listen_hands("no address", MAX_HANDS), Ok(0));
-    // Each sends its number, but for hand 3, which is silent.
-    let mut hand = 0u8;
-    for player in &mut players {
-        if hand != 3 {
-            player.write_all(&[hand])?;
-        }
-        hand = hand.saturating_add(1);
-    }
-    let start = Instant::now(&rt)?;
-    for hand in [0u8, 1, 2, 4, 5, 6, 7] {
-        moment_of(&rt, inbox.poll(&outs, None, &mut bytes), Some((hand, 1)));
-        assert_eq!(rt; bytes[0], hand);
-    }
-    assert!(rt;
-        start.elapsed(&rt)? < Duration::from_secs(1),
-        "nobody waits for hand 3"
-    );
-    // The last hand goes, and the others stay.
-    drop(players.pop());
-    moment_of(&rt, inbox.poll(&outs, Some(0), &mut bytes), None);
-    for player in &mut players {
-        player.write_all(b"x")?;
-    }
-    for hand in 0..7u8 {
-        moment_of(&rt, inbox.poll(&outs, None, &mut bytes), Some((hand, 1)));
-    }
-    drop(players);
-    assert_eq!(rt; inbox.poll(&outs, None, &mut bytes), Answer::End);
-    Ok(())
-}
-
-#[test]
-fn twenty_moments_come_on_time(rt: HostRuntime) -> Result<(), Fail> {
+fn twenty_moments_come_on_time(rt: HostRuntime) {
     // All hands are silent.
-    let (players, mut inbox) = connect(&rt, MAX_HANDS)?;
-    let outs = MemOuts::new(Vec::new(rt.alloc()))?;
-    let mut bytes = [0u8; ARRIVAL_BYTES];
-    assert_eq!(rt; inbox.listen_hands("", MAX_HANDS), Ok(0));
-    let start = Instant::now(&rt)?;
+    let outs = make_outs(&rt, rt.alloc());
+    let mut room = open(&rt);
+    room.listen(&rt);
+    let start = Instant::now(&rt).expect(&rt, "a clock");
     let mut late = 0u8;
     for moment in 1..21u64 {
         let until = moment * 10_000;
-        let at = moment_of(&rt, inbox.poll(&outs, Some(until), &mut bytes), None);
+        let at = room.hear(&rt, &outs, Some(until), None);
         // The limit leaves room for a machine that has much else to do.
         if at.saturating_sub(until) > 20_000 {
             late = late.saturating_add(1);
         }
     }
-    let taken = start.elapsed(&rt)?;
+    let taken = start.elapsed(&rt).expect(&rt, "a clock");
     assert!(rt; late < 10, "{late} came late");
     assert!(rt; taken > Duration::from_millis(190) && taken < Duration::from_secs(20));
-    drop(players);
-    Ok(())
+}
+
+/// Nobody can be listened for at the address, and then nobody is heard.
+fn check_refusal<R>(rt: &R, outs: &MemOuts, address: &str)
+where
+    R: AllocGlobal + Net<Stream = TcpStream> + Clock + Abort,
+{
+    let mut inbox = TcpInbox::new(rt);
+    let start = inbox.listen_hands(address, 1);
+    assert!(rt; start == Err(SendFault::Failed), "{address}");
+    let answer = inbox.poll(outs, None, &mut [0; ARRIVAL_BYTES]);
+    assert!(rt; answer == Answer::Failed, "{address}");
 }
 
 #[test]
-fn an_address_that_cannot_be_listened_at_is_a_failure(rt: HostRuntime) -> Result<(), Fail> {
-    let taken = TcpListener::bind(&rt, "127.0.0.1:0")?;
-    let name = format!(in rt.alloc(); "{}", taken.local_addr()?)?;
-    for address in [name.as_str(), "", "no port", "127.0.0.1:65536", UNKNOWN] {
-        assert_eq!(rt;
-            TcpInbox::new(&rt).listen_hands(address, 1),
-            Err(SendFault::Failed),
-            "{address}"
-        );
+fn an_address_that_cannot_be_listened_at_is_a_failure(rt: HostRuntime) {
+    let outs = make_outs(&rt, rt.alloc());
+    // Somebody else listens at the last one.
+    let listener = TcpListener::bind(&rt, "127.0.0.1:0").expect(&rt, "a listener");
+    let address = listener.local_addr().expect(&rt, "an address");
+    let taken = name_of(&rt, "127.0.0.1", address.port());
+    for address in ["", "no port", "127.0.0.1:65536", UNKNOWN, taken.as_str()] {
+        check_refusal(&rt, &outs, address);
     }
-    let outs = MemOuts::new(Vec::new(rt.alloc()))?;
-    assert_eq!(rt;
-        TcpInbox::new(&rt).poll(&outs, None, &mut [0u8; ARRIVAL_BYTES]),
-        Answer::Failed,
-        "nobody listened"
-    );
-    Ok(())
 }

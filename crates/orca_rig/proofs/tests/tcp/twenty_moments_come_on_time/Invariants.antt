@@ -3,4 +3,4 @@ use Rattle.orca_rig.proofs.tests.tcp.twenty_moments_come_on_time.Given as goal
 
 -- the last answer hasn't come
 abbrev pub invariant-loop-moment : goal.invariant-loop-moment
-invariant-loop-moment g l = l.inbox.ended ≡ false
+invariant-loop-moment g l = l.room.inbox.ended ≡ false
