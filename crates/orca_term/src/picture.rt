@@ -1,11 +1,12 @@
 //! The picture of a grid, its marks, the editor and the status line.
 
-ghost use Rattle.std.specs.Prelude.{◌≡◌, ◌+◌, ◌*◌, ◌<◌, ◌≤◌, length, slice_index_or, All};
+ghost use Rattle.std.specs.Prelude.{◌≡◌, ◌+◌, ◌^◌, ◌<◌, ◌≤◌, ◌++◌, length, map, slice_index_or, vec_len, All};
+ghost use Rattle.std.specs.List.{range_with_len};
 ghost use Rattle.std.specs.Vec.{vec_capacity};
 ghost use Rattle.orca_base.specs.Edits.{is_in_area};
 ghost use Rattle.orca_base.specs.Grids.{IsInside};
 ghost use Rattle.orca_term.specs.Editing.{area_of};
-ghost use Rattle.orca_term.specs.Picture.{IsPrintable, IsPrintableByte, IsScreen, screen_cells, scene_of, style_by, grid_cell, page_of, status_cell, cell_at, picture};
+ghost use Rattle.orca_term.specs.Picture.{IsPrintable, IsPrintableByte, IsScreen, screen_cells, scene_of, style_by, grid_cell, page_of, status_cell, picture};
 
 use crate::status::status_text;
 use crate::{Cell, Editor, ScreenSize, StatusLine};
@@ -32,6 +33,13 @@ pub(crate) const BLANK: Cell = Cell {
     style: PLAIN,
 };
 
+/// A row and a column that may lie outside the grid.
+#[derive(Clone, Copy)]
+struct Corner {
+    y: u32,
+    x: u32,
+}
+
 /// Makes `cells` the picture.
 #[tactic(auto, unfolding(crate::specs::Picture::picture))]
 pub(crate) fn draw<T: Look>(
@@ -50,30 +58,57 @@ pub(crate) fn draw<T: Look>(
     ensures room { vec_capacity cells.new ≡ vec_capacity cells.old }
 {
     let text = status_text(editor, line);
+    let (rows, columns) = (u32::from(size.rows) - 1, u32::from(size.columns));
+    let top = page_of(rows, u32::from(editor.y));
+    let left = page_of(columns, u32::from(editor.x));
     cells.clear();
-    for n in 0..u32::from(size.rows) * u32::from(size.columns) {
-        cells.push_reserved(cell_at(size, look, editor, text.as_slice(), n));
+    for y in 0..rows {
+        let first = Corner {
+            y: top + y,
+            x: left,
+        };
+        push_grid_row(cells, columns, look, editor, first);
+    }
+    push_status_row(cells, columns, text.as_slice());
+}
+
+/// Appends the cells of a row of the window, from its first one on.
+fn push_grid_row<T: Look>(
+    cells: &mut Vec<Cell>,
+    columns: u32,
+    look: &T,
+    editor: &Editor,
+    first: Corner,
+)
+    requires room { vec_len cells.old + columns ≤ vec_capacity cells.old }
+    requires columns { first.x + columns < 2 ^ 32 }
+    requires printable { All IsPrintable cells.old.items }
+    ensures row { let scene = scene_of (T.sheet look.now) (T.marks look.now) editor.now in
+        cells.new.items ≡ cells.old.items ++ map
+            (λ x. grid_cell scene (record { y = first.y; x = first.x + x }))
+            (range_with_len 0 columns) }
+    ensures len { vec_len cells.new ≡ vec_len cells.old + columns }
+    ensures printable { All IsPrintable cells.new.items }
+    ensures room { vec_capacity cells.new ≡ vec_capacity cells.old }
+{
+    for x in 0..columns {
+        cells.push_reserved(grid_cell(look, editor, first.y, first.x + x));
     }
 }
 
-/// The cell of a number in reading order.
-#[tactic(auto, unfolding(crate::specs::Picture::cell_of))]
-fn cell_at<T: Look>(size: ScreenSize, look: &T, editor: &Editor, text: &[u8], n: u32) -> Cell
-    requires screen { IsScreen size }
-    requires cell { n < screen_cells size }
-    requires printable { All IsPrintableByte text.now }
-    ensures cell { result
-        ≡ cell_at size (scene_of (T.sheet look.now) (T.marks look.now) editor.now) text.now n }
-    ensures printable { IsPrintable result }
+/// Appends the cells of the status line.
+fn push_status_row(cells: &mut Vec<Cell>, columns: u32, text: &[u8])
+    requires room { vec_len cells.old + columns ≤ vec_capacity cells.old }
+    requires text { All IsPrintableByte text.now }
+    requires printable { All IsPrintable cells.old.items }
+    ensures row { cells.new.items
+        ≡ cells.old.items ++ map (status_cell text.now) (range_with_len 0 columns) }
+    ensures printable { All IsPrintable cells.new.items }
+    ensures room { vec_capacity cells.new ≡ vec_capacity cells.old }
 {
-    let (rows, columns) = (u32::from(size.rows), u32::from(size.columns));
-    let (y, x) = (n / columns, n % columns);
-    if y + 1 == rows {
-        return status_cell(text, x);
+    for x in 0..columns {
+        cells.push_reserved(status_cell(text, x));
     }
-    let top = page_of(rows - 1, u32::from(editor.y));
-    let left = page_of(columns, u32::from(editor.x));
-    grid_cell(look, editor, top + y, left + x)
 }
 
 /// The start of the page that a number lies on.

@@ -1,36 +1,61 @@
-use Rattle.std.proofs.Common.{◌≡◌, ℕ, ◌+◌, map, [], ◌∷◌, ◌++◌, List, ap, ◌∙◌, sym, arith}
-use Rattle.std.specs.List.{range_with_len}
-use Rattle.std.proofs.lemmas.List.Elements.{All-push}
-use Rattle.std.proofs.lemmas.List.FromFn.{map-range_with_len_more}
-use Rattle.orca_term.specs.Picture.{IsPrintable, scene_of, cell_at}
-use Rattle.orca_term.specs.declared.cell.Cell.{Cell}
+use Rattle.std.proofs.Common.{◌≡◌, ℕ, ◌+◌, ◌-◌, ◌*◌, ◌∙◌, ap, length, arith}
+use Rattle.std.proofs.lemmas.List.FromFn.{length-map-range_with_len}
+use Rattle.orca_term.specs.Picture.{scene_of, page_of, cell_at, picture, screen_cells}
+use Rattle.orca_term.proofs.DrawnRows.{grid_row_more, status_row_more, rows_before}
+use Rattle.orca_term.proofs.picture.draw.Given.{Over}
 use Rattle.orca_term.proofs.picture.draw.Goals as goal
 
--- a cell more
-drawn_more : (f : ℕ → Cell) (n : ℕ) (before after : List Cell) (cell : Cell)
-    → before ≡ map f (range_with_len 0 n) → cell ≡ f n → after ≡ before ++ cell ∷ []
-    → after ≡ map f (range_with_len 0 (n + 1))
-drawn_more f n before after cell drawn is more =
-    more ∙ (ap (λ (cells : List Cell). cells ++ cell ∷ []) drawn
-    ∙ (ap (λ c. map f (range_with_len 0 n) ++ c ∷ []) is
-    ∙ sym (map-range_with_len_more f 0 n n (omega arith))))
+len_more : (old new y columns : ℕ) → old ≡ y * columns → new ≡ old + columns
+    → new ≡ (y + 1) * columns
+len_more old new y columns len more = omega arith
 
-pub loop-n-preserved : goal.loop-n-preserved
-loop-n-preserved g c =
+pub loop-y-preserved : goal.loop-y-preserved
+loop-y-preserved g c =
     let scene =
     scene_of (g.T.Look.sheet c.args.look.now)
     (g.T.Look.marks c.args.look.now) c.args.editor.now in
-    let f = cell_at c.args.size scene c.status_text-text.result in
-    let cell : c.cell_at.result ≡ f c.loop-n.n = c.cell_at.ensures.cell
-    ∙ ap (λ text. cell_at c.args.size scene text c.loop-n.n) c.as_slice.ensures.bytes in
+    let top : c.page_of-top.result ≡ page_of (c.args.size.rows - 1) c.args.editor.now.y =
+    rw (c.from.ensures, c.from-2.ensures) at c.page_of-top.ensures.page in
+    let left : c.page_of-left.result ≡ page_of c.args.size.columns c.args.editor.now.x =
+    rw (c.from-columns.ensures, c.from-3.ensures) at c.page_of-left.ensures.page in
     record {
       cells =
-          drawn_more f c.loop-n.n c.loop-n.cells.items c.push_reserved.new.self.items
-          c.cell_at.result c.loop-n.invariant.cells cell c.push_reserved.ensures.items;
-      len = omega arith;
-      printable =
-          rw c.push_reserved.ensures.items
-          (All-push IsPrintable c.loop-n.cells.items c.cell_at.result c.loop-n.invariant.printable
-          c.cell_at.ensures.printable);
-      room = c.push_reserved.ensures.capacity ∙ c.loop-n.invariant.room;
+          grid_row_more c.args.size scene c.status_text-text.result c.loop-y.y
+          c.page_of-top.result c.page_of-left.result c.from-columns.result
+          (omega arith) top left (omega arith)
+          c.loop-y.cells.items c.push_grid_row.new.cells.items c.loop-y.invariant.cells
+          c.push_grid_row.ensures.row;
+      len =
+          len_more _ _ c.loop-y.y c.from-columns.result c.loop-y.invariant.len
+          c.push_grid_row.ensures.len;
+      printable = c.push_grid_row.ensures.printable;
+      room = c.push_grid_row.ensures.room ∙ c.loop-y.invariant.room;
     }
+
+drawn : (g : Over) (c : goal.After-push_status_row g)
+    → c.push_status_row.new.cells.items ≡ rows_before c.args.size
+        (scene_of (g.T.Look.sheet c.args.look.now) (g.T.Look.marks c.args.look.now)
+            c.args.editor.now)
+        c.status_text-text.result c.args.size.rows
+drawn g c =
+    let scene =
+    scene_of (g.T.Look.sheet c.args.look.now)
+    (g.T.Look.marks c.args.look.now) c.args.editor.now in
+    status_row_more c.args.size scene c.status_text-text.result c.loop-y.y
+    c.from-columns.result (omega arith) (omega arith) c.loop-y.cells.items
+    c.push_status_row.new.cells.items c.loop-y.invariant.cells
+    (rw c.as_slice.ensures.bytes at c.push_status_row.ensures.row)
+
+pub returns-clause-picture : goal.returns-clause-picture
+unfolding picture
+returns-clause-picture g c = rw (← c.status_text-text.ensures.text) (drawn g c)
+
+pub returns-clause-whole : goal.returns-clause-whole
+returns-clause-whole g c =
+    ap length (drawn g c)
+    ∙ length-map-range_with_len
+    (cell_at c.args.size
+    (scene_of (g.T.Look.sheet c.args.look.now) (g.T.Look.marks c.args.look.now)
+        c.args.editor.now)
+    c.status_text-text.result)
+    0 (screen_cells c.args.size)

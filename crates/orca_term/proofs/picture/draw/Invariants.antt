@@ -1,15 +1,15 @@
-use Rattle.std.proofs.Common.{◌≡◌, map}
-use Rattle.std.specs.List.{All, range_with_len}
+use Rattle.std.proofs.Common.{◌≡◌, ◌*◌}
+use Rattle.std.specs.List.{All}
 use Rattle.std.specs.Vec.{vec_len, vec_capacity}
-use Rattle.orca_term.specs.Picture.{IsPrintable, scene_of, cell_at}
+use Rattle.orca_term.specs.Picture.{IsPrintable, scene_of}
+use Rattle.orca_term.proofs.DrawnRows.{rows_before}
 use Rattle.orca_term.proofs.picture.draw.Given as goal
 
-abbrev pub invariant-loop-n : goal.invariant-loop-n
-invariant-loop-n g l = record {
-  cells : l.cells.items ≡ map
-      (cell_at l.size (scene_of (g.T.Look.sheet l.look) (g.T.Look.marks l.look) l.editor) l.text)
-      (range_with_len 0 l.n);
-  len : vec_len l.cells ≡ l.n;
+abbrev pub invariant-loop-y : goal.invariant-loop-y
+invariant-loop-y g l = record {
+  cells : l.cells.items ≡ rows_before l.fn.size
+      (scene_of (g.T.Look.sheet l.look) (g.T.Look.marks l.look) l.editor) l.text l.y;
+  len : vec_len l.cells ≡ l.y * l.columns;
   printable : All IsPrintable l.cells.items;
   room : vec_capacity l.cells ≡ vec_capacity l.fn.cells;
 }

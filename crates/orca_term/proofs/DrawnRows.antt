@@ -1,0 +1,102 @@
+-- The picture a row at a time.
+use Rattle.std.proofs.Common.{◌≡◌, ℕ, zero, suc, ◌+◌, ◌-◌, ◌*◌, ◌/◌, ◌%◌, ◌<◌, ◌≤◌, ◌==◌, true, false, map, List, [], ◌∷◌, ◌++◌, append_assoc, refl, ap, sym, ◌∙◌, rules, arith, add-one}
+use Rattle.std.specs.List.{range_with_len}
+use Rattle.std.proofs.lemmas.Bool.{cond-true, cond-false}
+use Rattle.std.proofs.lemmas.List.{append-nil}
+use Rattle.std.proofs.lemmas.List.FromFn.{map-range_with_len_more}
+use Rattle.std.proofs.lemmas.Nat.{div-mul-add, mod-mul-add}
+use Rattle.orca_term.specs.Picture.{Scene, grid_cell, page_of, window_place, status_cell, cell_of, cell_at}
+use Rattle.orca_term.specs.declared.cell.Cell.{Cell}
+use Rattle.orca_term.specs.declared.cell.ScreenSize.{ScreenSize}
+
+-- a cell more
+pub cell_more : (f : ℕ → Cell) (n : ℕ) (start before after : List Cell) (cell : Cell)
+    → before ≡ start ++ map f (range_with_len 0 n) → cell ≡ f n → after ≡ before ++ cell ∷ []
+    → after ≡ start ++ map f (range_with_len 0 (n + 1))
+cell_more f n start before after cell drawn is more =
+    rw (more, drawn, is, map-range_with_len_more f 0 n n (omega arith))
+    (append_assoc start (map f (range_with_len 0 n)) (f n ∷ []))
+
+-- the cells up to a column of a row
+row_part : (f : ℕ → ℕ → Cell) (w y x : ℕ) → x ≤ w
+    → map (λ n. f (n / w) (n % w)) (range_with_len 0 (y * w + x))
+    ≡ map (λ n. f (n / w) (n % w)) (range_with_len 0 (y * w)) ++ map (f y) (range_with_len 0 x)
+row_part f w y zero h =
+    let start : y * w + 0 ≡ y * w = omega arith in
+    ap (λ k. map (λ n. f (n / w) (n % w)) (range_with_len 0 k)) start ∙ sym (append-nil _)
+row_part f w y (suc x) h =
+    let g : ℕ → Cell = λ n. f (n / w) (n % w) in
+    let here : g (y * w + x) ≡ f y x =
+    ap (λ k. f k ((y * w + x) % w)) (div-mul-add y w x (omega arith))
+    ∙ ap (f y) (mod-mul-add y w x (omega arith)) in
+    let more : map g (range_with_len 0 (y * w + x + 1))
+        ≡ map g (range_with_len 0 (y * w + x)) ++ g (y * w + x) ∷ [] =
+    map-range_with_len_more g 0 (y * w + x) (y * w + x) (omega arith) in
+    let through : map g (range_with_len 0 (y * w + x + 1))
+        ≡ map g (range_with_len 0 (y * w)) ++ map (f y) (range_with_len 0 (x + 1)) =
+    cell_more (f y) x (map g (range_with_len 0 (y * w))) (map g (range_with_len 0 (y * w + x)))
+    (map g (range_with_len 0 (y * w + x + 1))) (g (y * w + x))
+    (row_part f w y x (omega arith)) here more in
+    let next : y * w + suc x ≡ y * w + x + 1 = omega arith in
+    ap (λ k. map g (range_with_len 0 k)) next
+    ∙ (through
+    ∙ ap (λ k. map g (range_with_len 0 (y * w)) ++ map (f y) (range_with_len 0 k)) (add-one x))
+
+-- a row more
+row_more : (f : ℕ → ℕ → Cell) (w y : ℕ)
+    → map (λ n. f (n / w) (n % w)) (range_with_len 0 ((y + 1) * w))
+    ≡ map (λ n. f (n / w) (n % w)) (range_with_len 0 (y * w)) ++ map (f y) (range_with_len 0 w)
+row_more f w y =
+    let next : (y + 1) * w ≡ y * w + w = omega arith in
+    ap (λ k. map (λ n. f (n / w) (n % w)) (range_with_len 0 k)) next
+    ∙ row_part f w y w (omega arith)
+
+-- functions that are the same everywhere make the same cells
+same_cells : (f g : ℕ → Cell) → ((x : ℕ) → f x ≡ g x) → (xs : List ℕ) → map f xs ≡ map g xs
+same_cells f g same [] = refl
+same_cells f g same (x ∷ xs) = rw (same x, same_cells f g same xs) refl
+
+-- the first rows of the screen
+abbrev pub rows_before : ScreenSize → Scene → List ℕ → ℕ → List Cell
+rows_before d scene text y = map (cell_at d scene text) (range_with_len 0 (y * d.columns))
+
+-- a row of the window more
+pub grid_row_more : (d : ScreenSize) (scene : Scene) (text : List ℕ) (y top left columns : ℕ)
+    → y < d.rows - 1 → top ≡ page_of (d.rows - 1) scene.editor.y
+    → left ≡ page_of d.columns scene.editor.x → columns ≡ d.columns
+    → (before after : List Cell) → before ≡ rows_before d scene text y
+    → after ≡ before ++ map (λ x. grid_cell scene (record { y = top + y; x = left + x }))
+        (range_with_len 0 columns)
+    → after ≡ rows_before d scene text (y + 1)
+unfolding cell_of
+grid_row_more d scene text y top left columns row is_top is_left is_w before after drawn more =
+    let other : (y + 1 == d.rows) ≡ false = search (rules, arith) in
+    rw (
+      more,
+      drawn,
+      is_top,
+      is_left,
+      is_w,
+      row_more (cell_of d scene text) d.columns y,
+      same_cells (cell_of d scene text y) (λ x. grid_cell scene (window_place d scene.editor y x))
+          (λ x. cond-false _ _ _ other) (range_with_len 0 d.columns),
+    ) refl
+
+-- the status line, after all rows of the window
+pub status_row_more : (d : ScreenSize) (scene : Scene) (text : List ℕ) (y columns : ℕ)
+    → y + 1 ≡ d.rows → columns ≡ d.columns
+    → (before after : List Cell) → before ≡ rows_before d scene text y
+    → after ≡ before ++ map (status_cell text) (range_with_len 0 columns)
+    → after ≡ rows_before d scene text d.rows
+unfolding cell_of
+status_row_more d scene text y columns row is_columns before after drawn more =
+    let last : (y + 1 == d.rows) ≡ true = search (rules, arith) in
+    let same : map (cell_of d scene text y) (range_with_len 0 d.columns)
+        ≡ map (status_cell text) (range_with_len 0 columns) =
+    same_cells (cell_of d scene text y) (status_cell text) (λ x. cond-true _ _ _ last)
+    (range_with_len 0 d.columns)
+    ∙ ap (λ n. map (status_cell text) (range_with_len 0 n)) (sym is_columns) in
+    more
+    ∙ (ap (λ (cells : List Cell). cells ++ map (status_cell text) (range_with_len 0 columns)) drawn
+    ∙ (ap (λ (cells : List Cell). rows_before d scene text y ++ cells) (sym same)
+    ∙ (sym (row_more (cell_of d scene text) d.columns y) ∙ ap (rows_before d scene text) row)))
