@@ -30,10 +30,10 @@ row_part f w y (suc x) h =
     ap (λ k. f k ((y * w + x) % w)) (div-mul-add y w x (omega arith))
     ∙ ap (f y) (mod-mul-add y w x (omega arith)) in
     let more : map g (range_with_len 0 (y * w + x + 1))
-        ≡ map g (range_with_len 0 (y * w + x)) ++ g (y * w + x) ∷ [] =
+    ≡ map g (range_with_len 0 (y * w + x)) ++ g (y * w + x) ∷ [] =
     map-range_with_len_more g 0 (y * w + x) (y * w + x) (omega arith) in
     let through : map g (range_with_len 0 (y * w + x + 1))
-        ≡ map g (range_with_len 0 (y * w)) ++ map (f y) (range_with_len 0 (x + 1)) =
+    ≡ map g (range_with_len 0 (y * w)) ++ map (f y) (range_with_len 0 (x + 1)) =
     cell_more (f y) x (map g (range_with_len 0 (y * w))) (map g (range_with_len 0 (y * w + x)))
     (map g (range_with_len 0 (y * w + x + 1))) (g (y * w + x))
     (row_part f w y x (omega arith)) here more in
@@ -66,7 +66,7 @@ pub grid_row_more : (d : ScreenSize) (scene : Scene) (text : List ℕ) (y top le
     → left ≡ page_of d.columns scene.editor.x → columns ≡ d.columns
     → (before after : List Cell) → before ≡ rows_before d scene text y
     → after ≡ before ++ map (λ x. grid_cell scene (record { y = top + y; x = left + x }))
-        (range_with_len 0 columns)
+    (range_with_len 0 columns)
     → after ≡ rows_before d scene text (y + 1)
 unfolding cell_of
 grid_row_more d scene text y top left columns row is_top is_left is_w before after drawn more =
@@ -92,7 +92,7 @@ unfolding cell_of
 status_row_more d scene text y columns row is_columns before after drawn more =
     let last : (y + 1 == d.rows) ≡ true = search (rules, arith) in
     let same : map (cell_of d scene text y) (range_with_len 0 d.columns)
-        ≡ map (status_cell text) (range_with_len 0 columns) =
+    ≡ map (status_cell text) (range_with_len 0 columns) =
     same_cells (cell_of d scene text y) (status_cell text) (λ x. cond-true _ _ _ last)
     (range_with_len 0 d.columns)
     ∙ ap (λ n. map (status_cell text) (range_with_len 0 n)) (sym is_columns) in

@@ -85,8 +85,8 @@ fn push_grid_row<T: Look>(
     requires printable { All IsPrintable cells.old.items }
     ensures row { let scene = scene_of (T.sheet look.now) (T.marks look.now) editor.now in
         cells.new.items ≡ cells.old.items ++ map
-            (λ x. grid_cell scene (record { y = first.y; x = first.x + x }))
-            (range_with_len 0 columns) }
+        (λ x. grid_cell scene (record { y = first.y; x = first.x + x }))
+        (range_with_len 0 columns) }
     ensures len { vec_len cells.new ≡ vec_len cells.old + columns }
     ensures printable { All IsPrintable cells.new.items }
     ensures room { vec_capacity cells.new ≡ vec_capacity cells.old }

@@ -34,9 +34,9 @@ loop-y-preserved g c =
 
 drawn : (g : Over) (c : goal.After-push_status_row g)
     → c.push_status_row.new.cells.items ≡ rows_before c.args.size
-        (scene_of (g.T.Look.sheet c.args.look.now) (g.T.Look.marks c.args.look.now)
-            c.args.editor.now)
-        c.status_text-text.result c.args.size.rows
+    (scene_of (g.T.Look.sheet c.args.look.now) (g.T.Look.marks c.args.look.now)
+    c.args.editor.now)
+    c.status_text-text.result c.args.size.rows
 drawn g c =
     let scene =
     scene_of (g.T.Look.sheet c.args.look.now)
@@ -56,6 +56,6 @@ returns-clause-whole g c =
     ∙ length-map-range_with_len
     (cell_at c.args.size
     (scene_of (g.T.Look.sheet c.args.look.now) (g.T.Look.marks c.args.look.now)
-        c.args.editor.now)
+    c.args.editor.now)
     c.status_text-text.result)
     0 (screen_cells c.args.size)
