@@ -63,12 +63,12 @@ where
     /// | a file | it is replaced by one with its permissions, which belongs to who runs the program |
     /// | a symbolic link | the file that it leads to is replaced or made |
     /// | a device or a pipe | it is written as it is, and waits for room as a port does |
+    /// | a pipe that nobody reads, or that the program may not read | the save fails |
     /// | a directory, or a file that may not be written | the save fails |
     ///
     /// It fails at a folder that takes no new file, also if the old file may be written, and at a
     /// disk that is full. The new file is removed then. If the program is killed in the middle, the
-    /// file is as it was, and the new one stays as `.orca-save-` and a number. A pipe that nobody
-    /// has opened for reading is waited for.
+    /// file is as it was, and the new one stays as `.orca-save-` and a number.
     ///
     /// Nothing waits for the disk. After a power cut the file may hold the old bytes or the new
     /// ones, and on some file systems a part of them.

@@ -22,7 +22,7 @@ use std::{io, rt, str};
 ///
 /// | port | goes to |
 /// |---|---|
-/// | [`Port::Midi`] | the attached file, pipe or device file, one write for each send |
+/// | [`Port::Midi`] | the attached file or pipe, one write for each send; a device, byte by byte |
 /// | [`Port::Udp`], [`Port::Osc`] | the attached address, one datagram for each send |
 /// | [`Port::Text`], [`Port::View`] | the standard output, in pieces |
 /// | [`Port::Fault`] | the standard error |
@@ -41,9 +41,9 @@ use std::{io, rt, str};
 /// | a text | its first pieces |
 /// | a datagram | none of it |
 ///
-/// A device that isn't a pipe may take the first bytes of a MIDI message and no more. The rest then
-/// goes before the next message. A painting may be given up inside an escape sequence, which CAN
-/// ends.
+/// A device that shows room may have it for one byte alone, and would let a longer write wait. So
+/// it may take the first bytes of a MIDI message and no more. The rest then goes before the next
+/// message. A painting may be given up inside an escape sequence, which CAN ends.
 ///
 /// Some sinks can still make a write wait: a pipe into which somebody else writes in the same
 /// moment, and a terminal of hardware that stops in the middle of a piece.
@@ -234,7 +234,7 @@ where
         .create(true)
         .truncate(true)
         .open(rt, name)?;
-    let gate = Gate::new(file.as_raw_fd());
+    let gate = Gate::of_messages(&file)?;
     Ok(Sink::new(file, gate))
 }
 

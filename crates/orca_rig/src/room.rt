@@ -1,6 +1,6 @@
 //! How long a send waits for room.
 
-ghost use Rattle.std.specs.Prelude.{◌≡◌, ◌≢◌, ◌<◌, ◌⊎◌, ◌-◌, ◌/◌, true, false, if◌then◌else◌, length, take, min, OnOk, OnErr};
+ghost use Rattle.std.specs.Prelude.{◌≡◌, ◌≢◌, ◌<◌, ◌⊎◌, ◌-◌, ◌/◌, true, false, if◌then◌else◌, length, take, min, IfOk, OnOk, OnErr};
 ghost use Rattle.std.specs.IoError.{error_kind};
 ghost use Rattle.std.specs.declared.io.ErrorKind.TheVariants.{Interrupted, WouldBlock};
 
@@ -8,8 +8,10 @@ use crate::moments::microseconds;
 use libc::isatty;
 use libc::net::{POLLOUT, poll};
 use libc::types::pollfd;
+use std::fs::OpenFile;
 use std::io::ErrorKind;
-use std::os::fd::RawFd;
+use std::os::fd::{AsRawFd, RawFd};
+use std::os::unix::fs::FileTypeExt;
 use std::rt::Clock;
 use std::time::Duration;
 use std::{io, thread};
@@ -27,6 +29,10 @@ const TERMINAL_PIECE: usize = 128;
 /// The most bytes of one write elsewhere. A pipe that shows room takes them all at once (pipe(7),
 /// `PIPE_BUF`).
 const PIPE_PIECE: usize = 4096;
+
+/// The most bytes of one write at a device that messages go to. One that shows room may have it for
+/// a single byte, and would let a longer write wait.
+const DEVICE_PIECE: usize = 1;
 
 /// A sink's descriptor, and how the sink stands.
 #[derive(Drop)]
@@ -74,6 +80,18 @@ impl Gate {
         };
         let is_stuck = false;
         Gate { fd, most, is_stuck }
+    }
+
+    /// The sink of messages that this file is, which is not stuck. A device gets a byte at a time.
+    pub(crate) fn of_messages<F: OpenFile + AsRawFd>(file: &F) -> io::Result<Gate>
+        ensures open { IfOk result (λ gate. gate.is_stuck ≡ false) }
+        ensures some { IfOk result (λ gate. 0 < gate.most) }
+    {
+        let mut gate = Gate::new(file.as_raw_fd());
+        if file.metadata()?.file_type().is_char_device() {
+            gate.most = DEVICE_PIECE;
+        }
+        Ok(gate)
     }
 
     /// The first piece of the bytes: as many as one write may have.

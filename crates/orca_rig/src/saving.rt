@@ -1,6 +1,6 @@
 //! How a file of the system is saved.
 
-ghost use Rattle.std.specs.Prelude.{◌≡◌, ◌↔◌, true, IsOk, OnOk, OnErr};
+ghost use Rattle.std.specs.Prelude.{◌≡◌, ◌↔◌, true, IsOk, IsErr, IsErrOf, OnOk, OnErr};
 ghost use Rattle.std.specs.Io.KnownBytes.{Appends};
 
 use crate::StoreFault;
@@ -10,7 +10,7 @@ use crate::whole::write_whole;
 use std::fs::{OpenFile, OpenOptions, Permissions};
 use std::io::{ErrorKind, Write};
 use std::os::fd::{AsRawFd, IntoRawFd};
-use std::os::unix::fs::OpenOptionsExt;
+use std::os::unix::fs::{FileTypeExt, OpenOptionsExt};
 use std::path::PathBuf;
 use std::rt::Clock;
 use std::{fs, io, rt};
@@ -70,13 +70,13 @@ where
     R: rt::Files + AllocGlobal + Clock,
     R::File: AsRawFd + IntoRawFd,
 {
-    match OpenOptions::new().write(true).open(rt, name) {
+    match open_at_once(rt, name) {
         Ok(mut file) => {
             let found = file.metadata()?;
             if found.is_file() {
                 replace(rt, name, bytes, Some(found.permissions()))
             } else {
-                write_device(rt, &mut file, bytes).map_err(|_| StoreFault::Failed)
+                write_device(rt, &mut file, bytes)
             }
         }
         Err(error) if error.kind() == ErrorKind::NotFound => replace(rt, name, bytes, None),
@@ -84,13 +84,45 @@ where
     }
 }
 
-/// Writes the bytes to a device or a pipe. It waits for room as a send does.
-fn write_device<C: Clock, F: Write + AsRawFd>(rt: &C, file: &mut F, bytes: &[u8]) -> io::Result<()>
-    ensures { OnOk result (Appends (F.contents file.old) (F.contents file.new) bytes.now) }
+/// Opens what stands under the name for writing. A pipe that nobody reads would be waited for. So
+/// both ends of a pipe are opened first, which never waits, and then it has a reader. If that was
+/// its only one, writing to it fails.
+fn open_at_once<R: rt::Files>(rt: &R, name: &str) -> io::Result<R::File> {
+    let mut writing = OpenOptions::new();
+    writing.write(true);
+    if !is_pipe(rt, name) {
+        return writing.open(rt, name);
+    }
+    let both_ends = OpenOptions::new().read(true).write(true).open(rt, name)?;
+    let file = writing.open(rt, name);
+    drop(both_ends);
+    file
+}
+
+/// Whether a pipe has this name.
+fn is_pipe<R: rt::Files>(rt: &R, name: &str) -> bool {
+    match fs::metadata(rt, name) {
+        Ok(found) => found.file_type().is_fifo(),
+        Err(_) => false,
+    }
+}
+
+/// Writes the bytes to a device or a pipe. It waits for room as a send does. A part may have been
+/// taken when it fails, so that is a failure, whatever the reason.
+fn write_device<C: Clock, F: Write + AsRawFd>(
+    rt: &C,
+    file: &mut F,
+    bytes: &[u8],
+) -> Result<(), StoreFault>
+    ensures written { OnOk result
+        (Appends (F.contents file.old) (F.contents file.new) bytes.now) }
+    ensures failed { IsErr result → IsErrOf result StoreFault.Failed }
 {
-    let patience = Patience::start(rt);
     let mut gate = Gate::new(file.as_raw_fd());
-    write_pieces(&patience, &mut gate, file, bytes)
+    match write_pieces(&Patience::start(rt), &mut gate, file, bytes) {
+        Ok(()) => Ok(()),
+        Err(_) => Err(StoreFault::Failed),
+    }
 }
 
 /// Puts a new file of these bytes in the place of that name, whole or not at all.

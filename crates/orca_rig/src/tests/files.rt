@@ -3,9 +3,11 @@ use crate::{Files, MemFiles, RealFiles, StoreFault, names_differ};
 use orca_base::limits::MAX_FILE_BYTES;
 use std::alloc::Global;
 use std::fs::Permissions;
+use std::io::Read;
+use std::os::fd::AsRawFd;
 use std::os::unix::fs::{MetadataExt, PermissionsExt, symlink};
 use std::process::Abort;
-use std::{fs, rt};
+use std::{fs, io, rt};
 
 /// A call of the files, with its answer, and what stands in the buffer after a load.
 #[derive(Clone, Copy)]
@@ -136,4 +138,20 @@ fn a_save_keeps_permissions_and_links(rt: HostRuntime) {
     check_file(&rt, new, b"E.E\n");
     let stays = fs::exists(&rt, ".orca-save-0").expect(&rt, "an answer");
     assert!(rt; !stays, "a file of a save stays behind");
+}
+
+#[test]
+fn a_save_to_a_pipe_waits_for_nobody(rt: HostRuntime) {
+    let (mut reader, writer) = io::pipe(&rt).expect(&rt, "a pipe");
+    let name = format!(in rt.alloc(); "/proc/self/fd/{}", writer.as_raw_fd());
+    let name = name.expect(&rt, "memory");
+    let mut files = RealFiles::new(&rt);
+    assert!(rt; files.save(name.as_str(), b"E.E\n") == Ok(()));
+    let mut bytes = [0u8; 8];
+    let count = reader.read(&mut bytes).expect(&rt, "a read");
+    assert!(rt; &bytes[..count] == b"E.E\n".as_slice());
+    // Nobody reads any longer.
+    drop(reader);
+    assert!(rt; files.save(name.as_str(), b"E.E\n") == FAILED);
+    drop(writer);
 }
