@@ -27,12 +27,12 @@ empty_piece() {
 }
 
 # replace_file FROM NAME: NAME has what FROM has, or is as it was. The target of a link is replaced; a device and a pipe
-# are written as they are, and have two seconds to take it.
+# are written as they are, and have a second to take it.
 replace_file() {
     local file beside
     file=$(readlink -m -- "$2")
     if [ -e "$file" ] && [ ! -f "$file" ]; then
-        timeout 2 bash -c 'cat -- "$1" >"$2"' bash "$1" "$file"
+        timeout 1 bash -c 'cat -- "$1" >"$2"' bash "$1" "$file"
         return
     fi
     beside=$(mktemp -- "$file.XXXXXX") || return
@@ -122,13 +122,18 @@ rescue() {
     say "no folder takes what was typed; it is kept in $room"
 }
 
+# has_text NAME: a file of this name has the grid of the end. A pipe or a device is not looked at, since that may wait.
+has_text() {
+    [ -f "$1" ] && cmp -s -- "$room/grid" "$1"
+}
+
 # How the grid was saved, after the program's status: 'saved' at the end, 'typed' by a key alone, 'none', 'failed', or
 # 'unasked' if the program came to its end by itself. The status 4 tells a save that failed, and a later fault hides it.
 saved_grid() {
     local name=$1 status=$2
     if [ -n "${given[--save]+given}" ]; then
         { [ "$status" = 0 ] || [ "$status" = 3 ]; } && echo saved && return
-        replay_grid && { cmp -s -- "$room/grid" "$name" || replace_file "$room/grid" "$name"; } && echo saved || echo failed
+        replay_grid && { has_text "$name" || replace_file "$room/grid" "$name"; } && echo saved || echo failed
     elif [ "$status" = 0 ] || [ "$status" = 3 ]; then
         cmp -s -- "$room/piece" "$name" && echo none || echo typed
     elif [ "$status" = 4 ]; then
