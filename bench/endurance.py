@@ -14,7 +14,7 @@ HERE = os.path.dirname(os.path.abspath(__file__))
 # Keys and how often they come: moves, glyphs, edits, and those that save, step, reset and pause.
 KEYS = ([b'\x1b[A', b'\x1b[B', b'\x1b[C', b'\x1b[D', b'\x1b[1;2A', b'\x1b[1;2B', b'\x1b[1;2C', b'\x1b[1;2D'] * 6 +
         [bytes([glyph]) for glyph in range(33, 127)] * 2 +
-        [b'\x7f', b'\x03', b'\x18', b'\x16', b'\x1a', b'\x1a', b'\x02', b'\x1b', b'\x06', b'\x12', b'\x13', b'  '] * 3)
+        [b'\x7f', b'\x03', b'\x18', b'\x16', b'\x1a', b'\x1a', b'\x19', b'\x02', b'\x1b', b'\x06', b'\x12', b'\x13', b'  '] * 3)
 # About how many keys a second.
 KEYS_A_SECOND = 60
 # How many bytes a pipe holds, so that a reader that stands still is soon felt.
@@ -171,7 +171,7 @@ def main():
           (typed, count, pipe.got, picture.got, '+'.join(str(it.got) for it in listeners), status, seconds))
     print('the replay gives %s; the pipe had %s messages' %
           ('the saved grid' if is_same else 'ANOTHER GRID', 'whole' if pipe.is_whole else 'TORN'))
-    return 0 if is_same and pipe.is_whole and status in (0, 3) and seconds < 3 else 1
+    return 0 if is_same and pipe.is_whole and status in (0, 3) and seconds < 2 else 1
 
 
 if __name__ == '__main__':
