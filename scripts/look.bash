@@ -84,6 +84,11 @@ look_at_save() {
     [ ! -e "$file" ] || [ -w "$file" ] || fails "$1: this file may not be written"
 }
 
+# The program opens both ends of a pipe that it saves to, so that it need not wait for a reader.
+look_at_pipe() {
+    [ ! -p "$1" ] || [ -r "$1" ] || fails "--save $1: this pipe may not be read, and a save needs the right to do both"
+}
+
 look_at_piece() {
     [ ! -d "$piece" ] || fails "$piece: this is a folder, and a piece is a file"
     if [ -e "$piece" ]; then
@@ -139,5 +144,6 @@ look() {
     for option in --save --script; do
         [ -z "${given[$option]+given}" ] || look_at_save "$option ${given[$option]}" "${given[$option]}"
     done
+    look_at_pipe "${given[--save]-$piece}"
     [ -z "${given[--midi]+given}" ] || look_at_midi "${given[--midi]}"
 }
