@@ -5,6 +5,7 @@ pub mod ClockLemmas
 pub mod PaintLemmas
 pub mod AnswerLemmas
 pub mod EndLemmas
+pub mod Carried
 pub mod AppendingLaw
 pub mod PaintingLaw
 pub mod GivenLemmas

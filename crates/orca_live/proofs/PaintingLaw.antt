@@ -19,7 +19,8 @@ use Rattle.orca_term.specs.Viewing.{Shows, painting_bytes}
 use Rattle.orca_term.specs.declared.cell.Cell.{Cell}
 use Rattle.orca_term.specs.declared.cell.ScreenSize.{ScreenSize}
 use Rattle.orca_term.proofs.Views.{shown_bytes}
-use Rattle.orca_live.specs.Carrying.{Carries, LooksAlike, performance_carried}
+use Rattle.orca_live.specs.Carrying.{Carries, LooksAlike}
+use Rattle.orca_live.proofs.Carried.{performance_carried}
 use Rattle.orca_live.specs.Paintings.{ShowsPerformance, ShowsPictures, viewed, views_in}
 use Rattle.orca_live.specs.Performing.{close_course, command_course, painted_course, picture_at, view_sends}
 use Rattle.orca_live.specs.States.{LiveState}

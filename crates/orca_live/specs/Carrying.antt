@@ -1,21 +1,17 @@
--- What holds of each step of a performance, and of two in turn, holds of all of it. It is proved
--- here, since that a player is deaf is said of it as a performer, and follows from this.
+-- What holds of each step of a performance, and of two in turn, holds of each of its parts. It is
+-- proved here, since that a player is deaf is said of it as a performer, and follows from this.
 use Rattle.std.proofs.Common.{◌≡◌, ◌==◌, ℕ, Bool, true, false, List, [], ◌∷◌, ◌++◌, refl}
 use Rattle.std.specs.Prelude.{if◌then◌else◌, Option, Some, None}
 use Rattle.orca_base.specs.declared.command.Command.{Command}
 use Rattle.orca_base.specs.declared.command.Command.TheVariants.{Frame}
 use Rattle.orca_base.specs.MarkSet.{MarkSet}
 use Rattle.orca_course.specs.Acts.{Act}
-use Rattle.orca_course.specs.Acts.Act.{Await, Save}
-use Rattle.orca_course.specs.Courses.{Course, each, ended, lastly, lastly_by, mapped, onward, onward_by, still}
-use Rattle.orca_course.specs.Performers.{attended, begun, finished, heard, opened, performance, polled, spent}
-use Rattle.orca_course.specs.declared.ending.Ending.{Ending}
-use Rattle.orca_course.specs.declared.ending.Ending.TheVariants.{Spent}
+use Rattle.orca_course.specs.Acts.Act.{Save}
+use Rattle.orca_course.specs.Courses.{Course, each, ended, onward, onward_by, still}
 use Rattle.orca_course.specs.declared.ending.Stop.{Stop}
 use Rattle.orca_course.specs.declared.ending.Stop.TheVariants.{Full}
 use Rattle.orca_course.proofs.CourseLemmas.{each-holds}
 use Rattle.orca_edit.specs.Machines.{preview_of}
-use Rattle.orca_rig.specs.Arrived.{Poll}
 use Rattle.orca_rig.specs.declared.inbox.Answer.{Answer}
 use Rattle.orca_rig.specs.declared.inbox.Answer.TheVariants as answer
 use Rattle.orca_term.specs.Editing.{act_of, editor_after}
@@ -23,7 +19,7 @@ use Rattle.orca_term.specs.Keys.{Byte, Due, Item, turn}
 use Rattle.orca_term.specs.declared.editor.Act.{Act as Wish}
 use Rattle.orca_term.specs.declared.editor.Act.TheVariants as wish
 use Rattle.orca_term.specs.declared.keys.Key.{Key}
-use Rattle.orca_live.specs.Performing.{answer_course, answered_at, byte_course, close_course, command_course, due_course, finish_course, fired, frame_course, heard_course, if_named, item_course, key_course, last_grid_course, last_script_course, live_part, open_course, pace_from, paint_course, painted_course, press_course, preview_course, save_course, script_course, show_course, struck_course, toggled, wish_course}
+use Rattle.orca_live.specs.Performing.{answer_course, answered_at, byte_course, close_course, command_course, due_course, finish_course, fired, frame_course, heard_course, if_named, item_course, key_course, last_grid_course, last_script_course, open_course, pace_from, paint_course, painted_course, press_course, preview_course, save_course, script_course, show_course, struck_course, toggled, wish_course}
 use Rattle.orca_live.specs.States.{LiveState, dims_at, fitted, is_full, moments_at, piece_at}
 
 -- two states are the same to the session, to the terminal and to the script
@@ -67,7 +63,7 @@ from_alike : {holds : LiveState → List Act → LiveState → Type 0} {E : Type
     → Along holds c r
 from_alike carry r s c alike more = carry.both r s c.state [] c.acts (carry.none r s alike) more
 
-onward_carried : {holds : LiveState → List Act → LiveState → Type 0} {E : Type 0} → Carries holds
+pub onward_carried : {holds : LiveState → List Act → LiveState → Type 0} {E : Type 0} → Carries holds
     → (s : LiveState) (end : Option E) (c : Course LiveState E)
     (next : LiveState → Course LiveState E) → Along holds c s
     → ((t : LiveState) → Along holds (next t) t) → Along holds (onward_by end c next) s
@@ -245,70 +241,3 @@ pub open_carried : {holds : LiveState → List Act → LiveState → Type 0} →
     → (s : LiveState) → Along holds (open_course s) s
 unfolding open_course
 open_carried carry s = paint_carried carry [] s
-
--- ---- a performance
-
-answered_carried : {holds : LiveState → List Act → LiveState → Type 0} → Carries holds
-    → (a : Answer) (bytes : List ℕ) (s : LiveState) → Along holds (heard live_part a bytes s) s
-unfolding heard mapped
-answered_carried carry (answer.Bytes hand count at) bytes s =
-    heard_carried carry (answer.Bytes hand count at) bytes s
-answered_carried carry (answer.Due at) bytes s = heard_carried carry (answer.Due at) bytes s
-answered_carried carry answer.End bytes s = carry.none s s (looks_same s)
-answered_carried carry answer.Failed bytes s = carry.none s s (looks_same s)
-
--- it holds of a poll too
-abbrev pub Awaits : (LiveState → List Act → LiveState → Type 0) → Type 0
-Awaits holds = (poll : Poll) (s : LiveState) → holds s (Await poll ∷ []) s
-
-polled_carried : {holds : LiveState → List Act → LiveState → Type 0} → Carries holds
-    → Awaits holds → (poll : Poll) (s : LiveState) → Along holds (polled live_part poll s) s
-unfolding polled onward
-polled_carried carry awaits poll s =
-    let c = heard live_part poll.answer poll.bytes s in
-    carry.both s s c.state (Await (record poll { until = live_part.until s }) ∷ []) c.acts
-    (awaits (record poll { until = live_part.until s }) s)
-    (answered_carried carry poll.answer poll.bytes s)
-
-spent_by : {holds : LiveState → List Act → LiveState → Type 0} → Carries holds → (b : Bool)
-    (s : LiveState) → Along {E = Ending} holds (if b then ended Spent s else still s) s
-spent_by carry true s = carry.none s s (looks_same s)
-spent_by carry false s = carry.none s s (looks_same s)
-
-attended_carried : {holds : LiveState → List Act → LiveState → Type 0} → Carries holds
-    → Awaits holds → (polls : List Poll) (s : LiveState)
-    → Along holds (attended live_part polls s) s
-unfolding attended onward spent
-attended_carried {holds = holds} carry awaits polls s =
-    let c = each (polled live_part) polls s in
-    onward_carried carry s c.ending c (spent polls)
-    (each-holds holds (polled live_part) (λ t. carry.none t t (looks_same t)) carry.both
-    (polled_carried carry awaits) polls s)
-    (λ t. spent_by carry _ t)
-
-pub begun_carried : {holds : LiveState → List Act → LiveState → Type 0} → Carries holds
-    → Awaits holds → (s : LiveState) (polls : List Poll)
-    → Along holds (begun live_part s polls) s
-unfolding begun opened onward mapped
-begun_carried carry awaits s polls =
-    let c = opened live_part s in
-    onward_carried carry s c.ending c (attended live_part polls) (open_carried carry s)
-    (attended_carried carry awaits polls)
-
-lastly_carried : {holds : LiveState → List Act → LiveState → Type 0} → Carries holds
-    → Silences holds → (end : Option Ending) (c : Course LiveState Ending) (s : LiveState)
-    → Along holds c s → Along holds (lastly_by end c (finished live_part)) s
-unfolding finished mapped
-lastly_carried carry silences None c s first = first
-lastly_carried carry silences (Some e) c s first =
-    let d = finish_course c.state in
-    carry.both s c.state d.state c.acts d.acts first
-    (finish_carried carry silences c.state)
-
-pub performance_carried : {holds : LiveState → List Act → LiveState → Type 0} → Carries holds
-    → Awaits holds → Silences holds → (s : LiveState) (polls : List Poll)
-    → Along holds (performance live_part s polls) s
-unfolding performance lastly
-performance_carried carry awaits silences s polls =
-    let c = begun live_part s polls in
-    lastly_carried carry silences c.ending c s (begun_carried carry awaits s polls)

@@ -6,7 +6,7 @@ ghost use Rattle.orca_live.specs.Performing.{due_course, frame_course};
 ghost use Rattle.orca_live.specs.States.{live_stance, state_of};
 
 use crate::Live;
-use crate::keyboard::{give, press};
+use crate::keyboard::{do_command, press};
 use orca_base::Command;
 use orca_course::{Desk, NoMemory, Stop};
 use orca_edit::Machine;
@@ -14,7 +14,7 @@ use orca_rig::{Files, Inbox, Outs};
 use std::sync::ledger::Ledger;
 
 /// Plays a frame; a full history ends the performance.
-fn play_frame<M: Machine + Drop, F: Files + Drop, O: Outs + Drop, I: Inbox + Drop, L: Ledger>(
+fn do_frame<M: Machine + Drop, F: Files + Drop, O: Outs + Drop, I: Inbox + Drop, L: Ledger>(
     live: &mut Live<'_, M>,
     desk: &mut Desk<F, O, I, L>,
 ) -> Result<Option<Stop>, NoMemory>
@@ -28,16 +28,19 @@ fn play_frame<M: Machine + Drop, F: Files + Drop, O: Outs + Drop, I: Inbox + Dro
     if live.is_full() {
         return Ok(Some(Stop::Full));
     }
-    give(live, desk, &Command::Frame)?;
+    do_command(live, desk, &Command::Frame)?;
     live.pacer.fired(live.at);
     Ok(None)
 }
 
 /// A frame is due: an ESC that stands alone is a key, and then the frame is played.
-pub(crate) fn due<M: Machine + Drop, F: Files + Drop, O: Outs + Drop, I: Inbox + Drop, L: Ledger>(
-    live: &mut Live<'_, M>,
-    desk: &mut Desk<F, O, I, L>,
-) -> Result<Option<Stop>, NoMemory>
+pub(crate) fn do_due<
+    M: Machine + Drop,
+    F: Files + Drop,
+    O: Outs + Drop,
+    I: Inbox + Drop,
+    L: Ledger,
+>(live: &mut Live<'_, M>, desk: &mut Desk<F, O, I, L>) -> Result<Option<Stop>, NoMemory>
     ensures { let s = state_of (M.machine live.old.stage.machine) (M.kept live.old.stage.machine)
         live.old in
         Does live_stance (due_course s) s
@@ -49,5 +52,5 @@ pub(crate) fn due<M: Machine + Drop, F: Files + Drop, O: Outs + Drop, I: Inbox +
     if let Some(stop) = press(live, desk, key)? {
         return Ok(Some(stop));
     }
-    play_frame(live, desk)
+    do_frame(live, desk)
 }

@@ -34,11 +34,13 @@ fn keep(given: &mut Option<Vec<Command>>, command: &Command) -> Result<(), NoMem
 }
 
 /// Does a command, and keeps it for the script.
-pub(crate) fn give<M: Machine + Drop, F: Files + Drop, O: Outs + Drop, I: Inbox + Drop, L: Ledger>(
-    live: &mut Live<'_, M>,
-    desk: &mut Desk<F, O, I, L>,
-    command: &Command,
-) -> Result<(), NoMemory>
+pub(crate) fn do_command<
+    M: Machine + Drop,
+    F: Files + Drop,
+    O: Outs + Drop,
+    I: Inbox + Drop,
+    L: Ledger,
+>(live: &mut Live<'_, M>, desk: &mut Desk<F, O, I, L>, command: &Command) -> Result<(), NoMemory>
     ensures { let s = state_of (M.machine live.old.stage.machine) (M.kept live.old.stage.machine)
         live.old in
         Does live_stance (command_course command.now s) s
@@ -52,7 +54,7 @@ pub(crate) fn give<M: Machine + Drop, F: Files + Drop, O: Outs + Drop, I: Inbox 
 }
 
 /// Does what a key asks for, once the editor has changed.
-fn grant<M: Machine + Drop, F: Files + Drop, O: Outs + Drop, I: Inbox + Drop, L: Ledger>(
+fn do_wish<M: Machine + Drop, F: Files + Drop, O: Outs + Drop, I: Inbox + Drop, L: Ledger>(
     live: &mut Live<'_, M>,
     desk: &mut Desk<F, O, I, L>,
     wish: &Act,
@@ -67,7 +69,7 @@ fn grant<M: Machine + Drop, F: Files + Drop, O: Outs + Drop, I: Inbox + Drop, L:
     match wish {
         Act::Nothing => Ok(None),
         Act::Do(command) => {
-            give(live, desk, command)?;
+            do_command(live, desk, command)?;
             Ok(None)
         }
         Act::Toggle => {
@@ -118,7 +120,7 @@ fn strike<M: Machine + Drop, F: Files + Drop, O: Outs + Drop, I: Inbox + Drop, L
     let dims = Look::dims(&live.stage.machine);
     let moments = live.stage.machine.moments();
     let wish = live.editor.key(key, dims, moments);
-    grant(live, desk, &wish)
+    do_wish(live, desk, &wish)
 }
 
 /// Does what the key does that was ended, if any was.
@@ -144,7 +146,7 @@ pub(crate) fn press<M: Machine + Drop, F: Files + Drop, O: Outs + Drop, I: Inbox
 }
 
 /// Reads a byte.
-fn take<M: Machine + Drop, F: Files + Drop, O: Outs + Drop, I: Inbox + Drop, L: Ledger>(
+fn do_byte<M: Machine + Drop, F: Files + Drop, O: Outs + Drop, I: Inbox + Drop, L: Ledger>(
     live: &mut Live<'_, M>,
     desk: &mut Desk<F, O, I, L>,
     byte: u8,
@@ -160,8 +162,14 @@ fn take<M: Machine + Drop, F: Files + Drop, O: Outs + Drop, I: Inbox + Drop, L: 
     press(live, desk, key)
 }
 
-/// Reads bytes, one by one. Those behind the end of the performance are dropped.
-pub(crate) fn feed<M: Machine + Drop, F: Files + Drop, O: Outs + Drop, I: Inbox + Drop, L: Ledger>(
+/// Reads bytes, one by one. Those after the end of the performance are dropped.
+pub(crate) fn do_bytes<
+    M: Machine + Drop,
+    F: Files + Drop,
+    O: Outs + Drop,
+    I: Inbox + Drop,
+    L: Ledger,
+>(
     live: &mut Live<'_, M>,
     desk: &mut Desk<F, O, I, L>,
     bytes: &[u8],
@@ -174,7 +182,7 @@ pub(crate) fn feed<M: Machine + Drop, F: Files + Drop, O: Outs + Drop, I: Inbox 
         (owing (M.residue live.new.stage.machine) desk.new) }
 {
     for byte in bytes {
-        if let Some(stop) = take(live, desk, *byte)? {
+        if let Some(stop) = do_byte(live, desk, *byte)? {
             return Ok(Some(stop));
         }
     }

@@ -6,8 +6,8 @@ ghost use Rattle.orca_live.specs.Performing.{answer_course, close_course, finish
 ghost use Rattle.orca_live.specs.States.{live_stance, state_of};
 
 use crate::Live;
-use crate::clock::due;
-use crate::keyboard::feed;
+use crate::clock::do_due;
+use crate::keyboard::do_bytes;
 use crate::painting::{paint_first, show};
 use crate::saving::{save_last_grid, save_last_script};
 use orca_concert::close;
@@ -59,14 +59,14 @@ impl<'a, M: Machine + Drop> Performer for Live<'a, M> {
         desk: &mut Desk<F, O, I, L>,
         _: Ending,
     ) -> Result<(), NoMemory> {
-        end(self, desk)
+        finish(self, desk)
     }
 
     ghost deaf = { live_is_deaf };
 }
 
 /// Does what an answer brings. The bytes of other hands are dropped.
-fn heed<M: Machine + Drop, F: Files + Drop, O: Outs + Drop, I: Inbox + Drop, L: Ledger>(
+fn do_answer<M: Machine + Drop, F: Files + Drop, O: Outs + Drop, I: Inbox + Drop, L: Ledger>(
     live: &mut Live<'_, M>,
     desk: &mut Desk<F, O, I, L>,
     answer: Answer,
@@ -85,11 +85,11 @@ fn heed<M: Machine + Drop, F: Files + Drop, O: Outs + Drop, I: Inbox + Drop, L: 
             if hand != PLAYER {
                 return Ok(None);
             }
-            feed(live, desk, bytes)
+            do_bytes(live, desk, bytes)
         }
         Answer::Due { at } => {
             live.at = at;
-            due(live, desk)
+            do_due(live, desk)
         }
         Answer::End | Answer::Failed => Ok(None),
     }
@@ -109,7 +109,7 @@ fn hear<M: Machine + Drop, F: Files + Drop, O: Outs + Drop, I: Inbox + Drop, L: 
         (state_of (M.machine live.new.stage.machine) (M.kept live.new.stage.machine) live.new)
         (owing (M.residue live.new.stage.machine) desk.new) }
 {
-    if let Some(stop) = heed(live, desk, answer, bytes)? {
+    if let Some(stop) = do_answer(live, desk, answer, bytes)? {
         return Ok(Some(stop));
     }
     show(live, desk)?;
@@ -117,7 +117,7 @@ fn hear<M: Machine + Drop, F: Files + Drop, O: Outs + Drop, I: Inbox + Drop, L: 
 }
 
 /// Ends every note.
-fn silence<M: Machine + Drop, F: Files + Drop, O: Outs + Drop, I: Inbox + Drop, L: Ledger>(
+fn do_close<M: Machine + Drop, F: Files + Drop, O: Outs + Drop, I: Inbox + Drop, L: Ledger>(
     live: &mut Live<'_, M>,
     desk: &mut Desk<F, O, I, L>,
 ) -> Result<(), NoMemory>
@@ -133,7 +133,7 @@ fn silence<M: Machine + Drop, F: Files + Drop, O: Outs + Drop, I: Inbox + Drop, 
 }
 
 /// Ends every note, and then saves the grid and the script.
-fn end<M: Machine + Drop, F: Files + Drop, O: Outs + Drop, I: Inbox + Drop, L: Ledger>(
+fn finish<M: Machine + Drop, F: Files + Drop, O: Outs + Drop, I: Inbox + Drop, L: Ledger>(
     live: &mut Live<'_, M>,
     desk: &mut Desk<F, O, I, L>,
 ) -> Result<(), NoMemory>
@@ -144,7 +144,7 @@ fn end<M: Machine + Drop, F: Files + Drop, O: Outs + Drop, I: Inbox + Drop, L: L
         (state_of (M.machine live.new.stage.machine) (M.kept live.new.stage.machine) live.new)
         (owing (M.residue live.new.stage.machine) desk.new) }
 {
-    silence(live, desk)?;
+    do_close(live, desk)?;
     save_last_grid(live, desk)?;
     save_last_script(live, desk)
 }

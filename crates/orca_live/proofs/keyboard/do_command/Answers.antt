@@ -2,7 +2,7 @@ use Rattle.std.proofs.Common.{refl}
 use Rattle.std.specs.Prelude.{Ok, Err}
 use Rattle.orca_course.proofs.DoingLemmas.{does_nothing, goes_err}
 use Rattle.orca_live.proofs.DoneLemmas.{command_did, command_goes, goes_on}
-use Rattle.orca_live.proofs.keyboard.give.Goals as goal
+use Rattle.orca_live.proofs.keyboard.do_command.Goals as goal
 
 pub returns-in_err-keep : goal.returns-in_err-keep
 returns-in_err-keep g c =

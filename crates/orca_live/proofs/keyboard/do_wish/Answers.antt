@@ -1,11 +1,11 @@
 use Rattle.orca_course.proofs.DoingLemmas.{does_err}
 use Rattle.orca_live.proofs.KeyLemmas.{wish_do, wish_nothing, wish_pause, wish_play, wish_quit, wish_save}
-use Rattle.orca_live.proofs.keyboard.grant.Goals as goal
+use Rattle.orca_live.proofs.keyboard.do_wish.Goals as goal
 
-pub returns-in_err-give-in-Do : goal.returns-in_err-give-in-Do
-returns-in_err-give-in-Do g c =
+pub returns-in_err-do_command-in-Do : goal.returns-in_err-do_command-in-Do
+returns-in_err-do_command-in-Do g c =
     does_err _ _ c.from_residual.ensures.1
-    (wish_do _ _ c.in-Do.is c.in_err-give-in-Do.ensures)
+    (wish_do _ _ c.in-Do.is c.in_err-do_command-in-Do.ensures)
 
 pub returns-in_err-save_grid-in-Save : goal.returns-in_err-save_grid-in-Save
 returns-in_err-save_grid-in-Save g c =
@@ -15,8 +15,8 @@ returns-in_err-save_grid-in-Save g c =
 pub returns-in-Nothing : goal.returns-in-Nothing
 returns-in-Nothing g c = wish_nothing _ _ _ c.in-Nothing.is
 
-pub returns-in_ok-give-in-Do : goal.returns-in_ok-give-in-Do
-returns-in_ok-give-in-Do g c = wish_do _ _ c.in-Do.is c.in_ok-give-in-Do.ensures
+pub returns-in_ok-do_command-in-Do : goal.returns-in_ok-do_command-in-Do
+returns-in_ok-do_command-in-Do g c = wish_do _ _ c.in-Do.is c.in_ok-do_command-in-Do.ensures
 
 pub returns-then-not-live : goal.returns-then-not-live
 returns-then-not-live g c =

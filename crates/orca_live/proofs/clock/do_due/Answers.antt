@@ -2,7 +2,7 @@ use Rattle.std.specs.Prelude.{Some, None, Ok, Err}
 use Rattle.orca_course.proofs.DoingLemmas.{does_err}
 use Rattle.orca_live.proofs.ClockLemmas.{due_cut, due_did, due_stop}
 use Rattle.orca_live.proofs.KeyLemmas.{item_did}
-use Rattle.orca_live.proofs.clock.due.Goals as goal
+use Rattle.orca_live.proofs.clock.do_due.Goals as goal
 
 pub returns-in_err-stop : goal.returns-in_err-stop
 returns-in_err-stop g c =
@@ -22,4 +22,4 @@ returns g c =
     due_did
     (item_did _ _ _ _ (Ok None) c.due-key.ensures.key c.due-key.ensures.pending
     (rw c.in_default.is at c.in_ok-stop.ensures))
-    c.play_frame.ensures
+    c.do_frame.ensures

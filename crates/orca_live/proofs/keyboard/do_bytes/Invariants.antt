@@ -3,7 +3,7 @@ use Rattle.orca_course.specs.Worlds.{owing}
 use Rattle.orca_course.proofs.DoingLemmas.{SoFar}
 use Rattle.orca_live.specs.Performing.{byte_course}
 use Rattle.orca_live.specs.States.{live_stance, state_of}
-use Rattle.orca_live.proofs.keyboard.feed.Given as goal
+use Rattle.orca_live.proofs.keyboard.do_bytes.Given as goal
 
 -- the bytes so far were read, and the others are left
 abbrev pub invariant-loop-byte : goal.invariant-loop-byte

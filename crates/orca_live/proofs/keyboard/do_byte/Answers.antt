@@ -1,5 +1,5 @@
 use Rattle.orca_live.proofs.KeyLemmas.{byte_did}
-use Rattle.orca_live.proofs.keyboard.take.Goals as goal
+use Rattle.orca_live.proofs.keyboard.do_byte.Goals as goal
 
 pub returns : goal.returns
 returns g c =

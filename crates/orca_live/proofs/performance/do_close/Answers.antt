@@ -1,7 +1,7 @@
 use Rattle.std.specs.Prelude.{Ok, Err}
 use Rattle.orca_course.proofs.DoingLemmas.{goes_err}
 use Rattle.orca_live.proofs.DoneLemmas.{close_did, close_goes, goes_on}
-use Rattle.orca_live.proofs.performance.silence.Goals as goal
+use Rattle.orca_live.proofs.performance.do_close.Goals as goal
 
 pub returns-in_err-close : goal.returns-in_err-close
 returns-in_err-close g c =

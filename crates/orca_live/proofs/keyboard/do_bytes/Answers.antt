@@ -1,7 +1,7 @@
 use Rattle.std.proofs.Common.{refl}
 use Rattle.std.proofs.lemmas.List.{drop_all, drop_more}
 use Rattle.orca_course.proofs.DoingLemmas.{does_err, far_cut, far_more, far_none, far_over, far_stop}
-use Rattle.orca_live.proofs.keyboard.feed.Goals as goal
+use Rattle.orca_live.proofs.keyboard.do_bytes.Goals as goal
 
 pub loop-byte-init : goal.loop-byte-init
 loop-byte-init g c = far_none refl
