@@ -5,17 +5,11 @@ use Rattle.std.specs.Fmt.{decimal}
 use Rattle.orca_base.specs.declared.message.Message.{Message}
 use Rattle.orca_base.specs.declared.port.Port.TheVariants as port
 use Rattle.orca_base.specs.Ports.{port_name}
-use Rattle.orca_base.specs.Ascii.{space, line_feed}
+use Rattle.orca_base.specs.Ascii.{digit_zero, letter_a, line_feed, space}
 use Rattle.orca_send.specs.declared.lines.Label.{Label}
 use Rattle.orca_send.specs.declared.lines.Label.TheVariants.{Tick, End}
 use Rattle.orca_base.specs.Ports.{Sent}
 use Rattle.orca_send.specs.Sending.{sent_of}
-
-abbrev pub digit_zero : ℕ
-digit_zero = 48
-
-abbrev pub letter_a : ℕ
-letter_a = 65
 
 -- the upper-case hexadecimal digit of a value below 16
 abbrev pub hex_digit : ℕ → ℕ
