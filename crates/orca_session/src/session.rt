@@ -100,13 +100,6 @@ impl Session {
         self.past.checkpoints()
     }
 
-    /// The clip: what was copied or cut last. None if nothing was so far.
-    pub fn clip(&self) -> Option<&Block>
-        ensures { option_copied result ≡ self.now.machine.clip }
-    {
-        self.clip.as_ref()
-    }
-
     /// The first rule that stands against the command.
     fn rule_against(&self, command: &Command) -> Option<Rule>
         ensures rule { result ≡ rule_against self.now.machine command.now }
