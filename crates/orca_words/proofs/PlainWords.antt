@@ -10,7 +10,7 @@ use Rattle.orca_base.specs.Ascii.{dash}
 use Rattle.orca_base.specs.Glyphs.{is_digit}
 use Rattle.orca_base.specs.Numbers.{is_number, number_of}
 use Rattle.orca_words.specs.PlainWords.{is_plain_name, plain_setup}
-use Rattle.orca_words.specs.Requests.{Events, Perform, Replay, Run, frames_of, greatest, number_in, option_text, positional_text, request_by, request_in_form, setup_of}
+use Rattle.orca_words.specs.Requests.{Events, Perform, Replay, Run, frames_of, greatest, number_in, option_text, portless_setup_of, positional_text, request_by, request_in_form, setup_of}
 use Rattle.orca_words.specs.declared.forms.Verb.{Verb}
 use Rattle.orca_words.specs.declared.forms.Verb.TheVariants as verb
 use Rattle.orca_words.proofs.PlainForms.{Frames, Script, grid_form, plain_accepted, plain_found, plain_rows, row}
@@ -75,12 +75,12 @@ plain_script_of grid script = refl
 
 frames_setup_of : (grid frames : Text)
     → setup_of (plain_rows Frames grid frames) ≡ Some (plain_setup grid)
-unfolding setup_of option_text plain_rows row
+unfolding setup_of portless_setup_of option_text plain_rows row
 frames_setup_of grid frames = refl
 
 script_setup_of : (grid script : Text)
     → setup_of (plain_rows Script grid script) ≡ Some (plain_setup grid)
-unfolding setup_of option_text plain_rows row
+unfolding setup_of portless_setup_of option_text plain_rows row
 script_setup_of grid script = refl
 
 -- by a form of a grid and frames

@@ -4,7 +4,7 @@ use Rattle.std.specs.Prelude.{◌≡◌, List, [], ◌∷◌, ◌++◌, codes, r
 use Rattle.clap.specs.Words.{Text}
 use Rattle.orca_words.specs.Forms.{Form, forms}
 use Rattle.orca_words.specs.declared.forms.Verb.{Verb}
-use Rattle.orca_words.specs.declared.forms.Verb.TheVariants.{Run, Events, Replay, Play, Make}
+use Rattle.orca_words.specs.declared.forms.Verb.TheVariants.{Run, Events, Replay, Play, Make, Migrate, Smf, Wav}
 
 abbrev row : Text → List Text → List Text → Verb → Form
 row word positionals options verb =
@@ -19,12 +19,23 @@ abbrev more_options : List Text
 more_options =
     codes "bpm" ∷ codes "rows" ∷ codes "cols" ∷ codes "save" ∷ codes "script" ∷ []
 
+-- those of a run on a grid that is saved as a song or as sound
+abbrev recording_options : List Text
+recording_options = codes "seed" ∷ codes "limit" ∷ codes "bpm" ∷ []
+
+-- what such a run needs
+abbrev recording_names : List Text
+recording_names = codes "GRID" ∷ codes "FRAMES" ∷ codes "OUT" ∷ []
+
 forms_are : forms
     ≡ row (codes "run") (codes "GRID" ∷ codes "FRAMES" ∷ []) options Run
     ∷ row (codes "events") (codes "GRID" ∷ codes "FRAMES" ∷ []) options Events
     ∷ row (codes "replay") (codes "GRID" ∷ codes "SCRIPT" ∷ []) options Replay
     ∷ row (codes "play") (codes "GRID" ∷ codes "ADDRESS" ∷ []) (options ++ more_options) Play
     ∷ row (codes "make")
-    (codes "SEED" ∷ codes "HEIGHT" ∷ codes "WIDTH" ∷ codes "FRAMES" ∷ []) [] Make ∷ []
+    (codes "SEED" ∷ codes "HEIGHT" ∷ codes "WIDTH" ∷ codes "FRAMES" ∷ []) [] Make
+    ∷ row (codes "migrate") (codes "SCRIPT" ∷ codes "OUT" ∷ []) (codes "seed" ∷ []) Migrate
+    ∷ row (codes "smf") recording_names recording_options Smf
+    ∷ row (codes "wav") recording_names recording_options Wav ∷ []
 unfolding forms
 forms_are = refl

@@ -7,18 +7,22 @@ use Rattle.clap.proofs.OnLiterals.{clap_on_literals}
 use Rattle.orca_base.specs.Ascii.{space}
 use Rattle.orca_base.specs.Numbers.{number_of}
 use Rattle.orca_words.specs.Forms.{command_of, forms}
-use Rattle.orca_words.specs.Requests.{Request, Setup, Perform, Make, Run, Events, Replay, Play, number_in, option_text, performance_of, request_by, request_in_form, request_of, setup_of, workload_of}
+use Rattle.orca_words.specs.Requests.{Request, Setup, Perform, Make, Migrate, Run, Events, Replay, Play, Smf, Wav, migration_of, number_in, option_text, performance_of, portless_setup_of, recording_of, request_by, request_in_form, request_of, setup_of, workload_of}
 
 -- what a line asks for
 unfoldable asked : Text → Option Request
 asked line = request_of (slice_split (λ byte. byte == space) line)
 
 unfoldable values : ⊤
-unfolding setup_of performance_of workload_of option_text number_in number_of
+unfolding option_text number_in number_of
 values = tt
 
+unfoldable parts : ⊤
+unfolding setup_of portless_setup_of performance_of workload_of migration_of recording_of
+parts = tt
+
 unfoldable worked : ⊤
-unfolding asked request_of request_in_form request_by values forms command_of clap_on_literals
+unfolding asked request_of request_in_form request_by parts values forms command_of clap_on_literals
 worked = tt
 
 all_set : Setup
@@ -29,6 +33,17 @@ all_set = record {
   midi = Some (codes "m");
   udp = Some (codes "u");
   osc = Some (codes "o");
+}
+
+-- a run that is saved as a song or as sound has no ports
+recording_set : Setup
+recording_set = record {
+  grid = codes "g";
+  seed = 7;
+  limit = 9;
+  midi = None;
+  udp = None;
+  osc = None;
 }
 
 none_set : Setup
@@ -85,6 +100,36 @@ make_some : asked (codes "make 5 64 1024 200")
 unfolding worked
 make_some = refl
 
+migrate_all : asked (codes "migrate s --seed=9 o")
+    ≡ Some (Migrate (record { script = codes "s"; out = codes "o"; seed = 9 }))
+unfolding worked
+migrate_all = refl
+
+migrate_none : asked (codes "migrate 0000000003 2")
+    ≡ Some (Migrate (record { script = codes "0000000003"; out = codes "2"; seed = 1 }))
+unfolding worked
+migrate_none = refl
+
+smf_all : asked (codes "smf --bpm 4 g --seed=7 3 --limit 9 o")
+    ≡ Some (Perform recording_set (Smf (record { frames = 3; bpm = 4; out = codes "o" })))
+unfolding worked recording_set
+smf_all = refl
+
+smf_none : asked (codes "smf g 0 o")
+    ≡ Some (Perform none_set (Smf (record { frames = 0; bpm = 120; out = codes "o" })))
+unfolding worked none_set
+smf_none = refl
+
+wav_all : asked (codes "wav g --limit=9 3 o --bpm=1 --seed 7")
+    ≡ Some (Perform recording_set (Wav (record { frames = 3; bpm = 1; out = codes "o" })))
+unfolding worked recording_set
+wav_all = refl
+
+wav_none : asked (codes "wav g 4294967295 o")
+    ≡ Some (Perform none_set (Wav (record { frames = 4294967295; bpm = 120; out = codes "o" })))
+unfolding worked none_set
+wav_none = refl
+
 -- after `--` all words are positional, and a lone dash and an empty word are texts
 after_dashes : asked (codes "run --seed=7 -- --seed 3")
     ≡ Some (Perform (record none_set { grid = codes "--seed"; seed = 7 }) (Run 3))
@@ -134,6 +179,26 @@ refused : list_all (λ line. not (is_some (asked line))) (codes ""
     ∷ codes "make 1 2 1025 4"
     ∷ codes "make 1 2 3 100001"
     ∷ codes "make 1 2 3 4 --seed 1"
+    ∷ codes "migrate s"
+    ∷ codes "migrate s o x"
+    ∷ codes "migrate s o --seed 4294967296"
+    ∷ codes "migrate s o --seed=00000000007"
+    ∷ codes "migrate s o --limit 9"
+    ∷ codes "migrate s o --bpm 90"
+    ∷ codes "smf g 3"
+    ∷ codes "smf g 3 o x"
+    ∷ codes "smf g 4294967296 o"
+    ∷ codes "smf g 3 o --bpm 3"
+    ∷ codes "smf g 3 o --bpm 1000"
+    ∷ codes "smf g 3 o --limit 0"
+    ∷ codes "smf g 3 o --midi m"
+    ∷ codes "wav g 3"
+    ∷ codes "wav g 3 o x"
+    ∷ codes "wav g 4294967296 o"
+    ∷ codes "wav g 3 o --bpm 0"
+    ∷ codes "wav g 3 o --bpm 1000"
+    ∷ codes "wav g 3 o --limit=4000001"
+    ∷ codes "wav g 3 o --osc o"
     ∷ []) ≡ true
 unfolding worked
 refused = refl

@@ -10,7 +10,9 @@ use Rattle.orca_words.specs.declared.request.Work.{Work as HeldWork}
 use Rattle.orca_words.specs.declared.request.Work.TheVariants as held_work
 use Rattle.orca_words.specs.declared.request.Performance.{Performance as HeldPerformance}
 use Rattle.orca_words.specs.declared.request.Workload.{Workload as HeldWorkload}
-use Rattle.orca_words.specs.Requests.{Request, Perform, Make, Setup, Work, Run, Events, Replay, Play, Performance, Workload}
+use Rattle.orca_words.specs.declared.request.Recording.{Recording as HeldRecording}
+use Rattle.orca_words.specs.declared.request.Migration.{Migration as HeldMigration}
+use Rattle.orca_words.specs.Requests.{Request, Perform, Make, Migrate, Setup, Work, Run, Events, Replay, Play, Smf, Wav, Performance, Workload, Recording, Migration}
 
 -- what a parse found
 unfoldable pub rows_in : ArgMatches → List Row
@@ -48,12 +50,29 @@ workload_in load = record {
   frames = load.frames;
 }
 
+abbrev pub recording_in : HeldRecording → Recording
+recording_in recording = record {
+  frames = recording.frames;
+  bpm = recording.bpm;
+  out = recording.out.now;
+}
+
+abbrev pub migration_in : HeldMigration → Migration
+migration_in migration = record {
+  script = migration.script.now;
+  out = migration.out.now;
+  seed = migration.seed;
+}
+
 abbrev pub work_in : HeldWork → Work
 work_in (held_work.Run frames) = Run frames
 work_in (held_work.Events frames) = Events frames
 work_in (held_work.Replay script) = Replay script.now
 work_in (held_work.Play play) = Play (performance_in play)
+work_in (held_work.Smf song) = Smf (recording_in song)
+work_in (held_work.Wav wave) = Wav (recording_in wave)
 
 abbrev pub request_in : Held → Request
 request_in (held.Perform setup work) = Perform (setup_in setup) (work_in work)
 request_in (held.Make load) = Make (workload_in load)
+request_in (held.Migrate migration) = Migrate (migration_in migration)

@@ -5,7 +5,7 @@ use Rattle.clap.specs.Walk.{is_empty}
 use Rattle.clap.specs.Words.{Row, Text, fault_of, first_of, matches_of}
 use Rattle.orca_base.specs.Numbers.{number_of}
 use Rattle.orca_base.specs.declared.limits.TheConstants.{DEFAULT_SEED, MAX_HISTORY, DEFAULT_HISTORY, MAX_BPM, DEFAULT_BPM, MIN_SCREEN_ROWS, MAX_SCREEN_ROWS, MIN_SCREEN_COLUMNS, MAX_SCREEN_COLUMNS, MAX_ROWS, MAX_COLUMNS}
-use Rattle.orca_words.specs.declared.limits.TheConstants.{DEFAULT_SCREEN_ROWS, DEFAULT_SCREEN_COLUMNS, MAX_MADE_FRAMES}
+use Rattle.orca_words.specs.declared.limits.TheConstants.{DEFAULT_SCREEN_ROWS, DEFAULT_SCREEN_COLUMNS, MAX_MADE_FRAMES, MIN_SONG_BPM}
 use Rattle.orca_words.specs.declared.forms.Verb.{Verb}
 use Rattle.orca_words.specs.declared.forms.Verb.TheVariants as verb
 use Rattle.orca_words.specs.Forms.{Form, form_by, command_of}
@@ -28,6 +28,18 @@ pub record Performance : Type 0 where
   pub save : Option Text
   pub script : Option Text
 
+-- how many frames are played, how fast, and what they are saved to
+pub record Recording : Type 0 where
+  pub frames : ℕ
+  pub bpm : ℕ
+  pub out : Text
+
+-- a script that is saved in format 2
+pub record Migration : Type 0 where
+  pub script : Text
+  pub out : Text
+  pub seed : ℕ
+
 -- a grid and commands that are generated
 pub record Workload : Type 0 where
   pub seed : ℕ
@@ -41,11 +53,14 @@ pub data Work : Type 0 where
   Events : ℕ → Work
   Replay : Text → Work
   Play : Performance → Work
+  Smf : Recording → Work
+  Wav : Recording → Work
 
 -- what the words ask for
 pub data Request : Type 0 where
   Perform : Setup → Work → Request
   Make : Workload → Request
+  Migrate : Migration → Request
 
 -- ---- what clap found, by names
 
@@ -83,19 +98,31 @@ option_number found name default least most =
 abbrev pub with_number : {A : Type 0} → Option ℕ → (ℕ → Option A) → Option A
 with_number number make = option_and_then make number
 
--- the grid and the options of a run
-unfoldable pub setup_of : List Row → Option Setup
-setup_of found =
+-- the grid, the seed and the limit of a run that attaches no port
+unfoldable pub portless_setup_of : List Row → Option Setup
+portless_setup_of found =
     with_number (option_number found (codes "seed") DEFAULT_SEED 0 greatest) (λ seed.
     with_number (option_number found (codes "limit") DEFAULT_HISTORY 1 MAX_HISTORY) (λ limit.
     Some (record {
       grid = positional_text found (codes "GRID");
       seed = seed;
       limit = limit;
-      midi = option_text found (codes "midi");
-      udp = option_text found (codes "udp");
-      osc = option_text found (codes "osc");
+      midi = None;
+      udp = None;
+      osc = None;
     })))
+
+-- a run, with the ports that the words name
+abbrev pub with_ports : List Row → Setup → Setup
+with_ports found setup = record setup {
+  midi = option_text found (codes "midi");
+  udp = option_text found (codes "udp");
+  osc = option_text found (codes "osc");
+}
+
+-- the grid and the options of a run
+unfoldable pub setup_of : List Row → Option Setup
+setup_of found = option_map (with_ports found) (portless_setup_of found)
 
 -- the address, the tempo, the screen and the names of `play`
 unfoldable pub performance_of : List Row → Option Performance
@@ -127,19 +154,40 @@ workload_of found =
 abbrev pub frames_of : List Row → Option ℕ
 frames_of found = positional_number found (codes "FRAMES") 0 greatest
 
+-- the frames, the tempo and the file of `smf` and `wav`, with the least tempo of the word
+unfoldable pub recording_of : List Row → ℕ → Option Recording
+recording_of found least =
+    with_number (frames_of found) (λ frames.
+    with_number (option_number found (codes "bpm") DEFAULT_BPM least MAX_BPM) (λ bpm.
+    Some (record { frames = frames; bpm = bpm; out = positional_text found (codes "OUT") })))
+
+-- the names and the seed of `migrate`
+unfoldable pub migration_of : List Row → Option Migration
+migration_of found =
+    with_number (option_number found (codes "seed") DEFAULT_SEED 0 greatest) (λ seed.
+    Some (record {
+      script = positional_text found (codes "SCRIPT");
+      out = positional_text found (codes "OUT");
+      seed = seed;
+    }))
+
 -- the work, on the grid and with the options that the words name
-abbrev pub performed : List Row → Option Work → Option Request
-performed found work =
-    option_and_then (λ w. option_map (λ setup. Perform setup w) (setup_of found)) work
+abbrev pub performed : Option Setup → Option Work → Option Request
+performed setup work = option_and_then (λ w. option_map (λ s. Perform s w) setup) work
 
 -- what a verb asks for, by what clap found
 unfoldable pub request_by : Verb → List Row → Option Request
-request_by verb.Run found = performed found (option_map Run (frames_of found))
-request_by verb.Events found = performed found (option_map Events (frames_of found))
+request_by verb.Run found = performed (setup_of found) (option_map Run (frames_of found))
+request_by verb.Events found = performed (setup_of found) (option_map Events (frames_of found))
 request_by verb.Replay found =
-    performed found (Some (Replay (positional_text found (codes "SCRIPT"))))
-request_by verb.Play found = performed found (option_map Play (performance_of found))
+    performed (setup_of found) (Some (Replay (positional_text found (codes "SCRIPT"))))
+request_by verb.Play found = performed (setup_of found) (option_map Play (performance_of found))
 request_by verb.Make found = option_map Make (workload_of found)
+request_by verb.Migrate found = option_map Migrate (migration_of found)
+request_by verb.Smf found =
+    performed (portless_setup_of found) (option_map Smf (recording_of found MIN_SONG_BPM))
+request_by verb.Wav found =
+    performed (portless_setup_of found) (option_map Wav (recording_of found 1))
 
 -- what the words after the first ask for, by the form that it picked. They are accepted exactly
 -- where the command of the form has no fault and the numbers are in their ranges

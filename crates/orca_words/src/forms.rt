@@ -8,6 +8,9 @@ pub(crate) enum Verb {
     Replay,
     Play,
     Make,
+    Migrate,
+    Smf,
+    Wav,
 }
 
 /// A form of the command line: its first word, the names of the positionals that have to follow it,
@@ -27,8 +30,11 @@ const PLAY_OPTIONS: &[&str] = &[
     "seed", "limit", "midi", "udp", "osc", "bpm", "rows", "cols", "save", "script",
 ];
 
+/// The options of a run on a grid that is saved as a song or as sound.
+const RECORDING_OPTIONS: &[&str] = &["seed", "limit", "bpm"];
+
 /// The command lines that are read: each is in one of these forms.
-pub(crate) static FORMS: [Form; 5] = [
+pub(crate) static FORMS: [Form; 8] = [
     ("run", &["GRID", "FRAMES"], OPTIONS, Verb::Run),
     ("events", &["GRID", "FRAMES"], OPTIONS, Verb::Events),
     ("replay", &["GRID", "SCRIPT"], OPTIONS, Verb::Replay),
@@ -38,5 +44,18 @@ pub(crate) static FORMS: [Form; 5] = [
         &["SEED", "HEIGHT", "WIDTH", "FRAMES"],
         &[],
         Verb::Make,
+    ),
+    ("migrate", &["SCRIPT", "OUT"], &["seed"], Verb::Migrate),
+    (
+        "smf",
+        &["GRID", "FRAMES", "OUT"],
+        RECORDING_OPTIONS,
+        Verb::Smf,
+    ),
+    (
+        "wav",
+        &["GRID", "FRAMES", "OUT"],
+        RECORDING_OPTIONS,
+        Verb::Wav,
     ),
 ];

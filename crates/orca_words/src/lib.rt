@@ -16,7 +16,7 @@ mod values;
 pub use fault::WordsFault;
 pub use laws::plain_words_law;
 pub use read::read_words;
-pub use request::{Performance, Request, Setup, Work, Workload};
+pub use request::{Migration, Performance, Recording, Request, Setup, Work, Workload};
 
 #[cfg(test)]
 mod tests;

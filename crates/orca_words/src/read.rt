@@ -1,16 +1,17 @@
 //! Reading the words of the command line.
 
-ghost use Rattle.std.specs.Prelude.{◌≡◌, None, Some, find, map, option_map, string_bytes, IfOk, IsErrOf, MatchOption};
+ghost use Rattle.std.specs.Prelude.{◌≡◌, ◌≤◌, None, Some, find, map, option_map, string_bytes, IfOk, IsErrOf, MatchOption};
 ghost use Rattle.std.specs.Str.{bytes_eq};
-ghost use Rattle.orca_words.specs.Requests.{frames_of, performance_of, performed, request_by, request_in_form, request_of, setup_of, workload_of};
+ghost use Rattle.orca_words.specs.Requests.{frames_of, migration_of, performance_of, performed, portless_setup_of, recording_of, request_by, request_in_form, request_of, setup_of, workload_of};
 ghost use Rattle.orca_words.specs.Forms.{form_by, form_in};
-ghost use Rattle.orca_words.specs.RequestIn.{performance_in, request_in, rows_in, setup_in, work_in, workload_in};
+ghost use Rattle.orca_words.specs.RequestIn.{migration_in, performance_in, recording_in, request_in, rows_in, setup_in, work_in, workload_in};
+ghost use Rattle.orca_words.specs.Recordings.{HasSongTempo, IfPerform, RecordsWithoutPorts};
 
 use crate::command::parse;
 use crate::forms::{FORMS, Form, Verb};
-use crate::limits::{DEFAULT_SCREEN_COLUMNS, DEFAULT_SCREEN_ROWS, MAX_MADE_FRAMES};
+use crate::limits::{DEFAULT_SCREEN_COLUMNS, DEFAULT_SCREEN_ROWS, MAX_MADE_FRAMES, MIN_SONG_BPM};
 use crate::values::{option_number, option_text, positional_number, positional_text, small_option};
-use crate::{Performance, Request, Setup, WordsFault, Work, Workload};
+use crate::{Migration, Performance, Recording, Request, Setup, WordsFault, Work, Workload};
 use clap::ArgMatches;
 use orca_base::limits::{
     DEFAULT_BPM, DEFAULT_HISTORY, DEFAULT_SEED, MAX_BPM, MAX_COLUMNS, MAX_HISTORY, MAX_ROWS,
@@ -28,6 +29,13 @@ pub fn read_words<'a>(alloc: Global, words: &'a Vec<String>) -> Result<Request<'
         request_of (map string_bytes words.now.items) ≡ Some (request_in request)) }
     ensures refused { IsErrOf result WordsFault.Usage
         → request_of (map string_bytes words.now.items) ≡ None }
+
+    // A song has a tempo that its file can hold, and what is saved as a song or as sound is played
+    // without ports.
+    ensures tempo { IfOk result (λ request.
+        IfPerform (request_in request) (λ setup work. HasSongTempo work)) }
+    ensures portless { IfOk result (λ request.
+        IfPerform (request_in request) RecordsWithoutPorts) }
 {
     let [first, others @ ..] = words.as_slice() else {
         return Err(WordsFault::Usage);
@@ -50,6 +58,10 @@ fn read_in_form<'a>(
         ≡ Some (request_in request)) }
     ensures refused { IsErrOf result WordsFault.Usage
         → request_in_form (form_in form.now) (map string_bytes words.now) ≡ None }
+    ensures tempo { IfOk result (λ request.
+        IfPerform (request_in request) (λ setup work. HasSongTempo work)) }
+    ensures portless { IfOk result (λ request.
+        IfPerform (request_in request) RecordsWithoutPorts) }
 {
     let &(_, _, _, verb) = form;
     let found = parse(alloc, form, words)?;
@@ -86,18 +98,27 @@ fn request_by<'a>(verb: Verb, found: &ArgMatches<'a>) -> Option<Request<'a>>
     match verb {
         Verb::Run => {
             let frames = frames(found)?;
-            perform(found, Work::Run { frames })
+            perform(setup(found), Work::Run { frames })
         }
         Verb::Events => {
             let frames = frames(found)?;
-            perform(found, Work::Events { frames })
+            perform(setup(found), Work::Events { frames })
         }
         Verb::Replay => {
             let script = positional_text(found, "SCRIPT");
-            perform(found, Work::Replay { script })
+            perform(setup(found), Work::Replay { script })
         }
-        Verb::Play => perform(found, Work::Play(performance(found)?)),
+        Verb::Play => perform(setup(found), Work::Play(performance(found)?)),
         Verb::Make => Some(Request::Make(workload(found)?)),
+        Verb::Migrate => Some(Request::Migrate(migration(found)?)),
+        Verb::Smf => {
+            let song = recording(found, MIN_SONG_BPM)?;
+            perform(portless_setup(found), Work::Smf(song))
+        }
+        Verb::Wav => {
+            let wave = recording(found, 1)?;
+            perform(portless_setup(found), Work::Wav(wave))
+        }
     }
 }
 
@@ -108,19 +129,19 @@ fn frames(found: &ArgMatches) -> Option<u32>
     positional_number(found, "FRAMES", 0, u32::MAX)
 }
 
-/// This work, on the grid and with the options that the words name.
-fn perform<'a>(found: &ArgMatches<'a>, work: Work<'a>) -> Option<Request<'a>>
+/// This work, on a grid and with its options, where the numbers of these are in their ranges.
+fn perform<'a>(setup: Option<Setup<'a>>, work: Work<'a>) -> Option<Request<'a>>
     ensures { option_map request_in result
-        ≡ performed (rows_in found.now) (Some (work_in work.entry)) }
+        ≡ performed (option_map setup_in setup.entry) (Some (work_in work.entry)) }
 {
-    let setup = setup(found)?;
+    let setup = setup?;
     Some(Request::Perform { setup, work })
 }
 
-/// The grid and the options of a run.
-#[tactic(auto, unfolding(crate::specs::Requests::setup_of))]
-fn setup<'a>(found: &ArgMatches<'a>) -> Option<Setup<'a>>
-    ensures { option_map setup_in result ≡ setup_of (rows_in found.now) }
+/// The grid, the seed and the limit of a run that attaches no port.
+#[tactic(auto, unfolding(crate::specs::Requests::portless_setup_of))]
+fn portless_setup<'a>(found: &ArgMatches<'a>) -> Option<Setup<'a>>
+    ensures { option_map setup_in result ≡ portless_setup_of (rows_in found.now) }
 {
     let seed = option_number(found, "seed", DEFAULT_SEED, 0, u32::MAX)?;
     let limit = option_number(found, "limit", DEFAULT_HISTORY, 1, MAX_HISTORY)?;
@@ -128,10 +149,49 @@ fn setup<'a>(found: &ArgMatches<'a>) -> Option<Setup<'a>>
         grid: positional_text(found, "GRID"),
         seed,
         limit,
-        midi: option_text(found, "midi"),
-        udp: option_text(found, "udp"),
-        osc: option_text(found, "osc"),
+        midi: None,
+        udp: None,
+        osc: None,
     })
+}
+
+/// The grid and the options of a run.
+#[tactic(auto, unfolding(crate::specs::Requests::setup_of))]
+fn setup<'a>(found: &ArgMatches<'a>) -> Option<Setup<'a>>
+    ensures { option_map setup_in result ≡ setup_of (rows_in found.now) }
+{
+    let mut setup = portless_setup(found)?;
+    setup.midi = option_text(found, "midi");
+    setup.udp = option_text(found, "udp");
+    setup.osc = option_text(found, "osc");
+    Some(setup)
+}
+
+/// The frames, the tempo and the file of a run that is saved as a song or as sound.
+#[tactic(auto, unfolding(crate::specs::Requests::recording_of))]
+fn recording<'a>(found: &ArgMatches<'a>, least: u16) -> Option<Recording<'a>>
+    requires positive { 1 ≤ least }
+    requires low { least ≤ DEFAULT_BPM }
+    ensures { option_map recording_in result ≡ recording_of (rows_in found.now) least }
+{
+    let frames = frames(found)?;
+    let bpm = small_option(found, "bpm", DEFAULT_BPM, least, MAX_BPM)?;
+    Some(Recording {
+        frames,
+        bpm,
+        out: positional_text(found, "OUT"),
+    })
+}
+
+/// The names and the seed of `migrate`.
+#[tactic(auto, unfolding(crate::specs::Requests::migration_of))]
+fn migration<'a>(found: &ArgMatches<'a>) -> Option<Migration<'a>>
+    ensures { option_map migration_in result ≡ migration_of (rows_in found.now) }
+{
+    let seed = option_number(found, "seed", DEFAULT_SEED, 0, u32::MAX)?;
+    let script = positional_text(found, "SCRIPT");
+    let out = positional_text(found, "OUT");
+    Some(Migration { script, out, seed })
 }
 
 /// The address, the tempo, the screen and the names of `play`.

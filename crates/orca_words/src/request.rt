@@ -11,6 +11,8 @@ pub enum Request<'a> {
     Perform { setup: Setup<'a>, work: Work<'a> },
     /// The word `make`: a grid and commands that are generated.
     Make(Workload),
+    /// The word `migrate`: a script that is saved in format 2.
+    Migrate(Migration<'a>),
 }
 
 /// The grid and the options of a run.
@@ -42,6 +44,11 @@ pub enum Work<'a> {
     Replay { script: &'a str },
     /// The word `play`: the grid plays while it is edited by keys.
     Play(Performance<'a>),
+    /// The word `smf`: frames are played, and their MIDI messages are saved as a song. No port is
+    /// attached, and the tempo is at least [`MIN_SONG_BPM`](crate::limits::MIN_SONG_BPM).
+    Smf(Recording<'a>),
+    /// The word `wav`: frames are played, and their notes are saved as sound. No port is attached.
+    Wav(Recording<'a>),
 }
 
 /// Where keys come from and pictures go to, how fast frames are played, and what is saved at the
@@ -65,6 +72,29 @@ pub struct Performance<'a> {
     ghost bpm_in_range: { (1 ≤ bpm) × (bpm ≤ MAX_BPM) },
     ghost rows_in_range: { (MIN_SCREEN_ROWS ≤ rows) × (rows ≤ MAX_SCREEN_ROWS) },
     ghost cols_in_range: { (MIN_SCREEN_COLUMNS ≤ cols) × (cols ≤ MAX_SCREEN_COLUMNS) },
+}
+
+/// How many frames are played, how fast, and what they are saved to.
+#[derive(Debug, PartialEq, Eq, Drop)]
+pub struct Recording<'a> {
+    /// The frames that are played.
+    pub frames: u32,
+    /// The tempo in beats a minute: 1 to [`MAX_BPM`](orca_base::limits::MAX_BPM).
+    pub bpm: u16,
+    /// The file that the song or the sound is saved to.
+    pub out: &'a str,
+    ghost bpm_in_range: { (1 ≤ bpm) × (bpm ≤ MAX_BPM) },
+}
+
+/// A script that is saved in format 2.
+#[derive(Debug, PartialEq, Eq, Drop)]
+pub struct Migration<'a> {
+    /// The name of the script's file.
+    pub script: &'a str,
+    /// The file that the script is saved to.
+    pub out: &'a str,
+    /// The seed of a script that carries none.
+    pub seed: u32,
 }
 
 /// A grid and commands that are generated.

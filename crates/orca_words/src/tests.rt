@@ -1,7 +1,10 @@
 //! Words that are read, and words that are refused.
 
-use crate::{Performance, Request, Setup, WordsFault, Work, Workload, read_words};
+use crate::{
+    Migration, Performance, Recording, Request, Setup, WordsFault, Work, Workload, read_words,
+};
 use std::alloc::{AllocError, Global};
+use std::process::Abort;
 use std::test::Fail;
 
 /// A list of words, each a text of its own.
@@ -87,6 +90,36 @@ fn first_words(rt: HostRuntime) -> Result<(), Fail> {
                 width: 32,
                 frames: 200,
             }),
+        ),
+        (
+            ["migrate", "s", "o"].as_slice(),
+            Request::Migrate(Migration {
+                script: "s",
+                out: "o",
+                seed: 1,
+            }),
+        ),
+        (
+            ["smf", "g", "3", "o"].as_slice(),
+            Request::Perform {
+                setup: plain(),
+                work: Work::Smf(Recording {
+                    frames: 3,
+                    bpm: 120,
+                    out: "o",
+                }),
+            },
+        ),
+        (
+            ["wav", "g", "3", "o"].as_slice(),
+            Request::Perform {
+                setup: plain(),
+                work: Work::Wav(Recording {
+                    frames: 3,
+                    bpm: 120,
+                    out: "o",
+                }),
+            },
         ),
     ] {
         let list = list(rt.alloc(), words)?;
@@ -367,8 +400,214 @@ fn performances(rt: HostRuntime) -> Result<(), Fail> {
     Ok(())
 }
 
+/// Words of `migrate` with their script, output and seed.
+static MIGRATIONS: [(&[&str], &str, &str, u32); 11] = [
+    (&["migrate", "--seed", "9", "s", "o"], "s", "o", 9),
+    (&["migrate", "s", "--seed", "9", "o"], "s", "o", 9),
+    (&["migrate", "s", "o", "--seed", "9"], "s", "o", 9),
+    (&["migrate", "--seed=9", "s", "o"], "s", "o", 9),
+    (&["migrate", "s", "--seed=9", "o"], "s", "o", 9),
+    (&["migrate", "s", "o", "--seed=9"], "s", "o", 9),
+    (&["migrate", "--seed=1", "2", "+3"], "2", "+3", 1),
+    (
+        &["migrate", "0000000003", "--seed=1", "2"],
+        "0000000003",
+        "2",
+        1,
+    ),
+    (&["migrate", "", ""], "", "", 1),
+    (&["migrate", "-", "-"], "-", "-", 1),
+    (&["migrate", "--", "--seed", "-9"], "--seed", "-9", 1),
+];
+
+#[test]
+fn migrations(rt: HostRuntime) -> Result<(), Fail> {
+    for (words, script, out, seed) in MIGRATIONS {
+        let list = list(rt.alloc(), words)?;
+        match read_words(rt.alloc(), &list) {
+            Ok(Request::Migrate(migration)) => {
+                assert_eq!(rt;
+                    [migration.script, migration.out],
+                    [script, out],
+                    "{words:?}"
+                );
+                assert_eq!(rt; migration.seed, seed, "{words:?}");
+            }
+            read => panic!(rt; "{words:?} are read as {read:?}"),
+        }
+    }
+    Ok(())
+}
+
+/// Words of `smf` and `wav` with their seed, limit, frames and tempo, and their grid and output.
+static RECORDINGS: [(&[&str], [u32; 4], [&str; 2]); 22] = [
+    // both spellings of each option
+    (
+        &["smf", "g", "3", "o", "--seed", "7"],
+        [7, 1_000_000, 3, 120],
+        ["g", "o"],
+    ),
+    (
+        &["smf", "g", "3", "o", "--seed=7"],
+        [7, 1_000_000, 3, 120],
+        ["g", "o"],
+    ),
+    (
+        &["smf", "g", "3", "o", "--limit", "7"],
+        [1, 7, 3, 120],
+        ["g", "o"],
+    ),
+    (
+        &["smf", "g", "3", "o", "--limit=7"],
+        [1, 7, 3, 120],
+        ["g", "o"],
+    ),
+    (
+        &["smf", "g", "3", "o", "--bpm", "90"],
+        [1, 1_000_000, 3, 90],
+        ["g", "o"],
+    ),
+    (
+        &["smf", "g", "3", "o", "--bpm=90"],
+        [1, 1_000_000, 3, 90],
+        ["g", "o"],
+    ),
+    (
+        &["wav", "g", "3", "o", "--seed", "7"],
+        [7, 1_000_000, 3, 120],
+        ["g", "o"],
+    ),
+    (
+        &["wav", "g", "3", "o", "--seed=7"],
+        [7, 1_000_000, 3, 120],
+        ["g", "o"],
+    ),
+    (
+        &["wav", "g", "3", "o", "--limit", "7"],
+        [1, 7, 3, 120],
+        ["g", "o"],
+    ),
+    (
+        &["wav", "g", "3", "o", "--limit=7"],
+        [1, 7, 3, 120],
+        ["g", "o"],
+    ),
+    (
+        &["wav", "g", "3", "o", "--bpm", "90"],
+        [1, 1_000_000, 3, 90],
+        ["g", "o"],
+    ),
+    (
+        &["wav", "g", "3", "o", "--bpm=90"],
+        [1, 1_000_000, 3, 90],
+        ["g", "o"],
+    ),
+    // in every position, and several
+    (
+        &["smf", "--bpm", "4", "g", "0", "o"],
+        [1, 1_000_000, 0, 4],
+        ["g", "o"],
+    ),
+    (
+        &["smf", "g", "--bpm=999", "6", "o"],
+        [1, 1_000_000, 6, 999],
+        ["g", "o"],
+    ),
+    (
+        &["wav", "g", "2", "--bpm", "1", "o"],
+        [1, 1_000_000, 2, 1],
+        ["g", "o"],
+    ),
+    (
+        &[
+            "smf",
+            "--seed=4294967295",
+            "--limit",
+            "8",
+            "--bpm",
+            "60",
+            "g",
+            "12",
+            "o",
+        ],
+        [4_294_967_295, 8, 12, 60],
+        ["g", "o"],
+    ),
+    (
+        &[
+            "wav",
+            "--seed",
+            "1",
+            "g",
+            "--limit=3",
+            "3",
+            "--bpm",
+            "998",
+            "o",
+        ],
+        [1, 3, 3, 998],
+        ["g", "o"],
+    ),
+    (
+        &["wav", "g", "0", "o", "--limit", "20", "--bpm", "700"],
+        [1, 20, 0, 700],
+        ["g", "o"],
+    ),
+    // empty texts, a lone dash, and words after `--`
+    (&["smf", "", "3", ""], [1, 1_000_000, 3, 120], ["", ""]),
+    (&["wav", "-", "3", "-"], [1, 1_000_000, 3, 120], ["-", "-"]),
+    (
+        &["smf", "--bpm=90", "--", "--bpm", "3", "-o"],
+        [1, 1_000_000, 3, 90],
+        ["--bpm", "-o"],
+    ),
+    (
+        &["wav", "g", "--", "3", "--seed=7"],
+        [1, 1_000_000, 3, 120],
+        ["g", "--seed=7"],
+    ),
+];
+
+/// The word of a request that is saved as a song or as sound, its grid with the options, and what
+/// is saved.
+fn recorded<'a>(request: Request<'a>) -> Option<(&'static str, Setup<'a>, Recording<'a>)> {
+    match request {
+        Request::Perform {
+            setup,
+            work: Work::Smf(song),
+        } => Some(("smf", setup, song)),
+        Request::Perform {
+            setup,
+            work: Work::Wav(wave),
+        } => Some(("wav", setup, wave)),
+        _ => None,
+    }
+}
+
+#[test]
+fn recordings(rt: HostRuntime) -> Result<(), Fail> {
+    for (words, numbers, names) in RECORDINGS {
+        let list = list(rt.alloc(), words)?;
+        match read_words(rt.alloc(), &list).ok().and_then(recorded) {
+            Some((word, setup, recording)) => {
+                let Recording { frames, bpm, out } = recording;
+                assert_eq!(rt; words.first(), Some(&word), "{words:?}");
+                assert_eq!(rt;
+                    [setup.seed, setup.limit, frames, bpm.into()],
+                    numbers,
+                    "{words:?}"
+                );
+                assert_eq!(rt; [setup.grid, out], names, "{words:?}");
+                assert_eq!(rt; [setup.midi, setup.udp, setup.osc], [None; 3], "{words:?}");
+            }
+            None => panic!(rt; "{words:?} are read as something else"),
+        }
+    }
+    Ok(())
+}
+
 /// Words that are refused.
-static REFUSED: [&[&str]; 90] = [
+static REFUSED: [&[&str]; 140] = [
     // the first word
     &[],
     &[""],
@@ -398,6 +637,19 @@ static REFUSED: [&[&str]; 90] = [
     &["play", "g", "a", "a"],
     &["make", "1", "2", "3"],
     &["make", "1", "2", "3", "4", "5"],
+    &["migrate"],
+    &["migrate", ""],
+    &["migrate", "--seed=1", "s"],
+    &["migrate", "s", "o", "x"],
+    &["migrate", "run", "2", ""],
+    &["migrate", "00000000003", "4294967295", "2"],
+    &["migrate", "0", "", "-", "4294967296"],
+    &["smf", "g", "3"],
+    &["smf", "g", "3", "--bpm", "4"],
+    &["smf", "g", "3", "o", "x"],
+    &["wav", "g", "3"],
+    &["wav", "g", "3", "--bpm", "4"],
+    &["wav", "g", "3", "o", "x"],
     // an option twice
     &["run", "--seed", "7", "--seed", "7", "g", "3"],
     &["run", "--seed=7", "g", "--seed=8", "3"],
@@ -411,6 +663,10 @@ static REFUSED: [&[&str]; 90] = [
     &["play", "g", "a", "--cols=9", "--cols=9"],
     &["play", "g", "a", "--save", "o", "--save", "p"],
     &["play", "g", "a", "--script=s", "--script="],
+    &["migrate", "--seed=1", "s", "o", "--seed", "1"],
+    &["smf", "--seed=1", "--seed=1", "g", "3", "o"],
+    &["smf", "g", "3", "o", "--bpm=90", "--bpm", "90"],
+    &["wav", "--limit", "7", "g", "3", "o", "--limit=7"],
     // without a value
     &["run", "g", "3", "--seed"],
     &["run", "g", "3", "--limit"],
@@ -422,6 +678,9 @@ static REFUSED: [&[&str]; 90] = [
     &["play", "g", "a", "--cols"],
     &["play", "g", "a", "--save"],
     &["play", "g", "a", "--script"],
+    &["migrate", "s", "o", "--seed"],
+    &["smf", "g", "3", "o", "--bpm"],
+    &["wav", "g", "3", "o", "--limit"],
     &["run", "g", "3", "--seed", "--limit", "4"],
     &["run", "g", "--seed", "--", "3"],
     &["run", "g", "3", "--midi", "--udp=u"],
@@ -438,11 +697,19 @@ static REFUSED: [&[&str]; 90] = [
     &["run", "g", "3", "--limit=4000001"],
     &["play", "g", "a", "--bpm="],
     &["play", "g", "a", "--cols=257"],
+    &["migrate", "s", "o", "--seed="],
+    &["migrate", "s", "o", "--seed=4294967296"],
+    &["smf", "g", "3", "o", "--bpm=3"],
+    &["wav", "g", "3", "o", "--bpm=0"],
     // a dash before a positional
     &["run", "-g", "3"],
     &["run", "--g", "3"],
     &["replay", "g", "-s"],
     &["replay", "g", "-3"],
+    &["migrate", "s", "-o"],
+    &["migrate", "migrate", "-3", "migrate", "--", "g"],
+    &["smf", "g", "-3", "o"],
+    &["wav", "g", "3", "-o"],
     // unknown options, abbreviated options, and options of another word
     &["run", "g", "3", "--tempo", "7"],
     &["run", "g", "3", "--tempo=7"],
@@ -461,12 +728,34 @@ static REFUSED: [&[&str]; 90] = [
     &["replay", "g", "s", "--script", "t"],
     &["make", "1", "2", "3", "4", "--seed", "1"],
     &["make", "1", "2", "3", "4", "--limit=9"],
+    &["migrate", "s", "o", "--limit", "9"],
+    &["migrate", "s", "o", "--limit=9"],
+    &["migrate", "s", "o", "--bpm", "90"],
+    &["migrate", "s", "o", "--midi=m"],
+    &["migrate", "s", "o", "--udp", "u"],
+    &["migrate", "s", "o", "--osc=o"],
+    &["migrate", "--midi=", "replay", "o"],
+    &["migrate", "s", "o", "--see", "1"],
+    &["smf", "g", "3", "o", "--midi", "m"],
+    &["smf", "g", "3", "o", "--udp=u"],
+    &["smf", "--osc", "o", "g", "3", "o"],
+    &["smf", "g", "3", "o", "--rows", "9"],
+    &["smf", "g", "3", "o", "--save=w"],
+    &["wav", "g", "3", "o", "--midi=m"],
+    &["wav", "g", "--udp", "u", "3", "o"],
+    &["wav", "g", "3", "o", "--osc=o"],
+    &["wav", "g", "3", "o", "--cols=9"],
+    &["wav", "g", "3", "o", "--script", "s"],
+    &["wav", "g", "3", "o", "--bp", "90"],
     // no help and no version
     &["run", "--help"],
     &["run", "g", "3", "--help"],
     &["play", "g", "a", "-h"],
     &["make", "1", "2", "3", "4", "--version"],
     &["events", "g", "3", "-V"],
+    &["migrate", "s", "o", "-h"],
+    &["smf", "g", "3", "o", "--help"],
+    &["wav", "g", "3", "o", "--version"],
 ];
 
 #[test]
@@ -484,7 +773,7 @@ fn refusals(rt: HostRuntime) -> Result<(), Fail> {
 
 /// Words with a number in the place of `#`, the texts that are read there, and those that are out
 /// of its range.
-static NUMBERS: [(&[&str], &[&str], &[&str]); 12] = [
+static NUMBERS: [(&[&str], &[&str], &[&str]); 21] = [
     (
         &["run", "g", "#"],
         &[
@@ -552,6 +841,51 @@ static NUMBERS: [(&[&str], &[&str], &[&str]); 12] = [
         &["0", "4294967295"],
         &["4294967296"],
     ),
+    (
+        &["migrate", "s", "o", "--seed", "#"],
+        &["0", "1", "4294967294", "4294967295", "0000000000"],
+        &["4294967296", "9999999999"],
+    ),
+    (
+        &["smf", "g", "#", "o"],
+        &["0", "1", "4294967294", "4294967295", "0000000003"],
+        &["4294967296", "9999999999"],
+    ),
+    (
+        &["smf", "g", "3", "o", "--seed", "#"],
+        &["0", "1", "4294967294", "4294967295"],
+        &["4294967296"],
+    ),
+    (
+        &["smf", "g", "3", "o", "--limit", "#"],
+        &["1", "2", "3999999", "4000000"],
+        &["0", "4000001", "4294967297"],
+    ),
+    (
+        &["smf", "g", "3", "o", "--bpm", "#"],
+        &["4", "5", "998", "999", "0000000004"],
+        &["0", "1", "3", "1000", "0000000003", "65540"],
+    ),
+    (
+        &["wav", "g", "#", "o"],
+        &["0", "1", "4294967294", "4294967295", "0000000003"],
+        &["4294967296", "9999999999"],
+    ),
+    (
+        &["wav", "g", "3", "o", "--seed", "#"],
+        &["0", "1", "4294967294", "4294967295"],
+        &["4294967296"],
+    ),
+    (
+        &["wav", "g", "3", "o", "--limit", "#"],
+        &["1", "2", "3999999", "4000000"],
+        &["0", "4000001", "4294967297"],
+    ),
+    (
+        &["wav", "g", "3", "o", "--bpm", "#"],
+        &["1", "2", "3", "998", "999", "0000000001"],
+        &["0", "1000", "65537"],
+    ),
 ];
 
 /// Texts that are no number.
@@ -574,17 +908,28 @@ static NO_NUMBERS: [&str; 16] = [
     "\u{0669}",
 ];
 
+/// Expects that the words are read with each of these texts in the place of `#`.
+fn expect_read(
+    rt: &impl Abort,
+    alloc: Global,
+    words: &[&str],
+    within: &[&str],
+) -> Result<(), AllocError> {
+    for text in within {
+        let list = with_text(alloc, words, text)?;
+        let read = read_words(alloc, &list);
+        assert!(rt;
+            read.is_ok(),
+            "{words:?} with {text:?} are read as {read:?}"
+        );
+    }
+    Ok(())
+}
+
 #[test]
 fn numbers(rt: HostRuntime) -> Result<(), Fail> {
     for (words, within, outside) in NUMBERS {
-        for text in within {
-            let list = with_text(rt.alloc(), words, text)?;
-            let read = read_words(rt.alloc(), &list);
-            assert!(rt;
-                read.is_ok(),
-                "{words:?} with {text:?} are read as {read:?}"
-            );
-        }
+        expect_read(&rt, rt.alloc(), words, within)?;
         for text in outside.iter().chain(&NO_NUMBERS) {
             let list = with_text(rt.alloc(), words, text)?;
             let read = read_words(rt.alloc(), &list);

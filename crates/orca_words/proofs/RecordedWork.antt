@@ -1,0 +1,128 @@
+-- What holds of what is asked for, by what clap found: the tempo of a song is one that its file can
+-- hold, and no port is attached to a run that is saved as a song or as sound.
+use Rattle.std.proofs.Common.{◌≡◌, List, ℕ, ◌≤◌, Option, None, Some, Result, arith, codes, refl, subst, sym}
+use Rattle.std.specs.Prelude.{◌&&◌, if◌then◌else◌, nat_le, ok_or, option_map, IfSome, IfOk}
+use Rattle.std.specs.Option.{option_map_or}
+use Rattle.std.proofs.lemmas.Bool.Decides.{nat_tests}
+use Rattle.std.proofs.lemmas.Option.{option_and_then_some, IfSome_then}
+use Rattle.clap.specs.Words.{Row, Text}
+use Rattle.orca_base.specs.Numbers.{number_of}
+use Rattle.orca_base.specs.declared.limits.TheConstants.{DEFAULT_SEED, DEFAULT_HISTORY, MAX_HISTORY, DEFAULT_BPM, MAX_BPM}
+use Rattle.orca_words.specs.declared.forms.Verb.{Verb}
+use Rattle.orca_words.specs.declared.forms.Verb.TheVariants as verb
+use Rattle.orca_words.specs.declared.fault.WordsFault.{WordsFault}
+use Rattle.orca_words.specs.declared.limits.TheConstants.{MIN_SONG_BPM}
+use Rattle.orca_words.specs.declared.request.Request.{Request as Held}
+use Rattle.orca_words.specs.Recordings.{HasSongTempo, IfPerform, IsPortless, RecordsWithoutPorts}
+use Rattle.orca_words.specs.RequestIn.{request_in}
+use Rattle.orca_words.specs.Requests.{Events, Make, Migrate, Perform, Play, Recording, Replay, Request, Run, Setup, Smf, Wav, Work, frames_of, greatest, migration_of, number_in, option_number, performance_of, performed, portless_setup_of, positional_text, recording_of, request_by, setup_of, workload_of}
+
+-- ---- numbers
+
+tested : (least most number n : ℕ)
+    → (if nat_le least number && nat_le number most then Some number else None) ≡ Some n
+    → least ≤ n
+tested least most number n is = grind (arith, nat_tests)
+
+-- a number that is read is in its range
+not_below : (least most : ℕ) (digits : Text) (n : ℕ) → number_in least most digits ≡ Some n
+    → least ≤ n
+unfolding number_in
+not_below least most digits n is = option_and_then_some _ (number_of digits) n is
+    (λ number read made. tested least most number n made)
+
+-- and so is that of an option
+set_not_below : (default least most : ℕ) (text : Option Text) (n : ℕ) → least ≤ default
+    → option_map_or (number_in least most) text (Some default) ≡ Some n → least ≤ n
+set_not_below default least most None n low is = grind arith
+set_not_below default least most (Some text) n low is = not_below least most text n is
+
+-- ---- what is saved as a song or as sound
+
+tempo_not_below : (found : List Row) (least : ℕ) (recording : Recording) → least ≤ DEFAULT_BPM
+    → recording_of found least ≡ Some recording → least ≤ recording.bpm
+unfolding recording_of
+tempo_not_below found least recording low is =
+    option_and_then_some _ (frames_of found) recording is (λ frames played made.
+    option_and_then_some _ (option_number found (codes "bpm") DEFAULT_BPM least MAX_BPM) recording
+    made (λ bpm set same.
+    let tempo : bpm ≡ recording.bpm = cc in
+    subst (λ n. least ≤ n) tempo (set_not_below DEFAULT_BPM least MAX_BPM _ bpm low set)))
+
+no_ports : (found : List Row) (setup : Setup) → portless_setup_of found ≡ Some setup
+    → IsPortless setup
+unfolding portless_setup_of
+no_ports found setup is =
+    option_and_then_some _ (option_number found (codes "seed") DEFAULT_SEED 0 greatest) setup is
+    (λ seed set made.
+    option_and_then_some _ (option_number found (codes "limit") DEFAULT_HISTORY 1 MAX_HISTORY)
+    setup made (λ limit given same. (cc, cc, cc)))
+
+-- ---- what is asked for
+
+-- both facts of a setup and a work
+abbrev pub IsRecordable : Setup → Work → Type 0
+IsRecordable setup work = HasSongTempo work × RecordsWithoutPorts setup work
+
+-- what holds of each setup and each work that are found holds of the request
+performed_holds : {A : Type 0} (make : A → Work) (setup : Option Setup) (found : Option A)
+    → ((s : Setup) → setup ≡ Some s → (a : A) → found ≡ Some a → IsRecordable s (make a))
+    → IfSome (performed setup (option_map make found)) (λ request. IfPerform request IsRecordable)
+performed_holds make None None each = tt
+performed_holds make (Some s) None each = tt
+performed_holds make None (Some a) each = tt
+performed_holds make (Some s) (Some a) each = each s refl a refl
+
+other_holds : {A : Type 0} (make : A → Request) (found : Option A)
+    → ((a : A) → IfPerform (make a) IsRecordable)
+    → IfSome (option_map make found) (λ request. IfPerform request IsRecordable)
+other_holds make None each = tt
+other_holds make (Some a) each = each a
+
+recordable : (v : Verb) (found : List Row)
+    → IfSome (request_by v found) (λ request. IfPerform request IsRecordable)
+unfolding request_by
+recordable verb.Run found =
+    performed_holds Run (setup_of found) (frames_of found) (λ s _ frames _. (tt, tt))
+recordable verb.Events found =
+    performed_holds Events (setup_of found) (frames_of found) (λ s _ frames _. (tt, tt))
+recordable verb.Replay found =
+    performed_holds Replay (setup_of found) (Some (positional_text found (codes "SCRIPT")))
+    (λ s _ script _. (tt, tt))
+recordable verb.Play found =
+    performed_holds Play (setup_of found) (performance_of found) (λ s _ play _. (tt, tt))
+recordable verb.Make found = other_holds Make (workload_of found) (λ load. tt)
+recordable verb.Migrate found = other_holds Migrate (migration_of found) (λ migration. tt)
+recordable verb.Smf found =
+    performed_holds Smf (portless_setup_of found) (recording_of found MIN_SONG_BPM)
+    (λ s setup song read.
+    (tempo_not_below found MIN_SONG_BPM song (omega arith) read, no_ports found s setup))
+recordable verb.Wav found =
+    performed_holds Wav (portless_setup_of found) (recording_of found 1)
+    (λ s setup wave read. (tt, no_ports found s setup))
+
+-- ---- what is answered
+
+weaker : (P Q : Setup → Work → Type 0) (request : Request)
+    → ((setup : Setup) (work : Work) → P setup work → Q setup work)
+    → IfPerform request P → IfPerform request Q
+weaker P Q (Perform setup work) implies holds = implies setup work holds
+weaker P Q (Make load) implies holds = tt
+weaker P Q (Migrate migration) implies holds = tt
+
+-- what holds of all that is asked for holds of what is answered
+answered_by : (P : Request → Type 0) (found : Option Held) (asked : Option Request)
+    (fault : WordsFault) → option_map request_in found ≡ asked → IfSome asked P
+    → IfOk (ok_or found fault) (λ request. P (request_in request))
+answered_by P None asked fault is holds = tt
+answered_by P (Some request) asked fault is holds = subst (λ o. IfSome o P) (sym is) holds
+
+pub answered : (Q : Setup → Work → Type 0) (v : Verb) (rows : List Row) (found : Option Held)
+    (fault : WordsFault) (result : Result Held WordsFault)
+    → ((setup : Setup) (work : Work) → IsRecordable setup work → Q setup work)
+    → option_map request_in found ≡ request_by v rows → result ≡ ok_or found fault
+    → IfOk result (λ request. IfPerform (request_in request) Q)
+answered Q v rows found fault result implies is made =
+    rw made (answered_by (λ request. IfPerform request Q) found (request_by v rows) fault is
+    (IfSome_then (request_by v rows) (recordable v rows)
+    (λ request holds. weaker IsRecordable Q request implies holds)))

@@ -1,0 +1,24 @@
+-- What holds of the work that is saved as a song or as sound.
+use Rattle.std.specs.Prelude.{◌≡◌, ◌≤◌, None}
+use Rattle.orca_words.specs.declared.limits.TheConstants.{MIN_SONG_BPM}
+use Rattle.orca_words.specs.Requests.{Request, Perform, Setup, Work, Smf, Wav}
+
+-- this holds of the work that is performed, and of its grid and options
+abbrev pub IfPerform : Request → (Setup → Work → Type 0) → Type 0
+IfPerform (Perform setup work) P = P setup work
+IfPerform _ P = Unit {0}
+
+-- the tempo of a song is one that its file can hold
+abbrev pub HasSongTempo : Work → Type 0
+HasSongTempo (Smf song) = MIN_SONG_BPM ≤ song.bpm
+HasSongTempo _ = Unit {0}
+
+-- no port is attached
+abbrev pub IsPortless : Setup → Type 0
+IsPortless setup = (setup.midi ≡ None) × (setup.udp ≡ None) × (setup.osc ≡ None)
+
+-- no port is attached to a run that is saved as a song or as sound
+abbrev pub RecordsWithoutPorts : Setup → Work → Type 0
+RecordsWithoutPorts setup (Smf song) = IsPortless setup
+RecordsWithoutPorts setup (Wav wave) = IsPortless setup
+RecordsWithoutPorts setup _ = Unit {0}
