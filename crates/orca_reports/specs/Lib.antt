@@ -1,5 +1,6 @@
 pub mod Asides
 pub mod Manners
 pub mod Quiet
+pub mod Songs
 pub mod Sums
 pub mod Texts

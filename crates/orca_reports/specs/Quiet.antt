@@ -1,14 +1,20 @@
 -- No report gives a message, and none asks the inbox.
-use Rattle.std.specs.Prelude.{ℕ, List, Result, Ok, Err}
+use Rattle.std.specs.Prelude.{ℕ, nat_lt, Bool, true, false, if◌then◌else◌, List, [], ◌∷◌, Option, Some, None, Result, Ok, Err}
 use Rattle.orca_base.specs.declared.command.Reply.{Reply}
 use Rattle.orca_base.specs.declared.command.Reply.TheVariants.{Edited, Copied, Framed, Jumped, Redone}
 use Rattle.orca_base.specs.declared.command.Rule.{Rule}
 use Rattle.orca_base.specs.declared.command.Rule.TheVariants.{OutOfGrid, EmptyBlock, BadSize, EmptyClip, NothingToUndo, NoSuchMoment, HistoryFull, NothingToRedo}
 use Rattle.orca_base.specs.declared.message.Message.{Message}
 use Rattle.orca_concert.specs.Manners.{IsAside, IsQuiet}
-use Rattle.orca_course.specs.declared.ending.Stop.TheVariants.{Full}
+use Rattle.orca_course.specs.Acts.Act.{Save}
+use Rattle.orca_course.specs.Courses.{course, ended}
+use Rattle.orca_course.specs.declared.ending.Stop.TheVariants.{Full, TooLong}
 use Rattle.orca_send.specs.declared.lines.Label.TheVariants.{Tick, End}
 use Rattle.orca_reports.specs.Manners.{run_manner, events_manner, replay_manner, make_manner, frame_report, refusal_report, unless_full}
+use Rattle.orca_smf.specs.declared.limits.TheConstants.{MAX_TRACK_BYTES}
+use Rattle.orca_smf.specs.Recording.{Recorded}
+use Rattle.orca_smf.specs.Songs.{smf}
+use Rattle.orca_reports.specs.Songs.{Recording, reached_in, recorded, saved_by, smf_manner, smf_report, whole_size, with_song}
 use Rattle.orca_reports.specs.Asides.{aside_ended, aside_lines, aside_still, aside_text}
 
 aside_unless_full : (answer : Result Reply Rule) (r : Unit {0}) → IsAside (unless_full answer r)
@@ -66,4 +72,44 @@ quiet-make = record {
   final = λ s r. aside_text _ r;
   close = λ messages r. aside_still r;
   saves = λ r. aside_still r;
+}
+
+-- a recording does nothing but a save at the end
+aside_finished : (s : Recorded) (r : Recording) (long : Bool)
+    → IsAside (if long then ended TooLong (with_song r None)
+    else course (Save r.out (smf s.tempo s.list (reached_in s r.end)) ∷ []) 0 (with_song r None))
+aside_finished s r true = aside_ended TooLong (with_song r None)
+aside_finished s r false = record { mute = tt; deaf = tt }
+
+aside_saved : (song : Option Recorded) (r : Recording) → IsAside (saved_by song r)
+aside_saved None r = aside_still r
+aside_saved (Some s) r = aside_finished s r (nat_lt MAX_TRACK_BYTES (whole_size s r.end))
+
+aside_recorded : (tick : ℕ) (messages : List Message) (r : Recording)
+    → IsAside (recorded tick messages r)
+unfolding recorded
+aside_recorded tick messages r = record { mute = tt; deaf = tt }
+
+aside_smf : (answer : Result Reply Rule) (messages : List Message) (r : Recording)
+    → IsAside (smf_report answer messages r)
+aside_smf (Ok (Framed tick)) messages r = aside_recorded tick messages r
+aside_smf (Ok Edited) messages r = aside_still r
+aside_smf (Ok Copied) messages r = aside_still r
+aside_smf (Ok (Jumped moment)) messages r = aside_still r
+aside_smf (Ok (Redone entries)) messages r = aside_still r
+aside_smf (Err OutOfGrid) messages r = aside_still r
+aside_smf (Err EmptyBlock) messages r = aside_still r
+aside_smf (Err BadSize) messages r = aside_still r
+aside_smf (Err EmptyClip) messages r = aside_still r
+aside_smf (Err NothingToUndo) messages r = aside_still r
+aside_smf (Err (NoSuchMoment kept)) messages r = aside_still r
+aside_smf (Err HistoryFull) messages r = aside_ended Full (with_song r None)
+aside_smf (Err NothingToRedo) messages r = aside_still r
+
+pub quiet-smf : IsQuiet smf_manner
+quiet-smf = record {
+  done = λ line answer messages r. aside_smf answer messages r;
+  final = λ s r. aside_still r;
+  close = λ messages r. aside_recorded r.end messages r;
+  saves = λ r. aside_saved r.song r;
 }

@@ -1,123 +1,22 @@
-//! The texts of reports, and what each does at a command and at the close.
+//! The texts of reports, and what each does at commands, at the close and at the end.
 
-ghost use Rattle.std.specs.Prelude.{◌≡◌, ◌<◌};
+mod songs;
+mod texts;
+mod turns;
 
-use crate::make::{Figures, sum_of, write_figures};
-use crate::replay::{push_state, write_refusal};
-use crate::run::write_grid;
-use crate::{EventsReport, MakeReport, ReplayReport, RunReport};
-use orca_base::{Dims, Message, Port, Reply, Rule, Steps};
+ghost use Rattle.std.specs.Prelude.{◌≡◌, ◌<◌, All};
+ghost use Rattle.orca_base.specs.Ranges.{CarriesFewValues, HasDataInRange};
+
+use orca_base::{Message, Reply, Rule, Steps};
 use orca_concert::{Report, Turn};
 use orca_course::{Desk, NoMemory, Stop};
-use orca_grid::Grid;
 use orca_rig::{MemFiles, MemInbox, MemOuts};
 use std::alloc::Global;
-use std::marker::Brand;
 use std::process::Abort;
 use std::sync::ledger::{Blank, Ledger};
 use std::test::Fail;
 
 type MemDesk<L> = Desk<MemFiles, MemOuts, MemInbox, L>;
-
-/// The lines of refused commands, by their line and the rule.
-const REFUSALS: [(u32, Rule, &[u8]); 9] = [
-    (1, Rule::OutOfGrid, b"refused 1 OutOfGrid\n"),
-    (2, Rule::EmptyBlock, b"refused 2 EmptyBlock\n"),
-    (35, Rule::BadSize, b"refused 35 BadSize\n"),
-    (100, Rule::EmptyClip, b"refused 100 EmptyClip\n"),
-    (9, Rule::NothingToUndo, b"refused 9 NothingToUndo\n"),
-    (
-        10,
-        Rule::NoSuchMoment { kept: 0 },
-        b"refused 10 NoSuchMoment kept 0\n",
-    ),
-    (
-        4_294_967_295,
-        Rule::NoSuchMoment {
-            kept: 4_294_967_295,
-        },
-        b"refused 4294967295 NoSuchMoment kept 4294967295\n",
-    ),
-    (0, Rule::HistoryFull, b"refused 0 HistoryFull\n"),
-    (12, Rule::NothingToRedo, b"refused 12 NothingToRedo\n"),
-];
-
-#[test]
-fn each_refusal_has_its_line(rt: HostRuntime) {
-    let mut line = Vec::new(rt.alloc());
-    for (number, rule, text) in REFUSALS {
-        assert_eq!(rt; write_refusal(&mut line, number, rule), Ok(()));
-        assert_eq!(rt; line.as_slice(), text);
-    }
-}
-
-#[test]
-fn the_grid_and_the_state_are_one_text(rt: HostRuntime) -> Result<(), Fail> {
-    let grid = Grid::read(rt.alloc(), b"D4\n.*")?;
-    let mut line = Vec::new(rt.alloc());
-    line.extend_from_slice(b"what was printed before\n")?;
-    assert_eq!(rt; write_grid(&mut line, &grid), Ok(()));
-    assert_eq!(rt; line.as_slice(), b"D4\n.*\n".as_slice());
-    assert_eq!(rt; push_state(&mut line, 4, 10, 0), Ok(()));
-    assert_eq!(rt;
-        line.as_slice(),
-        b"D4\n.*\ntick 4 moments 10 sounding 0\n".as_slice()
-    );
-    Ok(())
-}
-
-#[test]
-fn a_state_of_long_numbers_is_one_line(rt: HostRuntime) {
-    let mut line = Vec::new(rt.alloc());
-    assert_eq!(rt; push_state(&mut line, u32::MAX, 4_000_000, 2_048), Ok(()));
-    assert_eq!(rt;
-        line.as_slice(),
-        b"tick 4294967295 moments 4000000 sounding 2048\n".as_slice()
-    );
-}
-
-/// The five lines of one empty cell.
-const ONE_CELL: &[u8] = b"grid 1x1\nmoments 0\ntick 0\nmessages 18446744073709551615\nsum 46\n";
-
-/// The five lines of a workload of the generator.
-const WORKLOAD: &[u8] = b"grid 16x40\nmoments 318\ntick 300\nmessages 0\nsum 647208165\n";
-
-#[test]
-fn the_five_lines_are_one_text(rt: HostRuntime) -> Result<(), Fail> {
-    let mut line = Vec::new(rt.alloc());
-    let cell = Figures {
-        dims: Dims { h: 1, w: 1 },
-        moments: 0,
-        tick: 0,
-        messages: u64::MAX,
-        sum: sum_of(&Grid::read(rt.alloc(), b".\n")?),
-    };
-    assert_eq!(rt; write_figures(&mut line, &cell), Ok(()));
-    assert_eq!(rt; line.as_slice(), ONE_CELL);
-    let workload = Figures {
-        dims: Dims { h: 16, w: 40 },
-        moments: 318,
-        tick: 300,
-        messages: 0,
-        sum: 647_208_165,
-    };
-    assert_eq!(rt; write_figures(&mut line, &workload), Ok(()));
-    assert_eq!(rt; line.as_slice(), WORKLOAD);
-    Ok(())
-}
-
-#[test]
-fn the_sum_goes_in_reading_order_and_wraps(rt: HostRuntime) -> Result<(), Fail> {
-    // 42 * 31 + 46, and 46 * 31 + 42.
-    assert_eq!(rt; sum_of(&Grid::read(rt.alloc(), b"*.\n")?), 1348);
-    assert_eq!(rt; sum_of(&Grid::read(rt.alloc(), b".\n*\n")?), 1468);
-    // 126 * (31^8 - 1) / 30 mod 2^32.
-    assert_eq!(rt;
-        sum_of(&Grid::read(rt.alloc(), b"~~~~\n~~~~\n")?),
-        139_632_384
-    );
-    Ok(())
-}
 
 /// A desk with no file, sound ports and an inbox to which nothing comes.
 fn make_desk<L: Ledger>(alloc: Global, blank: Blank) -> Result<MemDesk<L>, Fail>
@@ -131,72 +30,59 @@ fn make_desk<L: Ledger>(alloc: Global, blank: Blank) -> Result<MemDesk<L>, Fail>
     Ok(Desk::new(files, outs, inbox, Steps::<L>::start(blank)))
 }
 
-/// What ends a run at a command on line 3. The close then has the same message.
-fn report_turn<R: Report, L: Ledger>(
+/// The start of a note.
+fn on() -> [Message; 1]
+    ensures in_range { All HasDataInRange result }
+    ensures few_values { All CarriesFewValues result }
+{
+    [Message::On {
+        channel: 0,
+        key: 0x24,
+        velocity: 0x77,
+    }]
+}
+
+/// Its end.
+fn off() -> [Message; 1]
+    ensures in_range { All HasDataInRange result }
+    ensures few_values { All CarriesFewValues result }
+{
+    [Message::Off {
+        channel: 0,
+        key: 0x24,
+    }]
+}
+
+/// What a report answers to a command on line 3 with these messages.
+fn tell<R: Report, L: Ledger>(
     report: &mut R,
     desk: &mut MemDesk<L>,
     answer: Result<Reply, Rule>,
-) -> Result<Option<Stop>, NoMemory> {
-    let messages = [Message::Off {
-        channel: 0,
-        key: 48,
-    }];
+    messages: &[Message],
+) -> Result<Option<Stop>, NoMemory>
+    requires in_range { All HasDataInRange messages.now }
+    requires few_values { All CarriesFewValues messages.now }
+{
     let turn = Turn {
         line: 3,
         answer,
-        messages: &messages,
+        messages,
     };
-    let end = report.done(desk, &turn)?;
-    Ok(end.or(report.close(desk, &messages)?))
+    report.done(desk, &turn)
 }
 
-/// Each report at commands, one after another at one desk.
-fn turns_with<L: Ledger>(rt: &impl Abort, alloc: Global, blank: Blank) -> Result<(), Fail>
-    requires name { blank.name ≡ L.name }
-    requires parts { blank.parts ≡ L.parts }
-    requires some { 0 < blank.parts }
+/// Tells a report of a frame, which goes on.
+fn tell_frame<R: Report, L: Ledger>(
+    rt: &impl Abort,
+    desk: &mut MemDesk<L>,
+    report: &mut R,
+    tick: u32,
+    messages: &[Message],
+) -> Result<(), Fail>
+    requires in_range { All HasDataInRange messages.now }
+    requires few_values { All CarriesFewValues messages.now }
 {
-    let mut desk: MemDesk<L> = make_desk(alloc, blank)?;
-    let framed = Ok(Reply::Framed { tick: 7 });
-    let jumped = Ok(Reply::Jumped { moment: 7 });
-    let full = Err(Rule::HistoryFull);
-    let mut events = EventsReport::new(alloc);
-    assert_eq!(rt; report_turn(&mut events, &mut desk, framed), Ok(None));
-    assert_eq!(rt; report_turn(&mut events, &mut desk, jumped), Ok(None));
-    assert_eq!(rt;
-        report_turn(&mut events, &mut desk, full),
-        Ok(Some(Stop::Full))
-    );
-    let mut replay = ReplayReport::new(alloc);
-    assert_eq!(rt; report_turn(&mut replay, &mut desk, framed), Ok(None));
-    assert_eq!(rt; report_turn(&mut replay, &mut desk, full), Ok(None));
-    let mut run = RunReport::new(alloc);
-    assert_eq!(rt;
-        report_turn(&mut run, &mut desk, full),
-        Ok(Some(Stop::Full))
-    );
-    let mut make = MakeReport::new(alloc);
-    assert_eq!(rt; report_turn(&mut make, &mut desk, full), Ok(None));
-    assert!(rt; events.hands() && replay.hands() && run.hands() && make.hands());
-    let lines: [&[u8]; 5] = [
-        b"7 midi 80 30 00\n",
-        b"end midi 80 30 00\n",
-        b"end midi 80 30 00\n",
-        b"end midi 80 30 00\n",
-        b"refused 3 HistoryFull\n",
-    ];
-    let mut index = 0u64;
-    for line in lines {
-        assert_eq!(rt; desk.outs().handed_at(index), Some((Port::Text, line)));
-        index = index.saturating_add(1);
-    }
-    assert_eq!(rt; desk.outs().handed_at(index), None);
+    let end = tell(report, desk, Ok(Reply::Framed { tick }), messages)?;
+    assert_eq!(rt; end, None);
     Ok(())
-}
-
-/// Events are printed of frames and of the close, and refusals of a replay. A full history ends the
-/// run of two of the reports.
-#[test]
-fn commands_and_closes(rt: HostRuntime) -> Result<(), Fail> {
-    turns_with::<Brand>(&rt, rt.alloc(), Blank::new(1))
 }
