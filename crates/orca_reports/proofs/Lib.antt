@@ -1,3 +1,5 @@
 pub mod SaidLemmas
 pub mod SongLemmas
 pub mod RecordingLemmas
+pub mod WaveLemmas
+pub mod SoundingLemmas

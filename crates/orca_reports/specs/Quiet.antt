@@ -7,7 +7,7 @@ use Rattle.orca_base.specs.declared.command.Rule.TheVariants.{OutOfGrid, EmptyBl
 use Rattle.orca_base.specs.declared.message.Message.{Message}
 use Rattle.orca_concert.specs.Manners.{IsAside, IsQuiet}
 use Rattle.orca_course.specs.Acts.Act.{Save}
-use Rattle.orca_course.specs.Courses.{course, ended}
+use Rattle.orca_course.specs.Courses.{course, ended, still}
 use Rattle.orca_course.specs.declared.ending.Stop.TheVariants.{Full, TooLong}
 use Rattle.orca_send.specs.declared.lines.Label.TheVariants.{Tick, End}
 use Rattle.orca_reports.specs.Manners.{run_manner, events_manner, replay_manner, make_manner, frame_report, refusal_report, unless_full}
@@ -15,6 +15,8 @@ use Rattle.orca_smf.specs.declared.limits.TheConstants.{MAX_TRACK_BYTES}
 use Rattle.orca_smf.specs.Recording.{Recorded}
 use Rattle.orca_smf.specs.Songs.{smf}
 use Rattle.orca_reports.specs.Songs.{Recording, reached_in, recorded, saved_by, smf_manner, smf_report, whole_size, with_song}
+use Rattle.orca_wav.specs.declared.limits.TheConstants.{MAX_WAVE_BYTES}
+use Rattle.orca_reports.specs.Waves.{Wave, framed, next_size, wav_manner, wav_report}
 use Rattle.orca_reports.specs.Asides.{aside_ended, aside_lines, aside_still, aside_text}
 
 aside_unless_full : (answer : Result Reply Rule) (r : Unit {0}) → IsAside (unless_full answer r)
@@ -112,4 +114,35 @@ quiet-smf = record {
   final = λ s r. aside_still r;
   close = λ messages r. aside_recorded r.end messages r;
   saves = λ r. aside_saved r.song r;
+}
+
+-- a wave does nothing but a save at the end
+aside_frame_course : (messages : List Message) (w : Wave) (long : Bool)
+    → IsAside (if long then ended TooLong w else still (framed messages w))
+aside_frame_course messages w true = aside_ended TooLong w
+aside_frame_course messages w false = aside_still (framed messages w)
+
+aside_wav : (answer : Result Reply Rule) (messages : List Message) (w : Wave)
+    → IsAside (wav_report answer messages w)
+aside_wav (Ok (Framed tick)) messages w =
+    aside_frame_course messages w (nat_lt MAX_WAVE_BYTES (next_size w))
+aside_wav (Ok Edited) messages w = aside_still w
+aside_wav (Ok Copied) messages w = aside_still w
+aside_wav (Ok (Jumped moment)) messages w = aside_still w
+aside_wav (Ok (Redone entries)) messages w = aside_still w
+aside_wav (Err OutOfGrid) messages w = aside_still w
+aside_wav (Err EmptyBlock) messages w = aside_still w
+aside_wav (Err BadSize) messages w = aside_still w
+aside_wav (Err EmptyClip) messages w = aside_still w
+aside_wav (Err NothingToUndo) messages w = aside_still w
+aside_wav (Err (NoSuchMoment kept)) messages w = aside_still w
+aside_wav (Err HistoryFull) messages w = aside_ended Full w
+aside_wav (Err NothingToRedo) messages w = aside_still w
+
+pub quiet-wav : IsQuiet wav_manner
+quiet-wav = record {
+  done = λ line answer messages w. aside_wav answer messages w;
+  final = λ s w. aside_still w;
+  close = λ messages w. aside_still w;
+  saves = λ w. record { mute = tt; deaf = tt };
 }

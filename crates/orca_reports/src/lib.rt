@@ -4,18 +4,23 @@
 
 mod events;
 mod figures;
+mod laws;
+mod listener;
 mod make;
 mod midi;
 mod recorder;
 mod replay;
 mod run;
 mod smf;
+mod wav;
 
 pub use events::EventsReport;
+pub use laws::wave_law;
 pub use make::MakeReport;
 pub use replay::ReplayReport;
 pub use run::RunReport;
 pub use smf::SmfReport;
+pub use wav::WavReport;
 
 #[cfg(test)]
 mod tests;

@@ -3,6 +3,7 @@
 mod songs;
 mod texts;
 mod turns;
+mod waves;
 
 ghost use Rattle.std.specs.Prelude.{◌≡◌, ◌<◌, All};
 ghost use Rattle.orca_base.specs.Ranges.{CarriesFewValues, HasDataInRange};
@@ -71,7 +72,7 @@ fn tell<R: Report, L: Ledger>(
     report.done(desk, &turn)
 }
 
-/// Tells a report of a frame, which goes on.
+/// A frame, after which the run goes on.
 fn tell_frame<R: Report, L: Ledger>(
     rt: &impl Abort,
     desk: &mut MemDesk<L>,
@@ -83,6 +84,34 @@ fn tell_frame<R: Report, L: Ledger>(
     requires few_values { All CarriesFewValues messages.now }
 {
     let end = tell(report, desk, Ok(Reply::Framed { tick }), messages)?;
+    assert_eq!(rt; end, None);
+    Ok(())
+}
+
+/// A full history, which ends the run.
+fn tell_full<R: Report, L: Ledger>(
+    rt: &impl Abort,
+    desk: &mut MemDesk<L>,
+    report: &mut R,
+) -> Result<(), Fail> {
+    let end = tell(report, desk, Err(Rule::HistoryFull), &[])?;
+    assert_eq!(rt; end, Some(Stop::Full));
+    Ok(())
+}
+
+/// The close with these messages, and the save.
+fn finish<R: Report, L: Ledger>(
+    rt: &impl Abort,
+    desk: &mut MemDesk<L>,
+    report: &mut R,
+    messages: &[Message],
+) -> Result<(), Fail>
+    requires in_range { All HasDataInRange messages.now }
+    requires few_values { All CarriesFewValues messages.now }
+{
+    let end = report.close(desk, messages)?;
+    assert_eq!(rt; end, None);
+    let end = report.save(desk)?;
     assert_eq!(rt; end, None);
     Ok(())
 }

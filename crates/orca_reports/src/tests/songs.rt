@@ -2,11 +2,8 @@
 
 ghost use Rattle.std.specs.Prelude.{◌≡◌, ◌<◌};
 
-use super::{MemDesk, make_desk, off, on, tell, tell_frame};
+use super::{MemDesk, finish, make_desk, off, on, tell_frame, tell_full};
 use crate::SmfReport;
-use orca_base::Rule;
-use orca_concert::Report;
-use orca_course::Stop;
 use std::alloc::Global;
 use std::marker::Brand;
 use std::process::Abort;
@@ -28,8 +25,7 @@ fn record_none<L: Ledger>(
     desk: &mut MemDesk<L>,
 ) -> Result<(), Fail> {
     let mut report = SmfReport::start(alloc, 120, 0, "none")?;
-    assert_eq!(rt; report.close(desk, &[]), Ok(None));
-    assert_eq!(rt; report.save(desk), Ok(None));
+    finish(rt, desk, &mut report, &[])?;
     assert_eq!(rt; desk.files().file("none"), Some(NONE));
     Ok(())
 }
@@ -45,8 +41,7 @@ fn record_notes<L: Ledger>(
     tell_frame(rt, desk, &mut report, 1, &[])?;
     tell_frame(rt, desk, &mut report, 2, &off())?;
     tell_frame(rt, desk, &mut report, 4, &on())?;
-    assert_eq!(rt; report.close(desk, &off()), Ok(None));
-    assert_eq!(rt; report.save(desk), Ok(None));
+    finish(rt, desk, &mut report, &off())?;
     assert_eq!(rt; desk.files().file("notes"), Some(NOTES));
     Ok(())
 }
@@ -59,10 +54,8 @@ fn record_full<L: Ledger>(
 ) -> Result<(), Fail> {
     let mut report = SmfReport::start(alloc, 4, 5, "full")?;
     tell_frame(rt, desk, &mut report, 0, &on())?;
-    let full = tell(&mut report, desk, Err(Rule::HistoryFull), &[]);
-    assert_eq!(rt; full, Ok(Some(Stop::Full)));
-    assert_eq!(rt; report.close(desk, &off()), Ok(None));
-    assert_eq!(rt; report.save(desk), Ok(None));
+    tell_full(rt, desk, &mut report)?;
+    finish(rt, desk, &mut report, &off())?;
     assert_eq!(rt; desk.files().file("full"), None);
     Ok(())
 }

@@ -1,0 +1,92 @@
+-- A run that is rendered as a wave: its voices, and the bytes of its samples so far.
+use Rattle.std.specs.Prelude.{ℕ, ◌+◌, ◌*◌, ◌/◌, nat_lt, Bool, true, false, not, if◌then◌else◌, List, [], ◌∷◌, ◌++◌, fold, Result, Ok, Err}
+use Rattle.orca_base.specs.declared.command.Reply.{Reply}
+use Rattle.orca_base.specs.declared.command.Reply.TheVariants.{Framed}
+use Rattle.orca_base.specs.declared.command.Rule.{Rule}
+use Rattle.orca_base.specs.declared.command.Rule.TheVariants.{HistoryFull}
+use Rattle.orca_base.specs.declared.message.Message.{Message}
+use Rattle.orca_base.specs.declared.message.Message.TheVariants as message
+use Rattle.orca_concert.specs.Manners.{Manner}
+use Rattle.orca_course.specs.Acts.Act.{Save}
+use Rattle.orca_course.specs.Courses.{Course, course, ended, still}
+use Rattle.orca_course.specs.declared.ending.Stop.{Stop}
+use Rattle.orca_course.specs.declared.ending.Stop.TheVariants.{Full, TooLong}
+use Rattle.orca_wav.specs.declared.limits.TheConstants.{MAX_WAVE_BYTES, SAMPLE_BYTES, SLOWEST_FRAME_SAMPLES}
+use Rattle.orca_wav.specs.declared.voice.Voice.{Voice}
+use Rattle.orca_wav.specs.Header.{header_bytes}
+use Rattle.orca_wav.specs.Rendering.{Rendering, is_on, next_bytes, rendering_after, rendering_of}
+
+-- the name of the file, the samples of a frame, how many samples there are so far with the voices,
+-- and the bytes of these samples
+pub record Wave : Type 0 where
+  pub out : List ℕ
+  pub frame : ℕ
+  pub rendering : Rendering
+  pub bytes : List ℕ
+
+-- so many beats a minute, and no sample
+abbrev pub frame_samples : ℕ → ℕ
+frame_samples bpm = SLOWEST_FRAME_SAMPLES / bpm
+
+abbrev pub wave_at_start : List ℕ → ℕ → Wave
+wave_at_start out bpm = record {
+  out = out;
+  frame = frame_samples bpm;
+  rendering = rendering_of 0 [];
+  bytes = [];
+}
+
+-- a message suits the voices: it starts none that is there, and ends none that is not
+abbrev pub suits : List Voice → Message → Bool
+suits voices (message.On channel key velocity) = not (is_on voices channel key)
+suits voices (message.Off channel key) = is_on voices channel key
+suits voices _ = true
+
+-- after a message; one that does not suit the voices is left out, and those of a run suit them
+unfoldable pub heard : Rendering → Message → Rendering
+heard s m = if suits s.voices m then rendering_after s m else s
+
+-- with the samples of a frame more
+abbrev pub sounded : Rendering → Wave → Wave
+sounded s w = record {
+  out = w.out;
+  frame = w.frame;
+  rendering = rendering_of (s.samples + w.frame) s.voices;
+  bytes = w.bytes ++ next_bytes s w.frame;
+}
+
+-- after a frame: its messages are taken first, and then its samples follow
+unfoldable pub framed : List Message → Wave → Wave
+framed messages w = sounded (fold heard w.rendering messages) w
+
+-- the bytes of the samples, and of those with a frame more
+abbrev pub wave_size : Wave → ℕ
+wave_size w = SAMPLE_BYTES * w.rendering.samples
+
+abbrev pub next_size : Wave → ℕ
+next_size w = SAMPLE_BYTES * (w.rendering.samples + w.frame)
+
+-- a frame ends the run if its samples are too many
+abbrev pub frame_course : List Message → Wave → Course Wave Stop
+frame_course messages w =
+    if nat_lt MAX_WAVE_BYTES (next_size w) then ended TooLong w else still (framed messages w)
+
+-- a full history ends the run
+abbrev pub wav_report : Result Reply Rule → List Message → Wave → Course Wave Stop
+wav_report (Ok (Framed tick)) messages w = frame_course messages w
+wav_report (Err HistoryFull) messages w = ended Full w
+wav_report answer messages w = still w
+
+-- the file: the header, and the samples
+unfoldable pub wave_file : Wave → List ℕ
+wave_file w = header_bytes (wave_size w) ++ w.bytes
+
+-- `wav` hands nothing out and prints nothing. The close has no samples
+abbrev pub wav_manner : Manner Wave
+wav_manner = record {
+  hands = false;
+  done = λ line answer messages w. wav_report answer messages w;
+  final = λ s w. still w;
+  close = λ messages w. still w;
+  saves = λ w. course (Save w.out (wave_file w) ∷ []) 0 w;
+}
