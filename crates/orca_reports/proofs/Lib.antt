@@ -3,3 +3,4 @@ pub mod SongLemmas
 pub mod RecordingLemmas
 pub mod WaveLemmas
 pub mod SoundingLemmas
+pub mod TickLemmas

@@ -53,14 +53,15 @@ short_course s r short =
     (le-ltb MAX_TRACK_BYTES (whole_size s r.end) short)
 
 pub finished_done : {at : Option Standing} {hands : Bool} (s : Recorded) (r : Recording)
-    {x y : World} {T : Type 0} {done : T} (file : List ℕ)
-    → whole_size s r.end ≤ MAX_TRACK_BYTES → file ≡ smf s.tempo s.list (reached_in s r.end)
-    → Called (Ok done) (Save r.out file) x y
+    {x y : World} {T : Type 0} {done : T} (given file : List ℕ)
+    → whole_size s r.end ≤ MAX_TRACK_BYTES → given ≡ file
+    → file ≡ smf s.tempo s.list (reached_in s r.end) → Called (Ok done) (Save r.out given) x y
     → Does (nowhere at hands) (finished s r) r x (Ok None) (with_song r None) y
-finished_done {at = at} {hands = hands} s r {x = x} {y = y} {done = done} file short is called =
+finished_done {at = at} {hands = hands} s r {x = x} {y = y} {done = done} given file short is whole
+    called =
     subst (λ c. Does (nowhere at hands) c r x (Ok None) (with_song r None) y)
     (sym (short_course s r short))
-    (does_call (subst (λ bytes. Called (Ok done) (Save r.out bytes) x y) is called)
+    (does_call (subst (λ bytes. Called (Ok done) (Save r.out bytes) x y) (is ∙ whole) called)
     (rests_mute _ _ _ _ tt refl))
 
 -- the track was too long

@@ -1,15 +1,15 @@
 -- The frames of a wave are rendered as orca_wav renders a run with their messages.
 use Rattle.std.proofs.Common.{◌≡◌, ℕ, suc, ◌+◌, ◌*◌, true, List, [], ◌∷◌, ◌++◌, length, refl, sym, ◌∙◌, ap, subst, append_assoc, append-nil, arith, zero-add}
-use Rattle.std.specs.Prelude.{Bool, fold}
+use Rattle.std.specs.Prelude.{fold}
 use Rattle.std.proofs.Math.Nat.{mul-suc}
 use Rattle.std.proofs.lemmas.Bool.{cond-true}
 use Rattle.orca_base.specs.declared.message.Message.{Message}
 use Rattle.orca_base.specs.declared.message.Message.TheVariants as message
 use Rattle.orca_wav.specs.declared.voice.Voice.{Voice}
-use Rattle.orca_wav.specs.Rendering.{Rendering, Renders, rendering_after, rendering_of}
+use Rattle.orca_wav.specs.Rendering.{Rendering, Renders, rendering_after}
 use Rattle.orca_wav.specs.Waves.{TimedMessage, run_bytes, voices_of}
 use Rattle.orca_wav.proofs.Runs.{Renders-message, Renders-none, Renders-samples}
-use Rattle.orca_reports.specs.Sounding.{AreFair, FramesSound, SoundsAs, played, timed_at, timed_from}
+use Rattle.orca_reports.specs.Sounding.{AreFair, FramesSound, played, timed_at, timed_from}
 use Rattle.orca_reports.specs.Waves.{Wave, framed, heard, suits, wave_at_start}
 
 abbrev timed : ℕ → Message → TimedMessage

@@ -1,6 +1,6 @@
 -- What was done of a wave, as the course of its report.
-use Rattle.std.proofs.Common.{◌≡◌, ℕ, ◌+◌, ◌≤◌, List, [], ◌∷◌, ◌++◌, length, take, drop, refl, sym, ◌∙◌, ap, subst, arith, length-append, length-drop, append-nil}
-use Rattle.std.specs.Prelude.{Bool, Option, None, Result, Ok, fold}
+use Rattle.std.proofs.Common.{◌≡◌, ℕ, ◌+◌, ◌*◌, ◌≤◌, List, [], ◌∷◌, ◌++◌, length, take, drop, refl, sym, ◌∙◌, ap, subst, arith, length-append, length-drop, append-nil}
+use Rattle.std.specs.Prelude.{Bool, Option, None, Ok, fold}
 use Rattle.std.proofs.lemmas.Bool.{cond-false, le-ltb}
 use Rattle.std.proofs.lemmas.List.{drop-append-le, drop_all, take_all}
 use Rattle.orca_base.specs.declared.message.Message.{Message}
@@ -12,10 +12,10 @@ use Rattle.orca_course.specs.Worlds.{Called, World}
 use Rattle.orca_course.specs.declared.ending.Stop.{Stop}
 use Rattle.orca_course.specs.declared.ending.Stop.TheVariants.{TooLong}
 use Rattle.orca_course.proofs.DoingLemmas.{does_call, rests_mute}
-use Rattle.orca_wav.specs.declared.limits.TheConstants.{HEADER_BYTES, MAX_WAVE_BYTES}
+use Rattle.orca_wav.specs.declared.limits.TheConstants.{HEADER_BYTES, MAX_WAVE_BYTES, SAMPLE_BYTES}
 use Rattle.orca_wav.specs.Header.{header_bytes}
 use Rattle.orca_wav.specs.Rendering.{Rendering, next_bytes, rendering_of}
-use Rattle.orca_reports.specs.Waves.{Wave, frame_course, framed, heard, next_size, sounded, wave_file, wave_size}
+use Rattle.orca_reports.specs.Waves.{Wave, frame_course, framed, heard, next_size, sounded, wave_file}
 
 -- bytes written over the first ones of a list
 pub written : (len : ℕ) (front items new : List ℕ) → len ≡ length items
@@ -43,15 +43,17 @@ with_bytes w bytes = wave_of w.out w.frame w.rendering bytes
 
 -- the file was saved, and the wave is as before
 pub saved_done : {at : Option Standing} {hands : Bool} (w : Wave) {T : Type 0} {done : T}
-    {x y : World} (given file : List ℕ) → given ≡ file
-    → file ≡ header_bytes (wave_size w) ++ w.bytes → Called (Ok done) (Save w.out given) x y
+    {x y : World} (samples : ℕ) (given file : List ℕ) → samples ≡ w.rendering.samples
+    → given ≡ file → file ≡ header_bytes (SAMPLE_BYTES * samples) ++ w.bytes
+    → Called (Ok done) (Save w.out given) x y
     → Does {E = Stop} (nowhere at hands) (course (Save w.out (wave_file w) ∷ []) 0 w) w x (Ok None)
     (with_bytes w (drop HEADER_BYTES file)) y
 unfolding wave_file
-saved_done {at = at} {hands = hands} w {done = done} {x = x} {y = y} given file is whole called =
+saved_done {at = at} {hands = hands} w {done = done} {x = x} {y = y} samples given file count is
+    whole called =
     subst (λ (bytes : List ℕ). Does {E = Stop} (nowhere at hands)
     (course (Save w.out bytes ∷ []) 0 w) w x (Ok None) (with_bytes w (drop HEADER_BYTES file)) y)
-    (is ∙ whole)
+    (is ∙ (whole ∙ ap (λ n. header_bytes (SAMPLE_BYTES * n) ++ w.bytes) count))
     (subst (λ (bytes : List ℕ). Does {E = Stop} (nowhere at hands)
     (course (Save w.out given ∷ []) 0 w) w x (Ok None) (with_bytes w bytes) y)
     (sym (ap (drop HEADER_BYTES) whole))

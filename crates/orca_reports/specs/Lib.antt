@@ -5,4 +5,5 @@ pub mod Songs
 pub mod Sounding
 pub mod Sums
 pub mod Texts
+pub mod Ticks
 pub mod Waves

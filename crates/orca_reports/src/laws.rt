@@ -1,4 +1,13 @@
+//! What reports keep, in the words of a whole run.
+
 ghost use Rattle.orca_reports.specs.Sounding.{FramesSound};
+ghost use Rattle.orca_reports.specs.Ticks.{TicksAreKept};
+
+/// The MIDI messages of a tick that is not before the last one of a song, and that a delta time
+/// reaches, are added with this tick, unless the song is given up. It does nothing.
+pub fn tick_law()
+    ensures { TicksAreKept }
+{}
 
 /// A wave of frames has the samples of a run with their messages, if no message starts a voice that
 /// is there or ends one that is not. It does nothing.

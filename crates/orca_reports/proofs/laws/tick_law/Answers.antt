@@ -1,0 +1,5 @@
+use Rattle.orca_reports.proofs.TickLemmas.{ticks_are_kept}
+use Rattle.orca_reports.proofs.laws.tick_law.Goals as goal
+
+pub returns : goal.returns
+returns c = ticks_are_kept
