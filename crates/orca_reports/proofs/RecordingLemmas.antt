@@ -10,7 +10,7 @@ use Rattle.orca_course.specs.Doing.{Does, nowhere}
 use Rattle.orca_course.specs.Standings.{Standing}
 use Rattle.orca_course.specs.Worlds.{Called, World}
 use Rattle.orca_course.specs.declared.ending.Stop.{Stop}
-use Rattle.orca_course.specs.declared.ending.Stop.TheVariants.{TooLong}
+use Rattle.orca_course.specs.declared.ending.Stop.TheVariants.{SongTooLong}
 use Rattle.orca_course.proofs.DoingLemmas.{does_call, does_end, rests_mute, rests_none}
 use Rattle.orca_course.proofs.WorldLemmas.{made_none}
 use Rattle.orca_smf.specs.declared.limits.TheConstants.{MAX_TRACK_BYTES}
@@ -49,7 +49,7 @@ saves s r = course (Save r.out (smf s.tempo s.list (reached_in s r.end)) ∷ [])
 short_course : (s : Recorded) (r : Recording) → whole_size s r.end ≤ MAX_TRACK_BYTES
     → finished s r ≡ saves s r
 short_course s r short =
-    cond-false _ (ended TooLong (with_song r None)) (saves s r)
+    cond-false _ (ended SongTooLong (with_song r None)) (saves s r)
     (le-ltb MAX_TRACK_BYTES (whole_size s r.end) short)
 
 pub finished_done : {at : Option Standing} {hands : Bool} (s : Recorded) (r : Recording)
@@ -67,9 +67,9 @@ finished_done {at = at} {hands = hands} s r {x = x} {y = y} {done = done} given 
 -- the track was too long
 pub finished_long : {at : Option Standing} {hands : Bool} (s : Recorded) (r : Recording) {x : World}
     → MAX_TRACK_BYTES < whole_size s r.end
-    → Does (nowhere at hands) (finished s r) r x (Ok (Some TooLong)) (with_song r None) x
+    → Does (nowhere at hands) (finished s r) r x (Ok (Some SongTooLong)) (with_song r None) x
 finished_long {at = at} {hands = hands} s r {x = x} long =
-    subst (λ c. Does (nowhere at hands) c r x (Ok (Some TooLong)) (with_song r None) x)
-    (sym (cond-true _ (ended TooLong (with_song r None)) (saves s r)
+    subst (λ c. Does (nowhere at hands) c r x (Ok (Some SongTooLong)) (with_song r None) x)
+    (sym (cond-true _ (ended SongTooLong (with_song r None)) (saves s r)
     (lt-ltb MAX_TRACK_BYTES (whole_size s r.end) long)))
-    (does_end TooLong x refl)
+    (does_end SongTooLong x refl)

@@ -10,7 +10,7 @@ use Rattle.orca_course.specs.Doing.{Does, nowhere}
 use Rattle.orca_course.specs.Standings.{Standing}
 use Rattle.orca_course.specs.Worlds.{Called, World}
 use Rattle.orca_course.specs.declared.ending.Stop.{Stop}
-use Rattle.orca_course.specs.declared.ending.Stop.TheVariants.{TooLong}
+use Rattle.orca_course.specs.declared.ending.Stop.TheVariants.{WaveTooLong}
 use Rattle.orca_course.proofs.DoingLemmas.{does_call, rests_mute}
 use Rattle.orca_wav.specs.declared.limits.TheConstants.{HEADER_BYTES, MAX_WAVE_BYTES, SAMPLE_BYTES}
 use Rattle.orca_wav.specs.Header.{header_bytes}
@@ -63,7 +63,7 @@ saved_done {at = at} {hands = hands} w {done = done} {x = x} {y = y} samples giv
 short_course : (messages : List Message) (w : Wave) → next_size w ≤ MAX_WAVE_BYTES
     → frame_course messages w ≡ still (framed messages w)
 short_course messages w short =
-    cond-false _ (ended TooLong w) (still (framed messages w))
+    cond-false _ (ended WaveTooLong w) (still (framed messages w))
     (le-ltb MAX_WAVE_BYTES (next_size w) short)
 
 pub framed_is : (messages : List Message) (w : Wave) (now new : Rendering) (file into : List ℕ)

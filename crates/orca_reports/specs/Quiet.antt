@@ -8,7 +8,7 @@ use Rattle.orca_base.specs.declared.message.Message.{Message}
 use Rattle.orca_concert.specs.Manners.{IsAside, IsQuiet}
 use Rattle.orca_course.specs.Acts.Act.{Save}
 use Rattle.orca_course.specs.Courses.{course, ended, still}
-use Rattle.orca_course.specs.declared.ending.Stop.TheVariants.{Full, TooLong}
+use Rattle.orca_course.specs.declared.ending.Stop.TheVariants.{Full, SongTooLong, WaveTooLong}
 use Rattle.orca_send.specs.declared.lines.Label.TheVariants.{Tick, End}
 use Rattle.orca_reports.specs.Manners.{run_manner, events_manner, replay_manner, make_manner, frame_report, refusal_report, unless_full}
 use Rattle.orca_smf.specs.declared.limits.TheConstants.{MAX_TRACK_BYTES}
@@ -78,9 +78,9 @@ quiet-make = record {
 
 -- a recording does nothing but a save at the end
 aside_finished : (s : Recorded) (r : Recording) (long : Bool)
-    → IsAside (if long then ended TooLong (with_song r None)
+    → IsAside (if long then ended SongTooLong (with_song r None)
     else course (Save r.out (smf s.tempo s.list (reached_in s r.end)) ∷ []) 0 (with_song r None))
-aside_finished s r true = aside_ended TooLong (with_song r None)
+aside_finished s r true = aside_ended SongTooLong (with_song r None)
 aside_finished s r false = record { mute = tt; deaf = tt }
 
 aside_saved : (song : Option Recorded) (r : Recording) → IsAside (saved_by song r)
@@ -118,8 +118,8 @@ quiet-smf = record {
 
 -- a wave does nothing but a save at the end
 aside_frame_course : (messages : List Message) (w : Wave) (long : Bool)
-    → IsAside (if long then ended TooLong w else still (framed messages w))
-aside_frame_course messages w true = aside_ended TooLong w
+    → IsAside (if long then ended WaveTooLong w else still (framed messages w))
+aside_frame_course messages w true = aside_ended WaveTooLong w
 aside_frame_course messages w false = aside_still (framed messages w)
 
 aside_wav : (answer : Result Reply Rule) (messages : List Message) (w : Wave)

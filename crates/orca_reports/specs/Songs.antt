@@ -11,7 +11,7 @@ use Rattle.orca_concert.specs.Manners.{Manner}
 use Rattle.orca_course.specs.Acts.Act.{Save}
 use Rattle.orca_course.specs.Courses.{Course, course, ended, still}
 use Rattle.orca_course.specs.declared.ending.Stop.{Stop}
-use Rattle.orca_course.specs.declared.ending.Stop.TheVariants.{Full, TooLong}
+use Rattle.orca_course.specs.declared.ending.Stop.TheVariants.{Full, SongTooLong}
 use Rattle.orca_smf.specs.declared.limits.TheConstants.{MAX_DELTA, MAX_TRACK_BYTES}
 use Rattle.orca_smf.specs.declared.timed.Timed.{Timed}
 use Rattle.orca_smf.specs.Recording.{Recorded}
@@ -75,7 +75,7 @@ added tick song m = added_by tick (midi_bytes_of m) song
 
 -- what ends the run: a song that is given up, since its track is too long
 abbrev pub loss : Option Recorded → Option Recorded → Option Stop
-loss (Some before) None = Some TooLong
+loss (Some before) None = Some SongTooLong
 loss _ _ = None
 
 -- the messages of a tick are added, in order
@@ -93,7 +93,7 @@ smf_report answer messages r = still r
 -- the song is finished and saved; none is saved if its track is too long
 abbrev pub finished : Recorded → Recording → Course Recording Stop
 finished s r =
-    if nat_lt MAX_TRACK_BYTES (whole_size s r.end) then ended TooLong (with_song r None)
+    if nat_lt MAX_TRACK_BYTES (whole_size s r.end) then ended SongTooLong (with_song r None)
     else
     course (Save r.out (smf s.tempo s.list (reached_in s r.end)) ∷ []) 0 (with_song r None)
 

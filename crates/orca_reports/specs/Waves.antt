@@ -10,7 +10,7 @@ use Rattle.orca_concert.specs.Manners.{Manner}
 use Rattle.orca_course.specs.Acts.Act.{Save}
 use Rattle.orca_course.specs.Courses.{Course, course, ended, still}
 use Rattle.orca_course.specs.declared.ending.Stop.{Stop}
-use Rattle.orca_course.specs.declared.ending.Stop.TheVariants.{Full, TooLong}
+use Rattle.orca_course.specs.declared.ending.Stop.TheVariants.{Full, WaveTooLong}
 use Rattle.orca_wav.specs.declared.limits.TheConstants.{MAX_WAVE_BYTES, SAMPLE_BYTES, SLOWEST_FRAME_SAMPLES}
 use Rattle.orca_wav.specs.declared.voice.Voice.{Voice}
 use Rattle.orca_wav.specs.Header.{header_bytes}
@@ -69,7 +69,7 @@ next_size w = SAMPLE_BYTES * (w.rendering.samples + w.frame)
 -- a frame ends the run if its samples are too many
 abbrev pub frame_course : List Message → Wave → Course Wave Stop
 frame_course messages w =
-    if nat_lt MAX_WAVE_BYTES (next_size w) then ended TooLong w else still (framed messages w)
+    if nat_lt MAX_WAVE_BYTES (next_size w) then ended WaveTooLong w else still (framed messages w)
 
 -- a full history ends the run
 abbrev pub wav_report : Result Reply Rule → List Message → Wave → Course Wave Stop

@@ -117,7 +117,7 @@ impl Report for SmfReport<'_> {
                 desk.save(self.out, file.as_slice())?;
                 Ok(None)
             }
-            Err(SmfFault::TooLong) => Ok(Some(Stop::TooLong)),
+            Err(SmfFault::TooLong) => Ok(Some(Stop::SongTooLong)),
             Err(SmfFault::Memory) => Err(NoMemory::Elsewhere),
         }
     }
@@ -139,7 +139,7 @@ fn record(
         add(song, tick, message)?;
     }
     if was_there && song.is_none() {
-        return Ok(Some(Stop::TooLong));
+        return Ok(Some(Stop::SongTooLong));
     }
     Ok(None)
 }

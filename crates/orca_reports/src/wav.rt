@@ -82,7 +82,7 @@ impl<'a> WavReport<'a> {
         ensures state { OnOk result (self.new ≡ (frame_course messages.now self.old).state) }
     {
         if self.frame > MAX_SAMPLES - self.listener.samples() {
-            return Ok(Some(Stop::TooLong));
+            return Ok(Some(Stop::WaveTooLong));
         }
         self.listener.hear(messages)?;
         self.listener.render(self.frame, &mut self.file)?;

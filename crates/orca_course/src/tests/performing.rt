@@ -37,7 +37,7 @@ impl Performer for Echo {
         acts = Give (record { port = port.Text; bytes = 40 ∷ [] }) ∷ [];
         bill = 0;
         state = left;
-        ending = if nat_le left 0 then Some stop.TooLong else None;
+        ending = if nat_le left 0 then Some stop.SongTooLong else None;
       };
       hears = λ answer bytes left. record {
         acts = Give (record { port = port.Text; bytes = bytes }) ∷ [];
@@ -55,7 +55,7 @@ impl Performer for Echo {
     ) -> Result<Option<Stop>, NoMemory> {
         desk.send(Port::Text, b"(")?;
         Ok(if self.left <= 0 {
-            Some(Stop::TooLong)
+            Some(Stop::SongTooLong)
         } else {
             None
         })
@@ -166,7 +166,7 @@ fn a_performance_ends_by_itself_or_by_its_inbox(rt: HostRuntime) -> Result<(), F
             0,
             &answers,
             &[],
-            Ending::Stopped(Stop::TooLong),
+            Ending::Stopped(Stop::SongTooLong),
             &[b"(", b")"],
         ),
         case_of(1, &answers, &[], full, &[b"(", b"", b")"]),
