@@ -4,3 +4,12 @@ pub mod RecordingLemmas
 pub mod WaveLemmas
 pub mod SoundingLemmas
 pub mod TickLemmas
+pub mod CallLemmas
+pub mod FrameLemmas
+pub mod RunLemmas
+pub mod SavedSongLemmas
+pub mod PlayedLemmas
+pub mod TuneLemmas
+pub mod SongLaw
+pub mod FairLemmas
+pub mod WaveLaw

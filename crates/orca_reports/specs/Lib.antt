@@ -1,6 +1,9 @@
 pub mod Asides
 pub mod Manners
 pub mod Quiet
+pub mod Runs
+pub mod SavedSongs
+pub mod SavedWaves
 pub mod Songs
 pub mod Sounding
 pub mod Sums

@@ -1,5 +1,7 @@
-//! What reports keep, in the words of a whole run.
+//! What reports keep and save, in the words of a whole run.
 
+ghost use Rattle.orca_reports.specs.SavedSongs.{SongIsSaved, SongIsTune};
+ghost use Rattle.orca_reports.specs.SavedWaves.{WaveIsSaved};
 ghost use Rattle.orca_reports.specs.Sounding.{FramesSound};
 ghost use Rattle.orca_reports.specs.Ticks.{TicksAreKept};
 
@@ -13,4 +15,13 @@ pub fn tick_law()
 /// is there or ends one that is not. It does nothing.
 pub fn wave_law()
     ensures { FramesSound }
+{}
+
+/// What a run of frames saves, if nothing ends it early. A song is that of its MIDI messages with
+/// their ticks, and `orca_smf::read` gives exactly this song. A wave has the samples of its
+/// messages. Nothing else is done on the outside. It does nothing.
+pub fn saving_law()
+    ensures song { SongIsSaved }
+    ensures tune { SongIsTune }
+    ensures wave { WaveIsSaved }
 {}

@@ -15,7 +15,7 @@ mod smf;
 mod wav;
 
 pub use events::EventsReport;
-pub use laws::{tick_law, wave_law};
+pub use laws::{saving_law, tick_law, wave_law};
 pub use make::MakeReport;
 pub use replay::ReplayReport;
 pub use run::RunReport;
