@@ -1,5 +1,5 @@
 -- A run of frames that was not ended early: each frame was accepted, and its report went on.
-use Rattle.std.proofs.Common.{◌≡◌, ◌≢◌, ℕ, zero, suc, ◌+◌, ◌<◌, ◌≤◌, List, [], ◌∷◌, ◌++◌, length, refl, sym, ◌∙◌, ap, subst, arith, inl, inr, append-nil}
+use Rattle.std.proofs.Common.{◌≡◌, ◌≢◌, ℕ, zero, suc, ◌+◌, ◌≤◌, List, [], ◌∷◌, ◌++◌, length, refl, sym, ◌∙◌, ap, subst, arith, inl, inr, append-nil}
 use Rattle.std.specs.Prelude.{false, replicate, Option, Some, None, Result, Ok, Err}
 use Rattle.std.proofs.lemmas.Bool.{cases_lt}
 use Rattle.orca_base.specs.declared.command.Command.TheVariants.{Frame}
@@ -141,8 +141,8 @@ frame_told m records tick n s at goes =
           }
       | inr full ↦
           let o = refuse machine HistoryFull in
-          let so = order_tells m s o (Err HistoryFull) records.hands (frame_refused machine full) refl
-          in
+          let refused = frame_refused machine full in
+          let so = order_tells m s o (Err HistoryFull) records.hands refused refl in
           absurd (records.full 0 [] s.kept
           (goes_on after_cue (halt_of (Some HistoryFull)) c next
           (m.done 0 (Err HistoryFull) [] s.kept).ending refl (λ stop. refl) so.ending goes))
@@ -220,7 +220,8 @@ unfolding onward
 alone c next none = alone_by c.ending c next refl none
 
 cue_is : {R : Type 0} (m : Manner R) (n : ℕ) (s : Concert R)
-    → Alone (mapped (λ t. t) after_cue (each (order_course m 0) (replicate n (Do Frame)) s)) (cues_course m (frames_cue n) s)
+    → Alone (mapped (λ t. t) after_cue (each (order_course m 0) (replicate n (Do Frame)) s))
+    (cues_course m (frames_cue n) s)
 unfolding cues_course cue_course each
 cue_is m n s =
     let cue : Cue = record { line = 0; times = n; order = Do Frame } in

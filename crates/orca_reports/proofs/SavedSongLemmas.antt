@@ -1,5 +1,5 @@
 -- The song that a run of frames saves.
-use Rattle.std.proofs.Common.{◌≡◌, ◌≢◌, ℕ, zero, suc, ◌+◌, ◌/◌, ◌≤◌, List, [], ◌∷◌, ◌++◌, length, refl, sym, ◌∙◌, ap, subst, arith, append_assoc, append-nil}
+use Rattle.std.proofs.Common.{◌≡◌, ℕ, zero, suc, ◌+◌, ◌/◌, ◌≤◌, List, [], ◌∷◌, ◌++◌, length, refl, sym, ◌∙◌, ap, subst, arith, append_assoc, append-nil}
 use Rattle.std.specs.Prelude.{Bool, true, false, nat_lt, if◌then◌else◌, Option, Some, None, fold}
 use Rattle.std.proofs.lemmas.Bool.{ltb-false}
 use Rattle.orca_base.specs.declared.limits.TheConstants.{MAX_HISTORY, MINUTE_MICROSECONDS}
@@ -69,9 +69,9 @@ recording out end song = record { out = out; end = end; song = song }
 
 -- the messages of a tick were added, and the song was not given up
 record Adds (u : Recorded) (tick : ℕ) (messages : List Message) (song : Option Recorded) : Type 0
-    where
-  pub is : song ≡ Some (with_messages u (timed_of tick messages))
-  pub last : last_tick 0 (u.list ++ timed_of tick messages) ≤ tick
+  where
+    pub is : song ≡ Some (with_messages u (timed_of tick messages))
+    pub last : last_tick 0 (u.list ++ timed_of tick messages) ≤ tick
 
 adds_by : (u : Recorded) (tick : ℕ) (messages : List Message) (song : Option Recorded)
     → song ≡ fold (added tick) (Some u) messages → last_tick 0 u.list ≤ tick
@@ -90,7 +90,7 @@ adds u tick messages low high goes =
 
 frames_kept : (out : List ℕ) (end : ℕ) (u : Recorded) (tick : ℕ) (frames : List (List Message))
     (s : Recording) → last_tick 0 u.list ≤ tick → tick + length frames ≤ MAX_DELTA
-    → Goes smf_manner tick frames (recording out end (Some u)) s 
+    → Goes smf_manner tick frames (recording out end (Some u)) s
     → s ≡ recording out end (Some (with_messages u (timed_frames tick frames)))
 unfolding recorded
 frames_kept out end u tick [] s low high goes =
@@ -249,7 +249,8 @@ song_is_saved out bpm frames o kept tally most goes =
     frames_kept out frames (song_with (MINUTE_MICROSECONDS / bpm) []) 0 (frames_of frames m)
     ran.stands.kept (omega arith) (omega (arith, few, most, frames_count frames m)) ran.played.kept
     in
-    let same : last_course smf_manner None ran.stands ≡ last_of out frames (song_before bpm frames o) st =
+    let same : last_course smf_manner None ran.stands
+    ≡ last_of out frames (song_before bpm frames o) st =
     ap (λ (r : Recording). last_course smf_manner None (concert st r)) is in
     let did = song_finishes out frames (song_before bpm frames o) st
     (sym (ap (λ (c : Course (Concert Recording) Stop). c.ending) same) ∙ ran.goes) in

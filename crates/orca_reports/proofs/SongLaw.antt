@@ -1,6 +1,5 @@
 -- The laws of songs.
-use Rattle.std.proofs.Common.{◌≡◌, ◌+◌, ◌≤◌, [], arith}
-use Rattle.orca_base.specs.declared.limits.TheConstants.{MAX_HISTORY}
+use Rattle.std.proofs.Common.{arith}
 use Rattle.orca_base.specs.Grids.{IsSheet}
 use Rattle.orca_edit.specs.Obeying.{piece_of}
 use Rattle.orca_edit.specs.Pieces.{piece_after}

@@ -1,21 +1,18 @@
 -- The song of a run is one that can be read.
-use Rattle.std.proofs.Common.{◌≡◌, ℕ, ◌+◌, ◌*◌, ◌/◌, ◌^◌, ◌<◌, ◌≤◌, List, [], ◌∷◌, ◌++◌, length, refl, sym, subst, arith, append_assoc, append-nil}
-use Rattle.std.specs.Prelude.{All, IfSome, Option, Some, None}
+use Rattle.std.proofs.Common.{ℕ, ◌+◌, ◌^◌, ◌≤◌, List, [], ◌∷◌, ◌++◌, length, refl, sym, subst, arith, append_assoc, append-nil}
+use Rattle.std.specs.Prelude.{IfSome, Option, Some, None}
 use Rattle.std.specs.List.{AllByRecursion}
 use Rattle.std.proofs.lemmas.List.Elements.{recursion_from_All}
 use Rattle.std.proofs.lemmas.Nat.{div_below}
-use Rattle.orca_base.specs.declared.limits.TheConstants.{MAX_CHANNEL, MAX_DATA, MAX_HISTORY, MINUTE_MICROSECONDS}
+use Rattle.orca_base.specs.declared.limits.TheConstants.{MINUTE_MICROSECONDS}
 use Rattle.orca_base.specs.declared.message.Message.{Message}
 use Rattle.orca_base.specs.declared.message.Message.TheVariants as message
 use Rattle.orca_base.specs.declared.note.Note.{Note}
 use Rattle.orca_base.specs.MidiBytes.{midi_bytes_of}
 use Rattle.orca_base.specs.Ranges.{HasDataInRange, HasDataInRange-sendable, IsSendable}
 use Rattle.orca_edit.specs.Obeying.{piece_of}
-use Rattle.orca_notes.specs.Device.{IsChord, Plays}
-use Rattle.orca_notes.specs.Sound.{ends}
+use Rattle.orca_notes.specs.Device.{Plays}
 use Rattle.orca_notes.proofs.PlayFacts.{Plays-ends}
-use Rattle.orca_op.specs.Laws.{IsLawful}
-use Rattle.orca_op.specs.Rules.{rule}
 use Rattle.orca_smf.specs.declared.limits.TheConstants.{MAX_DELTA, MAX_TRACK_BYTES}
 use Rattle.orca_smf.specs.declared.timed.Timed.{Timed}
 use Rattle.orca_smf.specs.Songs.{AreMessages, Follows, IsTune, IsVoice, last_tick, track}

@@ -1,11 +1,10 @@
 -- The law of waves.
-use Rattle.std.proofs.Common.{◌≡◌, ℕ, ◌+◌, ◌*◌, ◌<◌, ◌≤◌, List, [], ◌∷◌, ◌++◌, length, refl, sym, ◌∙◌, ap, subst, arith}
-use Rattle.std.specs.Prelude.{Bool, true, false, nat_lt, if◌then◌else◌, Option, Some, None}
+use Rattle.std.proofs.Common.{◌≡◌, ℕ, ◌+◌, ◌*◌, List, [], ◌∷◌, ◌++◌, length, refl, ◌∙◌, ap, subst}
+use Rattle.std.specs.Prelude.{Bool, true, false, nat_lt, if◌then◌else◌, None}
 use Rattle.orca_base.specs.declared.message.Message.{Message}
-use Rattle.orca_base.specs.Grids.{IsSheet}
-use Rattle.orca_concert.specs.Concerts.{Concert, close_course, concert, final_course, last_course, saved_course}
+use Rattle.orca_concert.specs.Concerts.{close_course, concert, final_course, last_course, saved_course}
 use Rattle.orca_course.specs.Acts.Act.{Save}
-use Rattle.orca_course.specs.Courses.{Course, afterwards, ended, keeping, mapped, onward, still}
+use Rattle.orca_course.specs.Courses.{afterwards, ended, keeping, mapped, onward, still}
 use Rattle.orca_course.specs.Standings.{Standing, standing}
 use Rattle.orca_course.specs.declared.ending.Stop.{Stop}
 use Rattle.orca_course.specs.declared.ending.Stop.TheVariants.{WaveTooLong}
@@ -13,10 +12,10 @@ use Rattle.orca_edit.specs.Pieces.{piece_after}
 use Rattle.orca_wav.specs.declared.limits.TheConstants.{MAX_WAVE_BYTES, SAMPLE_BYTES}
 use Rattle.orca_wav.specs.Header.{header_bytes}
 use Rattle.orca_wav.specs.Waves.{run_bytes}
-use Rattle.orca_reports.specs.Runs.{Opened, calls_in, frames_of, session_of}
-use Rattle.orca_reports.specs.SavedWaves.{WaveIsSaved, wave_of, wave_run}
+use Rattle.orca_reports.specs.Runs.{calls_in, frames_of, session_of}
+use Rattle.orca_reports.specs.SavedWaves.{WaveIsSaved, wave_of}
 use Rattle.orca_reports.specs.Sounding.{played, timed_from}
-use Rattle.orca_reports.specs.Waves.{Wave, frame_samples, framed, next_size, wav_manner, wave_at_start, wave_file}
+use Rattle.orca_reports.specs.Waves.{Wave, framed, next_size, wav_manner, wave_at_start, wave_file}
 use Rattle.orca_reports.proofs.FairLemmas.{frames_are_fair}
 use Rattle.orca_reports.proofs.PlayedLemmas.{frames_play}
 use Rattle.orca_reports.proofs.RunLemmas.{Goes, Records, frames_ran}
@@ -94,7 +93,8 @@ waves_are_saved = λ lawful out bpm frames o kept tally sheet goes.
     let count : w.frame * length list ≡ w.frame * frames =
     ap (λ n. w.frame * n) (frames_count frames m) in
     let file : wave_file end ≡ wave_of bpm frames m =
-    file_is end (w.frame * length list) (run_bytes (timed_from w.frame 0 list) (w.frame * length list))
+    file_is end (w.frame * length list)
+    (run_bytes (timed_from w.frame 0 list) (w.frame * length list))
     sounds.samples sounds.bytes
     ∙ ap (λ n. header_bytes (SAMPLE_BYTES * n) ++ run_bytes (timed_from w.frame 0 list) n) count in
     ran.calls

@@ -1,4 +1,4 @@
--- A run of frames: the messages that its session gives, frame by frame, and the calls that it makes.
+-- A run of frames: the messages that its session gives, frame by frame, and the calls of the run.
 use Rattle.std.specs.Prelude.{ℕ, zero, suc, List, [], ◌∷◌}
 use Rattle.orca_base.specs.declared.command.Command.TheVariants.{Frame}
 use Rattle.orca_base.specs.declared.message.Message.{Message}
@@ -8,7 +8,7 @@ use Rattle.orca_concert.specs.Manners.{Manner}
 use Rattle.orca_course.specs.Acts.{Act}
 use Rattle.orca_course.specs.Acts.Act.{Obey, Show, Stand}
 use Rattle.orca_course.specs.Courses.{Course}
-use Rattle.orca_course.specs.Standings.{Standing, standing}
+use Rattle.orca_course.specs.Standings.{standing}
 use Rattle.orca_course.specs.declared.ending.Stop.{Stop}
 use Rattle.orca_course.specs.declared.tally.Tally.{Tally}
 use Rattle.orca_cues.specs.Cues.{frames_cue}
