@@ -1,6 +1,7 @@
 -- Scripts: the lines of a text, each read as a line of a format, and the cues of those that ask for
 -- a command.
-use Rattle.std.specs.Prelude.{ℕ, ◌+◌, ◌-◌, ◌<◌, ◌≤◌, ◌≡◌, ◌==◌, Bool, true, false, if◌then◌else◌, Option, Some, None, Result, Ok, Err, List, [], ◌∷◌, ◌++◌, length, slice_index, slice_index_or}
+use Rattle.std.specs.Prelude.{ℕ, ◌+◌, ◌-◌, ◌<◌, ◌≤◌, ◌≡◌, ◌==◌, Bool, true, false, if◌then◌else◌, Option, Some, None, Result, Ok, Err, List, [], ◌∷◌, ◌++◌, length, replicate, slice_index, slice_index_or}
+use Rattle.std.specs.List.{flat_map}
 use Rattle.std.specs.Option.{option_map, option_or}
 use Rattle.std.specs.Result.{result_map_both}
 use Rattle.std.specs.Str.Lines.{lines}
@@ -15,7 +16,8 @@ use Rattle.orca_script.specs.Reading.{reading}
 use Rattle.orca_script.specs.declared.refusal.ScriptRefusal.{ScriptRefusal}
 use Rattle.orca_cues.specs.declared.fault.ScriptFault.{ScriptFault}
 use Rattle.orca_cues.specs.declared.source.Cue.{Cue}
-use Rattle.orca_cues.specs.declared.source.Order.TheVariants.{Do}
+use Rattle.orca_cues.specs.declared.source.Order.{Order}
+use Rattle.orca_cues.specs.declared.source.Order.TheVariants.{Do, RewindHalf}
 
 -- ---- one line
 
@@ -110,6 +112,17 @@ line_at text number = slice_index_or (lines text) (number - 1) []
 -- the seed that a script gives: that of the first line of format 2
 abbrev pub seed_in : List ℕ → Option ℕ
 seed_in text = if is_format_2 text then header_seed (line_at text 1) else None
+
+-- ---- its commands
+
+-- an order that is done so often, as commands; a script has none but commands
+abbrev pub commands_by : ℕ → Order → List Command
+commands_by times (Do command) = replicate times command
+commands_by times RewindHalf = []
+
+-- the commands of cues, in order
+abbrev pub commands_of_cues : List Cue → List Command
+commands_of_cues cues = flat_map (λ (cue : Cue). commands_by cue.times cue.order) cues
 
 -- ---- the same by the grammar itself
 

@@ -79,14 +79,18 @@ pub fn script_seed(text: &[u8]) -> Option<u32>
 }
 
 /// Whether the text is of format 2, by its first byte: any other is of format 1.
-fn is_format_2(text: &[u8]) -> bool
+pub(crate) fn is_format_2(text: &[u8]) -> bool
     ensures { result ≡ begins_format_2 text.now }
 {
     matches!(text, [b'!', ..])
 }
 
 /// What a line asks for, in a text of format 2 or 1, the first or another.
-fn read_as(format_2: bool, first: bool, line: &[u8]) -> Result<Option<Line>, ScriptRefusal>
+pub(crate) fn read_as(
+    format_2: bool,
+    first: bool,
+    line: &[u8],
+) -> Result<Option<Line>, ScriptRefusal>
     requires { length line.now ≤ MAX_FILE_BYTES }
     ensures reading { result ≡ reading_by format_2 first line.now }
     ensures grammar { IfOk result (λ asked. IsLineBy format_2 first line.now) }
