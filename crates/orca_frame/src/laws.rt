@@ -10,7 +10,7 @@ use ops_motion::{Bang, Comment, East, Halt, Jumper, Jymper, North, South, West};
 use orca_op::Operator;
 
 /// The operator table is lawful, since each operator proves the laws of its own rule. It does nothing.
-pub(crate) fn table_laws()
+pub fn table_laws()
     ensures { IsLawful rule }
 {
     // Each call gives one law, and the proof cites it by the name that it has here.

@@ -11,6 +11,7 @@ mod sparse;
 mod visit;
 
 pub use covering::covering_law;
+pub use laws::table_laws;
 pub use plain::frame_plain;
 pub use skipping::{rest_law, skipping_law};
 pub use sparse::frame;
