@@ -1,7 +1,7 @@
 -- Acts before the session is opened: calls on the outside that send nothing.
-use Rattle.std.proofs.Common.{◌≡◌, ℕ, Bool, true, false, List, [], ◌∷◌, ◌++◌, refl, sym, ◌∙◌, ap, subst, append-nil}
+use Rattle.std.proofs.Common.{◌≡◌, ℕ, List, [], ◌∷◌, ◌++◌, refl, sym, ◌∙◌, append-nil}
 use Rattle.std.specs.Prelude.{Option, Some, None, Result, Ok, Err}
-use Rattle.orca_course.specs.Acts.{Act, AreMute, given, lost_after, polls_in}
+use Rattle.orca_course.specs.Acts.{Act, AreMute, given, polls_in}
 use Rattle.orca_course.specs.Acts.Act.{Attach, Await, Give, Listen, Load, Obey, Save, Show, Stand}
 use Rattle.orca_course.specs.Worlds.{Calls, World}
 use Rattle.orca_course.specs.declared.refused.NoMemory.{NoMemory}

@@ -1,25 +1,21 @@
 -- What was done of an outline, and calls before it.
-use Rattle.std.proofs.Common.{◌≡◌, ◌≢◌, ◌⊎◌, inl, inr, ℕ, ◌+◌, ◌≤◌, Bool, true, false, List, [], ◌∷◌, ◌++◌, refl, sym, ◌∙◌, ap, subst, append_assoc, append-nil, arith}
-use Rattle.std.specs.Prelude.{Option, Some, None, Result, Ok, Err}
-use Rattle.orca_base.specs.Ports.{Sent}
+use Rattle.std.proofs.Common.{◌≡◌, ◌⊎◌, inl, inr, ◌+◌, false, List, [], ◌++◌, refl, sym, ◌∙◌, ap, subst, append_assoc, arith}
+use Rattle.std.specs.Prelude.{None}
 use Rattle.orca_concert.specs.Concerts.{handed_of}
-use Rattle.orca_course.specs.Acts.{Act, AreMute, given, gives, open_after, stand_after}
-use Rattle.orca_course.specs.Courses.{Course, course, ended, joined}
-use Rattle.orca_course.specs.Following.{Accompanies, Follows, keys_after_acts, sounding}
-use Rattle.orca_course.specs.Standings.{Standing}
-use Rattle.orca_course.specs.Worlds.{AreBegun, Calls, Made, Sated, Wants, World}
+use Rattle.orca_course.specs.Acts.{Act, given, gives, open_after, stand_after}
+use Rattle.orca_course.specs.Following.{Follows, keys_after_acts, sounding}
+use Rattle.orca_course.specs.Worlds.{AreBegun, Made, Sated, World}
 use Rattle.orca_course.specs.declared.refused.NoMemory.{NoMemory}
 use Rattle.orca_course.proofs.ActLemmas.{given-append, open-mute, open_after-append, stand-mute, stand_after-append}
 use Rattle.orca_course.proofs.FollowLemmas.{accompanies-mute, follows_later, keys-append, keys-mute}
 use Rattle.orca_course.proofs.WorldLemmas.{made_none, made_twice, made_within, sated_twice}
-use Rattle.orca_grid.specs.declared.refusal.GridRefusal.{GridRefusal}
 use Rattle.orca_notes.specs.Device.{Voice}
 use Rattle.orca_notes.specs.Sound.{ends}
 use Rattle.orca_rig.specs.Outside.{Rose}
 use Rattle.orca_player.specs.Doing.{Came, CameSo, ClosesEarly, IsBlamed, IsWhole, RefusedEarly, StopsInSend, WasRefused, status_at}
-use Rattle.orca_player.specs.Outlines.{Outline, after, plain, stopped}
+use Rattle.orca_player.specs.Outlines.{Outline, after, stopped}
 use Rattle.orca_player.specs.declared.status.Status.{Status}
-use Rattle.orca_player.specs.declared.status.Status.TheVariants.{Done, Usage, GridRefused, OutFault, FileFault, ScriptRefused, HistoryFull, InboxFault, TurnsSpent, Memory}
+use Rattle.orca_player.specs.declared.status.Status.TheVariants.{Done, Usage, GridRefused, OutFault, FileFault, ScriptRefused, HistoryFull, InboxFault, TurnsSpent, SmfTooLong, WavTooLong, Memory}
 use Rattle.orca_player.proofs.CallingLemmas.{AreCalls, calls-front, given-calls, mute-calls}
 
 -- ---- one of the ways
@@ -86,6 +82,8 @@ blamed_after Done z same blamed = blamed ∙ same.lost
 blamed_after OutFault z same blamed = absurd blamed
 blamed_after HistoryFull z same blamed = blamed ∙ same.lost
 blamed_after TurnsSpent z same blamed = blamed ∙ same.lost
+blamed_after SmfTooLong z same blamed = blamed ∙ same.lost
+blamed_after WavTooLong z same blamed = blamed ∙ same.lost
 blamed_after Memory z same blamed = absurd blamed
 
 -- acts before others leave what is read off them

@@ -1,16 +1,15 @@
 -- What caused a status.
-use Rattle.std.proofs.Common.{◌≡◌, ◌≢◌, ◌⊎◌, inl, inr, ℕ, ◌+◌, ◌≤◌, ◌<◌, Bool, true, false, List, [], ◌∷◌, ◌++◌, refl, sym, ◌∙◌, ap, subst, arith, eq-or-lt_of_le}
-use Rattle.std.specs.Prelude.{if◌then◌else◌, Option, Some, None}
+use Rattle.std.proofs.Common.{◌≡◌, ◌⊎◌, inl, inr, ℕ, ◌≤◌, Bool, true, false, List, [], ◌∷◌, refl, sym, ◌∙◌, ap, subst, arith, eq-or-lt_of_le}
+use Rattle.std.specs.Prelude.{if◌then◌else◌, Option}
 use Rattle.orca_base.specs.Ports.{Sent}
 use Rattle.orca_course.specs.Acts.{Act, gives, lost_after}
 use Rattle.orca_course.specs.Worlds.{AreStored, Made, RecordsFaults, World}
-use Rattle.orca_grid.specs.declared.refusal.GridRefusal.{GridRefusal}
-use Rattle.orca_rig.specs.Outside.{Contents, Rose, last_count}
+use Rattle.orca_rig.specs.Outside.{Contents, Rose}
 use Rattle.orca_player.specs.Doing.{Came, IsBlamed, IsWhole, Said, status_at}
 use Rattle.orca_player.specs.Outlines.{Outline}
 use Rattle.orca_player.specs.Running.{Counts, IsCaused, counts_of}
 use Rattle.orca_player.specs.declared.status.Status.{Status}
-use Rattle.orca_player.specs.declared.status.Status.TheVariants.{Done, Usage, GridRefused, OutFault, FileFault, ScriptRefused, HistoryFull, InboxFault, TurnsSpent, Memory}
+use Rattle.orca_player.specs.declared.status.Status.TheVariants.{Done, Usage, GridRefused, OutFault, FileFault, ScriptRefused, HistoryFull, InboxFault, TurnsSpent, SmfTooLong, WavTooLong, Memory}
 
 -- nothing has failed yet
 pub record IsSound (x : World) : Type 0 where
@@ -124,6 +123,8 @@ caused_at InboxFault {x = x} {y = y} {z = z} sound blamed went still =
     rose_later x.mail.faults y.mail.faults z.mail.faults went.mail.grows
     (rose_by blamed went.mail) went.more_mail.grows
 caused_at TurnsSpent sound blamed went still = same_mail sound went blamed
+caused_at SmfTooLong sound blamed went still = same_mail sound went blamed
+caused_at WavTooLong sound blamed went still = same_mail sound went blamed
 caused_at Memory sound blamed went still = absurd blamed
 
 caused_whole : {o : Outline} {x y z : World} {status : Status} → IsSound x

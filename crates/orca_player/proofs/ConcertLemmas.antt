@@ -1,13 +1,13 @@
 -- A list of commands: where it leads, and that it does not ask the inbox.
-use Rattle.std.proofs.Common.{◌≡◌, ◌≢◌, ℕ, Bool, true, false, List, [], ◌∷◌, ◌++◌, replicate, refl, sym, ◌∙◌, ap, subst}
+use Rattle.std.proofs.Common.{◌≡◌, ◌≢◌, ℕ, List, [], ◌∷◌, ◌++◌, replicate, refl, sym, ◌∙◌, ap}
 use Rattle.std.specs.Prelude.{Option, Some, None, Result, Ok, Err}
 use Rattle.orca_base.specs.declared.command.Command.{Command}
 use Rattle.orca_base.specs.Ports.{Sent}
-use Rattle.orca_concert.specs.Concerts.{Concert, after_cue, close_course, command_at, command_course, concert as concert_at, concert_course, cue_course, cues_course, final_course, halt_of, halted, handed_of, last_course, obeyed_course, order_course, reported, saved_course, silenced_course, stance_of, told_course, with_kept}
+use Rattle.orca_concert.specs.Concerts.{Concert, close_course, command_at, command_course, concert as concert_at, concert_course, cue_course, cues_course, final_course, handed_of, last_course, obeyed_course, order_course, reported, saved_course, silenced_course, stance_of}
 use Rattle.orca_concert.specs.Manners.{IsQuiet, Manner}
-use Rattle.orca_course.specs.Acts.{Act, AreDeaf, gives, polls_in}
-use Rattle.orca_course.specs.Acts.Act.{Give, Stand}
-use Rattle.orca_course.specs.Courses.{Course, afterwards, course, each, ended, joined, keeping, mapped, onward, onward_by, still}
+use Rattle.orca_course.specs.Acts.{AreDeaf, gives, polls_in}
+use Rattle.orca_course.specs.Acts.Act.{Stand}
+use Rattle.orca_course.specs.Courses.{Course, afterwards, keeping, mapped, onward, onward_by}
 use Rattle.orca_course.specs.Standings.{Standing, notes_of, standing_after, standing_closed}
 use Rattle.orca_edit.specs.Obeying.{obey}
 use Rattle.orca_notes.specs.Sound.{ends}
@@ -17,7 +17,7 @@ use Rattle.orca_course.specs.Worlds.{Calls, Made, World, owing}
 use Rattle.orca_course.specs.declared.refused.NoMemory.{NoMemory}
 use Rattle.orca_course.specs.declared.refused.NoMemory.TheVariants.{InSend, Elsewhere}
 use Rattle.orca_course.specs.declared.ending.Stop.{Stop}
-use Rattle.orca_course.specs.declared.ending.Stop.TheVariants.{Left, Full, TooLong}
+use Rattle.orca_course.specs.declared.ending.Stop.TheVariants.{Left, Full, SongTooLong, WaveTooLong}
 use Rattle.orca_course.proofs.ActLemmas.{AreDeaf-append, lost-deaf, polls-deaf}
 use Rattle.orca_course.proofs.CourseLemmas.{each-holds}
 use Rattle.orca_cues.specs.declared.source.Cue.{Cue}
@@ -185,7 +185,8 @@ pub blamed-concert : (end : Option Stop) (x y : World) → y.lost ≡ x.lost
 blamed-concert None x y lost = lost
 blamed-concert (Some Left) x y lost = lost
 blamed-concert (Some Full) x y lost = lost
-blamed-concert (Some TooLong) x y lost = lost
+blamed-concert (Some SongTooLong) x y lost = lost
+blamed-concert (Some WaveTooLong) x y lost = lost
 
 -- a run stands where its session does
 pub stands-concert : {R : Type 0} (m : Manner R)

@@ -1,24 +1,21 @@
 -- The line of the status, after what was done of an outline.
-use Rattle.std.proofs.Common.{◌≡◌, ◌≢◌, ◌⊎◌, inl, inr, ℕ, ◌+◌, ◌≤◌, Bool, true, false, List, [], ◌∷◌, ◌++◌, refl, sym, ◌∙◌, ap, subst, append-nil, arith}
-use Rattle.std.specs.Prelude.{if◌then◌else◌, Option, Some, None, IsSomeAnd}
+use Rattle.std.proofs.Common.{◌≡◌, ◌≢◌, ◌⊎◌, inl, inr, ◌+◌, Bool, true, false, List, [], refl, sym, ◌∙◌, ap, subst, append-nil, arith}
+use Rattle.std.specs.Prelude.{if◌then◌else◌, Option, Some, IsSomeAnd}
 use Rattle.orca_base.specs.Ports.{Sent}
 use Rattle.orca_concert.specs.Concerts.{handed_of}
-use Rattle.orca_course.specs.Acts.{Act, given, gives, stand_after}
-use Rattle.orca_course.specs.Following.{Follows, keys_after_acts, midi_sent, sounding}
-use Rattle.orca_course.specs.Standings.{Standing}
-use Rattle.orca_course.specs.Worlds.{AreStored, Made, RecordsFaults, Sated, World}
+use Rattle.orca_course.specs.Acts.{gives}
+use Rattle.orca_course.specs.Following.{Follows, sounding}
+use Rattle.orca_course.specs.Worlds.{Made, World}
 use Rattle.orca_course.proofs.FollowLemmas.{ends_as_device, is_fair_to_device}
 use Rattle.orca_course.proofs.WorldLemmas.{made_none, made_twice, made_within}
-use Rattle.orca_grid.specs.declared.refusal.GridRefusal.{GridRefusal}
-use Rattle.orca_notes.specs.Device.{IsFair, Voice, device, voices}
 use Rattle.orca_notes.specs.Sound.{ends}
 use Rattle.orca_rig.specs.Outside.{Rose}
 use Rattle.orca_player.specs.Doing.{Came, ClosesEarly, IsBlamed, IsWhole, Said, SaidSo, StopsInSend, WasRefused, status_at}
 use Rattle.orca_player.specs.Outlines.{Outline}
-use Rattle.orca_player.specs.Running.{Counts, EndsAs, IsCaused, IsDone, IsLast, Went, counts_of}
-use Rattle.orca_player.specs.Statuses.{fault_sends, status_sends}
+use Rattle.orca_player.specs.Running.{EndsAs, IsDone, IsLast, Went}
+use Rattle.orca_player.specs.Statuses.{status_sends}
 use Rattle.orca_player.specs.declared.status.Status.{Status}
-use Rattle.orca_player.specs.declared.status.Status.TheVariants.{Done, Usage, GridRefused, OutFault, FileFault, ScriptRefused, HistoryFull, InboxFault, TurnsSpent, Memory}
+use Rattle.orca_player.specs.declared.status.Status.TheVariants.{Done, Usage, GridRefused, OutFault, FileFault, ScriptRefused, HistoryFull, InboxFault, TurnsSpent, SmfTooLong, WavTooLong, Memory}
 
 -- ---- how it ended
 
@@ -45,6 +42,8 @@ ends_at (ScriptRefused line column) x y blamed = refl
 ends_at HistoryFull x y blamed = refl
 ends_at InboxFault x y blamed = refl
 ends_at TurnsSpent x y blamed = refl
+ends_at SmfTooLong x y blamed = refl
+ends_at WavTooLong x y blamed = refl
 ends_at Memory x y blamed = absurd blamed
 
 not_memory : (planned : Status) (x y : World) → IsBlamed planned x y
@@ -58,6 +57,8 @@ not_memory (ScriptRefused line column) x y blamed is = cc
 not_memory HistoryFull x y blamed is = cc
 not_memory InboxFault x y blamed is = cc
 not_memory TurnsSpent x y blamed is = cc
+not_memory SmfTooLong x y blamed is = cc
+not_memory WavTooLong x y blamed is = cc
 not_memory Memory x y blamed is = absurd blamed
 
 -- ---- all of it
@@ -90,6 +91,8 @@ went_done (ScriptRefused line column) other done = done
 went_done HistoryFull other done = done
 went_done InboxFault other done = done
 went_done TurnsSpent other done = done
+went_done SmfTooLong other done = done
+went_done WavTooLong other done = done
 went_done Memory other done = absurd (other refl)
 
 went_refused : {o : Outline} {x y : World} → WasRefused o x y → Went o x Memory y
@@ -109,6 +112,8 @@ last_line (ScriptRefused line column) said is = is
 last_line HistoryFull said is = is
 last_line InboxFault said is = is
 last_line TurnsSpent said is = is
+last_line SmfTooLong said is = is
+last_line WavTooLong said is = is
 last_line Memory said is = inr is
 
 -- what was done, and what was sent at last

@@ -1,5 +1,5 @@
 -- The line of a status was sent, or memory was refused for it.
-use Rattle.std.proofs.Common.{◌≡◌, ◌≢◌, ◌∷◌, ◌++◌, inl, inr, ℕ, List, [], refl, sym, ◌∙◌, ap, subst}
+use Rattle.std.proofs.Common.{◌≡◌, ◌≢◌, ◌∷◌, ◌++◌, inl, inr, ℕ, List, [], refl, sym, ◌∙◌, ap}
 use Rattle.std.specs.Prelude.{Ok}
 use Rattle.orca_base.specs.Ascii.{line_feed}
 use Rattle.orca_base.specs.declared.port.Port.TheVariants as port
@@ -10,7 +10,7 @@ use Rattle.orca_course.proofs.WorldLemmas.{made_none}
 use Rattle.orca_player.specs.Doing.{Said}
 use Rattle.orca_player.specs.Statuses.{fault_sends, status_sends, status_text}
 use Rattle.orca_player.specs.declared.status.Status.{Status}
-use Rattle.orca_player.specs.declared.status.Status.TheVariants.{Done, Usage, GridRefused, OutFault, FileFault, ScriptRefused, HistoryFull, InboxFault, TurnsSpent, Memory}
+use Rattle.orca_player.specs.declared.status.Status.TheVariants.{Done, Usage, GridRefused, OutFault, FileFault, ScriptRefused, HistoryFull, InboxFault, TurnsSpent, SmfTooLong, WavTooLong, Memory}
 
 -- each other status has a line
 line-sends : (status : Status) → status ≢ Done → status_sends status ≡ fault_sends status
@@ -24,6 +24,8 @@ line-sends (ScriptRefused line column) some = refl
 line-sends HistoryFull some = refl
 line-sends InboxFault some = refl
 line-sends TurnsSpent some = refl
+line-sends SmfTooLong some = refl
+line-sends WavTooLong some = refl
 line-sends Memory some = refl
 
 abbrev line_sent : List ℕ → Sent

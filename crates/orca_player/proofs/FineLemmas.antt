@@ -1,8 +1,9 @@
 -- Lists of commands that no full history ends.
-use Rattle.std.proofs.Common.{◌≡◌, ◌≢◌, ℕ, zero, suc, ◌+◌, ◌<◌, ◌≤◌, length, arith, Bool, true, false, List, [], ◌∷◌, refl, sym, ◌∙◌, ap, subst}
-use Rattle.std.specs.Prelude.{◌||◌, nat_le, if◌then◌else◌, replicate, Option, Some, None, Result, Ok, Err}
+use Rattle.std.proofs.Common.{◌≡◌, ℕ, zero, suc, ◌+◌, ◌<◌, ◌≤◌, length, arith, Bool, true, false, List, [], ◌∷◌, refl, sym, ◌∙◌, ap, subst}
+use Rattle.std.specs.Prelude.{◌||◌, nat_le, if◌then◌else◌, replicate, Option, Some, None, IfSome, Result, Ok}
 use Rattle.std.specs.Option.{option_map_or, option_or}
 use Rattle.std.proofs.Math.Bool.{or-false}
+use Rattle.std.proofs.Math.Numerals.{suc-eq-add-one}
 use Rattle.std.proofs.lemmas.Bool.{lt-leb}
 use Rattle.std.proofs.lemmas.List.{length-append}
 use Rattle.orca_base.specs.declared.command.Command.{Command}
@@ -15,7 +16,7 @@ use Rattle.orca_base.specs.declared.command.Rule.TheVariants.{HistoryFull as Ful
 use Rattle.orca_base.specs.declared.message.Message.{Message}
 use Rattle.orca_concert.specs.Concerts.{Concert, after_cue, close_course, command_at, command_course, concert_course, cue_course, cues_course, final_course, halt_of, last_course, order_course, saved_course, told_course}
 use Rattle.orca_concert.specs.Manners.{Manner}
-use Rattle.orca_course.specs.Courses.{Course, afterwards, each, joined, keeping, mapped, onward, onward_by, still}
+use Rattle.orca_course.specs.Courses.{Course, afterwards, each, keeping, mapped, onward, onward_by}
 use Rattle.orca_course.specs.Standings.{Standing}
 use Rattle.orca_course.specs.declared.ending.Stop.{Stop}
 use Rattle.orca_course.proofs.CourseLemmas.{onward_goes}
@@ -25,68 +26,68 @@ use Rattle.orca_cues.specs.declared.source.Order.{Order}
 use Rattle.orca_cues.specs.declared.source.Order.TheVariants.{Do}
 use Rattle.orca_edit.specs.Obeying.{MachineState, Obeyed, accept, entry_of, extend, obey, refuse, rule_against, taken_area}
 
--- ---- reports that do not end a run
+-- ---- reports that end a run in few ways
 
--- what is told of the end does not end it
-pub record Closes {R : Type 0} (m : Manner R) : Type 0 where
-  pub final : (s : Standing) (r : R) → (m.final s r).ending ≡ None
-  pub close : (messages : List Message) (r : R) → (m.close messages r).ending ≡ None
-  pub saves : (r : R) → (m.saves r).ending ≡ None
+-- what is told of the end ends it in these ways alone
+pub record Closes {R : Type 0} (P : Stop → Type 0) (m : Manner R) : Type 0 where
+  pub final : (s : Standing) (r : R) → IfSome (m.final s r).ending P
+  pub close : (messages : List Message) (r : R) → IfSome (m.close messages r).ending P
+  pub saves : (r : R) → IfSome (m.saves r).ending P
 
--- nor what is told of a command
+-- what is told of a command does not end it
 abbrev pub Goes : {R : Type 0} → Manner R → Type 0
 Goes {R} m =
     (line : ℕ) (answer : Result Reply Rule) (messages : List Message) (r : R)
     → (m.done line answer messages r).ending ≡ None
 
--- nor of a frame that was played
-abbrev pub Frames : {R : Type 0} → Manner R → Type 0
-Frames {R} m =
-    (line tick : ℕ) (messages : List Message) (r : R)
-    → (m.done line (Ok (Framed tick)) messages r).ending ≡ None
+-- what is told of a frame that was played ends it in these ways alone, while there is room for it; and
+-- then there is room for one less
+abbrev pub Frames : {R : Type 0} → (Stop → Type 0) → (ℕ → R → Type 0) → Manner R → Type 0
+Frames {R} P Room m =
+    (line tick n : ℕ) (messages : List Message) (r : R) → Room (n + 1) r
+    → IfSome (m.done line (Ok (Framed tick)) messages r).ending P
+    × Room n (m.done line (Ok (Framed tick)) messages r).state
 
--- a run ends as its cues did
-close-goes : {R : Type 0} (m : Manner R) (s : Concert R) → Closes m
-    → (close_course m s).ending ≡ None
+-- a run ends as its cues did, or in one of these ways
+close-ends : {R : Type 0} {P : Stop → Type 0} (m : Manner R) (s : Concert R) → Closes P m
+    → IfSome (close_course m s).ending P
 unfolding close_course onward mapped
-close-goes m s closes = closes.close _ _
+close-ends m s closes = closes.close _ _
 
-final-goes : {R : Type 0} (m : Manner R) (s : Concert R) → Closes m
-    → (final_course m None s).ending ≡ None
+final-ends : {R : Type 0} {P : Stop → Type 0} (m : Manner R) (end : Option Stop) (s : Concert R)
+    → Closes P m → IfSome end P → IfSome (final_course m end s).ending P
 unfolding final_course mapped
-final-goes m s closes = closes.final s.standing s.kept
+final-ends m None s closes ends = closes.final s.standing s.kept
+final-ends m (Some stop) s closes ends = ends
 
-saved-goes : {R : Type 0} (m : Manner R) (s : Concert R) → Closes m
-    → (saved_course m None s).ending ≡ None
+saved-ends : {R : Type 0} {P : Stop → Type 0} (m : Manner R) (end : Option Stop) (s : Concert R)
+    → Closes P m → IfSome end P → IfSome (saved_course m end s).ending P
 unfolding saved_course mapped
-saved-goes m s closes = closes.saves s.kept
+saved-ends m None s closes ends = closes.saves s.kept
+saved-ends m (Some stop) s closes ends = ends
 
-kept-goes : {R : Type 0} (m : Manner R) (end more : Option Stop) (s : Concert R) → Closes m
-    → end ≡ None → more ≡ None → (saved_course m (option_or end more) s).ending ≡ None
-kept-goes m None None s closes none off = saved-goes m s closes
-kept-goes m None (Some stop) s closes none off = absurd cc
-kept-goes m (Some stop) more s closes none off = absurd cc
+either-ends : (P : Stop → Type 0) (end more : Option Stop) → IfSome end P → IfSome more P
+    → IfSome (option_or end more) P
+either-ends P None more ends others = others
+either-ends P (Some stop) more ends others = ends
 
-last-goes : {R : Type 0} (m : Manner R) (s : Concert R) → Closes m
-    → (last_course m None s).ending ≡ None
+last-ends : {R : Type 0} {P : Stop → Type 0} (m : Manner R) (end : Option Stop) (s : Concert R)
+    → Closes P m → IfSome end P → IfSome (last_course m end s).ending P
 unfolding last_course afterwards keeping
-last-goes m s closes =
-    let told = final_course m None s in
+last-ends {P = P} m end s closes ends =
+    let told = final_course m end s in
     let over = close_course m told.state in
-    kept-goes m told.ending over.ending over.state closes (final-goes m s closes)
-    (close-goes m told.state closes)
+    saved-ends m (option_or told.ending over.ending) over.state closes
+    (either-ends P told.ending over.ending (final-ends m end s closes ends)
+    (close-ends m told.state closes))
 
-last-goes_by : {R : Type 0} (m : Manner R) (end : Option Stop) (s : Concert R) → Closes m
-    → end ≡ None → (last_course m end s).ending ≡ None
-last-goes_by m None s closes none = last-goes m s closes
-last-goes_by m (Some stop) s closes none = absurd cc
-
-pub concert-goes : {R : Type 0} (m : Manner R) (cues : List Cue) (s : Concert R) → Closes m
-    → (cues_course m cues s).ending ≡ None → (concert_course m cues s).ending ≡ None
+pub concert-ends : {R : Type 0} {P : Stop → Type 0} (m : Manner R) (cues : List Cue) (s : Concert R)
+    → Closes P m → IfSome (cues_course m cues s).ending P
+    → IfSome (concert_course m cues s).ending P
 unfolding concert_course afterwards
-concert-goes m cues s closes goes =
+concert-ends m cues s closes ends =
     let c = cues_course m cues s in
-    last-goes_by m c.ending c.state closes goes
+    last-ends m c.ending c.state closes ends
 
 -- ---- commands
 
@@ -160,53 +161,115 @@ frame_obeyed m room =
     (or-false (nat_le m.limit (length m.history)) ∙ lt-leb m.limit (length m.history) room)
 
 -- a frame was played, and the history is longer by one
-record Played {R : Type 0} (c : Course (Concert R) Stop) (s : Concert R) : Type 0 where
-  pub ending : c.ending ≡ None
+record Played {R : Type 0} (P : Stop → Type 0) (Room : ℕ → R → Type 0) (n : ℕ)
+    (c : Course (Concert R) Stop) (s : Concert R) : Type 0 where
+  pub ends : IfSome c.ending P
   pub note : c.state.standing.tally.note ≡ None
   pub longer : length c.state.standing.machine.history ≡ length s.standing.machine.history + 1
   pub limit : c.state.standing.machine.limit ≡ s.standing.machine.limit
+  pub room : Room n c.state.kept
 
-frame-played : {R : Type 0} (m : Manner R) (line : ℕ) (s : Concert R) → Frames m
+frame-played : {R : Type 0} {P : Stop → Type 0} {Room : ℕ → R → Type 0} (m : Manner R)
+    (line n : ℕ) (s : Concert R) → Frames P Room m → Room (n + 1) s.kept
     → length s.standing.machine.history < s.standing.machine.limit
-    → Played (command_course m line command.Frame s) s
+    → Played P Room n (command_course m line command.Frame s) s
 unfolding command_course onward mapped
-frame-played m line s frames room =
-    subst (λ o. Played (told_course m line command.Frame o s) s)
+frame-played {P = P} {Room = Room} m line n s frames some room =
+    subst (λ o. Played P Room n (told_course m line command.Frame o s) s)
     (sym (frame_obeyed s.standing.machine room))
     (record {
-      ending = frames line _ _ _;
+      ends = (frames line _ n _ s.kept some).0;
       note = refl;
       longer = length-append s.standing.machine.history (entry.Frame ∷ []);
       limit = refl;
+      room = (frames line _ n _ s.kept some).1;
     })
 
-frame-halts : (refused : Option Rule) (end : Option Stop) → refused ≡ None → end ≡ None
-    → halt_of refused end ≡ None
-frame-halts None None off none = refl
-frame-halts None (Some stop) off none = absurd cc
-frame-halts (Some rule) end off none = absurd cc
+-- a frame that was played drops nothing
+frame-halts : (P : Stop → Type 0) (refused : Option Rule) (end : Option Stop) → refused ≡ None
+    → IfSome end P → IfSome (after_cue (halt_of refused end)) P
+frame-halts P None None off ends = tt
+frame-halts P None (Some stop) off ends = ends
+frame-halts P (Some rule) end off ends = absurd cc
 
-frames-go : {R : Type 0} (m : Manner R) (line n : ℕ) (s : Concert R) → Frames m
+-- a course and then another one, by how the first ended
+onward-ends : {S E : Type 0} (P : Stop → Type 0) (g : Option E → Option Stop) (end : Option E)
+    (c : Course S E) (next : S → Course S E) → c.ending ≡ end → IfSome (g end) P
+    → IfSome (g (next c.state).ending) P → IfSome (g (onward_by end c next).ending) P
+onward-ends P g None c next is ends more = more
+onward-ends P g (Some e) c next is ends more =
+    subst (λ (end : Option _). IfSome (g end) P) (sym is) ends
+
+frames-end : {R : Type 0} (P : Stop → Type 0) (Room : ℕ → R → Type 0) (m : Manner R)
+    (line n : ℕ) (s : Concert R) → Frames P Room m → Room n s.kept
     → length s.standing.machine.history + n ≤ s.standing.machine.limit
-    → (each (order_course m line) (replicate n (Do command.Frame)) s).ending ≡ None
-unfolding each order_course mapped
-frames-go m line zero s frames room = refl
-frames-go m line (suc n) s frames room =
+    → IfSome (after_cue (each (order_course m line) (replicate n (Do command.Frame)) s).ending) P
+unfolding each order_course mapped onward
+frames-end P Room m line zero s frames some room = tt
+frames-end P Room m line (suc n) s frames some room =
     let orders = replicate n (Do command.Frame) in
-    let played = frame-played m line s frames (omega (arith, room)) in
+    let played = frame-played {P = P} {Room = Room} m line n s frames
+    (subst (λ k. Room k s.kept) (suc-eq-add-one n) some) (omega (arith, room)) in
     let c = command_course m line command.Frame s in
     let o = order_course m line (Do command.Frame) s in
-    let goes : o.ending ≡ None =
-    frame-halts c.state.standing.tally.note c.ending played.note played.ending in
-    ap (λ c. c.ending) (onward_goes o (each (order_course m line) orders) goes)
-    ∙ frames-go m line n c.state frames (omega (arith, room, played.longer, played.limit))
+    onward-ends P after_cue o.ending o (each (order_course m line) orders) refl
+    (frame-halts P c.state.standing.tally.note c.ending played.note played.ends)
+    (frames-end P Room m line n c.state frames played.room
+    (omega (arith, room, played.longer, played.limit)))
 
 -- the frames of one cue
-pub frames-cue : {R : Type 0} (m : Manner R) (n : ℕ) (s : Concert R) → Frames m
+pub frames-cue : {R : Type 0} (P : Stop → Type 0) (Room : ℕ → R → Type 0) (m : Manner R)
+    (n : ℕ) (s : Concert R) → Frames P Room m → Room n s.kept
     → length s.standing.machine.history + n ≤ s.standing.machine.limit
-    → (cues_course m (frames_cue n) s).ending ≡ None
-unfolding cues_course cue_course each mapped
-frames-cue m n s frames room =
+    → IfSome (cues_course m (frames_cue n) s).ending P
+unfolding cues_course cue_course each mapped onward
+frames-cue P Room m n s frames some room =
     let cue : Cue = record { line = 0; times = n; order = Do command.Frame } in
-    let goes = ap after_cue (frames-go m 0 n s frames room) in
-    ap (λ c. c.ending) (onward_goes (cue_course m cue s) (each (cue_course m) []) goes)
+    let c = cue_course m cue s in
+    onward-ends P (λ end. end) c.ending c (each (cue_course m) []) refl
+    (frames-end P Room m 0 n s frames some room) tt
+
+-- ---- reports that end a run in few ways, whatever comes
+
+-- whatever is told of a command ends it in these ways alone
+abbrev pub Ends : {R : Type 0} → (Stop → Type 0) → Manner R → Type 0
+Ends {R} P m =
+    (line : ℕ) (answer : Result Reply Rule) (messages : List Message) (r : R)
+    → IfSome (m.done line answer messages r).ending P
+
+halts-end : (P : Stop → Type 0) (refused : Option Rule) (end : Option Stop) → IfSome end P
+    → IfSome (after_cue (halt_of refused end)) P
+halts-end P None None ends = tt
+halts-end P (Some rule) None ends = tt
+halts-end P refused (Some stop) ends = ends
+
+command-ends : {R : Type 0} (P : Stop → Type 0) (m : Manner R) (line : ℕ) (command : Command)
+    (s : Concert R) → Ends P m → IfSome (command_course m line command s).ending P
+unfolding command_course onward mapped
+command-ends P m line command s ends = ends line _ _ _
+
+order-ends : {R : Type 0} (P : Stop → Type 0) (m : Manner R) (line : ℕ) (order : Order)
+    (s : Concert R) → Ends P m → IfSome (after_cue (order_course m line order s).ending) P
+unfolding order_course mapped
+order-ends P m line order s ends =
+    let c = command_course m line (command_at order s.standing.machine) s in
+    halts-end P c.state.standing.tally.note c.ending
+    (command-ends P m line (command_at order s.standing.machine) s ends)
+
+each-ends : {X S E : Type 0} (P : Stop → Type 0) (g : Option E → Option Stop)
+    (f : X → S → Course S E) → IfSome (g None) P
+    → ((x : X) (s : S) → IfSome (g (f x s).ending) P)
+    → (xs : List X) (s : S) → IfSome (g (each f xs s).ending) P
+unfolding each onward
+each-ends P g f none ends [] s = none
+each-ends P g f none ends (x ∷ xs) s =
+    onward-ends P g (f x s).ending (f x s) (each f xs) refl (ends x s)
+    (each-ends P g f none ends xs (f x s).state)
+
+pub cues-end : {R : Type 0} (P : Stop → Type 0) (m : Manner R) (cues : List Cue) (s : Concert R)
+    → Ends P m → IfSome (cues_course m cues s).ending P
+unfolding cues_course cue_course mapped
+cues-end P m cues s ends =
+    each-ends P (λ end. end) (cue_course m) tt
+    (λ cue t. each-ends P after_cue (order_course m cue.line) tt
+    (λ order u. order-ends P m cue.line order u ends) (replicate cue.times cue.order) t) cues s

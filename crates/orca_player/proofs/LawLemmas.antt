@@ -1,17 +1,14 @@
 -- The laws of performances, on the outlines of runs.
 use Rattle.std.proofs.Common.{◌≡◌, ◌≢◌, ◌≤◌, ℕ, List, [], ◌∷◌, ◌++◌, length, refl, sym, ◌∙◌, ap, subst}
-use Rattle.std.specs.Prelude.{Option, Some, None, is_some, unwrap_or, Result, Ok, Err}
+use Rattle.std.specs.Prelude.{Bool, true, false, if◌then◌else◌, Option, Some, None, is_some, unwrap_or, Result, Ok, Err}
 use Rattle.std.specs.Option.{option_map}
 use Rattle.orca_base.specs.declared.command.Command.{Command}
-use Rattle.orca_base.specs.declared.command.Reply.{Reply}
-use Rattle.orca_base.specs.declared.command.Rule.{Rule}
-use Rattle.orca_base.specs.declared.message.Message.{Message}
 use Rattle.orca_base.specs.Grids.{Sheet}
 use Rattle.orca_base.specs.declared.limits.TheConstants.{MAX_POLLS}
-use Rattle.orca_concert.specs.Concerts.{concert as concert_at, concert_course, cues_course}
+use Rattle.orca_concert.specs.Concerts.{concert as concert_at}
 use Rattle.orca_course.specs.Acts.{Act, commands_in}
-use Rattle.orca_course.specs.Acts.Act.{Attach, Listen, Load}
-use Rattle.orca_course.specs.Courses.{Course, course, joined, mapped}
+use Rattle.orca_course.specs.Acts.Act.{Listen, Load}
+use Rattle.orca_course.specs.Courses.{course, mapped}
 use Rattle.orca_course.specs.Performers.{performance}
 use Rattle.orca_course.specs.Standings.{Standing}
 use Rattle.orca_course.specs.declared.ending.Ending.{Ending}
@@ -26,14 +23,14 @@ use Rattle.orca_grid.specs.declared.refusal.GridRefusal.{GridRefusal}
 use Rattle.orca_live.specs.Items.{items_of}
 use Rattle.orca_live.specs.Laws.{CutsAlike as LiveCuts, GoesOn, ReplaysScript as LiveReplays, replayed}
 use Rattle.orca_live.specs.Performing.{live_part}
-use Rattle.orca_live.specs.States.{LiveState}
 use Rattle.orca_reports.specs.Manners.{replay_manner}
 use Rattle.orca_rig.specs.Arrived.{Poll}
-use Rattle.orca_script.specs.Runs.{ScriptReadsBack, lines_behind, printed_script}
-use Rattle.orca_words.specs.Requests.{Events, Make, Perform, Performance, Play, Replay, Request, Run, Setup, Work, request_of}
+use Rattle.orca_script.specs.Runs.{lines_behind, printed_script}
+use Rattle.orca_words.specs.Requests.{Events, Make, Migrate, Perform, Performance, Play, Replay, Request, Run, Setup, Smf, Wav, Work, request_of}
 use Rattle.orca_player.specs.Doing.{ReadsBack}
 use Rattle.orca_player.specs.Laws.{CutsAlike, EndAlike, HasEnd, HearAlike, IsReplayed, ReplaysAlike, with_script}
-use Rattle.orca_player.specs.Outlines.{Brought, Heard, Outline, Script, after, asked_outline, attaches, concert, grid_outline, live_outline, live_start, loaded_grid, loaded_script, opening, outline, request_outline, script_kept, script_outline, standing_at, started_outline, status_of_ending, work_outline}
+use Rattle.orca_player.specs.Outlines.{Brought, Heard, Outline, Script, after, asked_outline, attaches, concert, grid_outline, is_too_long, live_outline, live_start, loaded_grid, loaded_migration, loaded_script, opening, outline, performed, request_outline, script_kept, script_outline, standing_at, started_outline, status_of_ending, stopped, work_outline}
+use Rattle.orca_player.specs.declared.status.Status.TheVariants.{WavTooLong}
 use Rattle.orca_player.proofs.ConcertLemmas.{concert-standing}
 
 -- ---- outlines that end alike
@@ -113,6 +110,8 @@ work_alike : (cutting : LiveCuts) (setup : Setup) (work : Work) (sheet : Sheet) 
 unfolding work_outline
 work_alike cutting setup (Run frames) sheet h k same ends others = alike_none _
 work_alike cutting setup (Events frames) sheet h k same ends others = alike_none _
+work_alike cutting setup (Smf song) sheet h k same ends others = alike_none _
+work_alike cutting setup (Wav wave) sheet h k same ends others = alike_none _
 work_alike cutting setup (Replay name) sheet h k same ends others =
     alike_same _ _
     (ap (λ (script : Option (List ℕ)).
@@ -148,12 +147,11 @@ abbrev with_grid : Setup → Work → Brought → Option (List ℕ) → Outline
 with_grid setup work b grid =
     after (attaches setup) (after (Load setup.grid grid ∷ []) (loaded_grid setup work b grid))
 
-request_alike : (cutting : LiveCuts) (request : Request) (h k : Heard) → HearAlike h k
-    → HasEnd (request_outline request h) → HasEnd (request_outline request k)
-    → EndAlike (request_outline request h) (request_outline request k)
-unfolding request_outline
-request_alike cutting (Make load) h k same ends others = alike_none _
-request_alike cutting (Perform setup work) h k same ends others =
+performed_alike : (cutting : LiveCuts) (setup : Setup) (work : Work) (h k : Heard)
+    → HearAlike h k → HasEnd (performed setup work h) → HasEnd (performed setup work k)
+    → EndAlike (performed setup work h) (performed setup work k)
+unfolding performed
+performed_alike cutting setup work h k same ends others =
     let alike : Alike h.brought k.brought = record {
       script = same.script;
       starts = same.starts;
@@ -169,6 +167,30 @@ request_alike cutting (Perform setup work) h k same ends others =
     (loaded_alike cutting setup work h.brought k.brought h.grid alike ends
     (subst (λ (grid : Option (List ℕ)). HasEnd (loaded_grid setup work k.brought grid)) same.grid
     others))))
+
+-- a wave that is too long is not performed
+abbrev unless_long : Bool → Setup → Work → Heard → Outline
+unless_long long setup work h = if long then stopped WavTooLong else performed setup work h
+
+unless_alike : (cutting : LiveCuts) (long : Bool) (setup : Setup) (work : Work) (h k : Heard)
+    → HearAlike h k → HasEnd (unless_long long setup work h)
+    → HasEnd (unless_long long setup work k)
+    → EndAlike (unless_long long setup work h) (unless_long long setup work k)
+unless_alike cutting true setup work h k same ends others = alike_none _
+unless_alike cutting false setup work h k same ends others =
+    performed_alike cutting setup work h k same ends others
+
+request_alike : (cutting : LiveCuts) (request : Request) (h k : Heard) → HearAlike h k
+    → HasEnd (request_outline request h) → HasEnd (request_outline request k)
+    → EndAlike (request_outline request h) (request_outline request k)
+unfolding request_outline
+request_alike cutting (Make load) h k same ends others = alike_none _
+request_alike cutting (Migrate m) h k same ends others =
+    alike_same _ _
+    (ap (λ (script : Option (List ℕ)).
+    after (Load m.script script ∷ []) (loaded_migration m script)) (sym same.script))
+request_alike cutting (Perform setup work) h k same ends others =
+    unless_alike cutting (is_too_long work) setup work h k same ends others
 
 asked_alike : (cutting : LiveCuts) (request : Option Request) (h k : Heard) → HearAlike h k
     → HasEnd (asked_outline request h) → HasEnd (asked_outline request k)
@@ -359,7 +381,7 @@ request_again : (replays : LiveReplays) (setup : Setup) (play : Performance) (h 
     (script : Script) → HasEnd (request_outline (Perform setup (Play play)) h)
     → (request_outline (Perform setup (Play play)) h).given ≡ Some script → ReadsBack script
     → IsReplayed setup h script (request_outline (Perform setup (Play play)) h)
-unfolding request_outline
+unfolding request_outline performed
 request_again replays setup play h script ends given reads =
     let played : (name : List ℕ) → IsPlayed setup script
     (request_outline (Perform setup (Play play)) h)

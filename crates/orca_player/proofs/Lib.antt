@@ -11,7 +11,10 @@ pub mod LoadLemmas
 pub mod OpeningLemmas
 pub mod PlayLemmas
 pub mod ReadyLemmas
+pub mod RecordedLemmas
 pub mod RunLemmas
+pub mod SavedLemmas
 pub mod ShowLemmas
+pub mod TakeLemmas
 pub mod TopLemmas
 pub mod UsageLemmas

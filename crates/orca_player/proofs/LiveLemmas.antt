@@ -1,24 +1,22 @@
 -- A performance that ends is closed.
-use Rattle.std.proofs.Common.{◌≡◌, ◌≢◌, ℕ, Bool, true, false, List, [], ◌∷◌, ◌++◌, refl, sym, ◌∙◌, ap, subst}
+use Rattle.std.proofs.Common.{◌≡◌, ◌≢◌, ℕ, true, List, [], refl, sym, ◌∙◌, ap, subst}
 use Rattle.std.specs.Prelude.{Option, Some, None, IfSome, Result, Ok, Err}
 use Rattle.std.specs.Option.{option_map}
 use Rattle.orca_base.specs.declared.command.Command.{Command}
 use Rattle.orca_concert.specs.Concerts.{close_course as silence_course, handed_of}
 use Rattle.orca_course.specs.Acts.{gives, polls_in}
-use Rattle.orca_course.specs.Courses.{Course, joined, lastly, lastly_by, mapped, onward, onward_by, still}
-use Rattle.orca_course.specs.Doing.{Does}
+use Rattle.orca_course.specs.Courses.{Course, lastly, lastly_by, mapped, onward, onward_by}
 use Rattle.orca_course.specs.Following.{Accompanies}
 use Rattle.orca_course.specs.Performers.{DoesPolls, IsLostBy, begun, finished, performance}
-use Rattle.orca_course.specs.Standings.{Standing, notes_of, standing_closed}
+use Rattle.orca_course.specs.Standings.{notes_of, standing_closed}
 use Rattle.orca_course.specs.Worlds.{Calls, World, owing}
 use Rattle.orca_course.specs.declared.refused.NoMemory.{NoMemory}
 use Rattle.orca_course.specs.declared.refused.NoMemory.TheVariants.{InSend, Elsewhere}
 use Rattle.orca_course.specs.declared.ending.Ending.{Ending}
 use Rattle.orca_course.specs.declared.ending.Ending.TheVariants.{Stopped, Lost, Spent}
 use Rattle.orca_course.specs.declared.ending.Stop.{Stop}
-use Rattle.orca_course.specs.declared.ending.Stop.TheVariants.{Left, Full, TooLong}
+use Rattle.orca_course.specs.declared.ending.Stop.TheVariants.{Left, Full, SongTooLong, WaveTooLong}
 use Rattle.orca_live.specs.Performing.{close_course, finish_course, if_named, last_grid_course, last_script_course, live_part, save_course, script_course}
-use Rattle.orca_live.specs.Quiet.{silent_manner}
 use Rattle.orca_live.specs.States.{LiveState, live_stance}
 use Rattle.orca_notes.specs.Sound.{ends}
 use Rattle.orca_rig.specs.Arrived.{Poll}
@@ -114,7 +112,8 @@ lost_by : (ending : Ending) (x y : World) → IsLostBy (Ok (Some ending)) x.lost
     → IsBlamed (status_of_ending ending) x y
 lost_by (Stopped Left) x y lost = lost
 lost_by (Stopped Full) x y lost = lost
-lost_by (Stopped TooLong) x y lost = lost
+lost_by (Stopped SongTooLong) x y lost = lost
+lost_by (Stopped WaveTooLong) x y lost = lost
 lost_by Lost x y lost = lost
 lost_by Spent x y lost = lost
 
@@ -154,6 +153,7 @@ played_done s t most n {x = x} {y = y} ending none begins sized reads did =
           kept-reads s.setting.script s.setting.seed (performance live_part s did.polls).state.given
           (subst (λ (u : LiveState). IfSome u.given (ScriptReadsBack s.setting.seed))
           (sym is.state) reads);
+      takes = λ other ends. tt;
     }
 
 -- memory was refused
@@ -166,6 +166,7 @@ refused_by s polls sized all came = record {
   came = came;
   sized = sized;
   reads = λ other. absurd (other refl);
+  takes = λ other. absurd (other refl);
 }
 
 pub played_in_send : (s t : LiveState) (most n : ℕ) {x y : World} → most ≡ 0

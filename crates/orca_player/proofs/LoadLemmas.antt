@@ -1,21 +1,21 @@
 -- Single calls before the session is opened: a load, and the wait for a player.
-use Rattle.std.proofs.Common.{◌≡◌, ◌≢◌, ℕ, Bool, true, List, [], ◌∷◌, ◌++◌, refl, sym, ◌∙◌, ap, subst}
-use Rattle.std.specs.Prelude.{Option, Some, None, Result, Ok, Err}
+use Rattle.std.proofs.Common.{◌≡◌, ℕ, Bool, List, [], ◌∷◌, ◌++◌, refl, sym, ◌∙◌, subst}
+use Rattle.std.specs.Prelude.{Option, Some, None, Ok, Err}
 use Rattle.orca_base.specs.declared.port.Port.{Port}
 use Rattle.orca_base.specs.declared.port.Port.TheVariants as port
 use Rattle.orca_course.specs.Acts.{Act, lost_after}
 use Rattle.orca_course.specs.Acts.Act.{Attach, Await, Give, Listen, Load, Obey, Save, Show, Stand}
-use Rattle.orca_course.specs.Worlds.{AreStored, Called, Calls, Made, Sated, World}
+use Rattle.orca_course.specs.Worlds.{AreStored, Called, Calls, Made, World}
 use Rattle.orca_course.specs.declared.refused.NoMemory.{NoMemory}
 use Rattle.orca_course.proofs.CallLemmas.{calls_one}
 use Rattle.orca_rig.specs.Outside.{Contents, Rose}
-use Rattle.orca_player.specs.Doing.{Came, CameBy}
-use Rattle.orca_player.specs.Outlines.{Brought, Outline, after, attaches, attaches_to, stopped}
+use Rattle.orca_player.specs.Doing.{Came}
+use Rattle.orca_player.specs.Outlines.{Outline, after, attaches, attaches_to, stopped}
 use Rattle.orca_player.specs.declared.status.Status.{Status}
 use Rattle.orca_player.specs.declared.status.Status.TheVariants.{FileFault, InboxFault, Memory}
 use Rattle.orca_words.specs.Requests.{Setup}
 use Rattle.orca_player.proofs.CallingLemmas.{AreCalls, attaches-calls}
-use Rattle.orca_player.proofs.CameLemmas.{AsBefore, came_after, came_cut, came_none, came_stops}
+use Rattle.orca_player.proofs.CameLemmas.{AsBefore, came_after, came_cut, came_stops}
 
 -- ---- a load
 

@@ -1,5 +1,5 @@
 -- The session is opened, and then a course of what stands on it is done.
-use Rattle.std.proofs.Common.{◌≡◌, ◌≢◌, ◌⊎◌, inl, inr, ℕ, ◌+◌, ◌≤◌, Bool, true, false, List, [], ◌∷◌, ◌++◌, length, refl, sym, ◌∙◌, ap, subst, append_assoc, append-nil, arith}
+use Rattle.std.proofs.Common.{◌≡◌, ◌≢◌, ◌⊎◌, inl, inr, ℕ, ◌+◌, Bool, true, false, List, [], ◌∷◌, ◌++◌, length, refl, sym, ◌∙◌, ap, subst, append-nil, arith}
 use Rattle.std.specs.Prelude.{Option, Some, None, Result, Ok, Err}
 use Rattle.orca_base.specs.Grids.{Sheet}
 use Rattle.orca_base.specs.Ports.{Sent}
@@ -7,14 +7,14 @@ use Rattle.orca_concert.specs.Concerts.{handed_of}
 use Rattle.orca_course.specs.Acts.{Act, gives, open_after, stand_after}
 use Rattle.orca_course.specs.Acts.Act.{Give, Stand}
 use Rattle.orca_course.specs.Courses.{Course, mapped}
-use Rattle.orca_course.specs.Doing.{Does, IsDone, IsLeft, Rests, Stance}
+use Rattle.orca_course.specs.Doing.{Does, Rests, Stance}
 use Rattle.orca_course.specs.Following.{Accompanies, Follows, keys_after_acts, sounding}
 use Rattle.orca_course.specs.Standings.{Standing, notes_of, standing_closed}
-use Rattle.orca_course.specs.Worlds.{AreBegun, Calls, Made, Sated, Wants, World, owing}
+use Rattle.orca_course.specs.Worlds.{Calls, Made, Sated, World, owing}
 use Rattle.orca_course.specs.declared.refused.NoMemory.{NoMemory}
 use Rattle.orca_course.specs.declared.refused.NoMemory.TheVariants.{InSend, Elsewhere}
 use Rattle.orca_course.proofs.FollowLemmas.{Follows-front, follows_later}
-use Rattle.orca_course.proofs.WorldLemmas.{made_none, made_stand, made_twice, made_within, sated_twice}
+use Rattle.orca_course.proofs.WorldLemmas.{made_stand, made_twice, made_within}
 use Rattle.orca_edit.specs.Pieces.{Piece, piece_after}
 use Rattle.orca_edit.proofs.FoldLemmas.{piece_after-closed}
 use Rattle.orca_notes.specs.Device.{Voice, voices}
@@ -22,7 +22,7 @@ use Rattle.orca_notes.specs.Sound.{ends}
 use Rattle.orca_rig.specs.Outside.{Rose}
 use Rattle.orca_send.specs.Sending.{sends_of}
 use Rattle.std.proofs.lemmas.List.{map-append}
-use Rattle.orca_player.specs.Doing.{Came, ClosesEarly, IsBlamed, IsWhole, StopsInSend, status_at}
+use Rattle.orca_player.specs.Doing.{Came, IsBlamed, status_at}
 use Rattle.orca_player.specs.Outlines.{Outline, opening, standing_at}
 use Rattle.orca_player.specs.declared.status.Status.{Status}
 use Rattle.orca_player.specs.declared.status.Status.TheVariants.{Memory}

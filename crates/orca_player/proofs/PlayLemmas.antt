@@ -1,5 +1,5 @@
 -- A performance that has room for each frame does not end by a full history.
-use Rattle.std.proofs.Common.{◌≡◌, ◌≢◌, ◌⊎◌, inl, inr, ℕ, zero, suc, ◌+◌, ◌<◌, ◌≤◌, length, arith, Bool, true, false, List, [], ◌∷◌, ◌++◌, refl, sym, ◌∙◌, ap, subst, append_assoc, append-nil, length-append}
+use Rattle.std.proofs.Common.{◌≡◌, ℕ, ◌+◌, ◌<◌, length, arith, Bool, true, false, List, [], ◌∷◌, ◌++◌, refl, sym, ◌∙◌, ap, subst, append_assoc, append-nil}
 use Rattle.std.specs.Prelude.{cond, nat_le, not, if◌then◌else◌, ◌==◌, Option, Some, None}
 use Rattle.std.specs.Option.{option_map}
 use Rattle.std.proofs.lemmas.Bool.{lt-leb}
@@ -7,22 +7,20 @@ use Rattle.std.proofs.lemmas.List.Sums.{sum_by-append, sum_by-cons}
 use Rattle.orca_base.specs.declared.command.Command.{Command}
 use Rattle.orca_base.specs.declared.command.Command.TheVariants.{Frame}
 use Rattle.orca_base.specs.declared.limits.TheConstants.{MAX_POLLS}
-use Rattle.orca_concert.specs.Concerts.{concert, command_course as obey_course}
 use Rattle.orca_course.specs.Acts.{polls_in}
-use Rattle.orca_course.specs.Acts.Act.{Await}
 use Rattle.orca_course.specs.Courses.{Course, course, each, ended, joined, lastly, lastly_by, mapped, onward, onward_by, still}
 use Rattle.orca_course.specs.Performers.{attended, begun, finished, heard, opened, performance, polled, spent}
 use Rattle.orca_course.specs.declared.ending.Ending.{Ending}
 use Rattle.orca_course.specs.declared.ending.Ending.TheVariants.{Stopped, Lost, Spent}
 use Rattle.orca_course.specs.declared.ending.Stop.{Stop}
-use Rattle.orca_course.specs.declared.ending.Stop.TheVariants.{Left, Full, TooLong}
+use Rattle.orca_course.specs.declared.ending.Stop.TheVariants.{Left, Full, SongTooLong, WaveTooLong}
 use Rattle.orca_course.proofs.ActLemmas.{polls-deaf}
-use Rattle.orca_course.proofs.CourseLemmas.{each-append, onward_ended, onward_goes}
+use Rattle.orca_course.proofs.CourseLemmas.{each-append, onward_goes}
 use Rattle.orca_live.specs.Deaf.{live_is_deaf}
 use Rattle.orca_live.specs.Items.{turns_of}
-use Rattle.orca_live.specs.Performing.{answer_course, answered_at, byte_course, command_course, due_course, fired, frame_course, heard_course, item_course, key_course, live_part, open_course, paint_course, painted_course, preview_course, press_course, save_course, show_course, struck_course, wish_course}
+use Rattle.orca_live.specs.Performing.{answer_course, answered_at, byte_course, command_course, due_course, fired, frame_course, heard_course, item_course, key_course, live_part, open_course, paint_course, painted_course, press_course, save_course, show_course, struck_course, wish_course}
 use Rattle.orca_live.specs.Quiet.{silent_manner}
-use Rattle.orca_live.specs.States.{LiveState, dims_at, fitted, is_full, key_name, moments_at}
+use Rattle.orca_live.specs.States.{LiveState, dims_at, fitted, is_full, moments_at}
 use Rattle.orca_rig.specs.Arrived.{Poll, is_ending}
 use Rattle.orca_rig.specs.declared.inbox.Answer.{Answer}
 use Rattle.orca_rig.specs.declared.inbox.Answer.TheVariants as answer
@@ -40,7 +38,8 @@ abbrev Leaves : Option Stop → Type 0
 Leaves None = Unit {0}
 Leaves (Some Left) = Unit {0}
 Leaves (Some Full) = ⊥
-Leaves (Some TooLong) = ⊥
+Leaves (Some SongTooLong) = ⊥
+Leaves (Some WaveTooLong) = ⊥
 
 given-goes : (command : Command) (s : LiveState) → (command_course command s).ending ≡ None
 unfolding command_course mapped
@@ -152,7 +151,8 @@ stopped-fine : (end : Option Stop) → Leaves end → IsFineEnd (option_map Stop
 stopped-fine None leaves = tt
 stopped-fine (Some Left) leaves = tt
 stopped-fine (Some Full) leaves = absurd leaves
-stopped-fine (Some TooLong) leaves = absurd leaves
+stopped-fine (Some SongTooLong) leaves = absurd leaves
+stopped-fine (Some WaveTooLong) leaves = absurd leaves
 
 answered-fine : (a : Answer) (bytes : List ℕ) (s : LiveState) → Room a s
     → IsFineEnd (heard live_part a bytes s).ending

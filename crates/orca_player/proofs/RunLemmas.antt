@@ -1,12 +1,12 @@
 -- A whole run, from what was done of its outline and the line of its status.
-use Rattle.std.proofs.Common.{◌≡◌, ◌≢◌, ◌⊎◌, inl, inr, ℕ, Bool, false, List, refl, sym, ◌∙◌, ap, subst}
+use Rattle.std.proofs.Common.{◌≡◌, ◌≢◌, ◌⊎◌, inl, inr, ℕ, List, ◌∙◌}
 use Rattle.std.specs.Prelude.{Option, None}
 use Rattle.orca_course.specs.Worlds.{World}
 use Rattle.orca_live.specs.Paintings.{ShowsPerformance}
 use Rattle.orca_words.specs.Requests.{request_of}
-use Rattle.orca_player.specs.Doing.{CameBy, ReadsBack, Said}
-use Rattle.orca_player.specs.Outlines.{Brought, Heard, Outline, outline}
-use Rattle.orca_player.specs.Running.{IsCaused, Ran, counts_of}
+use Rattle.orca_player.specs.Doing.{CameBy, Said}
+use Rattle.orca_player.specs.Outlines.{Brought, Heard, outline}
+use Rattle.orca_player.specs.Running.{Ran}
 use Rattle.orca_player.specs.declared.status.Status.{Status}
 use Rattle.orca_player.specs.declared.status.Status.TheVariants.{Usage, Memory}
 use Rattle.orca_player.proofs.CauseLemmas.{IsSound, caused_came, said_result}
@@ -42,6 +42,7 @@ ran_by shows words grid {x = x} {z = z} {result = result} sound by said =
       polls = by.polls;
       shows = shows_outline shows words h by.sized;
       reads = λ other. by.reads (same_result said other);
+      takes = λ other. by.takes (same_result said other);
       complete = completes words h result x over.over z over.went
           (caused_came sound by.came said);
     }

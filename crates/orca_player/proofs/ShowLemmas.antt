@@ -1,10 +1,10 @@
 -- A terminal shows each picture of a run.
-use Rattle.std.proofs.Common.{◌≡◌, ℕ, List, [], ◌∷◌, ◌++◌, refl, sym, ◌∙◌, ap, subst}
-use Rattle.std.specs.Prelude.{Option, Some, None, IfSome, Result, Ok, Err}
+use Rattle.std.proofs.Common.{◌≡◌, ℕ, List, [], ◌∷◌, ◌++◌, refl, sym, subst}
+use Rattle.std.specs.Prelude.{Bool, true, false, if◌then◌else◌, Option, Some, None, IfSome, Result, Ok, Err}
 use Rattle.orca_base.specs.Grids.{Sheet}
 use Rattle.orca_course.specs.Acts.{Act, ArePrintable}
 use Rattle.orca_course.specs.Acts.Act.{Attach, Await, Give, Listen, Load, Obey, Save, Show, Stand}
-use Rattle.orca_course.specs.Courses.{course, joined, mapped}
+use Rattle.orca_course.specs.Courses.{mapped}
 use Rattle.orca_course.specs.Performers.{performance}
 use Rattle.orca_course.specs.Standings.{Standing}
 use Rattle.orca_cues.specs.Scripts.{any_script_of}
@@ -17,8 +17,9 @@ use Rattle.orca_live.specs.Performing.{live_part}
 use Rattle.orca_rig.specs.Arrived.{Poll}
 use Rattle.orca_term.specs.Picture.{IsScreen}
 use Rattle.orca_term.specs.declared.cell.ScreenSize.{ScreenSize}
-use Rattle.orca_words.specs.Requests.{Events, Make, Perform, Performance, Play, Replay, Request, Run, Setup, Work, request_of}
-use Rattle.orca_player.specs.Outlines.{Brought, Heard, Outline, after, asked_outline, attaches, concert, grid_outline, live_outline, live_start, loaded_grid, loaded_script, made_outline, opening, outline, request_outline, screen_of, script_outline, standing_at, started_outline, work_outline}
+use Rattle.orca_words.specs.Requests.{Events, Make, Migrate, Migration, Perform, Performance, Play, Replay, Request, Run, Setup, Smf, Wav, Work, request_of}
+use Rattle.orca_player.specs.Outlines.{Brought, Heard, Outline, after, asked_outline, attaches, concert, grid_outline, is_too_long, live_outline, live_start, loaded_grid, loaded_migration, loaded_script, made_outline, migrated, opening, outline, performed, request_outline, screen_of, script_outline, standing_at, started_outline, stopped, work_outline}
+use Rattle.orca_player.specs.declared.status.Status.TheVariants.{WavTooLong}
 use Rattle.orca_player.proofs.CallingLemmas.{AreCalls, attaches-calls}
 
 -- each beginning of acts shows its pictures
@@ -105,11 +106,24 @@ unfolding loaded_script
 shown_script sheet seed limit None = tt
 shown_script sheet seed limit (Some text) = shown_read (any_script_of text) _
 
+shown_moved : (m : Migration) (text : List ℕ) (read : Result (List Cue) ScriptFault)
+    → Shown (migrated m text read)
+unfolding migrated
+shown_moved m text (Err fault) = tt
+shown_moved m text (Ok cues) = tt
+
+shown_migration : (m : Migration) (script : Option (List ℕ)) → Shown (loaded_migration m script)
+unfolding loaded_migration
+shown_migration m None = tt
+shown_migration m (Some text) = shown_moved m text (any_script_of text)
+
 shown_work : ShowsPerformance → (setup : Setup) (work : Work) (sheet : Sheet) (b : Brought)
     → Sized (work_outline setup work sheet b) → Shown (work_outline setup work sheet b)
 unfolding work_outline concert
 shown_work law setup (Run frames) sheet b sized = tt
 shown_work law setup (Events frames) sheet b sized = tt
+shown_work law setup (Smf song) sheet b sized = tt
+shown_work law setup (Wav wave) sheet b sized = tt
 shown_work law setup (Replay name) sheet b sized =
     shown_after (Load name b.script ∷ []) (loaded_script sheet setup.seed setup.limit b.script) tt
     (shown_script sheet setup.seed setup.limit b.script)
@@ -134,15 +148,31 @@ shown_loaded law setup work b None sized = tt
 shown_loaded law setup work b (Some text) sized =
     shown_grid law setup work b (grid_text text) sized
 
-shown_request : ShowsPerformance → (request : Request) (h : Heard)
-    → Sized (request_outline request h) → Shown (request_outline request h)
-unfolding request_outline made_outline concert
-shown_request law (Make load) h sized = tt
-shown_request law (Perform setup work) h sized =
+shown_performed : ShowsPerformance → (setup : Setup) (work : Work) (h : Heard)
+    → Sized (performed setup work h) → Shown (performed setup work h)
+unfolding performed
+shown_performed law setup work h sized =
     let o = loaded_grid setup work h.brought h.grid in
     shown_after (attaches setup) (after (Load setup.grid h.grid ∷ []) o) (attaches-calls setup)
     (shown_after (Load setup.grid h.grid ∷ []) o tt
     (shown_loaded law setup work h.brought h.grid sized))
+
+-- a wave that is too long is not performed
+shown_unless : ShowsPerformance → (long : Bool) (setup : Setup) (work : Work) (h : Heard)
+    → Sized (if long then stopped WavTooLong else performed setup work h)
+    → Shown (if long then stopped WavTooLong else performed setup work h)
+shown_unless law true setup work h sized = tt
+shown_unless law false setup work h sized = shown_performed law setup work h sized
+
+shown_request : ShowsPerformance → (request : Request) (h : Heard)
+    → Sized (request_outline request h) → Shown (request_outline request h)
+unfolding request_outline made_outline concert
+shown_request law (Make load) h sized = tt
+shown_request law (Migrate m) h sized =
+    shown_after (Load m.script h.brought.script ∷ []) (loaded_migration m h.brought.script) tt
+    (shown_migration m h.brought.script)
+shown_request law (Perform setup work) h sized =
+    shown_unless law (is_too_long work) setup work h sized
 
 shown_asked : ShowsPerformance → (request : Option Request) (h : Heard)
     → Sized (asked_outline request h) → Shown (asked_outline request h)

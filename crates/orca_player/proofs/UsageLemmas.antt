@@ -1,6 +1,6 @@
 -- Which words are faulty.
-use Rattle.std.proofs.Common.{◌≡◌, ◌≢◌, ◌⊎◌, inl, inr, ℕ, List, [], ◌∷◌, refl, sym, ◌∙◌, ap, subst}
-use Rattle.std.specs.Prelude.{Option, Some, None, IfSome, IsSomeAnd, Result, Ok, Err}
+use Rattle.std.proofs.Common.{◌≡◌, ◌⊎◌, inl, inr, ℕ, List, refl, ap, subst}
+use Rattle.std.specs.Prelude.{Bool, true, false, if◌then◌else◌, Option, Some, None, IfSome, IsSomeAnd, Result, Ok, Err}
 use Rattle.std.specs.Option.{option_map}
 use Rattle.orca_base.specs.Grids.{Sheet}
 use Rattle.orca_concert.specs.Concerts.{concert as concert_at, concert_course}
@@ -12,7 +12,7 @@ use Rattle.orca_course.specs.Worlds.{World}
 use Rattle.orca_course.specs.declared.ending.Ending.{Ending}
 use Rattle.orca_course.specs.declared.ending.Ending.TheVariants.{Stopped, Lost, Spent}
 use Rattle.orca_course.specs.declared.ending.Stop.{Stop}
-use Rattle.orca_course.specs.declared.ending.Stop.TheVariants.{Left, Full, TooLong}
+use Rattle.orca_course.specs.declared.ending.Stop.TheVariants.{Left, Full, SongTooLong, WaveTooLong}
 use Rattle.orca_cues.specs.Scripts.{any_script_of}
 use Rattle.orca_cues.specs.declared.fault.ScriptFault.{ScriptFault}
 use Rattle.orca_cues.specs.declared.source.Cue.{Cue}
@@ -20,11 +20,11 @@ use Rattle.orca_grid.specs.GridText.{grid_text}
 use Rattle.orca_grid.specs.declared.refusal.GridRefusal.{GridRefusal}
 use Rattle.orca_live.specs.Performing.{live_part}
 use Rattle.orca_rig.specs.Arrived.{Poll}
-use Rattle.orca_words.specs.Requests.{Events, Make, Perform, Performance, Play, Replay, Request, Run, Setup, Work, request_of}
-use Rattle.orca_player.specs.Outlines.{Brought, Heard, Outline, asked_outline, concert, grid_outline, live_outline, live_start, loaded_grid, loaded_script, made_outline, opening, outline, request_outline, script_outline, standing_at, started_outline, status_of_end, status_of_ending, work_outline}
+use Rattle.orca_words.specs.Requests.{Events, Make, Migrate, Migration, Perform, Performance, Play, Replay, Request, Run, Setup, Smf, Wav, Work, request_of}
+use Rattle.orca_player.specs.Outlines.{Brought, Heard, Outline, asked_outline, concert, grid_outline, is_too_long, live_outline, live_start, loaded_grid, loaded_migration, loaded_script, made_outline, migrated, opening, outline, performed, request_outline, script_outline, standing_at, started_outline, status_of_end, status_of_ending, stopped, work_outline}
 use Rattle.orca_player.specs.Running.{EndsAs, Went}
 use Rattle.orca_player.specs.declared.status.Status.{Status}
-use Rattle.orca_player.specs.declared.status.Status.TheVariants.{Done, Usage, GridRefused, OutFault, FileFault, ScriptRefused, HistoryFull, InboxFault, TurnsSpent, Memory}
+use Rattle.orca_player.specs.declared.status.Status.TheVariants.{Done, Usage, GridRefused, OutFault, FileFault, ScriptRefused, HistoryFull, InboxFault, TurnsSpent, SmfTooLong, WavTooLong, Memory}
 
 -- a status that does not blame the words
 abbrev IsOther : Status → Type 0
@@ -38,7 +38,8 @@ end-other : (end : Option Stop) → IsOther (status_of_end end)
 end-other None = tt
 end-other (Some Left) = tt
 end-other (Some Full) = tt
-end-other (Some TooLong) = tt
+end-other (Some SongTooLong) = tt
+end-other (Some WaveTooLong) = tt
 
 concert-other : {R : Type 0} (m : Manner R) (r : R) (cues : List Cue) (s : Standing)
     → Other (concert m r cues s)
@@ -56,11 +57,23 @@ unfolding loaded_script
 script-other sheet seed limit None = tt
 script-other sheet seed limit (Some text) = read-other (any_script_of text) _
 
+moved-other : (m : Migration) (text : List ℕ) (read : Result (List Cue) ScriptFault)
+    → Other (migrated m text read)
+unfolding migrated
+moved-other m text (Err fault) = tt
+moved-other m text (Ok cues) = tt
+
+migration-other : (m : Migration) (script : Option (List ℕ)) → Other (loaded_migration m script)
+unfolding loaded_migration
+migration-other m None = tt
+migration-other m (Some text) = moved-other m text (any_script_of text)
+
 ending-other : (end : Option Ending) → IfSome (option_map status_of_ending end) IsOther
 ending-other None = tt
 ending-other (Some (Stopped Left)) = tt
 ending-other (Some (Stopped Full)) = tt
-ending-other (Some (Stopped TooLong)) = tt
+ending-other (Some (Stopped SongTooLong)) = tt
+ending-other (Some (Stopped WaveTooLong)) = tt
 ending-other (Some Lost) = tt
 ending-other (Some Spent) = tt
 
@@ -76,6 +89,8 @@ work-other : (setup : Setup) (work : Work) (sheet : Sheet) (b : Brought)
 unfolding work_outline
 work-other setup (Run frames) sheet b = concert-other _ tt _ _
 work-other setup (Events frames) sheet b = concert-other _ tt _ _
+work-other setup (Smf song) sheet b = concert-other _ _ _ _
+work-other setup (Wav wave) sheet b = concert-other _ _ _ _
 work-other setup (Replay name) sheet b = script-other sheet setup.seed setup.limit b.script
 work-other setup (Play play) sheet b =
     started-other setup play b.start b.polls (standing_at sheet setup.seed setup.limit)
@@ -92,10 +107,17 @@ unfolding loaded_grid
 loaded-other setup work b None = tt
 loaded-other setup work b (Some text) = grid-other setup work b (grid_text text)
 
+unless-other : (long : Bool) (setup : Setup) (work : Work) (h : Heard)
+    → Other (if long then stopped WavTooLong else performed setup work h)
+unfolding performed
+unless-other true setup work h = tt
+unless-other false setup work h = loaded-other setup work h.brought h.grid
+
 request-other : (request : Request) (h : Heard) → Other (request_outline request h)
 unfolding request_outline made_outline
 request-other (Make load) h = concert-other _ tt _ _
-request-other (Perform setup work) h = loaded-other setup work h.brought h.grid
+request-other (Migrate m) h = migration-other m h.brought.script
+request-other (Perform setup work) h = unless-other (is_too_long work) setup work h
 
 -- ---- words that ask for nothing
 
@@ -111,6 +133,8 @@ ends_usage (ScriptRefused line column) ends = absurd cc
 ends_usage HistoryFull ends = absurd cc
 ends_usage InboxFault ends = absurd cc
 ends_usage TurnsSpent ends = absurd cc
+ends_usage SmfTooLong ends = absurd cc
+ends_usage WavTooLong ends = absurd cc
 ends_usage Memory ends = inr refl
 
 ends_by : (end : Option Status) (status : Status) → end ≡ Some Usage
@@ -130,6 +154,8 @@ faulty_by o (ScriptRefused line column) x y is went = ends_by o.course.ending (S
 faulty_by o HistoryFull x y is went = ends_by o.course.ending HistoryFull is went.ends
 faulty_by o InboxFault x y is went = ends_by o.course.ending InboxFault is went.ends
 faulty_by o TurnsSpent x y is went = ends_by o.course.ending TurnsSpent is went.ends
+faulty_by o SmfTooLong x y is went = ends_by o.course.ending SmfTooLong is went.ends
+faulty_by o WavTooLong x y is went = ends_by o.course.ending WavTooLong is went.ends
 faulty_by o Memory x y is went = inr refl
 
 -- words that ask for nothing are answered so

@@ -1,5 +1,5 @@
 -- What was done of an outline.
-use Rattle.std.specs.Prelude.{◌≡◌, ◌≢◌, ◌⊎◌, Bool, true, false, if◌then◌else◌, List, [], ◌++◌, Option, Some, None, IfSome}
+use Rattle.std.specs.Prelude.{◌≡◌, ◌≢◌, ◌⊎◌, true, false, if◌then◌else◌, List, [], ◌++◌, Some, None, IfSome}
 use Rattle.orca_base.specs.Ports.{Sent}
 use Rattle.orca_concert.specs.Concerts.{handed_of}
 use Rattle.orca_course.specs.Acts.{Act, given, gives, open_after, polls_in, stand_after}
@@ -13,12 +13,17 @@ use Rattle.orca_script.specs.Runs.{ScriptReadsBack}
 use Rattle.orca_term.specs.Picture.{IsScreen}
 use Rattle.orca_player.specs.Outlines.{Brought, Outline, Script}
 use Rattle.orca_player.specs.Statuses.{status_sends}
+use Rattle.orca_player.specs.Takes.{IsKept}
 use Rattle.orca_player.specs.declared.status.Status.{Status}
-use Rattle.orca_player.specs.declared.status.Status.TheVariants.{Done, Usage, GridRefused, OutFault, FileFault, ScriptRefused, HistoryFull, InboxFault, TurnsSpent, Memory}
+use Rattle.orca_player.specs.declared.status.Status.TheVariants.{Done, Usage, GridRefused, OutFault, FileFault, ScriptRefused, InboxFault, Memory}
 
 -- the script that is saved is read as its seed and its commands
 abbrev pub ReadsBack : Script → Type 0
 ReadsBack script = ScriptReadsBack script.seed script.commands
+
+-- a run that is recorded, and that ends as planned, saves one file, and that of what it is recorded as
+abbrev pub KeepsTake : Outline → Type 0
+KeepsTake o = o.course.ending ≡ Some Done → IfSome o.take (λ take. IsKept take o.course.acts)
 
 -- ---- all of it
 
@@ -111,13 +116,15 @@ pub record Came (o : Outline) (x : World) (status : Status) (y : World) : Type 0
   pub came : CameSo o x status y
 
 -- an outline was done by what the outside brought: the polls that were answered are exactly those of
--- its acts; the screen is one that a view may have; and the script that was saved reads back
+-- its acts; the screen is one that a view may have; the script that was saved reads back; and the
+-- file that was saved is that of what was recorded
 pub record CameBy (o : Brought → Outline) (x : World) (status : Status) (y : World) : Type 0 where
   pub brought : Brought
   pub polls : polls_in (o brought).course.acts ≡ brought.polls
   pub came : Came (o brought) x status y
   pub sized : IfSome (o brought).screen IsScreen
   pub reads : status ≢ Memory → IfSome (o brought).given ReadsBack
+  pub takes : status ≢ Memory → KeepsTake (o brought)
 
 -- ---- the line of the status
 

@@ -4,3 +4,4 @@ pub mod Ready
 pub mod Doing
 pub mod Running
 pub mod Laws
+pub mod Takes

@@ -1,26 +1,26 @@
 -- The definition of a run: all that it does on the outside, in order, what it may cost, and how it
 -- ends, by its words and by what the outside gives to it.
-use Rattle.std.specs.Prelude.{ℕ, Bool, true, List, [], ◌∷◌, ◌++◌, Option, Some, None, Result, Ok, Err, unwrap_or}
+use Rattle.std.specs.Prelude.{ℕ, ◌*◌, nat_lt, Bool, true, false, if◌then◌else◌, List, [], ◌∷◌, ◌++◌, Option, Some, None, Result, Ok, Err, unwrap_or}
 use Rattle.std.specs.Option.{option_map}
 use Rattle.orca_base.specs.declared.limits.TheConstants.{DEFAULT_HISTORY}
 use Rattle.orca_base.specs.declared.port.Port.{Port}
 use Rattle.orca_base.specs.declared.port.Port.TheVariants as port
 use Rattle.orca_base.specs.declared.command.Command.{Command}
 use Rattle.orca_base.specs.Grids.{Sheet, Size}
-use Rattle.orca_concert.specs.Concerts.{Concert, concert as concert_at, concert_course}
+use Rattle.orca_concert.specs.Concerts.{concert as concert_at, concert_course}
 use Rattle.orca_concert.specs.Manners.{Manner}
 use Rattle.orca_course.specs.Acts.{Act}
-use Rattle.orca_course.specs.Acts.Act.{Attach, Listen, Load, Stand}
+use Rattle.orca_course.specs.Acts.Act.{Attach, Listen, Load, Save, Stand}
 use Rattle.orca_course.specs.Courses.{Course, course, ended, joined, mapped}
 use Rattle.orca_course.specs.Performers.{performance}
 use Rattle.orca_course.specs.Standings.{Standing, standing, tally_at_start}
 use Rattle.orca_course.specs.declared.ending.Ending.{Ending}
 use Rattle.orca_course.specs.declared.ending.Ending.TheVariants.{Stopped, Lost, Spent}
 use Rattle.orca_course.specs.declared.ending.Stop.{Stop}
-use Rattle.orca_course.specs.declared.ending.Stop.TheVariants.{Left, Full, TooLong}
+use Rattle.orca_course.specs.declared.ending.Stop.TheVariants.{Left, Full, SongTooLong, WaveTooLong}
 use Rattle.orca_cues.specs.Cues.{frames_cue}
 use Rattle.orca_cues.specs.Made.{made_cues, made_sheet}
-use Rattle.orca_cues.specs.Scripts.{any_script_of, seed_in}
+use Rattle.orca_cues.specs.Scripts.{any_script_of, commands_of_cues, seed_in}
 use Rattle.orca_cues.specs.declared.fault.ScriptFault.{ScriptFault}
 use Rattle.orca_cues.specs.declared.source.Cue.{Cue}
 use Rattle.orca_edit.specs.Obeying.{machine_at_start}
@@ -31,11 +31,18 @@ use Rattle.orca_live.specs.Performing.{live_part}
 use Rattle.orca_live.specs.Starting.{live_at_start}
 use Rattle.orca_live.specs.States.{LiveState, Setting}
 use Rattle.orca_reports.specs.Manners.{events_manner, make_manner, replay_manner, run_manner}
+use Rattle.orca_reports.specs.SavedSongs.{song_of}
+use Rattle.orca_reports.specs.SavedWaves.{wave_of}
+use Rattle.orca_reports.specs.Songs.{recording_at_start, smf_manner}
+use Rattle.orca_reports.specs.Waves.{frame_samples, wav_manner, wave_at_start}
 use Rattle.orca_rig.specs.Arrived.{Poll}
+use Rattle.orca_script.specs.Runs.{printed_script}
 use Rattle.orca_term.specs.declared.cell.ScreenSize.{ScreenSize}
-use Rattle.orca_words.specs.Requests.{Events, Make, Perform, Performance, Play, Replay, Request, Run, Setup, Work, Workload, request_of}
+use Rattle.orca_wav.specs.declared.limits.TheConstants.{MAX_WAVE_BYTES, SAMPLE_BYTES}
+use Rattle.orca_words.specs.Requests.{Events, Make, Migrate, Migration, Perform, Performance, Play, Recording, Replay, Request, Run, Setup, Smf, Wav, Work, Workload, request_of}
+use Rattle.orca_player.specs.Takes.{Take, Song, Wave}
 use Rattle.orca_player.specs.declared.status.Status.{Status}
-use Rattle.orca_player.specs.declared.status.Status.TheVariants.{Done, Usage, GridRefused, FileFault, ScriptRefused, HistoryFull, InboxFault, TurnsSpent}
+use Rattle.orca_player.specs.declared.status.Status.TheVariants.{Done, Usage, GridRefused, FileFault, ScriptRefused, HistoryFull, InboxFault, TurnsSpent, SmfTooLong, WavTooLong}
 
 -- what the outside gives to the work on a grid: the text of the file of its script, unless its load
 -- fails; the moment at which its inbox listens, unless that fails; and the polls of the inbox with
@@ -60,17 +67,18 @@ pub record Script : Type 0 where
   pub commands : List Command
 
 -- whether the messages of commands are handed out; what a run does, where its session stands at
--- last, and how it ends, unless the answers of its inbox break off; the screen that it paints on, and
--- the script that it saves, if it has them
+-- last, and how it ends, unless the answers of its inbox break off; the screen that it paints on, the
+-- script that it saves, and the song or the wave that it is recorded as, if it has them
 pub record Outline : Type 0 where
   pub hands : Bool
   pub course : Course (Option Standing) Status
   pub screen : Option ScreenSize
   pub given : Option Script
+  pub take : Option Take
 
--- without a screen and a script
+-- without these
 abbrev pub plain : Bool → Course (Option Standing) Status → Outline
-plain hands c = record { hands = hands; course = c; screen = None; given = None }
+plain hands c = record { hands = hands; course = c; screen = None; given = None; take = None }
 
 -- nothing more is done, and the run ends so
 abbrev pub stopped : Status → Outline
@@ -79,6 +87,10 @@ stopped status = plain true (ended status None)
 -- acts before the session is opened, and then the rest of a run
 abbrev pub after : List Act → Outline → Outline
 after acts o = record o { course = joined (course {S = Option Standing} {E = Status} acts 0 None) o.course }
+
+-- it is recorded as this
+abbrev pub recorded : Take → Outline → Outline
+recorded take o = record o { take = Some take }
 
 -- ---- a list of commands
 
@@ -95,7 +107,8 @@ opening f g s c =
 abbrev pub status_of_stop : Stop → Status
 status_of_stop Left = Done
 status_of_stop Full = HistoryFull
-status_of_stop TooLong = Done
+status_of_stop SongTooLong = SmfTooLong
+status_of_stop WaveTooLong = WavTooLong
 
 -- all was done, or what ended it early decides
 abbrev pub status_of_end : Option Stop → Status
@@ -120,6 +133,40 @@ unfoldable pub loaded_script : Sheet → ℕ → ℕ → Option (List ℕ) → O
 loaded_script sheet seed limit None = stopped FileFault
 loaded_script sheet seed limit (Some text) =
     script_outline (any_script_of text) (standing_at sheet (unwrap_or (seed_in text) seed) limit)
+
+-- ---- a script in format 2
+
+-- the seed that a text of a script gives, or else this one, and the commands of its cues
+abbrev pub script_in : ℕ → List ℕ → List Cue → Script
+script_in seed text cues = record {
+  seed = unwrap_or (seed_in text) seed;
+  commands = commands_of_cues cues;
+}
+
+-- a script is saved in format 2
+abbrev pub saved : List ℕ → Script → Outline
+saved out script = record {
+  hands = true;
+  course = record {
+    acts = Save out (printed_script script.seed script.commands) ∷ [];
+    bill = 0;
+    state = None;
+    ending = Some Done;
+  };
+  screen = None;
+  given = Some script;
+  take = None;
+}
+
+-- every line is read before it is saved
+unfoldable pub migrated : Migration → List ℕ → Result (List Cue) ScriptFault → Outline
+migrated m text (Err fault) = stopped (ScriptRefused fault.line fault.column)
+migrated m text (Ok cues) = saved m.out (script_in m.seed text cues)
+
+-- one that can't be loaded ends the run
+unfoldable pub loaded_migration : Migration → Option (List ℕ) → Outline
+loaded_migration m None = stopped FileFault
+loaded_migration m (Some text) = migrated m text (any_script_of text)
 
 -- ---- a performance
 
@@ -159,6 +206,7 @@ outline_of s c = record {
   course = opening (λ t. t.standing) (option_map status_of_ending) s.standing c;
   screen = Some s.screen;
   given = script_kept s.setting.script s.setting.seed c.state.given;
+  take = None;
 }
 
 -- the session is opened, and a performance plays from where it stands
@@ -183,6 +231,16 @@ work_outline setup (Run frames) sheet b =
     concert run_manner tt (frames_cue frames) (standing_at sheet setup.seed setup.limit)
 work_outline setup (Events frames) sheet b =
     concert events_manner tt (frames_cue frames) (standing_at sheet setup.seed setup.limit)
+work_outline setup (Smf song) sheet b =
+    recorded (Song song.out
+    (song_of song.bpm song.frames (machine_at_start sheet setup.seed setup.limit)))
+    (concert smf_manner (recording_at_start song.out song.bpm song.frames)
+    (frames_cue song.frames) (standing_at sheet setup.seed setup.limit))
+work_outline setup (Wav wave) sheet b =
+    recorded (Wave wave.out
+    (wave_of wave.bpm wave.frames (machine_at_start sheet setup.seed setup.limit)))
+    (concert wav_manner (wave_at_start wave.out wave.bpm) (frames_cue wave.frames)
+    (standing_at sheet setup.seed setup.limit))
 work_outline setup (Replay name) sheet b =
     after (Load name b.script ∷ []) (loaded_script sheet setup.seed setup.limit b.script)
 work_outline setup (Play play) sheet b =
@@ -223,11 +281,27 @@ made_outline load =
     (standing_at (made_sheet load.seed (size_of load)) load.seed DEFAULT_HISTORY)
 
 -- the ports are attached, the grid is loaded, and the work is done
-unfoldable pub request_outline : Request → Heard → Outline
-request_outline (Make load) h = made_outline load
-request_outline (Perform setup work) h =
+unfoldable pub performed : Setup → Work → Heard → Outline
+performed setup work h =
     after (attaches setup)
     (after (Load setup.grid h.grid ∷ []) (loaded_grid setup work h.brought h.grid))
+
+-- the bytes of the samples of a wave
+abbrev pub wave_bytes : Recording → ℕ
+wave_bytes wave = SAMPLE_BYTES * (wave.frames * frame_samples wave.bpm)
+
+-- a wave that would be too long, which is known before anything is done
+abbrev pub is_too_long : Work → Bool
+is_too_long (Wav wave) = nat_lt MAX_WAVE_BYTES (wave_bytes wave)
+is_too_long work = false
+
+-- what a request asks for. A script that is moved needs no grid
+unfoldable pub request_outline : Request → Heard → Outline
+request_outline (Make load) h = made_outline load
+request_outline (Migrate m) h =
+    after (Load m.script h.brought.script ∷ []) (loaded_migration m h.brought.script)
+request_outline (Perform setup work) h =
+    if is_too_long work then stopped WavTooLong else performed setup work h
 
 -- words that ask for nothing are refused
 abbrev pub asked_outline : Option Request → Heard → Outline

@@ -1,8 +1,11 @@
 -- What a run needs so that all of it can be done: a grid, a script, and a history with room for
 -- each frame.
-use Rattle.std.specs.Prelude.{◌≡◌, ◌<◌, ◌≤◌, ℕ, false, List, ◌∷◌, ◌++◌, None, IfSome, Result, Ok, Err}
+use Rattle.std.specs.Prelude.{◌≡◌, ◌≢◌, ◌<◌, ◌≤◌, ℕ, false, List, ◌∷◌, ◌++◌, Some, None, IfSome, Result, Ok, Err}
 use Rattle.orca_base.specs.declared.limits.TheConstants.{MAX_POLLS}
 use Rattle.orca_base.specs.Grids.{Sheet}
+use Rattle.orca_concert.specs.Concerts.{concert as concert_at, concert_course}
+use Rattle.orca_course.specs.declared.ending.Stop.TheVariants.{SongTooLong}
+use Rattle.orca_cues.specs.Cues.{frames_cue}
 use Rattle.orca_cues.specs.Scripts.{any_script_of}
 use Rattle.orca_cues.specs.declared.source.Cue.{Cue}
 use Rattle.orca_grid.specs.GridText.{grid_text}
@@ -11,11 +14,12 @@ use Rattle.orca_live.specs.Items.{turns_of}
 use Rattle.orca_live.specs.Laws.{so_far}
 use Rattle.orca_live.specs.Performing.{answered_at, item_course}
 use Rattle.orca_live.specs.States.{LiveState, is_full}
+use Rattle.orca_reports.specs.Songs.{recording_at_start, smf_manner}
 use Rattle.orca_rig.specs.Arrived.{Poll}
 use Rattle.orca_rig.specs.declared.inbox.Answer.TheVariants as answer
 use Rattle.orca_term.specs.Keys.{Due}
-use Rattle.orca_words.specs.Requests.{Events, Make, Perform, Play, Replay, Request, Run, Setup, Work}
-use Rattle.orca_player.specs.Outlines.{Brought, Heard, live_start, standing_at}
+use Rattle.orca_words.specs.Requests.{Events, Make, Migrate, Perform, Play, Recording, Replay, Request, Run, Setup, Smf, Wav, Work}
+use Rattle.orca_player.specs.Outlines.{Brought, Heard, is_too_long, live_start, standing_at}
 
 -- each line of a text asks for commands, or for none
 abbrev pub IsScript : List ℕ → Type 0
@@ -33,12 +37,21 @@ HasRoom s polls =
     → (so_far s before).ending ≡ None
     → is_full (before_frame at (so_far s before).state) ≡ false
 
--- what the work needs on an opened grid. The frames of `run` and `events` fit into the history. A
--- performance has room for each frame that is due, and fewer polls than may be made are answered by
--- bytes or a due frame
+-- a song of these frames does not end the run since it is too long
+abbrev pub SongFits : Setup → Recording → Sheet → Type 0
+SongFits setup song sheet =
+    (concert_course smf_manner (frames_cue song.frames)
+    (concert_at (standing_at sheet setup.seed setup.limit)
+    (recording_at_start song.out song.bpm song.frames))).ending ≢ Some SongTooLong
+
+-- what the work needs on an opened grid. The frames of a run, of its events, of a song and of a wave
+-- fit into the history, and the song is not too long. A performance has room for each frame that is
+-- due, and fewer polls than may be made are answered by bytes or a due frame
 abbrev pub CanDo : Setup → Work → Sheet → Brought → Type 0
 CanDo setup (Run frames) sheet b = frames ≤ setup.limit
 CanDo setup (Events frames) sheet b = frames ≤ setup.limit
+CanDo setup (Smf song) sheet b = (song.frames ≤ setup.limit) × SongFits setup song sheet
+CanDo setup (Wav wave) sheet b = wave.frames ≤ setup.limit
 CanDo setup (Replay name) sheet b = IfSome b.script IsScript
 CanDo setup (Play play) sheet b =
     (turns_of b.polls < MAX_POLLS)
@@ -53,5 +66,6 @@ CanOpen setup work b (Ok sheet) = CanDo setup work sheet b
 -- all that a request asks for can be done, unless something outside fails
 abbrev pub IsReady : Request → Heard → Type 0
 IsReady (Make load) h = Unit {0}
+IsReady (Migrate m) h = IfSome h.brought.script IsScript
 IsReady (Perform setup work) h =
-    IfSome h.grid (λ text. CanOpen setup work h.brought (grid_text text))
+    (is_too_long work ≡ false) × IfSome h.grid (λ text. CanOpen setup work h.brought (grid_text text))

@@ -1,22 +1,20 @@
 -- What a run did of its outline, and what caused its status.
-use Rattle.std.specs.Prelude.{◌≡◌, ◌≢◌, ◌⊎◌, ◌<◌, ◌≤◌, ℕ, Bool, true, List, [], ◌++◌, Option, Some, IfSome, IsSomeAnd}
-use Rattle.orca_base.specs.declared.command.Command.{Command}
+use Rattle.std.specs.Prelude.{◌≡◌, ◌≢◌, ◌⊎◌, ◌<◌, ◌≤◌, ℕ, true, List, [], ◌++◌, IfSome, IsSomeAnd}
 use Rattle.orca_base.specs.Ports.{Sent}
 use Rattle.orca_course.specs.Acts.{Act, ArePrintable, given, gives, polls_in}
 use Rattle.orca_course.specs.Following.{Follows, midi_sent}
 use Rattle.orca_course.specs.Worlds.{Made, Sated, World}
-use Rattle.orca_grid.specs.declared.refusal.GridRefusal.{GridRefusal}
 use Rattle.orca_grid.specs.declared.refusal.GridRefusal.TheVariants as refused
 use Rattle.orca_live.specs.Paintings.{ShowsPictures}
 use Rattle.orca_notes.specs.Device.{IsFair, device}
 use Rattle.orca_rig.specs.Outside.{Rose, last_count}
-use Rattle.orca_words.specs.Requests.{Request, request_of}
-use Rattle.orca_player.specs.Doing.{ReadsBack, WasRefused}
+use Rattle.orca_words.specs.Requests.{request_of}
+use Rattle.orca_player.specs.Doing.{KeepsTake, ReadsBack, WasRefused}
 use Rattle.orca_player.specs.Outlines.{Heard, Outline, outline}
 use Rattle.orca_player.specs.Ready.{IsReady}
 use Rattle.orca_player.specs.Statuses.{status_sends}
 use Rattle.orca_player.specs.declared.status.Status.{Status}
-use Rattle.orca_player.specs.declared.status.Status.TheVariants.{Done, Usage, GridRefused, OutFault, FileFault, ScriptRefused, HistoryFull, InboxFault, TurnsSpent, Memory}
+use Rattle.orca_player.specs.declared.status.Status.TheVariants.{Done, Usage, GridRefused, OutFault, FileFault, ScriptRefused, HistoryFull, InboxFault, TurnsSpent, SmfTooLong, WavTooLong, Memory}
 
 -- ---- how it ended
 
@@ -52,6 +50,8 @@ IsCaused (ScriptRefused line column) old new =
 IsCaused HistoryFull old new = new.inbox ≡ old.inbox
 IsCaused InboxFault old new = Rose old.inbox new.inbox
 IsCaused TurnsSpent old new = new.inbox ≡ old.inbox
+IsCaused SmfTooLong old new = new.inbox ≡ old.inbox
+IsCaused WavTooLong old new = new.inbox ≡ old.inbox
 IsCaused Memory old new = Unit {0}
 
 -- no count stands at its last value
@@ -84,6 +84,8 @@ Went o x (ScriptRefused line column) y = IsDone o x (ScriptRefused line column) 
 Went o x HistoryFull y = IsDone o x HistoryFull y
 Went o x InboxFault y = IsDone o x InboxFault y
 Went o x TurnsSpent y = IsDone o x TurnsSpent y
+Went o x SmfTooLong y = IsDone o x SmfTooLong y
+Went o x WavTooLong y = IsDone o x WavTooLong y
 Went o x Memory y = WasRefused o x y
 
 -- the last send: the line of the status; out of memory it may be missing
@@ -111,5 +113,7 @@ pub record Ran (words : List (List ℕ)) (x : World) (status : Status) (y : Worl
       → IfSome (outline words heard).screen (λ screen. ShowsPictures screen [] begun)
   -- the script that is saved is read as its seed and its commands
   pub reads : status ≢ Memory → IfSome (outline words heard).given ReadsBack
+  -- the song or the wave that is saved is that of the messages of the run
+  pub takes : status ≢ Memory → KeepsTake (outline words heard)
   pub complete : IsSomeAnd (request_of words) (λ request. IsReady request heard)
       → counts_of y ≡ counts_of x → AreLow (counts_of x) → (status ≡ Done) ⊎ (status ≡ Memory)

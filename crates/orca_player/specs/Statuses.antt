@@ -7,7 +7,7 @@ use Rattle.orca_base.specs.Ports.{Sent}
 use Rattle.orca_grid.specs.declared.refusal.GridRefusal.{GridRefusal}
 use Rattle.orca_grid.specs.declared.refusal.GridRefusal.TheVariants as refusal
 use Rattle.orca_player.specs.declared.status.Status.{Status}
-use Rattle.orca_player.specs.declared.status.Status.TheVariants.{Done, Usage, GridRefused, OutFault, FileFault, ScriptRefused, HistoryFull, InboxFault, TurnsSpent, Memory}
+use Rattle.orca_player.specs.declared.status.Status.TheVariants.{Done, Usage, GridRefused, OutFault, FileFault, ScriptRefused, HistoryFull, InboxFault, TurnsSpent, SmfTooLong, WavTooLong, Memory}
 
 abbrev pub number_of_status : Status → ℕ
 number_of_status Done = 0
@@ -20,6 +20,8 @@ number_of_status HistoryFull = 6
 number_of_status InboxFault = 7
 number_of_status TurnsSpent = 8
 number_of_status Memory = 9
+number_of_status SmfTooLong = 11
+number_of_status WavTooLong = 12
 
 -- why a grid text is refused; out of memory is a status of its own
 unfoldable pub refusal_text : GridRefusal → List ℕ
@@ -32,7 +34,7 @@ refusal_text refusal.Memory = []
 -- the line of a status that is no success, without its end
 unfoldable pub status_text : Status → List ℕ
 status_text Done = []
-status_text Usage = codes "usage: orca run|events|replay|make|play"
+status_text Usage = codes "usage: orca run|events|replay|make|play|migrate|smf|wav"
 status_text (GridRefused refusal) = codes "grid refused: " ++ refusal_text refusal
 status_text OutFault = codes "output fault"
 status_text FileFault = codes "file fault"
@@ -41,6 +43,8 @@ status_text (ScriptRefused line column) =
 status_text HistoryFull = codes "history full"
 status_text InboxFault = codes "inbox fault"
 status_text TurnsSpent = codes "turns spent"
+status_text SmfTooLong = codes "smf too long"
+status_text WavTooLong = codes "wav too long"
 status_text Memory = codes "no memory"
 
 -- the line of a status, on the fault port

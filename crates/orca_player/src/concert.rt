@@ -102,8 +102,10 @@ pub(crate) fn status_of_stop(stop: Stop) -> Status
     ensures { result ≡ status_of_stop stop }
 {
     match stop {
-        Stop::Left | Stop::TooLong => Status::Done,
+        Stop::Left => Status::Done,
         Stop::Full => Status::HistoryFull,
+        Stop::SongTooLong => Status::SmfTooLong,
+        Stop::WaveTooLong => Status::WavTooLong,
     }
 }
 

@@ -26,7 +26,11 @@ pub fn end<F: Files + Drop, O: Outs + Drop, I: Inbox + Drop, L: Ledger>(
 {
     match status {
         Status::Done => Status::Done,
-        Status::Usage => say(desk, status, b"usage: orca run|events|replay|make|play\n"),
+        Status::Usage => say(
+            desk,
+            status,
+            b"usage: orca run|events|replay|make|play|migrate|smf|wav\n",
+        ),
         Status::GridRefused(refusal) => say_line(desk, status, refusal_line(alloc, refusal)),
         Status::OutFault => say(desk, status, b"output fault\n"),
         Status::FileFault => say(desk, status, b"file fault\n"),
@@ -37,6 +41,8 @@ pub fn end<F: Files + Drop, O: Outs + Drop, I: Inbox + Drop, L: Ledger>(
         Status::InboxFault => say(desk, status, b"inbox fault\n"),
         Status::TurnsSpent => say(desk, status, b"turns spent\n"),
         Status::Memory => say(desk, status, b"no memory\n"),
+        Status::SmfTooLong => say(desk, status, b"smf too long\n"),
+        Status::WavTooLong => say(desk, status, b"wav too long\n"),
     }
 }
 

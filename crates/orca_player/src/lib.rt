@@ -4,8 +4,10 @@
 mod concert;
 mod ending;
 mod live;
+mod migration;
 mod opening;
 mod reading;
+mod recording;
 mod replay;
 mod status;
 #[cfg(test)]

@@ -29,6 +29,10 @@ pub enum Status {
     TurnsSpent,
     /// Memory was refused.
     Memory,
+    /// The song that was to be saved is too long, and nothing was saved.
+    SmfTooLong,
+    /// The wave that was to be saved would be too long, and nothing was done.
+    WavTooLong,
 }
 
 impl Status {
@@ -47,6 +51,8 @@ impl Status {
             Status::InboxFault => 7,
             Status::TurnsSpent => 8,
             Status::Memory => 9,
+            Status::SmfTooLong => 11,
+            Status::WavTooLong => 12,
         }
     }
 }

@@ -2,24 +2,28 @@ ghost use Rattle.std.specs.Prelude.{◌≡◌, ◌⊎◌, ◌≤◌, false, leng
 ghost use Rattle.orca_base.specs.declared.limits.TheConstants.{MAX_FILE_BYTES};
 ghost use Rattle.orca_grid.specs.GridText.{grid_text};
 ghost use Rattle.orca_player.specs.Doing.{Came, CameBy, refused_status};
-ghost use Rattle.orca_player.specs.Outlines.{Heard, grid_outline, made_outline, outline, request_outline, work_outline};
+ghost use Rattle.orca_player.specs.Outlines.{Heard, grid_outline, is_too_long as is_long_work, made_outline, outline, performed, request_outline, work_outline};
 ghost use Rattle.orca_player.specs.Laws.{CutsAlike, ReplaysAlike};
 ghost use Rattle.orca_player.specs.Running.{IsCaused, Ran, counts_of};
 ghost use Rattle.orca_words.specs.RequestIn.{request_in, setup_in, work_in, workload_in};
+ghost use Rattle.orca_words.specs.Recordings.{HasSongTempo};
 ghost use Rattle.orca_words.specs.Requests.{Perform, request_of};
 
 use crate::Status;
 use crate::concert::concert;
 use crate::ending::end;
 use crate::live::play;
+use crate::migration::migrate;
 use crate::opening::{Opening, attach_all};
+use crate::recording::{is_too_long, record_song, record_wave};
 use crate::replay::replay;
 use orca_base::Dims;
 use orca_base::limits::DEFAULT_HISTORY;
 use orca_course::Desk;
 use orca_cues::{Frames, Maker, Turns};
+use orca_frame::table_laws;
 use orca_grid::{Grid, GridRefusal};
-use orca_reports::{EventsReport, MakeReport, RunReport};
+use orca_reports::{EventsReport, MakeReport, RunReport, saving_law};
 use orca_rig::{Files, Inbox, Outs};
 use orca_words::{Request, Setup, WordsFault, Work, Workload, read_words};
 use std::alloc::Global;
@@ -27,13 +31,15 @@ use std::sync::ledger::Ledger;
 
 /// Does what the words ask for, and answers how it ended. They are the words after the program's own
 /// name: `run` and `events` play frames, `replay` does the commands of a script, `make` those of a
-/// generated run, and `play` lets a player edit the grid while it plays. The desk owns the files, the
+/// generated run, and `play` lets a player edit the grid while it plays. `smf` and `wav` play frames
+/// and save their notes as a song or as sound, and `migrate` saves a script in format 2. The desk owns the files, the
 /// ports, the inbox and the counter of steps.
 ///
 /// The named ports are attached in the order MIDI, UDP, OSC, then the grid is loaded and read, and
 /// then the script of `replay`, whose lines are all read before the first command is done. The
 /// messages of each command are sent at once, one by one. At the end the text of the word is
-/// printed, every note ends, and `play` saves.
+/// printed, every note ends, and `play` saves. `smf` and `wav` hand no message out, and save last.
+/// `migrate` loads a script, reads all its lines, and saves it.
 ///
 /// A port that fails does not end the run: if all else was done, the status is
 /// [`Status::OutFault`]. Neither does a save, with [`Status::FileFault`]. A status other than 0 sends
@@ -96,10 +102,32 @@ fn work<F: Files + Drop, O: Outs + Drop, I: Inbox + Drop, L: Ledger>(
 {
     match read_words(alloc, words) {
         Ok(Request::Make(load)) => make(alloc, load, desk),
-        Ok(Request::Perform { setup, work }) => open(alloc, &setup, &work, desk),
+        Ok(Request::Migrate(migration)) => migrate(alloc, &migration, desk),
+        Ok(Request::Perform { setup, work }) => perform(alloc, &setup, &work, desk),
         Err(WordsFault::Usage) => Status::Usage,
         Err(WordsFault::Memory) => Status::Memory,
     }
+}
+
+/// Does the work, unless it is a wave that would be too long.
+fn perform<F: Files + Drop, O: Outs + Drop, I: Inbox + Drop, L: Ledger>(
+    alloc: Global,
+    setup: &Setup<'_>,
+    work: &Work<'_>,
+    desk: &mut Desk<F, O, I, L>,
+) -> Status
+    requires fresh { desk.old.mail.listened ≡ false }
+    requires open { desk.old.mail.ended ≡ false }
+    requires sound { desk.old.lost ≡ false }
+    requires tempo { HasSongTempo (work_in work.now) }
+    ensures { (grid : Option (List ℕ)) × CameBy (λ brought.
+        request_outline (Perform (setup_in setup.now) (work_in work.now))
+        (record { grid = grid; brought = brought })) desk.old result desk.new }
+{
+    if is_too_long(work) {
+        return Status::WavTooLong;
+    }
+    open(alloc, setup, work, desk)
 }
 
 /// Attaches the ports, loads the grid, and does the work.
@@ -112,8 +140,10 @@ fn open<F: Files + Drop, O: Outs + Drop, I: Inbox + Drop, L: Ledger>(
     requires fresh { desk.old.mail.listened ≡ false }
     requires open { desk.old.mail.ended ≡ false }
     requires sound { desk.old.lost ≡ false }
+    requires tempo { HasSongTempo (work_in work.now) }
+    requires not_long { is_long_work (work_in work.now) ≡ false }
     ensures { (grid : Option (List ℕ)) × CameBy (λ brought.
-        request_outline (Perform (setup_in setup.now) (work_in work.now))
+        performed (setup_in setup.now) (work_in work.now)
         (record { grid = grid; brought = brought })) desk.old result desk.new }
 {
     let Ok(()) = attach_all(desk, setup) else {
@@ -138,6 +168,8 @@ fn read_grid<F: Files + Drop, O: Outs + Drop, I: Inbox + Drop, L: Ledger>(
     requires fresh { desk.old.mail.listened ≡ false }
     requires open { desk.old.mail.ended ≡ false }
     requires sound { desk.old.lost ≡ false }
+    requires tempo { HasSongTempo (work_in work.now) }
+    requires not_long { is_long_work (work_in work.now) ≡ false }
     ensures { CameBy (λ brought. grid_outline (setup_in setup.now) (work_in work.now) brought
         (grid_text text.now)) desk.old result desk.new }
 {
@@ -168,9 +200,14 @@ fn do_work<F: Files + Drop, O: Outs + Drop, I: Inbox + Drop, L: Ledger>(
     requires fresh { desk.old.mail.listened ≡ false }
     requires open { desk.old.mail.ended ≡ false }
     requires sound { desk.old.lost ≡ false }
+    requires tempo { HasSongTempo (work_in work.now) }
+    requires not_long { is_long_work (work_in work.now) ≡ false }
     ensures { CameBy (work_outline (setup_in setup.now) (work_in work.now) grid)
         desk.old result desk.new }
 {
+    // What a song and a wave hold is said by these laws.
+    saving_law();
+    table_laws();
     let mut opening = Opening {
         alloc,
         grid,
@@ -186,6 +223,8 @@ fn do_work<F: Files + Drop, O: Outs + Drop, I: Inbox + Drop, L: Ledger>(
             let mut source = Frames::of(*frames);
             concert(&opening, &mut source, EventsReport::new(alloc), desk)
         }
+        Work::Smf(song) => record_song(&opening, song, desk),
+        Work::Wav(wave) => record_wave(&opening, wave, desk),
         Work::Replay { script } => replay(&mut opening, script, desk),
         Work::Play(performance) => play(&opening, setup, performance, desk),
     }

@@ -20,7 +20,7 @@ pub use make::MakeReport;
 pub use replay::ReplayReport;
 pub use run::RunReport;
 pub use smf::SmfReport;
-pub use wav::WavReport;
+pub use wav::{WavReport, wave_bytes};
 
 #[cfg(test)]
 mod tests;

@@ -1,8 +1,8 @@
 ghost use Rattle.std.specs.Prelude.{◌≡◌, ◌+◌, ◌*◌, ◌≤◌, ◌++◌, All, IfOk, OnOk, drop, length};
 ghost use Rattle.orca_base.specs.Ranges.{HasDataInRange};
-ghost use Rattle.orca_wav.specs.declared.limits.TheConstants.{MAX_WAVE_BYTES};
+ghost use Rattle.orca_wav.specs.declared.limits.TheConstants.{MAX_WAVE_BYTES, SAMPLE_BYTES};
 ghost use Rattle.orca_wav.specs.Header.{header_bytes};
-ghost use Rattle.orca_reports.specs.Waves.{frame_course, frame_samples, wave_at_start};
+ghost use Rattle.orca_reports.specs.Waves.{frame_course, frame_samples as samples_of_frame, wave_at_start};
 
 use crate::listener::Listener;
 use orca_base::{Memory, Message, Reply, Rule};
@@ -51,6 +51,22 @@ impl<'a> Model for WavReport<'a> {
         × (SAMPLE_BYTES * w.listener.samples ≤ MAX_WAVE_BYTES) };
 }
 
+/// The bytes of the samples of so many frames at so many beats a minute, 1 or more.
+pub fn wave_bytes(bpm: u16, frames: u32) -> u64
+    requires { 1 ≤ bpm }
+    ensures { result ≡ SAMPLE_BYTES * (frames * samples_of_frame bpm) }
+{
+    u64::from(SAMPLE_BYTES) * (u64::from(frames) * u64::from(frame_samples(bpm)))
+}
+
+/// The samples of a frame at so many beats a minute, 1 or more.
+fn frame_samples(bpm: u16) -> u32
+    requires { 1 ≤ bpm }
+    ensures { result ≡ samples_of_frame bpm }
+{
+    SLOWEST_FRAME_SAMPLES / u32::from(bpm)
+}
+
 impl<'a> WavReport<'a> {
     /// The report of a run of so many frames at so many beats a minute, 1 or more, which is saved
     /// under a name. The room for the whole file is taken; [`Memory`] if it is refused.
@@ -61,10 +77,10 @@ impl<'a> WavReport<'a> {
         out: &'a str,
     ) -> Result<WavReport<'a>, Memory>
         requires bpm { 1 ≤ bpm }
-        requires short { SAMPLE_BYTES * (frames * frame_samples bpm) ≤ MAX_WAVE_BYTES }
+        requires short { SAMPLE_BYTES * (frames * samples_of_frame bpm) ≤ MAX_WAVE_BYTES }
         ensures { IfOk result (λ report. report ≡ wave_at_start out.now bpm) }
     {
-        let frame = SLOWEST_FRAME_SAMPLES / u32::from(bpm);
+        let frame = frame_samples(bpm);
         let mut file = Vec::from_slice(alloc, &[0; HEADER_BYTES])?;
         file.reserve(usize::from(SAMPLE_BYTES) * (frames * frame) as usize)?;
         Ok(WavReport {

@@ -1,0 +1,81 @@
+//! A script that is moved to format 2.
+
+ghost use Rattle.std.specs.Prelude.{◌≢◌, ◌≤◌, [], ◌∷◌, IfSome, IsOk, length};
+ghost use Rattle.orca_base.specs.declared.limits.TheConstants.{MAX_FILE_BYTES};
+ghost use Rattle.orca_course.specs.Acts.Act.{Load};
+ghost use Rattle.orca_cues.specs.Scripts.{any_script_of};
+ghost use Rattle.orca_player.specs.Doing.{Came, CameBy, ReadsBack};
+ghost use Rattle.orca_player.specs.Outlines.{after, loaded_migration, migrated};
+ghost use Rattle.orca_words.specs.RequestIn.{migration_in};
+
+use crate::Status;
+use crate::concert::settled;
+use orca_course::Desk;
+use orca_cues::{check_any_script, print_script};
+use orca_rig::{Files, Inbox, Outs};
+use orca_words::Migration;
+use std::alloc::Global;
+use std::sync::ledger::Ledger;
+
+/// Loads and reads a script of either format, and saves it in format 2. No grid is loaded, and
+/// nothing is sent.
+pub(crate) fn migrate<F: Files + Drop, O: Outs + Drop, I: Inbox + Drop, L: Ledger>(
+    alloc: Global,
+    migration: &Migration<'_>,
+    desk: &mut Desk<F, O, I, L>,
+) -> Status
+    ensures { CameBy (λ brought. after (Load migration.now.script.now brought.script ∷ [])
+        (loaded_migration (migration_in migration.now) brought.script)) desk.old result desk.new }
+{
+    match desk.load(alloc, migration.script) {
+        Ok(Some(text)) => check_and_save(alloc, migration, text.as_slice(), desk),
+        Ok(None) => Status::FileFault,
+        Err(_) => Status::Memory,
+    }
+}
+
+/// Reads all lines of a script, and then saves it.
+fn check_and_save<F: Files + Drop, O: Outs + Drop, I: Inbox + Drop, L: Ledger>(
+    alloc: Global,
+    migration: &Migration<'_>,
+    text: &[u8],
+    desk: &mut Desk<F, O, I, L>,
+) -> Status
+    requires { length text.now ≤ MAX_FILE_BYTES }
+    ensures came { Came (migrated (migration_in migration.now) text.now (any_script_of text.now))
+        desk.old result desk.new }
+    ensures reads { result ≢ Status.Memory → IfSome (migrated (migration_in migration.now) text.now
+        (any_script_of text.now)).given ReadsBack }
+{
+    match check_any_script(text) {
+        Ok(()) => print_and_save(alloc, migration, text, desk),
+        Err(fault) => Status::ScriptRefused {
+            line: fault.line,
+            column: fault.column,
+        },
+    }
+}
+
+/// Saves a script in which no line is refused.
+fn print_and_save<F: Files + Drop, O: Outs + Drop, I: Inbox + Drop, L: Ledger>(
+    alloc: Global,
+    migration: &Migration<'_>,
+    text: &[u8],
+    desk: &mut Desk<F, O, I, L>,
+) -> Status
+    requires short { length text.now ≤ MAX_FILE_BYTES }
+    requires checked { IsOk (any_script_of text.now) }
+    ensures came { Came (migrated (migration_in migration.now) text.now (any_script_of text.now))
+        desk.old result desk.new }
+    ensures reads { result ≢ Status.Memory → IfSome (migrated (migration_in migration.now) text.now
+        (any_script_of text.now)).given ReadsBack }
+{
+    let mut script = Vec::new(alloc);
+    let Ok(()) = print_script(text, migration.seed, &mut script) else {
+        return Status::Memory;
+    };
+    match desk.save(migration.out, script.as_slice()) {
+        Ok(()) => settled(Status::Done, desk),
+        Err(_) => Status::Memory,
+    }
+}
