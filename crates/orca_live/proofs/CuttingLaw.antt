@@ -30,10 +30,10 @@ use Rattle.orca_op.specs.Scan.{places, scan}
 use Rattle.orca_rig.specs.Arrived.{Poll}
 use Rattle.orca_rig.specs.declared.inbox.Answer.{Answer}
 use Rattle.orca_rig.specs.declared.inbox.Answer.TheVariants as answer
-use Rattle.orca_term.specs.Editing.{act_of, editor_after, editor_inside}
+use Rattle.orca_term.specs.Editing.{editor_after, editor_inside, wish_of}
 use Rattle.orca_term.specs.Keys.{Byte, Due, Item, turn}
-use Rattle.orca_term.specs.declared.editor.Act.{Act as Wish}
-use Rattle.orca_term.specs.declared.editor.Act.TheVariants as wish
+use Rattle.orca_term.specs.declared.editor.Wish.{Wish}
+use Rattle.orca_term.specs.declared.editor.Wish.TheVariants as wish
 use Rattle.orca_term.specs.declared.editor.Editor.{Editor}
 use Rattle.orca_term.specs.declared.keys.Key.{Key}
 use Rattle.orca_live.specs.Items.{items_by, items_of}
@@ -333,10 +333,10 @@ unfolding struck_course
 same_struck key s t same =
     let u : LiveState = record s { editor = editor_after key (dims_at s) s.editor } in
     let v : LiveState = record t { editor = editor_after key (dims_at t) t.editor } in
-    let w = act_of key (moments_at s) s.editor in
+    let w = wish_of key (moments_at s) s.editor in
     subst (λ x. Same (wish_course w u) (wish_course x v))
-    (ap (λ (at : Standing). act_of key (length at.machine.history) s.editor) same.standing
-    ∙ ap (act_of key (moments_at t)) same.editor)
+    (ap (λ (at : Standing). wish_of key (length at.machine.history) s.editor) same.standing
+    ∙ ap (wish_of key (moments_at t)) same.editor)
     (same_wish w u v (record {
       setting = same.setting;
       standing = same.standing;

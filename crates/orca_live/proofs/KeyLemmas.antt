@@ -10,11 +10,11 @@ use Rattle.orca_course.specs.declared.ending.Stop.{Stop}
 use Rattle.orca_course.specs.declared.ending.Stop.TheVariants.{Left}
 use Rattle.orca_course.specs.declared.refused.NoMemory.{NoMemory}
 use Rattle.orca_course.proofs.DoingLemmas.{does_end, does_still}
-use Rattle.orca_term.specs.Editing.{act_of, editor_after}
+use Rattle.orca_term.specs.Editing.{editor_after, wish_of}
 use Rattle.orca_term.specs.Keys.{Byte, Item, turn}
 use Rattle.orca_term.specs.Pacing.{Pace, due_from, interval}
-use Rattle.orca_term.specs.declared.editor.Act.{Act as Wish}
-use Rattle.orca_term.specs.declared.editor.Act.TheVariants as wish
+use Rattle.orca_term.specs.declared.editor.Wish.{Wish}
+use Rattle.orca_term.specs.declared.editor.Wish.TheVariants as wish
 use Rattle.orca_term.specs.declared.editor.Editor.{Editor}
 use Rattle.orca_term.specs.declared.keys.Key.{Key}
 use Rattle.orca_term.specs.declared.keys.Pending.{Pending}
@@ -89,7 +89,7 @@ wish_play w s pace x is plays steps begins =
 -- the editor has changed, and then what the key asks for was done
 pub struck_did : (key : Key) (s : LiveState) (w : Wish) (e : Editor) (d : Size) (moments : ℕ)
     {t : LiveState} {x y : World} (result : Result (Option Stop) NoMemory)
-    → w ≡ act_of key moments s.editor → e ≡ editor_after key d s.editor → d ≡ dims_at s
+    → w ≡ wish_of key moments s.editor → e ≡ editor_after key d s.editor → d ≡ dims_at s
     → moments ≡ moments_at s
     → Does live_stance (wish_course w (record s { editor = e })) (record s { editor = e }) x result
     t y
@@ -99,7 +99,7 @@ struck_did key s w e d moments {t = t} {x = x} {y = y} result asks changes size 
     let after : Editor → LiveState = λ (e : Editor). record s { editor = e } in
     let new = editor_after key (dims_at s) s.editor in
     subst (λ w. Does live_stance (wish_course w (after new)) s x result t y)
-    (asks ∙ ap (λ n. act_of key n s.editor) count)
+    (asks ∙ ap (λ n. wish_of key n s.editor) count)
     (subst (λ e. Does live_stance (wish_course w (after e)) s x result t y)
     (changes ∙ ap (λ d. editor_after key d s.editor) size)
     (does_from s result refl did))

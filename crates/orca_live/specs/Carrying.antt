@@ -14,10 +14,10 @@ use Rattle.orca_course.proofs.CourseLemmas.{each-holds}
 use Rattle.orca_edit.specs.Machines.{preview_of}
 use Rattle.orca_rig.specs.declared.inbox.Answer.{Answer}
 use Rattle.orca_rig.specs.declared.inbox.Answer.TheVariants as answer
-use Rattle.orca_term.specs.Editing.{act_of, editor_after}
+use Rattle.orca_term.specs.Editing.{editor_after, wish_of}
 use Rattle.orca_term.specs.Keys.{Byte, Due, Item, turn}
-use Rattle.orca_term.specs.declared.editor.Act.{Act as Wish}
-use Rattle.orca_term.specs.declared.editor.Act.TheVariants as wish
+use Rattle.orca_term.specs.declared.editor.Wish.{Wish}
+use Rattle.orca_term.specs.declared.editor.Wish.TheVariants as wish
 use Rattle.orca_term.specs.declared.keys.Key.{Key}
 use Rattle.orca_live.specs.Performing.{answer_course, answered_at, byte_course, close_course, command_course, due_course, finish_course, fired, frame_course, heard_course, if_named, item_course, key_course, last_grid_course, last_script_course, open_course, pace_from, paint_course, painted_course, press_course, preview_course, save_course, script_course, show_course, struck_course, toggled, wish_course}
 use Rattle.orca_live.specs.States.{LiveState, dims_at, fitted, is_full, moments_at, piece_at}
@@ -108,7 +108,7 @@ struck_carried : {holds : LiveState → List Act → LiveState → Type 0} → C
 unfolding struck_course
 struck_carried carry key s =
     let t : LiveState = record s { editor = editor_after key (dims_at s) s.editor } in
-    let w = act_of key (moments_at s) s.editor in
+    let w = wish_of key (moments_at s) s.editor in
     from_alike carry s t (wish_course w t)
     (record { setting = refl; standing = refl; screen = refl; shown = refl; given = refl })
     (wish_carried carry w t)

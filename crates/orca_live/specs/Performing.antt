@@ -19,14 +19,14 @@ use Rattle.orca_grid.specs.GridText.{text_of}
 use Rattle.orca_rig.specs.declared.inbox.Answer.{Answer}
 use Rattle.orca_rig.specs.declared.inbox.Answer.TheVariants as answer
 use Rattle.orca_script.specs.Runs.{printed_script}
-use Rattle.orca_term.specs.Editing.{act_of, editor_after}
+use Rattle.orca_term.specs.Editing.{editor_after, wish_of}
 use Rattle.orca_term.specs.Keys.{Byte, Due, Item, turn}
 use Rattle.orca_term.specs.Pacing.{Pace, due_after, due_from, interval}
 use Rattle.orca_term.specs.Picture.{picture, scene_of}
 use Rattle.orca_term.specs.Viewing.{painting_bytes}
 use Rattle.orca_term.specs.declared.cell.Cell.{Cell}
-use Rattle.orca_term.specs.declared.editor.Act.{Act as Wish}
-use Rattle.orca_term.specs.declared.editor.Act.TheVariants as wish
+use Rattle.orca_term.specs.declared.editor.Wish.{Wish}
+use Rattle.orca_term.specs.declared.editor.Wish.TheVariants as wish
 use Rattle.orca_term.specs.declared.keys.Key.{Key}
 use Rattle.orca_live.specs.Quiet.{silent_manner}
 use Rattle.orca_live.specs.States.{LiveState, dims_at, fitted, is_full, key_name, line_at, live_stance, moments_at, piece_at, until_at}
@@ -84,7 +84,7 @@ wish_course wish.Quit s = ended Left s
 -- a key, where the editor is fitted to the grid
 unfoldable pub struck_course : Key → LiveState → Course LiveState Stop
 struck_course key s =
-    wish_course (act_of key (moments_at s) s.editor)
+    wish_course (wish_of key (moments_at s) s.editor)
     (record s { editor = editor_after key (dims_at s) s.editor })
 
 -- a key

@@ -17,7 +17,7 @@ use orca_base::{Command, Look};
 use orca_course::{Desk, NoMemory, Stop};
 use orca_edit::Machine;
 use orca_rig::{Files, Inbox, Outs};
-use orca_term::{Act, Key, Pacer};
+use orca_term::{Key, Pacer, Wish};
 use std::sync::ledger::Ledger;
 
 /// Keeps a command for the script, if one is saved at the end.
@@ -57,7 +57,7 @@ pub(crate) fn do_command<
 fn do_wish<M: Machine + Drop, F: Files + Drop, O: Outs + Drop, I: Inbox + Drop, L: Ledger>(
     live: &mut Live<'_, M>,
     desk: &mut Desk<F, O, I, L>,
-    wish: &Act,
+    wish: &Wish,
 ) -> Result<Option<Stop>, NoMemory>
     ensures { let s = state_of (M.machine live.old.stage.machine) (M.kept live.old.stage.machine)
         live.old in
@@ -67,23 +67,23 @@ fn do_wish<M: Machine + Drop, F: Files + Drop, O: Outs + Drop, I: Inbox + Drop, 
         (owing (M.residue live.new.stage.machine) desk.new) }
 {
     match wish {
-        Act::Nothing => Ok(None),
-        Act::Do(command) => {
+        Wish::Nothing => Ok(None),
+        Wish::Do(command) => {
             do_command(live, desk, command)?;
             Ok(None)
         }
-        Act::Toggle => {
+        Wish::Toggle => {
             if !live.editor.paused {
                 live.pacer = Pacer::start(live.at, live.setting.bpm);
             }
             Ok(None)
         }
-        Act::Save => {
+        Wish::Save => {
             let name = live.setting.key_name();
             save_grid(live, desk, name)?;
             Ok(None)
         }
-        Act::Quit => Ok(Some(Stop::Left)),
+        Wish::Quit => Ok(Some(Stop::Left)),
     }
 }
 

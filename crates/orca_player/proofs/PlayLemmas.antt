@@ -24,10 +24,10 @@ use Rattle.orca_live.specs.States.{LiveState, dims_at, fitted, is_full, moments_
 use Rattle.orca_rig.specs.Arrived.{Poll, is_ending}
 use Rattle.orca_rig.specs.declared.inbox.Answer.{Answer}
 use Rattle.orca_rig.specs.declared.inbox.Answer.TheVariants as answer
-use Rattle.orca_term.specs.Editing.{act_of, editor_after}
+use Rattle.orca_term.specs.Editing.{editor_after, wish_of}
 use Rattle.orca_term.specs.Keys.{Byte, Due, Item, turn}
-use Rattle.orca_term.specs.declared.editor.Act.{Act as Wish}
-use Rattle.orca_term.specs.declared.editor.Act.TheVariants as wish
+use Rattle.orca_term.specs.declared.editor.Wish.{Wish}
+use Rattle.orca_term.specs.declared.editor.Wish.TheVariants as wish
 use Rattle.orca_term.specs.declared.keys.Key.{Key}
 use Rattle.orca_player.specs.Ready.{HasRoom, before_frame}
 use Rattle.orca_player.proofs.FineLemmas.{command-goes}
@@ -59,7 +59,7 @@ unfolding press_course key_course struck_course
 press-leaves None s = tt
 press-leaves (Some key) s =
     let t = fitted s in
-    wish-leaves (act_of key (moments_at t) t.editor)
+    wish-leaves (wish_of key (moments_at t) t.editor)
     (record t { editor = editor_after key (dims_at t) t.editor })
 
 item-leaves : (item : Item) (s : LiveState) → Leaves (item_course item s).ending

@@ -5,8 +5,8 @@ use Rattle.orca_base.specs.declared.area.Rect.{Rect}
 use Rattle.orca_base.specs.declared.command.Command.TheVariants as command
 use Rattle.orca_base.specs.declared.limits.TheConstants.{BACK_MOMENTS}
 use Rattle.orca_base.specs.Grids.{Size}
-use Rattle.orca_term.specs.declared.editor.Act.{Act}
-use Rattle.orca_term.specs.declared.editor.Act.TheVariants as act
+use Rattle.orca_term.specs.declared.editor.Wish.{Wish}
+use Rattle.orca_term.specs.declared.editor.Wish.TheVariants as wish
 use Rattle.orca_term.specs.declared.editor.Editor.{Editor}
 use Rattle.orca_term.specs.declared.keys.Key.{Key}
 use Rattle.orca_term.specs.declared.keys.Key.TheVariants as key
@@ -59,18 +59,18 @@ editor_after key.Pause d e = record e { paused = not e.paused }
 editor_after _ d e = e
 
 -- what a key asks for in a session of so many moments
-abbrev pub act_of : Key → ℕ → Editor → Act
-act_of (key.Glyph glyph) moments e = act.Do (command.Write e.y e.x glyph)
-act_of key.Rub moments e = act.Do (command.Erase (rect_of e))
-act_of key.Copy moments e = act.Do (command.Copy (rect_of e))
-act_of key.Cut moments e = act.Do (command.Cut (rect_of e))
-act_of key.Paste moments e = act.Do (command.Paste e.y e.x)
-act_of key.Undo moments e = act.Do command.Undo
-act_of key.Redo moments e = act.Do command.Redo
-act_of key.Reset moments e = act.Do command.Reset
-act_of key.Step moments e = act.Do command.Frame
-act_of key.Back moments e = act.Do (command.Rewind (moments - BACK_MOMENTS))
-act_of key.Pause moments e = act.Toggle
-act_of key.Save moments e = act.Save
-act_of key.Quit moments e = act.Quit
-act_of _ moments e = act.Nothing
+abbrev pub wish_of : Key → ℕ → Editor → Wish
+wish_of (key.Glyph glyph) moments e = wish.Do (command.Write e.y e.x glyph)
+wish_of key.Rub moments e = wish.Do (command.Erase (rect_of e))
+wish_of key.Copy moments e = wish.Do (command.Copy (rect_of e))
+wish_of key.Cut moments e = wish.Do (command.Cut (rect_of e))
+wish_of key.Paste moments e = wish.Do (command.Paste e.y e.x)
+wish_of key.Undo moments e = wish.Do command.Undo
+wish_of key.Redo moments e = wish.Do command.Redo
+wish_of key.Reset moments e = wish.Do command.Reset
+wish_of key.Step moments e = wish.Do command.Frame
+wish_of key.Back moments e = wish.Do (command.Rewind (moments - BACK_MOMENTS))
+wish_of key.Pause moments e = wish.Toggle
+wish_of key.Save moments e = wish.Save
+wish_of key.Quit moments e = wish.Quit
+wish_of _ moments e = wish.Nothing

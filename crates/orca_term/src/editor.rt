@@ -3,7 +3,7 @@
 ghost use Rattle.std.specs.Prelude.{◌≡◌, ◌≤◌, false};
 ghost use Rattle.orca_base.specs.Areas.{IsArea};
 ghost use Rattle.orca_base.specs.Edits.{is_in_area};
-ghost use Rattle.orca_term.specs.Editing.{area_of, rect_of, new_editor, cut_to_grid, editor_inside, act_of, editor_after};
+ghost use Rattle.orca_term.specs.Editing.{area_of, rect_of, new_editor, cut_to_grid, editor_inside, wish_of, editor_after};
 
 use crate::Key;
 use orca_base::limits::BACK_MOMENTS;
@@ -25,9 +25,9 @@ pub struct Editor {
     pub paused: bool,
 }
 
-/// What a key asks for.
+/// What a key asks for, beside what it makes of the editor.
 #[derive(Clone, Copy, Debug, PartialEq, Eq)]
-pub enum Act {
+pub enum Wish {
     /// Nothing beyond the editor.
     Nothing,
     /// A command for the session.
@@ -83,40 +83,40 @@ impl Editor {
 
     /// What a key asks for in a session of so many moments, with what it makes of the editor. The
     /// selection isn't empty and lies in the grid, before and afterwards.
-    pub fn key(&mut self, key: Key, dims: Dims, moments: u32) -> Act
+    pub fn key(&mut self, key: Key, dims: Dims, moments: u32) -> Wish
         requires inside { IsArea dims (area_of self.old) }
-        ensures act { result ≡ act_of key moments self.old }
+        ensures wish { result ≡ wish_of key moments self.old }
         ensures editor { self.new ≡ editor_after key dims self.old }
         ensures inside { IsArea dims (area_of self.new) }
     {
-        let act = self.act(&key, moments);
+        let wish = self.wish(&key, moments);
         self.change(key, dims);
-        act
+        wish
     }
 
     /// What a key asks for.
-    fn act(&self, key: &Key, moments: u32) -> Act
-        ensures { result ≡ act_of key.now moments self.now }
+    fn wish(&self, key: &Key, moments: u32) -> Wish
+        ensures { result ≡ wish_of key.now moments self.now }
     {
         let (y, x) = (u32::from(self.y), u32::from(self.x));
         let rect = self.rect();
         match *key {
-            Key::Glyph(glyph) => Act::Do(Command::Write { y, x, glyph }),
-            Key::Rub => Act::Do(Command::Erase { rect }),
-            Key::Copy => Act::Do(Command::Copy { rect }),
-            Key::Cut => Act::Do(Command::Cut { rect }),
-            Key::Paste => Act::Do(Command::Paste { y, x }),
-            Key::Undo => Act::Do(Command::Undo),
-            Key::Redo => Act::Do(Command::Redo),
-            Key::Reset => Act::Do(Command::Reset),
-            Key::Step => Act::Do(Command::Frame),
-            Key::Back => Act::Do(Command::Rewind {
+            Key::Glyph(glyph) => Wish::Do(Command::Write { y, x, glyph }),
+            Key::Rub => Wish::Do(Command::Erase { rect }),
+            Key::Copy => Wish::Do(Command::Copy { rect }),
+            Key::Cut => Wish::Do(Command::Cut { rect }),
+            Key::Paste => Wish::Do(Command::Paste { y, x }),
+            Key::Undo => Wish::Do(Command::Undo),
+            Key::Redo => Wish::Do(Command::Redo),
+            Key::Reset => Wish::Do(Command::Reset),
+            Key::Step => Wish::Do(Command::Frame),
+            Key::Back => Wish::Do(Command::Rewind {
                 moment: moments.saturating_sub(BACK_MOMENTS),
             }),
-            Key::Pause => Act::Toggle,
-            Key::Save => Act::Save,
-            Key::Quit => Act::Quit,
-            _ => Act::Nothing,
+            Key::Pause => Wish::Toggle,
+            Key::Save => Wish::Save,
+            Key::Quit => Wish::Quit,
+            _ => Wish::Nothing,
         }
     }
 

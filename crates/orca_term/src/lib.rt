@@ -15,7 +15,7 @@ mod status;
 mod view;
 
 pub use cell::{Cell, ScreenSize};
-pub use editor::{Act, Editor};
+pub use editor::{Editor, Wish};
 pub use keys::{Key, Keys, Pending};
 pub use pacer::Pacer;
 pub use screen::Screen;

@@ -6,7 +6,7 @@ mod pictures;
 ghost use Rattle.std.specs.Prelude.{◌≤◌};
 ghost use Rattle.orca_base.specs.declared.limits.TheConstants.{MIN_SCREEN_ROWS, MAX_SCREEN_ROWS, MIN_SCREEN_COLUMNS, MAX_SCREEN_COLUMNS};
 
-use crate::{Act, Editor, Key, Keys, Pacer, Screen, StatusLine, View};
+use crate::{Editor, Key, Keys, Pacer, Screen, StatusLine, View, Wish};
 use orca_base::{Command, Dims, Glyph, Look, Mark, Marks, Memory, Place, Rect, Rule};
 use std::alloc::Global;
 use std::marker::Model;
@@ -148,12 +148,12 @@ fn editor_at(y: u16, x: u16, h: u16, w: u16) -> Editor {
 }
 
 /// What a key asks for, and the editor after it.
-fn press(rt: &impl Abort, mut editor: Editor, key: Key, dims: Dims) -> (Act, Editor) {
+fn press(rt: &impl Abort, mut editor: Editor, key: Key, dims: Dims) -> (Wish, Editor) {
     assert!(rt; editor.h >= 1 && editor.w >= 1);
     assert!(rt; u32::from(editor.y) + u32::from(editor.h) <= u32::from(dims.h));
     assert!(rt; u32::from(editor.x) + u32::from(editor.w) <= u32::from(dims.w));
-    let act = editor.key(key, dims, 20);
-    (act, editor)
+    let wish = editor.key(key, dims, 20);
+    (wish, editor)
 }
 
 #[test]
@@ -179,10 +179,10 @@ fn keys_that_move_and_select(rt: HostRuntime) {
         (Key::Escape, editor_at(1, 1, 2, 3), editor_at(1, 1, 1, 1)),
     ];
     for (key, before, after) in rows {
-        let (act, editor) = press(&rt, before, key, dims);
+        let (wish, editor) = press(&rt, before, key, dims);
         assert!(rt;
-            act == Act::Nothing && editor == after,
-            "{key:?}: {act:?} {editor:?}"
+            wish == Wish::Nothing && editor == after,
+            "{key:?}: {wish:?} {editor:?}"
         );
     }
 }
@@ -211,23 +211,23 @@ fn keys_that_ask(rt: HostRuntime) {
         (Key::Back, Command::Rewind { moment: 4 }),
     ];
     for (key, command) in rows {
-        let (act, editor) = press(&rt, before, key, dims);
+        let (wish, editor) = press(&rt, before, key, dims);
         assert!(rt;
-            act == Act::Do(command) && editor == before,
-            "{key:?}: {act:?} {editor:?}"
+            wish == Wish::Do(command) && editor == before,
+            "{key:?}: {wish:?} {editor:?}"
         );
     }
-    for (key, want) in [(Key::Save, Act::Save), (Key::Quit, Act::Quit)] {
-        let (act, editor) = press(&rt, before, key, dims);
+    for (key, want) in [(Key::Save, Wish::Save), (Key::Quit, Wish::Quit)] {
+        let (wish, editor) = press(&rt, before, key, dims);
         assert!(rt;
-            act == want && editor == before,
-            "{key:?}: {act:?} {editor:?}"
+            wish == want && editor == before,
+            "{key:?}: {wish:?} {editor:?}"
         );
     }
-    let (act, editor) = press(&rt, before, Key::Pause, dims);
-    assert!(rt; act == Act::Toggle && editor.paused);
-    let (act, editor) = press(&rt, editor, Key::Pause, dims);
-    assert!(rt; act == Act::Toggle && editor == before);
+    let (wish, editor) = press(&rt, before, Key::Pause, dims);
+    assert!(rt; wish == Wish::Toggle && editor.paused);
+    let (wish, editor) = press(&rt, editor, Key::Pause, dims);
+    assert!(rt; wish == Wish::Toggle && editor == before);
 }
 
 #[test]
@@ -235,10 +235,10 @@ fn an_editor_is_fitted(rt: HostRuntime) {
     let mut editor = Editor::start();
     assert!(rt; editor == editor_at(0, 0, 1, 1));
     for (moments, moment) in [(0, 0), (15, 0), (16, 0), (17, 1)] {
-        let act = Editor::start().key(Key::Back, dims_of(&rt, 1, 1), moments);
+        let wish = Editor::start().key(Key::Back, dims_of(&rt, 1, 1), moments);
         assert!(rt;
-            act == Act::Do(Command::Rewind { moment }),
-            "{moments}: {act:?}"
+            wish == Wish::Do(Command::Rewind { moment }),
+            "{moments}: {wish:?}"
         );
     }
     editor = editor_at(7, 1, 3, 9);
