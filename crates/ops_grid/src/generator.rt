@@ -57,7 +57,7 @@ fn generate<B: Bench, L: Ledger>(
     requires { (y < BASE) × (x < BASE) × (length < BASE) }
     ensures deeds { let old = B.desk bench.old in
         B.desk bench.new ≡ desk_after_all old (each length (generate_at old.scan at y x)) }
-    ensures ticks { steps.new ≡ steps.old + 4 * length }
+    ensures steps { steps.new ≡ steps.old + 4 * length }
 {
     for i in 0..length {
         let target = at.off(i32::from(y) + 1, i32::from(x) + i32::from(i));

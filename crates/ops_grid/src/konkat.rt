@@ -46,7 +46,7 @@ fn concatenate<B: Bench, L: Ledger>(bench: &mut B, at: Place, length: u8, steps:
     requires { length < BASE }
     ensures deeds { B.desk bench.new
         ≡ desk_after_all (B.desk bench.old) (each length (konkat_at (B.desk bench.old).scan at)) }
-    ensures ticks { steps.new ≤ steps.old + 5 * length }
+    ensures steps { steps.new ≤ steps.old + 5 * length }
     ensures later { steps.old ≤ steps.new }
 {
     for i in 0..length {
@@ -59,7 +59,7 @@ fn concatenate<B: Bench, L: Ledger>(bench: &mut B, at: Place, length: u8, steps:
 fn write_below<B: Bench, L: Ledger>(bench: &mut B, at: Place, i: u8, steps: &mut Steps<L>)
     ensures deeds { B.desk bench.new
         ≡ desk_after_all (B.desk bench.old) (konkat_at (B.desk bench.old).scan at i) }
-    ensures ticks { steps.new ≤ steps.old + 5 }
+    ensures steps { steps.new ≤ steps.old + 5 }
     ensures later { steps.old ≤ steps.new }
 {
     let column = u16::from(i) + 1;

@@ -69,7 +69,7 @@ fn collect<B: Bench, L: Ledger>(
     requires { length < BASE }
     ensures deeds { B.desk bench.new ≡ desk_after_all (B.desk bench.old)
         (each length (λ i. query_one at y x length i (slice_index operands.now i))) }
-    ensures ticks { steps.new ≡ steps.old + 3 * length }
+    ensures steps { steps.new ≡ steps.old + 3 * length }
 {
     for i in 0..length {
         let column = i32::from(i) + 1 - i32::from(length);

@@ -20,7 +20,7 @@ pub(crate) fn read<B: Bench, L: Ledger>(
     requires { span.length < BASE }
     ensures glyphs { (i : ℕ) → i < span.length → slice_index result i
         ≡ peek (B.desk bench.now).scan (off at (pos span.y) (pos (i + span.x))) }
-    ensures ticks { steps.new ≡ steps.old + span.length }
+    ensures steps { steps.new ≡ steps.old + span.length }
 {
     let mut glyphs = [Glyph::EMPTY; ROOM];
     for i in 0..span.length {

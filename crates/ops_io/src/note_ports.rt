@@ -28,7 +28,7 @@ impl NotePorts {
         ensures velocity { result.velocity ≡ port (B.desk bench.now).scan at 4 }
         ensures length { result.length ≡ port (B.desk bench.now).scan at 5 }
         ensures mono { result.mono ≡ false }
-        ensures ticks { steps.new ≡ steps.old + 5 }
+        ensures steps { steps.new ≡ steps.old + 5 }
     {
         NotePorts {
             channel: bench.peek(at.right(1), steps),

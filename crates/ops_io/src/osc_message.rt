@@ -58,7 +58,7 @@ impl Operator for OscMessage {
 fn read_values<B: Bench, L: Ledger>(bench: &B, at: Place, count: u8, steps: &mut Steps<L>) -> Short
     requires { count < BASE }
     ensures values { result ≡ map value (ports (B.desk bench.now).scan at 3 count) }
-    ensures ticks { steps.new ≡ steps.old + count }
+    ensures steps { steps.new ≡ steps.old + count }
 {
     let mut values = Short::empty();
     for i in 0..count {

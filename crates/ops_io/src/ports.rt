@@ -17,7 +17,7 @@ pub(crate) fn inputs<B: Bench, L: Ledger>(
 )
     ensures deeds { B.desk bench.new ≡ desk_after_all (B.desk bench.old) (inputs at from length) }
     ensures room { HasRoom (B.desk bench.old) → HasRoom (B.desk bench.new) }
-    ensures ticks { steps.new ≡ steps.old + length }
+    ensures steps { steps.new ≡ steps.old + length }
 {
     let ports = Span {
         y: 0,
@@ -31,7 +31,7 @@ pub(crate) fn inputs<B: Bench, L: Ledger>(
 pub(crate) fn lock<B: Bench, L: Ledger>(bench: &mut B, at: Place, length: u8, steps: &mut Steps<L>)
     ensures deeds { B.desk bench.new ≡ desk_after_all (B.desk bench.old) (lock_deeds at length) }
     ensures room { HasRoom (B.desk bench.old) → HasRoom (B.desk bench.new) }
-    ensures ticks { steps.new ≡ steps.old + length }
+    ensures steps { steps.new ≡ steps.old + length }
 {
     let ports = Span { y: 0, x: 1, length };
     bench.lock_span(at, ports, steps);

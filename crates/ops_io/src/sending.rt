@@ -16,7 +16,7 @@ pub(crate) fn send<B: Bench, L: Ledger>(
 )
     requires { HasRoom (B.desk bench.old) }
     ensures deeds { B.desk bench.new ≡ desk_after_all (B.desk bench.old) (send_deeds at event) }
-    ensures ticks { steps.new ≤ steps.old + 2 }
+    ensures steps { steps.new ≤ steps.old + 2 }
     ensures later { steps.old ≤ steps.new }
 {
     if let Some(event) = event {

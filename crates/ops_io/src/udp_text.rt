@@ -50,7 +50,7 @@ impl Operator for UdpText {
 fn read_text<B: Bench, L: Ledger>(bench: &B, at: Place, steps: &mut Steps<L>) -> Short
     ensures text { result ≡ text_at (B.desk bench.now).scan at }
     ensures short { length result ≤ MAX_TEXT }
-    ensures ticks { steps.new ≤ steps.old + MAX_TEXT }
+    ensures steps { steps.new ≤ steps.old + MAX_TEXT }
     ensures later { steps.old ≤ steps.new }
 {
     let mut text = Short::empty();

@@ -11,7 +11,7 @@ use std::sync::ledger::Ledger;
 /// Marks the ports of a value operator.
 pub(crate) fn mark<B: Bench, L: Ledger>(bench: &mut B, at: Place, steps: &mut Steps<L>)
     ensures deeds { B.desk bench.new ≡ desk_after_all (B.desk bench.old) (value_ports at) }
-    ensures ticks { steps.new ≡ steps.old + 3 }
+    ensures steps { steps.new ≡ steps.old + 3 }
 {
     bench.param(at.left(1), steps);
     bench.input(at.right(1), steps);

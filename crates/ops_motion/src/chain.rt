@@ -21,7 +21,7 @@ pub(crate) fn jump<B: Bench, L: Ledger>(
 )
     ensures deeds { B.desk bench.new ≡ desk_after_all (B.desk bench.old)
         (jump glyph (B.desk bench.old).scan (source_on way at) (beyond_on way at)) }
-    ensures ticks { steps.new ≤ steps.old + (2 * JUMP_REACH + 3) }
+    ensures steps { steps.new ≤ steps.old + (2 * JUMP_REACH + 3) }
     ensures later { steps.old ≤ steps.new }
 {
     let carried = bench.peek(way.source(at), steps);
@@ -47,7 +47,7 @@ fn chain_end<B: Bench, L: Ledger>(
 ) -> Option<u16>
     ensures end { result ≡ chain_end glyph (B.desk bench.now).scan (beyond_on way at) }
     ensures range { IfSome result (λ places. (1 ≤ places) × (places ≤ JUMP_REACH)) }
-    ensures ticks { steps.new ≤ steps.old + JUMP_REACH }
+    ensures steps { steps.new ≤ steps.old + JUMP_REACH }
     ensures later { steps.old ≤ steps.new }
 {
     for places in 1..JUMP_REACH + 1 {
@@ -68,7 +68,7 @@ fn sleep_chain<B: Bench, L: Ledger>(
 )
     ensures deeds { B.desk bench.new ≡ desk_after_all (B.desk bench.old)
         (sleep_deeds (beyond_on way at) places) }
-    ensures ticks { steps.new ≡ steps.old + places }
+    ensures steps { steps.new ≡ steps.old + places }
 {
     for passed in 0..places {
         bench.sleep(way.beyond(at, passed + 1), steps);

@@ -48,7 +48,7 @@ fn comment_length<B: Bench, L: Ledger>(bench: &B, at: Place, steps: &mut Steps<L
     requires { IsInside (B.desk bench.now).scan.dims at }
     ensures length { result ≡ comment_length (B.desk bench.now).scan at }
     ensures range { result ≤ COMMENT_REACH }
-    ensures ticks { steps.new ≤ steps.old + COMMENT_REACH }
+    ensures steps { steps.new ≤ steps.old + COMMENT_REACH }
     ensures later { steps.old ≤ steps.new }
 {
     match bench.find_right(at, b'#', COMMENT_REACH as u8, steps) {

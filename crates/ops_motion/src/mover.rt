@@ -17,7 +17,7 @@ pub(crate) fn move_to<B: Bench, L: Ledger>(
 )
     ensures deeds { B.desk bench.new ≡ desk_after_all (B.desk bench.old)
         (move_to glyph (B.desk bench.old).scan at target) }
-    ensures ticks { steps.new ≤ steps.old + 4 }
+    ensures steps { steps.new ≤ steps.old + 4 }
     ensures later { steps.old ≤ steps.new }
 {
     let ahead = bench.peek(target, steps);

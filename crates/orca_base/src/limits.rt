@@ -67,8 +67,8 @@ pub const MIN_VELOCITY: u8 = 7;
 /// The most deeds of one visit.
 pub const MAX_DEEDS: usize = 512;
 
-/// The most ticks of one operator's deeds, besides the looks that decide whether it works.
-pub const MAX_TICKS: u64 = 560;
+/// The most steps of one operator's deeds, besides the looks that decide whether it works.
+pub const MAX_STEPS: u64 = 560;
 
 /// The most notes that sound at once: one for each channel and key.
 pub const MAX_NOTES: usize = (MAX_CHANNEL as usize + 1) * (MAX_DATA as usize + 1);
@@ -82,8 +82,8 @@ pub const MAX_MESSAGES: usize = MAX_NOTES + 2 * MAX_EVENTS;
 /// The seed of a run that is given none.
 pub const DEFAULT_SEED: u32 = 1;
 
-/// The most ticks of one visit: its looks, and those of its operator's deeds.
-pub const MAX_VISIT_TICKS: u64 = 600;
+/// The most steps of one visit: its looks, and those of its operator's deeds.
+pub const MAX_VISIT_STEPS: u64 = 600;
 
 /// The most entries of a history.
 pub const MAX_HISTORY: u32 = 4_000_000;

@@ -3,7 +3,8 @@ ghost use Rattle.std.specs.Prelude.{◌≡◌, ◌+◌, ◌<◌};
 use std::marker::Model;
 use std::sync::ledger::{Blank, Book, Ledger, Share};
 
-/// A counter of steps, for any ledger. It has no bytes when the program runs, and only `tick` raises it.
+/// A counter of steps, for any ledger. It has no bytes when the program runs, and only
+/// `count_one` and `count_many` raise it.
 #[derive(Drop)]
 pub struct Steps<L: Ledger> {
     book: Book<L>,
@@ -33,9 +34,16 @@ impl<L: Ledger> Steps<L> {
     }
 
     /// Counts one step.
-    pub fn tick(&mut self)
+    pub fn count_one(&mut self)
         ensures { self.new ≡ self.old + 1 }
     {
         self.book.add(&mut self.share, 1);
+    }
+
+    /// Counts so many steps.
+    pub fn count_many(&mut self, times: usize)
+        ensures { self.new ≡ self.old + times }
+    {
+        self.book.add(&mut self.share, times as u64);
     }
 }

@@ -69,24 +69,24 @@ pub residue-of_sheet : (g : Sheet) → residue (desk_of_sheet g) ≡ 0
 unfolding residue
 residue-of_sheet g = omega (arith, count-blank (cells_of g.dims))
 
--- ---- the clauses on an edit's ticks
+-- ---- the clauses on an edit's steps
 
 pub residue-edited : (d e : Desk) (g : Sheet) (places : List Place) (from to n : ℕ)
     → e ≡ desk_after_edit d g places → to ≡ from + n → length places ≤ n
     → residue e + from ≤ residue d + to
-residue-edited d e g places from to n is ticks few =
+residue-edited d e g places from to n is steps few =
     let most : residue e ≤ residue d + length places = rw is (residue-edit d g places) in
-    omega (arith, most, ticks, few)
+    omega (arith, most, steps, few)
 
 pub residue-resized : (d e : Desk) (size : Size) (from to : ℕ) → e ≡ desk_after_resize d size
     → to ≡ from + length (cut_places d.scan.dims size) → residue e + from ≤ residue d + to
-residue-resized d e size from to is ticks =
+residue-resized d e size from to is steps =
     let most : residue e ≤ residue d + length (cut_places d.scan.dims size) =
     rw is (residue-resize d size) in
-    omega (arith, most, ticks)
+    omega (arith, most, steps)
 
 pub residue-reverted : (d e : Desk) (from to n : ℕ) → e ≡ desk_reverted d → to ≡ from + n
     → residue e + from ≤ residue d + to
-residue-reverted d e from to n is ticks =
+residue-reverted d e from to n is steps =
     let most : residue e ≤ residue d = rw is (residue-revert d) in
-    omega (arith, most, ticks)
+    omega (arith, most, steps)

@@ -362,11 +362,11 @@ outside_step d e f glyph area other n before left =
     ∙ ap (λ (places : List Place). desk_after_all d (write_each glyph places))
     (sym (rows-outside area other n))
 
-pub outside_ticks : (area other : Area) (n : ℕ)
+pub outside_count : (area other : Area) (n : ℕ)
     → length (filter (λ at. not (is_in_area other at)) (first_rows area (n + 1)))
     ≡ length (filter (λ at. not (is_in_area other at)) (first_rows area n))
     + length (row_outside area n other)
-outside_ticks area other n =
+outside_count area other n =
     ap (λ (places : List Place). length places) (rows-outside area other n)
     ∙ length-append (filter (λ at. not (is_in_area other at)) (first_rows area n))
     (row_outside area n other)

@@ -55,7 +55,7 @@ fn read_run<B: Bench, L: Ledger>(
     ensures glyphs { into.new.items
         ≡ into.old.items ++ map (glyph_at (B.desk bench.now).scan) (run_of at count) }
     ensures capacity { vec_capacity into.new ≡ vec_capacity into.old }
-    ensures ticks { steps.new ≡ steps.old + count }
+    ensures steps { steps.new ≡ steps.old + count }
 {
     let _dims = bench.dims();
     for i in 0..count {
@@ -79,7 +79,7 @@ fn read_area<B: Bench, L: Ledger>(
     requires room { area.h * area.w ≤ vec_capacity into.old }
     ensures glyphs { into.new.items ≡ (block_of (sheet_of (B.desk bench.now).scan) area).cells }
     ensures capacity { vec_capacity into.new ≡ vec_capacity into.old }
-    ensures ticks { steps.new ≡ steps.old + area.h * area.w }
+    ensures steps { steps.new ≡ steps.old + area.h * area.w }
 {
     into.clear();
     for row in 0..area.h {
@@ -98,7 +98,7 @@ fn fill_run<B: Bench, L: Ledger>(
     requires { at.x + count ≤ MAX_COLUMNS }
     ensures desk { B.desk bench.new
         ≡ desk_after_all (B.desk bench.old) (write_each (λ place. glyph) (run_of at count)) }
-    ensures ticks { steps.new ≡ steps.old + count }
+    ensures steps { steps.new ≡ steps.old + count }
 {
     for i in 0..count {
         let place = Place {
@@ -123,7 +123,7 @@ fn write_run<B: Bench, L: Ledger>(
     ensures desk { B.desk bench.new ≡ desk_after_all (B.desk bench.old)
         (write_each (λ place. slice_index glyphs.now (first + (place.x - at.x)))
         (run_of at count)) }
-    ensures ticks { steps.new ≡ steps.old + count }
+    ensures steps { steps.new ≡ steps.old + count }
 {
     for i in 0..count {
         let place = Place {
@@ -139,7 +139,7 @@ fn write_run<B: Bench, L: Ledger>(
 pub(crate) fn cut<B: Bench, L: Ledger>(bench: &mut B, dims: Dims, to: Dims, steps: &mut Steps<L>)
     ensures desk { B.desk bench.new ≡ desk_after_all (B.desk bench.old)
         (write_each (λ place. empty) (cut_places dims to)) }
-    ensures ticks { steps.new ≡ steps.old + length (cut_places dims to) }
+    ensures steps { steps.new ≡ steps.old + length (cut_places dims to) }
     ensures size { IsSize to }
 {
     let first = if to.w < dims.w { 0 } else { to.h.min(dims.h) };
@@ -170,7 +170,7 @@ fn clear_row_outside<B: Bench, L: Ledger>(
     requires other { IsInLargest other }
     ensures desk { B.desk bench.new ≡ desk_after_all (B.desk bench.old) (write_each
         (λ place. empty) (row_outside area row other)) }
-    ensures ticks { steps.new ≡ steps.old + length (row_outside area row other) }
+    ensures steps { steps.new ≡ steps.old + length (row_outside area row other) }
 {
     let first = row_of(area, row);
     if !crosses(other, first.y) {
@@ -194,7 +194,7 @@ fn clear_outside<B: Bench, L: Ledger>(bench: &mut B, area: Area, other: Area, st
     requires other { IsInLargest other }
     ensures desk { B.desk bench.new ≡ desk_after_all (B.desk bench.old)
         (write_each (λ place. empty) (places_outside area other)) }
-    ensures ticks { steps.new ≡ steps.old + length (places_outside area other) }
+    ensures steps { steps.new ≡ steps.old + length (places_outside area other) }
 {
     for row in 0..area.h {
         clear_row_outside(bench, area, row, other, steps);
@@ -215,7 +215,7 @@ fn write_block<B: Bench, L: Ledger>(
     requires rows { area.h * width ≤ length cells.now }
     ensures desk { B.desk bench.new ≡ desk_after_all (B.desk bench.old)
         (write_each (glyph_from (rows_of width cells.now) (corner_of area)) (places_in area)) }
-    ensures ticks { steps.new ≡ steps.old + area.h * area.w }
+    ensures steps { steps.new ≡ steps.old + area.h * area.w }
 {
     for row in 0..area.h {
         let first = usize::from(row) * usize::from(width);
@@ -233,7 +233,7 @@ pub(crate) fn fill<B: Bench, L: Ledger>(
     requires { IsArea (B.desk bench.old).scan.dims area }
     ensures desk { B.desk bench.new ≡ desk_after_edit (B.desk bench.old)
         (sheet_after_fill (sheet_of (B.desk bench.old).scan) area glyph) (fill_places area) }
-    ensures ticks { steps.new ≡ steps.old + area.h * area.w }
+    ensures steps { steps.new ≡ steps.old + area.h * area.w }
 {
     let dims = bench.dims();
     prove!(area.h <= dims.h && area.w <= dims.w);
@@ -253,7 +253,7 @@ pub(crate) fn put<B: Bench, L: Ledger>(
     ensures desk { B.desk bench.new ≡ desk_after_edit (B.desk bench.old)
         (sheet_after_put (sheet_of (B.desk bench.old).scan) to block.now)
         (put_places (B.desk bench.old).scan.dims to block.now.dims) }
-    ensures ticks { steps.new
+    ensures steps { steps.new
         ≡ steps.old + length (put_places (B.desk bench.old).scan.dims to block.now.dims) }
 {
     let area = image(bench.dims(), to, block.h(), block.w());
@@ -276,7 +276,7 @@ pub(crate) fn shift<B: Bench, L: Ledger>(
     ensures desk { B.desk bench.new ≡ desk_after_edit (B.desk bench.old)
         (sheet_after_move (sheet_of (B.desk bench.old).scan) area to)
         (shift_places (B.desk bench.old).scan.dims area to) }
-    ensures ticks { steps.new ≡ steps.old + area.h * area.w
+    ensures steps { steps.new ≡ steps.old + area.h * area.w
         + length (shift_places (B.desk bench.old).scan.dims area to) }
     ensures room { vec_capacity scratch.new ≡ vec_capacity scratch.old }
 {

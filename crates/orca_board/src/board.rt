@@ -50,36 +50,36 @@ impl Board {
         })
     }
 
-    /// A grid of this size with exactly these glyphs, in reading order, as after `begin`. It ticks once for
-    /// each cell of the old grid and of the new one.
+    /// A grid of this size with exactly these glyphs, in reading order, as after `begin`. It counts a step
+    /// for each cell of the old grid and of the new one.
     pub fn load<L: Ledger>(&mut self, dims: Dims, cells: &[Glyph], steps: &mut Steps<L>)
         requires { length cells.now ≡ dims.h * dims.w }
         ensures desk { self.new ≡ desk_of_sheet (record { dims = dims; cells = cells.now }) }
         ensures clear { residue self.new ≡ 0 }
-        ensures ticks { steps.new ≡ steps.old + cells_of self.old.scan.dims + cells_of dims }
+        ensures steps { steps.new ≡ steps.old + cells_of self.old.scan.dims + cells_of dims }
     {
         self.field.load(dims, cells, steps);
     }
 
-    /// Writes the glyph to each place of an area of the grid. It ticks once for each.
+    /// Writes the glyph to each place of an area of the grid. It counts a step for each.
     pub fn fill<L: Ledger>(&mut self, area: Area, glyph: Glyph, steps: &mut Steps<L>)
         requires { IsArea self.old.scan.dims area }
         ensures desk { self.new ≡ desk_after_edit self.old
             (sheet_after_fill (sheet_of self.old.scan) area glyph) (fill_places area) }
-        ensures ticks { steps.new ≡ steps.old + area.h * area.w }
+        ensures steps { steps.new ≡ steps.old + area.h * area.w }
         ensures residue { residue self.new + steps.old ≤ residue self.old + steps.new }
     {
         blocks::fill(&mut self.field, area, glyph, steps);
     }
 
-    /// Writes a block whose first place is `to`. What would stand outside the grid is left out. It ticks
-    /// once for each place that it writes.
+    /// Writes a block whose first place is `to`. What would stand outside the grid is left out. It counts
+    /// a step for each place that it writes.
     pub fn put<L: Ledger>(&mut self, to: Place, block: &Block, steps: &mut Steps<L>)
         requires { IsInside self.old.scan.dims to }
         ensures desk { self.new ≡ desk_after_edit self.old
             (sheet_after_put (sheet_of self.old.scan) to block.now)
             (put_places self.old.scan.dims to block.now.dims) }
-        ensures ticks { steps.new
+        ensures steps { steps.new
             ≡ steps.old + length (put_places self.old.scan.dims to block.now.dims) }
         ensures residue { residue self.new + steps.old ≤ residue self.old + steps.new }
     {
@@ -87,15 +87,15 @@ impl Board {
     }
 
     /// Moves the glyphs of an area to its image, the block of its size whose first place is `to`. The rest
-    /// of the area becomes empty, and what would stand outside the grid is left out. It ticks once for each
-    /// place that it reads, and once for each that it writes.
+    /// of the area becomes empty, and what would stand outside the grid is left out. It counts a step for
+    /// each place that it reads, and for each that it writes.
     pub fn shift<L: Ledger>(&mut self, area: Area, to: Place, steps: &mut Steps<L>)
         requires area { IsArea self.old.scan.dims area }
         requires to { IsInside self.old.scan.dims to }
         ensures desk { self.new ≡ desk_after_edit self.old
             (sheet_after_move (sheet_of self.old.scan) area to)
             (shift_places self.old.scan.dims area to) }
-        ensures ticks { steps.new ≡ steps.old + area.h * area.w
+        ensures steps { steps.new ≡ steps.old + area.h * area.w
             + length (shift_places self.old.scan.dims area to) }
         ensures residue { residue self.new + steps.old ≤ residue self.old + steps.new }
     {
@@ -105,21 +105,21 @@ impl Board {
     }
 
     /// Gives the grid another size: the common part stays, and new places are empty. Where the size changes,
-    /// nothing is marked any more, and there is no event. It ticks once for each place that is cut off.
+    /// nothing is marked any more, and there is no event. It counts a step for each place that is cut off.
     pub fn set_dims<L: Ledger>(&mut self, dims: Dims, steps: &mut Steps<L>)
         ensures desk { self.new ≡ desk_after_resize self.old dims }
-        ensures ticks { steps.new ≡ steps.old + length (cut_places self.old.scan.dims dims) }
+        ensures steps { steps.new ≡ steps.old + length (cut_places self.old.scan.dims dims) }
         ensures residue { residue self.new + steps.old ≤ residue self.old + steps.new }
     {
         self.field.set_dims(dims, steps);
     }
 
     /// The size and the glyphs of the last `begin`, and no changes. Where the size changes, nothing is marked
-    /// any more, and there is no event. It ticks once for each change, and once for each place that the size
-    /// of the last `begin` cuts off.
+    /// any more, and there is no event. It counts a step for each change, and for each place that the size of
+    /// the last `begin` cuts off.
     pub fn revert<L: Ledger>(&mut self, steps: &mut Steps<L>)
         ensures desk { self.new ≡ desk_reverted self.old }
-        ensures ticks { steps.new ≡ steps.old
+        ensures steps { steps.new ≡ steps.old
             + length (cut_places self.old.scan.dims self.old.began.dims) + length self.old.listed }
         ensures residue { residue self.new + steps.old ≤ residue self.old + steps.new }
     {

@@ -81,16 +81,16 @@ impl Field {
         })
     }
 
-    /// A grid of this size with exactly these glyphs, in reading order, as after `begin`. It ticks once for
-    /// each cell of the old grid and of the new one.
+    /// A grid of this size with exactly these glyphs, in reading order, as after `begin`. It counts a step
+    /// for each cell of the old grid and of the new one.
     pub fn load<L: Ledger>(&mut self, dims: Dims, cells: &[Glyph], steps: &mut Steps<L>)
         requires { length cells.now ≡ dims.h * dims.w }
         ensures desk { self.new ≡ desk_of_sheet (record { dims = dims; cells = cells.now }) }
-        ensures ticks { steps.new ≡ steps.old + cells_of self.old.scan.dims + cells_of dims }
+        ensures steps { steps.new ≡ steps.old + cells_of self.old.scan.dims + cells_of dims }
     {
-        tick_times(self.dims.cells(), steps);
+        steps.count_many(self.dims.cells());
         wipe(&mut self.cells, &mut self.live, self.dims);
-        tick_times(dims.cells(), steps);
+        steps.count_many(dims.cells());
         lay(&mut self.cells, &mut self.live, dims, cells);
         self.dims = dims;
         self.marks.clear(dims);
@@ -101,10 +101,10 @@ impl Field {
     }
 
     /// Gives the grid another size: the common part stays, and new places are empty. Where the size changes,
-    /// nothing is marked any more, and there is no event. It ticks once for each place that is cut off.
+    /// nothing is marked any more, and there is no event. It counts a step for each place that is cut off.
     pub fn set_dims<L: Ledger>(&mut self, dims: Dims, steps: &mut Steps<L>)
         ensures desk { self.new ≡ desk_after_resize self.old dims }
-        ensures ticks { steps.new ≡ steps.old + length (cut_places self.old.scan.dims dims) }
+        ensures steps { steps.new ≡ steps.old + length (cut_places self.old.scan.dims dims) }
     {
         let old = self.dims;
         blocks::cut(self, old, dims, steps);
@@ -112,11 +112,11 @@ impl Field {
     }
 
     /// The size and the glyphs of the last `begin`, and no changes. Where the size changes, nothing is marked
-    /// any more, and there is no event. It ticks once for each change, and once for each place that the size
-    /// of the last `begin` cuts off.
+    /// any more, and there is no event. It counts a step for each change, and for each place that the size of
+    /// the last `begin` cuts off.
     pub fn revert<L: Ledger>(&mut self, steps: &mut Steps<L>)
         ensures desk { self.new ≡ desk_reverted self.old }
-        ensures ticks { steps.new ≡ steps.old
+        ensures steps { steps.new ≡ steps.old
             + length (cut_places self.old.scan.dims self.old.began.dims) + length self.old.listed }
     {
         let old = self.dims;
@@ -324,7 +324,7 @@ fn wipe_row(cells: &mut [Glyph], live: &mut LiveBits, first: usize, count: usize
     }
 }
 
-/// Puts the old glyphs of the changes back. It ticks once for each.
+/// Puts the old glyphs of the changes back. It counts a step for each.
 fn restore<L: Ledger>(
     cells: &mut [Glyph],
     live: &mut LiveBits,
@@ -342,10 +342,10 @@ fn restore<L: Ledger>(
         → is_listed (places_of changes.now) at ≡ false
         → glyph_in cells.new at ≡ glyph_in cells.old at }
     ensures live { AreLive cells.new live.new }
-    ensures ticks { steps.new ≡ steps.old + length changes.now }
+    ensures steps { steps.new ≡ steps.old + length changes.now }
 {
     for change in changes {
-        steps.tick();
+        steps.count_one();
         let i = Dims::largest().index(change.at);
         change.old.put(cells, i);
         live.set(i, change.old.is_operator());
@@ -428,7 +428,7 @@ fn is_in_group(cells: &[Glyph], first: usize, byte: u8) -> bool
 }
 
 /// The column up to which no cell at the right of the first holds the byte, as far as whole groups
-/// tell. It ticks once for each column before.
+/// tell. It counts a step for each column before.
 fn skip_groups<L: Ledger>(
     cells: &[Glyph],
     first: usize,
@@ -441,7 +441,7 @@ fn skip_groups<L: Ledger>(
     ensures range { (1 ≤ result) × (result ≤ end) }
     ensures none { (k : ℕ) → 1 ≤ k → k < result
         → (slice_index cells.now (first + k) == byte) ≡ false }
-    ensures ticks { steps.new + 1 ≡ steps.old + result }
+    ensures steps { steps.new + 1 ≡ steps.old + result }
 {
     let groups = (end - 1) / GROUP;
     for group in 0..groups {
@@ -449,28 +449,19 @@ fn skip_groups<L: Ledger>(
         if is_in_group(cells, first + usize::from(column), byte) {
             return column;
         }
-        tick_times(usize::from(GROUP), steps);
+        steps.count_many(usize::from(GROUP));
     }
     1 + groups * GROUP
 }
 
-/// Ticks once for each place of a grid that is marked.
-fn tick_marked<L: Ledger>(marks: &MarkPlane, dims: Dims, steps: &mut Steps<L>)
+/// Counts a step for each place of a grid that is marked.
+fn count_marked<L: Ledger>(marks: &MarkPlane, dims: Dims, steps: &mut Steps<L>)
     ensures { steps.new ≡ steps.old + count_by is_marked (by_place dims (marks_in marks.now)) }
 {
     for n in 0..dims.cells() {
         if !marks.at(dims.place(n)).is_empty() {
-            steps.tick();
+            steps.count_one();
         }
-    }
-}
-
-/// Ticks so many times.
-fn tick_times<L: Ledger>(times: usize, steps: &mut Steps<L>)
-    ensures { steps.new ≡ steps.old + times }
-{
-    for _ in 0..times {
-        steps.tick();
     }
 }
 
@@ -483,7 +474,7 @@ impl Bench for Field {
 
     #[tactic(auto, unfolding(orca_op::specs::State::peek))]
     fn peek<L: Ledger>(&self, at: Spot, steps: &mut Steps<L>) -> Glyph {
-        steps.tick();
+        steps.count_one();
         // Outside the grid each cell is empty.
         let most = Dims::largest();
         match most.holds(at) {
@@ -494,7 +485,7 @@ impl Bench for Field {
 
     #[tactic(auto, unfolding(orca_op::specs::Deeds::after, orca_op::specs::Desk::list_after))]
     fn write<L: Ledger>(&mut self, at: Spot, glyph: Glyph, steps: &mut Steps<L>) {
-        steps.tick();
+        steps.count_one();
         if let Some(place) = self.dims.holds(at) {
             let i = Dims::largest().index(place);
             let old = self.cells[i];
@@ -505,7 +496,7 @@ impl Bench for Field {
 
     #[tactic(auto, unfolding(orca_op::specs::Deeds::after, orca_op::specs::Desk::list_after))]
     fn mark<L: Ledger>(&mut self, at: Spot, marks: Marks, steps: &mut Steps<L>) {
-        steps.tick();
+        steps.count_one();
         // Marks outside the grid are never looked at.
         if let Some(place) = Dims::largest().holds(at) {
             self.marks.add(place, marks);
@@ -514,7 +505,7 @@ impl Bench for Field {
 
     #[tactic(auto, unfolding(orca_op::specs::State::marked))]
     fn marked<L: Ledger>(&self, at: Spot, steps: &mut Steps<L>) -> Marks {
-        steps.tick();
+        steps.count_one();
         match self.dims.holds(at) {
             Some(place) => self.marks.at(place),
             None => Marks::none(),
@@ -523,36 +514,36 @@ impl Bench for Field {
 
     #[tactic(auto, unfolding(orca_op::specs::State::var_at))]
     fn var<L: Ledger>(&self, index: u8, steps: &mut Steps<L>) -> Glyph {
-        steps.tick();
+        steps.count_one();
         self.vars[usize::from(index)]
     }
 
     #[tactic(auto, unfolding(orca_op::specs::Deeds::after, orca_op::specs::Desk::list_after))]
     fn set_var<L: Ledger>(&mut self, index: u8, glyph: Glyph, steps: &mut Steps<L>) {
-        steps.tick();
+        steps.count_one();
         glyph.put(&mut self.vars, usize::from(index));
     }
 
     #[tactic(auto, unfolding(orca_op::specs::Deeds::after, orca_op::specs::Desk::list_after))]
     fn emit<L: Ledger>(&mut self, event: Event, steps: &mut Steps<L>) {
-        steps.tick();
+        steps.count_one();
         self.events.push_reserved(event);
     }
 
     fn peek_here<L: Ledger>(&self, at: Place, steps: &mut Steps<L>) -> Glyph {
-        steps.tick();
+        steps.count_one();
         self.cells[Dims::largest().index(at)]
     }
 
     fn marked_here<L: Ledger>(&self, at: Place, steps: &mut Steps<L>) -> Marks {
-        steps.tick();
+        steps.count_one();
         self.marks.at(at)
     }
 
     // The walk has the number of the place at hand, so the look for a bang is a part of it.
     #[inline(always)]
     fn beside_bang<L: Ledger>(&self, at: Place, steps: &mut Steps<L>) -> bool {
-        tick_times(4, steps);
+        steps.count_many(4);
         let cells = &self.cells;
         let i = Dims::largest().index(at);
         let row = usize::from(MAX_COLUMNS);
@@ -574,7 +565,7 @@ impl Bench for Field {
         let end = (u16::from(reach) + 1).min(dims.w - at.x);
         let start = skip_groups(&self.cells, first, end, byte, steps);
         for column in start..end {
-            steps.tick();
+            steps.count_one();
             if self.cells[first + usize::from(column)].byte() == byte {
                 return Some(column);
             }
@@ -583,7 +574,7 @@ impl Bench for Field {
     }
 
     fn mark_span<L: Ledger>(&mut self, at: Place, span: Span, marks: Marks, steps: &mut Steps<L>) {
-        tick_times(usize::from(span.length), steps);
+        steps.count_many(usize::from(span.length));
         let y = u32::from(at.y) + u32::from(span.y);
         let x = u32::from(at.x) + u32::from(span.x);
         let dims = self.dims;
@@ -600,9 +591,9 @@ impl Bench for Field {
     #[tactic(auto, unfolding(orca_op::specs::Desk::residue))]
     fn begin<L: Ledger>(&mut self, steps: &mut Steps<L>) {
         let dims = self.dims;
-        steps.tick();
-        tick_marked(&self.marks, dims, steps);
-        tick_times(self.listing.changes().len(), steps);
+        steps.count_one();
+        count_marked(&self.marks, dims, steps);
+        steps.count_many(self.listing.changes().len());
         self.marks.clear(self.dims);
         self.vars.fill(Glyph::EMPTY);
         self.events.clear();
@@ -613,7 +604,7 @@ impl Bench for Field {
 
 impl Walk for Field {
     fn live_words<L: Ledger>(&self, row: u16, steps: &mut Steps<L>) -> &[u64] {
-        steps.tick();
+        steps.count_one();
         let dims = self.dims;
         self.live.row(row, dims.w)
     }

@@ -67,12 +67,12 @@ impl PlainBoard {
         })
     }
 
-    /// A grid of this size with exactly these glyphs, in reading order, as after `begin`. It ticks once for
-    /// each of its cells, and takes no memory.
+    /// A grid of this size with exactly these glyphs, in reading order, as after `begin`. It counts a step
+    /// for each of its cells, and takes no memory.
     pub fn load<L: Ledger>(&mut self, dims: Dims, cells: &[Glyph], steps: &mut Steps<L>)
         requires { length cells.now ≡ dims.h * dims.w }
         ensures desk { self.new ≡ desk_of_sheet (record { dims = dims; cells = cells.now }) }
-        ensures ticks { steps.new ≡ steps.old + cells_of dims }
+        ensures steps { steps.new ≡ steps.old + cells_of dims }
     {
         let places = dims.cells();
         self.dims = dims;
@@ -118,17 +118,17 @@ impl Look for PlainBoard {
     }
 }
 
-/// Makes a list exactly these glyphs, for which it has room. It ticks once for each.
+/// Makes a list exactly these glyphs, for which it has room. It counts a step for each.
 fn copy_into<L: Ledger>(list: &mut Vec<Glyph>, glyphs: &[Glyph], steps: &mut Steps<L>)
     requires { length glyphs.now ≤ vec_capacity list.old }
     ensures items { list.new.items ≡ glyphs.now }
     ensures glyphs { AreGlyphs glyphs.now }
     ensures capacity { vec_capacity list.new ≡ vec_capacity list.old }
-    ensures ticks { steps.new ≡ steps.old + length glyphs.now }
+    ensures steps { steps.new ≡ steps.old + length glyphs.now }
 {
     list.clear();
     for glyph in glyphs {
-        steps.tick();
+        steps.count_one();
         // By its byte a contract sees that it is a glyph.
         let _byte = glyph.byte();
         list.push_reserved(*glyph);
@@ -147,23 +147,23 @@ fn unmark(list: &mut Vec<Marks>, places: usize)
     }
 }
 
-/// Ticks once for each place that is marked.
-fn tick_marked<L: Ledger>(marks: &[Marks], steps: &mut Steps<L>)
+/// Counts a step for each place that is marked.
+fn count_marked<L: Ledger>(marks: &[Marks], steps: &mut Steps<L>)
     ensures { steps.new ≡ steps.old + count_by is_marked marks.now }
 {
     for place in marks {
         if !place.is_empty() {
-            steps.tick();
+            steps.count_one();
         }
     }
 }
 
-/// Ticks once for each change.
-fn tick_changes<L: Ledger>(changes: &[Change], steps: &mut Steps<L>)
+/// Counts a step for each change.
+fn count_changes<L: Ledger>(changes: &[Change], steps: &mut Steps<L>)
     ensures { steps.new ≡ steps.old + length changes.now }
 {
     for _change in changes {
-        steps.tick();
+        steps.count_one();
     }
 }
 
@@ -176,7 +176,7 @@ impl Bench for PlainBoard {
 
     #[tactic(auto, unfolding(orca_op::specs::State::peek))]
     fn peek<L: Ledger>(&self, at: Spot, steps: &mut Steps<L>) -> Glyph {
-        steps.tick();
+        steps.count_one();
         match self.dims.holds(at) {
             Some(place) => self.cells[self.dims.index(place)],
             None => Glyph::EMPTY,
@@ -185,7 +185,7 @@ impl Bench for PlainBoard {
 
     #[tactic(auto, unfolding(orca_op::specs::Deeds::after, orca_op::specs::Desk::list_after))]
     fn write<L: Ledger>(&mut self, at: Spot, glyph: Glyph, steps: &mut Steps<L>) {
-        steps.tick();
+        steps.count_one();
         if let Some(place) = self.dims.holds(at) {
             let i = self.dims.index(place);
             self.listing.add(place, self.cells[i]);
@@ -195,7 +195,7 @@ impl Bench for PlainBoard {
 
     #[tactic(auto, unfolding(orca_op::specs::Deeds::after, orca_op::specs::Desk::list_after))]
     fn mark<L: Ledger>(&mut self, at: Spot, marks: Marks, steps: &mut Steps<L>) {
-        steps.tick();
+        steps.count_one();
         if let Some(place) = self.dims.holds(at) {
             let i = self.dims.index(place);
             self.marks[i] = self.marks[i].union(marks);
@@ -204,7 +204,7 @@ impl Bench for PlainBoard {
 
     #[tactic(auto, unfolding(orca_op::specs::State::marked))]
     fn marked<L: Ledger>(&self, at: Spot, steps: &mut Steps<L>) -> Marks {
-        steps.tick();
+        steps.count_one();
         match self.dims.holds(at) {
             Some(place) => self.marks[self.dims.index(place)],
             None => Marks::none(),
@@ -213,27 +213,27 @@ impl Bench for PlainBoard {
 
     #[tactic(auto, unfolding(orca_op::specs::State::var_at))]
     fn var<L: Ledger>(&self, index: u8, steps: &mut Steps<L>) -> Glyph {
-        steps.tick();
+        steps.count_one();
         self.vars[usize::from(index)]
     }
 
     #[tactic(auto, unfolding(orca_op::specs::Deeds::after, orca_op::specs::Desk::list_after))]
     fn set_var<L: Ledger>(&mut self, index: u8, glyph: Glyph, steps: &mut Steps<L>) {
-        steps.tick();
+        steps.count_one();
         glyph.put(&mut self.vars, usize::from(index));
     }
 
     #[tactic(auto, unfolding(orca_op::specs::Deeds::after, orca_op::specs::Desk::list_after))]
     fn emit<L: Ledger>(&mut self, event: Event, steps: &mut Steps<L>) {
-        steps.tick();
+        steps.count_one();
         self.events.push_reserved(event);
     }
 
     #[tactic(auto, unfolding(orca_op::specs::Desk::residue))]
     fn begin<L: Ledger>(&mut self, steps: &mut Steps<L>) {
-        steps.tick();
-        tick_marked(&self.marks, steps);
-        tick_changes(self.listing.changes(), steps);
+        steps.count_one();
+        count_marked(&self.marks, steps);
+        count_changes(self.listing.changes(), steps);
         self.marks.fill(Marks::none());
         self.vars.fill(Glyph::EMPTY);
         self.events.clear();

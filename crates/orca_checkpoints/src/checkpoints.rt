@@ -57,19 +57,19 @@ impl Checkpoints {
     }
 
     /// Keeps the grid that is looked at, with this tick, as the history comes to the next moment
-    /// that is due. If there are too many, the spacing doubles, and each second one stays. It ticks
-    /// once for each cell of the grid if it keeps it, and else not. It takes no memory.
+    /// that is due. If there are too many, the spacing doubles, and each second one stays. It counts
+    /// a step for each cell of the grid if it keeps it, and else none. It takes no memory.
     pub fn keep<T: Look, L: Ledger>(&mut self, len: u32, tick: u32, look: &T, steps: &mut Steps<L>)
         requires { len ≡ next_moment self.old }
         ensures kept { self.new ≡ points_kept self.old
             (record { sheet = T.sheet look.now; tick = tick }) }
-        ensures ticks { length self.old.kept < MAX_CHECKPOINTS
+        ensures steps { length self.old.kept < MAX_CHECKPOINTS
             → steps.new ≡ steps.old + cells_of (T.sheet look.now).dims }
         ensures idle { MAX_CHECKPOINTS ≤ length self.old.kept → steps.new ≡ steps.old }
         ensures most { steps.new ≤ steps.old + cells_of (T.sheet look.now).dims }
     {
         if self.count < MAX_CHECKPOINTS {
-            tick_times(look.dims().cells(), steps);
+            steps.count_many(look.dims().cells());
             let slot = &mut self.slots[self.count as usize];
             slot.fill(tick, look);
             self.count += 1;
@@ -146,14 +146,5 @@ fn keep_every_second(slots: &mut Vec<Slot>)
 {
     for k in 1..MAX_CHECKPOINTS as usize / 2 + 1 {
         slots.swap(k, 2 * k);
-    }
-}
-
-/// Ticks so many times.
-fn tick_times<L: Ledger>(times: usize, steps: &mut Steps<L>)
-    ensures { steps.new ≡ steps.old + times }
-{
-    for _ in 0..times {
-        steps.tick();
     }
 }

@@ -1,4 +1,4 @@
--- How many cells an entry touches, beside the places that it lists and the ticks that it takes.
+-- How many cells an entry touches, beside the places that it lists and the steps that it takes.
 use Rattle.std.proofs.Common.{◌≡◌, ◌+◌, ◌*◌, ◌≤◌, Bool, true, false, not, ◌&&◌, ◌||◌, List, [], ◌∷◌, length, refl, arith, ap, sym, ◌∙◌, subst, inl, inr}
 use Rattle.std.proofs.Math.Nat.{mul-le-mul_left, mul-le-mul_right}
 use Rattle.std.specs.Prelude.{All, Option, Some, filter}
@@ -25,7 +25,7 @@ use Rattle.orca_op.specs.Deeds.{Deed, Mark, Write, Set, Emit}
 use Rattle.orca_op.specs.Desk.{is_listed, list_after, list_after_all, list_with}
 use Rattle.orca_op.specs.Scan.{places, scan, scan_deeds, written_places}
 use Rattle.orca_op.proofs.DeskFacts.{All-list_with, IsDistinct-list_with, IsEquivalence-is_place}
-use Rattle.orca_edit.specs.Editing.{FitsIn, IsGridEdit, ticks_of}
+use Rattle.orca_edit.specs.Editing.{FitsIn, IsGridEdit, steps_of}
 use Rattle.orca_edit.specs.Pieces.{Piece, apply, next_frame}
 use Rattle.orca_edit.specs.Prices.{price, touched}
 use Rattle.orca_edit.specs.Pricing.{KeepsSize, ListsPlaces, listed_by}
@@ -136,7 +136,7 @@ area-shifted d area to law is =
 -- ---- edits
 
 pub pays_twice : FillLaw → CutLaw → (p : Piece) (entry : Entry) → IsGridEdit entry
-    → FitsIn p.sheet.dims entry → 2 * ticks_of p.sheet.dims entry + 1 ≤ price p entry
+    → FitsIn p.sheet.dims entry → 2 * steps_of p.sheet.dims entry + 1 ≤ price p entry
 pays_twice fill cut p (Fill area glyph) edit fits = omega arith
 pays_twice fill cut p (Put at block) edit fits = omega arith
 pays_twice fill cut p (Move area to) edit fits =

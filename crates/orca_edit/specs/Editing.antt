@@ -75,13 +75,13 @@ desk_with d (Move area to) =
 desk_with d (Resize dims) = desk_after_resize d dims
 desk_with d _ = d
 
--- the ticks of a grid edit: one for each place that it reads, writes or cuts off
-abbrev pub ticks_of : Size → Entry → ℕ
-ticks_of d (Fill area glyph) = area.h * area.w
-ticks_of d (Put at block) = length (put_places d at block.dims)
-ticks_of d (Move area to) = area.h * area.w + length (shift_places d area to)
-ticks_of d (Resize dims) = length (cut_places d dims)
-ticks_of d _ = 0
+-- the steps of a grid edit: one for each place that it reads, writes or cuts off
+abbrev pub steps_of : Size → Entry → ℕ
+steps_of d (Fill area glyph) = area.h * area.w
+steps_of d (Put at block) = length (put_places d at block.dims)
+steps_of d (Move area to) = area.h * area.w + length (shift_places d area to)
+steps_of d (Resize dims) = length (cut_places d dims)
+steps_of d _ = 0
 
 -- each entry fits the grid that it is applied to
 abbrev pub AllFit : Piece → List Entry → Type 0

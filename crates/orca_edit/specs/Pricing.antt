@@ -14,7 +14,7 @@ use Rattle.orca_board.specs.Blocks.{fill_places, put_places, shift_places}
 use Rattle.orca_board.specs.Sizes.{cut_places}
 use Rattle.orca_op.specs.Desk.{desk_of_sheet}
 use Rattle.orca_op.specs.Scan.{written_places}
-use Rattle.orca_edit.specs.Editing.{FitsIn, IsGridEdit, desk_with, ticks_of}
+use Rattle.orca_edit.specs.Editing.{FitsIn, IsGridEdit, desk_with, steps_of}
 use Rattle.orca_edit.specs.Machines.{obeyed}
 use Rattle.orca_edit.specs.Obeying.{MachineState, obey, piece_of}
 use Rattle.orca_edit.specs.Pieces.{Piece, apply, next_frame, silence}
@@ -109,11 +109,11 @@ TouchesFew =
     (p : Piece) (entry : Entry) → IsSize p.sheet.dims → FitsIn p.sheet.dims entry
     → touched p entry ≤ MAX_TOUCHED
 
--- the price of a grid edit pays twice for each of its ticks, and for a begin before it
+-- the price of a grid edit pays twice for each of its steps, and for a begin before it
 abbrev pub PaysTwice : Type 0
 PaysTwice =
     (p : Piece) (entry : Entry) → IsGridEdit entry → FitsIn p.sheet.dims entry
-    → 2 * ticks_of p.sheet.dims entry + 1 ≤ price p entry
+    → 2 * steps_of p.sheet.dims entry + 1 ≤ price p entry
 
 -- ---- the first patch
 

@@ -1,5 +1,5 @@
 ghost use Rattle.std.specs.Prelude.{◌≡◌, ◌+◌, ◌≤◌};
-ghost use Rattle.orca_edit.specs.Editing.{FitsIn, IsGridEdit, desk_with, ticks_of};
+ghost use Rattle.orca_edit.specs.Editing.{FitsIn, IsGridEdit, desk_with, steps_of};
 ghost use Rattle.orca_edit.specs.Pieces.{Piece, apply, regrid};
 ghost use Rattle.orca_op.specs.Desk.{residue};
 ghost use Rattle.orca_op.specs.State.{sheet_of};
@@ -9,7 +9,7 @@ use orca_board::Board;
 use std::sync::ledger::Ledger;
 
 /// Does an entry on a board: a Fill, a Put, a Move or a Resize, whose area and place lie in the
-/// board's grid. It makes one call of the board, and ticks as that call does.
+/// board's grid. It makes one call of the board, and counts the steps of that call.
 #[tactic(auto, unfolding(crate::specs::Pieces::apply))]
 pub fn apply<L: Ledger>(board: &mut Board, entry: &Entry, steps: &mut Steps<L>)
     requires edit { IsGridEdit entry.now }
@@ -20,8 +20,8 @@ pub fn apply<L: Ledger>(board: &mut Board, entry: &Entry, steps: &mut Steps<L>)
     // The tick, the notes and the seed stay, and there is no message.
     ensures others { (p : Piece) → p.sheet ≡ sheet_of board.old.scan
         → apply p entry.now ≡ regrid p (sheet_of board.new.scan) }
-    ensures ticks { steps.new ≡ steps.old + ticks_of board.old.scan.dims entry.now }
-    // What a later begin has to clear grows by no more than the ticks.
+    ensures steps { steps.new ≡ steps.old + steps_of board.old.scan.dims entry.now }
+    // What a later begin has to clear grows by no more than the steps.
     ensures residue { residue board.new + steps.old ≤ residue board.old + steps.new }
 {
     match entry {

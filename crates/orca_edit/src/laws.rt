@@ -78,7 +78,7 @@ pub fn price_law()
     ensures reply { ChargesReply }
 {}
 
-/// An edit of the grid lists no more places than it touches, and its price pays for its ticks, for
+/// An edit of the grid lists no more places than it touches, and its price pays for its steps, for
 /// the begin before it, and for what the next begin has to clear.
 pub fn touch_law()
     ensures places { ListsPlaces }

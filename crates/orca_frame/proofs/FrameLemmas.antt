@@ -1,7 +1,7 @@
 -- A frame: before, during and after the visits.
 use Rattle.std.proofs.Common.{◌≡◌, ℕ, ◌+◌, ◌*◌, ◌<◌, ◌≤◌, arith, ap, sym, ◌∙◌, subst, add-one, length, refl}
 use Rattle.std.specs.Prelude.{Contains, ◌↔◌, if◌then◌else◌, List}
-use Rattle.orca_base.specs.declared.limits.TheConstants.{MAX_DEEDS, MAX_TICKS}
+use Rattle.orca_base.specs.declared.limits.TheConstants.{MAX_DEEDS, MAX_STEPS}
 use Rattle.orca_base.specs.declared.now.Now.{Now}
 use Rattle.orca_base.specs.declared.place.Place.{Place}
 use Rattle.orca_base.specs.Glyphs.{is_operator}
@@ -11,7 +11,7 @@ use Rattle.orca_op.specs.Laws.{IsLawful}
 use Rattle.orca_op.specs.State.{sheet_of, glyph_at}
 use Rattle.orca_op.specs.Rules.{rule}
 use Rattle.orca_op.specs.Scan.{visit_deeds, state_after_places, scan, written_places, busy, busy_of, places}
-use Rattle.orca_frame.specs.Frames.{IsFramed, desk_after_places, looks, most_plain_ticks}
+use Rattle.orca_frame.specs.Frames.{IsFramed, desk_after_places, looks, most_plain_steps}
 use Rattle.orca_frame.specs.Written.{IsWritten}
 use Rattle.orca_frame.proofs.DeskLemmas.{dims_after_places, desk_suc}
 use Rattle.orca_frame.proofs.RangeLemmas.{IsPlayed, played}
@@ -98,23 +98,23 @@ framed d e n now desk lawful all is =
       residue = leaves.2;
     }
 
--- ---- the ticks of a frame that visits every place
+-- ---- the steps of a frame that visits every place
 
 -- one visit more
-pub ticks_more : (d : Desk) (n : ℕ) (g : Sheet) (now : Now) (at : Place) (first before after : ℕ)
+pub steps_more : (d : Desk) (n : ℕ) (g : Sheet) (now : Now) (at : Place) (first before after : ℕ)
     → d ≡ desk_after_places n g now → at ≡ place_of g.dims n
-    → before ≤ first + looks * n + MAX_TICKS * busy_of n g now
-    → after ≤ before + looks + MAX_TICKS * (if is_operator (glyph_at d.scan at) then 1 else 0)
-    → after ≤ first + looks * (n + 1) + MAX_TICKS * busy_of (n + 1) g now
-ticks_more d n g now at first before after is here so_far visited =
+    → before ≤ first + looks * n + MAX_STEPS * busy_of n g now
+    → after ≤ before + looks + MAX_STEPS * (if is_operator (glyph_at d.scan at) then 1 else 0)
+    → after ≤ first + looks * (n + 1) + MAX_STEPS * busy_of (n + 1) g now
+steps_more d n g now at first before after is here so_far visited =
     rw (busy_more d n g now at is here) (omega (arith, so_far, visited))
 
 -- every visit
-pub ticks_all : (d : Desk) (n : ℕ) (now : Now) (first last : ℕ)
+pub steps_all : (d : Desk) (n : ℕ) (now : Now) (first last : ℕ)
     → n ≡ cells_of d.scan.dims
-    → last ≤ first + 1 + residue d + looks * n + MAX_TICKS * busy_of n (sheet_of d.scan) now
-    → last ≤ first + most_plain_ticks d now
+    → last ≤ first + 1 + residue d + looks * n + MAX_STEPS * busy_of n (sheet_of d.scan) now
+    → last ≤ first + most_plain_steps d now
 unfolding busy
-ticks_all d n now first last all so_far =
+steps_all d n now first last all so_far =
     let last_of = rw all at so_far in
     omega (arith, last_of)

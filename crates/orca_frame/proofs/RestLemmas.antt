@@ -68,5 +68,5 @@ at_rest g now sheet inert =
       same = λ d framed. desk_by_parts d (fresh g) g []
           (framed.scan ∙ scan-rest g now none) framed.began
           (framed.listed ∙ written-rest g now none);
-      ticks = rw (clear, idle) (omega arith);
+      steps = rw (clear, idle) (omega arith);
     }

@@ -3,7 +3,7 @@ use Rattle.std.proofs.Common.{◌≡◌, ℕ, zero, suc, ◌+◌, ◌*◌, ◌<�
 use Rattle.std.specs.Prelude.{if◌then◌else◌, IfSome, IsTrue, None, Option, Some, ◌-◌, nat_lt, unwrap_or}
 use Rattle.std.proofs.lemmas.List.{append-nil}
 use Rattle.std.proofs.lemmas.Bool.{lt-ltb, ltb-true}
-use Rattle.orca_base.specs.declared.limits.TheConstants.{MAX_VISIT_TICKS}
+use Rattle.orca_base.specs.declared.limits.TheConstants.{MAX_VISIT_STEPS}
 use Rattle.orca_base.specs.declared.now.Now.{Now}
 use Rattle.orca_base.specs.declared.place.Place.{Place}
 use Rattle.orca_base.specs.Glyphs.{is_operator}
@@ -15,7 +15,7 @@ use Rattle.orca_op.specs.Live.{is_live, HasNoLive}
 use Rattle.orca_op.specs.Rules.{rule}
 use Rattle.orca_op.specs.Scan.{Rules, visit_deeds, is_idle, state_after_visit, state_after_places, scan_deeds, busy, busy_of}
 use Rattle.orca_op.specs.State.{State, sheet_of, glyph_at}
-use Rattle.orca_frame.specs.Frames.{desk_after_places, most_ticks}
+use Rattle.orca_frame.specs.Frames.{desk_after_places, most_steps}
 use Rattle.orca_frame.specs.Skips.{HoldsNone}
 use Rattle.orca_frame.proofs.FrameLemmas.{dims_desk, inside_desk, visit_desk, busy_more}
 
@@ -266,12 +266,12 @@ pub later_of : (s : State) (row from w : ℕ) (found : Option ℕ) → from ≤ 
 later_of s row from w None few live = few
 later_of s row from w (Some x) few live = live.0
 
--- the ticks of all rows
-pub ticks_of_rows : (d : Desk) (rows : ℕ) (now : Now) (first last : ℕ) → rows ≡ d.scan.dims.h
-    → last ≤ first + 1 + residue d + rows + MAX_VISIT_TICKS * busy_of (rows * d.scan.dims.w)
+-- the steps of all rows
+pub steps_of_rows : (d : Desk) (rows : ℕ) (now : Now) (first last : ℕ) → rows ≡ d.scan.dims.h
+    → last ≤ first + 1 + residue d + rows + MAX_VISIT_STEPS * busy_of (rows * d.scan.dims.w)
     (sheet_of d.scan) now
-    → last ≤ first + most_ticks d now
+    → last ≤ first + most_steps d now
 unfolding busy
-ticks_of_rows d rows now first last all so_far =
+steps_of_rows d rows now first last all so_far =
     let last_of = rw all at so_far in
     omega (arith, last_of)

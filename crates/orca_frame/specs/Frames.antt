@@ -1,6 +1,6 @@
--- What a frame leaves, and how many ticks it takes.
+-- What a frame leaves, and how many steps it takes.
 use Rattle.std.specs.Prelude.{ℕ, ◌+◌, ◌*◌, ◌≡◌, ◌≤◌, ◌↔◌, [], All, Contains}
-use Rattle.orca_base.specs.declared.limits.TheConstants.{MAX_DEEDS, MAX_TICKS, MAX_VISIT_TICKS}
+use Rattle.orca_base.specs.declared.limits.TheConstants.{MAX_DEEDS, MAX_STEPS, MAX_VISIT_STEPS}
 use Rattle.orca_base.specs.declared.now.Now.{Now}
 use Rattle.orca_base.specs.declared.place.Place.{Place}
 use Rattle.orca_base.specs.EventRanges.{IsInRange}
@@ -37,14 +37,14 @@ pub record IsFramed (old new : Desk) (now : Now) : Type 0 where
 abbrev pub looks : ℕ
 looks = 6
 
--- the most ticks of a frame that visits every place: those of `begin`, the looks at each place, and
+-- the most steps of a frame that visits every place: those of `begin`, the looks at each place, and
 -- those of the operators that the scan reaches
-abbrev pub most_plain_ticks : Desk → Now → ℕ
-most_plain_ticks d now =
+abbrev pub most_plain_steps : Desk → Now → ℕ
+most_plain_steps d now =
     let g = sheet_of d.scan in
-    1 + residue d + looks * places g + MAX_TICKS * busy g now
+    1 + residue d + looks * places g + MAX_STEPS * busy g now
 
--- the most ticks of a frame that goes from one operator to the next: those of `begin`, one for each
+-- the most steps of a frame that goes from one operator to the next: those of `begin`, one for each
 -- row, and those of the visits of the operators that the scan reaches
-abbrev pub most_ticks : Desk → Now → ℕ
-most_ticks d now = 1 + residue d + d.scan.dims.h + MAX_VISIT_TICKS * busy (sheet_of d.scan) now
+abbrev pub most_steps : Desk → Now → ℕ
+most_steps d now = 1 + residue d + d.scan.dims.h + MAX_VISIT_STEPS * busy (sheet_of d.scan) now

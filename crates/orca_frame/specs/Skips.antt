@@ -6,7 +6,7 @@ use Rattle.orca_base.specs.Grids.{Sheet, place_of}
 use Rattle.orca_op.specs.Desk.{Desk, desk_of_sheet}
 use Rattle.orca_op.specs.Scan.{Rules, state_after_places, places}
 use Rattle.orca_op.specs.State.{glyph_at}
-use Rattle.orca_frame.specs.Frames.{IsFramed, most_ticks}
+use Rattle.orca_frame.specs.Frames.{IsFramed, most_steps}
 
 -- after n places were visited, none of the next `many` holds an operator
 abbrev pub HoldsNone : Rules → ℕ → ℕ → Sheet → Now → Type 0
@@ -25,7 +25,7 @@ abbrev pub IsInert : Sheet → Type 0
 IsInert g = (n : ℕ) → n < places g → is_operator (slice_index g.cells n) ≡ false
 
 -- a grid at rest: where a frame has just begun on it, the next one changes nothing, and takes no
--- more ticks than one for each row and one for `begin`
+-- more steps than one for each row and one for `begin`
 pub record IsAtRest (g : Sheet) (now : Now) : Type 0 where
   pub same : (d : Desk) → IsFramed (desk_of_sheet g) d now → d ≡ desk_of_sheet g
-  pub ticks : most_ticks (desk_of_sheet g) now ≡ g.dims.h + 1
+  pub steps : most_steps (desk_of_sheet g) now ≡ g.dims.h + 1

@@ -1,5 +1,5 @@
 ghost use Rattle.std.specs.Prelude.{◌≡◌, ◌+◌, ◌*◌, ◌<◌, ◌≤◌, length, Some};
-ghost use Rattle.orca_base.specs.declared.limits.TheConstants.{MAX_TICKS};
+ghost use Rattle.orca_base.specs.declared.limits.TheConstants.{MAX_STEPS};
 ghost use Rattle.orca_base.specs.Grids.{IsInside};
 ghost use Rattle.orca_op.specs.Desk.{HasRoom, desk_after_all};
 ghost use Rattle.orca_op.specs.Kinds.{kind_of};
@@ -32,7 +32,7 @@ pub(crate) fn act<B: Bench, L: Ledger>(
     requires room { HasRoom (B.desk bench.old) }
     ensures deeds { B.desk bench.new ≡ desk_after_all (B.desk bench.old)
         (rule glyph (B.desk bench.old).scan at now) }
-    ensures ticks { steps.new ≤ steps.old + MAX_TICKS }
+    ensures steps { steps.new ≤ steps.old + MAX_STEPS }
     ensures later { steps.old ≤ steps.new }
 {
     let Some(kind) = Kind::of(glyph) else {

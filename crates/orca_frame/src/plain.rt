@@ -2,7 +2,7 @@ ghost use Rattle.std.specs.Prelude.{◌+◌, ◌≤◌};
 ghost use Rattle.orca_op.specs.Desk.{residue};
 ghost use Rattle.orca_op.specs.Scan.{places};
 ghost use Rattle.orca_op.specs.State.{sheet_of};
-ghost use Rattle.orca_frame.specs.Frames.{IsFramed, most_plain_ticks};
+ghost use Rattle.orca_frame.specs.Frames.{IsFramed, most_plain_steps};
 
 use crate::covering::covering_law;
 use crate::laws::table_laws;
@@ -19,7 +19,7 @@ use std::sync::ledger::Ledger;
 /// place that a deed wrote is listed, once.
 pub fn frame_plain<B: Bench, L: Ledger>(bench: &mut B, now: Now, steps: &mut Steps<L>)
     ensures framed { IsFramed (B.desk bench.old) (B.desk bench.new) now }
-    ensures most { steps.new ≤ steps.old + most_plain_ticks (B.desk bench.old) now }
+    ensures most { steps.new ≤ steps.old + most_plain_steps (B.desk bench.old) now }
     ensures least { steps.old + 1 + residue (B.desk bench.old)
         + places (sheet_of (B.desk bench.old).scan) ≤ steps.new }
 {

@@ -10,7 +10,7 @@ pub fn skipping_law()
 {}
 
 /// A grid that holds no operator is at rest: a frame that begins on it anew leaves it as it is, and
-/// takes one tick for each row and one more. It does nothing.
+/// takes one step for each row and one more. It does nothing.
 pub fn rest_law()
     ensures { (g : Sheet) (now : Now) → IsSheet g → IsInert g → IsAtRest g now }
 {}

@@ -1,10 +1,10 @@
 ghost use Rattle.std.specs.Prelude.{◌≡◌, ◌+◌, ◌*◌, ◌<◌, ◌≤◌};
-ghost use Rattle.orca_base.specs.declared.limits.TheConstants.{MAX_VISIT_TICKS};
+ghost use Rattle.orca_base.specs.declared.limits.TheConstants.{MAX_VISIT_STEPS};
 ghost use Rattle.orca_base.specs.Grids.{IsSheet};
 ghost use Rattle.orca_op.specs.Rules.{rule};
 ghost use Rattle.orca_op.specs.Scan.{busy_of};
 ghost use Rattle.orca_frame.specs.Covering.{IsCovering};
-ghost use Rattle.orca_frame.specs.Frames.{IsFramed, desk_after_places, most_ticks};
+ghost use Rattle.orca_frame.specs.Frames.{IsFramed, desk_after_places, most_steps};
 
 use crate::laws::table_laws;
 use crate::visit::visit_operator;
@@ -16,12 +16,12 @@ use std::sync::ledger::Ledger;
 /// scan of every place leaves, whatever operators write behind the walk, ahead of it and below it. `now` is
 /// the tick of the frame and the seed of its random numbers.
 ///
-/// It ticks at least once for each row and once more, and at most that often, once for each place that the
-/// last frame marked or wrote, and [`MAX_VISIT_TICKS`](orca_base::limits::MAX_VISIT_TICKS) times for each
-/// operator that the scan reaches.
+/// It counts at least a step for each row and one more. It counts at most these, one for each place that the
+/// last frame marked or wrote, and [`MAX_VISIT_STEPS`](orca_base::limits::MAX_VISIT_STEPS) for each operator
+/// that the scan reaches.
 pub fn frame<B: Walk, L: Ledger>(board: &mut B, now: Now, steps: &mut Steps<L>)
     ensures framed { IsFramed (B.desk board.old) (B.desk board.new) now }
-    ensures most { steps.new ≤ steps.old + most_ticks (B.desk board.old) now }
+    ensures most { steps.new ≤ steps.old + most_steps (B.desk board.old) now }
     ensures least { steps.old + (B.desk board.old).scan.dims.h + 1 ≤ steps.new }
 
     // The covering law: whatever it works on stood there when the frame began.
@@ -45,8 +45,8 @@ fn walk_row<B: Walk, L: Ledger>(board: &mut B, row: u16, now: Now, steps: &mut S
     ensures reached { let g = (B.desk board.old).began in
         B.desk board.new ≡ desk_after_places ((row + 1) * g.dims.w) g now }
     ensures most { let g = (B.desk board.old).began in
-        steps.new + MAX_VISIT_TICKS * busy_of (row * g.dims.w) g now
-        ≤ steps.old + 1 + MAX_VISIT_TICKS * busy_of ((row + 1) * g.dims.w) g now }
+        steps.new + MAX_VISIT_STEPS * busy_of (row * g.dims.w) g now
+        ≤ steps.old + 1 + MAX_VISIT_STEPS * busy_of ((row + 1) * g.dims.w) g now }
     ensures least { steps.old + 1 ≤ steps.new }
 {
     table_laws();

@@ -1,5 +1,5 @@
 ghost use Rattle.std.specs.Prelude.{◌≡◌, ◌+◌, ◌*◌, ◌<◌, ◌≤◌, ◌||◌, ◌&&◌, not, IsTrue, if◌then◌else◌};
-ghost use Rattle.orca_base.specs.declared.limits.TheConstants.{MAX_TICKS};
+ghost use Rattle.orca_base.specs.declared.limits.TheConstants.{MAX_STEPS};
 ghost use Rattle.orca_base.specs.Glyphs.{is_operator, needs_bang};
 ghost use Rattle.orca_base.specs.Grids.{IsInside};
 ghost use Rattle.orca_frame.specs.Frames.{looks};
@@ -20,8 +20,8 @@ pub(crate) fn visit<B: Bench, L: Ledger>(bench: &mut B, at: Place, now: Now, ste
     requires room { HasRoom (B.desk bench.old) }
     ensures deeds { B.desk bench.new
         ≡ desk_after_all (B.desk bench.old) (visit_deeds rule (B.desk bench.old).scan at now) }
-    ensures ticks { steps.new ≤ steps.old + looks
-        + MAX_TICKS * (if is_operator (glyph_at (B.desk bench.old).scan at) then 1 else 0) }
+    ensures steps { steps.new ≤ steps.old + looks
+        + MAX_STEPS * (if is_operator (glyph_at (B.desk bench.old).scan at) then 1 else 0) }
     ensures later { steps.old + 1 ≤ steps.new }
 {
     let glyph = bench.peek(at.here(), steps);
@@ -44,7 +44,7 @@ pub(crate) fn visit_operator<B: Bench, L: Ledger>(
     requires room { HasRoom (B.desk bench.old) }
     ensures deeds { B.desk bench.new
         ≡ desk_after_all (B.desk bench.old) (visit_deeds rule (B.desk bench.old).scan at now) }
-    ensures ticks { steps.new ≤ steps.old + looks + MAX_TICKS }
+    ensures steps { steps.new ≤ steps.old + looks + MAX_STEPS }
     ensures later { steps.old ≤ steps.new }
 {
     if is_still(bench, at, steps) {
@@ -63,7 +63,7 @@ fn is_still<B: Bench, L: Ledger>(bench: &B, at: Place, steps: &mut Steps<L>) -> 
     requires { IsInside (B.desk bench.now).scan.dims at }
     ensures still { result ≡ ((marks_at (B.desk bench.now).scan at).lock
         || (marks_at (B.desk bench.now).scan at).sleep) }
-    ensures ticks { steps.new ≡ steps.old + 1 }
+    ensures steps { steps.new ≡ steps.old + 1 }
 {
     let marks = bench.marked_here(at, steps);
     marks.has(Mark::Lock) || marks.has(Mark::Sleep)
@@ -72,7 +72,7 @@ fn is_still<B: Bench, L: Ledger>(bench: &B, at: Place, steps: &mut Steps<L>) -> 
 /// Whether a glyph waits for a bang.
 fn waits<B: Bench, L: Ledger>(bench: &B, at: Place, glyph: Glyph, steps: &mut Steps<L>) -> bool
     ensures waits { result ≡ (needs_bang glyph && not (has_bang (B.desk bench.now).scan at)) }
-    ensures ticks { steps.new ≤ steps.old + 4 }
+    ensures steps { steps.new ≤ steps.old + 4 }
     ensures later { steps.old ≤ steps.new }
 {
     glyph.needs_bang() && !has_bang(bench, at, steps)

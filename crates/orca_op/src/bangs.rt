@@ -9,7 +9,7 @@ use std::sync::ledger::Ledger;
 #[tactic(auto, unfolding(crate::specs::State::has_bang))]
 pub fn has_bang<B: Bench, L: Ledger>(bench: &B, at: Place, steps: &mut Steps<L>) -> bool
     ensures bang { result ≡ has_bang (B.desk bench.now).scan at }
-    ensures ticks { steps.new ≡ steps.old + 4 }
+    ensures steps { steps.new ≡ steps.old + 4 }
 {
     let above = bench.peek(at.above(), steps);
     let left = bench.peek(at.left(1), steps);

@@ -12,8 +12,8 @@ use orca_base::{Dims, Event, Glyph, Mark, Marks, Place, Spot, Steps};
 use std::sync::ledger::Ledger;
 
 /// Where a frame is worked: the grid with its marks, variables and events. Each call but `dims`
-/// ticks once, and `begin` once more for each marked place and for each listed one. A call that
-/// stands for several ticks as they do. No call takes memory.
+/// counts one step, and `begin` one more for each marked place and for each listed one. A call that
+/// stands for several counts theirs. No call takes memory.
 ///
 /// The calls that stand for others have bodies, and a bench that can do them faster has its own.
 pub trait Bench {
@@ -28,47 +28,47 @@ pub trait Bench {
     /// The glyph of a spot, `.` outside the grid.
     fn peek<L: Ledger>(&self, at: Spot, steps: &mut Steps<L>) -> Glyph
         ensures glyph { result ≡ peek (desk self.now).scan at }
-        ensures ticks { steps.new ≡ steps.old + 1 };
+        ensures steps { steps.new ≡ steps.old + 1 };
 
     /// Writes the glyph. Outside the grid nothing changes.
     fn write<L: Ledger>(&mut self, at: Spot, glyph: Glyph, steps: &mut Steps<L>)
         ensures deed { desk self.new ≡ desk_after (desk self.old) (write_deed at glyph) }
-        ensures ticks { steps.new ≡ steps.old + 1 };
+        ensures steps { steps.new ≡ steps.old + 1 };
 
     /// Adds the marks. Outside the grid nothing changes.
     fn mark<L: Ledger>(&mut self, at: Spot, marks: Marks, steps: &mut Steps<L>)
         ensures deed { desk self.new ≡ desk_after (desk self.old) (mark_deed at marks) }
-        ensures ticks { steps.new ≡ steps.old + 1 };
+        ensures steps { steps.new ≡ steps.old + 1 };
 
     /// The marks of a spot, none outside the grid.
     fn marked<L: Ledger>(&self, at: Spot, steps: &mut Steps<L>) -> Marks
         ensures marks { result ≡ marked (desk self.now).scan at }
-        ensures ticks { steps.new ≡ steps.old + 1 };
+        ensures steps { steps.new ≡ steps.old + 1 };
 
     /// A variable, by its name's value below the base.
     fn var<L: Ledger>(&self, index: u8, steps: &mut Steps<L>) -> Glyph
         requires { index < BASE }
         ensures glyph { result ≡ var_at (desk self.now).scan index }
-        ensures ticks { steps.new ≡ steps.old + 1 };
+        ensures steps { steps.new ≡ steps.old + 1 };
 
     /// Sets a variable, by its name's value below the base.
     fn set_var<L: Ledger>(&mut self, index: u8, glyph: Glyph, steps: &mut Steps<L>)
         requires { index < BASE }
         ensures deed { desk self.new ≡ desk_after (desk self.old) (set_deed index glyph) }
-        ensures ticks { steps.new ≡ steps.old + 1 };
+        ensures steps { steps.new ≡ steps.old + 1 };
 
     /// Adds an event, where fewer are listed than the grid has places.
     fn emit<L: Ledger>(&mut self, event: Event, steps: &mut Steps<L>)
         requires { HasRoom (desk self.old) }
         ensures deed { desk self.new ≡ desk_after (desk self.old) (emit_deed event) }
-        ensures ticks { steps.new ≡ steps.old + 1 };
+        ensures steps { steps.new ≡ steps.old + 1 };
 
     /// The glyph of a place of the grid.
     #[tactic(auto, using(crate::specs::HereFacts::peek_here))]
     fn peek_here<L: Ledger>(&self, at: Place, steps: &mut Steps<L>) -> Glyph
         requires { IsInside (desk self.now).scan.dims at }
         ensures glyph { result ≡ glyph_at (desk self.now).scan at }
-        ensures ticks { steps.new ≡ steps.old + 1 }
+        ensures steps { steps.new ≡ steps.old + 1 }
     {
         self.peek(at.here(), steps)
     }
@@ -78,18 +78,18 @@ pub trait Bench {
     fn marked_here<L: Ledger>(&self, at: Place, steps: &mut Steps<L>) -> Marks
         requires { IsInside (desk self.now).scan.dims at }
         ensures marks { result ≡ marks_at (desk self.now).scan at }
-        ensures ticks { steps.new ≡ steps.old + 1 }
+        ensures steps { steps.new ≡ steps.old + 1 }
     {
         self.marked(at.here(), steps)
     }
 
     /// Whether a bang stands next to a place of the grid: above it, below it, at its left or at its
-    /// right. It ticks for each of the four.
+    /// right. It counts a step for each of the four.
     #[tactic(auto, unfolding(crate::specs::State::has_bang))]
     fn beside_bang<L: Ledger>(&self, at: Place, steps: &mut Steps<L>) -> bool
         requires { IsInside (desk self.now).scan.dims at }
         ensures bang { result ≡ has_bang (desk self.now).scan at }
-        ensures ticks { steps.new ≡ steps.old + 4 }
+        ensures steps { steps.new ≡ steps.old + 4 }
     {
         let above = self.peek(at.above(), steps);
         let left = self.peek(at.left(1), steps);
@@ -100,7 +100,7 @@ pub trait Bench {
 
     /// The first of `reach` columns at the right of a place of the grid that holds the glyph of a
     /// byte; none exactly where none does. Beyond the edge there is only `.`, which is not asked
-    /// for. It ticks for each place that it looks at.
+    /// for. It counts a step for each place that it looks at.
     fn find_right<L: Ledger>(
         &self,
         at: Place,
@@ -113,7 +113,7 @@ pub trait Bench {
         ensures first { result
             ≡ first_where (λ i. peek (desk self.now).scan (right at i) == byte) 1 reach }
         ensures range { IfSome result (λ column. (1 ≤ column) × (column ≤ reach)) }
-        ensures ticks { steps.new ≡ steps.old
+        ensures steps { steps.new ≡ steps.old
             + looks_right (desk self.now).scan.dims at reach result }
     {
         let end = (u16::from(reach) + 1).min(self.dims().w - at.x);
@@ -125,13 +125,13 @@ pub trait Bench {
         None
     }
 
-    /// Adds the marks to each place of a span. It ticks for each.
+    /// Adds the marks to each place of a span. It counts a step for each.
     #[tactic(auto, unfolding(crate::specs::Deeds::after))]
     fn mark_span<L: Ledger>(&mut self, at: Place, span: Span, marks: Marks, steps: &mut Steps<L>)
         ensures deeds { desk self.new
             ≡ desk_after_all (desk self.old) (span_deeds at span.y span.x span.length marks) }
         ensures room { HasRoom (desk self.old) → HasRoom (desk self.new) }
-        ensures ticks { steps.new ≡ steps.old + span.length }
+        ensures steps { steps.new ≡ steps.old + span.length }
     {
         for i in 0..span.length {
             let spot = at.off(i32::from(span.y), i32::from(i) + i32::from(span.x));
@@ -142,12 +142,12 @@ pub trait Bench {
     /// Begins a frame: nothing is marked or listed, the variables are empty, and there is no event.
     fn begin<L: Ledger>(&mut self, steps: &mut Steps<L>)
         ensures desk { desk self.new ≡ desk_at_begin (desk self.old) }
-        ensures ticks { steps.new ≡ steps.old + 1 + residue (desk self.old) };
+        ensures steps { steps.new ≡ steps.old + 1 + residue (desk self.old) };
 
     /// Marks an input: the place is read, and is not evaluated.
     final fn input<L: Ledger>(&mut self, at: Spot, steps: &mut Steps<L>)
         ensures deed { desk self.new ≡ desk_after (desk self.old) (input_at at) }
-        ensures ticks { steps.new ≡ steps.old + 1 }
+        ensures steps { steps.new ≡ steps.old + 1 }
     {
         self.mark(at, Marks::none().with(Mark::Input).with(Mark::Lock), steps);
     }
@@ -155,7 +155,7 @@ pub trait Bench {
     /// Marks a parameter: the place is read, and is not evaluated.
     final fn param<L: Ledger>(&mut self, at: Spot, steps: &mut Steps<L>)
         ensures deed { desk self.new ≡ desk_after (desk self.old) (param_at at) }
-        ensures ticks { steps.new ≡ steps.old + 1 }
+        ensures steps { steps.new ≡ steps.old + 1 }
     {
         self.mark(
             at,
@@ -170,7 +170,7 @@ pub trait Bench {
     /// Marks an output: the place is written, and is not evaluated.
     final fn output<L: Ledger>(&mut self, at: Spot, steps: &mut Steps<L>)
         ensures deed { desk self.new ≡ desk_after (desk self.old) (output_at at) }
-        ensures ticks { steps.new ≡ steps.old + 1 }
+        ensures steps { steps.new ≡ steps.old + 1 }
     {
         self.mark(at, Marks::none().with(Mark::Output).with(Mark::Lock), steps);
     }
@@ -178,7 +178,7 @@ pub trait Bench {
     /// Marks a far output: the place is written, and sleeps until the next frame.
     final fn far<L: Ledger>(&mut self, at: Spot, steps: &mut Steps<L>)
         ensures deed { desk self.new ≡ desk_after (desk self.old) (far_at at) }
-        ensures ticks { steps.new ≡ steps.old + 1 }
+        ensures steps { steps.new ≡ steps.old + 1 }
     {
         self.mark(
             at,
@@ -190,7 +190,7 @@ pub trait Bench {
     /// Locks a place: it is not evaluated.
     final fn lock<L: Ledger>(&mut self, at: Spot, steps: &mut Steps<L>)
         ensures deed { desk self.new ≡ desk_after (desk self.old) (lock_at at) }
-        ensures ticks { steps.new ≡ steps.old + 1 }
+        ensures steps { steps.new ≡ steps.old + 1 }
     {
         self.mark(at, Marks::none().with(Mark::Lock), steps);
     }
@@ -200,7 +200,7 @@ pub trait Bench {
         ensures deeds { desk self.new ≡ desk_after_all (desk self.old)
             (each span.length (λ i. input_at (off at (pos span.y) (pos (i + span.x))) ∷ [])) }
         ensures room { HasRoom (desk self.old) → HasRoom (desk self.new) }
-        ensures ticks { steps.new ≡ steps.old + span.length }
+        ensures steps { steps.new ≡ steps.old + span.length }
     {
         self.mark_span(
             at,
@@ -215,7 +215,7 @@ pub trait Bench {
         ensures deeds { desk self.new ≡ desk_after_all (desk self.old)
             (each span.length (λ i. lock_at (off at (pos span.y) (pos (i + span.x))) ∷ [])) }
         ensures room { HasRoom (desk self.old) → HasRoom (desk self.new) }
-        ensures ticks { steps.new ≡ steps.old + span.length }
+        ensures steps { steps.new ≡ steps.old + span.length }
     {
         self.mark_span(at, span, Marks::none().with(Mark::Lock), steps);
     }
@@ -223,7 +223,7 @@ pub trait Bench {
     /// Puts a place to sleep: it is not evaluated before the next frame.
     final fn sleep<L: Ledger>(&mut self, at: Spot, steps: &mut Steps<L>)
         ensures deed { desk self.new ≡ desk_after (desk self.old) (sleep_at at) }
-        ensures ticks { steps.new ≡ steps.old + 1 }
+        ensures steps { steps.new ≡ steps.old + 1 }
     {
         self.mark(at, Marks::none().with(Mark::Sleep), steps);
     }
@@ -231,7 +231,7 @@ pub trait Bench {
     /// Shows that a place sends.
     final fn show<L: Ledger>(&mut self, at: Spot, steps: &mut Steps<L>)
         ensures deed { desk self.new ≡ desk_after (desk self.old) (show_at at) }
-        ensures ticks { steps.new ≡ steps.old + 1 }
+        ensures steps { steps.new ≡ steps.old + 1 }
     {
         self.mark(at, Marks::none().with(Mark::Output), steps);
     }

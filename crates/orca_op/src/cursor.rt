@@ -48,7 +48,7 @@ impl Cursor {
     }
 
     /// The next column of a row that holds an operator as the grid stands now; none exactly where
-    /// there is none. The cursor then stands behind it. It ticks once.
+    /// there is none. The cursor then stands behind it. It counts one step.
     #[inline(always)]
     pub fn next<B: Walk, L: Ledger>(
         &mut self,
@@ -64,7 +64,7 @@ impl Cursor {
         ensures passed { let s = (B.desk bench.now).scan in
             HasNoLive s row self.old (unwrap_or result s.dims.w) }
         ensures behind { IfSome result (λ x. self.new ≡ x + 1) }
-        ensures ticks { steps.new ≡ steps.old + 1 }
+        ensures steps { steps.new ≡ steps.old + 1 }
     {
         self.find(bench.live_words(row, steps))
     }

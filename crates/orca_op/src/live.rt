@@ -8,7 +8,7 @@ use orca_base::limits::{ROW_WORDS, WORD_COLUMNS};
 use std::sync::ledger::Ledger;
 
 /// The least column of a row, at least `from`, that holds an operator as the grid stands now; none
-/// exactly where there is none. It ticks once.
+/// exactly where there is none. It counts one step.
 pub fn next_live<B: Walk, L: Ledger>(
     bench: &B,
     row: u16,
@@ -22,7 +22,7 @@ pub fn next_live<B: Walk, L: Ledger>(
         (from ≤ x) × IsTrue (is_live (B.desk bench.now).scan row x)) }
     ensures passed { let s = (B.desk bench.now).scan in
         HasNoLive s row from (unwrap_or result s.dims.w) }
-    ensures ticks { steps.new ≡ steps.old + 1 }
+    ensures steps { steps.new ≡ steps.old + 1 }
 {
     next_bit(bench.live_words(row, steps), from)
 }

@@ -1,5 +1,5 @@
 ghost use Rattle.std.specs.Prelude.{◌≡◌, ℕ, List, ◌+◌, ◌≤◌, Some};
-ghost use Rattle.orca_base.specs.declared.limits.TheConstants.{MAX_TICKS};
+ghost use Rattle.orca_base.specs.declared.limits.TheConstants.{MAX_STEPS};
 ghost use Rattle.orca_base.specs.declared.now.Now.{Now};
 ghost use Rattle.orca_base.specs.declared.place.Place.{Place};
 ghost use Rattle.orca_base.specs.Grids.{IsInside};
@@ -21,7 +21,7 @@ pub trait Operator {
     /// operator table.
     ghost kind: { Kind };
 
-    /// Does the deeds of its rule in the operator table, in order, in at most `MAX_TICKS` ticks.
+    /// Does the deeds of its rule in the operator table, in order, in at most `MAX_STEPS` steps.
     fn act<B: Bench, L: Ledger>(
         &self,
         bench: &mut B,
@@ -36,7 +36,7 @@ pub trait Operator {
         requires room { HasRoom (B.desk bench.old) }
         ensures deeds { B.desk bench.new ≡ desk_after_all (B.desk bench.old)
             (rule_of kind glyph (B.desk bench.old).scan at now) }
-        ensures ticks { steps.new ≤ steps.old + MAX_TICKS }
+        ensures steps { steps.new ≤ steps.old + MAX_STEPS }
         ensures later { steps.old ≤ steps.new };
 
     /// At most `MAX_DEEDS` deeds and one event, glyphs alone are written, each write to another

@@ -10,10 +10,10 @@ use std::sync::ledger::Ledger;
 pub trait Walk: Bench {
     /// The words of a row as the grid stands now. The bit of a column `x` is bit `x % 64` of word
     /// `x / 64`, counted from the least significant bit. It is set exactly where the column lies in
-    /// the grid and that place holds an operator. It ticks once.
+    /// the grid and that place holds an operator. It counts one step.
     fn live_words<L: Ledger>(&self, row: u16, steps: &mut Steps<L>) -> &[u64]
         requires { row < (Self.desk self.now).scan.dims.h }
         ensures live { IsLiveRow (Self.desk self.now).scan row result.now }
         ensures desk { IsDesk (Self.desk self.now) }
-        ensures ticks { steps.new ≡ steps.old + 1 };
+        ensures steps { steps.new ≡ steps.old + 1 };
 }

@@ -80,8 +80,8 @@ impl Patch {
     }
 
     /// Goes back: gives the board the size before, with the old glyph at each listed place and the
-    /// board's own glyph at every other place. Answers the tick before. It ticks once for each
-    /// place that the size cuts off, and once for each change.
+    /// board's own glyph at every other place. Answers the tick before. It counts a step for each
+    /// place that the size cuts off, and for each change.
     pub fn undo_on<L: Ledger>(&self, board: &mut Board, steps: &mut Steps<L>) -> u32
         requires { CoversCut self.now board.old.scan.dims }
         ensures tick { result ≡ self.now.tick }
@@ -90,16 +90,16 @@ impl Patch {
 
         // The patch of a board's changes gives its grid of the last `begin` back, whatever was done.
         ensures inverse { GoesBack self.now (sheet_of board.old.scan) (sheet_of board.new.scan) }
-        ensures ticks { steps.new ≡ steps.old
+        ensures steps { steps.new ≡ steps.old
             + length (cut_places board.old.scan.dims self.now.dims) + length self.now.changes }
 
         // The board's own size cuts off no place, and another at most all of its cells.
         ensures same_size { board.old.scan.dims ≡ self.now.dims
             → steps.new ≡ steps.old + length self.now.changes }
-        ensures few_ticks { steps.new
+        ensures few_steps { steps.new
             ≤ steps.old + cells_of board.old.scan.dims + length self.now.changes }
 
-        // It marks no place, and lists at most one place for each tick.
+        // It marks no place, and lists at most one place for each step.
         ensures residue { residue board.new + steps.old ≤ residue board.old + steps.new }
     {
         board.set_dims(self.dims, steps);

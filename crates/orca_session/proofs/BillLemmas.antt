@@ -63,11 +63,11 @@ pub pays-undo : (p : PastState) (at : ℕ) (patch : Before) (old new : Desk) (fr
     → residue new + from ≤ residue old + to
     → to + residue new + total change_price (plain p) at (length p.trail.entries)
     ≤ from + residue old + total change_price (plain p) (at - 1) (length p.trail.entries)
-pays-undo p at patch old new from to undoes some within sheet ticks grows =
+pays-undo p at patch old new from to undoes some within sheet steps grows =
     let its = some-entry p (at - 1) (omega (arith, some, within)) in
     omega (
       arith,
-      ticks,
+      steps,
       grows,
       undoes.few,
       ap (λ (g : Sheet). length (cut_places g.dims patch.dims)) sheet,
@@ -115,13 +115,13 @@ pub pays-load : (p : PastState) (moment b at tick : ℕ) (dims : Size) (cells : 
     → to + residue new ≤ mid + total price (plain p) b at
     → to + residue new
     ≤ from + residue old + load_price (plain p) (best_moment p.points.spacing moment) moment
-pays-load p moment b at tick dims cells old new from mid to past below is begun end sheet ticks
+pays-load p moment b at tick dims cells old new from mid to past below is begun end sheet steps
     paid =
     let best : b ≡ best_moment p.points.spacing moment = begun ∙ best-moment p moment past below in
     omega (
       arith,
       paid,
-      ticks,
+      steps,
       ap (λ (d : Size). cells_of d) (best-size p moment tick dims cells past below is),
       ap (λ (g : Sheet). cells_of g.dims) (sheet ∙ sym (sheet-plain p)),
       ap (λ (n : ℕ). total price (plain p) n at) best,
@@ -222,12 +222,12 @@ numbers-jumped p moment patch points dropped point past below is all kept =
       peak = n;
     }) most)
 
-pub ticks-jumped : (p : PastState) (moment : ℕ) (patch : Before) (points dropped : Points)
+pub steps-jumped : (p : PastState) (moment : ℕ) (patch : Before) (points dropped : Points)
     (sheet : Sheet) (from to : ℕ) → moment < length p.trail.entries
     → dropped ≡ points_dropped p.points moment → sheet ≡ (moment_of p moment).sheet
     → to ≤ from + (if is_due dropped (moment + 1) then cells_of sheet.dims else 0)
     → to ≤ from + new_cells p.points.spacing (plain (past_jumped p moment patch points))
-ticks-jumped p moment patch points dropped sheet from to below is same most =
+steps-jumped p moment patch points dropped sheet from to below is same most =
     let q : PastState = past_jumped p moment patch points in
     let long : length q.trail.entries ≡ moment + 1 = length-jumped p moment patch points below in
     pays-kept p.points.spacing (moment + 1) (plain q) sheet.dims from to
@@ -326,12 +326,12 @@ numbers-pushed p entry newest points point n past same is all kept =
       peak = n;
     }) most)
 
-pub ticks-pushed : (p : PastState) (entry : Entry) (newest : Trailed) (points : Points)
+pub steps-pushed : (p : PastState) (entry : Entry) (newest : Trailed) (points : Points)
     (sheet : Sheet) (n from to : ℕ) → n ≡ length p.trail.entries + 1
     → sheet ≡ (apply (present p) entry).piece.sheet
     → to ≤ from + (if is_due p.points n then cells_of sheet.dims else 0)
     → to ≤ from + new_cells p.points.spacing (plain (past_pushed p entry newest points))
-ticks-pushed p entry newest points sheet n from to is same most =
+steps-pushed p entry newest points sheet n from to is same most =
     let q : PastState = past_pushed p entry newest points in
     let long : length q.trail.entries ≡ length p.trail.entries + 1 =
     length-append p.trail.entries (entry ∷ []) in

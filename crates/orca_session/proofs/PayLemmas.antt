@@ -19,7 +19,7 @@ use Rattle.orca_base.specs.declared.message.Message.{Message}
 use Rattle.orca_base.specs.Grids.{Size, Sheet, cells_of}
 use Rattle.orca_board.specs.Laws.{BeginLaw}
 use Rattle.orca_board.specs.Sizes.{cut_places}
-use Rattle.orca_edit.specs.Editing.{FitsIn, IsGridEdit, desk_with, ticks_of}
+use Rattle.orca_edit.specs.Editing.{FitsIn, IsGridEdit, desk_with, steps_of}
 use Rattle.orca_edit.specs.Machines.{obeyed}
 use Rattle.orca_edit.specs.Obeying.{MachineState, Obeyed, entry_of, jump, obey, piece_of}
 use Rattle.orca_edit.specs.Pieces.{Piece, apply}
@@ -223,39 +223,39 @@ edit-lists law p entry begun new edit fits laid is =
 pub pays-change : PaysTwice → (p : Piece) (entry : Entry) (old begun new : Desk)
     (from mid to : ℕ) → IsGridEdit entry → FitsIn p.sheet.dims entry
     → begun ≡ desk_of_sheet p.sheet → residue begun ≡ 0 → mid ≡ from + 1 + residue old
-    → to ≡ mid + ticks_of begun.scan.dims entry → residue new + mid ≤ residue begun + to
+    → to ≡ mid + steps_of begun.scan.dims entry → residue new + mid ≤ residue begun + to
     → to + residue new ≤ from + residue old + price p entry
-pays-change pays p entry old begun new from mid to edit fits laid clear first ticks grows =
+pays-change pays p entry old begun new from mid to edit fits laid clear first steps grows =
     omega (
       arith,
       pays p entry edit fits,
       clear,
       first,
-      ticks,
+      steps,
       grows,
-      ap (λ (d : Desk). ticks_of d.scan.dims entry) laid,
+      ap (λ (d : Desk). steps_of d.scan.dims entry) laid,
     )
 
 -- the same, taken back
 pub pays-taken_back : PaysTwice → TouchesBothWays → (p : Piece) (entry : Entry)
     (old begun new last : Desk) (size : Size) (from mid to end : ℕ) → IsGridEdit entry
     → FitsIn p.sheet.dims entry → begun ≡ desk_of_sheet p.sheet → residue begun ≡ 0
-    → mid ≡ from + 1 + residue old → to ≡ mid + ticks_of begun.scan.dims entry
+    → mid ≡ from + 1 + residue old → to ≡ mid + steps_of begun.scan.dims entry
     → residue new + mid ≤ residue begun + to
     → sheet_of new.scan ≡ (apply p entry).piece.sheet → size ≡ p.sheet.dims
     → end + residue last ≤ to + residue new + length (cut_places new.scan.dims size)
     → end + residue last ≤ from + residue old + price p entry
 pays-taken_back pays both p entry old begun new last size from mid to end edit fits laid clear
-    first ticks grows sheet same back =
+    first steps grows sheet same back =
     omega (
       arith,
       pays-refused pays both p entry edit fits,
       clear,
       first,
-      ticks,
+      steps,
       grows,
       back,
-      ap (λ (d : Desk). ticks_of d.scan.dims entry) laid,
+      ap (λ (d : Desk). steps_of d.scan.dims entry) laid,
       ap (λ (g : Sheet). length (cut_places g.dims size)) sheet,
       ap (λ (d : Size). length (cut_places (apply p entry).piece.sheet.dims d)) same,
     )

@@ -7,11 +7,11 @@ use Rattle.orca_base.specs.declared.now.Now.{Now}
 use Rattle.orca_base.specs.Grids.{Size, Sheet, cells_of}
 use Rattle.orca_base.specs.MarkSet.{is_marked, no_marks}
 use Rattle.orca_board.specs.Sizes.{cut_places, desk_reverted, is_size, with_sheet}
-use Rattle.orca_edit.specs.Editing.{FitsIn, IsGridEdit, ticks_of}
+use Rattle.orca_edit.specs.Editing.{FitsIn, IsGridEdit, steps_of}
 use Rattle.orca_edit.specs.Pieces.{Piece, apply, next_frame}
 use Rattle.orca_edit.specs.Prices.{preview_price, price}
 use Rattle.orca_edit.specs.Pricing.{PaysTwice, TouchesBothWays}
-use Rattle.orca_frame.specs.Frames.{IsFramed, most_ticks}
+use Rattle.orca_frame.specs.Frames.{IsFramed, most_steps}
 use Rattle.orca_op.specs.Desk.{Desk, residue}
 use Rattle.orca_op.specs.Scan.{busy}
 use Rattle.orca_op.specs.State.{State, blank_marks, sheet_of}
@@ -25,7 +25,7 @@ same-now p now tick seed =
 
 -- a frame, with what it leaves to clear
 pub pays-frame : (old new : Desk) (now : Now) (p : Piece) (from to : ℕ) → IsFramed old new now
-    → to ≤ from + most_ticks old now → p.sheet ≡ sheet_of old.scan → p.tick ≡ now.tick
+    → to ≤ from + most_steps old now → p.sheet ≡ sheet_of old.scan → p.tick ≡ now.tick
     → p.seed ≡ now.seed → to + residue new ≤ from + residue old + preview_price p
 pays-frame old new now p from to framed most sheet tick seed =
     let same : busy p.sheet (next_frame p) ≡ busy (sheet_of old.scan) now =
@@ -48,13 +48,13 @@ is-edit Hush reset frame hush = absurd (hush refl)
 pub pays-edit : PaysTwice → (old new : Desk) (entry : Entry) (p : Piece) (from to : ℕ)
     → IsGridEdit entry
     → FitsIn old.scan.dims entry → p.sheet ≡ sheet_of old.scan
-    → to ≡ from + ticks_of old.scan.dims entry → residue new + from ≤ residue old + to
+    → to ≡ from + steps_of old.scan.dims entry → residue new + from ≤ residue old + to
     → to + residue new + 1 ≤ from + residue old + price p entry
-pays-edit pays old new entry p from to edit fits sheet ticks grows =
+pays-edit pays old new entry p from to edit fits sheet steps grows =
     let size : old.scan.dims ≡ p.sheet.dims = sym (ap (λ (g : Sheet). g.dims) sheet) in
-    let twice : 2 * ticks_of p.sheet.dims entry + 1 ≤ price p entry =
+    let twice : 2 * steps_of p.sheet.dims entry + 1 ≤ price p entry =
     pays p entry edit (subst (λ (d : Size). FitsIn d entry) size fits) in
-    omega (arith, ticks, grows, twice, ap (λ (d : Size). ticks_of d entry) size)
+    omega (arith, steps, grows, twice, ap (λ (d : Size). steps_of d entry) size)
 
 -- ---- going back to the last begin
 
@@ -84,10 +84,10 @@ pub pays-back : (old new : Desk) (size : Size) (from to : ℕ) → new ≡ desk_
     → old.began.dims ≡ size
     → to ≡ from + length (cut_places old.scan.dims old.began.dims) + length old.listed
     → to + residue new ≤ from + residue old + length (cut_places old.scan.dims size)
-pays-back old new size from to is same ticks =
+pays-back old new size from to is same steps =
     omega (
       arith,
-      ticks,
+      steps,
       ap residue is,
       residue-back old,
       ap (λ (d : Size). length (cut_places old.scan.dims d)) same,
@@ -103,7 +103,7 @@ no-cut both p = omega (arith, both p Hush)
 -- a grid edit after a begin
 pub pays-refused : PaysTwice → TouchesBothWays → (p : Piece) (entry : Entry) → IsGridEdit entry
     → FitsIn p.sheet.dims entry
-    → 2 * ticks_of p.sheet.dims entry + 1
+    → 2 * steps_of p.sheet.dims entry + 1
     + length (cut_places (apply p entry).piece.sheet.dims p.sheet.dims)
     ≤ price p entry
 unfolding apply

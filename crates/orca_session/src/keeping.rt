@@ -26,7 +26,7 @@ pub(crate) fn keep_due<L: Ledger>(
     requires { is_due checkpoints.old len ≡ true → len ≡ next_moment checkpoints.old }
     ensures points { checkpoints.new ≡ points_after checkpoints.old len
         (record { sheet = sheet_of board.now.scan; tick = tick }) }
-    ensures ticks { steps.new ≤ steps.old
+    ensures steps { steps.new ≤ steps.old
         + (if is_due checkpoints.old len then cells_of board.now.scan.dims else 0) }
     ensures all { ArePoints checkpoints.old }
 {

@@ -149,7 +149,7 @@ impl Past {
         ensures early { OnOk result (tick < MAX_HISTORY) }
         ensures numbers { OnOk result
             (numbers_of self.new ≡ pushed (plain self.new) (numbers_of self.old)) }
-        ensures ticks { OnOk result
+        ensures steps { OnOk result
             (steps.new ≤ steps.old + new_cells self.old.points.spacing (plain self.new)) }
         ensures err { OnErr result (self.new ≡ self.old) }
         ensures reverted { OnErr result (sheet_of board.new.scan ≡ (present self.old).sheet) }
@@ -187,7 +187,7 @@ impl Past {
         ensures early { OnOk result (tick < MAX_HISTORY) }
         ensures numbers { OnOk result
             (numbers_of self.new ≡ pushed (plain self.new) (numbers_of self.old)) }
-        ensures ticks { OnOk result
+        ensures steps { OnOk result
             (steps.new ≤ steps.old + new_cells self.old.points.spacing (plain self.new)) }
         ensures err { OnErr result (self.new ≡ self.old) }
         ensures idle { OnErr result (steps.new ≡ steps.old) }
@@ -313,7 +313,7 @@ impl Past {
         ensures present { present self.new ≡ silence (moment_of self.old moment) }
         ensures numbers { numbers_of self.new
             ≡ jumped (plain self.new) (numbers_of self.old) moment }
-        ensures ticks { steps.new
+        ensures steps { steps.new
             ≤ steps.old + new_cells self.old.points.spacing (plain self.new) }
     {
         let patch = Patch::empty(self.alloc, Look::dims(board), tick);

@@ -51,7 +51,7 @@ fn variables_are_fresh_in_each_frame(rt: HostRuntime) -> Result<(), Fail> {
 fn play_dots<L: Ledger>(board: &mut Board, steps: &mut Steps<L>)
     requires { board.old ≡ desk_of_sheet (blank_sheet (record { h = 256; w = 256 })) }
     ensures same { board.new ≡ board.old }
-    ensures ticks { steps.new ≡ steps.old + 257 }
+    ensures steps { steps.new ≡ steps.old + 257 }
 {
     rest_law();
     frame(board, Now { tick: 0, seed: 1 }, steps);

@@ -6,5 +6,5 @@ pub loop-i-preserved : goal.loop-i-preserved
 loop-i-preserved g c = record {
   deeds = generate_more _ _ _ c.args.at c.args.y c.args.x c.loop-i.i c.loop-i.invariant.deeds
       (search rules);
-  ticks = omega arith;
+  steps = omega arith;
 }

@@ -9,5 +9,5 @@ abbrev pub invariant-loop-i : goal.invariant-loop-i
 invariant-loop-i g l = record {
   deeds : g.B.Bench.desk l.bench ≡ desk_after_all (g.B.Bench.desk l.initial.bench)
       (each l.i (generate_at (g.B.Bench.desk l.initial.bench).scan l.at l.y l.x));
-  ticks : l.steps ≡ l.initial.steps + 4 * l.i;
+  steps : l.steps ≡ l.initial.steps + 4 * l.i;
 }

@@ -6,6 +6,6 @@ pub loop-i-preserved : goal.loop-i-preserved
 loop-i-preserved g c = record {
   deeds = konkat_more _ _ _ c.args.at c.loop-i.i c.loop-i.invariant.deeds
       c.write_below.ensures.deeds;
-  ticks = omega arith;
+  steps = omega arith;
   later = omega arith;
 }

@@ -9,6 +9,6 @@ abbrev pub invariant-loop-i : goal.invariant-loop-i
 invariant-loop-i g l = record {
   deeds : g.B.Bench.desk l.bench ≡ desk_after_all (g.B.Bench.desk l.initial.bench)
       (each l.i (konkat_at (g.B.Bench.desk l.initial.bench).scan l.at));
-  ticks : l.steps ≤ l.initial.steps + 5 * l.i;
+  steps : l.steps ≤ l.initial.steps + 5 * l.i;
   later : l.initial.steps ≤ l.steps;
 }

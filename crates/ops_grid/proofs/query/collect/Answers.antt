@@ -6,5 +6,5 @@ use Rattle.ops_grid.proofs.query.collect.Goals as goal
 pub loop-i-preserved : goal.loop-i-preserved
 loop-i-preserved g c = record {
   deeds = rw desk_after_all-each_more (grind (arith, common_steps));
-  ticks = omega arith;
+  steps = omega arith;
 }

@@ -9,5 +9,5 @@ invariant-loop-i g l = record {
   deeds : g.B.Bench.desk l.bench
       ≡ desk_after_all (g.B.Bench.desk l.initial.bench)
       (each l.i (λ i. query_one l.at l.y l.x l.length i (slice_index l.operands i)));
-  ticks : l.steps ≡ l.initial.steps + 3 * l.i;
+  steps : l.steps ≡ l.initial.steps + 3 * l.i;
 }

@@ -8,5 +8,5 @@ abbrev pub invariant-loop-i : goal.invariant-loop-i
 invariant-loop-i g l = record {
   values : l.values ≡ map value (ports (g.B.Bench.desk l.bench).scan l.at 3 l.i);
   size : length l.values ≡ l.i;
-  ticks : l.steps ≡ l.initial.steps + l.i;
+  steps : l.steps ≡ l.initial.steps + l.i;
 }

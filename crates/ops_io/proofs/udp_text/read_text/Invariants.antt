@@ -10,5 +10,5 @@ invariant-loop-i g l = record {
   text : l.text ≡ ports (g.B.Bench.desk l.bench).scan l.at 1 l.i;
   full : (k : ℕ) → k < l.i → (port (g.B.Bench.desk l.bench).scan l.at (k + 1) == empty) ≡ false;
   size : length l.text ≡ l.i;
-  ticks : l.steps ≡ l.initial.steps + l.i;
+  steps : l.steps ≡ l.initial.steps + l.i;
 }

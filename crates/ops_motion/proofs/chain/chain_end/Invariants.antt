@@ -9,5 +9,5 @@ abbrev pub invariant-loop-places : goal.invariant-loop-places
 invariant-loop-places g l = record {
   same : (k : ℕ) → 1 ≤ k → k < l.places
       → not (peek (g.B.Bench.desk l.bench).scan (beyond_on l.way l.at k) == l.glyph) ≡ false;
-  ticks : l.steps + 1 ≡ l.initial.steps + l.places;
+  steps : l.steps + 1 ≡ l.initial.steps + l.places;
 }

@@ -5,5 +5,5 @@ use Rattle.ops_motion.proofs.chain.sleep_chain.Goals as goal
 pub loop-passed-preserved : goal.loop-passed-preserved
 loop-passed-preserved g c = record {
   deeds = rw desk_after_all-each_more (search rules);
-  ticks = omega arith;
+  steps = omega arith;
 }

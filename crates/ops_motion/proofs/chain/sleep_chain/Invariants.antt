@@ -9,5 +9,5 @@ abbrev pub invariant-loop-passed : goal.invariant-loop-passed
 invariant-loop-passed g l = record {
   deeds : g.B.Bench.desk l.bench ≡ desk_after_all (g.B.Bench.desk l.initial.bench)
       (sleep_deeds (beyond_on l.way l.at) l.passed);
-  ticks : l.steps ≡ l.initial.steps + l.passed;
+  steps : l.steps ≡ l.initial.steps + l.passed;
 }

@@ -4,18 +4,18 @@ use Rattle.orca_base.specs.declared.place.Place.{Place}
 use Rattle.orca_base.specs.Glyphs.{empty}
 use Rattle.orca_op.specs.Desk.{desk_after_all}
 use Rattle.orca_board.specs.Blocks.{write_each}
-use Rattle.orca_board.proofs.RunLemmas.{all-outside, outside_step, outside_ticks}
+use Rattle.orca_board.proofs.RunLemmas.{all-outside, outside_step, outside_count}
 use Rattle.orca_board.proofs.blocks.clear_outside.Goals as goal
 
 pub loop-row-preserved : goal.loop-row-preserved
 loop-row-preserved g c = record {
   desk = outside_step _ _ _ (λ at. empty) c.args.area c.args.other c.loop-row.row
       c.loop-row.invariant.desk c.clear_row_outside.ensures.desk;
-  ticks = omega (
+  steps = omega (
     arith,
-    c.loop-row.invariant.ticks,
-    c.clear_row_outside.ensures.ticks,
-    outside_ticks c.args.area c.args.other c.loop-row.row,
+    c.loop-row.invariant.steps,
+    c.clear_row_outside.ensures.steps,
+    outside_count c.args.area c.args.other c.loop-row.row,
   );
 }
 
@@ -27,11 +27,11 @@ returns-clause-desk g c =
     (all-outside c.args.area c.args.other c.loop-row.row
     (omega (arith, c.loop-row-test.false, c.loop-row.auto.row-end)))
 
-pub returns-clause-ticks : goal.returns-clause-ticks
-returns-clause-ticks g c =
+pub returns-clause-steps : goal.returns-clause-steps
+returns-clause-steps g c =
     omega (
       arith,
-      c.loop-row.invariant.ticks,
+      c.loop-row.invariant.steps,
       ap (λ (places : List Place). length places)
           (all-outside c.args.area c.args.other c.loop-row.row
           (omega (arith, c.loop-row-test.false, c.loop-row.auto.row-end))),

@@ -13,6 +13,6 @@ invariant-loop-row g l = record {
   desk : g.B.Bench.desk l.bench ≡ desk_after_all (g.B.Bench.desk l.initial.bench)
       (write_each (λ at. empty)
       (filter (λ at. not (is_in_area l.other at)) (first_rows l.area l.row)));
-  ticks : l.steps ≡ l.initial.steps + length
+  steps : l.steps ≡ l.initial.steps + length
       (filter (λ at. not (is_in_area l.other at)) (first_rows l.area l.row));
 }

@@ -13,14 +13,14 @@ returns-then-not-crosses-clause-desk g c =
     (sym y ∙ sym c.if-not-crosses.ensures) in
     rw (c.row_of-first.ensures, ← beside) at c.fill_run.ensures.desk
 
-pub returns-then-not-crosses-clause-ticks : goal.returns-then-not-crosses-clause-ticks
-returns-then-not-crosses-clause-ticks g c =
+pub returns-then-not-crosses-clause-steps : goal.returns-then-not-crosses-clause-steps
+returns-then-not-crosses-clause-steps g c =
     let y = ap (λ (p : Place). crosses c.args.other p.y) c.row_of-first.ensures in
     let beside = row-beside c.args.area c.args.other c.args.row
     (sym y ∙ sym c.if-not-crosses.ensures) in
     omega (
       arith,
-      c.fill_run.ensures.ticks,
+      c.fill_run.ensures.steps,
       ap (λ (places : List Place). length places) beside,
       length-run (row_at c.args.area c.args.row) c.args.area.w,
     )
@@ -41,8 +41,8 @@ returns-clause-desk g c =
     ∙ ap (λ (places : List Place). desk_after_all (g.B.Bench.desk c.args.bench.now)
     (write_each (λ place. empty) places)) (sym across)
 
-pub returns-clause-ticks : goal.returns-clause-ticks
-returns-clause-ticks g c =
+pub returns-clause-steps : goal.returns-clause-steps
+returns-clause-steps g c =
     let y = ap (λ (p : Place). crosses c.args.other p.y) c.row_of-first.ensures in
     let across = row-across c.args.area c.args.other c.args.row c.min-left.result c.min-right.result
     (sym y ∙ sym c.if-not-crosses.ensures)
@@ -50,8 +50,8 @@ returns-clause-ticks g c =
     (omega (arith, c.min-right.ensures, c.max-2.ensures)) in
     omega (
       arith,
-      c.fill_run-2.ensures.ticks,
-      c.fill_run-3.ensures.ticks,
+      c.fill_run-2.ensures.steps,
+      c.fill_run-3.ensures.steps,
       ap (λ (places : List Place). length places) across,
       length-two_runs (row_at c.args.area c.args.row)
           (record { y = c.args.area.y + c.args.row; x = c.min-right.result })

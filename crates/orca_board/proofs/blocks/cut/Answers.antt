@@ -8,7 +8,7 @@ use Rattle.orca_base.specs.Grids.{Size}
 use Rattle.orca_op.specs.Desk.{desk_after_all}
 use Rattle.orca_board.specs.Blocks.{write_each}
 use Rattle.orca_board.specs.Sizes.{whole}
-use Rattle.orca_board.proofs.RunLemmas.{all-outside, first_rows, length-run, no-rows, none-cut, outside_step, outside_ticks, row-cut}
+use Rattle.orca_board.proofs.RunLemmas.{all-outside, first_rows, length-run, no-rows, none-cut, outside_step, outside_count, row-cut}
 use Rattle.orca_board.proofs.blocks.cut.Goals.{then-to-dims, else-to-dims, then-y-to, else-y-to}
 use Rattle.orca_board.proofs.blocks.cut.Goals as goal
 
@@ -28,7 +28,7 @@ loop-y-init g c =
     ] in
     record {
       desk = rw none refl;
-      ticks = rw none (omega arith);
+      steps = rw none (omega arith);
     }
 
 pub loop-y-preserved : goal.loop-y-preserved
@@ -48,12 +48,12 @@ loop-y-preserved g c =
     record {
       desk = outside_step _ _ _ (λ at. empty) (whole c.args.dims) (whole c.args.to) c.loop-y.y
           c.loop-y.invariant.desk (rw (columns, ← row) at c.fill_run.ensures.desk);
-      ticks = omega (
+      steps = omega (
         arith,
         columns,
-        c.loop-y.invariant.ticks,
-        c.fill_run.ensures.ticks,
-        outside_ticks (whole c.args.dims) (whole c.args.to) c.loop-y.y,
+        c.loop-y.invariant.steps,
+        c.fill_run.ensures.steps,
+        outside_count (whole c.args.dims) (whole c.args.to) c.loop-y.y,
         ap (λ (places : List Place). length places) row,
         length-run (record { y = c.loop-y.y; x = c.if-y-to.x }) (c.args.dims.w - c.if-y-to.x),
       );
@@ -72,8 +72,8 @@ returns-clause-desk g c =
     (all-outside (whole c.args.dims) (whole c.args.to) c.loop-y.y
     (omega (arith, rows, c.loop-y-test.false, c.loop-y.auto.y-end few)))
 
-pub returns-clause-ticks : goal.returns-clause-ticks
-returns-clause-ticks g c =
+pub returns-clause-steps : goal.returns-clause-steps
+returns-clause-steps g c =
     let rows : c.dims.inside.h ≡ c.args.dims.h = ap (λ (d : Size). d.h) c.dims.view_is in
     let few : c.if-to-dims.first ≤ c.dims.inside.h = elim c.if-to-dims.branch [
       | then-to-dims w ↦ omega (arith, w.first-is)
@@ -81,7 +81,7 @@ returns-clause-ticks g c =
     ] in
     omega (
       arith,
-      c.loop-y.invariant.ticks,
+      c.loop-y.invariant.steps,
       ap (λ (places : List Place). length places)
           (all-outside (whole c.args.dims) (whole c.args.to) c.loop-y.y
           (omega (arith, rows, c.loop-y-test.false, c.loop-y.auto.y-end few))),

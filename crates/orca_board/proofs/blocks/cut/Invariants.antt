@@ -14,6 +14,6 @@ invariant-loop-y g l = record {
   desk : g.B.Bench.desk l.bench ≡ desk_after_all (g.B.Bench.desk l.initial.bench)
       (write_each (λ at. empty)
       (filter (λ at. not (is_in_area (whole l.fn.to) at)) (first_rows (whole l.fn.dims) l.y)));
-  ticks : l.steps ≡ l.initial.steps + length
+  steps : l.steps ≡ l.initial.steps + length
       (filter (λ at. not (is_in_area (whole l.fn.to) at)) (first_rows (whole l.fn.dims) l.y));
 }

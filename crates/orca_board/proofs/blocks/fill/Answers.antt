@@ -7,7 +7,7 @@ pub loop-row-preserved : goal.loop-row-preserved
 loop-row-preserved g c = record {
   desk = row_step _ _ _ (λ at. c.args.glyph) c.args.area c.loop-row.row
       c.loop-row.invariant.desk (rw c.row_of.ensures at c.fill_run.ensures.desk);
-  ticks = omega (arith, c.loop-row.invariant.ticks, c.fill_run.ensures.ticks);
+  steps = omega (arith, c.loop-row.invariant.steps, c.fill_run.ensures.steps);
 }
 
 pub returns-clause-desk : goal.returns-clause-desk

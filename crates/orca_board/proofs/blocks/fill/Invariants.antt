@@ -10,5 +10,5 @@ invariant-loop-row g l = record {
   desk : g.B.Bench.desk l.bench
       ≡ desk_after_all (g.B.Bench.desk l.initial.bench)
       (write_each (λ at. l.glyph) (first_rows l.area l.row));
-  ticks : l.steps ≡ l.initial.steps + l.row * l.area.w;
+  steps : l.steps ≡ l.initial.steps + l.row * l.area.w;
 }

@@ -6,5 +6,5 @@ pub loop-i-preserved : goal.loop-i-preserved
 loop-i-preserved g c = record {
   desk = run_step _ _ _ (λ place. c.args.glyph) c.args.at c.loop-i.i _ _
       c.loop-i.invariant.desk c.here.ensures refl c.write.ensures.deed;
-  ticks = omega (arith, c.loop-i.invariant.ticks, c.write.ensures.ticks);
+  steps = omega (arith, c.loop-i.invariant.steps, c.write.ensures.steps);
 }

@@ -9,5 +9,5 @@ invariant-loop-i g l = record {
   desk : g.B.Bench.desk l.bench
       ≡ desk_after_all (g.B.Bench.desk l.initial.bench)
       (write_each (λ place. l.glyph) (run_of l.at l.i));
-  ticks : l.steps ≡ l.initial.steps + l.i;
+  steps : l.steps ≡ l.initial.steps + l.i;
 }

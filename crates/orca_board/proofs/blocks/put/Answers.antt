@@ -9,11 +9,11 @@ returns-clause-desk g c =
     c.dims.ensures.desk c.requires c.dims.ensures.size c.h.ensures c.w.ensures c.w-2.ensures
     c.cells.ensures.cells c.image-area.ensures.image c.write_block.ensures.desk
 
-pub returns-clause-ticks : goal.returns-clause-ticks
-returns-clause-ticks g c =
+pub returns-clause-steps : goal.returns-clause-steps
+returns-clause-steps g c =
     omega (
       arith,
-      c.write_block.ensures.ticks,
+      c.write_block.ensures.steps,
       length-put _ c.dims.result c.args.to c.args.block.now.dims c.h.result c.w.result
           c.image-area.result c.dims.ensures.size c.h.ensures c.w.ensures
           c.image-area.ensures.image,

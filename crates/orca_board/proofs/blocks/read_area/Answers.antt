@@ -23,7 +23,7 @@ loop-row-preserved g c = record {
       c.loop-row.row c.loop-row.invariant.glyphs
       (rw c.row_of.ensures at c.read_run.ensures.glyphs);
   capacity = c.read_run.ensures.capacity ∙ c.loop-row.invariant.capacity;
-  ticks = omega (arith, c.loop-row.invariant.ticks, c.read_run.ensures.ticks);
+  steps = omega (arith, c.loop-row.invariant.steps, c.read_run.ensures.steps);
 }
 
 pub returns-clause-glyphs : goal.returns-clause-glyphs

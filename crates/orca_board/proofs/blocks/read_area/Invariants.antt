@@ -10,5 +10,5 @@ invariant-loop-row g l = record {
   glyphs : l.into.items
       ≡ map (glyph_at (g.B.Bench.desk l.bench).scan) (first_rows l.area l.row);
   capacity : vec_capacity l.into ≡ vec_capacity l.initial.into;
-  ticks : l.steps ≡ l.initial.steps + l.row * l.area.w;
+  steps : l.steps ≡ l.initial.steps + l.row * l.area.w;
 }

@@ -22,5 +22,5 @@ loop-i-preserved g c = record {
   glyphs = read-more (glyph_at (g.B.Bench.desk c.args.bench.now).scan) _ _ _ c.args.at c.loop-i.i _
       c.loop-i.invariant.glyphs c.push_reserved.ensures.items c.peek_here.ensures.glyph;
   capacity = c.push_reserved.ensures.capacity ∙ c.loop-i.invariant.capacity;
-  ticks = omega (arith, c.loop-i.invariant.ticks, c.peek_here.ensures.ticks);
+  steps = omega (arith, c.loop-i.invariant.steps, c.peek_here.ensures.steps);
 }

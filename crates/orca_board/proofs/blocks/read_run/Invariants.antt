@@ -10,5 +10,5 @@ invariant-loop-i g l = record {
   glyphs : l.into.items
       ≡ l.initial.into.items ++ map (glyph_at (g.B.Bench.desk l.bench).scan) (run_of l.at l.i);
   capacity : vec_capacity l.into ≡ vec_capacity l.initial.into;
-  ticks : l.steps ≡ l.initial.steps + l.i;
+  steps : l.steps ≡ l.initial.steps + l.i;
 }

@@ -27,13 +27,13 @@ returns-clause-desk g c =
     c.image-target.ensures.image (c.deref.ensures.value ∙ c.read_area.ensures.glyphs)
     c.clear_outside.ensures.desk c.write_block.ensures.desk
 
-pub returns-clause-ticks : goal.returns-clause-ticks
-returns-clause-ticks g c =
+pub returns-clause-steps : goal.returns-clause-steps
+returns-clause-steps g c =
     omega (
       arith,
-      c.read_area.ensures.ticks,
-      c.clear_outside.ensures.ticks,
-      c.write_block.ensures.ticks,
+      c.read_area.ensures.steps,
+      c.clear_outside.ensures.steps,
+      c.write_block.ensures.steps,
       length-shift _ c.dims.result c.args.area c.args.to c.image-target.result c.dims.ensures.size
           c.image-target.ensures.image,
     )

@@ -16,7 +16,7 @@ loop-row-preserved g c =
             write-row c.args.cells.now c.args.area c.loop-row.row c.args.width
                 (c.from.result * c.from-in-loop-row.result) first,
           ) at c.write_run.ensures.desk);
-      ticks = omega (arith, c.loop-row.invariant.ticks, c.write_run.ensures.ticks);
+      steps = omega (arith, c.loop-row.invariant.steps, c.write_run.ensures.steps);
     }
 
 pub write_run-requires-clause-glyphs : goal.write_run-requires-clause-glyphs

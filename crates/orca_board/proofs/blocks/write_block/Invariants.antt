@@ -11,5 +11,5 @@ invariant-loop-row g l = record {
   desk : g.B.Bench.desk l.bench ≡ desk_after_all (g.B.Bench.desk l.initial.bench)
       (write_each (glyph_from (rows_of l.width l.cells) (corner_of l.area))
       (first_rows l.area l.row));
-  ticks : l.steps ≡ l.initial.steps + l.row * l.area.w;
+  steps : l.steps ≡ l.initial.steps + l.row * l.area.w;
 }

@@ -16,5 +16,5 @@ loop-i-preserved g c =
           ∙ (get_or_default c.args.glyphs.now (c.args.first + c.from.result) _ 0
           (omega (arith, c.loop-i-test.true, c.from.ensures, c.requires.glyphs))
           ∙ ap (λ (k : ℕ). get_or c.args.glyphs.now k 0) number)) c.write.ensures.deed;
-      ticks = omega (arith, c.loop-i.invariant.ticks, c.write.ensures.ticks);
+      steps = omega (arith, c.loop-i.invariant.steps, c.write.ensures.steps);
     }

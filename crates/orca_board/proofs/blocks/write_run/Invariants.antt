@@ -11,5 +11,5 @@ invariant-loop-i g l = record {
       ≡ desk_after_all (g.B.Bench.desk l.initial.bench)
       (write_each (λ place. slice_index l.glyphs (l.first + (place.x - l.at.x)))
       (run_of l.at l.i));
-  ticks : l.steps ≡ l.initial.steps + l.i;
+  steps : l.steps ≡ l.initial.steps + l.i;
 }

@@ -22,7 +22,7 @@ loop-change-init g c = record {
   olds = λ old all at inside listed. absurd (both_ways _ refl listed);
   others = λ at inside listed. refl;
   live = c.requires.live;
-  ticks = omega arith;
+  steps = omega arith;
 }
 
 pub loop-change-preserved : goal.loop-change-preserved
@@ -57,5 +57,5 @@ loop-change-preserved g c =
           c.loop-change.invariant.whole
           c.loop-change.invariant.live
           (λ k. rw (number, c.is_operator.ensures) at (c.set.ensures k));
-      ticks = omega (arith, c.loop-change.invariant.ticks, c.tick.ensures);
+      steps = omega (arith, c.loop-change.invariant.steps, c.count_one.ensures);
     })

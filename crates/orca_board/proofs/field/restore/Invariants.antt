@@ -20,5 +20,5 @@ invariant-loop-change g l = record {
       → is_listed (places_of (take l.change-index l.changes)) at ≡ false
       → glyph_in l.cells at ≡ glyph_in l.fn.cells at;
   live : AreLive l.cells l.live;
-  ticks : l.steps ≡ l.initial.steps + l.change-index;
+  steps : l.steps ≡ l.initial.steps + l.change-index;
 }

@@ -8,5 +8,5 @@ abbrev pub invariant-loop-group : goal.invariant-loop-group
 invariant-loop-group g l = record {
   none : (k : ℕ) → 1 ≤ k → k < 1 + l.group * GROUP
       → (slice_index l.cells (l.first + k) == l.byte) ≡ false;
-  ticks : l.steps ≡ l.initial.steps + l.group * GROUP;
+  steps : l.steps ≡ l.initial.steps + l.group * GROUP;
 }

@@ -1,6 +1,6 @@
 use Rattle.std.proofs.Common.{arith, ◌≡◌, ◌∙◌, ap, subst}
 use Rattle.orca_base.specs.Grids.{Size, IsInside, cells_of, place_of}
-use Rattle.orca_frame.proofs.FrameLemmas.{inside_desk, room_desk, visit_desk, framed, ticks_more, ticks_all}
+use Rattle.orca_frame.proofs.FrameLemmas.{inside_desk, room_desk, visit_desk, framed, steps_more, steps_all}
 use Rattle.orca_frame.proofs.plain.frame_plain.Given as given
 use Rattle.orca_frame.proofs.plain.frame_plain.Goals as goal
 use Rattle.orca_frame.proofs.plain.frame_plain.Goals.{After-loop-i}
@@ -29,8 +29,8 @@ loop-i-preserved g c =
     c.dims-dims.ensures.size in
     record {
       desk = visit_desk _ _ _ _ _ _ c.loop-i.invariant.desk here c.visit.ensures.deeds;
-      most = ticks_more _ _ _ _ _ _ _ _ c.loop-i.invariant.desk here c.loop-i.invariant.most
-          c.visit.ensures.ticks;
+      most = steps_more _ _ _ _ _ _ _ _ c.loop-i.invariant.desk here c.loop-i.invariant.most
+          c.visit.ensures.steps;
       least = omega (arith, c.loop-i.invariant.least, c.visit.ensures.later);
     }
 
@@ -51,7 +51,7 @@ returns-clause-framed g c =
     c.loop-i.invariant.desk
 
 pub returns-clause-most : goal.returns-clause-most
-returns-clause-most g c = ticks_all _ _ _ _ _ (visited g c) c.loop-i.invariant.most
+returns-clause-most g c = steps_all _ _ _ _ _ (visited g c) c.loop-i.invariant.most
 
 pub returns-clause-least : goal.returns-clause-least
 returns-clause-least g c = omega (arith, c.loop-i.invariant.least, visited g c)

@@ -1,5 +1,5 @@
 use Rattle.std.proofs.Common.{◌≡◌, ◌+◌, ◌*◌, ◌≤◌}
-use Rattle.orca_base.specs.declared.limits.TheConstants.{MAX_TICKS}
+use Rattle.orca_base.specs.declared.limits.TheConstants.{MAX_STEPS}
 use Rattle.orca_op.specs.Desk.{residue}
 use Rattle.orca_op.specs.Scan.{busy_of}
 use Rattle.orca_op.specs.State.{sheet_of}
@@ -12,7 +12,7 @@ invariant-loop-i g l =
     let old = g.B.Bench.desk l.fn.bench in
     record {
       desk : g.B.Bench.desk l.bench ≡ desk_after_places l.i (sheet_of old.scan) l.now;
-      most : l.steps ≤ l.fn.steps + 1 + residue old + looks * l.i + MAX_TICKS * busy_of l.i
+      most : l.steps ≤ l.fn.steps + 1 + residue old + looks * l.i + MAX_STEPS * busy_of l.i
           (sheet_of old.scan) l.now;
       least : l.fn.steps + 1 + residue old + l.i ≤ l.steps;
     }

@@ -3,7 +3,7 @@ use Rattle.orca_base.specs.Grids.{Size, cells_of}
 use Rattle.orca_op.specs.Rules.{rule}
 use Rattle.orca_frame.proofs.CoveringLemmas.{covering}
 use Rattle.orca_frame.proofs.FrameLemmas.{framed}
-use Rattle.orca_frame.proofs.SkipLemmas.{ticks_of_rows}
+use Rattle.orca_frame.proofs.SkipLemmas.{steps_of_rows}
 use Rattle.orca_frame.proofs.sparse.frame.Given as given
 use Rattle.orca_frame.proofs.sparse.frame.Goals as goal
 use Rattle.orca_frame.proofs.sparse.frame.Goals.{After-loop-row}
@@ -28,7 +28,7 @@ returns-clause-framed g c =
     framed _ _ _ _ c.dims-dims.ensures.desk c.table_laws.ensures all c.loop-row.invariant.reached
 
 pub returns-clause-most : goal.returns-clause-most
-returns-clause-most g c = ticks_of_rows _ _ _ _ _ (walked g c) c.loop-row.invariant.most
+returns-clause-most g c = steps_of_rows _ _ _ _ _ (walked g c) c.loop-row.invariant.most
 
 pub returns-clause-covering : goal.returns-clause-covering
 returns-clause-covering g c = covering rule c.table_laws.ensures

@@ -1,5 +1,5 @@
 use Rattle.std.proofs.Common.{◌≡◌, ◌+◌, ◌*◌, ◌≤◌}
-use Rattle.orca_base.specs.declared.limits.TheConstants.{MAX_VISIT_TICKS}
+use Rattle.orca_base.specs.declared.limits.TheConstants.{MAX_VISIT_STEPS}
 use Rattle.orca_op.specs.Desk.{residue}
 use Rattle.orca_op.specs.Scan.{busy_of}
 use Rattle.orca_op.specs.State.{sheet_of}
@@ -13,7 +13,7 @@ invariant-loop-row g l =
     let sheet = sheet_of old.scan in
     record {
       reached : g.B.Bench.desk l.board ≡ desk_after_places (l.row * sheet.dims.w) sheet l.now;
-      most : l.steps ≤ l.fn.steps + 1 + residue old + l.row + MAX_VISIT_TICKS * busy_of
+      most : l.steps ≤ l.fn.steps + 1 + residue old + l.row + MAX_VISIT_STEPS * busy_of
           (l.row * sheet.dims.w) sheet l.now;
       least : l.fn.steps + 1 + l.row ≤ l.steps;
     }

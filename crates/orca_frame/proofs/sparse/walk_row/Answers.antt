@@ -23,8 +23,8 @@ loop-found-init g c =
       reached = passed.0;
       live = live_of (g.B.Bench.desk c.args.board.now).scan _ _ _ c.next-found.ensures.found;
       behind = c.next-found.ensures.behind;
-      most = omega (arith, c.next-found.ensures.ticks, rw (← start) at passed.1);
-      least = omega (arith, c.next-found.ensures.ticks);
+      most = omega (arith, c.next-found.ensures.steps, rw (← start) at passed.1);
+      least = omega (arith, c.next-found.ensures.steps);
     }
 
 pub visit_operator-requires-clause-inside : goal.visit_operator-requires-clause-inside
@@ -82,8 +82,8 @@ loop-found-preserved g c =
       most = omega (
         arith,
         rw c.in-Some.is at c.loop-found.invariant.most,
-        c.visit_operator.ensures.ticks,
-        c.next-found-in-Some.ensures.ticks,
+        c.visit_operator.ensures.steps,
+        c.next-found-in-Some.ensures.steps,
         after.busy,
         passed.1,
       );
@@ -91,6 +91,6 @@ loop-found-preserved g c =
         arith,
         c.loop-found.invariant.least,
         c.visit_operator.ensures.later,
-        c.next-found-in-Some.ensures.ticks,
+        c.next-found-in-Some.ensures.steps,
       );
     }

@@ -1,6 +1,6 @@
 use Rattle.std.proofs.Common.{◌≡◌, ◌+◌, ◌-◌, ◌*◌, ◌≤◌}
 use Rattle.std.specs.Prelude.{IfSome, IsTrue, unwrap_or}
-use Rattle.orca_base.specs.declared.limits.TheConstants.{MAX_VISIT_TICKS}
+use Rattle.orca_base.specs.declared.limits.TheConstants.{MAX_VISIT_STEPS}
 use Rattle.orca_op.specs.Live.{is_live}
 use Rattle.orca_op.specs.Scan.{busy_of}
 use Rattle.orca_frame.specs.Frames.{desk_after_places}
@@ -16,8 +16,8 @@ invariant-loop-found g l =
       reached : desk ≡ desk_after_places (start + unwrap_or l.found sheet.dims.w) sheet l.now;
       live : IfSome l.found (λ x. IsTrue (is_live desk.scan l.row x));
       behind : IfSome l.found (λ x. l.cursor ≡ x + 1);
-      most : l.steps + MAX_VISIT_TICKS * busy_of start sheet l.now ≤ l.fn.steps + 1
-          + MAX_VISIT_TICKS * busy_of (start + unwrap_or l.found sheet.dims.w) sheet l.now;
+      most : l.steps + MAX_VISIT_STEPS * busy_of start sheet l.now ≤ l.fn.steps + 1
+          + MAX_VISIT_STEPS * busy_of (start + unwrap_or l.found sheet.dims.w) sheet l.now;
       least : l.fn.steps + 1 ≤ l.steps;
     }
 

@@ -25,7 +25,7 @@ returns-clause-price g c = λ p sheet tick seed. elim c.match-entry.branch [
             c.args.steps.now w.apply.new.steps
             (is-edit c.args.entry.now w.in_default.not-Reset w.in_default.not-Frame
             w.in_default.not-Hush)
-            c.requires.fits sheet w.apply.ensures.ticks
+            c.requires.fits sheet w.apply.ensures.steps
             w.apply.ensures.residue,
         ap residue w.board-is,
         w.steps-is,

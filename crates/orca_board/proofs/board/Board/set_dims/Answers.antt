@@ -4,4 +4,4 @@ use Rattle.orca_board.proofs.board.Board.set_dims.Goals as goal
 pub returns-clause-residue : goal.returns-clause-residue
 returns-clause-residue g c =
     rw (← c.self.view_is) (residue-resized _ _ c.args.dims _ _ c.set_dims.ensures.desk
-    c.set_dims.ensures.ticks)
+    c.set_dims.ensures.steps)

@@ -131,8 +131,8 @@ returns-clause-desk g c =
     (sheeted d.scan b (sheet_after_resize (sheet_by d.scan.dims (left_glyph d b)) b).cells d.began
     c.dims-began.ensures)))
 
-pub returns-clause-ticks : goal.returns-clause-ticks
-returns-clause-ticks g c =
+pub returns-clause-steps : goal.returns-clause-steps
+returns-clause-steps g c =
     let d : Desk = desk_of c.self.inside in
     let e : Desk = desk_of c.self-2.inside in
     let b : Size = c.dims-began.result in
@@ -172,9 +172,9 @@ returns-clause-ticks g c =
     (places_in (whole d.scan.dims)))))) in
     rw (← c.self.view_is) (omega (
       arith,
-      c.restore.ensures.ticks,
+      c.restore.ensures.steps,
       many,
       rw
           c.dims-began.ensures at
-          c.cut.ensures.ticks,
+          c.cut.ensures.steps,
     ))

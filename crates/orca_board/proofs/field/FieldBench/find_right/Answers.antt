@@ -68,7 +68,7 @@ loop-column-init g c =
         width,
         c.from.ensures,
       );
-      ticks = c.skip_groups-start.ensures.ticks;
+      steps = c.skip_groups-start.ensures.steps;
     }
 
 pub loop-column-preserved : goal.loop-column-preserved
@@ -105,7 +105,7 @@ loop-column-preserved g c =
       ];
       low = omega arith;
       few = omega (arith, c.loop-column-test.true, c.min-end.ensures, width, c.from.ensures);
-      ticks = omega (arith, c.loop-column.invariant.ticks, c.tick.ensures);
+      steps = omega (arith, c.loop-column.invariant.steps, c.count_one.ensures);
     }
 
 pub returns-clause-first : goal.returns-clause-first

@@ -10,5 +10,5 @@ invariant-loop-column g l = record {
   none : (k : ℕ) → 1 ≤ k → k < l.column → (peek l.self.scan (right l.fn.at k) == l.byte) ≡ false;
   low : 1 ≤ l.column;
   few : l.column ≤ l.reach + 1;
-  ticks : l.steps + 1 ≡ l.fn.steps + l.column;
+  steps : l.steps + 1 ≡ l.fn.steps + l.column;
 }

@@ -5,7 +5,7 @@ use Rattle.orca_base.specs.Glyphs.{empty, is_operator}
 use Rattle.orca_base.specs.Grids.{Size, Sheet, IsSheet, cells_of}
 use Rattle.orca_grid.specs.BlankGrid.{blank_sheet}
 use Rattle.orca_op.specs.Desk.{Desk, desk_of_sheet}
-use Rattle.orca_frame.specs.Frames.{IsFramed, most_ticks}
+use Rattle.orca_frame.specs.Frames.{IsFramed, most_steps}
 use Rattle.orca_frame.specs.Skips.{IsInert, IsAtRest}
 use Rattle.orca_cases.proofs.scans.tests.play_dots.Goals as goal
 
@@ -46,17 +46,17 @@ same_after old new law is framed =
     let played = subst (λ (d : Desk). IsFramed d new first) is framed in
     (at_rest old new law is framed).same new played ∙ sym is
 
--- the most ticks that it takes
+-- the most steps that it takes
 most_after : (old new : Desk) → Law → old ≡ desk_of_sheet dots → IsFramed old new first
-    → most_ticks old first ≡ dots.dims.h + 1
+    → most_steps old first ≡ dots.dims.h + 1
 most_after old new law is framed =
-    ap (λ (d : Desk). most_ticks d first) is ∙ (at_rest old new law is framed).ticks
+    ap (λ (d : Desk). most_steps d first) is ∙ (at_rest old new law is framed).steps
 
 pub returns-clause-same : goal.returns-clause-same
 returns-clause-same g c = same_after _ _ c.rest_law.ensures c.requires c.frame.ensures.framed
 
-pub returns-clause-ticks : goal.returns-clause-ticks
-returns-clause-ticks g c =
+pub returns-clause-steps : goal.returns-clause-steps
+returns-clause-steps g c =
     let most = most_after _ _ c.rest_law.ensures c.requires c.frame.ensures.framed in
     let rows = ap (λ (d : Desk). d.scan.dims.h) c.requires in
     omega (arith, most, rows, c.frame.ensures.most, c.frame.ensures.least)

@@ -10,5 +10,5 @@ invariant-loop-column g l = record {
   none : (k : ℕ) → 1 ≤ k → k < l.column
       → (peek (g.Self.Bench.desk l.self).scan (right l.at k) == l.byte) ≡ false;
   few : l.column ≤ l.reach + 1;
-  ticks : l.steps + 1 ≡ l.initial.steps + l.column;
+  steps : l.steps + 1 ≡ l.initial.steps + l.column;
 }

@@ -7,5 +7,5 @@ unfolding Rattle.orca_op.specs.Deeds.after
 loop-i-preserved g c = record {
   deeds = rw desk_after_all-each_more (search rules);
   room = λ before. rw c.mark.ensures.deed (c.loop-i.invariant.room before);
-  ticks = omega arith;
+  steps = omega arith;
 }

@@ -9,5 +9,5 @@ invariant-loop-i g l = record {
   deeds : g.Self.Bench.desk l.self ≡ desk_after_all (g.Self.Bench.desk l.initial.self)
       (span_deeds l.at l.span.y l.span.x l.i l.marks);
   room : HasRoom (g.Self.Bench.desk l.initial.self) → HasRoom (g.Self.Bench.desk l.self);
-  ticks : l.steps ≡ l.initial.steps + l.i;
+  steps : l.steps ≡ l.initial.steps + l.i;
 }

@@ -13,7 +13,7 @@ use Rattle.orca_patch.proofs.patch.Patch.undo_on.Goals as goal
 pub loop-change-init : goal.loop-change-init
 loop-change-init g c = record {
   desk = c.set_dims.ensures.desk;
-  ticks = omega (arith, c.set_dims.ensures.ticks);
+  steps = omega (arith, c.set_dims.ensures.steps);
 }
 
 pub loop-change-preserved : goal.loop-change-preserved
@@ -23,7 +23,7 @@ loop-change-preserved g c =
       desk = step _ _ _ _ c.loop-change.change-index c.change-item.result _
           (rw items at c.loop-change-test.true) (rw items at c.change-item.is)
           c.loop-change.invariant.desk c.here.ensures c.write.ensures.deed;
-      ticks = omega (arith, c.loop-change.invariant.ticks, c.write.ensures.ticks);
+      steps = omega (arith, c.loop-change.invariant.steps, c.write.ensures.steps);
     }
 
 -- the board is the one before
@@ -48,36 +48,36 @@ returns-clause-inverse g c d tick desk patch now =
     ∙ (ap (sheet_before (before_of d tick)) now ∙ sheet-back d tick desk))
 
 -- once for each place that is cut off, and once for each change
-ticks : (g : Over) (c : goal.After-loop-change g) → c.loop-change.steps
+steps : (g : Over) (c : goal.After-loop-change g) → c.loop-change.steps
     ≡ c.args.steps.now + length (cut_places c.args.board.now.scan.dims c.args.self.now.dims)
     + length c.args.self.now.changes
-ticks g c =
+steps g c =
     rw (← c.self.view_is)
     (omega (
       arith,
-      c.loop-change.invariant.ticks,
+      c.loop-change.invariant.steps,
       ap (λ (changes : List Change). length changes) c.as_slice-change-items.ensures,
     ))
 
-pub returns-clause-ticks : goal.returns-clause-ticks
-returns-clause-ticks g c = ticks g c
+pub returns-clause-steps : goal.returns-clause-steps
+returns-clause-steps g c = steps g c
 
 pub returns-clause-same_size : goal.returns-clause-same_size
 returns-clause-same_size g c same =
     let none : length (cut_places c.args.board.now.scan.dims c.args.self.now.dims) ≡ 0 =
     rw (← same) (ap (λ (places : List Place). length places)
     (cut_places-same c.args.board.now.scan.dims)) in
-    omega (arith, ticks g c, none)
+    omega (arith, steps g c, none)
 
-pub returns-clause-few_ticks : goal.returns-clause-few_ticks
-returns-clause-few_ticks g c =
+pub returns-clause-few_steps : goal.returns-clause-few_steps
+returns-clause-few_steps g c =
     omega (
       arith,
-      ticks g c,
+      steps g c,
       length-cut_places c.args.board.now.scan.dims c.args.self.now.dims,
     )
 
 pub returns-clause-residue : goal.returns-clause-residue
 returns-clause-residue g c =
     rw (left g c)
-    (omega (arith, ticks g c, residue-desk_before c.args.self.now c.args.board.now))
+    (omega (arith, steps g c, residue-desk_before c.args.self.now c.args.board.now))

@@ -9,6 +9,6 @@ abbrev pub invariant-loop-change : goal.invariant-loop-change
 invariant-loop-change g l = record {
   desk : l.board ≡ desk_after_all (desk_after_resize l.fn.board l.self-inside.dims)
       (writes_of (take l.change-index l.self-inside.changes.items));
-  ticks : l.steps ≡ l.fn.steps
+  steps : l.steps ≡ l.fn.steps
       + length (cut_places l.fn.board.scan.dims l.self-inside.dims) + l.change-index;
 }

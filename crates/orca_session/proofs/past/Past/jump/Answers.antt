@@ -6,7 +6,7 @@ use Rattle.orca_op.specs.State.{sheet_of}
 use Rattle.orca_patch.specs.Patches.{Before, no_change}
 use Rattle.orca_session.specs.Past.{IsPast, PastState, Undoes, moment_of, numbers_of, past_jumped, plain, present}
 use Rattle.orca_session.specs.Views.{past_of}
-use Rattle.orca_session.proofs.BillLemmas.{due-jumped, kept-jumped, numbers-jumped, ticks-jumped}
+use Rattle.orca_session.proofs.BillLemmas.{due-jumped, kept-jumped, numbers-jumped, steps-jumped}
 use Rattle.orca_session.proofs.JumpLemmas.{IsPast-jumped, jumped-parts, present-jumped}
 use Rattle.orca_session.proofs.PastLemmas.{undoes-nothing}
 use Rattle.orca_session.proofs.past.Past.jump.Given.{Over}
@@ -92,13 +92,13 @@ returns-clause-numbers g c =
     c.keep_due.new.checkpoints c.drop_above.new.self _ c.self.invariant (within g c)
     c.drop_above.ensures c.keep_due.ensures.all c.keep_due.ensures.points))
 
-pub returns-clause-ticks : goal.returns-clause-ticks
-returns-clause-ticks g c =
+pub returns-clause-steps : goal.returns-clause-steps
+returns-clause-steps g c =
     rw (← c.self.view_is)
     (subst (λ (q : PastState). c.keep_due.new.steps
     ≤ c.args.steps.now + new_cells (past_of c.self.inside).points.spacing (plain q))
     (sym (parts g c))
-    (ticks-jumped (past_of c.self.inside) c.args.moment c.empty-patch.result
+    (steps-jumped (past_of c.self.inside) c.args.moment c.empty-patch.result
     c.keep_due.new.checkpoints c.drop_above.new.self (sheet_of c.args.board.now.scan)
     c.args.steps.now c.keep_due.new.steps (within g c) c.drop_above.ensures (sheet g c)
-    c.keep_due.ensures.ticks))
+    c.keep_due.ensures.steps))

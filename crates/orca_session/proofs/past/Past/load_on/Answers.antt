@@ -70,5 +70,5 @@ returns-clause-price g c =
     (c.best-best.ensures.moment
     ∙ ap (λ (q : PastState). best_of q.points c.args.moment * q.points.spacing) c.self.view_is)
     (omega (arith, c.loop-at-test.false, c.loop-at.auto.at-end, c.best-best.ensures.before))
-    c.requires.sheet c.load.ensures.ticks
+    c.requires.sheet c.load.ensures.steps
     (omega (arith, c.loop-at.invariant.price, c.load.ensures.clear))

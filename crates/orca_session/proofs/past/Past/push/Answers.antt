@@ -13,6 +13,6 @@ returns-then-is_err-clause-paid g c =
       pays-back c.args.board.now c.revert.new.self c.args.dims c.push_changes-pushed.new.steps
           c.revert.new.steps c.revert.ensures.desk
           (ap (λ (s : Sheet). s.dims) c.requires.began ∙ sym c.requires.size)
-          c.revert.ensures.ticks,
+          c.revert.ensures.steps,
     ))
     c.push_changes-pushed.ensures.idle

@@ -15,7 +15,7 @@ use Rattle.orca_history.specs.declared.ring.Kept.{Kept}
 use Rattle.orca_history.specs.Trails.{IsTrail, Trail}
 use Rattle.orca_session.specs.Past.{IsPast, PastState, Undoes, numbers_of, past_pushed, plain, present, touched_by}
 use Rattle.orca_session.specs.Views.{past_of}
-use Rattle.orca_session.proofs.BillLemmas.{due-pushed, kept-pushed, numbers-pushed, ticks-pushed, touched-is}
+use Rattle.orca_session.proofs.BillLemmas.{due-pushed, kept-pushed, numbers-pushed, steps-pushed, touched-is}
 use Rattle.orca_session.proofs.PastLemmas.{changes-parts, tick-present, undoes-changes}
 use Rattle.orca_session.proofs.PushLemmas.{IsPast-pushed, present-pushed, pushed-parts}
 use Rattle.orca_session.proofs.past.Past.push_changes.Given.{Over}
@@ -165,12 +165,12 @@ returns-clause-numbers g c =
     c.len-len.result c.self.invariant (touches g c) (long g c) c.keep_due.ensures.all
     c.keep_due.ensures.points))
 
-pub returns-clause-ticks : goal.returns-clause-ticks
-returns-clause-ticks g c =
+pub returns-clause-steps : goal.returns-clause-steps
+returns-clause-steps g c =
     rw (← c.self.view_is)
     (subst (λ (q : PastState). c.keep_due.new.steps
     ≤ c.args.steps.now + new_cells (past_of c.self.inside).points.spacing (plain q))
     (sym (parts g c))
-    (ticks-pushed (past_of c.self.inside) c.args.entry (newest g c) c.keep_due.new.checkpoints
+    (steps-pushed (past_of c.self.inside) c.args.entry (newest g c) c.keep_due.new.checkpoints
     (sheet_of c.args.board.now.scan) c.len-len.result c.args.steps.now c.keep_due.new.steps
-    (long g c) (sheet g c) c.keep_due.ensures.ticks))
+    (long g c) (sheet g c) c.keep_due.ensures.steps))

@@ -129,7 +129,7 @@ loop-at-preserved g c =
             back-cells p c.loop-at.at (c.len-len.result + c.loop-at.at) inside.checkpoints
                 (sheet_of c.do_again-tick.new.board.scan) c.do_again-tick.new.steps
                 c.keep_due.new.steps past c.loop-at.invariant.points long
-                (after ∙ sym (ap (λ (x : Point). x.sheet) point)) c.keep_due.ensures.ticks,
+                (after ∙ sym (ap (λ (x : Point). x.sheet) point)) c.keep_due.ensures.steps,
           ));
     }
 
@@ -308,5 +308,5 @@ returns-clause-price g c =
       back-cells p (group_of p.trail.tail) (c.len-len.result + c.group-group.result)
           c.loop-at.self-inside.checkpoints (sheet_of c.loop-at.board.scan) c.loop-at.steps
           c.keep_due-2.new.steps (past g c) (way g c) (long g c)
-          (sheet g c ∙ sym (ap (λ (x : Point). x.sheet) (point g c))) c.keep_due-2.ensures.ticks,
+          (sheet g c ∙ sym (ap (λ (x : Point). x.sheet) (point g c))) c.keep_due-2.ensures.steps,
     )))

@@ -45,6 +45,6 @@ loop-at-preserved g c =
         pays-undo c.args.self.now c.loop-at.at c.unwrap.result.now c.loop-at.board
             c.undo_on-tick.new.board c.loop-at.steps c.undo_on-tick.new.steps undoes
             (omega (arith, c.loop-at-test.true)) c.loop-at.invariant.within
-            c.loop-at.invariant.sheet c.undo_on-tick.ensures.ticks c.undo_on-tick.ensures.residue,
+            c.loop-at.invariant.sheet c.undo_on-tick.ensures.steps c.undo_on-tick.ensures.residue,
       );
     }

@@ -35,18 +35,18 @@ returns-clause-paid g c =
     let begun = begun-clear c.listing_law.ensures.begin c.self.inside.board c.begin.new.self
     p.sheet c.begin.ensures.desk c.self.invariant.grid in
     on-both c.push.result
-    (λ ticks board. omega (
+    (λ steps board. omega (
       arith,
-      ticks,
+      steps,
       ap residue board,
       pays-change c.touch_law.ensures.pays p c.args.entry c.self.inside.board c.begin.new.self
           c.apply.new.board c.args.steps.now c.begin.new.steps c.apply.new.steps c.requires.edit
           (subst (λ (s : SessionState). FitsIn (piece_of s.machine).sheet.dims c.args.entry)
           (sym c.self.view_is) c.requires.fits)
-          begun.0 begun.1 c.begin.ensures.ticks c.apply.ensures.ticks c.apply.ensures.residue,
+          begun.0 begun.1 c.begin.ensures.steps c.apply.ensures.steps c.apply.ensures.residue,
       new-plain c.push.new.self c.self.inside.clip c.self.inside.past.points.spacing,
     ))
-    c.push.ensures.ticks c.push.ensures.board)
+    c.push.ensures.steps c.push.ensures.board)
 
 pub returns-clause-refused : goal.returns-clause-refused
 returns-clause-refused g c =
@@ -60,7 +60,7 @@ returns-clause-refused g c =
     c.args.steps.now c.begin.new.steps c.apply.new.steps c.push.new.steps c.requires.edit
     (subst (λ (s : SessionState). FitsIn (piece_of s.machine).sheet.dims c.args.entry)
     (sym c.self.view_is) c.requires.fits)
-    begun.0 begun.1 c.begin.ensures.ticks c.apply.ensures.ticks c.apply.ensures.residue
+    begun.0 begun.1 c.begin.ensures.steps c.apply.ensures.steps c.apply.ensures.residue
     (c.apply.ensures.sheet p (sym (ap (λ (d : Desk). sheet_of d.scan) begun.0)))
     (c.dims-dims.ensures.size ∙ ap (λ (s : Sheet). s.dims) c.self.invariant.grid) paid)
     c.push.ensures.paid)

@@ -25,7 +25,7 @@ returns-clause-price g c =
     (omega (
       arith,
       c.go_back-tick.ensures.price,
-      c.jump.ensures.ticks,
+      c.jump.ensures.steps,
       jump-plain c.self.inside.past c.self.inside.clip (numbers_of c.self.inside.past)
           c.args.moment,
       new-plain c.jump.new.self c.self.inside.clip c.self.inside.past.points.spacing,

@@ -100,7 +100,7 @@ returns-clause-price g c =
           c.args.steps.now c.frame.new.steps c.frame.ensures.framed c.frame.ensures.most
           (sym c.self.invariant.grid) (sym c.self.invariant.next) (sym c.seed.ensures),
       entry-frame m,
-      c.in-Ok.ensures.ticks,
+      c.in-Ok.ensures.steps,
       ap residue c.in-Ok.ensures.board,
       new-plain c.push-pushed.new.self c.self.inside.clip c.self.inside.past.points.spacing,
     )))

@@ -73,9 +73,9 @@ returns-clause-price g c =
       arith,
       (begun-clear c.listing_law.ensures.begin c.self.inside.board c.begin.new.self
           (present c.self.inside.past).sheet c.begin.ensures.desk c.self.invariant.grid).1,
-      c.begin.ensures.ticks,
+      c.begin.ensures.steps,
       entry-reset m,
-      c.in-Ok.ensures.ticks,
+      c.in-Ok.ensures.steps,
       ap residue c.in-Ok.ensures.board,
       new-plain c.push-pushed.new.self c.self.inside.clip c.self.inside.past.points.spacing,
     )))
@@ -98,7 +98,7 @@ returns-in_default-clause-price g c =
     omega (
       arith,
       begun.1,
-      c.begin.ensures.ticks,
+      c.begin.ensures.steps,
       entry-reset m,
       charge-memory m (numbers_of c.self.inside.past) command.Reset,
       c.in_default.ensures.paid,

@@ -16,7 +16,7 @@ returns-clause-price g c =
       pays-back c.frame.new.board c.revert.new.self (present c.self.inside.past).sheet.dims
           c.frame.new.steps c.revert.new.steps c.revert.ensures.desk
           (ap (λ (s : Sheet). s.dims) (c.frame.ensures.framed.began ∙ c.self.invariant.grid))
-          c.revert.ensures.ticks,
+          c.revert.ensures.steps,
       cut-kept c.touch_law.ensures.both (present c.self.inside.past) c.frame.new.board.scan.dims
           (present c.self.inside.past).sheet.dims
           (c.frame.ensures.framed.size ∙ ap (λ (s : Sheet). s.dims) c.self.invariant.grid) refl,

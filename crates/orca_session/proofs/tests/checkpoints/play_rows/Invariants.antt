@@ -5,5 +5,5 @@ use Rattle.orca_session.proofs.tests.checkpoints.play_rows.Given as goal
 abbrev pub invariant-loop-tick : goal.invariant-loop-tick
 invariant-loop-tick g l = record {
   rows : l.board.scan.dims.h ≡ 256;
-  ticks : l.initial.steps + 257 * l.tick ≤ l.steps;
+  steps : l.initial.steps + 257 * l.tick ≤ l.steps;
 }

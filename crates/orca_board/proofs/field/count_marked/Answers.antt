@@ -4,8 +4,8 @@ use Rattle.orca_base.specs.Grids.{by_place, cells_of, place_of}
 use Rattle.orca_base.specs.MarkSet.{MarkSet, is_marked}
 use Rattle.orca_board.specs.Board.{marks_in}
 use Rattle.orca_board.proofs.LargestLemmas.{counted_all, counted_no, counted_yes}
-use Rattle.orca_board.proofs.field.tick_marked.Goals as goal
-use Rattle.orca_board.proofs.field.tick_marked.Goals.{then-not-is_empty, else-not-is_empty}
+use Rattle.orca_board.proofs.field.count_marked.Goals as goal
+use Rattle.orca_board.proofs.field.count_marked.Goals.{then-not-is_empty, else-not-is_empty}
 
 flip_false : (b c : Bool) → b ≡ not c → b ≡ false → c ≡ true
 flip_false b true is none = refl
@@ -24,7 +24,7 @@ loop-n-preserved g c =
       | then-not-is_empty w ↦
           let more = counted_yes c.args.dims c.args.marks.now c.loop-n.n (omega arith)
           (sym here ∙ flip_false _ _ c.is_empty.ensures w.if-not-is_empty.true) in
-          omega (arith, more, w.steps-is, w.tick.ensures, c.loop-n.invariant)
+          omega (arith, more, w.steps-is, w.count_one.ensures, c.loop-n.invariant)
       | else-not-is_empty w ↦
           let same = counted_no c.args.dims c.args.marks.now c.loop-n.n (omega arith)
           (sym here ∙ flip_true _ _ c.is_empty.ensures w.if-not-is_empty.false) in
