@@ -8,7 +8,7 @@ use Rattle.orca_base.specs.Ports.{Sent}
 use Rattle.orca_term.specs.Picture.{IsPrintable}
 use Rattle.orca_term.specs.declared.cell.Cell.{Cell}
 use Rattle.orca_rig.specs.Arrived.{Log, Poll, after_listen, after_poll}
-use Rattle.orca_rig.specs.declared.outs.SendFault.TheVariants.{Memory}
+use Rattle.orca_rig.specs.declared.fault.OutsideFault.TheVariants.{Memory}
 use Rattle.orca_rig.specs.Outside.{Contents, Rose}
 use Rattle.orca_course.specs.Acts.{Act, asked_in, attached_in, ended_after, given, log_after, lost_after}
 use Rattle.orca_course.specs.Acts.Act.{Await, Give, Load, Obey, Save, Show, Stand}

@@ -9,7 +9,7 @@ use Rattle.orca_base.specs.declared.limits.TheConstants.{MAX_FILE_BYTES}
 use Rattle.orca_base.specs.Ports.{Sent}
 use Rattle.orca_rig.specs.Arrived.{Log}
 use Rattle.orca_rig.specs.declared.inbox.Answer.{Answer}
-use Rattle.orca_rig.specs.Asked.{OthersStay}
+use Rattle.orca_rig.specs.Saved.{OthersStay}
 use Rattle.orca_rig.specs.Handed.{Attached}
 use Rattle.orca_rig.specs.Outside.{Ask, Contents, Rose}
 use Rattle.orca_course.specs.Acts.{Act, ArePrintable, asked_in, attached_in, ended_after, given, log_after, lost_after}

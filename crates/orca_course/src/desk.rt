@@ -14,7 +14,7 @@ use orca_base::limits::ARRIVAL_BYTES;
 use orca_base::{Command, Fault, Port, Reply, Steps};
 use orca_edit::Machine;
 use orca_notes::Messages;
-use orca_rig::{Answer, Files, Inbox, Outs, SendFault, StoreFault};
+use orca_rig::{Answer, Files, Inbox, Outs, OutsideFault};
 use std::alloc::Global;
 use std::marker::Model;
 use std::sync::ledger::Ledger;
@@ -152,11 +152,11 @@ impl<F: Files + Drop, O: Outs + Drop, I: Inbox + Drop, L: Ledger> Desk<F, O, I, 
     {
         match self.outs.attach(port, name) {
             Ok(()) => Ok(()),
-            Err(SendFault::Failed) => {
+            Err(OutsideFault::Failed) => {
                 self.failed = true;
                 Ok(())
             }
-            Err(SendFault::Memory) => Err(NoMemory::InSend),
+            Err(OutsideFault::Memory) => Err(NoMemory::InSend),
         }
     }
 
@@ -168,11 +168,11 @@ impl<F: Files + Drop, O: Outs + Drop, I: Inbox + Drop, L: Ledger> Desk<F, O, I, 
     {
         match self.outs.send(port, bytes) {
             Ok(()) => Ok(()),
-            Err(SendFault::Failed) => {
+            Err(OutsideFault::Failed) => {
                 self.failed = true;
                 Ok(())
             }
-            Err(SendFault::Memory) => Err(NoMemory::InSend),
+            Err(OutsideFault::Memory) => Err(NoMemory::InSend),
         }
     }
 
@@ -184,11 +184,11 @@ impl<F: Files + Drop, O: Outs + Drop, I: Inbox + Drop, L: Ledger> Desk<F, O, I, 
         let mut text = Vec::new(alloc);
         match self.files.load(name, &mut text) {
             Ok(()) => Ok(Some(text)),
-            Err(StoreFault::Failed) => {
+            Err(OutsideFault::Failed) => {
                 self.unstored = true;
                 Ok(None)
             }
-            Err(StoreFault::Memory) => Err(NoMemory::Elsewhere),
+            Err(OutsideFault::Memory) => Err(NoMemory::Elsewhere),
         }
     }
 
@@ -198,11 +198,11 @@ impl<F: Files + Drop, O: Outs + Drop, I: Inbox + Drop, L: Ledger> Desk<F, O, I, 
     {
         match self.files.save(name, bytes) {
             Ok(()) => Ok(()),
-            Err(StoreFault::Failed) => {
+            Err(OutsideFault::Failed) => {
                 self.unstored = true;
                 Ok(())
             }
-            Err(StoreFault::Memory) => Err(NoMemory::Elsewhere),
+            Err(OutsideFault::Memory) => Err(NoMemory::Elsewhere),
         }
     }
 
@@ -216,11 +216,11 @@ impl<F: Files + Drop, O: Outs + Drop, I: Inbox + Drop, L: Ledger> Desk<F, O, I, 
     {
         match self.inbox.listen_hands(name, hands) {
             Ok(at) => Ok(Some(at)),
-            Err(SendFault::Failed) => {
+            Err(OutsideFault::Failed) => {
                 self.lost = true;
                 Ok(None)
             }
-            Err(SendFault::Memory) => Err(NoMemory::Elsewhere),
+            Err(OutsideFault::Memory) => Err(NoMemory::Elsewhere),
         }
     }
 

@@ -6,7 +6,7 @@ ghost use Rattle.orca_rig.specs.Outside.{Rose};
 use crate::Status;
 use orca_base::{Port, Steps};
 use orca_course::Desk;
-use orca_rig::{MemFiles, MemInbox, MemOuts, Outs, SendFault, names_differ};
+use orca_rig::{MemFiles, MemInbox, MemOuts, Outs, OutsideFault, names_differ};
 use std::alloc::Global;
 use std::marker::Brand;
 use std::process::Abort;
@@ -24,16 +24,16 @@ struct Tight {
 
 impl Tight {
     /// Counts that memory was refused.
-    fn count(&mut self, done: Result<(), SendFault>) -> Result<(), SendFault>
+    fn count(&mut self, done: Result<(), OutsideFault>) -> Result<(), OutsideFault>
         ensures same { result ≡ done }
         ensures kept { self.new.kept ≡ self.old.kept }
         ensures grows { self.old.refused ≤ self.new.refused }
-        ensures wanted { IsErrOf done SendFault.Memory → Rose self.old.refused self.new.refused }
+        ensures wanted { IsErrOf done OutsideFault.Memory → Rose self.old.refused self.new.refused }
         ensures sated { OnOk done (self.new.refused ≡ self.old.refused) }
-        ensures sated_failed { IsErrOf done SendFault.Failed
+        ensures sated_failed { IsErrOf done OutsideFault.Failed
             → self.new.refused ≡ self.old.refused }
     {
-        if done == Err(SendFault::Memory) {
+        if done == Err(OutsideFault::Memory) {
             self.refused = self.refused.saturating_add(1);
         }
         done
@@ -51,15 +51,15 @@ impl Outs for Tight {
 
     ghost wants = { λ o. o.refused };
 
-    fn attach(&mut self, port: Port, name: &str) -> Result<(), SendFault> {
+    fn attach(&mut self, port: Port, name: &str) -> Result<(), OutsideFault> {
         let done = self.kept.attach(port, name);
         self.count(done)
     }
 
-    fn send(&mut self, port: Port, bytes: &[u8]) -> Result<(), SendFault> {
+    fn send(&mut self, port: Port, bytes: &[u8]) -> Result<(), OutsideFault> {
         self.sends = self.sends.saturating_add(1);
         if self.sends == self.tight {
-            return self.count(Err(SendFault::Memory));
+            return self.count(Err(OutsideFault::Memory));
         }
         let done = self.kept.send(port, bytes);
         self.count(done)

@@ -3,8 +3,8 @@ use Rattle.std.specs.Prelude.{ℕ, ◌≤◌, Bool, true, false, List, [], ◌�
 use Rattle.orca_base.specs.declared.limits.TheConstants.{ARRIVAL_BYTES}
 use Rattle.orca_rig.specs.declared.inbox.Answer.{Answer}
 use Rattle.orca_rig.specs.declared.inbox.Answer.TheVariants as answer
-use Rattle.orca_rig.specs.declared.outs.SendFault.{SendFault}
-use Rattle.orca_rig.specs.declared.outs.SendFault.TheVariants.{Failed, Memory}
+use Rattle.orca_rig.specs.declared.fault.OutsideFault.{OutsideFault}
+use Rattle.orca_rig.specs.declared.fault.OutsideFault.TheVariants.{Failed, Memory}
 
 -- one poll: the moment that it was asked to wait for, where there was one; the number of sends
 -- before it; its answer; and the bytes that came
@@ -32,7 +32,7 @@ with_listen name hands start log =
     record log { name = Some name; hands = Some hands; start = start }
 
 -- a `listen_hands` that failed has no moment; one for which memory was refused isn't kept
-abbrev pub after_listen : Result ℕ SendFault → List ℕ → ℕ → Log → Log
+abbrev pub after_listen : Result ℕ OutsideFault → List ℕ → ℕ → Log → Log
 after_listen (Ok at) name hands log = with_listen name hands (Some at) log
 after_listen (Err Failed) name hands log = with_listen name hands None log
 after_listen (Err Memory) name hands log = log

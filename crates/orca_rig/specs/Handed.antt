@@ -1,10 +1,7 @@
 -- What the ports were given, and the names that they were attached to.
-use Rattle.std.specs.Prelude.{ℕ, ◌⊎◌, if◌then◌else◌, Bool, List, [], ◌∷◌, ◌++◌, Option, Some, None, Result, Ok, Err}
-use Rattle.std.specs.Option.{option_map}
+use Rattle.std.specs.Prelude.{ℕ, ◌⊎◌, if◌then◌else◌, Bool, List, ◌∷◌, Option, Some, None}
 use Rattle.std.specs.Io.KnownBytes.{Appends, Keeps, append_known}
 use Rattle.orca_base.specs.declared.port.Port.{Port}
-use Rattle.orca_rig.specs.declared.outs.SendFault.{SendFault}
-use Rattle.orca_rig.specs.declared.outs.SendFault.TheVariants.{Failed, Memory}
 use Rattle.orca_rig.specs.declared.sinks.Sink.{Sink}
 use Rattle.orca_rig.specs.declared.sinks.TheConstants.{CANCEL}
 
@@ -12,12 +9,6 @@ use Rattle.orca_rig.specs.declared.sinks.TheConstants.{CANCEL}
 pub record Attached : Type 0 where
   pub port : Port
   pub name : List ℕ
-
--- a call is kept, where the calls are told, unless memory was refused
-abbrev pub after_call : {T A : Type 0} → Result T SendFault → A → Option (List A) → Option (List A)
-after_call (Ok done) call calls = option_map (λ before. before ++ call ∷ []) calls
-after_call (Err Failed) call calls = option_map (λ before. before ++ call ∷ []) calls
-after_call (Err Memory) call calls = calls
 
 -- the bytes that a sink of messages holds, where they are known, and then those that it is owed
 abbrev pub holdings : {W : Type 0} → (W → Option (List ℕ)) → Sink W → Option (List ℕ)

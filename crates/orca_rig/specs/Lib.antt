@@ -1,5 +1,5 @@
 pub mod Outside
-pub mod Asked
+pub mod Saved
 pub mod Handed
 pub mod Arrived
 pub mod InMemory

@@ -1,8 +1,11 @@
--- What the objects of the outside hold, and how they count their faults.
-use Rattle.std.specs.Prelude.{ℕ, ◌^◌, ◌-◌, ◌<◌, ◌≡◌, ◌⊎◌, List}
+-- What the objects of the outside hold, and how they count their faults and keep their calls.
+use Rattle.std.specs.Prelude.{ℕ, ◌^◌, ◌-◌, ◌<◌, ◌≡◌, ◌⊎◌, List, [], ◌∷◌, ◌++◌, Option, Result, Ok, Err}
+use Rattle.std.specs.Option.{option_map}
 use Rattle.std.specs.Ordering.{nat_cmp}
 use Rattle.std.specs.Cmp.Lexicographic.{slice_cmp}
 use Rattle.std.specs.FinMap.{FinMap}
+use Rattle.orca_rig.specs.declared.fault.OutsideFault.{OutsideFault}
+use Rattle.orca_rig.specs.declared.fault.OutsideFault.TheVariants.{Failed, Memory}
 
 -- files: a finite map from names to bytes
 abbrev pub Contents : Type 0
@@ -20,3 +23,10 @@ last_count = 2 ^ 64 - 1
 -- a count rose: it is greater than before, or stands at its last value
 abbrev pub Rose : ℕ → ℕ → Type 0
 Rose before now = (before < now) ⊎ (now ≡ last_count)
+
+-- a call is kept, where the calls are told, unless memory was refused
+abbrev pub after_call : {T A : Type 0}
+    → Result T OutsideFault → A → Option (List A) → Option (List A)
+after_call (Ok done) call calls = option_map (λ before. before ++ call ∷ []) calls
+after_call (Err Failed) call calls = option_map (λ before. before ++ call ∷ []) calls
+after_call (Err Memory) call calls = calls

@@ -4,7 +4,7 @@ ghost use Rattle.orca_rig.specs.Outside.{Rose};
 ghost use Rattle.orca_rig.specs.Arrived.{Log, after_listen, after_poll, arrived, moment_after, is_ending, MayAnswer};
 ghost use Rattle.orca_rig.specs.declared.inbox.TheConstants.{MAX_HANDS};
 
-use crate::{Outs, SendFault};
+use crate::{Outs, OutsideFault};
 use orca_base::limits::ARRIVAL_BYTES;
 
 /// The most players at once.
@@ -28,7 +28,7 @@ pub enum Answer {
 pub trait Inbox {
     /// The name and the number of hands that [`listen_hands`](Inbox::listen_hands) was given, the
     /// moment that it answered, and the polls; where they are told. A `listen_hands` that answered
-    /// [`SendFault::Memory`] is not kept.
+    /// [`OutsideFault::Memory`] is not kept.
     ghost log: { Self → Option Log };
 
     /// The last moment that it answered.
@@ -46,7 +46,7 @@ pub trait Inbox {
     /// Waits for so many players at that name, and answers the moment of the start, in
     /// microseconds. The first who comes is hand 0, and the next is hand 1. There are 1 to
     /// [`MAX_HANDS`] of them.
-    fn listen_hands(&mut self, name: &str, hands: u8) -> Result<u64, SendFault>
+    fn listen_hands(&mut self, name: &str, hands: u8) -> Result<u64, OutsideFault>
         // Nobody listened before.
         requires fresh { listened self.old ≡ false }
         requires some { 1 ≤ hands }
@@ -60,10 +60,10 @@ pub trait Inbox {
         ensures ended { ended self.new ≡ ended self.old }
 
         ensures count { faults self.old ≤ faults self.new }
-        ensures failed { IsErrOf result SendFault.Failed
+        ensures failed { IsErrOf result OutsideFault.Failed
             → Rose (faults self.old) (faults self.new) }
         ensures steady { OnOk result (faults self.new ≡ faults self.old) }
-        ensures steady_memory { IsErrOf result SendFault.Memory
+        ensures steady_memory { IsErrOf result OutsideFault.Memory
             → faults self.new ≡ faults self.old };
 
     /// Waits for what comes next: bytes, which it puts at the front of `bytes`, or the moment

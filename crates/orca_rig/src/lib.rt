@@ -2,6 +2,7 @@
 //! inbox where bytes come in. Each is a trait with a form in memory and a form over the real thing.
 #![tactic(auto)]
 
+mod fault;
 mod files;
 mod hands;
 mod inbox;
@@ -22,13 +23,14 @@ mod tcp_inbox;
 mod tests;
 mod whole;
 
-pub use files::{Files, StoreFault};
+pub use fault::OutsideFault;
+pub use files::Files;
 pub use inbox::{Answer, Inbox, MAX_HANDS};
 pub use mem_answer::{MemAnswer, are_arrivals, is_in_order};
 pub use mem_files::{MemFiles, names_differ};
 pub use mem_inbox::MemInbox;
 pub use mem_outs::MemOuts;
-pub use outs::{Outs, SendFault};
+pub use outs::Outs;
 pub use real_files::RealFiles;
 pub use real_outs::RealOuts;
 pub use start::{open_closed_streams, words_after_name};

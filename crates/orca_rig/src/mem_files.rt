@@ -5,12 +5,12 @@ ghost use Rattle.orca_base.specs.declared.limits.TheConstants.{MAX_FILE_BYTES};
 ghost use Rattle.std.specs.Ordering.{nat_cmp};
 ghost use Rattle.std.specs.Cmp.Lexicographic.{slice_cmp};
 ghost use Rattle.std.specs.FinMap.{get, find, insert};
-ghost use Rattle.orca_rig.specs.Outside.{Rose, last_count};
+ghost use Rattle.orca_rig.specs.Outside.{Rose, after_call, last_count};
 ghost use Rattle.orca_rig.specs.Outside.Ask.{Load, Save};
-ghost use Rattle.orca_rig.specs.Asked.{after_ask, IsSaved};
+ghost use Rattle.orca_rig.specs.Saved.{IsSaved};
 ghost use Rattle.orca_rig.specs.InMemory.{named, files_of, asks_of, ask_of, names_differ, is_to_fail, IsUnloadable};
 
-use crate::{Files, StoreFault};
+use crate::{Files, OutsideFault};
 use orca_base::Memory;
 use orca_base::limits::MAX_FILE_BYTES;
 use std::marker::Model;
@@ -144,19 +144,19 @@ fn is_to_fail(to_fail: &[u64], calls: &[Call]) -> bool
 }
 
 /// Keeps a call that fails, and counts it.
-fn keep_failed(calls: &mut Vec<Call>, failed: &mut u64, call: Call) -> StoreFault
-    ensures kept { result ≡ StoreFault.Failed → calls.new.items ≡ calls.old.items ++ call ∷ [] }
+fn keep_failed(calls: &mut Vec<Call>, failed: &mut u64, call: Call) -> OutsideFault
+    ensures kept { result ≡ OutsideFault.Failed → calls.new.items ≡ calls.old.items ++ call ∷ [] }
     ensures count { failed.old ≤ failed.new }
-    ensures counted { result ≡ StoreFault.Failed → failed.new ≡ min (failed.old + 1) last_count }
-    ensures memory { result ≡ StoreFault.Memory → calls.new.items ≡ calls.old.items }
-    ensures steady { result ≡ StoreFault.Memory → failed.new ≡ failed.old }
+    ensures counted { result ≡ OutsideFault.Failed → failed.new ≡ min (failed.old + 1) last_count }
+    ensures memory { result ≡ OutsideFault.Memory → calls.new.items ≡ calls.old.items }
+    ensures steady { result ≡ OutsideFault.Memory → failed.new ≡ failed.old }
 {
     match calls.push(call) {
         Ok(()) => {
             *failed = failed.saturating_add(1);
-            StoreFault::Failed
+            OutsideFault::Failed
         }
-        Err(_) => StoreFault::Memory,
+        Err(_) => OutsideFault::Memory,
     }
 }
 
@@ -167,27 +167,27 @@ impl Files for MemFiles {
 
     ghost faults = { λ f. f.faults };
 
-    fn load(&mut self, name: &str, into: &mut Vec<u8>) -> Result<(), StoreFault>
+    fn load(&mut self, name: &str, into: &mut Vec<u8>) -> Result<(), OutsideFault>
         ensures loaded { OnOk result (get self.old.contents name.now ≡ Some into.new.items) }
         ensures short { OnOk result (length into.new.items ≤ MAX_FILE_BYTES) }
         ensures untouched { OnErr result (into.new.items ≡ into.old.items) }
         ensures contents { self.new.contents ≡ self.old.contents }
         ensures asked { Some self.new.asked
-            ≡ after_ask result (Load name.now) (Some self.old.asked) }
+            ≡ after_call result (Load name.now) (Some self.old.asked) }
 
         ensures count { self.old.faults ≤ self.new.faults }
-        ensures failed { IsErrOf result StoreFault.Failed → Rose self.old.faults self.new.faults }
+        ensures failed { IsErrOf result OutsideFault.Failed → Rose self.old.faults self.new.faults }
         ensures steady { OnOk result (self.new.faults ≡ self.old.faults) }
-        ensures steady_memory { IsErrOf result StoreFault.Memory
+        ensures steady_memory { IsErrOf result OutsideFault.Memory
             → self.new.faults ≡ self.old.faults }
 
         ensures fail { self.new.fail ≡ self.old.fail }
-        ensures cause { IsErrOf result StoreFault.Failed
+        ensures cause { IsErrOf result OutsideFault.Failed
             → is_to_fail self.old.fail (length self.old.asked) ≡ false
             → IsUnloadable self.old.contents name.now }
         ensures not_listed { OnOk result (is_to_fail self.old.fail (length self.old.asked)
             ≡ false) }
-        ensures counted { IsErrOf result StoreFault.Failed
+        ensures counted { IsErrOf result OutsideFault.Failed
             → self.new.faults ≡ min (self.old.faults + 1) last_count }
         ensures quiet { self.old.fail ≡ []
             → self.old.faults < self.new.faults → IsUnloadable self.old.contents name.now }
@@ -206,25 +206,25 @@ impl Files for MemFiles {
         Ok(())
     }
 
-    fn save(&mut self, name: &str, bytes: &[u8]) -> Result<(), StoreFault>
+    fn save(&mut self, name: &str, bytes: &[u8]) -> Result<(), OutsideFault>
         ensures saved { IsSaved result name.now bytes.now
             (Some self.old.contents) (Some self.new.contents) }
         ensures asked { Some self.new.asked
-            ≡ after_ask result (Save name.now bytes.now) (Some self.old.asked) }
+            ≡ after_call result (Save name.now bytes.now) (Some self.old.asked) }
 
         ensures count { self.old.faults ≤ self.new.faults }
-        ensures failed { IsErrOf result StoreFault.Failed → Rose self.old.faults self.new.faults }
+        ensures failed { IsErrOf result OutsideFault.Failed → Rose self.old.faults self.new.faults }
         ensures steady { OnOk result (self.new.faults ≡ self.old.faults) }
-        ensures steady_memory { IsErrOf result StoreFault.Memory
+        ensures steady_memory { IsErrOf result OutsideFault.Memory
             → self.new.faults ≡ self.old.faults }
 
         ensures fail { self.new.fail ≡ self.old.fail }
         ensures untouched { OnErr result (self.new.contents ≡ self.old.contents) }
-        ensures listed { IsErrOf result StoreFault.Failed
+        ensures listed { IsErrOf result OutsideFault.Failed
             → IsTrue (is_to_fail self.old.fail (length self.old.asked)) }
         ensures not_listed { OnOk result (is_to_fail self.old.fail (length self.old.asked)
             ≡ false) }
-        ensures counted { IsErrOf result StoreFault.Failed
+        ensures counted { IsErrOf result OutsideFault.Failed
             → self.new.faults ≡ min (self.old.faults + 1) last_count }
         ensures quiet { self.old.fail ≡ [] → self.new.faults ≡ self.old.faults }
     {

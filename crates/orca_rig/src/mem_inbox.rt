@@ -8,7 +8,7 @@ ghost use Rattle.orca_base.specs.declared.limits.TheConstants.{ARRIVAL_BYTES};
 ghost use Rattle.orca_rig.specs.KeptPolls.{poll_of};
 ghost use Rattle.orca_rig.specs.declared.inbox.TheConstants.{MAX_HANDS};
 
-use crate::{Answer, Inbox, MemAnswer, Outs, SendFault};
+use crate::{Answer, Inbox, MemAnswer, Outs, OutsideFault};
 use orca_base::limits::ARRIVAL_BYTES;
 use orca_base::{Memory, Wire};
 use std::collections::VecDeque;
@@ -223,7 +223,7 @@ impl Inbox for MemInbox {
 
     ghost faults = { λ i. i.faults };
 
-    fn listen_hands(&mut self, name: &str, hands: u8) -> Result<u64, SendFault>
+    fn listen_hands(&mut self, name: &str, hands: u8) -> Result<u64, OutsideFault>
         requires fresh { self.old.listened ≡ false }
         requires some { 1 ≤ hands }
         requires few { hands ≤ MAX_HANDS }
@@ -234,18 +234,18 @@ impl Inbox for MemInbox {
         ensures listened { self.new.listened ≡ true }
         ensures ended { self.new.ended ≡ self.old.ended }
         ensures count { self.old.faults ≤ self.new.faults }
-        ensures failed { IsErrOf result SendFault.Failed → Rose self.old.faults self.new.faults }
+        ensures failed { IsErrOf result OutsideFault.Failed → Rose self.old.faults self.new.faults }
         ensures steady { OnOk result (self.new.faults ≡ self.old.faults) }
-        ensures steady_memory { IsErrOf result SendFault.Memory
+        ensures steady_memory { IsErrOf result OutsideFault.Memory
             → self.new.faults ≡ self.old.faults }
 
         ensures answers { self.new.answers ≡ self.old.answers }
         ensures fail { self.new.fail ≡ self.old.fail }
-        ensures listed { IsErrOf result SendFault.Failed
+        ensures listed { IsErrOf result OutsideFault.Failed
             → IsTrue (is_to_fail self.old.fail (calls_of self.old.log)) }
         ensures not_listed { OnOk result (is_to_fail self.old.fail (calls_of self.old.log)
             ≡ false) }
-        ensures counted { IsErrOf result SendFault.Failed
+        ensures counted { IsErrOf result OutsideFault.Failed
             → self.new.faults ≡ min (self.old.faults + 1) last_count }
         ensures quiet { self.old.fail ≡ [] → self.new.faults ≡ self.old.faults }
     {
@@ -256,7 +256,7 @@ impl Inbox for MemInbox {
         if fails {
             self.start = None;
             self.failed = self.failed.saturating_add(1);
-            return Err(SendFault::Failed);
+            return Err(OutsideFault::Failed);
         }
         self.start = Some(self.last);
         Ok(self.last)

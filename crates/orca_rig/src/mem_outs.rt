@@ -1,10 +1,10 @@
-ghost use Rattle.std.specs.Prelude.{◌≡◌, ◌+◌, min, ◌≤◌, ◌↔◌, ◌<◌, ◌^◌, [], ◌∷◌, ◌++◌, length, slice_get, IsTrue, IsNone, Some, false, IfOk, OnOk, OnErr, IsErrOf};
+ghost use Rattle.std.specs.Prelude.{◌≡◌, ◌+◌, min, ◌≤◌, ◌↔◌, ◌<◌, ◌^◌, [], ◌∷◌, ◌++◌, length, slice_get, IsTrue, IsNone, Some, true, false, IfOk, OnOk, OnErr, IsErr, IsErrOf};
 ghost use Rattle.std.specs.Option.{option_map};
-ghost use Rattle.orca_rig.specs.Outside.{Rose, last_count};
-ghost use Rattle.orca_rig.specs.Handed.{after_call};
+ghost use Rattle.orca_rig.specs.Outside.{Rose, after_call, last_count};
 ghost use Rattle.orca_rig.specs.InMemory.{sents, attaches, sends_to, attaches_to, is_port_to_fail};
 
-use crate::{Outs, SendFault};
+use crate::fault::count_fault;
+use crate::{Outs, OutsideFault};
 use orca_base::{Memory, Port};
 use std::marker::Model;
 
@@ -123,6 +123,19 @@ fn keep_piece(pieces: &mut Vec<(Port, Vec<u8>)>, port: Port, bytes: &[u8]) -> Re
     Ok(())
 }
 
+/// What a call answers that was kept, unless memory was refused, and that may have to fail.
+fn answer_of(kept: Result<(), Memory>, fails: bool) -> Result<(), OutsideFault>
+    ensures refused { IsErrOf result OutsideFault.Memory ↔ IsErr kept }
+    ensures failed { IsErrOf result OutsideFault.Failed → fails ≡ true }
+    ensures done { OnOk result (fails ≡ false) }
+{
+    match kept {
+        Err(_) => Err(OutsideFault::Memory),
+        Ok(()) if fails => Err(OutsideFault::Failed),
+        Ok(()) => Ok(()),
+    }
+}
+
 impl Outs for MemOuts {
     ghost handed = { λ o. Some o.handed };
 
@@ -134,76 +147,64 @@ impl Outs for MemOuts {
 
     ghost wants = { λ o. o.wants };
 
-    fn attach(&mut self, port: Port, name: &str) -> Result<(), SendFault>
+    fn attach(&mut self, port: Port, name: &str) -> Result<(), OutsideFault>
         ensures attached { Some self.new.attached
             ≡ after_call result (record { port = port; name = name.now }) (Some self.old.attached) }
         ensures handed { self.new.handed ≡ self.old.handed }
         ensures count { self.old.faults ≤ self.new.faults }
-        ensures failed { IsErrOf result SendFault.Failed → Rose self.old.faults self.new.faults }
+        ensures failed { IsErrOf result OutsideFault.Failed → Rose self.old.faults self.new.faults }
         ensures steady { OnOk result (self.new.faults ≡ self.old.faults) }
-        ensures steady_memory { IsErrOf result SendFault.Memory
+        ensures steady_memory { IsErrOf result OutsideFault.Memory
             → self.new.faults ≡ self.old.faults }
         ensures want_count { self.old.wants ≤ self.new.wants }
-        ensures wanted { IsErrOf result SendFault.Memory → Rose self.old.wants self.new.wants }
+        ensures wanted { IsErrOf result OutsideFault.Memory → Rose self.old.wants self.new.wants }
         ensures sated { OnOk result (self.new.wants ≡ self.old.wants) }
-        ensures sated_failed { IsErrOf result SendFault.Failed
+        ensures sated_failed { IsErrOf result OutsideFault.Failed
             → self.new.wants ≡ self.old.wants }
 
         ensures fail { self.new.fail ≡ self.old.fail }
-        ensures listed { IsErrOf result SendFault.Failed → IsTrue (is_port_to_fail self.old port) }
+        ensures listed { IsErrOf result OutsideFault.Failed
+            → IsTrue (is_port_to_fail self.old port) }
         ensures not_listed { OnOk result (is_port_to_fail self.old port ≡ false) }
-        ensures counted { IsErrOf result SendFault.Failed
+        ensures counted { IsErrOf result OutsideFault.Failed
             → self.new.faults ≡ min (self.old.faults + 1) last_count }
         ensures quiet { self.old.fail ≡ [] → self.new.faults ≡ self.old.faults }
-        ensures refused { IsErrOf result SendFault.Memory
+        ensures refused { IsErrOf result OutsideFault.Memory
             → self.new.wants ≡ min (self.old.wants + 1) last_count }
     {
         let fails = self.is_to_fail(port);
-        if keep_name(&mut self.names, port, name).is_err() {
-            self.refused = self.refused.saturating_add(1);
-            return Err(SendFault::Memory);
-        }
-        if fails {
-            self.failed = self.failed.saturating_add(1);
-            return Err(SendFault::Failed);
-        }
-        Ok(())
+        let kept = keep_name(&mut self.names, port, name);
+        count_fault(&mut self.failed, &mut self.refused, answer_of(kept, fails))
     }
 
-    fn send(&mut self, port: Port, bytes: &[u8]) -> Result<(), SendFault>
+    fn send(&mut self, port: Port, bytes: &[u8]) -> Result<(), OutsideFault>
         ensures handed { Some self.new.handed
             ≡ after_call result (record { port = port; bytes = bytes.now }) (Some self.old.handed) }
         ensures attached { self.new.attached ≡ self.old.attached }
         ensures count { self.old.faults ≤ self.new.faults }
-        ensures failed { IsErrOf result SendFault.Failed → Rose self.old.faults self.new.faults }
+        ensures failed { IsErrOf result OutsideFault.Failed → Rose self.old.faults self.new.faults }
         ensures steady { OnOk result (self.new.faults ≡ self.old.faults) }
-        ensures steady_memory { IsErrOf result SendFault.Memory
+        ensures steady_memory { IsErrOf result OutsideFault.Memory
             → self.new.faults ≡ self.old.faults }
         ensures want_count { self.old.wants ≤ self.new.wants }
-        ensures wanted { IsErrOf result SendFault.Memory → Rose self.old.wants self.new.wants }
+        ensures wanted { IsErrOf result OutsideFault.Memory → Rose self.old.wants self.new.wants }
         ensures sated { OnOk result (self.new.wants ≡ self.old.wants) }
-        ensures sated_failed { IsErrOf result SendFault.Failed
+        ensures sated_failed { IsErrOf result OutsideFault.Failed
             → self.new.wants ≡ self.old.wants }
 
         ensures fail { self.new.fail ≡ self.old.fail }
-        ensures listed { IsErrOf result SendFault.Failed → IsTrue (is_port_to_fail self.old port) }
+        ensures listed { IsErrOf result OutsideFault.Failed
+            → IsTrue (is_port_to_fail self.old port) }
         ensures not_listed { OnOk result (is_port_to_fail self.old port ≡ false) }
-        ensures counted { IsErrOf result SendFault.Failed
+        ensures counted { IsErrOf result OutsideFault.Failed
             → self.new.faults ≡ min (self.old.faults + 1) last_count }
         ensures quiet { self.old.fail ≡ [] → self.new.faults ≡ self.old.faults }
-        ensures refused { IsErrOf result SendFault.Memory
+        ensures refused { IsErrOf result OutsideFault.Memory
             → self.new.wants ≡ min (self.old.wants + 1) last_count }
     {
         let fails = self.is_to_fail(port);
-        if keep_piece(&mut self.pieces, port, bytes).is_err() {
-            self.refused = self.refused.saturating_add(1);
-            return Err(SendFault::Memory);
-        }
-        if fails {
-            self.failed = self.failed.saturating_add(1);
-            return Err(SendFault::Failed);
-        }
-        Ok(())
+        let kept = keep_piece(&mut self.pieces, port, bytes);
+        count_fault(&mut self.failed, &mut self.refused, answer_of(kept, fails))
     }
 
     fn sent(&self) -> u64

@@ -1,10 +1,10 @@
-ghost use Rattle.std.specs.Prelude.{◌≡◌, ◌≤◌, None, length, IfOk};
+ghost use Rattle.std.specs.Prelude.{◌≡◌, ◌≤◌, None, length, OnOk, OnErr};
 ghost use Rattle.orca_base.specs.declared.limits.TheConstants.{MAX_FILE_BYTES};
 
+use crate::fault::count_failure;
 use crate::saving::save_file;
 use crate::whole::read_whole;
-use crate::{Files, StoreFault};
-use std::alloc::Global;
+use crate::{Files, OutsideFault};
 use std::os::fd::{AsRawFd, IntoRawFd};
 use std::rt::Clock;
 use std::{fs, rt};
@@ -39,18 +39,9 @@ where
     ghost faults = { λ f. f.failed };
 
     /// A missing file, a directory, one that cannot be read and one that is too long are failures.
-    fn load(&mut self, name: &str, into: &mut Vec<u8>) -> Result<(), StoreFault> {
-        match read_file(*into.allocator(), self.rt, name) {
-            Ok(bytes) => {
-                *into = bytes;
-                Ok(())
-            }
-            Err(StoreFault::Failed) => {
-                self.failed = self.failed.saturating_add(1);
-                Err(StoreFault::Failed)
-            }
-            Err(StoreFault::Memory) => Err(StoreFault::Memory),
-        }
+    fn load(&mut self, name: &str, into: &mut Vec<u8>) -> Result<(), OutsideFault> {
+        let done = load_file(self.rt, name, into);
+        count_failure(&mut self.failed, done)
     }
 
     /// Replaces the file whole, or leaves it as it was: the bytes go to a new file in the same
@@ -72,22 +63,18 @@ where
     ///
     /// Nothing waits for the disk. After a power cut the file may hold the old bytes or the new
     /// ones, and on some file systems a part of them.
-    fn save(&mut self, name: &str, bytes: &[u8]) -> Result<(), StoreFault> {
-        match save_file(self.rt, name, bytes) {
-            Ok(()) => Ok(()),
-            Err(StoreFault::Failed) => {
-                self.failed = self.failed.saturating_add(1);
-                Err(StoreFault::Failed)
-            }
-            Err(StoreFault::Memory) => Err(StoreFault::Memory),
-        }
+    fn save(&mut self, name: &str, bytes: &[u8]) -> Result<(), OutsideFault> {
+        let done = save_file(self.rt, name, bytes);
+        count_failure(&mut self.failed, done)
     }
 }
 
-/// The bytes of the file of that name.
-fn read_file<R: rt::Files>(alloc: Global, rt: &R, name: &str) -> Result<Vec<u8>, StoreFault>
-    ensures short { IfOk result (λ bytes. length bytes.items ≤ MAX_FILE_BYTES) }
+/// Makes `into` the bytes of the file of that name. After an error it is as before.
+fn load_file<R: rt::Files>(rt: &R, name: &str, into: &mut Vec<u8>) -> Result<(), OutsideFault>
+    ensures short { OnOk result (length into.new.items ≤ MAX_FILE_BYTES) }
+    ensures untouched { OnErr result (into.new.items ≡ into.old.items) }
 {
     let mut file = fs::open(rt, name)?;
-    read_whole(alloc, &mut file)
+    *into = read_whole(*into.allocator(), &mut file)?;
+    Ok(())
 }

@@ -2,13 +2,13 @@ ghost use Rattle.std.specs.Prelude.{◌≡◌, ◌≢◌, ◌≤◌, ◌↔◌, 
 ghost use Rattle.std.specs.Option.{option_map};
 ghost use Rattle.std.specs.IoError.{error_kind};
 ghost use Rattle.std.specs.declared.io.ErrorKind.TheVariants.{Interrupted};
-ghost use Rattle.orca_rig.specs.Outside.{last_count};
 ghost use Rattle.orca_rig.specs.Handed.{Takes, TakesOrNot};
 
+use crate::fault::count_fault;
 use crate::room::{Gate, Patience};
 use crate::sinks::{Output, Sink};
 use crate::whole::unless_interrupted;
-use crate::{Outs, SendFault};
+use crate::{Outs, OutsideFault};
 use libc::{STDERR_FILENO, STDOUT_FILENO};
 use orca_base::Port;
 use std::fs::OpenOptions;
@@ -95,7 +95,7 @@ where
     }
 
     /// Attaches the port, in place of what it was attached to. After a fault it is unattached.
-    fn connect(&mut self, port: Port, name: &str) -> Result<(), SendFault>
+    fn connect(&mut self, port: Port, name: &str) -> Result<(), OutsideFault>
         ensures failed { self.new.failed ≡ self.old.failed }
         ensures refused { self.new.refused ≡ self.old.refused }
         ensures midi { port ≡ Port.Midi → (IsSome self.new.midi ↔ IsOk result) }
@@ -118,13 +118,13 @@ where
                 self.osc = None;
                 self.osc = Some(open_peer(self.rt, name)?);
             }
-            Port::Text | Port::Fault | Port::View => return Err(SendFault::Failed),
+            Port::Text | Port::Fault | Port::View => return Err(OutsideFault::Failed),
         }
         Ok(())
     }
 
     /// Sends the bytes where the port goes. They are dropped where it is not attached.
-    fn write(&mut self, port: Port, bytes: &[u8]) -> Result<(), SendFault>
+    fn write(&mut self, port: Port, bytes: &[u8]) -> Result<(), OutsideFault>
         ensures failed { self.new.failed ≡ self.old.failed }
         ensures refused { self.new.refused ≡ self.old.refused }
         ensures midi { port ≡ Port.Midi
@@ -182,18 +182,18 @@ where
     ///
     /// The other ports cannot be attached: that is a failure. A failed attach leaves the port
     /// unattached, also where it was attached before.
-    fn attach(&mut self, port: Port, name: &str) -> Result<(), SendFault> {
+    fn attach(&mut self, port: Port, name: &str) -> Result<(), OutsideFault> {
         let done = self.connect(port, name);
-        count(&mut self.failed, &mut self.refused, done)
+        count_fault(&mut self.failed, &mut self.refused, done)
     }
 
     /// Text for the standard error that is no UTF-8 is a failure. So are a datagram that was cut or is
     /// too long, a pipe whose reader has gone away, and a MIDI message of more than
     /// [`WIRE_BYTES`](orca_base::limits::WIRE_BYTES). A datagram that nobody takes is none, since the
     /// system does not tell.
-    fn send(&mut self, port: Port, bytes: &[u8]) -> Result<(), SendFault> {
+    fn send(&mut self, port: Port, bytes: &[u8]) -> Result<(), OutsideFault> {
         let done = self.write(port, bytes);
-        count(&mut self.failed, &mut self.refused, done)
+        count_fault(&mut self.failed, &mut self.refused, done)
     }
 
     fn sent(&self) -> u64 {
@@ -201,27 +201,6 @@ where
     }
 
     ghost sent_is_length = { λ outs pieces told fits. Prim.cc };
-}
-
-/// Counts a failure, or that memory was refused.
-fn count(failed: &mut u64, refused: &mut u64, done: Result<(), SendFault>) -> Result<(), SendFault>
-    ensures same { result ≡ done }
-    ensures grows { failed.old ≤ failed.new }
-    ensures failed { IsErrOf done SendFault.Failed → failed.new ≡ min (failed.old + 1) last_count }
-    ensures steady { OnOk done (failed.new ≡ failed.old) }
-    ensures steady_memory { IsErrOf done SendFault.Memory → failed.new ≡ failed.old }
-    ensures want_count { refused.old ≤ refused.new }
-    ensures refused { IsErrOf done SendFault.Memory
-        → refused.new ≡ min (refused.old + 1) last_count }
-    ensures sated { OnOk done (refused.new ≡ refused.old) }
-    ensures sated_failed { IsErrOf done SendFault.Failed → refused.new ≡ refused.old }
-{
-    match done {
-        Ok(()) => {}
-        Err(SendFault::Failed) => *failed = failed.saturating_add(1),
-        Err(SendFault::Memory) => *refused = refused.saturating_add(1),
-    }
-    done
 }
 
 /// Opens a file, a named pipe or a device file for writing. A plain file is created or emptied.

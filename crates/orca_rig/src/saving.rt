@@ -3,7 +3,7 @@
 ghost use Rattle.std.specs.Prelude.{◌≡◌, ◌↔◌, true, IsOk, IsErr, IsErrOf, OnOk, OnErr};
 ghost use Rattle.std.specs.Io.KnownBytes.{Appends};
 
-use crate::StoreFault;
+use crate::OutsideFault;
 use crate::room::{Gate, Patience};
 use crate::sinks::write_pieces;
 use crate::whole::write_whole;
@@ -65,7 +65,7 @@ impl<F: Write + OpenFile + IntoRawFd + Drop> Fresh<F> {
 }
 
 /// Makes the file of that name hold these bytes.
-pub(crate) fn save_file<R>(rt: &R, name: &str, bytes: &[u8]) -> Result<(), StoreFault>
+pub(crate) fn save_file<R>(rt: &R, name: &str, bytes: &[u8]) -> Result<(), OutsideFault>
 where
     R: rt::Files + AllocGlobal + Clock,
     R::File: AsRawFd + IntoRawFd,
@@ -80,7 +80,7 @@ where
             }
         }
         Err(error) if error.kind() == ErrorKind::NotFound => replace(rt, name, bytes, None),
-        Err(error) => Err(StoreFault::from(error)),
+        Err(error) => Err(OutsideFault::from(error)),
     }
 }
 
@@ -113,15 +113,15 @@ fn write_device<C: Clock, F: Write + AsRawFd>(
     rt: &C,
     file: &mut F,
     bytes: &[u8],
-) -> Result<(), StoreFault>
+) -> Result<(), OutsideFault>
     ensures written { OnOk result
         (Appends (F.contents file.old) (F.contents file.new) bytes.now) }
-    ensures failed { IsErr result → IsErrOf result StoreFault.Failed }
+    ensures failed { IsErr result → IsErrOf result OutsideFault.Failed }
 {
     let mut gate = Gate::new(file.as_raw_fd());
     match write_pieces(&Patience::start(rt), &mut gate, file, bytes) {
         Ok(()) => Ok(()),
-        Err(_) => Err(StoreFault::Failed),
+        Err(_) => Err(OutsideFault::Failed),
     }
 }
 
@@ -131,7 +131,7 @@ fn replace<R>(
     name: &str,
     bytes: &[u8],
     permissions: Option<Permissions>,
-) -> Result<(), StoreFault>
+) -> Result<(), OutsideFault>
 where
     R: rt::Files + AllocGlobal,
     R::File: IntoRawFd,
@@ -169,20 +169,20 @@ where
 }
 
 /// Answers what was done. After a failure the new file is removed.
-fn settle<R: rt::Files>(rt: &R, done: io::Result<()>, names: &Names) -> Result<(), StoreFault>
+fn settle<R: rt::Files>(rt: &R, done: io::Result<()>, names: &Names) -> Result<(), OutsideFault>
     ensures { IsOk result ↔ IsOk done }
 {
     match done {
         Ok(()) => Ok(()),
         Err(error) => {
             let _ = fs::remove_file(rt, &names.fresh);
-            Err(StoreFault::from(error))
+            Err(OutsideFault::from(error))
         }
     }
 }
 
 /// The file that a name stands for in the end: behind symbolic links, also where it is missing.
-fn target_of<R: rt::Files + AllocGlobal>(rt: &R, name: &str) -> Result<PathBuf, StoreFault> {
+fn target_of<R: rt::Files + AllocGlobal>(rt: &R, name: &str) -> Result<PathBuf, OutsideFault> {
     let mut path = PathBuf::from_str(rt.alloc(), name)?;
     for _ in 0..MAX_LINKS {
         match fs::symlink_metadata(rt, &path) {
@@ -193,10 +193,10 @@ fn target_of<R: rt::Files + AllocGlobal>(rt: &R, name: &str) -> Result<PathBuf, 
             }
             Ok(_) => return Ok(path),
             Err(error) if error.kind() == ErrorKind::NotFound => return Ok(path),
-            Err(error) => return Err(StoreFault::from(error)),
+            Err(error) => return Err(OutsideFault::from(error)),
         }
     }
-    Err(StoreFault::Failed)
+    Err(OutsideFault::Failed)
 }
 
 /// Creates a file in the folder of the target, under a name that no file has.
@@ -204,7 +204,7 @@ fn create_beside<R: rt::Files + AllocGlobal>(
     rt: &R,
     target: PathBuf,
     mode: u32,
-) -> Result<(R::File, Names), StoreFault> {
+) -> Result<(R::File, Names), OutsideFault> {
     let mut options = OpenOptions::new();
     options.write(true).create_new(true).mode(mode);
     for number in 0..MAX_NAMES {
@@ -213,10 +213,10 @@ fn create_beside<R: rt::Files + AllocGlobal>(
         match options.open(rt, &fresh) {
             Ok(file) => return Ok((file, Names { fresh, target })),
             Err(error) if error.kind() == ErrorKind::AlreadyExists => {}
-            Err(error) => return Err(StoreFault::from(error)),
+            Err(error) => return Err(OutsideFault::from(error)),
         }
     }
-    Err(StoreFault::Failed)
+    Err(OutsideFault::Failed)
 }
 
 /// Closes a file. The system may tell only here that what was written has found no room.

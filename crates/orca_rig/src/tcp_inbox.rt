@@ -4,10 +4,11 @@ ghost use Rattle.orca_rig.specs.Arrived.{MayAnswer};
 ghost use Rattle.orca_rig.specs.Heard.{AreHeard, hand_bytes};
 ghost use Rattle.orca_rig.specs.declared.inbox.TheConstants.{MAX_HANDS};
 
+use crate::fault::count_failure;
 use crate::hands::{Hands, Turn};
 use crate::moments::{Wait, Watch, microseconds, wait_of};
 use crate::whole::unless_interrupted;
-use crate::{Answer, Inbox, MAX_HANDS, Outs, SendFault};
+use crate::{Answer, Inbox, MAX_HANDS, Outs, OutsideFault};
 use mio::net::TcpStream;
 use mio::{Events, Interest, Poll, Token};
 use orca_base::limits::ARRIVAL_BYTES;
@@ -66,7 +67,7 @@ struct Line<S> {
 
 impl<S: Read> Line<S> {
     /// No connection yet, and room for so many.
-    fn new<R: AllocGlobal + Net>(rt: &R, hands: u8) -> Result<Line<S>, SendFault>
+    fn new<R: AllocGlobal + Net>(rt: &R, hands: u8) -> Result<Line<S>, OutsideFault>
         ensures { IfOk result (λ line. line.hands.hands.items ≡ []) }
     {
         Ok(Line {
@@ -131,7 +132,7 @@ impl<S: Read> Line<S> {
 
 impl Line<TcpStream> {
     /// Adds the connection of the next hand, which is this one.
-    fn add(&mut self, hand: u8, stream: net::TcpStream) -> Result<(), SendFault>
+    fn add(&mut self, hand: u8, stream: net::TcpStream) -> Result<(), OutsideFault>
         ensures { OnOk result (length self.new.hands.hands.items
             ≡ length self.old.hands.hands.items + 1) }
     {
@@ -177,7 +178,7 @@ impl<R: AllocGlobal + Net<Stream = net::TcpStream> + Clock> TcpInbox<'_, R> {
     }
 
     /// Opens the connections of so many hands, and starts the clock.
-    fn open(&mut self, name: &str, hands: u8) -> Result<(), SendFault>
+    fn open(&mut self, name: &str, hands: u8) -> Result<(), OutsideFault>
         ensures hands { OnOk result (IsSomeAnd self.new.line (λ line.
             length line.hands.hands.items ≡ hands)) }
         ensures last { self.new.clock.last ≡ self.old.clock.last }
@@ -211,7 +212,7 @@ impl<R: AllocGlobal + Net<Stream = net::TcpStream> + Clock> Inbox for TcpInbox<'
 
     /// Waits until so many have connected to the address, and then accepts nobody else. An address
     /// that is malformed, taken or unknown is a failure. The moment of the start is 0.
-    fn listen_hands(&mut self, name: &str, hands: u8) -> Result<u64, SendFault>
+    fn listen_hands(&mut self, name: &str, hands: u8) -> Result<u64, OutsideFault>
         requires fresh { self.old.listened ≡ false }
         requires some { 1 ≤ hands }
         requires few { hands ≤ MAX_HANDS }
@@ -221,23 +222,18 @@ impl<R: AllocGlobal + Net<Stream = net::TcpStream> + Clock> Inbox for TcpInbox<'
         ensures listened { self.new.listened ≡ true }
         ensures ended { self.new.ended ≡ self.old.ended }
         ensures count { self.old.failed ≤ self.new.failed }
-        ensures failed { IsErrOf result SendFault.Failed → Rose self.old.failed self.new.failed }
+        ensures failed { IsErrOf result OutsideFault.Failed → Rose self.old.failed self.new.failed }
         ensures steady { OnOk result (self.new.failed ≡ self.old.failed) }
-        ensures steady_memory { IsErrOf result SendFault.Memory
+        ensures steady_memory { IsErrOf result OutsideFault.Memory
             → self.new.failed ≡ self.old.failed }
 
         ensures hands { OnOk result (IsSomeAnd self.new.line (λ line.
             length line.hands.hands.items ≡ hands)) }
     {
         self.listened = true;
-        match self.open(name, hands) {
-            Ok(()) => Ok(self.clock.last),
-            Err(SendFault::Failed) => {
-                self.failed = self.failed.saturating_add(1);
-                Err(SendFault::Failed)
-            }
-            Err(SendFault::Memory) => Err(SendFault::Memory),
-        }
+        let opened = self.open(name, hands);
+        count_failure(&mut self.failed, opened)?;
+        Ok(self.clock.last)
     }
 
     /// A poll before `listen_hands`, one whose clock fails, and one that has taken 2^64 - 1 turns
@@ -276,7 +272,7 @@ fn accept_all<L: OpenListener<Stream = net::TcpStream>>(
     listener: &L,
     hands: u8,
     line: &mut Line<TcpStream>,
-) -> Result<(), SendFault>
+) -> Result<(), OutsideFault>
     ensures { OnOk result (length line.new.hands.hands.items
         ≡ length line.old.hands.hands.items + hands) }
 {

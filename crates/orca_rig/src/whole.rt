@@ -6,7 +6,7 @@ ghost use Rattle.std.specs.declared.io.ErrorKind.TheVariants.{Interrupted};
 ghost use Rattle.std.specs.Io.KnownBytes.{Appends};
 ghost use Rattle.orca_base.specs.declared.limits.TheConstants.{MAX_FILE_BYTES};
 
-use crate::StoreFault;
+use crate::OutsideFault;
 use orca_base::limits::MAX_FILE_BYTES;
 use std::alloc::Global;
 use std::io;
@@ -16,7 +16,7 @@ use std::io::{ErrorKind, Read, Write};
 const PIECE_BYTES: usize = 4096;
 
 /// All that the reader has left. An interrupted read is tried again.
-pub(crate) fn read_whole<R: Read>(alloc: Global, from: &mut R) -> Result<Vec<u8>, StoreFault>
+pub(crate) fn read_whole<R: Read>(alloc: Global, from: &mut R) -> Result<Vec<u8>, OutsideFault>
     ensures short { IfOk result (λ bytes. length bytes.items ≤ MAX_FILE_BYTES) }
     ensures whole { IfOk result (λ bytes.
         IfSome (R.remaining from.old) (λ left. bytes.items ≡ left)) }
@@ -26,13 +26,13 @@ pub(crate) fn read_whole<R: Read>(alloc: Global, from: &mut R) -> Result<Vec<u8>
     for _ in 0..u64::MAX {
         match from.read(&mut piece) {
             Ok(0) => return Ok(bytes),
-            Ok(count) if count > MAX_FILE_BYTES - bytes.len() => return Err(StoreFault::Failed),
+            Ok(count) if count > MAX_FILE_BYTES - bytes.len() => return Err(OutsideFault::Failed),
             Ok(count) => bytes.extend_from_slice(&piece[..count])?,
             Err(error) if error.kind() == ErrorKind::Interrupted => {}
-            Err(error) => return Err(StoreFault::from(error)),
+            Err(error) => return Err(OutsideFault::from(error)),
         }
     }
-    Err(StoreFault::Failed)
+    Err(OutsideFault::Failed)
 }
 
 /// Writes all of the bytes. After a short write it goes on with the rest, an interrupted one is

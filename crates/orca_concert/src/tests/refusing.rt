@@ -3,7 +3,7 @@
 ghost use Rattle.std.specs.Prelude.{None};
 
 use orca_base::Port;
-use orca_rig::{Outs, SendFault};
+use orca_rig::{Outs, OutsideFault};
 
 /// Ports that refuse memory to each call, and count how often they did.
 #[derive(Drop)]
@@ -22,14 +22,14 @@ impl Outs for Refusing {
 
     ghost wants = { λ o. o.refused };
 
-    fn attach(&mut self, _: Port, _: &str) -> Result<(), SendFault> {
+    fn attach(&mut self, _: Port, _: &str) -> Result<(), OutsideFault> {
         self.refused = self.refused.saturating_add(1);
-        Err(SendFault::Memory)
+        Err(OutsideFault::Memory)
     }
 
-    fn send(&mut self, _: Port, _: &[u8]) -> Result<(), SendFault> {
+    fn send(&mut self, _: Port, _: &[u8]) -> Result<(), OutsideFault> {
         self.refused = self.refused.saturating_add(1);
-        Err(SendFault::Memory)
+        Err(OutsideFault::Memory)
     }
 
     fn sent(&self) -> u64 {

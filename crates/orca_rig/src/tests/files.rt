@@ -1,5 +1,5 @@
 use super::check_file;
-use crate::{Files, MemFiles, RealFiles, StoreFault, names_differ};
+use crate::{Files, MemFiles, OutsideFault, RealFiles, names_differ};
 use orca_base::limits::MAX_FILE_BYTES;
 use std::alloc::Global;
 use std::fs::Permissions;
@@ -12,13 +12,13 @@ use std::{fs, io, rt};
 /// A call of the files, with its answer, and what stands in the buffer after a load.
 #[derive(Clone, Copy)]
 enum Call {
-    Save(&'static str, &'static [u8], Result<(), StoreFault>),
-    Load(&'static str, Result<(), StoreFault>, &'static [u8]),
+    Save(&'static str, &'static [u8], Result<(), OutsideFault>),
+    Load(&'static str, Result<(), OutsideFault>, &'static [u8]),
 }
 
 use Call::{Load, Save};
 
-const FAILED: Result<(), StoreFault> = Err(StoreFault::Failed);
+const FAILED: Result<(), OutsideFault> = Err(OutsideFault::Failed);
 
 /// Makes the calls one after another, and looks at each answer and at the bytes after a load.
 fn check_calls<F: Files>(rt: &impl Abort, alloc: Global, files: &mut F, calls: &[Call]) {

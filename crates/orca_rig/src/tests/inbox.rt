@@ -2,7 +2,7 @@ ghost use Rattle.std.specs.Prelude.{◌≡◌, false};
 
 use super::make_outs;
 use crate::{
-    Answer, Inbox, MAX_HANDS, MemAnswer, MemInbox, MemOuts, SendFault, are_arrivals, is_in_order,
+    Answer, Inbox, MAX_HANDS, MemAnswer, MemInbox, MemOuts, OutsideFault, are_arrivals, is_in_order,
 };
 use orca_base::Wire;
 use orca_base::limits::{ARRIVAL_BYTES, WIRE_BYTES};
@@ -91,7 +91,7 @@ fn an_inbox_in_memory_fails_where_it_is_told_to(rt: HostRuntime) {
     let outs = make_outs(&rt, rt.alloc());
     let mut bytes = [0u8; ARRIVAL_BYTES];
     let mut refused = make_inbox(&rt, rt.alloc(), &[], &[1]);
-    assert!(rt; refused.listen_hands("", 1) == Err(SendFault::Failed));
+    assert!(rt; refused.listen_hands("", 1) == Err(OutsideFault::Failed));
     // The second poll is the third call, and there is no answer left for it.
     let mut late = make_inbox(&rt, rt.alloc(), &[bytes_at(0, b"a", 11)], &[3]);
     assert!(rt; late.listen_hands("", 1) == Ok(10));

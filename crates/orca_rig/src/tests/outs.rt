@@ -1,5 +1,5 @@
 use super::{UNKNOWN, check_file, name_of};
-use crate::{MemOuts, Outs, RealOuts, SendFault};
+use crate::{MemOuts, Outs, OutsideFault, RealOuts};
 use orca_base::Port;
 use orca_base::limits::WIRE_BYTES;
 use std::io::Read;
@@ -13,13 +13,13 @@ use std::{fs, io};
 /// A call of the outputs, and its answer.
 #[derive(Clone, Copy)]
 enum Call {
-    Attach(Port, &'static str, Result<(), SendFault>),
-    Send(Port, &'static [u8], Result<(), SendFault>),
+    Attach(Port, &'static str, Result<(), OutsideFault>),
+    Send(Port, &'static [u8], Result<(), OutsideFault>),
 }
 
 use Call::{Attach, Send};
 
-const FAILED: Result<(), SendFault> = Err(SendFault::Failed);
+const FAILED: Result<(), OutsideFault> = Err(OutsideFault::Failed);
 
 /// Makes the calls one after another, and looks at each answer.
 fn check_calls<O: Outs>(rt: &impl Abort, outs: &mut O, calls: &[Call]) {

@@ -1,7 +1,7 @@
 ghost use Rattle.std.specs.Prelude.{◌≡◌, false};
 
 use super::{UNKNOWN, make_outs, name_of};
-use crate::{Answer, Inbox, MAX_HANDS, MemOuts, SendFault, TcpInbox};
+use crate::{Answer, Inbox, MAX_HANDS, MemOuts, OutsideFault, TcpInbox};
 use orca_base::limits::ARRIVAL_BYTES;
 use std::io::Write;
 use std::net::{Net, OpenListener, SocketAddr, TcpListener, TcpStream};
@@ -189,7 +189,7 @@ where
 {
     let mut inbox = TcpInbox::new(rt);
     let start = inbox.listen_hands(address, 1);
-    assert!(rt; start == Err(SendFault::Failed), "{address}");
+    assert!(rt; start == Err(OutsideFault::Failed), "{address}");
     let answer = inbox.poll(outs, None, &mut [0; ARRIVAL_BYTES]);
     assert!(rt; answer == Answer::Failed, "{address}");
 }
