@@ -8,6 +8,7 @@ ghost use Rattle.std.specs.Str.Lines.{lines};
 ghost use Rattle.orca_script.specs.Canonical.{canonical, printed, text_of, line, line_of, sides as sides_of, HasValues, Extends};
 ghost use Rattle.orca_script.specs.Reading.{reading};
 
+use itoa::Buffer;
 use orca_base::{Command, Glyph, Memory, Rect};
 
 /// Appends the one canonical line of a command and a line feed. The words stand apart by single
@@ -96,22 +97,7 @@ fn push_numbers(numbers: &[u32], into: &mut Vec<u8>) -> Result<(), Memory>
 {
     for number in numbers {
         into.push(b' ')?;
-        push_decimal(*number, into)?;
+        into.extend_from_slice(Buffer::new().format(*number).as_bytes())?;
     }
-    Ok(())
-}
-
-/// Appends a number in decimal digits. Where memory is refused, a part stands behind what was there.
-#[tactic(auto, using(std::proofs::lemmas::Fmt::decimal_digit))]
-fn push_decimal(number: u32, into: &mut Vec<u8>) -> Result<(), Memory>
-    ensures ok { OnOk result (into.new.items ≡ into.old.items ++ decimal number) }
-    ensures err { OnErr result (Extends into.old.items into.new.items) }
-{
-    if number < 10 {
-        into.push(b'0' + number as u8)?;
-        return Ok(());
-    }
-    push_decimal(number / 10, into)?;
-    into.push(b'0' + (number % 10) as u8)?;
     Ok(())
 }

@@ -3,6 +3,7 @@ ghost use Rattle.std.specs.Fmt.{decimal};
 ghost use Rattle.std.specs.List.{flat_map};
 ghost use Rattle.orca_send.specs.Lines.{hex_digit, hex_byte, label_of, line_of};
 
+use itoa::Buffer;
 use orca_base::{Memory, Port};
 
 /// What a line of a message begins with.
@@ -42,17 +43,11 @@ fn push_label(line: &mut Vec<u8>, label: Label) -> Result<(), Memory>
     }
 }
 
-/// Appends a number in decimal digits. After [`Memory`] some of them may stand there.
-#[tactic(auto, using(std::proofs::lemmas::Fmt::decimal_digit))]
+/// Appends a number in decimal digits.
 pub fn push_decimal(line: &mut Vec<u8>, n: u64) -> Result<(), Memory>
     ensures { OnOk result (line.new.items ≡ line.old.items ++ decimal n) }
 {
-    if n < 10 {
-        line.push(b'0' + n as u8)?;
-        return Ok(());
-    }
-    push_decimal(line, n / 10)?;
-    line.push(b'0' + (n % 10) as u8)?;
+    line.extend_from_slice(Buffer::new().format(n).as_bytes())?;
     Ok(())
 }
 

@@ -6,6 +6,7 @@ ghost use Rattle.orca_term.specs.Picture.{IsPrintableByte, state_word, note_word
 
 use crate::Editor;
 use crate::limits::STATUS_BYTES;
+use itoa::Buffer;
 use orca_base::limits::{MAX_DIGITS, RULE_NAME_BYTES};
 use orca_base::{Inline, Rule};
 
@@ -90,17 +91,12 @@ fn note_word(note: &Option<Rule>) -> &'static [u8]
 }
 
 /// A number in decimal digits, without leading zeros.
-#[tactic(auto, using(crate::proofs::Digits::decimal_short, crate::proofs::Digits::decimal_front, std::proofs::lemmas::Fmt::decimal_digit, std::proofs::lemmas::Fmt::decimal_step))]
+#[tactic(auto, using(crate::proofs::Digits::decimal_printable))]
 pub(crate) fn decimal(n: u32) -> Inline<MAX_DIGITS>
     ensures decimal { result ≡ decimal n }
     ensures printable { All IsPrintableByte result }
 {
-    if n < 10 {
-        let mut digits = Inline::empty();
-        digits.push(b'0' + n as u8);
-        return digits;
-    }
-    let mut digits = decimal(n / 10);
-    digits.push(b'0' + (n % 10) as u8);
+    let mut digits = Inline::empty();
+    digits.extend(Buffer::new().format(n).as_bytes());
     digits
 }
