@@ -10,16 +10,16 @@ use Rattle.orca_base.specs.declared.command.Command.{Command}
 use Rattle.orca_script.specs.Canonical.{printed, line_of, HasValues}
 use Rattle.orca_script.specs.declared.format_2.Line.{Line}
 use Rattle.orca_script.specs.Format2.{header_seed, header_reading, refused_at}
-use Rattle.orca_script.specs.Runs.{lines_behind, printed2, printed_script, text_behind, LineReadsBack, ScriptReadsBack}
+use Rattle.orca_script.specs.Runs.{lines_behind, printed2, printed_script, text_behind, CommandReadsBack, LineReadsBack, ScriptReadsBack}
 use Rattle.orca_script.proofs.ReadsBack.{reads_back, one_line}
-use Rattle.orca_cues.specs.Scripts.{any_script_of, cues_of, cues_asking, first_fault, script_of, seed_in, one_a_line, ReadsBack}
+use Rattle.orca_cues.specs.Scripts.{any_script_of, cues_of, cues_asking, first_fault, script_of, seed_in, one_a_line}
 
 -- the lines of printed commands, the first of which has this number
 pub record IsRead (number : ℕ) (commands : List Command) : Type 0 where
   pub faultless : first_fault false number (lines (flat_map printed commands)) ≡ None
   pub cues : cues_of false number (lines (flat_map printed commands)) ≡ one_a_line number commands
 
-read_more : (number : ℕ) (command : Command) (others : List Command) → ReadsBack command →
+read_more : (number : ℕ) (command : Command) (others : List Command) → CommandReadsBack command →
     IsRead (number + 1) others → IsRead number (command ∷ others)
 unfolding first_fault cues_of
 read_more number command others back read =
@@ -29,21 +29,22 @@ read_more number command others back read =
       cues = ap (cues_of false number) (back.line rest) ∙ rw (back.read, read.cues) refl;
     }
 
-read_all : (number : ℕ) (commands : List Command) → All ReadsBack commands → IsRead number commands
+read_all : (number : ℕ) (commands : List Command) → All CommandReadsBack commands →
+    IsRead number commands
 unfolding first_fault cues_of
 read_all number [] back = record { faultless = refl; cues = refl }
 read_all number (command ∷ others) back =
-    read_more number command others (All-head ReadsBack command others back)
-    (read_all (number + 1) others (All-tail ReadsBack command others back))
+    read_more number command others (All-head CommandReadsBack command others back)
+    (read_all (number + 1) others (All-tail CommandReadsBack command others back))
 
-pub script_read : (commands : List Command) → All ReadsBack commands →
+pub script_read : (commands : List Command) → All CommandReadsBack commands →
     script_of (flat_map printed commands) ≡ Ok (one_a_line 1 commands)
 script_read commands back =
     let read = read_all 1 commands back in
     rw (read.faultless, read.cues) refl
 
 -- a command whose numbers have 32 bits reads back
-reads_by_values : (command : Command) → HasValues (line_of command) → ReadsBack command
+reads_by_values : (command : Command) → HasValues (line_of command) → CommandReadsBack command
 reads_by_values command values = record {
   read = reads_back command values;
   line = λ rest. one_line command rest values;

@@ -9,7 +9,6 @@ use Rattle.orca_base.specs.declared.command.Command.{Command}
 use Rattle.orca_base.specs.declared.command.Command.TheVariants.{Frame}
 use Rattle.orca_script.specs.declared.format_2.Line.{Line}
 use Rattle.orca_script.specs.declared.format_2.Line.TheVariants as asks
-use Rattle.orca_script.specs.Canonical.{canonical, printed}
 use Rattle.orca_script.specs.Format2.{IsHeader, IsLine2, LeavesAt, header_seed, header_reading, reading2}
 use Rattle.orca_script.specs.Grammar.{IsLine}
 use Rattle.orca_script.specs.Reading.{reading}
@@ -151,8 +150,3 @@ one_a_line number (command ∷ others) = cue_on number command ∷ one_a_line (n
 abbrev pub cues_asking : ℕ → List Line → List Cue
 cues_asking number [] = []
 cues_asking number (asked ∷ others) = cue_asking number asked ∷ cues_asking (number + 1) others
-
--- what is printed of the command is one line before any text, and is read as the command
-pub record ReadsBack (command : Command) : Type 0 where
-  pub read : reading (canonical command) ≡ Ok (Some command)
-  pub line : (rest : List ℕ) → lines (printed command ++ rest) ≡ canonical command ∷ lines rest

@@ -2,8 +2,8 @@ ghost use Rattle.std.specs.Prelude.{◌≡◌, ℕ, Some, Ok, List, All};
 ghost use Rattle.std.specs.List.{flat_map};
 ghost use Rattle.orca_base.specs.declared.command.Command.{Command};
 ghost use Rattle.orca_script.specs.Canonical.{printed, line_of, HasValues};
-ghost use Rattle.orca_script.specs.Runs.{lines_behind, printed_script, ScriptReadsBack};
-ghost use Rattle.orca_cues.specs.Scripts.{any_script_of, cues_asking, script_of, seed_in, one_a_line, ReadsBack};
+ghost use Rattle.orca_script.specs.Runs.{lines_behind, printed_script, CommandReadsBack, ScriptReadsBack};
+ghost use Rattle.orca_cues.specs.Scripts.{any_script_of, cues_asking, script_of, seed_in, one_a_line};
 
 /// The script of printed commands is exactly these commands, in order, each on its own line, and no
 /// line is refused. It is enough that each has numbers of 32 bits and a glyph, or that what is
@@ -13,7 +13,7 @@ pub fn script_laws()
     ensures printed { (commands : List Command)
         → All (λ command. HasValues (line_of command)) commands
         → script_of (flat_map printed commands) ≡ Ok (one_a_line 1 commands) }
-    ensures reads_back { (commands : List Command) → All ReadsBack commands
+    ensures reads_back { (commands : List Command) → All CommandReadsBack commands
         → script_of (flat_map printed commands) ≡ Ok (one_a_line 1 commands) }
     ensures format_2 { (seed : ℕ) (commands : List Command) → ScriptReadsBack seed commands
         → (any_script_of (printed_script seed commands)

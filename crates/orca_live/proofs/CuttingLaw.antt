@@ -37,7 +37,7 @@ use Rattle.orca_term.specs.declared.editor.Wish.TheVariants as wish
 use Rattle.orca_term.specs.declared.editor.Editor.{Editor}
 use Rattle.orca_term.specs.declared.keys.Key.{Key}
 use Rattle.orca_live.specs.Items.{items_by, items_of}
-use Rattle.orca_live.specs.Laws.{AreAlike, CutsAlike, PlayAlike}
+use Rattle.orca_live.specs.Laws.{AreAlike, ItemsDecide, PlayAlike}
 use Rattle.orca_live.specs.Performing.{answer_course, answered_at, byte_course, command_course, due_course, finish_course, fired, frame_course, heard_course, item_course, key_course, live_part, open_course, pace_from, paint_course, painted_course, press_course, preview_course, save_course, show_course, struck_course, toggled, wish_course}
 use Rattle.orca_live.specs.States.{LiveState, dims_at, fitted, is_full, moments_at, piece_at}
 use Rattle.orca_live.proofs.GivenLemmas.{Closes, command_once, finish_closes, paint_commands}
@@ -634,9 +634,9 @@ plays_alike c d q first second = record {
   commands = first.commands ∙ sym second.commands;
 }
 
-pub cuts_alike : CutsAlike
+pub items_decide : ItemsDecide
 unfolding performance lastly
-cuts_alike polls others s t few few_others items same ends others_end =
+items_decide polls others s t few few_others items same ends others_end =
     let c = begun live_part s polls in
     let d = begun live_part t others in
     last_by c.ending d.ending c d

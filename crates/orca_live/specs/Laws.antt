@@ -58,8 +58,8 @@ pub record PlayAlike (c d : Course LiveState Ending) : Type 0 where
   pub commands : commands_in c.acts ≡ commands_in d.acts
 
 -- how the same items were cut into answers changes no command
-abbrev pub CutsAlike : Type 0
-CutsAlike =
+abbrev pub ItemsDecide : Type 0
+ItemsDecide =
     (polls others : List Poll) (s t : LiveState)
     → length polls ≤ MAX_POLLS → length others ≤ MAX_POLLS
     → items_of polls ≡ items_of others → AreAlike s t

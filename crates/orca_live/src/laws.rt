@@ -1,4 +1,4 @@
-ghost use Rattle.orca_live.specs.Laws.{CutsAlike, OnlyAppends, ReplaysScript};
+ghost use Rattle.orca_live.specs.Laws.{ItemsDecide, OnlyAppends, ReplaysScript};
 ghost use Rattle.orca_live.specs.Paintings.{ShowsPerformance};
 
 /// More answers only add acts: what was done before stays done. It does nothing.
@@ -10,7 +10,7 @@ pub fn appending_law()
 /// due frames, in the same order, give the same commands, and leave the session and the commands
 /// that are kept the same. It does nothing.
 pub fn cutting_law()
-    ensures { CutsAlike }
+    ensures { ItemsDecide }
 {}
 
 /// The commands that are kept are those that were given, and their script, done again, leads to the

@@ -21,7 +21,7 @@ use Rattle.orca_edit.specs.Obeying.{MachineState, machine_closed}
 use Rattle.orca_grid.specs.GridText.{grid_text}
 use Rattle.orca_grid.specs.declared.refusal.GridRefusal.{GridRefusal}
 use Rattle.orca_live.specs.Items.{items_of}
-use Rattle.orca_live.specs.Laws.{CutsAlike as LiveCuts, GoesOn, ReplaysScript as LiveReplays, replayed}
+use Rattle.orca_live.specs.Laws.{GoesOn, ItemsDecide, ReplaysScript as LiveReplays, replayed}
 use Rattle.orca_live.specs.Performing.{live_part}
 use Rattle.orca_reports.specs.Manners.{replay_manner}
 use Rattle.orca_rig.specs.Arrived.{Poll}
@@ -67,7 +67,7 @@ record Alike (h k : Brought) : Type 0 where
   pub few : length h.polls ≤ MAX_POLLS
   pub few_others : length k.polls ≤ MAX_POLLS
 
-live_alike : (cutting : LiveCuts) (setup : Setup) (play : Performance) (a b : ℕ) (h k : Brought)
+live_alike : (cutting : ItemsDecide) (setup : Setup) (play : Performance) (a b : ℕ) (h k : Brought)
     (s : Standing) → Alike h k → HasEnd (live_outline setup play a h.polls s)
     → HasEnd (live_outline setup play b k.polls s)
     → EndAlike (live_outline setup play a h.polls s) (live_outline setup play b k.polls s)
@@ -91,7 +91,7 @@ live_alike cutting setup play a b h k s same ends others =
       given = ap (script_kept play.script setup.seed) alike.given;
     }
 
-started_alike : (cutting : LiveCuts) (setup : Setup) (play : Performance) (a b : Option ℕ)
+started_alike : (cutting : ItemsDecide) (setup : Setup) (play : Performance) (a b : Option ℕ)
     (h k : Brought) (s : Standing) → is_some b ≡ is_some a → Alike h k
     → HasEnd (started_outline setup play a h.polls s)
     → HasEnd (started_outline setup play b k.polls s)
@@ -103,7 +103,7 @@ started_alike cutting setup play (Some a) None h k s starts same ends others = a
 started_alike cutting setup play (Some a) (Some b) h k s starts same ends others =
     live_alike cutting setup play a b h k s same ends others
 
-work_alike : (cutting : LiveCuts) (setup : Setup) (work : Work) (sheet : Sheet) (h k : Brought)
+work_alike : (cutting : ItemsDecide) (setup : Setup) (work : Work) (sheet : Sheet) (h k : Brought)
     → Alike h k → HasEnd (work_outline setup work sheet h)
     → HasEnd (work_outline setup work sheet k)
     → EndAlike (work_outline setup work sheet h) (work_outline setup work sheet k)
@@ -124,7 +124,7 @@ work_alike cutting setup (Play play) sheet h k same ends others =
     refl
     (started_alike cutting setup play h.start k.start h k s same.starts same ends others)
 
-grid_alike : (cutting : LiveCuts) (setup : Setup) (work : Work) (h k : Brought)
+grid_alike : (cutting : ItemsDecide) (setup : Setup) (work : Work) (h k : Brought)
     (read : Result Sheet GridRefusal) → Alike h k → HasEnd (grid_outline setup work h read)
     → HasEnd (grid_outline setup work k read)
     → EndAlike (grid_outline setup work h read) (grid_outline setup work k read)
@@ -133,7 +133,7 @@ grid_alike cutting setup work h k (Err refusal) same ends others = alike_none _
 grid_alike cutting setup work h k (Ok sheet) same ends others =
     work_alike cutting setup work sheet h k same ends others
 
-loaded_alike : (cutting : LiveCuts) (setup : Setup) (work : Work) (h k : Brought)
+loaded_alike : (cutting : ItemsDecide) (setup : Setup) (work : Work) (h k : Brought)
     (grid : Option (List ℕ)) → Alike h k → HasEnd (loaded_grid setup work h grid)
     → HasEnd (loaded_grid setup work k grid)
     → EndAlike (loaded_grid setup work h grid) (loaded_grid setup work k grid)
@@ -147,7 +147,7 @@ abbrev with_grid : Setup → Work → Brought → Option (List ℕ) → Outline
 with_grid setup work b grid =
     after (attaches setup) (after (Load setup.grid grid ∷ []) (loaded_grid setup work b grid))
 
-performed_alike : (cutting : LiveCuts) (setup : Setup) (work : Work) (h k : Heard)
+performed_alike : (cutting : ItemsDecide) (setup : Setup) (work : Work) (h k : Heard)
     → HearAlike h k → HasEnd (performed setup work h) → HasEnd (performed setup work k)
     → EndAlike (performed setup work h) (performed setup work k)
 unfolding performed
@@ -172,7 +172,7 @@ performed_alike cutting setup work h k same ends others =
 abbrev unless_long : Bool → Setup → Work → Heard → Outline
 unless_long long setup work h = if long then stopped WavTooLong else performed setup work h
 
-unless_alike : (cutting : LiveCuts) (long : Bool) (setup : Setup) (work : Work) (h k : Heard)
+unless_alike : (cutting : ItemsDecide) (long : Bool) (setup : Setup) (work : Work) (h k : Heard)
     → HearAlike h k → HasEnd (unless_long long setup work h)
     → HasEnd (unless_long long setup work k)
     → EndAlike (unless_long long setup work h) (unless_long long setup work k)
@@ -180,7 +180,7 @@ unless_alike cutting true setup work h k same ends others = alike_none _
 unless_alike cutting false setup work h k same ends others =
     performed_alike cutting setup work h k same ends others
 
-request_alike : (cutting : LiveCuts) (request : Request) (h k : Heard) → HearAlike h k
+request_alike : (cutting : ItemsDecide) (request : Request) (h k : Heard) → HearAlike h k
     → HasEnd (request_outline request h) → HasEnd (request_outline request k)
     → EndAlike (request_outline request h) (request_outline request k)
 unfolding request_outline
@@ -192,14 +192,14 @@ request_alike cutting (Migrate m) h k same ends others =
 request_alike cutting (Perform setup work) h k same ends others =
     unless_alike cutting (is_too_long work) setup work h k same ends others
 
-asked_alike : (cutting : LiveCuts) (request : Option Request) (h k : Heard) → HearAlike h k
+asked_alike : (cutting : ItemsDecide) (request : Option Request) (h k : Heard) → HearAlike h k
     → HasEnd (asked_outline request h) → HasEnd (asked_outline request k)
     → EndAlike (asked_outline request h) (asked_outline request k)
 asked_alike cutting None h k same ends others = alike_none _
 asked_alike cutting (Some request) h k same ends others =
     request_alike cutting request h k same ends others
 
-pub cuts_alike : (cutting : LiveCuts) (words : List (List ℕ)) → CutsAlike words
+pub cuts_alike : (cutting : ItemsDecide) (words : List (List ℕ)) → CutsAlike words
 unfolding outline
 cuts_alike cutting words h k same ends others =
     asked_alike cutting (request_of words) h k same ends others

@@ -8,8 +8,9 @@ use Rattle.orca_base.specs.declared.command.Command.{Command}
 use Rattle.orca_base.specs.declared.command.Command.TheVariants.{Frame}
 use Rattle.orca_script.specs.declared.format_2.Line.{Line}
 use Rattle.orca_script.specs.declared.format_2.Line.TheVariants.{Do, Frames}
-use Rattle.orca_script.specs.Canonical.{Line as Words, line, text_of, line_of, HasValues}
+use Rattle.orca_script.specs.Canonical.{Line as Words, canonical, line, printed, text_of, line_of, HasValues}
 use Rattle.orca_script.specs.Format2.{header_reading, reading2}
+use Rattle.orca_script.specs.Reading.{reading}
 
 -- ---- lines
 
@@ -75,6 +76,11 @@ abbrev pub printed_script : ℕ → List Command → List ℕ
 printed_script seed commands = printed_header seed ++ text_behind 0 commands
 
 -- ---- what is printed is read
+
+-- what is printed of the command is one line before any text, and is read as the command
+pub record CommandReadsBack (command : Command) : Type 0 where
+  pub read : reading (canonical command) ≡ Ok (Some command)
+  pub line : (rest : List ℕ) → lines (printed command ++ rest) ≡ canonical command ∷ lines rest
 
 -- one line before any text, which is read as what it asks for
 pub record LineReadsBack (asked : Line) : Type 0 where

@@ -1,4 +1,4 @@
-use Rattle.orca_live.proofs.CuttingLaw.{cuts_alike as live_cuts_alike}
+use Rattle.orca_live.proofs.CuttingLaw.{items_decide}
 use Rattle.orca_live.proofs.PaintingLaw.{shows_performance}
 use Rattle.orca_live.proofs.ScriptLaw.{replays_script}
 use Rattle.orca_player.proofs.CauseLemmas.{caused_came}
@@ -7,7 +7,7 @@ use Rattle.orca_player.proofs.RunLemmas.{ran_by, ran_usage, ran_usage_only}
 use Rattle.orca_player.proofs.top.run.Goals as goal
 
 pub returns-clause-cutting : goal.returns-clause-cutting
-returns-clause-cutting g c = cuts_alike live_cuts_alike _
+returns-clause-cutting g c = cuts_alike items_decide _
 
 pub returns-clause-replays : goal.returns-clause-replays
 returns-clause-replays g c = replays_alike replays_script _
