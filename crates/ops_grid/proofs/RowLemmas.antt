@@ -12,7 +12,7 @@ use Rattle.orca_base.proofs.PlaceFacts.{index-injective, inside-place_in}
 use Rattle.orca_op.specs.Deeds.{Deed, Mark, Write, Set, Emit, after, cells_after, each, output_at}
 use Rattle.orca_op.specs.Desk.{Desk, desk_after, desk_after_all}
 use Rattle.orca_op.specs.GridRules.{store_deeds}
-use Rattle.orca_op.specs.LawFacts.{Every-each, desk_after_all-each_more, each-same}
+use Rattle.orca_op.proofs.LawFacts.{Every-each, desk_after_all-each_more, each-same}
 use Rattle.orca_op.specs.Laws.{Every}
 use Rattle.ops_grid.specs.Each.{generate_at, konkat_at}
 use Rattle.orca_op.specs.State.{State, glyph_in, peek, var_at}

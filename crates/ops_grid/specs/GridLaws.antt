@@ -7,14 +7,14 @@ use Rattle.orca_base.specs.declared.now.Now.{Now}
 use Rattle.orca_base.specs.declared.place.Place.{Place}
 use Rattle.orca_base.specs.declared.place.Spot.{Spot}
 use Rattle.orca_base.specs.Glyphs.{value, empty}
-use Rattle.orca_base.specs.GlyphFacts.{value-below}
+use Rattle.orca_base.proofs.GlyphFacts.{value-below}
 use Rattle.orca_base.specs.Grids.{off}
 use Rattle.orca_base.specs.MarkSet.{no_marks, with_mark}
 use Rattle.orca_op.specs.State.{State, peek, var_at}
 use Rattle.orca_base.specs.Grids.{below, left, right}
 use Rattle.orca_op.specs.Deeds.{Deed, Set, Write, input_at, param_at, output_at}
 use Rattle.orca_op.specs.Laws.{EmitsInRange, IsLawful, Every, AnyDeed, WritesGlyph, IsCovered, Covers, is_emit}
-use Rattle.orca_op.specs.LawFacts.{IsGlyph-peek, IsGlyph-var_at, length-each, no_event-each, value_or-range, Every-each, AnyDeed-each}
+use Rattle.orca_op.proofs.LawFacts.{IsGlyph-peek, IsGlyph-var_at, length-each, no_event-each, value_or-range, Every-each, AnyDeed-each}
 use Rattle.orca_op.specs.ValueRules.{value_or}
 use Rattle.orca_op.specs.GridRules.{write_at, read_at, variable, track, push, generator, query, konkat, store_deeds, target, source, below_by}
 use Rattle.ops_grid.specs.RunLaws.{lawful-copies, lawful-locks}

@@ -11,7 +11,7 @@ use Rattle.orca_op.specs.State.{State, peek}
 use Rattle.orca_base.specs.Grids.{left}
 use Rattle.orca_op.specs.Deeds.{Deed, Mark, Write, each, input_at, param_at, output_at, lock_at}
 use Rattle.orca_op.specs.Laws.{EmitsInRange, IsLawful, WritesGlyph, IsCovered, Covers, is_emit}
-use Rattle.orca_op.specs.LawFacts.{IsGlyph-peek, length-each, no_event-each, count_by-append, Every-each, Every-append, AnyDeed-each, AnyDeed-right}
+use Rattle.orca_op.proofs.LawFacts.{IsGlyph-peek, length-each, no_event-each, count_by-append, Every-each, Every-append, AnyDeed-each, AnyDeed-right}
 
 -- three parameters, and then a run of glyphs, each read at one spot and written at another that is
 -- covered

@@ -5,7 +5,7 @@ use Rattle.orca_base.specs.declared.limits.TheConstants.{MAX_TEXT}
 use Rattle.orca_base.specs.declared.place.Place.{Place}
 use Rattle.orca_base.specs.Glyphs.{empty}
 use Rattle.orca_op.specs.State.{State}
-use Rattle.orca_op.specs.FirstFacts.{first_where-found, first_where-missing}
+use Rattle.orca_op.proofs.FirstFacts.{first_where-found, first_where-missing}
 use Rattle.orca_op.specs.EventRules.{port, ports, text_at}
 
 -- the first empty port ends the text

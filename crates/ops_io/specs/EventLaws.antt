@@ -10,13 +10,13 @@ use Rattle.orca_base.specs.declared.limits.TheConstants.{BASE, MIN_VELOCITY, MAX
 use Rattle.orca_base.specs.declared.place.Place.{Place}
 use Rattle.orca_base.specs.EventRanges.{IsInRange}
 use Rattle.orca_base.specs.Glyphs.{IsGlyph, empty, value, note_number}
-use Rattle.orca_base.specs.GlyphFacts.{value-below}
+use Rattle.orca_base.proofs.GlyphFacts.{value-below}
 use Rattle.orca_op.specs.State.{State, IsState, has_bang}
 use Rattle.orca_base.specs.Grids.{right}
 use Rattle.orca_op.specs.Deeds.{Deed, Mark, Write, Set, Emit, input_at, param_at, lock_at}
 use Rattle.orca_op.specs.Laws.{IsLawful, Every, WritesGlyph, EmitsInRange, IsCovered, is_emit}
-use Rattle.orca_op.specs.LawFacts.{IsGlyph-peek, value_or-range, length-each, Every-append, Every-each, count_by-append}
-use Rattle.orca_op.specs.FirstFacts.{first_where-range}
+use Rattle.orca_op.proofs.LawFacts.{IsGlyph-peek, value_or-range, length-each, Every-append, Every-each, count_by-append}
+use Rattle.orca_op.proofs.FirstFacts.{first_where-range}
 use Rattle.orca_op.specs.MotionRules.{lock_deeds}
 use Rattle.orca_op.specs.EventRules.{beside_bang, send_deeds, port, inputs, ports, velocity_of, note_with, note_of, midi, mono, control_of, control_change, bend_of, pitch_bend, text_length, text_at, text_event, udp_text, osc_of, osc_message}
 

@@ -28,7 +28,7 @@ impl Operator for ControlChange {
 
     ghost laws = { lawful-control_change };
 
-    #[tactic(auto, using(orca_op::specs::LawFacts::added_up), unfolding(orca_op::specs::EventRules::control_of))]
+    #[tactic(auto, using(orca_op::proofs::LawFacts::added_up), unfolding(orca_op::specs::EventRules::control_of))]
     fn act<B: Bench, L: Ledger>(
         &self,
         bench: &mut B,

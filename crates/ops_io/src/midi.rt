@@ -26,7 +26,7 @@ impl Operator for Midi {
 
     ghost laws = { lawful-midi };
 
-    #[tactic(auto, using(orca_op::specs::LawFacts::added_up), unfolding(orca_op::specs::EventRules::note_of))]
+    #[tactic(auto, using(orca_op::proofs::LawFacts::added_up), unfolding(orca_op::specs::EventRules::note_of))]
     fn act<B: Bench, L: Ledger>(
         &self,
         bench: &mut B,

@@ -24,7 +24,7 @@ impl Operator for Mono {
 
     ghost laws = { lawful-mono };
 
-    #[tactic(auto, using(orca_op::specs::LawFacts::added_up), unfolding(orca_op::specs::EventRules::note_of))]
+    #[tactic(auto, using(orca_op::proofs::LawFacts::added_up), unfolding(orca_op::specs::EventRules::note_of))]
     fn act<B: Bench, L: Ledger>(
         &self,
         bench: &mut B,

@@ -28,7 +28,7 @@ impl Operator for OscMessage {
 
     ghost laws = { lawful-osc_message };
 
-    #[tactic(auto, using(orca_op::specs::LawFacts::added_up), unfolding(orca_op::specs::EventRules::osc_of, orca_op::specs::Deeds::after))]
+    #[tactic(auto, using(orca_op::proofs::LawFacts::added_up), unfolding(orca_op::specs::EventRules::osc_of, orca_op::specs::Deeds::after))]
     fn act<B: Bench, L: Ledger>(
         &self,
         bench: &mut B,

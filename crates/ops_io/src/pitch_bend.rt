@@ -28,7 +28,7 @@ impl Operator for PitchBend {
 
     ghost laws = { lawful-pitch_bend };
 
-    #[tactic(auto, using(orca_op::specs::LawFacts::added_up), unfolding(orca_op::specs::EventRules::bend_of))]
+    #[tactic(auto, using(orca_op::proofs::LawFacts::added_up), unfolding(orca_op::specs::EventRules::bend_of))]
     fn act<B: Bench, L: Ledger>(
         &self,
         bench: &mut B,

@@ -27,7 +27,7 @@ impl Operator for UdpText {
 
     ghost laws = { lawful-udp_text };
 
-    #[tactic(auto, using(orca_op::specs::LawFacts::added_up))]
+    #[tactic(auto, using(orca_op::proofs::LawFacts::added_up))]
     fn act<B: Bench, L: Ledger>(
         &self,
         bench: &mut B,

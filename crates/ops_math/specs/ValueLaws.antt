@@ -4,11 +4,11 @@ use Rattle.std.proofs.Common.{inl, inr, arith, lit≤}
 use Rattle.std.proofs.lemmas.Bool.Decides.{nat_tests}
 use Rattle.orca_base.specs.declared.limits.TheConstants.{BASE}
 use Rattle.orca_base.specs.Glyphs.{IsGlyph, empty, bang, value, cased}
-use Rattle.orca_base.specs.GlyphFacts.{IsGlyph-cased, value-below}
+use Rattle.orca_base.proofs.GlyphFacts.{IsGlyph-cased, value-below}
 use Rattle.orca_op.specs.State.{peek}
 use Rattle.orca_base.specs.Grids.{left, right}
 use Rattle.orca_op.specs.Laws.{IsLawful}
-use Rattle.orca_op.specs.LawFacts.{value_or-range, quiet}
+use Rattle.orca_op.proofs.LawFacts.{value_or-range, quiet}
 use Rattle.orca_op.specs.ValueRules.{value_or, random_between, lerped, add, subtract, clock, delay, if_equal, increment, lesser, multiply, random, uclid, lerp}
 
 -- the bang or the empty glyph

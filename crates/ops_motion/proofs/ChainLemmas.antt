@@ -6,8 +6,8 @@ use Rattle.orca_base.specs.declared.place.Spot.{Spot}
 use Rattle.orca_op.specs.State.{State, peek}
 use Rattle.orca_op.specs.Deeds.{Write, input_at, output_at}
 use Rattle.orca_op.specs.Desk.{Desk, desk_after, desk_after_all}
-use Rattle.orca_op.specs.LawFacts.{desk_after_all-append}
-use Rattle.orca_op.specs.FirstFacts.{first_where-found, first_where-missing}
+use Rattle.orca_op.proofs.LawFacts.{desk_after_all-append}
+use Rattle.orca_op.proofs.FirstFacts.{first_where-found, first_where-missing}
 use Rattle.orca_op.specs.MotionRules.{chain_end, sleep_deeds, jump}
 
 -- the first other glyph ends the chain

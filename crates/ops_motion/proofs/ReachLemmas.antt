@@ -13,9 +13,9 @@ use Rattle.orca_base.specs.Grids.{right}
 use Rattle.orca_op.specs.State.{State, peek}
 use Rattle.orca_op.specs.Deeds.{Write, input_at, lock_at, output_at}
 use Rattle.orca_op.specs.First.{first_where}
-use Rattle.orca_op.specs.FirstFacts.{first_where-before, first_where-passes, first_where-range}
+use Rattle.orca_op.proofs.FirstFacts.{first_where-before, first_where-passes, first_where-range}
 use Rattle.orca_op.specs.Laws.{Every}
-use Rattle.orca_op.specs.LawFacts.{Every-each}
+use Rattle.orca_op.proofs.LawFacts.{Every-each}
 use Rattle.orca_op.specs.MotionRules.{hash, chain_end, comment_length, jump, lock_deeds, sleep_deeds}
 use Rattle.ops_motion.proofs.ChainLemmas.{chain_end-found, chain_end-missing}
 use Rattle.ops_motion.specs.MotionLaws.{comment_length-few}

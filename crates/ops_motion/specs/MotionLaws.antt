@@ -9,8 +9,8 @@ use Rattle.orca_op.specs.State.{State, peek}
 use Rattle.orca_base.specs.Grids.{above, below, down, left, right}
 use Rattle.orca_op.specs.Deeds.{Deed, Write, output_at, lock_at, sleep_at}
 use Rattle.orca_op.specs.Laws.{EmitsInRange, IsLawful, is_emit, Every, WritesGlyph, IsCovered}
-use Rattle.orca_op.specs.LawFacts.{IsGlyph-peek, length-each, no_event-each, Every-each, Every-append, AnyDeed-right, count_by-append}
-use Rattle.orca_op.specs.FirstFacts.{first_where-range}
+use Rattle.orca_op.proofs.LawFacts.{IsGlyph-peek, length-each, no_event-each, Every-each, Every-append, AnyDeed-right, count_by-append}
+use Rattle.orca_op.proofs.FirstFacts.{first_where-range}
 use Rattle.orca_op.specs.MotionRules.{move_to, east, north, south, west, bang_rule, halt, comment_length, lock_deeds, comment, chain_end, sleep_deeds, jump_by, jump, jumper, jymper}
 
 pub lawful-bang : IsLawful bang_rule

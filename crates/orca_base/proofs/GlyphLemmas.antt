@@ -4,7 +4,7 @@ use Rattle.std.specs.Prelude.{slice_index, nat_le}
 use Rattle.std.proofs.lemmas.Bool.{agree_below_at, eqb-true, leb-true}
 use Rattle.orca_base.specs.declared.glyph.TheConstants.{VALUES, OPERATORS, LOWER, UPPER}
 use Rattle.orca_base.specs.Glyphs.{value, from_value, upper, is_operator}
-use Rattle.orca_base.specs.GlyphFacts.{value-below}
+use Rattle.orca_base.proofs.GlyphFacts.{value-below}
 
 pub value_table : (g : ℕ) → g < 128 → slice_index VALUES g ≡ value g
 unfolding value

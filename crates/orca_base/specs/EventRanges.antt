@@ -6,7 +6,7 @@ use Rattle.orca_base.specs.declared.event.Event.TheVariants as event
 use Rattle.orca_base.specs.declared.message.Message.{Message}
 use Rattle.orca_base.specs.declared.message.Message.TheVariants as message
 use Rattle.orca_base.specs.Glyphs.{IsGlyph, is_digit, is_upper, is_lower}
-use Rattle.orca_base.specs.Ranges.{AreInRange, IsPlayable, IsSendable, HasFewValues, CarriesFewValues}
+use Rattle.orca_base.specs.Ranges.{AreInRange, IsSendable}
 
 -- a note that starts with at least the least velocity, and sounds for 1 to 35 frames
 pub record IsNote (channel key velocity frames : ℕ) : Type 0 where
@@ -40,23 +40,6 @@ IsInRange (event.Bend channel lsb msb) = AreInRange channel lsb msb
 IsInRange (event.Udp text) = IsText text
 IsInRange (event.Osc path values) = IsOsc path values
 
--- an event in range can be played
-pub IsPlayable-in_range : (e : Event) → IsInRange e → IsPlayable e
-IsPlayable-in_range (event.Note channel key velocity frames mono) range =
-    (range.numbers, range.loud)
-IsPlayable-in_range (event.Control channel control value) range = range.numbers
-IsPlayable-in_range (event.Bend channel lsb msb) range = range
-IsPlayable-in_range (event.Udp text) range = tt
-IsPlayable-in_range (event.Osc path values) range = tt
-
--- an event in range has few values
-pub HasFewValues-in_range : (e : Event) → IsInRange e → HasFewValues e
-HasFewValues-in_range (event.Note channel key velocity frames mono) range = tt
-HasFewValues-in_range (event.Control channel control value) range = tt
-HasFewValues-in_range (event.Bend channel lsb msb) range = tt
-HasFewValues-in_range (event.Udp text) range = tt
-HasFewValues-in_range (event.Osc path values) range = range.few
-
 -- a message in range: one of a note can be sent, and any other is that of an event in range. Its
 -- controller is below 36, so it is no channel mode message (MIDI 1.0, controllers 120 to 127)
 abbrev pub IsMessageInRange : Message → Type 0
@@ -64,12 +47,3 @@ IsMessageInRange (message.Control channel control value) = IsControl channel con
 IsMessageInRange (message.Udp text) = IsText text
 IsMessageInRange (message.Osc path values) = IsOsc path values
 IsMessageInRange m = IsSendable m
-
--- a message in range has few values
-pub CarriesFewValues-in_range : (m : Message) → IsMessageInRange m → CarriesFewValues m
-CarriesFewValues-in_range (message.On channel key velocity) range = tt
-CarriesFewValues-in_range (message.Off channel key) range = tt
-CarriesFewValues-in_range (message.Control channel control value) range = tt
-CarriesFewValues-in_range (message.Bend channel lsb msb) range = tt
-CarriesFewValues-in_range (message.Udp text) range = tt
-CarriesFewValues-in_range (message.Osc path values) range = range.few

@@ -2,7 +2,6 @@ pub mod Areas
 pub mod Ascii
 pub mod Edits
 pub mod EventRanges
-pub mod GlyphFacts
 pub mod Glyphs
 pub mod Grids
 pub mod Histories

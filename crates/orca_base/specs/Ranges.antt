@@ -36,15 +36,6 @@ IsSendable (message.On channel key velocity) =
     AreInRange channel key velocity × (MIN_VELOCITY ≤ velocity)
 IsSendable m = HasDataInRange m
 
--- a message that can be sent has its data in range
-pub HasDataInRange-sendable : (m : Message) → IsSendable m → HasDataInRange m
-HasDataInRange-sendable (message.On channel key velocity) range = range.0
-HasDataInRange-sendable (message.Off channel key) range = range
-HasDataInRange-sendable (message.Control channel control value) range = range
-HasDataInRange-sendable (message.Bend channel lsb msb) range = range
-HasDataInRange-sendable (message.Udp text) range = tt
-HasDataInRange-sendable (message.Osc path values) range = tt
-
 -- an event that has no more values than an OSC message
 abbrev pub HasFewValues : Event → Type 0
 HasFewValues (event.Osc path values) = length values ≤ MAX_VALUES

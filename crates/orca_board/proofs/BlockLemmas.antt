@@ -18,8 +18,8 @@ use Rattle.orca_base.proofs.SheetFacts.{list-by_place, same-by_place}
 use Rattle.orca_op.specs.State.{State, glyph_at, peek}
 use Rattle.orca_op.specs.Deeds.{Write, after}
 use Rattle.orca_op.specs.Desk.{Desk, desk_after, desk_after_all, is_listed, list_after, list_with}
-use Rattle.orca_op.specs.HereFacts.{peek_here}
-use Rattle.orca_op.specs.LawFacts.{desk_after_all-append}
+use Rattle.orca_op.proofs.HereFacts.{peek_here}
+use Rattle.orca_op.proofs.LawFacts.{desk_after_all-append}
 use Rattle.orca_op.proofs.DeskFacts.{glyph_at-write_other}
 use Rattle.orca_board.specs.Blocks.{list_each, desk_after_edit, glyph_from, nth_place, places_in, rows_of, write_each}
 

@@ -19,7 +19,7 @@ use Rattle.orca_base.specs.Edits.{block_of, is_in_area}
 use Rattle.orca_base.specs.Grids.{Size, by_place, here}
 use Rattle.orca_op.specs.Deeds.{Deed, Write}
 use Rattle.orca_op.specs.Desk.{Desk, desk_after, desk_after_all}
-use Rattle.orca_op.specs.LawFacts.{desk_after_all-append}
+use Rattle.orca_op.proofs.LawFacts.{desk_after_all-append}
 use Rattle.orca_op.specs.State.{State, glyph_at, sheet_of}
 use Rattle.orca_board.specs.Blocks.{crosses, glyph_from, nth_place, places_in, places_outside, row_outside, rows_of, run_of, write_each}
 use Rattle.orca_board.specs.Sizes.{whole}

@@ -18,7 +18,7 @@ use Rattle.orca_base.specs.Glyphs.{bang, empty}
 use Rattle.orca_op.specs.State.{State, has_bang, peek}
 use Rattle.orca_op.specs.Deeds.{Deed, Mark, after, marks_after, span_deeds}
 use Rattle.orca_op.specs.Desk.{Desk, desk_after, desk_after_all, list_after}
-use Rattle.orca_op.specs.LawFacts.{desk_after_all-append}
+use Rattle.orca_op.proofs.LawFacts.{desk_after_all-append}
 use Rattle.orca_board.specs.Board.{IsEmptyOutside, glyph_in, marks_in}
 use Rattle.orca_board.proofs.LargestLemmas.{peek-none, peek-some}
 use Rattle.orca_board.specs.Listing.{ListsChanges}

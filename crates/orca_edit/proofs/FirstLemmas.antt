@@ -12,7 +12,7 @@ use Rattle.orca_base.specs.declared.command.Entry.TheVariants.{Hush}
 use Rattle.orca_base.specs.declared.limits.TheConstants.{KEPT_PATCHES, KEPT_TOUCHED}
 use Rattle.orca_base.specs.Histories.{few_touched, worn_of}
 use Rattle.orca_op.specs.First.{NonePasses}
-use Rattle.orca_op.specs.FirstFacts.{first_where-found, first_where-missing}
+use Rattle.orca_op.proofs.FirstFacts.{first_where-found, first_where-missing}
 use Rattle.orca_edit.specs.Obeying.{MachineState, piece_of}
 use Rattle.orca_edit.specs.Pieces.{Piece}
 use Rattle.orca_edit.specs.Prices.{fits_from, least_first, of_entry, piece_at, total, touched}

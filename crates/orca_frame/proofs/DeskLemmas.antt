@@ -6,7 +6,7 @@ use Rattle.orca_base.specs.Grids.{Size, Sheet, place_of}
 use Rattle.orca_op.specs.State.{State}
 use Rattle.orca_op.specs.Deeds.{Deed}
 use Rattle.orca_op.specs.Desk.{Desk, desk_after, desk_after_all, list_after, list_after_all}
-use Rattle.orca_op.specs.LawFacts.{scan-desk_after_all}
+use Rattle.orca_op.proofs.LawFacts.{scan-desk_after_all}
 use Rattle.orca_op.specs.Rules.{rule}
 use Rattle.orca_op.specs.Scan.{Rules, visit_deeds, state_after_places, scan_deeds}
 use Rattle.orca_op.proofs.StateFacts.{dims_after, dims_after_all}

@@ -12,7 +12,7 @@ use Rattle.orca_op.specs.State.{State, IsState, sheet_of, glyph_at}
 use Rattle.orca_op.specs.Deeds.{Deed}
 use Rattle.orca_op.specs.Desk.{Desk, IsDesk, desk_after_all}
 use Rattle.orca_op.specs.Laws.{IsLawful, Every, WritesGlyph, EmitsInRange, is_emit}
-use Rattle.orca_op.specs.LawFacts.{in_range-after_all}
+use Rattle.orca_op.proofs.LawFacts.{in_range-after_all}
 use Rattle.orca_op.specs.Rules.{rule}
 use Rattle.orca_op.specs.Scan.{visit_deeds, is_idle, state_after_places, places}
 use Rattle.orca_op.proofs.DeskFacts.{IsDesk-after_all, IsDesk-of_sheet}

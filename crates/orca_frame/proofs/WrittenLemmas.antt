@@ -13,7 +13,7 @@ use Rattle.orca_base.specs.Grids.{is_inside, is_place}
 use Rattle.orca_base.proofs.PlaceFacts.{is_place-same}
 use Rattle.orca_op.proofs.DeskFacts.{IsDistinct-list_with}
 use Rattle.orca_op.specs.Desk.{list_with, list_after, list_after_all}
-use Rattle.orca_op.specs.LawFacts.{after_all-append}
+use Rattle.orca_op.proofs.LawFacts.{after_all-append}
 use Rattle.orca_op.specs.Laws.{AnyDeed}
 use Rattle.orca_op.specs.Rules.{rule}
 use Rattle.orca_op.specs.Scan.{visit_deeds, state_after_places, scan_deeds, scan, places, written_places}

@@ -14,7 +14,7 @@ use orca_op::{Bench, has_bang};
 use std::sync::ledger::Ledger;
 
 /// Visits a place: does nothing where it is idle, and else the deeds of its operator.
-#[tactic(auto, using(orca_op::specs::HereFacts::peek_here), unfolding(orca_op::specs::Scan::visit_deeds, orca_op::specs::Scan::is_idle))]
+#[tactic(auto, using(orca_op::proofs::HereFacts::peek_here), unfolding(orca_op::specs::Scan::visit_deeds, orca_op::specs::Scan::is_idle))]
 pub(crate) fn visit<B: Bench, L: Ledger>(bench: &mut B, at: Place, now: Now, steps: &mut Steps<L>)
     requires inside { IsInside (B.desk bench.old).scan.dims at }
     requires room { HasRoom (B.desk bench.old) }
@@ -32,7 +32,7 @@ pub(crate) fn visit<B: Bench, L: Ledger>(bench: &mut B, at: Place, now: Now, ste
 }
 
 /// Visits a place that holds an operator. Most such places are locked, so the marks are looked at first.
-#[tactic(auto, using(orca_op::specs::HereFacts::peek_here), unfolding(orca_op::specs::Scan::visit_deeds, orca_op::specs::Scan::is_idle))]
+#[tactic(auto, using(orca_op::proofs::HereFacts::peek_here), unfolding(orca_op::specs::Scan::visit_deeds, orca_op::specs::Scan::is_idle))]
 pub(crate) fn visit_operator<B: Bench, L: Ledger>(
     bench: &mut B,
     at: Place,
@@ -58,7 +58,7 @@ pub(crate) fn visit_operator<B: Bench, L: Ledger>(
 }
 
 /// Whether a place is locked or asleep.
-#[tactic(auto, using(orca_op::specs::HereFacts::marked_here))]
+#[tactic(auto, using(orca_op::proofs::HereFacts::marked_here))]
 fn is_still<B: Bench, L: Ledger>(bench: &B, at: Place, steps: &mut Steps<L>) -> bool
     requires { IsInside (B.desk bench.now).scan.dims at }
     ensures still { result ≡ ((marks_at (B.desk bench.now).scan at).lock

@@ -1,6 +1,31 @@
 -- What messages in a row do to a device.
 use Rattle.std.proofs.Common.{◌≡◌, ℕ, List, [], ◌∷◌, ◌++◌, refl, ap, ◌∙◌}
-use Rattle.orca_notes.specs.Device.{Voice, Turn, Neither, turn_of, keys_after, device, Suits, IsFair, Leads, device-append, IsFair-append}
+use Rattle.std.specs.List.{filter_map}
+use Rattle.std.specs.Prelude.{fold}
+use Rattle.std.proofs.lemmas.List.Elements.{filter_map-append}
+use Rattle.std.proofs.lemmas.List.Sums.{fold-append}
+use Rattle.orca_base.specs.declared.message.Message.{Message}
+use Rattle.orca_base.specs.MidiBytes.{midi_bytes_of}
+use Rattle.orca_notes.specs.Device.{Voice, Turn, Neither, turn_of, keys_after, device, Suits, IsFair, Leads, midi}
+
+-- a device goes on where it stands
+pub device-append : (on : List Voice) (xs ys : List (List ℕ))
+    → device on (xs ++ ys) ≡ device (device on xs) ys
+unfolding device
+device-append on xs ys = fold-append (λ on message. keys_after on (turn_of message)) on xs ys
+
+-- messages are fair where their beginning is, and their rest after it
+pub IsFair-append : (on : List Voice) (xs ys : List (List ℕ))
+    → IsFair on xs → IsFair (device on xs) ys → IsFair on (xs ++ ys)
+unfolding device IsFair
+IsFair-append on [] ys first rest = rest
+IsFair-append on (x ∷ xs) ys first rest =
+    (first.0, IsFair-append (keys_after on (turn_of x)) xs ys first.1 rest)
+
+-- the MIDI messages of two lists
+pub midi-append : (xs ys : List Message) → midi (xs ++ ys) ≡ midi xs ++ midi ys
+unfolding midi
+midi-append xs ys = filter_map-append midi_bytes_of xs ys
 
 -- no messages leave the keys as they are
 pub Leads-none : (on : List Voice) → Leads on [] on

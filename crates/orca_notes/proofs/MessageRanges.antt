@@ -7,8 +7,9 @@ use Rattle.orca_base.specs.declared.event.Event.{Event}
 use Rattle.orca_base.specs.declared.event.Event.TheVariants as event
 use Rattle.orca_base.specs.declared.message.Message.{Message}
 use Rattle.orca_base.specs.declared.message.Message.TheVariants as message
-use Rattle.orca_base.specs.EventRanges.{IsInRange, IsMessageInRange, IsPlayable-in_range}
+use Rattle.orca_base.specs.EventRanges.{IsInRange, IsMessageInRange}
 use Rattle.orca_base.specs.Ranges.{IsPlayable, IsSendable, HasFewValues, CarriesFewValues}
+use Rattle.orca_base.proofs.RangeFacts.{IsPlayable-in_range}
 use Rattle.orca_notes.specs.Device.{IsChord}
 use Rattle.orca_notes.specs.Sound.{Sounds, sounds_of, is_due, is_cut_by, ends, stop, happens, sound}
 use Rattle.orca_notes.proofs.Follows.{Follows, sound-follows}

@@ -6,10 +6,10 @@ use Rattle.orca_base.specs.declared.note.Note.{Note}
 use Rattle.orca_base.specs.declared.message.Message.{Message}
 use Rattle.orca_base.specs.declared.message.Message.TheVariants as message
 use Rattle.orca_base.specs.Ranges.{IsSendable}
-use Rattle.orca_notes.specs.Device.{voices, IsChord, Plays, midi, midi-append}
+use Rattle.orca_notes.specs.Device.{voices, IsChord, Plays, midi}
 use Rattle.orca_notes.specs.Sound.{ends}
 use Rattle.orca_notes.proofs.Chords.{IsNote, voices-in_range}
-use Rattle.orca_notes.proofs.DeviceFacts.{Leads-none, Leads-append}
+use Rattle.orca_notes.proofs.DeviceFacts.{Leads-none, Leads-append, midi-append}
 use Rattle.orca_notes.proofs.Turns.{Leads-ends}
 
 -- no messages leave the notes as they are

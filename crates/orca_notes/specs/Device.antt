@@ -2,8 +2,6 @@
 -- on and note off).
 use Rattle.std.specs.Prelude.{◌≡◌, ℕ, ◌/◌, ◌%◌, ◌≤◌, Bool, true, false, not, ◌&&◌, ◌||◌, ◌==◌, if◌then◌else◌, List, [], ◌∷◌, ◌++◌, map, filter, fold, All}
 use Rattle.std.specs.List.{list_any, filter_map, IsDistinct}
-use Rattle.std.proofs.lemmas.List.Elements.{filter_map-append}
-use Rattle.std.proofs.lemmas.List.Sums.{fold-append}
 use Rattle.orca_base.specs.declared.limits.TheConstants.{MAX_CHANNEL, MAX_DATA}
 use Rattle.orca_base.specs.declared.note.Note.{Note}
 use Rattle.orca_base.specs.declared.message.Message.{Message}
@@ -98,21 +96,3 @@ pub record Leads (on : List Voice) (messages : List (List ℕ)) (after : List Vo
 pub record Plays (before : List Note) (messages : List Message) (after : List Note) : Type 0 where
   pub keys : Leads (voices before) (midi messages) (voices after)
   pub sendable : All IsSendable messages
-
--- a device goes on where it stands
-pub device-append : (on : List Voice) (xs ys : List (List ℕ))
-    → device on (xs ++ ys) ≡ device (device on xs) ys
-unfolding device
-device-append on xs ys = fold-append (λ on message. keys_after on (turn_of message)) on xs ys
-
--- messages are fair where their beginning is, and their rest after it
-pub IsFair-append : (on : List Voice) (xs ys : List (List ℕ))
-    → IsFair on xs → IsFair (device on xs) ys → IsFair on (xs ++ ys)
-unfolding device IsFair
-IsFair-append on [] ys first rest = rest
-IsFair-append on (x ∷ xs) ys first rest =
-    (first.0, IsFair-append (keys_after on (turn_of x)) xs ys first.1 rest)
-
-pub midi-append : (xs ys : List Message) → midi (xs ++ ys) ≡ midi xs ++ midi ys
-unfolding midi
-midi-append xs ys = filter_map-append midi_bytes_of xs ys

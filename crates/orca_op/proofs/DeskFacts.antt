@@ -16,7 +16,7 @@ use Rattle.orca_op.specs.State.{State, glyph_at}
 use Rattle.orca_op.specs.Deeds.{Deed, Mark, Write, Set, Emit, after, cells_after}
 use Rattle.orca_op.specs.Desk.{Desk, IsDesk, KeepsUnlisted, is_listed, list_with, list_after, desk_after, desk_after_all, desk_of_sheet}
 use Rattle.orca_op.specs.Laws.{Every, WritesGlyph, is_emit}
-use Rattle.orca_op.specs.LawFacts.{count_by-append}
+use Rattle.orca_op.proofs.LawFacts.{count_by-append}
 use Rattle.orca_op.proofs.StateFacts.{IsState-after, IsState-fresh, dims_after, events_after}
 
 -- ---- the test of equal places

@@ -1,3 +1,6 @@
 pub mod DeskFacts
+pub mod FirstFacts
+pub mod HereFacts
+pub mod LawFacts
 pub mod LiveLemmas
 pub mod StateFacts

@@ -8,7 +8,7 @@ use Rattle.std.proofs.lemmas.Nat.{and_le_l, pow_pos}
 use Rattle.std.proofs.lemmas.Nat.Bits.{bit_at_and, bit_at_mask_inside, bit_at_mask_below, ones_shl, bit_at-lt, bit_at-zero, bit_at-trailing_zeros}
 use Rattle.std.proofs.lemmas.Bool.{cases_lt, le-ltb}
 use Rattle.orca_op.specs.First.{first_where}
-use Rattle.orca_op.specs.FirstFacts.{first_where-found, first_where-missing, first_where-same, first_where-longer, first_where-range, first_where-passes, first_where-before}
+use Rattle.orca_op.proofs.FirstFacts.{first_where-found, first_where-missing, first_where-same, first_where-longer, first_where-range, first_where-passes, first_where-before}
 use Rattle.orca_op.specs.Live.{is_live, has_bit, IsLiveRow, next_live, HasNoLive, IsCursor, IsLeastBit}
 use Rattle.orca_op.specs.State.{State}
 

@@ -13,7 +13,7 @@ use Rattle.orca_base.proofs.SheetFacts.{AreGlyphs-set}
 use Rattle.orca_op.specs.State.{State, IsState, sheet_of, fresh, marks_at, peek}
 use Rattle.orca_op.specs.Deeds.{Deed, Mark, Write, Set, Emit, after, after_all, marks_after, cells_after}
 use Rattle.orca_op.specs.Laws.{Every, WritesGlyph, is_emit}
-use Rattle.orca_op.specs.LawFacts.{count_by-append}
+use Rattle.orca_op.proofs.LawFacts.{count_by-append}
 
 -- no deed changes the size
 pub dims_after : (s : State) (deed : Deed) → (after s deed).dims ≡ s.dims

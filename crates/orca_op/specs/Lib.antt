@@ -11,6 +11,3 @@ pub mod Rules
 pub mod Scan
 pub mod Live
 pub mod Laws
-pub mod HereFacts
-pub mod LawFacts
-pub mod FirstFacts

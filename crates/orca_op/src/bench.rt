@@ -64,7 +64,7 @@ pub trait Bench {
         ensures steps { steps.new ≡ steps.old + 1 };
 
     /// The glyph of a place of the grid.
-    #[tactic(auto, using(crate::specs::HereFacts::peek_here))]
+    #[tactic(auto, using(crate::proofs::HereFacts::peek_here))]
     fn peek_here<L: Ledger>(&self, at: Place, steps: &mut Steps<L>) -> Glyph
         requires { IsInside (desk self.now).scan.dims at }
         ensures glyph { result ≡ glyph_at (desk self.now).scan at }
@@ -74,7 +74,7 @@ pub trait Bench {
     }
 
     /// The marks of a place of the grid.
-    #[tactic(auto, using(crate::specs::HereFacts::marked_here))]
+    #[tactic(auto, using(crate::proofs::HereFacts::marked_here))]
     fn marked_here<L: Ledger>(&self, at: Place, steps: &mut Steps<L>) -> Marks
         requires { IsInside (desk self.now).scan.dims at }
         ensures marks { result ≡ marks_at (desk self.now).scan at }

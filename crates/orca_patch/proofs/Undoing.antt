@@ -15,7 +15,7 @@ use Rattle.orca_base.proofs.PlaceFacts.{is_place-refl}
 use Rattle.orca_base.proofs.SheetFacts.{glyph_at-sheet_by, length-by_place}
 use Rattle.orca_op.specs.Deeds.{Deed, Write}
 use Rattle.orca_op.specs.Desk.{Desk, desk_after, desk_after_all, is_listed, list_with, residue}
-use Rattle.orca_op.specs.LawFacts.{desk_after_all-append}
+use Rattle.orca_op.proofs.LawFacts.{desk_after_all-append}
 use Rattle.orca_op.specs.State.{State, blank_marks, sheet_of}
 use Rattle.orca_op.proofs.DeskFacts.{IsEquivalence-is_place}
 use Rattle.orca_board.specs.Blocks.{desk_after_edit, list_each, write_each}

@@ -8,9 +8,10 @@ use Rattle.orca_base.specs.declared.message.Message.{Message}
 use Rattle.orca_base.specs.declared.note.Note.{Note}
 use Rattle.orca_base.specs.declared.now.Now.{Now}
 use Rattle.orca_base.specs.declared.place.Place.{Place}
-use Rattle.orca_base.specs.EventRanges.{IsInRange, IsPlayable-in_range}
+use Rattle.orca_base.specs.EventRanges.{IsInRange}
 use Rattle.orca_base.specs.Grids.{IsInside, IsSheet, Sheet, Size, cells_of, place_of}
 use Rattle.orca_base.specs.Ranges.{IsPlayable}
+use Rattle.orca_base.proofs.RangeFacts.{IsPlayable-in_range}
 use Rattle.orca_base.proofs.PlaceFacts.{inside-place_of}
 use Rattle.orca_base.proofs.SheetFacts.{IsGlyph-glyph_at}
 use Rattle.orca_edit.specs.Obeying.{MachineState, obey, piece_of}
@@ -19,7 +20,7 @@ use Rattle.orca_edit.proofs.SheetLemmas.{IsSheet-scan, dims_after_places}
 use Rattle.orca_notes.specs.Device.{IsChord, Plays}
 use Rattle.orca_notes.proofs.Follows.{Follows, sound-follows}
 use Rattle.orca_op.specs.Deeds.{Deed}
-use Rattle.orca_op.specs.LawFacts.{in_range-after_all}
+use Rattle.orca_op.proofs.LawFacts.{in_range-after_all}
 use Rattle.orca_op.specs.Laws.{EmitsInRange, Every, IsLawful, WritesGlyph, is_emit}
 use Rattle.orca_op.specs.Rules.{rule}
 use Rattle.orca_op.specs.Scan.{is_idle, places, scan, state_after_places, visit_deeds}

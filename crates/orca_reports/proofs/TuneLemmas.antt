@@ -9,7 +9,8 @@ use Rattle.orca_base.specs.declared.message.Message.{Message}
 use Rattle.orca_base.specs.declared.message.Message.TheVariants as message
 use Rattle.orca_base.specs.declared.note.Note.{Note}
 use Rattle.orca_base.specs.MidiBytes.{midi_bytes_of}
-use Rattle.orca_base.specs.Ranges.{HasDataInRange, HasDataInRange-sendable, IsSendable}
+use Rattle.orca_base.specs.Ranges.{HasDataInRange, IsSendable}
+use Rattle.orca_base.proofs.RangeFacts.{HasDataInRange-sendable}
 use Rattle.orca_edit.specs.Obeying.{piece_of}
 use Rattle.orca_notes.specs.Device.{Plays}
 use Rattle.orca_notes.proofs.PlayFacts.{Plays-ends}

@@ -33,7 +33,7 @@ use Rattle.orca_grid.specs.BlankGrid.{blank_sheet}
 use Rattle.orca_notes.specs.Sound.{ends}
 use Rattle.orca_op.specs.Deeds.{Deed}
 use Rattle.orca_op.specs.Desk.{list_after_all}
-use Rattle.orca_op.specs.FirstFacts.{first_where-found, first_where-missing}
+use Rattle.orca_op.proofs.FirstFacts.{first_where-found, first_where-missing}
 use Rattle.orca_op.specs.Rules.{rule}
 use Rattle.orca_op.specs.Scan.{busy, busy_of, scan, scan_deeds, state_after_places, written_places}
 use Rattle.orca_op.specs.State.{State, sheet_of}

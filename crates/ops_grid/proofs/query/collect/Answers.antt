@@ -1,6 +1,6 @@
 use Rattle.std.proofs.Common.{arith}
 use Rattle.std.proofs.lemmas.Grind.{common_steps}
-use Rattle.orca_op.specs.LawFacts.{desk_after_all-each_more}
+use Rattle.orca_op.proofs.LawFacts.{desk_after_all-each_more}
 use Rattle.ops_grid.proofs.query.collect.Goals as goal
 
 pub loop-i-preserved : goal.loop-i-preserved

@@ -4,7 +4,7 @@ use Rattle.orca_base.specs.Grids.{off}
 use Rattle.orca_op.specs.State.{peek}
 use Rattle.orca_base.specs.Grids.{left}
 use Rattle.orca_op.specs.GridRules.{source, query_one}
-use Rattle.orca_op.specs.LawFacts.{each-by}
+use Rattle.orca_op.proofs.LawFacts.{each-by}
 use Rattle.ops_grid.proofs.query.QueryOperator.act.Goals as goal
 
 pub returns-clause-deeds : goal.returns-clause-deeds

@@ -1,5 +1,5 @@
 use Rattle.std.proofs.Common.{rules}
-use Rattle.orca_op.specs.LawFacts.{desk_after_all-append}
+use Rattle.orca_op.proofs.LawFacts.{desk_after_all-append}
 use Rattle.ops_grid.proofs.track.TrackOperator.act.Goals as goal
 
 pub returns-clause-deeds : goal.returns-clause-deeds

@@ -2,7 +2,7 @@ use Rattle.std.proofs.Common.{◌≡◌, ◌==◌, ℕ, true, false, arith, ap, 
 use Rattle.std.proofs.lemmas.Bool.{cases_lt}
 use Rattle.orca_base.specs.Grids.{Size, index_of, right}
 use Rattle.orca_op.specs.Desk.{Desk}
-use Rattle.orca_op.specs.FirstFacts.{first_where-found, first_where-missing}
+use Rattle.orca_op.proofs.FirstFacts.{first_where-found, first_where-missing}
 use Rattle.orca_op.specs.State.{peek}
 use Rattle.orca_board.specs.Board.{desk_of}
 use Rattle.orca_board.proofs.SpanLemmas.{cell_right, holds_it, holds_other, none_beyond, peek_right}

@@ -2,7 +2,7 @@ use Rattle.std.proofs.Common.{arith, rules, ap, sym, ◌∙◌, inl, inr}
 use Rattle.std.proofs.lemmas.Bool.{cases_lt}
 use Rattle.orca_base.specs.Grids.{Size}
 use Rattle.orca_op.proofs.StateFacts.{none_beyond}
-use Rattle.orca_op.specs.FirstFacts.{first_where-found, first_where-missing}
+use Rattle.orca_op.proofs.FirstFacts.{first_where-found, first_where-missing}
 use Rattle.orca_op.proofs.bench.Bench.find_right.Goals as goal
 
 pub returns-then-byte-clause-first : goal.returns-then-byte-clause-first

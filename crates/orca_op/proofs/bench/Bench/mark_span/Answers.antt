@@ -1,5 +1,5 @@
 use Rattle.std.proofs.Common.{arith, rules}
-use Rattle.orca_op.specs.LawFacts.{desk_after_all-each_more}
+use Rattle.orca_op.proofs.LawFacts.{desk_after_all-each_more}
 use Rattle.orca_op.proofs.bench.Bench.mark_span.Goals as goal
 
 pub loop-i-preserved : goal.loop-i-preserved

@@ -6,8 +6,9 @@ use Rattle.orca_base.specs.declared.command.Reply.TheVariants.{Framed}
 use Rattle.orca_base.specs.declared.event.Event.{Event}
 use Rattle.orca_base.specs.Grids.{Sheet}
 use Rattle.orca_base.specs.declared.note.Note.{Note}
-use Rattle.orca_base.specs.EventRanges.{IsInRange, HasFewValues-in_range}
+use Rattle.orca_base.specs.EventRanges.{IsInRange}
 use Rattle.orca_base.specs.Ranges.{CarriesFewValues}
+use Rattle.orca_base.proofs.RangeFacts.{HasFewValues-in_range}
 use Rattle.orca_notes.specs.Device.{Plays}
 use Rattle.orca_op.specs.Desk.{Desk, residue}
 use Rattle.orca_edit.specs.Machines.{Acts}

@@ -9,7 +9,7 @@ use Rattle.orca_base.specs.declared.limits.TheConstants.{BASE}
 use Rattle.orca_base.specs.declared.place.Spot.{Spot}
 use Rattle.orca_base.specs.EventRanges.{IsInRange}
 use Rattle.orca_base.specs.Glyphs.{IsGlyph}
-use Rattle.orca_base.specs.GlyphFacts.{value-below}
+use Rattle.orca_base.proofs.GlyphFacts.{value-below}
 use Rattle.orca_base.specs.declared.place.Place.{Place}
 use Rattle.orca_base.specs.Grids.{IsInside, place_in}
 use Rattle.orca_base.proofs.PlaceFacts.{inside-place_in}
