@@ -1,27 +1,22 @@
 -- Places written in order: the desk that they leave.
-use Rattle.std.proofs.Common.{◌≡◌, ℕ, ◌+◌, ◌-◌, ◌*◌, ◌/◌, ◌%◌, ◌<◌, ◌≤◌, Bool, true, false, not, ◌||◌, List, [], ◌∷◌, ◌++◌, length, get_or, take, below_more, refl, arith, ap, sym, ◌∙◌, subst, inl, inr, zero-add, cond}
+use Rattle.std.proofs.Common.{◌≡◌, ℕ, ◌+◌, ◌-◌, ◌*◌, Bool, true, false, ◌||◌, List, [], ◌∷◌, ◌++◌, length, refl, arith, ap, sym, ◌∙◌, subst, inl, inr}
 use Rattle.std.proofs.Math.ListN.{set}
-use Rattle.std.specs.Prelude.{All, Some, filter, map, if◌then◌else◌, slice_index}
+use Rattle.std.specs.Prelude.{All, Some, map, if◌then◌else◌, slice_index}
 use Rattle.std.specs.List.{range_with_len, AllByRecursion}
 use Rattle.std.proofs.lemmas.Bool.{cases_Bool}
-use Rattle.std.proofs.lemmas.List.{append-nil, get_or_default, get_or-set_other, get_or-set_same, get_or-take, length-set, length-take-le, length_push, map_push}
+use Rattle.std.proofs.lemmas.List.{get_or-set_same, length-set, map_push}
 use Rattle.std.proofs.lemmas.List.Elements.{recursion_from_All}
-use Rattle.std.proofs.lemmas.List.FromFn.{fill_by_all, filter_of_map_range_with_len_more, map-range_with_len_more}
 use Rattle.orca_base.specs.declared.area.Area.{Area}
 use Rattle.orca_base.specs.declared.place.Place.{Place}
-use Rattle.orca_base.specs.declared.place.Spot.{Spot}
-use Rattle.orca_base.specs.Areas.{corner_of}
-use Rattle.orca_base.specs.Edits.{block_of, is_in_area}
-use Rattle.orca_base.specs.Grids.{Size, Sheet, IsSize, IsInside, by_place, cells_of, glyph_at as glyph_on, here, index_of, is_place, sheet_by}
+use Rattle.orca_base.specs.Grids.{Size, Sheet, IsSize, IsInside, by_place, cells_of, here, index_of, is_place, sheet_by}
 use Rattle.orca_base.proofs.PlaceFacts.{index_of-below, is_place-same, place_in-here}
 use Rattle.orca_base.proofs.SheetFacts.{list-by_place, same-by_place}
-use Rattle.orca_op.specs.State.{State, glyph_at, peek}
+use Rattle.orca_op.specs.State.{State, glyph_at}
 use Rattle.orca_op.specs.Deeds.{Write, after}
 use Rattle.orca_op.specs.Desk.{Desk, desk_after, desk_after_all, is_listed, list_after, list_with}
-use Rattle.orca_op.proofs.HereFacts.{peek_here}
 use Rattle.orca_op.proofs.LawFacts.{desk_after_all-append}
 use Rattle.orca_op.proofs.DeskFacts.{glyph_at-write_other}
-use Rattle.orca_board.specs.Blocks.{list_each, desk_after_edit, glyph_from, nth_place, places_in, rows_of, write_each}
+use Rattle.orca_board.specs.Blocks.{list_each, desk_after_edit, nth_place, places_in, write_each}
 
 -- ---- a loop over the places of an area
 

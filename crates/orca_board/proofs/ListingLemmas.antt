@@ -143,45 +143,6 @@ lowered_off changes old new i only lowered =
     lowered ∙ (ap (λ (b : Bool). b && not (has_number (places_of changes) i)) only
     ∙ both (has_number (places_of changes) i))
 
--- one flag more is down
-pub lowered_more : (old flags : List Bool) (changes : List Change) (change : Change) (i j : ℕ)
-    → i ≡ index_of largest change.at → i < length flags
-    → get_or flags j false ≡ (get_or old j false && not (has_number (places_of changes) j))
-    → get_or (set flags i false) j false ≡
-    (get_or old j false && not (has_number (places_of (changes ++ change ∷ [])) j))
-lowered_more old flags changes change i j number below before =
-    let places : has_number (places_of (changes ++ change ∷ [])) j
-    ≡ (has_number (places_of changes) j || (j == index_of largest change.at || false)) =
-    ap (λ (p : List Place). has_number p j) (map_push (λ (c : Change). c.at) changes change)
-    ∙ list_any-append (λ place. j == index_of largest place) (places_of changes)
-    (change.at ∷ []) in
-    elim (eqb_tells j i) [
-      | inl same ↦
-          let here : (j == index_of largest change.at) ≡ true =
-          ap (λ (n : ℕ). j == n) (sym number) ∙ same.0 in
-          rw same.1 (get_or-set_same flags i false false below)
-          ∙ down (get_or old j false) (has_number (places_of (changes ++ change ∷ [])) j)
-          (places ∙ or_true _ _ here)
-      | inr other ↦
-          let there : (j == index_of largest change.at) ≡ false =
-          ap (λ (n : ℕ). j == n) (sym number) ∙ other.0 in
-          get_or-set_other flags i j false false other.1
-          ∙ (before ∙ ap (λ (b : Bool). get_or old j false && not b)
-          (sym (places ∙ or_none _ _ there)))
-    ]
-  where
-    down : (a b : Bool) → b ≡ true → false ≡ (a && not b)
-    down true b is = rw is refl
-    down false b is = refl
-
-    or_true : (a b : Bool) → b ≡ true → (a || (b || false)) ≡ true
-    or_true true b is = refl
-    or_true false b is = rw is refl
-
-    or_none : (a b : Bool) → b ≡ false → (a || (b || false)) ≡ a
-    or_none true b is = refl
-    or_none false b is = rw is refl
-
 -- ---- the places of the changes
 
 places_if : (changes : List Change) (at : Place) (old : ℕ) (adds : Bool)

@@ -1,6 +1,6 @@
 -- Places of a row, in order: the rows of an area, those of them that lie outside another, and what is
 -- written to them.
-use Rattle.std.proofs.Common.{◌≡◌, ℕ, zero, suc, ◌+◌, ◌-◌, ◌*◌, ◌/◌, ◌%◌, ◌<◌, ◌≤◌, Bool, true, false, not, List, [], ◌∷◌, ◌++◌, length, get_or, append_assoc, refl, arith, ap, sym, ◌∙◌, subst, zero-add, cond, length-append, inl, inr}
+use Rattle.std.proofs.Common.{◌≡◌, ℕ, zero, suc, ◌+◌, ◌-◌, ◌*◌, ◌/◌, ◌%◌, ◌<◌, ◌≤◌, Bool, true, false, not, List, [], ◌∷◌, ◌++◌, length, get_or, append_assoc, refl, arith, ap, sym, ◌∙◌, zero-add, cond, length-append, inl, inr}
 use Rattle.std.specs.Prelude.{filter, if◌then◌else◌, map, max, min, nat_le, nat_lt, slice_index}
 use Rattle.std.specs.List.{range_with_len}
 use Rattle.std.proofs.Math.Numerals.{suc-eq-add-one}

@@ -174,19 +174,6 @@ stand-mute s (Await poll ∷ acts) mute = stand-mute s acts mute
 stand-mute s (Obey command ∷ acts) mute = stand-mute s acts mute
 stand-mute s (Show cells ∷ acts) mute = stand-mute s acts mute
 
-pub AreMute-append : (xs ys : List Act) → AreMute xs → AreMute ys → AreMute (xs ++ ys)
-AreMute-append [] ys first second = second
-AreMute-append (Give sent ∷ xs) ys first second =
-    (first.0, AreMute-append xs ys first.1 second)
-AreMute-append (Stand s ∷ xs) ys first second = absurd first
-AreMute-append (Attach attached ∷ xs) ys first second = AreMute-append xs ys first second
-AreMute-append (Load name text ∷ xs) ys first second = AreMute-append xs ys first second
-AreMute-append (Save name bytes ∷ xs) ys first second = AreMute-append xs ys first second
-AreMute-append (Listen name hands start ∷ xs) ys first second = AreMute-append xs ys first second
-AreMute-append (Await poll ∷ xs) ys first second = AreMute-append xs ys first second
-AreMute-append (Obey command ∷ xs) ys first second = AreMute-append xs ys first second
-AreMute-append (Show cells ∷ xs) ys first second = AreMute-append xs ys first second
-
 pub AreMute-front : (xs ys : List Act) → AreMute (xs ++ ys) → AreMute xs
 AreMute-front [] ys mute = tt
 AreMute-front (Give sent ∷ xs) ys mute = (mute.0, AreMute-front xs ys mute.1)

@@ -25,10 +25,6 @@ calls_one {act = act} (Err e) called = record {
   };
 }
 
--- none
-pub calls_none : {T : Type 0} (done : T) (x : World) → Calls [] (Ok done) x x
-calls_none done x = record { called = (made_none x, refl) }
-
 -- memory was refused before any
 pub calls_given_up : {T : Type 0} (acts : List Act) (x : World)
     → Calls {T = T} acts (Err Elsewhere) x x

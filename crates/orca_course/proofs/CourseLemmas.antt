@@ -80,12 +80,6 @@ pub each-more : {X S E : Type 0} (f : X → S → Course S E) (xs : List X) (x :
     → each f (xs ++ x ∷ []) s ≡ onward (each f xs s) (each f (x ∷ []))
 each-more f xs x s = each-append f xs (x ∷ []) s
 
--- what ended at a list, ended so at each longer one
-pub each-ended : {X S E : Type 0} (f : X → S → Course S E) (xs ys : List X) (s : S) (e : E)
-    → (each f xs s).ending ≡ Some e → each f (xs ++ ys) s ≡ each f xs s
-each-ended f xs ys s e is =
-    each-append f xs ys s ∙ onward_ended (each f xs s) (each f ys) e is
-
 -- what goes on only appends acts
 longer_by : {S E : Type 0} (end : Option E) (c : Course S E) (next : S → Course S E)
     → (more : List Act) × (onward_by end c next).acts ≡ c.acts ++ more

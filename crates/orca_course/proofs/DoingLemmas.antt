@@ -5,7 +5,7 @@ use Rattle.std.specs.Option.{option_or}
 use Rattle.orca_notes.specs.Device.{voices}
 use Rattle.orca_course.specs.Acts.{Act, AreMute, open_after, stand_after}
 use Rattle.orca_course.specs.Courses.{Course, afterwards, course, each, ended, joined, keeping, lastly, lastly_by, mapped, onward, onward_by, still}
-use Rattle.orca_course.specs.Doing.{Does, IsDone, Rests, RestsFor, Stance, ending_of, goes_of}
+use Rattle.orca_course.specs.Doing.{Does, IsDone, Rests, RestsFor, Stance, goes_of}
 use Rattle.orca_course.specs.Following.{Accompanies, Follows, sounding}
 use Rattle.orca_course.specs.Worlds.{Called, Made, Sated, Wants, World, owing}
 use Rattle.orca_course.specs.declared.refused.NoMemory.{NoMemory}
@@ -379,13 +379,6 @@ pub does_err : {S E : Type 0} {v : Stance S} {c : Course S E} {s t : S} {x y : W
     → Does v c s x (Err e) t y → Does v c s x r t y
 does_err (Ok end) e wrong cut = absurd wrong
 does_err {v = v} {c = c} {s = s} {t = t} {x = x} {y = y} (Err other) e is cut =
-    subst (λ f. Does v c s x (Err f) t y) (sym is) cut
-
-pub ends_err : {S E : Type 0} {v : Stance S} {c : Course S E} {s t : S} {x y : World}
-    (r : Result E NoMemory) (e : NoMemory) → IsErrAnd r (λ other. other ≡ e)
-    → Does v c s x (Err e) t y → Does v c s x (ending_of r) t y
-ends_err (Ok end) e wrong cut = absurd wrong
-ends_err {v = v} {c = c} {s = s} {t = t} {x = x} {y = y} (Err other) e is cut =
     subst (λ f. Does v c s x (Err f) t y) (sym is) cut
 
 pub goes_err : {T S E : Type 0} {v : Stance S} {c : Course S E} {s t : S}

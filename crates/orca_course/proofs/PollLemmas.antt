@@ -450,11 +450,6 @@ unfolding finished
 finished_done p ending result did =
     does_mapped (λ u. u) (λ end. Some ending) result refl (λ u. refl) did
 
-finished_ending : {S : Type 0} (p : Part S) (ending : Ending) (s : S)
-    → (finished p ending s).ending ≡ Some ending
-unfolding finished mapped
-finished_ending p ending s = refl
-
 lasts_by : {S : Type 0} (end : Option Ending) (p : Part S) (c : Course S Ending) → IsDeaf p
     → polls_in (lastly_by end c (finished p)).acts ≡ polls_in c.acts
 lasts_by None p c deaf = refl

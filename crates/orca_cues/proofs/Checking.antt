@@ -6,22 +6,12 @@ use Rattle.std.proofs.Math.Seq.{drop-cons}
 use Rattle.std.proofs.lemmas.List.Elements.{All-tail}
 use Rattle.orca_base.specs.declared.limits.TheConstants.{MAX_FILE_BYTES}
 use Rattle.orca_script.specs.Format2.{IsHeader, IsLine2, LeavesAt, header_seed, line_asks}
-use Rattle.orca_script.specs.Grammar.{IsLine, IsRefusedAt, has_no_command}
+use Rattle.orca_script.specs.Grammar.{has_no_command}
 use Rattle.orca_script.specs.declared.format_2.Line.{Line}
 use Rattle.orca_script.specs.declared.refusal.ScriptRefusal.{ScriptRefusal}
 use Rattle.orca_cues.specs.Readable.{AreReadable}
-use Rattle.orca_cues.specs.Scripts.{first_fault, cues_of, is_format_2, reading_at, script_by, seed_in, IsLineAt, IsScriptBy, IsFaultBy}
+use Rattle.orca_cues.specs.Scripts.{first_fault, cues_of, is_format_2, reading_at, script_by, seed_in, IsLineAt, IsFaultBy}
 use Rattle.orca_cues.proofs.LineCounts.{lines_few, lines_short}
-
--- a refused line of format 1 leaves the grammar
-pub leaves_line : (line : List ℕ) (column : ℕ) → IsRefusedAt line column →
-    LeavesAt IsLine line column
-leaves_line line column refused = record {
-  no_line = refused.no_line;
-  before = refused.before;
-  here = refused.here;
-  within = refused.within;
-}
 
 -- a line of format 2 that is read is one of the grammar
 pub read_by_grammar : (line : List ℕ) (r : Result (Option Line) ScriptRefusal) →
@@ -141,10 +131,3 @@ pub checked_script : (format_2 : Bool) (text : List ℕ) (number : ℕ) →
     script_by format_2 text ≡ Ok (cues_of format_2 1 (lines text))
 unfolding first_fault
 checked_script format_2 text number checks = rw checks.faultless refl
-
-pub checked_grammar : (format_2 : Bool) (text : List ℕ) (number : ℕ) →
-    Checks format_2 text number [] → IsScriptBy format_2 text
-checked_grammar format_2 text number checks = λ k some below.
-    let at : k - 1 + 1 ≡ k = omega (arith, some) in
-    subst (λ n. IsLineAt format_2 n (get_or (lines text) (k - 1) [])) at
-    (checks.good (k - 1) (omega (arith, some, below, checks.counts)))

@@ -212,23 +212,6 @@ visited d e g now row from x finds high done =
           ∙ (ap (λ m. busy_of n g now + m) one ∙ ap (λ m. m + 1) finds.busy));
     }
 
--- where no operator is left, the row is passed over
-pub row_over : (d : Desk) (g : Sheet) (now : Now) (row from : ℕ)
-    → d ≡ desk_after_places (row * g.dims.w + from) g now → row < g.dims.h → from ≤ g.dims.w
-    → HasNoLive d.scan row from d.scan.dims.w
-    → (d ≡ desk_after_places ((row + 1) * g.dims.w) g now)
-    × (busy_of ((row + 1) * g.dims.w) g now ≡ busy_of (row * g.dims.w + from) g now)
-row_over d g now row from is high inside none =
-    let width : d.scan.dims.w ≡ g.dims.w =
-    ap (λ (e : Size). e.w) (dims_desk d (row * g.dims.w + from) g now is) in
-    let all : HasNoLive d.scan row from g.dims.w = λ x low below. none x low
-    (omega (arith, below, width)) in
-    let passed = pass_over d g now row from g.dims.w is high inside (omega arith) all in
-    let next : (row + 1) * g.dims.w ≡ row * g.dims.w + g.dims.w = omega arith in (
-      passed.0 ∙ ap (λ (m : ℕ). desk_after_places m g now) (sym next),
-      ap (λ (m : ℕ). busy_of m g now) next ∙ passed.1,
-    )
-
 -- the columns up to the next operator, or to the end of the row, are passed over
 pub next_reached : (d : Desk) (g : Sheet) (now : Now) (row from : ℕ) (found : Option ℕ)
     → d ≡ desk_after_places (row * g.dims.w + from) g now → row < g.dims.h → from ≤ g.dims.w

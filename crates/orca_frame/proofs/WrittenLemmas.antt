@@ -1,7 +1,7 @@
 -- The places that a frame lists: those that its deeds write, each once.
 use Rattle.std.proofs.Common.{◌≡◌, ℕ, zero, suc, List, [], ◌∷◌, ◌++◌, refl, sym, ap, ◌∙◌, subst, inl, inr, ◌⊎◌, Bool, true, false, not, ◌&&◌, arith}
 use Rattle.std.specs.Prelude.{◌↔◌, Contains, Option, Some, None, ℤ, pos, negsuc, nat_lt, if◌then◌else◌}
-use Rattle.std.specs.List.{IsDistinct, list_any}
+use Rattle.std.specs.List.{list_any}
 use Rattle.std.proofs.lemmas.List.Elements.{Contains-push, Contains-append_left, Contains-append_cases}
 use Rattle.std.proofs.lemmas.Map.Views.{Contains-from_any}
 use Rattle.orca_base.specs.declared.now.Now.{Now}
@@ -11,7 +11,6 @@ use Rattle.orca_op.specs.State.{State, fresh}
 use Rattle.orca_op.specs.Deeds.{Deed, Mark, Write, Set, Emit, after_all}
 use Rattle.orca_base.specs.Grids.{is_inside, is_place}
 use Rattle.orca_base.proofs.PlaceFacts.{is_place-same}
-use Rattle.orca_op.proofs.DeskFacts.{IsDistinct-list_with}
 use Rattle.orca_op.specs.Desk.{list_with, list_after, list_after_all}
 use Rattle.orca_op.proofs.LawFacts.{after_all-append}
 use Rattle.orca_op.specs.Laws.{AnyDeed}
@@ -84,17 +83,6 @@ added_with d listed p at is inside =
 
 -- ---- deeds in order
 
-distinct_all : (d : Size) (listed : List Place) (deeds : List Deed) → IsDistinct is_place listed
-    → IsDistinct is_place (list_after_all d d listed deeds)
-unfolding list_after
-distinct_all d listed [] distinct = distinct
-distinct_all d listed (Mark spot marks ∷ deeds) distinct = distinct_all d listed deeds distinct
-distinct_all d listed (Write spot glyph ∷ deeds) distinct =
-    distinct_all d (list_with d listed (place_in d spot)) deeds
-    (IsDistinct-list_with d listed (place_in d spot) distinct)
-distinct_all d listed (Set variable glyph ∷ deeds) distinct = distinct_all d listed deeds distinct
-distinct_all d listed (Emit event ∷ deeds) distinct = distinct_all d listed deeds distinct
-
 later : (A B C : Type 0) → A ⊎ C → A ⊎ (B ⊎ C)
 later A B C (inl first) = inl first
 later A B C (inr last) = inr (inr last)
@@ -151,11 +139,6 @@ added_all d listed (Emit event ∷ deeds) at (inr more) = added_all d listed dee
 nothing : (at : Place) (B : Type 0) → Contains [] at ⊎ B → B
 nothing at B (inl (k, below, is)) = absurd (omega arith)
 nothing at B (inr other) = other
-
--- the places are distinct
-pub written_places-once : (g : Sheet) (now : Now) → IsDistinct is_place (written_places g now)
-unfolding written_places IsDistinct
-written_places-once g now = distinct_all g.dims [] (scan_deeds (places g) g now) tt
 
 -- and they are those that some deed writes
 pub written_places-exactly : (g : Sheet) (now : Now) (at : Place)

@@ -1,12 +1,11 @@
 -- Songs with a message more, and their sizes.
-use Rattle.std.proofs.Common.{◌≡◌, ℕ, ◌+◌, ◌-◌, ◌<◌, ◌≤◌, List, [], ◌∷◌, ◌++◌, length, refl, sym, ◌∙◌, ap, subst, arith, length-append}
-use Rattle.std.specs.Prelude.{◌↔◌, Some, None}
-use Rattle.std.proofs.lemmas.Bool.{cond-true, cond-false, le-ltb, lt-ltb}
+use Rattle.std.proofs.Common.{◌≡◌, ℕ, ◌+◌, ◌-◌, ◌<◌, List, [], ◌∷◌, ◌++◌, length, refl, sym, ◌∙◌, ap, subst, arith, length-append}
+use Rattle.std.specs.Prelude.{◌↔◌}
 use Rattle.orca_smf.specs.declared.limits.TheConstants.{MAX_TRACK_BYTES}
 use Rattle.orca_smf.specs.declared.timed.Timed.{Timed}
 use Rattle.orca_smf.specs.Recording.{Recorded}
 use Rattle.orca_smf.specs.Songs.{delta, end_event, last_tick, opening}
-use Rattle.orca_reports.specs.Songs.{if_short, least_size, reached_in, with_message}
+use Rattle.orca_reports.specs.Songs.{least_size, reached_in, with_message}
 
 -- the last message has the last tick
 pub last_push : (before : ℕ) (list : List Timed) (m : Timed)
@@ -41,10 +40,3 @@ pub too_long : {P : Type 0} (s : Recorded) (tick reached : ℕ) (bytes : List �
 too_long {P = P} s tick reached bytes is iff =
     subst (λ t. P ↔ (MAX_TRACK_BYTES < least_size (pushed s t bytes))) is
     (subst (λ n. P ↔ (MAX_TRACK_BYTES < n)) (sym (least_is (pushed s reached bytes))) iff)
-
--- a song that is short enough, and one that isn't
-pub short_is : (s : Recorded) → least_size s ≤ MAX_TRACK_BYTES → if_short s ≡ Some s
-short_is s short = cond-false _ None (Some s) (le-ltb MAX_TRACK_BYTES (least_size s) short)
-
-pub long_is : (s : Recorded) → MAX_TRACK_BYTES < least_size s → if_short s ≡ None
-long_is s long = cond-true _ None (Some s) (lt-ltb MAX_TRACK_BYTES (least_size s) long)

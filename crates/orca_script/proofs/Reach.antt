@@ -147,18 +147,6 @@ goes_along (suc k) (b ∷ bytes) rest next values last h e =
     along_step (step next values b) k bytes rest last
     (λ s. goes_along k bytes rest s.next s.values last (omega arith)) e
 
-within_step : (o : Option State) (bytes : List ℕ) →
-    ((s : State) → reach bytes s.next s.values ≤ length bytes) →
-    option_map_or (λ s. suc (reach bytes s.next s.values)) o 0 ≤ suc (length bytes)
-within_step None bytes ih = omega arith
-within_step (Some s) bytes ih = omega (arith, ih s)
-
-pub reach_within : (bytes : List ℕ) (next : Next) (values : LineValues) →
-    reach bytes next values ≤ length bytes
-reach_within [] next values = omega arith
-reach_within (b ∷ bytes) next values =
-    within_step (step next values b) bytes (λ s. reach_within bytes s.next s.values)
-
 -- a form's word is there, and has no space
 pub record IsSound (form : Form) : Type 0 where
   pub some : 1 ≤ length form.word

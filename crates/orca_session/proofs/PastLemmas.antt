@@ -227,10 +227,6 @@ pub sheet-undone : (patch : Before) (before after : Piece) (most : ℕ) (g : She
 sheet-undone patch before after most g undoes same =
     ap (λ (x : Sheet). sheet_before patch x) same ∙ undoes.sheet
 
--- before the first entry the opened grid stands
-pub moment-zero : (p : PastState) → moment_of p 0 ≡ opened_piece p.opened p.seed
-moment-zero p = piece_after-zero p.opened p.seed []
-
 -- what the entry of a moment makes of its grid and tick
 pub sheet-next : (p : PastState) (n : ℕ) (entry : Entry)
     → slice_get p.trail.entries n ≡ Some entry

@@ -10,10 +10,9 @@ use Rattle.orca_base.specs.declared.command.Command.TheVariants as command
 use Rattle.orca_base.specs.declared.command.Entry.{Entry}
 use Rattle.orca_base.specs.declared.command.Entry.TheVariants as entry
 use Rattle.orca_base.specs.declared.command.Fault.{Fault}
-use Rattle.orca_base.specs.declared.command.Fault.TheVariants.{Refused, Memory}
+use Rattle.orca_base.specs.declared.command.Fault.TheVariants.{Memory}
 use Rattle.orca_base.specs.declared.command.Reply.{Reply}
 use Rattle.orca_base.specs.declared.command.Reply.TheVariants.{Edited, Copied, Jumped}
-use Rattle.orca_base.specs.declared.command.Rule.{Rule}
 use Rattle.orca_base.specs.declared.limits.TheConstants.{COMMAND_PRICE, KEPT_PATCHES, KEPT_TOUCHED}
 use Rattle.orca_base.specs.declared.message.Message.{Message}
 use Rattle.orca_base.specs.Grids.{Size, Sheet, cells_of}
@@ -155,11 +154,6 @@ pub kept-none : (m : MachineState) (k : Kept) (c : Command) (fault : Fault)
     → k ≡ kept_after m k c (Err fault)
 unfolding kept_after
 kept-none m k c fault = refl
-
-pub charge-refused : (m : MachineState) (k : Kept) (c : Command) (rule : Rule)
-    → charge (Err (Refused rule)) m k c ≡ COMMAND_PRICE
-unfolding charge
-charge-refused m k c rule = refl
 
 pub charge-memory : (m : MachineState) (k : Kept) (c : Command)
     → charge (Err Memory) m k c ≡ entry_price m c

@@ -107,7 +107,3 @@ unfoldable pub keys_from : Pending → List Item → List Key
 keys_from p [] = []
 keys_from p (item ∷ items) =
     option_to_list (turn p item).key ++ keys_from (turn p item).pending items
-
--- the keys of these items
-abbrev pub keys_of : List Item → List Key
-keys_of items = keys_from Nothing items

@@ -20,11 +20,6 @@ or-false : (b : Bool) → (b || (false || false)) ≡ b
 or-false true = refl
 or-false false = refl
 
-or-one : (b c : Bool) → (b || (c || false)) ≡ (b || c)
-or-one true c = refl
-or-one false true = refl
-or-one false false = refl
-
 -- ---- a message that is no Off
 
 -- the message ends no voice

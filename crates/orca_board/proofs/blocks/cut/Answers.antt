@@ -1,4 +1,4 @@
-use Rattle.std.proofs.Common.{◌≡◌, ◌≤◌, ◌-◌, ℕ, refl, not, List, [], length, arith, ap, sym, ◌∙◌}
+use Rattle.std.proofs.Common.{◌≡◌, ◌≤◌, ◌-◌, refl, not, List, [], length, arith, ap, ◌∙◌}
 use Rattle.std.specs.Prelude.{filter, if◌then◌else◌, min, nat_lt}
 use Rattle.std.proofs.lemmas.Bool.{le-ltb, lt-ltb}
 use Rattle.orca_base.specs.declared.place.Place.{Place}

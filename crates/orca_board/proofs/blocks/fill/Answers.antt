@@ -1,4 +1,4 @@
-use Rattle.std.proofs.Common.{◌≡◌, ◌∙◌, ◌+◌, ◌*◌, arith}
+use Rattle.std.proofs.Common.{◌∙◌, arith}
 use Rattle.orca_board.proofs.RunLemmas.{all_rows, row_step}
 use Rattle.orca_board.proofs.BlockEdits.{after_fill}
 use Rattle.orca_board.proofs.blocks.fill.Goals as goal

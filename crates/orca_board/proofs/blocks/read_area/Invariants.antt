@@ -1,4 +1,4 @@
-use Rattle.std.proofs.Common.{◌≡◌, ◌+◌, ◌*◌, ◌++◌}
+use Rattle.std.proofs.Common.{◌≡◌, ◌+◌, ◌*◌}
 use Rattle.std.specs.Prelude.{map, vec_capacity}
 use Rattle.orca_op.specs.State.{glyph_at}
 use Rattle.orca_board.proofs.RunLemmas.{first_rows}

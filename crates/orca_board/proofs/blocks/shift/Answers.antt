@@ -1,6 +1,5 @@
-use Rattle.std.proofs.Common.{◌≡◌, ◌*◌, ◌≤◌, ℕ, List, length, arith, ap, sym, ◌∙◌}
+use Rattle.std.proofs.Common.{◌≡◌, ◌*◌, ◌≤◌, ℕ, List, length, arith, ap, ◌∙◌}
 use Rattle.std.proofs.Math.Nat.{mul-le-mul_right}
-use Rattle.orca_base.specs.declared.area.Area.{Area}
 use Rattle.orca_base.specs.Areas.{corner_of, size_of}
 use Rattle.orca_base.specs.Edits.{moved, origin}
 use Rattle.orca_base.specs.Grids.{glyph_at}

@@ -1,4 +1,4 @@
-use Rattle.std.proofs.Common.{◌≡◌, ◌*◌, arith, ap, sym, ◌∙◌}
+use Rattle.std.proofs.Common.{◌≡◌, ◌*◌, arith}
 use Rattle.orca_base.specs.Areas.{corner_of}
 use Rattle.orca_board.specs.Blocks.{glyph_from, rows_of}
 use Rattle.orca_board.proofs.RunLemmas.{all_rows, product, row-fits, row_step, write-row}
