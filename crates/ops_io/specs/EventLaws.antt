@@ -86,7 +86,7 @@ event_if : (bang : Bool) (event : Option Event) → IfSome event IsInRange
 event_if true event range = range
 event_if false event range = tt
 
--- ports that are marked, and an event in range behind them
+-- ports that are marked, and an event in range after them
 lawful-send : (marks : State → Place → List Deed) (event : State → Place → Option Event)
     → ((s : State) (at : Place) → length (marks s at) + 2 ≤ MAX_DEEDS)
     → ((s : State) (at : Place) → Every IsMark (marks s at))

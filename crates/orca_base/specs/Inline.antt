@@ -1,4 +1,4 @@
--- Lists of bytes that are kept inline: the bytes of the list, and zeros behind them.
+-- Lists of bytes that are kept inline: the bytes of the list, and zeros after them.
 use Rattle.std.specs.Prelude.{ℕ, ◌-◌, ◌≡◌, ◌≤◌, List, ◌++◌, length, take, drop, replicate}
 use Rattle.std.proofs.Common.{arith}
 use Rattle.std.proofs.lemmas.List.{length-take-le, take-append-drop}

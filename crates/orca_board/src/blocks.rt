@@ -41,7 +41,7 @@ fn image(dims: Dims, to: Place, h: u16, w: u16) -> Area
     }
 }
 
-/// Reads the glyphs of `count` places of a row, the first of which is `at`, behind those read before.
+/// Reads the glyphs of `count` places of a row, the first of which is `at`, after those read before.
 fn read_run<B: Bench, L: Ledger>(
     bench: &B,
     at: Place,

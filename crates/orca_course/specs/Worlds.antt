@@ -62,7 +62,7 @@ owing n x = record x { paid = x.paid + n }
 
 -- ---- calls
 
--- a list that is told, and these behind it
+-- a list that is told, and these after it
 abbrev pub added : {A : Type 0} → Option (List A) → List A → Option (List A)
 added told xs = option_map (λ before. before ++ xs) told
 

@@ -16,7 +16,7 @@ use Rattle.rand_pcg.specs.Lcg.{Lcg}
 use Rattle.rand_pcg.specs.Pcg.{pcg32}
 use Rattle.orca_cues.proofs.Words.{drawn, drawn-next, drawn-word, drawn-zero}
 
--- the first n cells have their glyphs, and the generator stands behind their words
+-- the first n cells have their glyphs, and the generator stands after their words
 pub record Draws (seed : ℕ) (dims : Size) (n : ℕ) (grid : Sheet) (words : Lcg) : Type 0 where
   pub dims_are : grid.dims ≡ dims
   pub whole : length grid.cells ≡ cells_of dims

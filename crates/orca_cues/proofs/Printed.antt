@@ -58,7 +58,7 @@ script_printed commands values =
 
 -- ---- format 2
 
--- printed lines behind the first, the first of which has this number
+-- printed lines after the first, the first of which has this number
 record AreRead (number : ℕ) (asked : List Line) : Type 0 where
   faultless : first_fault true number (lines (flat_map printed2 asked)) ≡ None
   cues : cues_of true number (lines (flat_map printed2 asked)) ≡ cues_asking number asked

@@ -8,7 +8,7 @@ ghost use Rattle.orca_cues.specs.Scripts.{any_script_of, cues_asking, script_of,
 /// The script of printed commands is exactly these commands, in order, each on its own line, and no
 /// line is refused. It is enough that each has numbers of 32 bits and a glyph, or that what is
 /// printed of each reads back as it. The script of a seed and commands in format 2 gives the seed, and
-/// its lines behind the first are exactly those of the commands. It does nothing.
+/// its lines after the first are exactly those of the commands. It does nothing.
 pub fn script_laws()
     ensures printed { (commands : List Command)
         → All (λ command. HasValues (line_of command)) commands

@@ -237,7 +237,7 @@ held d g now row found x is reached high live =
     finds d g now row x x (rw is at reached) high (omega arith) (rw is at live)
     (λ k low below. absurd (omega (arith, low, below)))
 
--- it is live, and lies at the column or behind it
+-- it is live, and lies at the column or after it
 pub live_of : (s : State) (row from : ℕ) (found : Option ℕ)
     → IfSome found (λ x. (from ≤ x) × IsTrue (is_live s row x))
     → IfSome found (λ x. IsTrue (is_live s row x))

@@ -26,7 +26,7 @@ impl Grid {
     }
 }
 
-/// Appends the rows. Where memory is refused, some of them stand behind what was there.
+/// Appends the rows. Where memory is refused, some of them stand after what was there.
 #[tactic(auto, unfolding(crate::specs::GridText::text_of))]
 fn push_rows<T: Look>(look: &T, into: &mut Vec<u8>) -> Result<(), Memory>
     ensures ok { OnOk result (into.new.items ≡ into.old.items ++ text_of (T.sheet look.now)) }
@@ -40,7 +40,7 @@ fn push_rows<T: Look>(look: &T, into: &mut Vec<u8>) -> Result<(), Memory>
     Ok(())
 }
 
-/// Appends a row and its line feed. Where memory is refused, a part stands behind what was there.
+/// Appends a row and its line feed. Where memory is refused, a part stands after what was there.
 fn push_row<T: Look>(look: &T, width: u16, y: u16, into: &mut Vec<u8>) -> Result<(), Memory>
     requires row { y < (T.sheet look.now).dims.h }
     requires width { width ≡ (T.sheet look.now).dims.w }

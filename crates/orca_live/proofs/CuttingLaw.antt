@@ -198,7 +198,7 @@ commands_twice ps qs xs ys first second =
     ∙ (ap (λ before. before ++ commands_in xs) first
     ∙ (ap (λ after. commands_in qs ++ after) second ∙ sym (commands_in-append qs ys)))
 
--- acts without a command behind others
+-- acts without a command after others
 commands_before : (xs ys : List Act) → commands_in ys ≡ []
     → commands_in (xs ++ ys) ≡ commands_in xs
 commands_before xs ys none =

@@ -51,7 +51,7 @@ machine_after-append [] ys machine = refl
 machine_after-append (command ∷ xs) ys machine =
     machine_after-append xs ys (obey machine command).machine
 
--- these commands behind those that are kept
+-- these commands after those that are kept
 abbrev kept_with : Option (List Command) → List Command → Option (List Command)
 kept_with given more = option_map (λ before. before ++ more) given
 

@@ -165,7 +165,7 @@ ahead_of bit few =
     let low = pow_mono {i = bit} {j = 63} (omega (arith, few)) in
     rw (ones_shl 64 bit (omega (arith, few))) (omega (arith, low, pow_pos bit, pow_more 2 bit))
 
--- it stands behind a bit of a word
+-- it stands after a bit of a word
 pub cursor_behind : (word base bit ahead : ℕ) → bit < 64 → base ≡ word * 64
     → ahead ≡ 2 ^ 64 - 2 ^ (bit + 1) → IsCursor (base + bit + 1) word base ahead
 cursor_behind word base bit ahead few first bits =

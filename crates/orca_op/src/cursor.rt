@@ -48,7 +48,7 @@ impl Cursor {
     }
 
     /// The next column of a row that holds an operator as the grid stands now; none exactly where
-    /// there is none. The cursor then stands behind it. It counts one step.
+    /// there is none. The cursor then stands after it. It counts one step.
     #[inline(always)]
     pub fn next<B: Walk, L: Ledger>(
         &mut self,
@@ -69,8 +69,8 @@ impl Cursor {
         self.find(bench.live_words(row, steps))
     }
 
-    /// The least bit of a row's words, at the column or behind it, that is set. The cursor then
-    /// stands behind it.
+    /// The least bit of a row's words, at the column or after it, that is set. The cursor then
+    /// stands after it.
     #[inline(always)]
     fn find(&mut self, words: &[u64]) -> Option<u16>
         requires some { (self.old - 1) / WORD_COLUMNS < length words.now }
@@ -95,7 +95,7 @@ impl Cursor {
     }
 
     /// The column of the least bit of a word, whose first bit stands for the column `base`. The
-    /// cursor then stands behind it.
+    /// cursor then stands after it.
     #[inline(always)]
     fn stop(&mut self, word: usize, base: usize, bits: u64) -> u16
         requires some { 0 < bits }

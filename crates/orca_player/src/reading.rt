@@ -43,7 +43,7 @@ fn command_values(command: Command)
     }
 }
 
-/// The numbers behind a word have 32 bits, and the glyph is one.
+/// The numbers after a word have 32 bits, and the glyph is one.
 fn line_values(word: &[u8], numbers: &[u32], glyph: Option<Glyph>)
     ensures { HasValues (line word.now numbers.now glyph) }
 {}

@@ -67,7 +67,7 @@ pub trait Inbox {
             → faults self.new ≡ faults self.old };
 
     /// Waits for what comes next: bytes, which it puts at the front of `bytes`, or the moment
-    /// `until`, where there is one. It takes no memory. What stands in `bytes` behind those that
+    /// `until`, where there is one. It takes no memory. What stands in `bytes` after those that
     /// came has no meaning.
     fn poll<O: Outs>(
         &mut self,

@@ -101,7 +101,7 @@ impl<S: Read> Line<S> {
                 Turn::Again => unread = self.hands.len(),
                 Turn::Nothing => unread = unread.saturating_sub(1),
             }
-            // A wait for events comes only behind a round in which no connection had anything.
+            // A wait for events comes only after a round in which no connection had anything.
             if unread == 0 {
                 if self.rest(clock, wait_of(until, now)).is_err() {
                     return Answer::Failed;

@@ -98,7 +98,7 @@ module _ (b : ℕ) (bytes : List ℕ) (ih : Agrees bytes) (space : is_space b �
       rw (front_space, append-nil ds, number_of-number ds number, later-space b bytes space, space)
       (ih.blank kinds (with_number values (digits_value 10 ds)))
 
--- a glyph is one byte, so a space or the end has to come behind it
+-- a glyph is one byte, so a space or the end has to come after it
 glyph_alone : (b : ℕ) (f : List ℕ) (kinds : List Kind) (values : LineValues) (words : List (List ℕ))
     →
     is_glyph b ≡ true → (if bytes_eq f [] then values_by (with_glyph values b) kinds words else

@@ -1,4 +1,4 @@
--- What is appended stands behind what was there.
+-- What is appended stands after what was there.
 use Rattle.std.proofs.Common.{List, ℕ, ◌++◌, ◌∙◌, ap, append_assoc}
 use Rattle.orca_script.specs.Canonical.{Extends}
 

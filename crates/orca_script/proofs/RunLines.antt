@@ -30,7 +30,7 @@ run_of-full n =
     let more : n / most_frames + 1 ≡ suc (n / most_frames) = omega arith in
     rw (one, rest, more) refl
 
--- ---- commands behind a run
+-- ---- commands after a run
 
 behind_full : (is : Bool) (command : Command) (commands : List Command) (n : ℕ) →
     lines_behind (most_frames + (n + 1)) commands
@@ -107,7 +107,7 @@ frames_full frames n left old new rest sum e =
     (append-nil (printed2 (Frames most_frames)))
     ∙ append_assoc old (printed2 (Frames most_frames)) (text_behind left rest))
 
--- another command, behind the run
+-- another command, after the run
 pub other_added : (command : Command) (frames : ℕ) (old middle new : List ℕ) (rest : List Command) →
     is_frame command ≡ false → frames < most_frames →
     middle ≡ old ++ flat_map printed2 (short_run frames) → new ≡ middle ++ printed2 (Do command) →

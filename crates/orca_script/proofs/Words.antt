@@ -28,12 +28,12 @@ abbrev pub front : List ℕ → List ℕ
 front [] = []
 front (b ∷ bytes) = cond (is_space b) [] (b ∷ front bytes)
 
--- the parts behind the first space
+-- the parts after the first space
 abbrev others : List ℕ → List (List ℕ)
 others [] = []
 others (b ∷ bytes) = cond (is_space b) (slice_split is_space bytes) (others bytes)
 
--- the words behind the first space
+-- the words after the first space
 unfoldable pub later_words : List ℕ → List (List ℕ)
 later_words bytes = filter is_word (others bytes)
 

@@ -19,7 +19,7 @@ pub record Line : Type 0 where
 abbrev pub line : List ℕ → List ℕ → Option ℕ → Line
 line word numbers glyph = record { word = word; numbers = numbers; glyph = glyph }
 
--- a word, and its values behind it, each after a space
+-- a word, and its values after it, each after a space
 abbrev pub text_of : Line → List ℕ
 text_of l =
     l.word

@@ -29,7 +29,7 @@ abbrev pub glyph_of : List ℕ → Option ℕ
 glyph_of (byte ∷ []) = if is_glyph byte then Some byte else None
 glyph_of _ = None
 
--- the values that words give by these kinds, one word for each, behind those so far
+-- the values that words give by these kinds, one word for each, after those so far
 unfoldable pub values_by : LineValues → List Kind → List (List ℕ) → Option LineValues
 values_by values [] [] = Some values
 values_by values (Number ∷ kinds) (word ∷ words) =

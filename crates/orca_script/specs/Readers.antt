@@ -39,7 +39,7 @@ values_at_end (Blank []) values = Some values
 values_at_end (Digits count value []) values = Some (with_number values value)
 values_at_end _ values = None
 
--- what the bytes behind the first i give, or how many bytes go along the form
+-- what the bytes after the first i give, or how many bytes go along the form
 unfoldable pub read_on : List ℕ → ℕ → State → Result LineValues ℕ
 read_on [] i s = ok_or (values_at_end s.next s.values) i
 read_on (byte ∷ bytes) i s =

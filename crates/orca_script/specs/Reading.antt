@@ -86,7 +86,7 @@ farthest [] line most = most
 farthest (form ∷ others) line most =
     farthest others line (max most (reach line (start form).next (start form).values))
 
--- the column behind the bytes that are spaces before any other byte, or go along a form. The
+-- the column after the bytes that are spaces before any other byte, or go along a form. The
 -- contract of `read_line` says that it is the least, in the words of the grammar
 abbrev pub column_of : List ℕ → ℕ
 column_of line = farthest forms line (prefix_len is_space line) + 1

@@ -33,7 +33,7 @@ pub fn print(command: &Command, into: &mut Vec<u8>) -> Result<(), Memory>
 }
 
 /// Appends the canonical line of a command and a line feed. Where memory is refused, a part stands
-/// behind what was there.
+/// after what was there.
 #[tactic(auto, unfolding(crate::specs::Canonical::line_of))]
 pub(crate) fn push_command(command: Command, into: &mut Vec<u8>) -> Result<(), Memory>
     ensures ok { OnOk result (into.new.items ≡ into.old.items ++ printed command) }
@@ -67,7 +67,7 @@ fn sides(rect: Rect) -> [u32; 4]
     [rect.y, rect.x, rect.h, rect.w]
 }
 
-/// Appends a word, its values behind it and a line feed. Where memory is refused, a part stands behind
+/// Appends a word, its values after it and a line feed. Where memory is refused, a part stands after
 /// what was there.
 pub(crate) fn push_line(
     word: &[u8],
@@ -89,7 +89,7 @@ pub(crate) fn push_line(
     Ok(())
 }
 
-/// Appends numbers, each after a space. Where memory is refused, a part stands behind what was there.
+/// Appends numbers, each after a space. Where memory is refused, a part stands after what was there.
 fn push_numbers(numbers: &[u32], into: &mut Vec<u8>) -> Result<(), Memory>
     ensures ok { OnOk result (into.new.items
         ≡ into.old.items ++ flat_map (λ number. space ∷ decimal number) numbers.now) }

@@ -32,7 +32,7 @@ pub fn print2(seed: u32, commands: &[Command], into: &mut Vec<u8>) -> Result<(),
     }
 }
 
-/// Appends the script of a seed and commands. Where memory is refused, a part stands behind what was
+/// Appends the script of a seed and commands. Where memory is refused, a part stands after what was
 /// there.
 fn push_script(seed: u32, commands: &[Command], into: &mut Vec<u8>) -> Result<(), Memory>
     ensures ok { OnOk result
@@ -49,7 +49,7 @@ fn push_script(seed: u32, commands: &[Command], into: &mut Vec<u8>) -> Result<()
     Ok(())
 }
 
-/// Appends the first line of a script with this seed. Where memory is refused, a part stands behind
+/// Appends the first line of a script with this seed. Where memory is refused, a part stands after
 /// what was there.
 pub fn print_header(seed: u32, into: &mut Vec<u8>) -> Result<(), Memory>
     ensures ok { OnOk result (into.new.items ≡ into.old.items ++ printed_header seed) }
@@ -85,7 +85,7 @@ impl Runs {
     }
 
     /// Adds what a line asks for. Frames are printed once their run has ended, or once a line asks
-    /// for no more of them. Where memory is refused, a part stands behind what was there.
+    /// for no more of them. Where memory is refused, a part stands after what was there.
     pub fn add(&mut self, asked: Line, into: &mut Vec<u8>) -> Result<(), Memory>
         // Whatever comes then, the text is that of the frames before, of what is added, and of that.
         ensures ok { OnOk result ((rest : List Command) →
@@ -106,7 +106,7 @@ impl Runs {
         }
     }
 
-    /// Prints the frames that are left. Where memory is refused, a part stands behind what was there.
+    /// Prints the frames that are left. Where memory is refused, a part stands after what was there.
     pub fn end(mut self, into: &mut Vec<u8>) -> Result<(), Memory>
         ensures ok { OnOk result (into.new.items ≡ into.old.items ++ text_behind self []) }
         ensures grown { Extends into.old.items into.new.items }
@@ -155,7 +155,7 @@ fn is_frame(command: Command) -> bool
     matches!(command, Command::Frame)
 }
 
-/// Appends the line of so many frames, if there are any. Where memory is refused, a part stands behind
+/// Appends the line of so many frames, if there are any. Where memory is refused, a part stands after
 /// what was there.
 fn push_frames(frames: u32, into: &mut Vec<u8>) -> Result<(), Memory>
     ensures ok { OnOk result

@@ -40,7 +40,7 @@ impl Values {
         }
     }
 
-    /// Adds a number behind the others, where one more fits.
+    /// Adds a number after the others, where one more fits.
     pub(crate) fn add_number(&mut self, number: u32)
         requires { length self.old.numbers < MAX_LINE_VALUES }
         ensures { self.new ≡ with_number self.old number }
@@ -56,7 +56,7 @@ impl Values {
         self.glyph = glyph;
     }
 
-    /// The number at a place, and 0 behind the last.
+    /// The number at a place, and 0 after the last.
     pub(crate) fn number(&self, place: usize) -> u32
         ensures { result ≡ slice_index self.now.numbers place }
     {

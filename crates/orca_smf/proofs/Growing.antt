@@ -63,7 +63,7 @@ track_held t is = record {
   short = is.short;
 }
 
--- a track that is seen so, and an event behind its last message
+-- a track that is seen so, and an event after its last message
 pub record Joins (t : Inside) (v : Recorded) (tick : ℕ) (tail bytes : List ℕ) : Type 0 where
   pub held : Holds t v.list
   pub tempo : t.tempo ≡ v.tempo

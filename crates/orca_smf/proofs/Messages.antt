@@ -192,7 +192,7 @@ pub are_push : (before : ℕ) (list : List Timed) (m : Timed) → AreMessages be
 are_push before [] m are f v = (f, v, tt)
 are_push before (x ∷ list) m are f v = (are.0, are.1, are_push x.tick list m are.2 f v)
 
--- bytes that begin with messages, and those behind them
+-- bytes that begin with messages, and those after them
 pub record Taken (bytes : List ℕ) (list : List Timed) (tick : ℕ) (rest : List ℕ) : Type 0 where
   pub spelled : bytes ≡ messages 0 list ++ rest
   pub messages : AreMessages 0 list

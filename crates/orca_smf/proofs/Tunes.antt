@@ -9,11 +9,11 @@ use Rattle.orca_smf.specs.Songs.{AreMessages, Follows, IsTune, Tune, end_event, 
 use Rattle.orca_smf.specs.Spelling.{HasRead, message_at, messages_at, tick_at}
 use Rattle.orca_smf.proofs.Messages.{messages_again, none_at_end, tick_again}
 
--- the end of a track, behind its delta time
+-- the end of a track, after its delta time
 abbrev pub end_bytes : List ℕ
 end_bytes = 255 ∷ 47 ∷ 0 ∷ []
 
--- the end behind messages
+-- the end after messages
 abbrev pub end_of : List Timed → ℕ → List ℕ
 end_of list end = end_event (last_tick 0 list) end
 
@@ -30,7 +30,7 @@ smf_parts tempo list end =
     omega arith in
     ap (λ (n : ℕ). front n tempo ++ events 0 list end) size
 
--- what stands behind the front
+-- what stands after the front
 pub same_behind : (m n s t : ℕ) (xs ys : List ℕ) → front m s ++ xs ≡ front n t ++ ys → xs ≡ ys
 same_behind m n s t xs ys e = ap (λ (x : List ℕ). drop 29 x) e
 
@@ -41,7 +41,7 @@ same_tempo m n s t xs ys hs ht e =
     sym (big_number-reads_back 3 s xs hs) ∙ ap (λ (x : List ℕ). big_from 0 3 (drop 26 x)) e
     ∙ big_number-reads_back 3 t ys ht
 
--- the end that is spelled behind messages
+-- the end that is spelled after messages
 pub same_end : (before m n : ℕ) → Follows before m → Follows before n → end_event before m
     ≡ end_event before n → m ≡ n
 same_end before m n f g e =
@@ -90,7 +90,7 @@ one_tune s t is it e =
     ap (λ (n : ℕ). end_event n s.end) (sym last) ∙ found.1 in
     same_tune s t tempo found.0 (same_end (last_tick 0 t.list) s.end t.end follows it.end ends)
 
--- messages that were taken from those of a song are all of them, and its end comes behind
+-- messages that were taken from those of a song are all of them, and its end comes after
 pub record FoundEnd (t : Tune) (tick : ℕ) (rest : List ℕ) : Type 0 where
   pub follows : Follows tick t.end
   pub spelled : rest ≡ end_event tick t.end
@@ -112,7 +112,7 @@ pub end_read : (before end : ℕ) (bytes : List ℕ) → Follows before end → 
     ≡ end_event before end → tick_at before bytes ≡ Some (end, end_bytes)
 end_read before end bytes f e = ap (tick_at before) e ∙ tick_again before end end_bytes f
 
--- the file of a song begins with a front, and its events come behind
+-- the file of a song begins with a front, and its events come after
 pub record Fronted (bytes events : List ℕ) (tempo : ℕ) : Type 0 where
   pub short : length events + 7 < 2 ^ 32
   pub whole : bytes ≡ front (length events + 7) tempo ++ events
@@ -152,7 +152,7 @@ song_read t bytes rest behind tick fits f r follows spelled =
           ∙ sym (smf_parts t.tempo t.list t.end);
     }
 
--- bytes with the front of a song have its events behind it
+-- bytes with the front of a song have its events after it
 pub events_behind : (t : Tune) (bytes rest : List ℕ) (tempo : ℕ) → IsTune t → bytes ≡ file_of t →
     bytes ≡ front (length rest + 7) tempo ++ rest → rest ≡ events 0 t.list t.end
 events_behind t bytes rest tempo is e f =

@@ -49,7 +49,7 @@ opening tempo list = tempo_event tempo ++ messages 0 list
 abbrev pub track : ℕ → List Timed → ℕ → List ℕ
 track tempo list end = opening tempo list ++ end_event (last_tick 0 list) end
 
--- the file: the header, and the track behind its name and its length
+-- the file: the header, and the track after its name and its length
 unfoldable pub smf : ℕ → List Timed → ℕ → List ℕ
 smf tempo list end =
     let body = track tempo list end in

@@ -7,7 +7,7 @@ use Rattle.orca_smf.specs.Recording.{Recorded}
 use Rattle.orca_smf.specs.Songs.{AreMessages, last_tick, messages, opening}
 use Rattle.orca_smf.specs.Spelling.{messages_at}
 
--- the tempo is kept, and the messages stand behind the room for the front
+-- the tempo is kept, and the messages stand after the room for the front
 abbrev pub recorded_of : Inside → Recorded
 recorded_of t = record {
   tempo = t.tempo;

@@ -14,7 +14,7 @@ const DELTA_BYTES: usize = 4;
 /// The bit that every byte of a delta time has but the last.
 const MORE: u8 = 0x80;
 
-/// An event: a delta time, and the bytes behind it.
+/// An event: a delta time, and the bytes after it.
 pub(crate) fn event_of(delta: u32, bytes: &[u8]) -> Short
     requires near { delta ≤ MAX_DELTA }
     requires room { length bytes.now + DELTA_BYTES ≤ SHORT_BYTES }
@@ -50,7 +50,7 @@ fn push_leading(number: u32, places: u8, into: &mut Short)
     }
 }
 
-/// The delta time at the front of the bytes, and what comes behind it; none exactly if no delta
+/// The delta time at the front of the bytes, and what comes after it; none exactly if no delta
 /// time in its shortest form is there.
 #[tactic(auto, unfolding(crate::specs::Spelling::delta_at))]
 pub(crate) fn read_delta(bytes: &[u8]) -> Option<(u32, &[u8])>

@@ -45,7 +45,7 @@ pub(crate) fn front(size: u32, tempo: u32) -> Wire
     front
 }
 
-/// The tempo of a file, and the bytes behind its front; none exactly if it has another front.
+/// The tempo of a file, and the bytes after its front; none exactly if it has another front.
 pub(crate) fn read_front(bytes: &[u8]) -> Option<(u32, &[u8])>
     ensures tempo { IfSome result (λ f. f.0 < 2 ^ 24) }
     ensures found { IfSome result (λ f. (length f.1.now + TEMPO_BYTES < 2 ^ 32)

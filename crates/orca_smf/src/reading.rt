@@ -32,7 +32,7 @@ pub fn read(alloc: Global, bytes: &[u8]) -> Result<Song, SmfRefusal>
     Ok(Song::of(tempo, list, end))
 }
 
-/// The messages from the first on, the tick of the last of them, and the bytes behind them, which
+/// The messages from the first on, the tick of the last of them, and the bytes after them, which
 /// begin with no message.
 fn read_messages(
     alloc: Global,
@@ -51,7 +51,7 @@ fn read_messages(
     Ok((list, last, rest))
 }
 
-/// The message at the front, whose delta time counts from a tick, and what comes behind it.
+/// The message at the front, whose delta time counts from a tick, and what comes after it.
 #[tactic(auto, unfolding(crate::specs::Spelling::message_at, crate::specs::Spelling::voice_at))]
 fn read_message(last: u32, bytes: &[u8]) -> Option<(Timed, &[u8])>
     ensures { option_map (λ m. (m.0, m.1.now)) result ≡ message_at last bytes.now }
@@ -81,7 +81,7 @@ fn read_end(last: u32, bytes: &[u8]) -> Option<u32>
     }
 }
 
-/// The tick that the delta time at the front gives, counted from a tick, and what comes behind it.
+/// The tick that the delta time at the front gives, counted from a tick, and what comes after it.
 #[tactic(auto, unfolding(crate::specs::Spelling::tick_at))]
 fn read_tick(last: u32, bytes: &[u8]) -> Option<(u32, &[u8])>
     ensures { option_map (λ t. (t.0, t.1.now)) result ≡ tick_at last bytes.now }

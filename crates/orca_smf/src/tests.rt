@@ -169,7 +169,7 @@ fn cut_and_changed(rt: HostRuntime) -> Result<(), Fail> {
     Ok(())
 }
 
-/// A file with these events behind its front.
+/// A file with these events after its front.
 fn file_of(alloc: Global, events: &[u8]) -> Result<Vec<u8>, Fail> {
     let mut file = Vec::from_slice(alloc, START)?;
     let size = (events.len() % 200) as u8 + 7;

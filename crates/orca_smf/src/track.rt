@@ -9,7 +9,7 @@ use orca_base::Memory;
 use std::alloc::Global;
 use std::marker::Model;
 
-/// The end of a track, behind its delta time (Standard MIDI Files 1.0, meta-events).
+/// The end of a track, after its delta time (Standard MIDI Files 1.0, meta-events).
 pub(crate) const END_OF_TRACK: [u8; 3] = [0xFF, 0x2F, 0];
 
 /// A track that grows message by message. A contract sees the tempo, and the messages so far with

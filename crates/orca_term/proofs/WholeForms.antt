@@ -142,7 +142,7 @@ shows byte high low =
     cond-false _ _ _ (ne_eqb byte 27 no_escape)
     ∙ cond-true _ _ _ (and_from _ _ (le-leb 32 byte high) (le-leb byte 126 low))
 
--- the bytes of a form, and others behind them
+-- the bytes of a form, and others after them
 form-read : (form : Form) → IsForm form → (bytes : List ℕ)
     → forms_of (bytes_of_form form ++ bytes) ≡ option_map (λ rest. form ∷ rest) (forms_of bytes)
 form-read (Show byte) valid bytes = given Ready (Show byte) byte bytes (shows byte valid.0 valid.1)

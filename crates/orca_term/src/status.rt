@@ -46,7 +46,7 @@ pub(crate) fn status_text(editor: &Editor, line: &StatusLine) -> StatusText
     text
 }
 
-/// Appends a number and the byte behind it.
+/// Appends a number and the byte after it.
 #[tactic(auto, using(crate::proofs::Digits::decimal_short))]
 fn push_number(text: &mut StatusText, n: u32, after: u8)
     requires room { length text.old + MAX_DIGITS + 1 ≤ STATUS_BYTES }

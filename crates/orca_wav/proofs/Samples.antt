@@ -42,7 +42,7 @@ two_bytes z bytes fits e =
     let whole = e ∙ ap (λ y. to_le_bytes w16 (of_z w16 y)) (to_z-of_z w16 z fits) in
     rw whole refl
 
--- two bytes behind what was there
+-- two bytes after what was there
 pub pushed : (xs ys zs : List ℕ) (a b : ℕ) → ys ≡ xs ++ a ∷ [] → zs ≡ ys ++ b ∷ []
     → zs ≡ xs ++ (a ∷ b ∷ [])
 pushed xs ys zs a b e f = f ∙ (ap (λ l. l ++ b ∷ []) e ∙ append_assoc xs (a ∷ []) (b ∷ []))

@@ -18,7 +18,7 @@ format_chunk =
     codes "fmt " ++ long 16 ++ short 1 ++ short 1 ++ long SAMPLE_RATE
     ++ long (SAMPLE_RATE * SAMPLE_BYTES) ++ short SAMPLE_BYTES ++ short (8 * SAMPLE_BYTES)
 
--- what stands before so many bytes of samples; the first number counts all bytes behind it
+-- what stands before so many bytes of samples; the first number counts all bytes after it
 abbrev pub header_bytes : ℕ → List ℕ
 header_bytes bytes =
     codes "RIFF" ++ long (bytes + 36) ++ codes "WAVE" ++ format_chunk ++ codes "data" ++ long bytes

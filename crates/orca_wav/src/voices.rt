@@ -109,7 +109,7 @@ impl Voices {
         ensures rendered { OnOk result (into.new.items ≡ into.old.items ++ next_bytes self.old count) }
         ensures later { OnOk result
             (self.new ≡ rendering_of (self.old.samples + count) self.old.voices) }
-        // The bytes that were rendered of a run, and these behind them, are those of the run.
+        // The bytes that were rendered of a run, and these after them, are those of the run.
         ensures run { OnOk result ((messages : List TimedMessage) (bytes : List ℕ)
             → Renders messages self.old bytes
             → Renders messages self.new (bytes ++ next_bytes self.old count)) }

@@ -686,7 +686,7 @@ static REFUSED: [&[&str]; 140] = [
     &["run", "g", "3", "--midi", "--udp=u"],
     &["run", "g", "3", "--midi", "-x"],
     &["run", "g", "3", "--midi", "--"],
-    // a number behind `=` that is none, or out of its range
+    // a number after `=` that is none, or out of its range
     &["run", "g", "3", "--seed="],
     &["run", "g", "3", "--seed= 7"],
     &["run", "g", "3", "--seed=+7"],

@@ -131,7 +131,7 @@ const FRAME: Command = Command::Frame;
 
 const UNDO: Command = Command::Undo;
 
-/// The script of the seed and the commands, behind what was there before.
+/// The script of the seed and the commands, after what was there before.
 fn expect_printed(
     rt: &impl Abort,
     alloc: Global,

@@ -6,7 +6,7 @@ use Rattle.orca_op.specs.Scan.{busy_of}
 use Rattle.orca_frame.specs.Frames.{desk_after_places}
 use Rattle.orca_frame.proofs.sparse.walk_row.Given as goal
 
--- the columns before the next operator were visited or passed over, and the cursor stands behind it
+-- the columns before the next operator were visited or passed over, and the cursor stands after it
 abbrev pub invariant-loop-found : goal.invariant-loop-found
 invariant-loop-found g l =
     let desk = g.B.Bench.desk l.board in

@@ -4,7 +4,7 @@ use Rattle.orca_script.specs.Canonical.{line_of, HasValues, Extends}
 use Rattle.orca_script.specs.Runs.{printed_script, text_behind}
 use Rattle.orca_script.proofs.runs.push_script.Given as goal
 
--- the commands that are left are behind the text and the frames so far
+-- the commands that are left come after the text and the frames so far
 abbrev pub invariant-loop-command : goal.invariant-loop-command
 invariant-loop-command l = record {
   grown : Extends l.fn.into.items l.into.items;

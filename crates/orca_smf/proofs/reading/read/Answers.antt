@@ -16,7 +16,7 @@ returns-in_default-clause-again c = λ song is e.
     let all = events 0 song.list song.end in
     absurd (c.in_default.ensures.none song.tempo all is.tempo f.short f.whole)
 
--- no song has another end behind its messages
+-- no song has another end after its messages
 pub returns-in_default-read_end-clause-not_ours : goal.returns-in_default-read_end-clause-not_ours
 returns-in_default-read_end-clause-not_ours c = λ _ song is e.
     let front = c.in-Some in

@@ -14,7 +14,7 @@ returns-in_err-end-clause-none c =
     none-some (end, end_bytes)
     (c.in_err-end.ensures ∙ end_read c.args.last end c.args.bytes.now f e))
 
--- a tick, and the end behind it
+-- a tick, and the end after it
 pub returns-then-eq-clause-end : goal.returns-then-eq-clause-end
 returns-then-eq-clause-end c =
     let found = c.in_ok-end in
@@ -24,7 +24,7 @@ returns-then-eq-clause-end c =
     let behind = is.0 c.if-eq.true ∙ c.as_slice.ensures in
     (s.follows, s.spelled ∙ ap (λ (r : List ℕ). delta (found.end - c.args.last) ++ r) behind)
 
--- a tick, and another thing behind it
+-- a tick, and another thing after it
 pub returns-else-eq-clause-none : goal.returns-else-eq-clause-none
 returns-else-eq-clause-none c = λ end f e.
     let is = slice_eq-Decides Decides-eqb _ _ _ c.eq.ensures in

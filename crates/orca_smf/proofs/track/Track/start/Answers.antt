@@ -3,7 +3,7 @@ use Rattle.orca_smf.specs.declared.track.Track.TheInside.{Inside}
 use Rattle.orca_smf.proofs.Growing.{Holds, held_track, held_value}
 use Rattle.orca_smf.proofs.track.Track.start.Goals as goal
 
--- no message stands behind the room for the front
+-- no message stands after the room for the front
 pub invariant_of-result : goal.invariant_of-result
 invariant_of-result c =
     let t : Inside = record { tempo = c.args.tempo; last = 0; file = c.in_ok-file.file } in

@@ -15,7 +15,7 @@ loop-init c = record {
   size = omega (arith, c.reserve.ensures.len);
 }
 
--- the bytes of the sample stand behind those before it
+-- the bytes of the sample stand after those before it
 bytes : (c : After-push_reserved-in-loop)
     → c.push_reserved-in-loop.new.self.items
     ≡ c.args.into.now.items ++ next_bytes c.args.self.now (c.loop.counter + 1)
