@@ -42,6 +42,3 @@ pub use now::Now;
 pub use place::{Place, Spot};
 pub use port::Port;
 pub use steps::Steps;
-
-#[cfg(test)]
-mod tests;

@@ -12,6 +12,3 @@ mod plain_board;
 pub use board::Board;
 pub use laws::listing_law;
 pub use plain_board::PlainBoard;
-
-#[cfg(test)]
-mod tests;

@@ -160,6 +160,3 @@ fn tell_event(alloc: Global, event: Event, into: &mut String) -> Result<()> {
     into.push_str(line.as_str())?;
     Ok(())
 }
-
-#[cfg(test)]
-mod tests;

@@ -9,6 +9,3 @@ mod slot;
 pub use checkpoints::Checkpoints;
 pub use laws::checkpoint_law;
 pub use slot::Checkpoint;
-
-#[cfg(test)]
-mod tests;

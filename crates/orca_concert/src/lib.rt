@@ -13,6 +13,3 @@ pub use concert::{close, close_early, play};
 pub use report::{Report, Turn};
 pub use sending::{print_messages, say, send_messages};
 pub use stage::Stage;
-
-#[cfg(test)]
-mod tests;

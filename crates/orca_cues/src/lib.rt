@@ -22,6 +22,3 @@ pub use printing::print_script;
 pub use script::{Script, check_any_script, check_script, script_seed};
 pub use source::{Cue, Order, Source};
 pub use turns::Turns;
-
-#[cfg(test)]
-mod tests;

@@ -22,6 +22,3 @@ pub use laws::{
 };
 pub use machine::Machine;
 pub use rules::block_rule;
-
-#[cfg(test)]
-mod tests;

@@ -8,6 +8,3 @@ mod refusal;
 
 pub use grid::Grid;
 pub use refusal::GridRefusal;
-
-#[cfg(test)]
-mod tests;

@@ -9,6 +9,3 @@ mod ring;
 
 pub use history::History;
 pub use laws::patch_laws;
-
-#[cfg(test)]
-mod tests;

@@ -15,8 +15,6 @@ mod performance;
 mod saving;
 mod setting;
 mod silent;
-#[cfg(test)]
-mod tests;
 mod unmarked;
 
 pub use laws::{appending_law, cutting_law, painting_law, script_law};

@@ -4,6 +4,3 @@
 mod plane;
 
 pub use plane::MarkPlane;
-
-#[cfg(test)]
-mod tests;

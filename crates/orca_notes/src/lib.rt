@@ -5,8 +5,6 @@ mod ending;
 mod laws;
 mod messages;
 mod notes;
-#[cfg(test)]
-mod tests;
 
 pub use laws::{device_laws, message_laws};
 pub use messages::Messages;

@@ -3,8 +3,6 @@
 
 mod laws;
 mod patch;
-#[cfg(test)]
-mod tests;
 
 pub use laws::inverse_law;
 pub use patch::Patch;

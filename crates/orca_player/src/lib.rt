@@ -10,8 +10,6 @@ mod reading;
 mod recording;
 mod replay;
 mod status;
-#[cfg(test)]
-mod tests;
 mod top;
 
 pub use ending::end;

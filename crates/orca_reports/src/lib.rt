@@ -21,6 +21,3 @@ pub use replay::ReplayReport;
 pub use run::RunReport;
 pub use smf::SmfReport;
 pub use wav::{WavReport, wave_bytes};
-
-#[cfg(test)]
-mod tests;

@@ -24,6 +24,3 @@ pub use printing::print;
 pub use read::read_line;
 pub use refusal::ScriptRefusal;
 pub use runs::{Runs, print_header, print2};
-
-#[cfg(test)]
-mod tests;

@@ -1,7 +1,6 @@
 mod BillLemmas
-mod BlankLemmas
 mod JumpLemmas
-mod ObeyLemmas
+pub mod ObeyLemmas
 mod PastLemmas
 mod PayLemmas
 mod PriceLemmas

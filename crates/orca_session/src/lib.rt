@@ -11,6 +11,3 @@ mod past;
 mod session;
 
 pub use session::Session;
-
-#[cfg(test)]
-mod tests;

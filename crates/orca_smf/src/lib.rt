@@ -21,6 +21,3 @@ pub use reading::read;
 pub use song::Song;
 pub use timed::Timed;
 pub use track::Track;
-
-#[cfg(test)]
-mod tests;

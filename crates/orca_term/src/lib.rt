@@ -21,6 +21,3 @@ pub use pacer::Pacer;
 pub use screen::Screen;
 pub use status::StatusLine;
 pub use view::View;
-
-#[cfg(test)]
-mod tests;

@@ -17,6 +17,3 @@ pub use fault::WordsFault;
 pub use laws::plain_words_law;
 pub use read::read_words;
 pub use request::{Migration, Performance, Recording, Request, Setup, Work, Workload};
-
-#[cfg(test)]
-mod tests;

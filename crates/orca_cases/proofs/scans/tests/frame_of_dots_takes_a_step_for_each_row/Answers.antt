@@ -1,8 +1,0 @@
-use Rattle.std.proofs.Common.{ap, ◌∙◌}
-use Rattle.orca_base.specs.Grids.{Sheet}
-use Rattle.orca_op.specs.Desk.{desk_of_sheet}
-use Rattle.orca_cases.proofs.scans.tests.frame_of_dots_takes_a_step_for_each_row.Goals as goal
-
-pub count_dots-requires-clause-dots : goal.count_dots-requires-clause-dots
-count_dots-requires-clause-dots g c =
-    c.in_ok-board.ensures ∙ ap (λ (s : Sheet). desk_of_sheet s) c.in_ok-grid.ensures
