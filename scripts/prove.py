@@ -35,7 +35,7 @@ class Progress:
                   file=sys.stderr, flush=True)
 
 
-def prove(crate, jobs, progress):
+def prove(rt, crate, jobs, progress):
     crate = copy.copy(crate)
     with tempfile.TemporaryFile('a+', errors='replace') as crate.out:
         os.makedirs(crate.folder + '/out', exist_ok=True)
@@ -46,6 +46,8 @@ def prove(crate, jobs, progress):
         print('== %s\n%s' % (crate.name, output), end='', flush=True)
         print('orca: %s is not proved' % crate.name, file=sys.stderr, flush=True)
     else:
+        # Other checkouts on this machine then begin with what was proved here.
+        rt.offer(crate, crate.stamp())
         progress.tell(crate, output)
     return status == 0
 
@@ -54,7 +56,7 @@ def task(rt, crate, missing, progress):
     """What the crate waits for, how much it is, what memory it may take, and the work itself."""
     below = [(it.name, 'proof') for it in crate.below() if it in missing]
     lines = sum(rt.rtlib.text_of(file).count('\n') for file in rt.rtlib.files_of(crate.folder))
-    work = lambda given, jobs: all(given[it] for it in below) and prove(crate, jobs, progress)
+    work = lambda given, jobs: all(given[it] for it in below) and prove(rt, crate, jobs, progress)
     return below, lines, rt.need(crate), work
 
 
