@@ -5,7 +5,8 @@ use Rattle.std.proofs.lemmas.Bool.{cond-true, cond-false}
 use Rattle.std.proofs.lemmas.List.{append-nil}
 use Rattle.std.proofs.lemmas.List.FromFn.{map-range_with_len_more}
 use Rattle.std.proofs.lemmas.Nat.{div-mul-add, mod-mul-add}
-use Rattle.orca_term.specs.Picture.{Scene, grid_cell, page_of, window_place, status_cell, cell_of, cell_at}
+use Rattle.orca_base.specs.Grids.{Size, is_inside}
+use Rattle.orca_term.specs.Picture.{Scene, blank, grid_cell, page_of, window_place, status_cell, cell_of, cell_at}
 use Rattle.orca_term.specs.declared.cell.Cell.{Cell}
 use Rattle.orca_term.specs.declared.cell.ScreenSize.{ScreenSize}
 
@@ -55,6 +56,52 @@ row_more f w y =
 same_cells : (f g : ℕ → Cell) → ((x : ℕ) → f x ≡ g x) → (xs : List ℕ) → map f xs ≡ map g xs
 same_cells f g same [] = refl
 same_cells f g same (x ∷ xs) = rw (same x, same_cells f g same xs) refl
+
+-- cells that are all one from a column on
+one_from : (f : ℕ → Cell) (cell : Cell) (n k : ℕ) → ((x : ℕ) → n ≤ x → x < n + k → f x ≡ cell)
+    → map f (range_with_len 0 (n + k))
+    ≡ map f (range_with_len 0 n) ++ map (λ x. cell) (range_with_len 0 k)
+one_from f cell n zero one =
+    let none : n + 0 ≡ n = omega arith in
+    ap (λ j. map f (range_with_len 0 j)) none ∙ sym (append-nil _)
+one_from f cell n (suc k) one =
+    let more : map f (range_with_len 0 (n + k + 1))
+    ≡ map f (range_with_len 0 (n + k)) ++ f (n + k) ∷ [] =
+    map-range_with_len_more f 0 (n + k) (n + k) (omega arith) in
+    let through : map f (range_with_len 0 (n + k + 1))
+    ≡ map f (range_with_len 0 n) ++ map (λ x. cell) (range_with_len 0 (k + 1)) =
+    cell_more (λ x. cell) k (map f (range_with_len 0 n)) (map f (range_with_len 0 (n + k)))
+    (map f (range_with_len 0 (n + k + 1))) (f (n + k))
+    (one_from f cell n k (λ x from to. one x from (omega arith)))
+    (one (n + k) (omega arith) (omega arith)) more in
+    let next : n + suc k ≡ n + k + 1 = omega arith in
+    ap (λ j. map f (range_with_len 0 j)) next
+    ∙ (through
+    ∙ ap (λ j. map f (range_with_len 0 n) ++ map (λ x. cell) (range_with_len 0 j)) (add-one k))
+
+-- a place below the grid, and one at the right of it
+pub outside_below : (d : Size) (y x : ℕ) → d.h ≤ y
+    → is_inside d (record { y = y; x = x }) ≡ false
+outside_below d y x below = search (rules, arith)
+
+pub outside_right : (d : Size) (y x : ℕ) → d.w ≤ x
+    → is_inside d (record { y = y; x = x }) ≡ false
+outside_right d y x right = search (rules, arith)
+
+-- a row of the window whose first places lie in the grid, and the others outside it
+pub row_cut : (scene : Scene) (y left inside columns : ℕ) → inside ≤ columns
+    → ((x : ℕ) → inside ≤ x → x < columns
+    → is_inside scene.sheet.dims (record { y = y; x = left + x }) ≡ false)
+    → map (λ x. grid_cell scene (record { y = y; x = left + x })) (range_with_len 0 columns)
+    ≡ map (λ x. grid_cell scene (record { y = y; x = left + x })) (range_with_len 0 inside)
+    ++ map (λ x. blank) (range_with_len 0 (columns - inside))
+unfolding grid_cell
+row_cut scene y left inside columns fits outside =
+    let f : ℕ → Cell = λ x. grid_cell scene (record { y = y; x = left + x }) in
+    let whole : columns ≡ inside + (columns - inside) = omega arith in
+    ap (λ j. map f (range_with_len 0 j)) whole
+    ∙ one_from f blank inside (columns - inside)
+    (λ x from to. cond-false _ _ _ (outside x from (omega arith)))
 
 -- the first rows of the screen
 abbrev pub rows_before : ScreenSize → Scene → List ℕ → ℕ → List Cell

@@ -1,13 +1,14 @@
 //! The editor: a cursor, a selection, and what a key makes of them.
 
-ghost use Rattle.std.specs.Prelude.{◌≡◌, ◌≤◌, false};
+ghost use Rattle.std.specs.Prelude.{◌≡◌, ◌≤◌, ◌&&◌, ℕ, false, nat_le, nat_lt};
 ghost use Rattle.orca_base.specs.Areas.{IsArea};
 ghost use Rattle.orca_base.specs.Edits.{is_in_area};
 ghost use Rattle.orca_term.specs.Editing.{area_of, rect_of, new_editor, cut_to_grid, editor_inside, wish_of, editor_after};
 
 use crate::Key;
 use orca_base::limits::BACK_MOMENTS;
-use orca_base::{Command, Dims, Place, Rect};
+use orca_base::{Command, Dims, Rect};
+use std::ops::Range;
 
 /// A cursor, a selection that reaches from it downwards and to the right, and whether the performance is
 /// paused.
@@ -64,13 +65,16 @@ impl Editor {
         self.cut(dims);
     }
 
-    /// Whether a place lies in the selection.
-    pub(crate) fn selects(&self, at: Place) -> bool
-        ensures { result ≡ is_in_area (area_of self.now) at }
+    /// The columns of a row that lie in the selection.
+    pub(crate) fn columns_at(&self, y: u16) -> Range<u32>
+        ensures { (x : ℕ) → is_in_area (area_of self.now) (record { y = y; x = x })
+            ≡ (nat_le result.start x && nat_lt x result.end) }
     {
-        let (y, x) = (u32::from(at.y), u32::from(at.x));
-        let (top, left) = (u32::from(self.y), u32::from(self.x));
-        top <= y && y < top + u32::from(self.h) && left <= x && x < left + u32::from(self.w)
+        let (y, top, left) = (u32::from(y), u32::from(self.y), u32::from(self.x));
+        if y < top || top + u32::from(self.h) <= y {
+            return 0..0;
+        }
+        left..left + u32::from(self.w)
     }
 
     /// Cuts the selection to the grid.

@@ -1,12 +1,13 @@
 //! The picture of a grid, its marks, the editor and the status line.
 
-ghost use Rattle.std.specs.Prelude.{◌≡◌, ◌+◌, ◌^◌, ◌<◌, ◌≤◌, ◌++◌, length, map, slice_index_or, vec_len, All};
+ghost use Rattle.std.specs.Prelude.{◌≡◌, ◌+◌, ◌-◌, ◌^◌, ◌<◌, ◌≤◌, ◌++◌, false, length, map, slice_index_or, vec_len, All};
 ghost use Rattle.std.specs.List.{range_with_len};
 ghost use Rattle.std.specs.Vec.{vec_capacity};
 ghost use Rattle.orca_base.specs.Edits.{is_in_area};
 ghost use Rattle.orca_base.specs.Grids.{IsInside};
+ghost use Rattle.orca_base.specs.MarkSet.{no_marks};
 ghost use Rattle.orca_term.specs.Editing.{area_of};
-ghost use Rattle.orca_term.specs.Picture.{IsPrintable, IsPrintableByte, IsScreen, screen_cells, scene_of, style_by, grid_cell, page_of, status_cell, picture};
+ghost use Rattle.orca_term.specs.Picture.{IsPrintable, IsPrintableByte, IsScreen, screen_cells, scene_of, style_by, blank, grid_cell, page_of, status_cell, picture};
 
 use crate::status::status_text;
 use crate::{Cell, Editor, ScreenSize, StatusLine};
@@ -91,8 +92,56 @@ fn push_grid_row<T: Look>(
     ensures printable { All IsPrintable cells.new.items }
     ensures room { vec_capacity cells.new ≡ vec_capacity cells.old }
 {
-    for x in 0..columns {
-        cells.push_reserved(grid_cell(look, editor, first.y, first.x + x));
+    let dims = look.dims();
+    if first.y >= u32::from(dims.h) || first.x >= u32::from(dims.w) {
+        push_blanks(cells, columns);
+        return;
+    }
+    let inside = columns.min(u32::from(dims.w) - first.x);
+    let at = Place {
+        y: first.y as u16,
+        x: first.x as u16,
+    };
+    push_places(cells, look, editor, at, at.x + inside as u16);
+    push_blanks(cells, columns - inside);
+}
+
+/// Appends the cells of a row of the grid, from a place on and up to a column. What is the same for all of
+/// them is worked out before.
+fn push_places<T: Look>(cells: &mut Vec<Cell>, look: &T, editor: &Editor, at: Place, end: u16)
+    requires room { vec_len cells.old + (end - at.x) ≤ vec_capacity cells.old }
+    requires inside { IsInside (T.sheet look.now).dims at }
+    requires order { at.x ≤ end }
+    requires fits { end ≤ (T.sheet look.now).dims.w }
+    requires printable { All IsPrintable cells.old.items }
+    ensures places { let scene = scene_of (T.sheet look.now) (T.marks look.now) editor.now in
+        cells.new.items ≡ cells.old.items ++ map
+        (λ x. grid_cell scene (record { y = at.y; x = at.x + x }))
+        (range_with_len 0 (end - at.x)) }
+    ensures len { vec_len cells.new ≡ vec_len cells.old + (end - at.x) }
+    ensures printable { All IsPrintable cells.new.items }
+    ensures room { vec_capacity cells.new ≡ vec_capacity cells.old }
+{
+    let selected = editor.columns_at(at.y);
+    for x in at.x..end {
+        let here = Place { y: at.y, x };
+        let is_selected = selected.contains(&u32::from(x));
+        cells.push_reserved(place_cell(look, is_selected, here));
+    }
+}
+
+/// Appends blanks.
+fn push_blanks(cells: &mut Vec<Cell>, count: u32)
+    requires room { vec_len cells.old + count ≤ vec_capacity cells.old }
+    requires printable { All IsPrintable cells.old.items }
+    ensures blanks { cells.new.items
+        ≡ cells.old.items ++ map (λ x. blank) (range_with_len 0 count) }
+    ensures len { vec_len cells.new ≡ vec_len cells.old + count }
+    ensures printable { All IsPrintable cells.new.items }
+    ensures room { vec_capacity cells.new ≡ vec_capacity cells.old }
+{
+    for _ in 0..count {
+        cells.push_reserved(BLANK);
     }
 }
 
@@ -132,26 +181,18 @@ fn status_cell(text: &[u8], x: u32) -> Cell
     }
 }
 
-/// The cell of a row and a column that may lie outside the grid.
+/// The cell of a place of the grid.
 #[tactic(auto, unfolding(crate::specs::Picture::grid_cell))]
-fn grid_cell<T: Look>(look: &T, editor: &Editor, y: u32, x: u32) -> Cell
-    ensures cell { result
-        ≡ grid_cell (scene_of (T.sheet look.now) (T.marks look.now) editor.now)
-        (record { y = y; x = x }) }
+fn place_cell<T: Look>(look: &T, selected: bool, at: Place) -> Cell
+    requires inside { IsInside (T.sheet look.now).dims at }
+    ensures cell { (editor : Editor) → is_in_area (area_of editor) at ≡ selected
+        → result ≡ grid_cell (scene_of (T.sheet look.now) (T.marks look.now) editor) at }
     ensures printable { IsPrintable result }
 {
-    let dims = look.dims();
-    if y >= u32::from(dims.h) || x >= u32::from(dims.w) {
-        return BLANK;
-    }
-    let at = Place {
-        y: y as u16,
-        x: x as u16,
-    };
     let glyph = look.glyph_at(at);
     Cell {
         byte: glyph.byte(),
-        style: style_of(editor.selects(at), look.marks_at(at), glyph),
+        style: style_of(selected, look.marks_at(at), glyph),
     }
 }
 
@@ -161,13 +202,23 @@ fn style_of(selected: bool, marks: Marks, glyph: Glyph) -> u8
 {
     if selected {
         REVERSED
+    } else if marks.is_empty() {
+        // Most places have no mark, and one test is enough for them.
+        style_of_glyph(glyph)
     } else if marks.has(Mark::Output) {
         BOLD
     } else if marks.has(Mark::Input) {
         UNDERLINED
-    } else if marks.has(Mark::Lock) || marks.has(Mark::Sleep) || glyph == Glyph::EMPTY {
+    } else if marks.has(Mark::Lock) || marks.has(Mark::Sleep) {
         FAINT
     } else {
-        PLAIN
+        style_of_glyph(glyph)
     }
+}
+
+/// The style of a glyph where neither the selection nor a mark gives one.
+fn style_of_glyph(glyph: Glyph) -> u8
+    ensures { result ≡ style_by false no_marks glyph }
+{
+    if glyph == Glyph::EMPTY { FAINT } else { PLAIN }
 }
