@@ -1,5 +1,5 @@
 #!/usr/bin/env python3
-"""Measures `orca play` over a real connection: bench/live.py [PROGRAM] [--seconds S] [--keys N] [--flood BYTES]
+"""Measures `orca play` over a real connection: bench/live.py [PROGRAM] [--seconds S] [--turns N] [--keys N] [--flood BYTES]
 
 It prints how late frames are, how long a key waits for its painting, near a frame and away from one, how a beat that fell
 behind catches up, what eight megabytes of keys and saves do to the frames, how much of a processor is used, and how many
@@ -16,6 +16,19 @@ BEAT = b'.D1.....\n..:03C82\n' + grids.piece()
 NOTE = b'\x90\x24'
 # How long before a moment a key counts as near it, in seconds.
 NEAR = 0.012
+# A program that only reads the clock for so many seconds, and tells how often it was stopped for more than half a
+# millisecond, and for how long at most. A virtual machine is stopped by its host, whatever it does.
+CLOCK = '''
+import sys, time
+last = time.monotonic()
+until, stops, longest = last + float(sys.argv[1]), 0, 0
+while last < until:
+    now = time.monotonic()
+    stops += now - last > 0.0005
+    longest = max(longest, now - last)
+    last = now
+print('%d times, for up to %.1f milliseconds' % (stops, 1e3 * longest))
+'''
 
 
 def option(name, default):
@@ -111,11 +124,15 @@ def late_by(moments, interval):
 
 
 def lateness(bpm, seconds):
+    """How late frames are, and how often a program beside it that only reads the clock was stopped meanwhile."""
     player = Player(BEAT, '--bpm', bpm, '--midi', 'pipe')
+    clock = subprocess.Popen([sys.executable, '-c', CLOCK, str(seconds)], stdout=subprocess.PIPE, text=True)
     moments = list(player.frames(seconds))
     player.leave()
+    stops, _ = clock.communicate()
     late = late_by(moments, interval_of(bpm))
     spread('a frame at %d beats a minute, %d frames' % (bpm, len(late)), late, 'microseconds', 1e6)
+    print('    a reader of the clock was stopped for more than half a millisecond', stops, end='', flush=True)
 
 
 def key_times(name, grid, count, *options):
@@ -228,8 +245,10 @@ def processor(name, grid, seconds, keys, *options):
 def main():
     keys, seconds = option('--keys', 1000), option('--seconds', 60)
     large = ('--rows', 100, '--cols', 256)
-    lateness(120, seconds)
-    lateness(999, seconds)
+    # In some of these turns the machine itself may be stopped less than in others.
+    for bpm in (120, 999):
+        for _ in range(option('--turns', 4)):
+            lateness(bpm, seconds / 4)
     for bpm in (120, 999):
         keys_by_frames(bpm, min(keys, 8 * seconds))
         catching_up(bpm)
