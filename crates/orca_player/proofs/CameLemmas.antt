@@ -1,22 +1,75 @@
--- What was done of an outline, and calls before it.
-use Rattle.std.proofs.Common.{◌≡◌, ◌⊎◌, inl, inr, ◌+◌, false, List, [], ◌++◌, refl, sym, ◌∙◌, ap, subst, append_assoc, arith}
-use Rattle.std.specs.Prelude.{None}
+-- What was done of an outline, and calls before it: a load, the wait for a player, the ports.
+use Rattle.std.proofs.Common.{◌≡◌, ◌≢◌, ◌⊎◌, inl, inr, ℕ, ◌+◌, Bool, false, List, [], ◌∷◌, ◌++◌, refl, sym, ◌∙◌, ap, subst, append_assoc, append-nil, arith}
+use Rattle.std.specs.Prelude.{Option, Some, None, IfSome, Result, Ok, Err}
 use Rattle.orca_concert.specs.Concerts.{handed_of}
-use Rattle.orca_course.specs.Acts.{Act, given, gives, open_after, stand_after}
+use Rattle.orca_course.specs.Acts.{Act, AreMute, commands_in, given, gives, lost_after, open_after, polls_in, stand_after}
+use Rattle.orca_course.specs.Acts.Act.{Attach, Listen, Load}
 use Rattle.orca_course.specs.Following.{Follows, keys_after_acts, sounding}
-use Rattle.orca_course.specs.Worlds.{AreBegun, Made, Sated, World}
+use Rattle.orca_course.specs.Worlds.{AreBegun, AreStored, Called, Calls, Made, Sated, World}
 use Rattle.orca_course.specs.declared.refused.NoMemory.{NoMemory}
-use Rattle.orca_course.proofs.ActLemmas.{given-append, open-mute, open_after-append, stand-mute, stand_after-append}
-use Rattle.orca_course.proofs.FollowLemmas.{accompanies-mute, follows_later, keys-append, keys-mute}
+use Rattle.orca_course.proofs.ActLemmas.{open-mute, stand-mute}
+use Rattle.orca_course.proofs.CallLemmas.{SoCalled, so_cut, so_more, so_over}
+use Rattle.orca_course.proofs.FollowLemmas.{follows-mute, keys-mute}
 use Rattle.orca_course.proofs.WorldLemmas.{made_none, made_twice, made_within, sated_twice}
 use Rattle.orca_notes.specs.Device.{Voice}
 use Rattle.orca_notes.specs.Sound.{ends}
-use Rattle.orca_rig.specs.Outside.{Rose}
-use Rattle.orca_player.specs.Doing.{Came, CameSo, ClosesEarly, IsBlamed, IsWhole, RefusedEarly, StopsInSend, WasRefused, status_at}
-use Rattle.orca_player.specs.Outlines.{Outline, after, stopped}
+use Rattle.orca_rig.specs.Arrived.{Poll}
+use Rattle.orca_rig.specs.Outside.{Contents, Rose}
+use Rattle.orca_term.specs.Picture.{IsScreen}
+use Rattle.orca_words.specs.Requests.{Setup}
+use Rattle.orca_player.specs.Doing.{Came, CameBy, IsBlamed, IsWhole, KeepsTake, ReadsBack, WasRefused, status_at}
+use Rattle.orca_player.specs.Outlines.{Brought, Outline, after, attaches, stopped}
+use Rattle.orca_player.specs.Takes.{IsKept, Take, saves_in}
 use Rattle.orca_player.specs.declared.status.Status.{Status}
-use Rattle.orca_player.specs.declared.status.Status.TheVariants.{Done, Usage, GridRefused, OutFault, FileFault, ScriptRefused, HistoryFull, InboxFault, TurnsSpent, SmfTooLong, WavTooLong, Memory}
-use Rattle.orca_player.proofs.CallingLemmas.{AreCalls, calls-front, given-calls, mute-calls}
+use Rattle.orca_player.specs.declared.status.Status.TheVariants.{FileFault, InboxFault, Memory}
+
+-- ---- calls before the session is opened
+
+-- nothing is sent, done, shown, asked of the inbox or saved
+abbrev pub AreCalls : List Act → Type 0
+AreCalls [] = Unit {0}
+AreCalls (Attach attached ∷ acts) = AreCalls acts
+AreCalls (Load name text ∷ acts) = AreCalls acts
+AreCalls (Listen name hands start ∷ acts) = AreCalls acts
+AreCalls (_ ∷ acts) = ⊥
+
+-- what is read off acts behind them is as without them
+pub record AreBare (acts : List Act) : Type 0 where
+  pub sends : (more : List Act) → given (acts ++ more) ≡ given more
+  pub polls : (more : List Act) → polls_in (acts ++ more) ≡ polls_in more
+  pub saves : (more : List Act) → saves_in (acts ++ more) ≡ saves_in more
+  pub commands : (more : List Act) → commands_in (acts ++ more) ≡ commands_in more
+  pub stands : (more : List Act) → stand_after None (acts ++ more) ≡ stand_after None more
+  pub settled : (more : List Act) → open_after false (acts ++ more) ≡ open_after false more
+  pub keys : (on : List Voice) (more : List Act)
+      → keys_after_acts on (acts ++ more) ≡ keys_after_acts on more
+  pub follows : (on : List Voice) (more : List Act) → Follows on more → Follows on (acts ++ more)
+
+pub calls_bare : (acts : List Act) → AreCalls acts → AreBare acts
+calls_bare [] calls = assumption
+calls_bare (Attach attached ∷ acts) calls = assumption (calls_bare acts calls)
+calls_bare (Load name text ∷ acts) calls = assumption (calls_bare acts calls)
+calls_bare (Listen name hands start ∷ acts) calls = assumption (calls_bare acts calls)
+calls_bare (_ ∷ acts) calls = absurd calls
+
+calls-front : (xs ys : List Act) → AreCalls (xs ++ ys) → AreCalls xs
+calls-front [] ys calls = tt
+calls-front (Attach attached ∷ xs) ys calls = calls-front xs ys calls
+calls-front (Load name text ∷ xs) ys calls = calls-front xs ys calls
+calls-front (Listen name hands start ∷ xs) ys calls = calls-front xs ys calls
+calls-front (_ ∷ xs) ys calls = absurd calls
+
+pub attaches-calls : (setup : Setup) → AreCalls (attaches setup)
+attaches-calls setup = grind arith
+
+-- the last of some calls, which are all that is left
+pub calls_last : {T : Type 0} {whole left : List Act} (acts : List Act) {x y z : World}
+    (result : Result T NoMemory) → left ≡ acts → SoCalled whole left x y → Calls acts result y z
+    → Calls whole result x z
+calls_last acts (Ok done) is so_far calls =
+    so_over done refl (so_more acts [] (is ∙ sym (append-nil acts)) so_far calls.called)
+calls_last acts (Err e) is so_far calls =
+    so_cut acts [] (is ∙ sym (append-nil acts)) so_far calls
 
 -- ---- one of the ways
 
@@ -24,107 +77,76 @@ pub came_whole : {o : Outline} {x y : World} {status : Status} → IsWhole o x s
     → Came o x status y
 came_whole whole = record { came = inl whole }
 
-pub came_in_send : {o : Outline} {x y : World} → StopsInSend o x y → Came o x Memory y
-came_in_send stops = record { came = inr (refl, inl stops) }
-
-pub came_closing : {o : Outline} {x y : World} → ClosesEarly o x y → Came o x Memory y
-came_closing closes = record { came = inr (refl, inr (inl closes)) }
-
-pub came_early : {o : Outline} {x y : World} → RefusedEarly o x y → Came o x Memory y
-came_early early = record { came = inr (refl, inr (inr early)) }
+pub came_refused : {o : Outline} {x y : World} → WasRefused o x y → Came o x Memory y
+came_refused refused = record { came = inr (refl, refused) }
 
 -- memory was refused before anything was done
-pub came_none : (o : Outline) (x : World) → Came o x Memory x
-came_none o x = came_early (record {
-  begun = [];
-  left = o.course.acts;
-  splits = refl;
-  none = refl;
-  unopened = refl;
-  made = made_within o.course.bill (omega arith) (made_none x);
-})
+pub came_still : (o : Outline) {x y : World} → Made [] 0 x y → Came o x Memory y
+came_still o made =
+    came_refused (inr (inr (record {
+      begun = [];
+      left = o.course.acts;
+      splits = refl;
+      none = refl;
+      unopened = refl;
+      made = made_within o.course.bill (omega arith) made;
+    })))
 
--- nothing is done, and the run ends so
-pub came_stopped : (planned : Status) (x : World) → IsBlamed planned x x
-    → Came (stopped planned) x (status_at planned x) x
-came_stopped planned x blamed = came_whole (record {
+pub came_none : (o : Outline) (x : World) → Came o x Memory x
+came_none o x = came_still o (made_none x)
+
+-- a run ends as planned that opened no session and sent nothing
+pub came_bare : (o : Outline) (planned : Status) {x y : World} → o.course.ending ≡ Some planned
+    → o.course.state ≡ None → AreMute o.course.acts → Made o.course.acts o.course.bill x y
+    → Sated x y → IsBlamed planned x y → Came o x (status_at planned y) y
+came_bare o planned ends none mute made sated blamed = came_whole (record {
   planned = planned;
-  ending = refl;
+  ending = ends;
   settles = refl;
   blamed = blamed;
-  made = made_none x;
-  sated = refl;
-  settled = refl;
-  stands = refl;
-  silent = refl;
-  follows = λ hands. tt;
-  keys = λ hands. refl;
+  made = made;
+  sated = sated;
+  settled = open-mute o.course.acts mute;
+  stands = none ∙ sym (stand-mute None o.course.acts mute);
+  silent = ap sounding none;
+  follows = λ hands. follows-mute [] o.course.acts mute;
+  keys = λ hands. keys-mute [] o.course.acts mute;
 })
+
+pub came_stopped : (planned : Status) (x : World) → IsBlamed planned x x
+    → Came (stopped planned) x (status_at planned x) x
+came_stopped planned x blamed =
+    came_bare (stopped planned) planned refl refl tt (made_none x) refl blamed
 
 -- ---- calls before it
 
 -- the counts of faults of the files, and the record of those of the inbox, are as before
-pub record AsBefore (x y : World) : Type 0 where
+record AsBefore (x y : World) : Type 0 where
   pub lost : y.lost ≡ x.lost
   pub files : y.shelf.faults ≡ x.shelf.faults
 
 blamed_after : (planned : Status) {x y : World} (z : World) → AsBefore x y → IsBlamed planned y z
     → IsBlamed planned x z
-blamed_after InboxFault z same blamed = blamed
-blamed_after FileFault z same blamed =
-    (blamed.0 ∙ same.lost, subst (λ n. Rose n z.shelf.faults) same.files blamed.1)
-blamed_after (GridRefused refusal) z same blamed =
-    (blamed.0 ∙ same.lost, blamed.1 ∙ same.files, blamed.2)
-blamed_after (ScriptRefused line column) z same blamed =
-    (blamed.0 ∙ same.lost, blamed.1 ∙ same.files)
-blamed_after Usage z same blamed = (blamed.0 ∙ same.lost, blamed.1 ∙ same.files)
-blamed_after Done z same blamed = blamed ∙ same.lost
-blamed_after OutFault z same blamed = absurd blamed
-blamed_after HistoryFull z same blamed = blamed ∙ same.lost
-blamed_after TurnsSpent z same blamed = blamed ∙ same.lost
-blamed_after SmfTooLong z same blamed = blamed ∙ same.lost
-blamed_after WavTooLong z same blamed = blamed ∙ same.lost
-blamed_after Memory z same blamed = absurd blamed
+blamed_after planned z same blamed = grind arith
 
--- acts before others leave what is read off them
-stands_after_calls : (acts more : List Act) → AreCalls acts
-    → stand_after None (acts ++ more) ≡ stand_after None more
-stands_after_calls acts more calls =
-    stand_after-append None acts more
-    ∙ ap (λ s. stand_after s more) (stand-mute None acts (mute-calls acts calls))
-
-settled_after_calls : (acts more : List Act) → AreCalls acts
-    → open_after false (acts ++ more) ≡ open_after false more
-settled_after_calls acts more calls =
-    open_after-append false acts more
-    ∙ ap (λ b. open_after b more) (open-mute acts (mute-calls acts calls))
-
-follows_after_calls : (acts more : List Act) → AreCalls acts → Follows [] more
-    → Follows [] (acts ++ more)
-follows_after_calls acts more calls follows =
-    follows_later {r = None} {s = None} more
-    (accompanies-mute None None acts (mute-calls acts calls) refl) follows
-
-whole_after : (acts : List Act) (o : Outline) {x y z : World} {status : Status}
-    → AreCalls acts → Made acts 0 x y → Sated x y → (whole : IsWhole o y status z)
-    → IsBlamed whole.planned x z → IsWhole (after acts o) x status z
-whole_after acts o {x = x} {y = y} {z = z} calls made sated whole blamed = record {
-  planned = whole.planned;
-  ending = whole.ending;
-  settles = whole.settles;
-  blamed = blamed;
-  made = made_twice made whole.made;
-  sated = sated_twice x y z sated whole.sated;
-  settled = settled_after_calls acts o.course.acts calls ∙ whole.settled;
-  stands = whole.stands ∙ sym (stands_after_calls acts o.course.acts calls);
-  silent = whole.silent;
-  follows = λ hands. follows_after_calls acts o.course.acts calls (whole.follows hands);
-  keys = λ hands.
-      keys-append [] acts o.course.acts
-      ∙ (ap (λ (on : List Voice). keys_after_acts on o.course.acts)
-      (keys-mute [] acts (mute-calls acts calls))
-      ∙ whole.keys hands);
-}
+whole_after : (acts : List Act) (o : Outline) {x y z : World} {status : Status} → AreCalls acts
+    → AsBefore x y → Made acts 0 x y → Sated x y → IsWhole o y status z
+    → IsWhole (after acts o) x status z
+whole_after acts o {x = x} {y = y} {z = z} calls same made sated whole =
+    let bare = calls_bare acts calls in
+    record {
+      planned = whole.planned;
+      ending = whole.ending;
+      settles = whole.settles;
+      blamed = blamed_after whole.planned z same whole.blamed;
+      made = made_twice made whole.made;
+      sated = sated_twice x y z sated whole.sated;
+      settled = bare.settled o.course.acts ∙ whole.settled;
+      stands = whole.stands ∙ sym (bare.stands o.course.acts);
+      silent = whole.silent;
+      follows = λ hands. bare.follows [] o.course.acts (whole.follows hands);
+      keys = λ hands. bare.keys [] o.course.acts ∙ whole.keys hands;
+    }
 
 splits_after : (acts whole begun left : List Act) → whole ≡ begun ++ left
     → acts ++ whole ≡ (acts ++ begun) ++ left
@@ -135,99 +157,184 @@ rose_after : (x y z : World) → Sated x y → Rose y.ports.wants z.ports.wants
     → Rose x.ports.wants z.ports.wants
 rose_after x y z sated rose = subst (λ n. Rose n z.ports.wants) sated rose
 
-unsaid_after : {A : Type 0} (x y z : World) → Sated x y → A ⊎ Rose y.ports.wants z.ports.wants
-    → A ⊎ Rose x.ports.wants z.ports.wants
-unsaid_after x y z sated (inl none) = inl none
-unsaid_after x y z sated (inr rose) =
-    inr (rose_after x y z sated rose)
+pub unsaid_after : {A : Type 0} (x y z : World) → Sated x y
+    → A ⊎ Rose y.ports.wants z.ports.wants → A ⊎ Rose x.ports.wants z.ports.wants
+unsaid_after x y z sated all = grind arith
 
-none_after : (acts begun : List Act) → given acts ≡ [] → given begun ≡ []
-    → given (acts ++ begun) ≡ []
-none_after acts begun first second =
-    given-append acts begun ∙ (ap (λ sends. sends ++ given begun) first ∙ second)
-
-refused_after : (acts : List Act) (o : Outline) {x y z : World} → AreCalls acts
+refused_after : (acts : List Act) (o : Outline) {x y z : World} → AreBare acts
     → Made acts 0 x y → Sated x y → WasRefused o y z → WasRefused (after acts o) x z
-refused_after acts o {x = x} {y = y} {z = z} calls made sated (inl stops) = inl (record {
+refused_after acts o {x = x} {y = y} {z = z} bare made sated (inl stops) = inl (record {
   begun = acts ++ stops.begun;
   left = stops.left;
   splits = splits_after acts o.course.acts stops.begun stops.left stops.splits;
   made = made_twice made stops.made;
   wanted = rose_after x y z sated stops.wanted;
-  follows = λ hands. follows_after_calls acts stops.begun calls (stops.follows hands);
+  follows = λ hands. bare.follows [] stops.begun (stops.follows hands);
 })
-refused_after acts o {x = x} {y = y} {z = z} calls made sated (inr (inl closes)) =
-    let stands = stands_after_calls acts closes.begun calls in
+refused_after acts o {x = x} {y = y} {z = z} bare made sated (inr (inl closes)) =
+    let all = sym (append_assoc acts closes.begun (gives closes.closing)) in
     inr (inl (record {
       begun = acts ++ closes.begun;
       left = closes.left;
       splits = splits_after acts o.course.acts closes.begun closes.left closes.splits;
-      settled = settled_after_calls acts closes.begun calls ∙ closes.settled;
+      settled = bare.settled closes.begun ∙ closes.settled;
       closing = closes.closing;
       unsaid = closes.unsaid;
-      closes = ap (λ s. handed_of o.hands (ends (sounding s))) stands ∙ closes.closes;
+      closes = ap (λ s. handed_of o.hands (ends (sounding s))) (bare.stands closes.begun)
+          ∙ closes.closes;
       all = unsaid_after x y z sated closes.all;
-      made = subst (λ acts. Made acts (0 + o.course.bill) x z)
-          (sym (append_assoc acts closes.begun (gives closes.closing)))
-          (made_twice made closes.made);
-      follows = λ hands.
-          subst (Follows []) (sym (append_assoc acts closes.begun (gives closes.closing)))
-          (follows_after_calls acts (closes.begun ++ gives closes.closing) calls
-          (closes.follows hands));
+      made = subst (λ acts. Made acts (0 + o.course.bill) x z) all (made_twice made closes.made);
+      follows = λ hands. subst (Follows []) all
+          (bare.follows [] (closes.begun ++ gives closes.closing) (closes.follows hands));
     }))
-refused_after acts o calls made sated (inr (inr early)) = inr (inr (record {
+refused_after acts o bare made sated (inr (inr early)) = inr (inr (record {
   begun = acts ++ early.begun;
   left = early.left;
   splits = splits_after acts o.course.acts early.begun early.left early.splits;
-  none = none_after acts early.begun (given-calls acts calls) early.none;
-  unopened = stands_after_calls acts early.begun calls ∙ early.unopened;
+  none = bare.sends early.begun ∙ early.none;
+  unopened = bare.stands early.begun ∙ early.unopened;
   made = made_twice made early.made;
 }))
 
-so_after : (acts : List Act) (o : Outline) {x y z : World} {status : Status} → AreCalls acts
-    → AsBefore x y → Made acts 0 x y → Sated x y → CameSo o y status z
-    → CameSo (after acts o) x status z
-so_after acts o calls same made sated (inl whole) =
-    inl (whole_after acts o calls made sated whole
-    (blamed_after whole.planned _ same whole.blamed))
-so_after acts o calls same made sated (inr refused) =
-    inr (refused.0, refused_after acts o calls made sated refused.1)
-
-pub came_after : {acts : List Act} (o : Outline) {x y z : World} {status : Status}
-    → AreCalls acts → AsBefore x y → Made acts 0 x y → Sated x y → Came o y status z
+came_after : {acts : List Act} (o : Outline) {x y z : World} {status : Status} → AreCalls acts
+    → AsBefore x y → Made acts 0 x y → Sated x y → Came o y status z
     → Came (after acts o) x status z
-came_after {acts = acts} o {x = x} {y = y} {z = z} {status = status} calls same made sated more =
-    record { came = so_after acts o calls same made sated more.came }
+came_after {acts = acts} o calls same made sated more = record {
+  came = elim more.came [
+    | inl whole ↦ inl (whole_after acts o calls same made sated whole)
+    | inr refused ↦
+        inr (refused.0, refused_after acts o (calls_bare acts calls) made sated refused.1)
+  ];
+}
 
 -- memory was refused to these calls
 pub came_cut : (acts : List Act) (o : Outline) {x y : World} {e : NoMemory} → AreCalls acts
     → AreBegun acts e x y → Came (after acts o) x Memory y
-came_cut acts o {x = x} {y = y} calls cut =
-    let done = calls-front cut.done cut.left (subst AreCalls cut.splits calls) in
-    came_early (record {
+came_cut acts o calls cut =
+    let bare = calls_bare cut.done
+    (calls-front cut.done cut.left (subst AreCalls cut.splits calls)) in
+    came_refused (inr (inr (record {
       begun = cut.done;
       left = cut.left ++ o.course.acts;
       splits = ap (λ acts. acts ++ o.course.acts) cut.splits
           ∙ append_assoc cut.done cut.left o.course.acts;
-      none = given-calls cut.done done;
-      unopened = stand-mute None cut.done (mute-calls cut.done done);
+      none = rw append-nil at (bare.sends []);
+      unopened = rw append-nil at (bare.stands []);
       made = made_within (0 + o.course.bill) (omega arith) cut.made;
-    })
+    })))
 
--- after these calls nothing more is done, and the run ends so
-pub came_stops : (acts : List Act) (planned : Status) {x y : World} → AreCalls acts
-    → Made acts 0 x y → Sated x y → IsBlamed planned x y
-    → Came (after acts (stopped planned)) x (status_at planned y) y
-came_stops acts planned {y = y} calls made sated blamed = came_whole (record {
-  planned = planned;
-  ending = refl;
-  settles = refl;
-  blamed = blamed;
-  made = made_twice made (made_none y);
-  sated = sated;
-  settled = settled_after_calls acts [] calls;
-  stands = sym (stands_after_calls acts [] calls);
-  silent = refl;
-  follows = λ hands. follows_after_calls acts [] calls tt;
-  keys = λ hands. keys-append [] acts [] ∙ keys-mute [] acts (mute-calls acts calls);
-})
+-- ---- a load
+
+pub came_load : {T : Type 0} {done : T} (name text : List ℕ) (o : Outline) {x y z : World}
+    {status : Status} → Called (Ok done) (Load name (Some text)) x y → Came o y status z
+    → Came (after (Load name (Some text) ∷ []) o) x status z
+came_load name text o called more =
+    let made = called.called.0 in
+    let stored = made.shelf.left in
+    came_after o tt (record { lost = made.mail.lost; files = stored.4.1 ∙ stored.3.1 }) made
+    called.called.1 more
+
+-- it failed
+pub came_load_failed : {T : Type 0} {done : T} (name : List ℕ) {x y : World}
+    → Called (Ok done) (Load name None) x y
+    → Came (after (Load name None ∷ []) (stopped FileFault)) x FileFault y
+came_load_failed name {x = x} called =
+    let made = called.called.0 in
+    let stored = made.shelf.left in
+    came_bare (after (Load name None ∷ []) (stopped FileFault)) FileFault refl refl tt made
+    called.called.1
+    (made.mail.lost, subst (λ n. Rose x.shelf.faults n) (sym stored.4.1) stored.3.1)
+
+-- ---- the wait for a player
+
+pub came_listen : {T : Type 0} {done : T} (name : List ℕ) (at : ℕ) (o : Outline) {x y z : World}
+    {status : Status} → Called (Ok done) (Listen name 1 (Some at)) x y → Came o y status z
+    → Came (after (Listen name 1 (Some at) ∷ []) o) x status z
+came_listen name at o called more =
+    let made = called.called.0 in
+    came_after o tt (record { lost = made.mail.lost; files = made.shelf.left.1 }) made
+    called.called.1 more
+
+pub came_listen_failed : {T : Type 0} {done : T} (name : List ℕ) {x y : World}
+    → Called (Ok done) (Listen name 1 None) x y
+    → Came (after (Listen name 1 None ∷ []) (stopped InboxFault)) x InboxFault y
+came_listen_failed name called =
+    let made = called.called.0 in
+    came_bare (after (Listen name 1 None ∷ []) (stopped InboxFault)) InboxFault refl refl tt made
+    called.called.1 made.mail.lost
+
+-- ---- the ports
+
+lost-attaches : (setup : Setup) (b : Bool) → lost_after (attaches setup) b ≡ b
+lost-attaches setup b = grind arith
+
+stored-attaches : (setup : Setup) (old new : Option Contents) (was is : ℕ)
+    → AreStored (attaches setup) old was new is → is ≡ was
+stored-attaches setup old new was is stored = grind arith
+
+-- they were attached, which leaves the files and the inbox as they were
+pub came_attached : {T : Type 0} {done : T} (setup : Setup) (o : Outline) {x y z : World}
+    {status : Status} → Calls (attaches setup) (Ok done) x y → Came o y status z
+    → Came (after (attaches setup) o) x status z
+came_attached setup o {x = x} calls more =
+    let made = calls.called.0 in
+    came_after o (attaches-calls setup) (record {
+      lost = made.mail.lost ∙ lost-attaches setup x.lost;
+      files = stored-attaches setup _ _ _ _ made.shelf.left;
+    }) made calls.called.1 more
+
+-- ---- what an outline asks, paints and saves
+
+pub record IsKind (o : Outline) (heard : List Poll) (status : Status) : Type 0 where
+  pub polls : polls_in o.course.acts ≡ heard
+  pub sized : IfSome o.screen IsScreen
+  pub reads : status ≢ Memory → IfSome o.given ReadsBack
+  pub takes : status ≢ Memory → KeepsTake o
+
+pub by : {o : Brought → Outline} (b : Brought) {x y : World} {status : Status}
+    → IsKind (o b) b.polls status → Came (o b) x status y → CameBy o x status y
+by b kind came = record {
+  brought = b;
+  polls = kind.polls;
+  came = came;
+  sized = kind.sized;
+  reads = kind.reads;
+  takes = kind.takes;
+}
+
+pub kind_of : {o : Brought → Outline} {x y : World} {status : Status} (did : CameBy o x status y)
+    → IsKind (o did.brought) did.brought.polls status
+kind_of did = assumption did
+
+-- out of memory nothing is said of what is saved
+pub kind_memory : (o : Outline) {heard : List Poll} → polls_in o.course.acts ≡ heard
+    → IfSome o.screen IsScreen → IsKind o heard Memory
+kind_memory o polls sized = record {
+  polls = polls;
+  sized = sized;
+  reads = λ other. absurd (other refl);
+  takes = λ other. absurd (other refl);
+}
+
+pub kind_stopped : {status : Status} (planned : Status) → IsKind (stopped planned) [] status
+kind_stopped planned = record {
+  polls = refl;
+  sized = tt;
+  reads = λ other. tt;
+  takes = λ other ends. tt;
+}
+
+kept_by : (take : Option Take) (acts more : List Act) → saves_in acts ≡ saves_in more
+    → IfSome take (λ take. IsKept take more) → IfSome take (λ take. IsKept take acts)
+kept_by take acts more same kept = grind arith
+
+pub kind_after : {o : Outline} {heard : List Poll} {status : Status} (acts : List Act)
+    → AreCalls acts → IsKind o heard status → IsKind (after acts o) heard status
+kind_after {o = o} acts calls kind =
+    let bare = calls_bare acts calls in
+    record {
+      polls = bare.polls o.course.acts ∙ kind.polls;
+      sized = kind.sized;
+      reads = kind.reads;
+      takes = λ other ends. kept_by o.take _ _ (bare.saves o.course.acts) (kind.takes other ends);
+    }

@@ -1,21 +1,38 @@
--- How a song and a wave end a run: a song alone can be too long.
-use Rattle.std.proofs.Common.{◌≡◌, ℕ, ◌+◌, ◌*◌, ◌≤◌, Bool, true, false, List, [], ◌∷◌, refl, sym, ◌∙◌, ap, subst, arith}
-use Rattle.std.specs.Prelude.{nat_lt, if◌then◌else◌, fold, Option, Some, None, IfSome}
-use Rattle.std.proofs.lemmas.Bool.{cond-false, le-ltb}
+-- How a song and a wave end a run, and what it saves of them.
+use Rattle.std.proofs.Common.{◌≡◌, ◌≢◌, ℕ, ◌+◌, ◌*◌, ◌≤◌, List, [], ◌∷◌, refl, sym, ◌∙◌, ap, arith}
+use Rattle.std.specs.Prelude.{fold, Option, Some, None, IfSome, Result}
+use Rattle.std.proofs.lemmas.Bool.{le-ltb}
+use Rattle.orca_base.specs.declared.command.Reply.{Reply}
+use Rattle.orca_base.specs.declared.command.Rule.{Rule}
+use Rattle.orca_base.specs.declared.limits.TheConstants.{MAX_HISTORY}
 use Rattle.orca_base.specs.declared.message.Message.{Message}
 use Rattle.orca_base.specs.declared.message.Message.TheVariants as message
-use Rattle.orca_course.specs.Acts.Act.{Save}
-use Rattle.orca_course.specs.Courses.{Course, course, ended, still}
+use Rattle.orca_base.specs.Grids.{IsSheet, Sheet}
+use Rattle.orca_concert.specs.Concerts.{Concert, concert as concert_at, concert_course}
+use Rattle.orca_course.specs.Acts.{Act}
+use Rattle.orca_course.specs.Acts.Act.{Attach, Save}
+use Rattle.orca_course.specs.Courses.{mapped}
+use Rattle.orca_course.specs.Standings.{tally_at_start}
 use Rattle.orca_course.specs.declared.ending.Stop.{Stop}
-use Rattle.orca_course.specs.declared.ending.Stop.TheVariants.{SongTooLong, WaveTooLong}
-use Rattle.orca_reports.specs.Songs.{Recording, loss, reached_in, recorded, saved_by, smf_manner, whole_size, with_song}
-use Rattle.orca_reports.specs.Waves.{Wave, frame_course, framed, heard, next_size, suits, wav_manner}
-use Rattle.orca_smf.specs.declared.limits.TheConstants.{MAX_TRACK_BYTES}
-use Rattle.orca_smf.specs.Recording.{Recorded}
-use Rattle.orca_smf.specs.Songs.{smf}
+use Rattle.orca_course.specs.declared.ending.Stop.TheVariants.{Left, SongTooLong}
+use Rattle.orca_cues.specs.Cues.{frames_cue}
+use Rattle.orca_cues.specs.declared.source.Cue.{Cue}
+use Rattle.orca_edit.specs.Prices.{kept_at_start}
+use Rattle.orca_op.specs.Laws.{IsLawful}
+use Rattle.orca_op.specs.Rules.{rule}
+use Rattle.orca_reports.specs.Runs.{Opened, calls_in}
+use Rattle.orca_reports.specs.SavedSongs.{SongIsSaved, SongIsTune}
+use Rattle.orca_reports.specs.SavedWaves.{WaveIsSaved}
+use Rattle.orca_reports.specs.Songs.{Recording as SongSoFar, recorded as recorded_course, recording_at_start, saved_by, smf_manner, smf_report}
+use Rattle.orca_reports.specs.Waves.{Wave as WaveSoFar, framed, heard, next_size, wav_manner, wav_report, wave_at_start}
 use Rattle.orca_wav.specs.declared.limits.TheConstants.{MAX_WAVE_BYTES, SAMPLE_BYTES}
 use Rattle.orca_wav.specs.Rendering.{Rendering, rendering_after}
-use Rattle.orca_player.proofs.FineLemmas.{Closes, Frames}
+use Rattle.orca_words.specs.Requests.{Recording, Setup, Smf, Wav}
+use Rattle.orca_player.specs.Doing.{KeepsTake}
+use Rattle.orca_player.specs.Outlines.{concert, nothing, opening, standing_at, status_of_end, work_outline}
+use Rattle.orca_player.specs.Takes.{saves_in}
+use Rattle.orca_player.specs.declared.status.Status.TheVariants.{Done}
+use Rattle.orca_player.proofs.FineLemmas.{Closes, Frames, concert-ends, cues-end}
 
 -- no report of these ends a run
 abbrev pub Never : Stop → Type 0
@@ -25,87 +42,56 @@ Never stop = ⊥
 abbrev pub AnyRoom : {R : Type 0} → ℕ → R → Type 0
 AnyRoom n r = Unit {0}
 
--- ---- a song
+-- ---- a song alone can be too long
 
 abbrev pub IsLong : Stop → Type 0
 IsLong stop = stop ≡ SongTooLong
 
-loss_long : (before now : Option Recorded) → IfSome (loss before now) IsLong
-loss_long None None = tt
-loss_long None (Some now) = tt
-loss_long (Some before) None = refl
-loss_long (Some before) (Some now) = tt
+recorded-long : (tick : ℕ) (messages : List Message) (r : SongSoFar)
+    → IfSome (recorded_course tick messages r).ending IsLong
+unfolding recorded_course
+recorded-long tick messages r = grind arith
 
-pub recorded_long : (tick : ℕ) (messages : List Message) (r : Recording)
-    → IfSome (recorded tick messages r).ending IsLong
-unfolding recorded
-recorded_long tick messages r = loss_long r.song _
-
-finished_long : (s : Recorded) (r : Recording) (long : Bool)
-    → IfSome (if long then ended SongTooLong (with_song r None)
-    else course (Save r.out (smf s.tempo s.list (reached_in s r.end)) ∷ []) 0
-    (with_song r None)).ending IsLong
-finished_long s r true = refl
-finished_long s r false = tt
-
-pub saved_long : (song : Option Recorded) (r : Recording) → IfSome (saved_by song r).ending IsLong
-saved_long None r = tt
-saved_long (Some s) r = finished_long s r (nat_lt MAX_TRACK_BYTES (whole_size s r.end))
+saved-long : (song : Option _) (r : SongSoFar) → IfSome (saved_by song r).ending IsLong
+saved-long song r = grind arith
 
 pub smf-closes : Closes IsLong smf_manner
 smf-closes = record {
   final = λ s r. tt;
-  close = λ messages r. recorded_long r.end messages r;
-  saves = λ r. saved_long r.song r;
+  close = λ messages r. recorded-long r.end messages r;
+  saves = λ r. saved-long r.song r;
 }
 
 pub smf-frames : Frames IsLong AnyRoom smf_manner
-smf-frames line tick n messages r some = (recorded_long tick messages r, tt)
+smf-frames line tick n messages r some = (recorded-long tick messages r, tt)
 
--- ---- a wave
+-- ---- a wave with room for its frames ends no run
 
 -- there is room for so many frames more
-abbrev pub WaveRoom : ℕ → Wave → Type 0
+abbrev pub WaveRoom : ℕ → WaveSoFar → Type 0
 WaveRoom n w = SAMPLE_BYTES * (w.rendering.samples + n * w.frame) ≤ MAX_WAVE_BYTES
 
 -- a message adds no sample
-after_samples : (s : Rendering) (m : Message) → (rendering_after s m).samples ≡ s.samples
-after_samples s (message.On channel key velocity) = refl
-after_samples s (message.Off channel key) = refl
-after_samples s (message.Control channel control value) = refl
-after_samples s (message.Bend channel lsb msb) = refl
-after_samples s (message.Udp text) = refl
-after_samples s (message.Osc path values) = refl
+after-samples : (s : Rendering) (m : Message) → (rendering_after s m).samples ≡ s.samples
+after-samples s m = grind arith
 
-either_samples : (fits : Bool) (s : Rendering) (m : Message)
-    → (if fits then rendering_after s m else s).samples ≡ s.samples
-either_samples true s m = after_samples s m
-either_samples false s m = refl
-
-heard_samples : (s : Rendering) (m : Message) → (heard s m).samples ≡ s.samples
+heard-samples : (s : Rendering) (m : Message) → (heard s m).samples ≡ s.samples
 unfolding heard
-heard_samples s m = either_samples (suits s.voices m) s m
+heard-samples s m = grind (arith, after-samples)
 
-fold_samples : (messages : List Message) (s : Rendering)
+fold-samples : (messages : List Message) (s : Rendering)
     → (fold heard s messages).samples ≡ s.samples
-fold_samples [] s = refl
-fold_samples (m ∷ messages) s = fold_samples messages (heard s m) ∙ heard_samples s m
+fold-samples [] s = refl
+fold-samples (m ∷ messages) s = fold-samples messages (heard s m) ∙ heard-samples s m
 
-framed_samples : (messages : List Message) (w : Wave)
+framed-samples : (messages : List Message) (w : WaveSoFar)
     → (framed messages w).rendering.samples ≡ w.rendering.samples + w.frame
 unfolding framed
-framed_samples messages w =
-    ap (λ n. n + w.frame) (fold_samples messages w.rendering)
+framed-samples messages w = ap (λ n. n + w.frame) (fold-samples messages w.rendering)
 
-framed_frame : (messages : List Message) (w : Wave) → (framed messages w).frame ≡ w.frame
+framed-frame : (messages : List Message) (w : WaveSoFar) → (framed messages w).frame ≡ w.frame
 unfolding framed
-framed_frame messages w = refl
-
-frame_is : (messages : List Message) (w : Wave) → next_size w ≤ MAX_WAVE_BYTES
-    → frame_course messages w ≡ still (framed messages w)
-frame_is messages w short =
-    cond-false _ (ended WaveTooLong w) (still (framed messages w))
-    (le-ltb MAX_WAVE_BYTES (next_size w) short)
+framed-frame messages w = refl
 
 -- one frame more
 more_frames : (n frame samples : ℕ) → samples + (n + 1) * frame ≡ (samples + frame) + n * frame
@@ -114,21 +100,85 @@ more_frames n frame samples = grind arith
 pub wav-frames : Frames Never WaveRoom wav_manner
 wav-frames line tick n messages w some =
     let size : SAMPLE_BYTES * ((w.rendering.samples + w.frame) + n * w.frame) ≤ MAX_WAVE_BYTES =
-    subst (λ k. SAMPLE_BYTES * k ≤ MAX_WAVE_BYTES) (more_frames n w.frame w.rendering.samples) some in
+    rw more_frames at some in
     let short : next_size w ≤ MAX_WAVE_BYTES = omega (arith, size) in
-    let is = frame_is messages w short in
     let room : WaveRoom n (framed messages w) =
-    subst (λ frame. SAMPLE_BYTES * ((framed messages w).rendering.samples + n * frame)
-    ≤ MAX_WAVE_BYTES) (sym (framed_frame messages w))
-    (subst (λ k. SAMPLE_BYTES * (k + n * w.frame) ≤ MAX_WAVE_BYTES)
-    (sym (framed_samples messages w)) size) in (
-      subst (λ (c : Course Wave Stop). IfSome c.ending Never) (sym is) tt,
-      subst (λ (c : Course Wave Stop). WaveRoom n c.state) (sym is) room,
+    rw (framed-frame messages w, framed-samples messages w) size in
+    rw (le-ltb MAX_WAVE_BYTES (next_size w) short) (tt, room)
+
+-- ---- what is saved
+
+-- nobody leaves a run that is recorded
+abbrev IsNoLeave : Stop → Type 0
+IsNoLeave stop = stop ≢ Left
+
+-- so one that ends as planned went on to its end
+went_on : (end : Option Stop) → IfSome end IsNoLeave → Some (status_of_end end) ≡ Some Done
+    → end ≡ None
+went_on end stays done = grind arith
+
+-- the saves are those among the calls
+saves-calls_in : (acts : List Act) → saves_in (calls_in acts) ≡ saves_in acts
+saves-calls_in [] = refl
+saves-calls_in (Attach attached ∷ acts) = saves-calls_in acts
+saves-calls_in (Save name bytes ∷ acts) =
+    ap (λ saves. Save name bytes ∷ saves) (saves-calls_in acts)
+saves-calls_in (_ ∷ acts) = saves-calls_in acts
+
+one_save : (acts : List Act) (out bytes : List ℕ) → calls_in acts ≡ Save out bytes ∷ []
+    → saves_in acts ≡ Save out bytes ∷ []
+one_save acts out bytes is = sym (saves-calls_in acts) ∙ ap saves_in is
+
+recorded-stays : (tick : ℕ) (messages : List Message) (r : SongSoFar)
+    → IfSome (recorded_course tick messages r).ending IsNoLeave
+unfolding recorded_course
+recorded-stays tick messages r = grind arith
+
+smf-done : (answer : Result Reply Rule) (messages : List Message) (r : SongSoFar)
+    → IfSome (smf_report answer messages r).ending IsNoLeave
+smf-done answer messages r = grind (arith, recorded-stays)
+
+smf-stays : (cues : List Cue) (s : Concert SongSoFar)
+    → IfSome (concert_course smf_manner cues s).ending IsNoLeave
+smf-stays cues s =
+    concert-ends smf_manner cues s (record {
+      final = λ s r. tt;
+      close = λ messages r. recorded-stays r.end messages r;
+      saves = λ r. grind (arith, saved-long);
+    }) (cues-end IsNoLeave smf_manner cues s (λ line answer messages r. smf-done answer messages r))
+
+-- what is saved is the song of the messages of the run
+pub smf_keeps : SongIsSaved → SongIsTune → IsLawful rule → (setup : Setup) (song : Recording)
+    (sheet : Sheet) → IsSheet sheet → 4 ≤ song.bpm → setup.limit ≤ MAX_HISTORY
+    → KeepsTake (work_outline setup (Smf song) sheet nothing)
+unfolding work_outline concert opening mapped
+smf_keeps saved tune lawful setup song sheet is fast few = λ ends.
+    let o : Opened = record { sheet = sheet; seed = setup.seed; limit = setup.limit } in
+    let s = concert_at (standing_at sheet setup.seed setup.limit)
+    (recording_at_start song.out song.bpm song.frames) in
+    let c = concert_course smf_manner (frames_cue song.frames) s in
+    let none = went_on c.ending (smf-stays (frames_cue song.frames) s) ends in (
+      one_save c.acts song.out _
+          (saved song.out song.bpm song.frames o kept_at_start tally_at_start few none),
+      tune lawful song.out song.bpm song.frames o kept_at_start tally_at_start is fast few none,
     )
 
-pub wav-closes : Closes Never wav_manner
-wav-closes = record {
-  final = λ s w. tt;
-  close = λ messages w. tt;
-  saves = λ w. tt;
-}
+wav-done : (answer : Result Reply Rule) (messages : List Message) (w : WaveSoFar)
+    → IfSome (wav_report answer messages w).ending IsNoLeave
+wav-done answer messages w = grind arith
+
+-- what is saved is the wave of the messages of the run
+pub wav_keeps : WaveIsSaved → IsLawful rule → (setup : Setup) (wave : Recording) (sheet : Sheet)
+    → IsSheet sheet → KeepsTake (work_outline setup (Wav wave) sheet nothing)
+unfolding work_outline concert opening mapped
+wav_keeps saved lawful setup wave sheet is = λ ends.
+    let o : Opened = record { sheet = sheet; seed = setup.seed; limit = setup.limit } in
+    let s = concert_at (standing_at sheet setup.seed setup.limit)
+    (wave_at_start wave.out wave.bpm) in
+    let c = concert_course wav_manner (frames_cue wave.frames) s in
+    let stays = concert-ends {P = IsNoLeave} wav_manner (frames_cue wave.frames) s (assumption)
+    (cues-end IsNoLeave wav_manner (frames_cue wave.frames) s
+    (λ line answer messages w. wav-done answer messages w)) in
+    one_save c.acts wave.out _
+    (saved lawful wave.out wave.bpm wave.frames o kept_at_start tally_at_start is
+    (went_on c.ending stays ends))

@@ -16,6 +16,7 @@ pub(crate) fn reading_law(seed: u32, commands: &[Command])
 }
 
 /// The numbers of a command have 32 bits, and its glyph is one.
+#[tactic(auto, unfolding(orca_script::specs::Canonical::line_of))]
 fn command_values(command: Command)
     ensures { HasValues (line_of command) }
 {

@@ -1,10 +1,10 @@
 //! The commands of a script on an opened grid.
 
-ghost use Rattle.std.specs.Prelude.{◌≡◌, ◌≤◌, Option, List, ℕ, [], ◌∷◌, length};
+ghost use Rattle.std.specs.Prelude.{◌≤◌, [], ◌∷◌, length};
 ghost use Rattle.orca_base.specs.declared.limits.TheConstants.{MAX_FILE_BYTES};
 ghost use Rattle.orca_course.specs.Acts.Act.{Load};
 ghost use Rattle.orca_cues.specs.Scripts.{any_script_of};
-ghost use Rattle.orca_player.specs.Doing.{Came};
+ghost use Rattle.orca_player.specs.Doing.{Came, CameBy};
 ghost use Rattle.orca_player.specs.Outlines.{after, loaded_script, script_outline, standing_at};
 
 use crate::Status;
@@ -22,9 +22,8 @@ pub(crate) fn replay<F: Files + Drop, O: Outs + Drop, I: Inbox + Drop, L: Ledger
     name: &str,
     desk: &mut Desk<F, O, I, L>,
 ) -> Status
-    ensures { (script : Option (List ℕ)) × Came
-        (after (Load name.now script ∷ [])
-        (loaded_script opening.old.grid opening.old.seed opening.old.limit script))
+    ensures { CameBy (λ brought. after (Load name.now brought.script ∷ [])
+        (loaded_script opening.old.grid opening.old.seed opening.old.limit brought.script))
         desk.old result desk.new }
 {
     match desk.load(opening.alloc, name) {

@@ -1,4 +1,4 @@
-use Rattle.orca_player.proofs.EndingLemmas.{said_none}
+use Rattle.orca_player.proofs.EndLemmas.{said_none}
 use Rattle.orca_player.proofs.ending.end.Goals as goal
 
 pub returns-in-Done : goal.returns-in-Done

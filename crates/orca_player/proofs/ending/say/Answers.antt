@@ -1,4 +1,4 @@
-use Rattle.orca_player.proofs.EndingLemmas.{said_line}
+use Rattle.orca_player.proofs.EndLemmas.{said_line}
 use Rattle.orca_player.proofs.ending.say.Goals as goal
 
 pub returns-in-Ok : goal.returns-in-Ok

@@ -1,7 +1,9 @@
-use Rattle.std.proofs.Common.{◌∙◌, ap, refl}
+use Rattle.std.proofs.Common.{◌∙◌, ap}
 use Rattle.orca_course.specs.Standings.{notes_of}
+use Rattle.orca_player.specs.Outlines.{live_outline}
+use Rattle.orca_player.proofs.LiveLemmas.{live_none}
+use Rattle.orca_player.proofs.TopLemmas.{live_from}
 use Rattle.orca_player.proofs.OpeningLemmas.{notes-standing_at}
-use Rattle.orca_player.proofs.TopLemmas.{live_from, live_none}
 use Rattle.orca_player.proofs.live.start.Goals as goal
 
 pub play_all-requires-clause-begins : goal.play_all-requires-clause-begins
@@ -14,12 +16,12 @@ pub returns-in-Ok : goal.returns-in-Ok
 returns-in-Ok g c = live_from _ _ _ _ _ c.in-Ok.ensures.state c.play_all.ensures
 
 pub returns-in-Err : goal.returns-in-Err
+unfolding live_outline
 returns-in-Err g c =
     let performance = c.args.performance.now in
-    live_from _ _ _ _ _ refl
-    (live_none _ _ (record {
+    live_none _ _ (record {
       rows = performance.rows_in_range.0;
       few_rows = performance.rows_in_range.1;
       columns = performance.cols_in_range.0;
       few_columns = performance.cols_in_range.1;
-    }))
+    })

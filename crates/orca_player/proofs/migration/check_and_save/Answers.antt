@@ -1,4 +1,4 @@
-use Rattle.orca_player.proofs.SavedLemmas.{refused_reads, script_refused}
+use Rattle.orca_player.proofs.TopLemmas.{refused_reads, script_refused}
 use Rattle.orca_player.proofs.migration.check_and_save.Goals as goal
 
 pub returns-in-Err-clause-came : goal.returns-in-Err-clause-came

@@ -1,15 +1,24 @@
-use Rattle.orca_player.proofs.TopLemmas.{move_cut, move_failed, script_moved}
+use Rattle.std.proofs.Common.{refl}
+use Rattle.orca_player.specs.Outlines.{loaded_migration}
+use Rattle.orca_player.proofs.CameLemmas.{came_load_failed, came_still}
+use Rattle.orca_player.proofs.TopLemmas.{kind_moved, load_done, unloaded}
 use Rattle.orca_player.proofs.migration.migrate.Goals as goal
 
 pub returns-in-Ok-Some : goal.returns-in-Ok-Some
+unfolding loaded_migration
 returns-in-Ok-Some g c =
-    script_moved _ _ (rw c.in-Ok-Some.field-0-is at c.in-Ok-Some.ensures.called)
+    load_done _ _ (loaded_migration _)
+    (rw c.in-Ok-Some.field-0-is at c.in-Ok-Some.ensures.called)
+    (kind_moved _ _ _ (rw c.as_slice.ensures.value at c.check_and_save.ensures.reads))
     (rw c.as_slice.ensures.value at c.check_and_save.ensures.came)
-    (rw c.as_slice.ensures.value at c.check_and_save.ensures.reads)
 
 pub returns-in-Ok-None : goal.returns-in-Ok-None
+unfolding loaded_migration
 returns-in-Ok-None g c =
-    move_failed _ (rw c.in-Ok-None.field-0-is at c.in-Ok-None.ensures.called)
+    unloaded _ (loaded_migration _) refl
+    (came_load_failed _ (rw c.in-Ok-None.field-0-is at c.in-Ok-None.ensures.called))
 
 pub returns-in-Err : goal.returns-in-Err
-returns-in-Err g c = move_cut _ _ c.in-Err.ensures.called
+unfolding loaded_migration
+returns-in-Err g c =
+    unloaded _ (loaded_migration _) refl (came_still _ c.in-Err.ensures.called.called.0)

@@ -1,5 +1,5 @@
 use Rattle.orca_player.proofs.CameLemmas.{came_none}
-use Rattle.orca_player.proofs.SavedLemmas.{script_reads, script_saved, script_unsaved}
+use Rattle.orca_player.proofs.TopLemmas.{script_reads, script_saved}
 use Rattle.orca_player.proofs.migration.print_and_save.Goals as goal
 
 pub returns-in_default-clause-came : goal.returns-in_default-clause-came

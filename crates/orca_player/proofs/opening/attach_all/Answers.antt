@@ -1,6 +1,6 @@
 use Rattle.std.proofs.Common.{refl}
 use Rattle.orca_course.proofs.CallLemmas.{calls_err, so_cut, so_more, so_none}
-use Rattle.orca_player.proofs.CallingLemmas.{calls_last}
+use Rattle.orca_player.proofs.CameLemmas.{calls_last}
 use Rattle.orca_player.proofs.opening.attach_all.Goals as goal
 
 pub returns-in_err-attach-2-clause-called : goal.returns-in_err-attach-2-clause-called

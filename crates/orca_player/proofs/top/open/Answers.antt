@@ -1,4 +1,5 @@
-use Rattle.orca_player.proofs.TopLemmas.{attach_cut, grid_cut, grid_failed, grid_loaded}
+use Rattle.orca_player.proofs.CameLemmas.{came_load_failed, came_still}
+use Rattle.orca_player.proofs.TopLemmas.{attach_cut, grid_loaded, grid_unloaded}
 use Rattle.orca_player.proofs.top.open.Goals as goal
 
 pub returns-in_default : goal.returns-in_default
@@ -12,8 +13,9 @@ returns-in-Ok-Some g c =
 
 pub returns-in-Ok-None : goal.returns-in-Ok-None
 returns-in-Ok-None g c =
-    grid_failed _ _ c.in-Ok.ensures.called
-    (rw c.in-Ok-None.field-0-is at c.in-Ok-None.ensures.called)
+    grid_unloaded _ _ c.in-Ok.ensures.called
+    (came_load_failed _ (rw c.in-Ok-None.field-0-is at c.in-Ok-None.ensures.called))
 
 pub returns-in-Err : goal.returns-in-Err
-returns-in-Err g c = grid_cut _ _ _ c.in-Ok.ensures.called c.in-Err.ensures.called
+returns-in-Err g c =
+    grid_unloaded _ _ c.in-Ok.ensures.called (came_still _ c.in-Err.ensures.called.called.0)

@@ -15,20 +15,11 @@ returns-clause-replays g c = replays_alike replays_script _
 pub returns-clause-ran : goal.returns-clause-ran
 returns-clause-ran g c =
     let did = c.work-status.ensures in
-    ran_by shows_performance _ did.0 (record {
-      failed = c.requires.sound.0;
-      unstored = c.requires.sound.1;
-      lost = c.requires.sound.2;
-    }) did.1 c.end.ensures
+    ran_by shows_performance _ did.0 c.requires.sound did.1 c.end.ensures
 
 pub returns-clause-causes : goal.returns-clause-causes
 returns-clause-causes g c =
-    let did = c.work-status.ensures in
-    caused_came (record {
-      failed = c.requires.sound.0;
-      unstored = c.requires.sound.1;
-      lost = c.requires.sound.2;
-    }) did.1.came c.end.ensures
+    caused_came c.requires.sound c.work-status.ensures.1.came c.end.ensures
 
 pub returns-clause-usage : goal.returns-clause-usage
 returns-clause-usage g c = λ none. ran_usage _ (returns-clause-ran g c) none
