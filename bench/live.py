@@ -16,18 +16,29 @@ BEAT = b'.D1.....\n..:03C82\n' + grids.piece()
 NOTE = b'\x90\x24'
 # How long before a moment a key counts as near it, in seconds.
 NEAR = 0.012
-# A program that only reads the clock for so many seconds, and tells how often it was stopped for more than half a
-# millisecond, and for how long at most. A virtual machine is stopped by its host, whatever it does.
-CLOCK = '''
-import sys, time
-last = time.monotonic()
-until, stops, longest = last + float(sys.argv[1]), 0, 0
-while last < until:
-    now = time.monotonic()
-    stops += now - last > 0.0005
-    longest = max(longest, now - last)
-    last = now
-print('%d times, for up to %.1f milliseconds' % (stops, 1e3 * longest))
+# A program that waits for one moment after another, as a player does, and does nothing else: it sleeps, reads the clock for the
+# last 80 microseconds, and tells how late it was at each. A virtual machine is stopped by its host, whatever it does; what
+# this program is late, no program on this machine could be spared.
+WAITER = '''
+import select, sys, time
+interval, late = float(sys.argv[1]), []
+moment = time.monotonic() + interval
+while not select.select([sys.stdin], [], [], 0)[0]:
+    time.sleep(max(0, moment - 0.00008 - time.monotonic()))
+    while time.monotonic() < moment:
+        pass
+    late.append(time.monotonic() - moment)
+    moment += interval
+print(*late)
+'''
+# A program that answers each byte of a connection at once by a byte of its own, and does nothing else.
+ECHO = '''
+import os, socket
+listener = socket.create_server(('127.0.0.1', 0))
+os.write(1, b'%d\\n' % listener.getsockname()[1])
+connection, _ = listener.accept()
+while key := connection.recv(1):
+    os.write(1, key)
 '''
 
 
@@ -123,16 +134,46 @@ def late_by(moments, interval):
     return late
 
 
+class Waiter:
+    """The program that only waits, beside a player."""
+
+    def __init__(self, interval):
+        words = [sys.executable, '-c', WAITER, str(interval)]
+        self.process = subprocess.Popen(words, stdin=subprocess.PIPE, stdout=subprocess.PIPE)
+
+    def tell(self):
+        """Prints how late it was."""
+        said, _ = self.process.communicate(b'\n')
+        spread('    a program beside it that only waits for such moments', list(map(float, said.split())), 'microseconds', 1e6)
+
+
 def lateness(bpm, seconds):
-    """How late frames are, and how often a program beside it that only reads the clock was stopped meanwhile."""
-    player = Player(BEAT, '--bpm', bpm, '--midi', 'pipe')
-    clock = subprocess.Popen([sys.executable, '-c', CLOCK, str(seconds)], stdout=subprocess.PIPE, text=True)
+    """How late frames are, and how late a program is meanwhile that only waits."""
+    player, waiter = Player(BEAT, '--bpm', bpm, '--midi', 'pipe'), Waiter(interval_of(bpm))
     moments = list(player.frames(seconds))
     player.leave()
-    stops, _ = clock.communicate()
     late = late_by(moments, interval_of(bpm))
     spread('a frame at %d beats a minute, %d frames' % (bpm, len(late)), late, 'microseconds', 1e6)
-    print('    a reader of the clock was stopped for more than half a millisecond', stops, end='', flush=True)
+    waiter.tell()
+
+
+class Echo:
+    """The program that only answers."""
+
+    def __init__(self):
+        self.process = subprocess.Popen([sys.executable, '-c', ECHO], stdout=subprocess.PIPE, bufsize=0)
+        self.keys = socket.create_connection(('127.0.0.1', int(self.process.stdout.readline())))
+        self.keys.setsockopt(socket.IPPROTO_TCP, socket.TCP_NODELAY, 1)
+
+    def answer_time(self):
+        start = time.monotonic()
+        self.keys.send(b'.')
+        self.process.stdout.read(1)
+        return time.monotonic() - start
+
+    def leave(self):
+        self.keys.close()
+        self.process.wait(10)
 
 
 def key_times(name, grid, count, *options):
@@ -163,11 +204,12 @@ def answer_time(player, key):
 
 
 def keys_by_frames(bpm, count):
-    """Keys while a piece plays: those that are typed shortly before a frame, and the others."""
-    player, interval = Player(BEAT, '--bpm', bpm, '--midi', 'pipe'), interval_of(bpm)
+    """Keys while a piece plays: those that are typed shortly before a frame, and the others. After each of them a program
+    is asked that only answers."""
+    player, echo, interval = Player(BEAT, '--bpm', bpm, '--midi', 'pipe'), Echo(), interval_of(bpm)
     # The cursor goes where no instrument is.
     player.keys.send(b'\x1b[B' * 20)
-    times = {True: [], False: []}
+    times, echoed = {True: [], False: []}, []
     for turn in range(count):
         is_near = turn % 2 == 0
         moment = next(player.frames(10))
@@ -177,9 +219,12 @@ def keys_by_frames(bpm, count):
             while player.painting(0):
                 pass
             times[is_near].append(answer_time(player, b'12'[turn % 2:turn % 2 + 1]))
+            echoed.append(echo.answer_time())
     player.leave()
+    echo.leave()
     for is_near, name in ((True, 'less than 12 ms before a frame'), (False, 'away from one')):
         spread('a key at %d beats, %s' % (bpm, name), times[is_near], 'microseconds', 1e6)
+    spread('    a program beside it that only answers', echoed, 'microseconds', 1e6)
 
 
 def catching_up(bpm):
@@ -203,7 +248,7 @@ def flood(bpm, count):
     player, interval = Player(BEAT, '--bpm', bpm, '--midi', 'pipe'), interval_of(bpm)
     before = list(player.frames(20 * interval))
     sender = threading.Thread(target=player.keys.sendall, args=(b'\x1b[C\x1b[D' * (count // 6),))
-    begin = time.monotonic()
+    waiter, begin = Waiter(interval), time.monotonic()
     sender.start()
     during = []
     while sender.is_alive():
@@ -212,17 +257,19 @@ def flood(bpm, count):
     player.leave()
     late = late_by(before + during, interval)[len(before):]
     spread('a frame at %d beats under %d bytes of keys in %.1f s' % (bpm, count, seconds), late, 'microseconds', 1e6)
+    waiter.tell()
 
 
 def saving(bpm, count):
     """How late the frames are while the piece is saved in every fifth of them."""
     player, interval = Player(BEAT, '--bpm', bpm, '--midi', 'pipe', '--save', 'saved'), interval_of(bpm)
-    moments = []
+    waiter, moments = Waiter(interval), []
     for _ in range(count):
         moments += [moment for _, moment in zip(range(5), player.frames(10))]
         player.keys.send(b'\x13')
     player.leave()
     spread('a frame at %d beats beside %d saves' % (bpm, count), late_by(moments, interval), 'microseconds', 1e6)
+    waiter.tell()
 
 
 def processor(name, grid, seconds, keys, *options):
