@@ -19,8 +19,6 @@ mod saving;
 mod sinks;
 mod start;
 mod tcp_inbox;
-#[cfg(test)]
-mod tests;
 mod whole;
 
 pub use fault::OutsideFault;

@@ -170,7 +170,7 @@ same_either false command commands frames e more none =
     (run_same frames)
     ∙ ap (λ (list : List Command). replicate frames Frame ++ command ∷ list) none)
 
-behind_same : (commands : List Command) (frames : ℕ) →
+pub behind_same : (commands : List Command) (frames : ℕ) →
     flat_map commands_of (lines_behind frames commands) ≡ replicate frames Frame ++ commands
 unfolding lines_behind
 behind_same [] frames = run_same frames ∙ sym (append-nil (replicate frames Frame))

@@ -1,7 +1,7 @@
-use super::{UNKNOWN, check_file, name_of};
-use crate::{MemOuts, Outs, OutsideFault, RealOuts};
+use super::common::{UNKNOWN, check_file, name_of};
 use orca_base::Port;
 use orca_base::limits::WIRE_BYTES;
+use orca_rig::{MemOuts, Outs, OutsideFault, RealOuts};
 use std::io::Read;
 use std::net::{Net, UdpSocket};
 use std::os::fd::AsRawFd;

@@ -1,6 +1,6 @@
-use super::check_file;
-use crate::{Files, MemFiles, OutsideFault, RealFiles, names_differ};
+use super::common::check_file;
 use orca_base::limits::MAX_FILE_BYTES;
+use orca_rig::{Files, MemFiles, OutsideFault, RealFiles, names_differ};
 use std::alloc::Global;
 use std::fs::Permissions;
 use std::io::Read;

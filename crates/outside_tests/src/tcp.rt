@@ -1,8 +1,8 @@
 ghost use Rattle.std.specs.Prelude.{◌≡◌, false};
 
-use super::{UNKNOWN, make_outs, name_of};
-use crate::{Answer, Inbox, MAX_HANDS, MemOuts, OutsideFault, TcpInbox};
+use super::common::{UNKNOWN, make_outs, name_of};
 use orca_base::limits::ARRIVAL_BYTES;
+use orca_rig::{Answer, Inbox, MAX_HANDS, MemOuts, OutsideFault, TcpInbox};
 use std::io::Write;
 use std::net::{Net, OpenListener, SocketAddr, TcpListener, TcpStream};
 use std::process::Abort;

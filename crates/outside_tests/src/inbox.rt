@@ -1,11 +1,11 @@
 ghost use Rattle.std.specs.Prelude.{◌≡◌, false};
 
-use super::make_outs;
-use crate::{
-    Answer, Inbox, MAX_HANDS, MemAnswer, MemInbox, MemOuts, OutsideFault, are_arrivals, is_in_order,
-};
+use super::common::make_outs;
 use orca_base::Wire;
 use orca_base::limits::{ARRIVAL_BYTES, WIRE_BYTES};
+use orca_rig::{
+    Answer, Inbox, MAX_HANDS, MemAnswer, MemInbox, MemOuts, OutsideFault, are_arrivals, is_in_order,
+};
 use std::alloc::Global;
 use std::process::Abort;
 
