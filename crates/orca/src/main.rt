@@ -5,8 +5,8 @@ ghost use Rattle.std.specs.Prelude.{◌≡◌, ◌<◌};
 
 use orca_base::{Memory, Steps};
 use orca_course::Desk;
+use orca_edge::{RealFiles, RealOuts, TcpInbox, open_closed_streams, words_after_name};
 use orca_player::{Status, end, run};
-use orca_rig::{RealFiles, RealOuts, TcpInbox, open_closed_streams, words_after_name};
 use std::env;
 use std::marker::Brand;
 use std::net::{Net, TcpStream};

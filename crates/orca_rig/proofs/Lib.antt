@@ -1,3 +1,2 @@
 pub mod InMemoryLemmas
 pub mod ScheduleLemmas
-pub mod WriteLemmas

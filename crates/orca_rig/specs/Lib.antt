@@ -5,5 +5,3 @@ pub mod Arrived
 pub mod InMemory
 pub mod Schedule
 pub mod KeptPolls
-pub mod Heard
-pub mod Waits

@@ -47,10 +47,7 @@ impl From<io::Error> for OutsideFault {
 }
 
 /// Counts a failure.
-pub(crate) fn count_failure(
-    failed: &mut u64,
-    done: Result<(), OutsideFault>,
-) -> Result<(), OutsideFault>
+pub fn count_failure(failed: &mut u64, done: Result<(), OutsideFault>) -> Result<(), OutsideFault>
     ensures same { result ≡ done }
     ensures grows { failed.old ≤ failed.new }
     ensures failed { IsErrOf done OutsideFault.Failed
@@ -65,7 +62,7 @@ pub(crate) fn count_failure(
 }
 
 /// Counts a failure, or that memory was refused.
-pub(crate) fn count_fault(
+pub fn count_fault(
     failed: &mut u64,
     refused: &mut u64,
     done: Result<(), OutsideFault>,

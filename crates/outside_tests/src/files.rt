@@ -1,6 +1,7 @@
 use super::common::check_file;
 use orca_base::limits::MAX_FILE_BYTES;
-use orca_rig::{Files, MemFiles, OutsideFault, RealFiles, names_differ};
+use orca_edge::RealFiles;
+use orca_rig::{Files, MemFiles, OutsideFault, names_differ};
 use std::alloc::Global;
 use std::fs::Permissions;
 use std::io::Read;

@@ -12,3 +12,5 @@ mod inbox;
 mod outs;
 #[cfg(test)]
 mod tcp;
+#[cfg(test)]
+mod whole;

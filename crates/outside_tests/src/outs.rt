@@ -1,7 +1,10 @@
 use super::common::{UNKNOWN, check_file, name_of};
 use orca_base::Port;
 use orca_base::limits::WIRE_BYTES;
-use orca_rig::{MemOuts, Outs, OutsideFault, RealOuts};
+use orca_edge::RealOuts;
+use orca_edge::room::Gate;
+use orca_rig::{MemOuts, Outs, OutsideFault};
+use std::fs::OpenOptions;
 use std::io::Read;
 use std::net::{Net, UdpSocket};
 use std::os::fd::AsRawFd;
@@ -116,6 +119,22 @@ fn ports_of_the_system_take_bytes(rt: HostRuntime) {
     check_calls(&rt, &mut outs, &UNATTACHED);
     check_midi(&rt, &mut outs);
     assert!(rt; outs.sent() == 0);
+}
+
+#[test]
+fn a_device_gets_a_byte_at_a_time(rt: HostRuntime) {
+    let message = b"\x90\x30\x3f".as_slice();
+    for (name, count) in [("/dev/null", 1), ("rig_plain", 3)] {
+        let mut options = OpenOptions::new();
+        let file = options
+            .write(true)
+            .create(true)
+            .open(&rt, name)
+            .expect(&rt, "a file");
+        let gate = Gate::of_messages(&file).expect(&rt, "a gate");
+        assert_eq!(rt; gate.piece_of(message).len(), count);
+    }
+    fs::remove_file(&rt, "rig_plain").expect(&rt, "a removal");
 }
 
 /// Sends so many messages, and gives how many are lost.

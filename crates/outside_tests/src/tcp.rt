@@ -2,7 +2,8 @@ ghost use Rattle.std.specs.Prelude.{◌≡◌, false};
 
 use super::common::{UNKNOWN, make_outs, name_of};
 use orca_base::limits::ARRIVAL_BYTES;
-use orca_rig::{Answer, Inbox, MAX_HANDS, MemOuts, OutsideFault, TcpInbox};
+use orca_edge::TcpInbox;
+use orca_rig::{Answer, Inbox, MAX_HANDS, MemOuts, OutsideFault};
 use std::io::Write;
 use std::net::{Net, OpenListener, SocketAddr, TcpListener, TcpStream};
 use std::process::Abort;

@@ -1,0 +1,96 @@
+-- What the connections of an inbox gave, and what is answered of it.
+use Rattle.std.specs.Prelude.{◌≡◌, ◌≢◌, ℕ, ◌<◌, ◌≤◌, ◌==◌, if◌then◌else◌, List, [], length, take, slice_index_or, Option, Result, Ok, Err, Bool, true, false}
+use Rattle.std.specs.List.{list_any}
+use Rattle.std.specs.IoError.{error_kind}
+use Rattle.std.specs.Io.KnownBytes.{Consumes}
+use Rattle.std.specs.declared.io.Error.{Error}
+use Rattle.std.specs.declared.io.ErrorKind.TheVariants.{WouldBlock, Interrupted}
+use Rattle.orca_base.specs.declared.limits.TheConstants.{ARRIVAL_BYTES}
+use Rattle.orca_rig.specs.declared.inbox.Answer.{Answer}
+use Rattle.orca_rig.specs.declared.inbox.Answer.TheVariants as answer
+use Rattle.orca_edge.specs.declared.hands.Hand.{Hand}
+use Rattle.orca_edge.specs.declared.hands.State.{State}
+use Rattle.orca_edge.specs.declared.hands.State.TheVariants as state
+use Rattle.orca_edge.specs.declared.hands.Piece.{Piece}
+use Rattle.orca_edge.specs.declared.hands.Piece.TheVariants as piece
+use Rattle.orca_edge.specs.declared.hands.Turn.{Turn}
+use Rattle.orca_edge.specs.declared.hands.Turn.TheVariants as turn
+use Rattle.orca_rig.specs.Arrived.{MayAnswer, moment_after}
+
+-- what a read gave, by its result: no byte is the end, a read that would wait or that a signal
+-- interrupted is neither, and any other error has broken the connection
+abbrev pub IsPieceOf : Result ℕ Error → Piece → Type 0
+IsPieceOf (Ok count) (piece.Bytes came) = (came ≡ count) × (1 ≤ count)
+IsPieceOf (Ok count) piece.End = count ≡ 0
+IsPieceOf (Ok count) piece.Nothing = ⊥
+IsPieceOf (Ok count) piece.Interrupted = ⊥
+IsPieceOf (Ok count) piece.Broken = ⊥
+IsPieceOf (Err error) (piece.Bytes came) = ⊥
+IsPieceOf (Err error) piece.End = ⊥
+IsPieceOf (Err error) piece.Nothing = error_kind error ≡ WouldBlock
+IsPieceOf (Err error) piece.Interrupted = error_kind error ≡ Interrupted
+IsPieceOf (Err error) piece.Broken =
+    (error_kind error ≢ WouldBlock) × (error_kind error ≢ Interrupted)
+
+-- at least one byte, and no more than an arrival holds
+abbrev pub IsPiece : Piece → Type 0
+IsPiece (piece.Bytes count) = (1 ≤ count) × (count ≤ ARRIVAL_BYTES)
+IsPiece piece.Nothing = Unit {0}
+IsPiece piece.Interrupted = Unit {0}
+IsPiece piece.End = Unit {0}
+IsPiece piece.Broken = Unit {0}
+
+-- the bytes that a read gave: the first of those that were filled
+abbrev pub piece_bytes : Piece → List ℕ → List ℕ
+piece_bytes (piece.Bytes count) filled = take count filled
+piece_bytes piece.Nothing filled = []
+piece_bytes piece.Interrupted filled = []
+piece_bytes piece.End filled = []
+piece_bytes piece.Broken filled = []
+
+-- the bytes of a hand that came with an answer
+abbrev pub hand_bytes : ℕ → Answer → List ℕ → List ℕ
+hand_bytes hand (answer.Bytes from count at) filled =
+    if hand == from then take count filled else []
+hand_bytes hand (answer.Due at) filled = []
+hand_bytes hand answer.End filled = []
+hand_bytes hand answer.Failed filled = []
+
+-- the bytes of a hand that a turn answers
+abbrev pub turn_bytes : ℕ → Turn → List ℕ → List ℕ
+turn_bytes hand (turn.Answered answer) filled = hand_bytes hand answer filled
+turn_bytes hand turn.Nothing filled = []
+turn_bytes hand turn.Again filled = []
+
+-- each connection has piece_bytes the bytes that came of its hand, and no others
+abbrev pub AreHeard : {S : Type 0}
+    → (S → Option (List ℕ)) → List (Hand S) → List (Hand S) → (ℕ → List ℕ) → Type 0
+AreHeard {S} remaining old new came =
+    (length new ≡ length old) × ((hand : ℕ) (other : Hand S) → hand < length old
+    → Consumes (remaining (slice_index_or old hand other).stream)
+    (remaining (slice_index_or new hand other).stream) (came hand))
+
+-- a turn answers what a poll may answer, at the moment of the turn
+abbrev pub IsTurn : Option ℕ → ℕ → Turn → Type 0
+IsTurn due now (turn.Answered answer) =
+    MayAnswer due now answer × (moment_after answer now ≡ now)
+IsTurn due now turn.Nothing = Unit {0}
+IsTurn due now turn.Again = Unit {0}
+
+-- how a connection stands
+abbrev pub is_open : State → Bool
+is_open state.Open = true
+is_open state.Ended = false
+is_open state.Broken = false
+
+abbrev pub is_broken : State → Bool
+is_broken state.Open = false
+is_broken state.Ended = false
+is_broken state.Broken = true
+
+-- nothing yet while a connection is open; after that a failure if one has broken, and else the end
+abbrev pub last_turn : {S : Type 0} → List (Hand S) → Turn
+last_turn hands =
+    if list_any (λ hand. is_open hand.state) hands then turn.Nothing
+    else (if list_any (λ hand. is_broken hand.state) hands then turn.Answered answer.Failed
+    else turn.Answered answer.End)

@@ -1,0 +1,220 @@
+//! The connections of the players, and one turn over them.
+
+ghost use Rattle.std.specs.Prelude.{◌≡◌, ◌≤◌, ◌<◌, ◌+◌, ◌++◌, ◌∷◌, [], nat_le, true, false, IfOk, OnOk, length};
+ghost use Rattle.std.specs.List.{list_any};
+ghost use Rattle.std.specs.Option.{option_map_or};
+ghost use Rattle.std.specs.Io.KnownBytes.{Consumes};
+ghost use Rattle.orca_base.specs.declared.limits.TheConstants.{ARRIVAL_BYTES};
+ghost use Rattle.orca_edge.specs.Heard.{IsPieceOf, IsPiece, piece_bytes, turn_bytes, AreHeard, IsTurn, is_open, is_broken, last_turn};
+
+use crate::moments::has_come;
+use orca_base::limits::ARRIVAL_BYTES;
+use orca_rig::Answer;
+use std::alloc::{AllocError, AllocFailed, Global};
+use std::io;
+use std::io::{ErrorKind, Read};
+
+/// The connections, that of hand 0 first.
+#[derive(Drop)]
+pub(crate) struct Hands<S> {
+    hands: Vec<Hand<S>>,
+    /// The hand that is read next.
+    next: u8,
+}
+
+/// A connection, and how it stands.
+#[derive(Drop)]
+pub(crate) struct Hand<S> {
+    stream: S,
+    state: State,
+}
+
+/// How a connection stands.
+#[derive(Clone, Copy)]
+pub(crate) enum State {
+    Open,
+    /// The peer has closed its end.
+    Ended,
+    /// The connection broke.
+    Broken,
+}
+
+impl State {
+    fn is_open(self) -> bool
+        ensures { result ≡ is_open self }
+    {
+        matches!(self, State::Open)
+    }
+
+    fn is_broken(self) -> bool
+        ensures { result ≡ is_broken self }
+    {
+        matches!(self, State::Broken)
+    }
+}
+
+/// What a read of a connection gave.
+#[derive(Clone, Copy)]
+pub(crate) enum Piece {
+    /// So many bytes, 1 to [`ARRIVAL_BYTES`].
+    Bytes(u8),
+    /// Nothing yet.
+    Nothing,
+    /// Nothing, since a signal came: the next read may give something.
+    Interrupted,
+    /// The peer has closed its end.
+    End,
+    /// The connection broke.
+    Broken,
+}
+
+/// What one turn gave.
+#[derive(Clone, Copy)]
+pub(crate) enum Turn {
+    /// The answer of the poll.
+    Answered(Answer),
+    /// The connection that was read has nothing yet.
+    Nothing,
+    /// The connections have to be read again.
+    Again,
+}
+
+/// What a read gave, by its result.
+fn piece_of(read: io::Result<usize>) -> Piece
+    requires { IfOk read (λ count. count ≤ ARRIVAL_BYTES) }
+    ensures { IsPieceOf read result }
+{
+    match read {
+        Ok(0) => Piece::End,
+        Ok(count) => Piece::Bytes(count as u8),
+        Err(error) => match error.kind() {
+            ErrorKind::WouldBlock => Piece::Nothing,
+            ErrorKind::Interrupted => Piece::Interrupted,
+            _ => Piece::Broken,
+        },
+    }
+}
+
+/// The hand after this one, in a round of so many.
+fn hand_after(hand: u8, count: usize) -> u8
+    ensures next { hand + 1 < count → hand < 255 → result ≡ hand + 1 }
+    ensures first { count ≤ hand + 1 → result ≡ 0 }
+{
+    match hand.checked_add(1) {
+        Some(next) if usize::from(next) < count => next,
+        _ => 0,
+    }
+}
+
+impl<S: Read> Hand<S> {
+    /// Reads what has come, where the connection is open. The stream does not wait.
+    fn hear(&mut self, bytes: &mut [u8; ARRIVAL_BYTES]) -> Piece
+        ensures piece { IsPiece result }
+        ensures heard { Consumes (S.remaining self.old.stream) (S.remaining self.new.stream)
+            (piece_bytes result bytes.new) }
+    {
+        match self.state {
+            State::Open => {
+                let piece = piece_of(self.stream.read(bytes));
+                match piece {
+                    Piece::End => self.state = State::Ended,
+                    Piece::Broken => self.state = State::Broken,
+                    Piece::Bytes(_) | Piece::Nothing | Piece::Interrupted => {}
+                }
+                piece
+            }
+            State::Ended => Piece::End,
+            State::Broken => Piece::Broken,
+        }
+    }
+}
+
+impl<S: Read> Hands<S> {
+    /// No connection yet, and room for so many.
+    pub(crate) fn new(alloc: Global, count: u8) -> Result<Hands<S>, AllocError>
+        ensures { IfOk result (λ hands. hands.hands.items ≡ []) }
+    {
+        Ok(Hands {
+            hands: Vec::with_capacity(alloc, usize::from(count))?,
+            next: 0,
+        })
+    }
+
+    /// Adds the connection of the next hand.
+    pub(crate) fn add(&mut self, stream: S) -> Result<(), AllocFailed<Hand<S>>>
+        ensures { OnOk result (self.new.hands.items ≡ self.old.hands.items
+            ++ (record { stream = stream; state = State.Open }) ∷ []) }
+    {
+        let state = State::Open;
+        self.hands.push(Hand { stream, state })
+    }
+
+    /// How many connections there are.
+    pub(crate) fn len(&self) -> usize
+        ensures { result ≡ length self.now.hands.items }
+    {
+        self.hands.len()
+    }
+
+    /// One turn: the moment `due`, where it has come, and otherwise what the next hand brings. What
+    /// a read brought is answered in that turn.
+    pub(crate) fn turn(
+        &mut self,
+        due: Option<u64>,
+        now: u64,
+        bytes: &mut [u8; ARRIVAL_BYTES],
+    ) -> Turn
+        ensures turn { IsTurn due now result }
+        ensures due { option_map_or (λ moment. nat_le moment now) due false ≡ true
+            → result ≡ Turn.Answered (Answer.Due now) }
+        ensures heard { AreHeard S.remaining self.old.hands.items self.new.hands.items
+            (λ hand. turn_bytes hand result bytes.new) }
+    {
+        if has_come(due, now) {
+            return Turn::Answered(Answer::Due { at: now });
+        }
+        let number = self.next;
+        self.next = hand_after(number, self.hands.len());
+        let Some(hand) = self.hands.get_mut(usize::from(number)) else {
+            return Turn::Answered(Answer::Failed);
+        };
+        match hand.hear(bytes) {
+            Piece::Bytes(count) => Turn::Answered(Answer::Bytes {
+                hand: number,
+                count,
+                at: now,
+            }),
+            Piece::Nothing => Turn::Nothing,
+            Piece::Interrupted => Turn::Again,
+            Piece::End | Piece::Broken => self.last_turn(),
+        }
+    }
+
+    /// What a turn gives whose connection brings nothing any more: the last answer, once no
+    /// connection is open.
+    fn last_turn(&self) -> Turn
+        ensures { result ≡ last_turn self.now.hands.items }
+    {
+        if self.is_open() {
+            Turn::Nothing
+        } else if self.has_broken() {
+            Turn::Answered(Answer::Failed)
+        } else {
+            Turn::Answered(Answer::End)
+        }
+    }
+
+    /// Whether a connection is open.
+    fn is_open(&self) -> bool
+        ensures { result ≡ list_any (λ hand. is_open hand.state) self.now.hands.items }
+    {
+        self.hands.iter().any(|hand| hand.state.is_open())
+    }
+
+    /// Whether a connection has broken.
+    fn has_broken(&self) -> bool
+        ensures { result ≡ list_any (λ hand. is_broken hand.state) self.now.hands.items }
+    {
+        self.hands.iter().any(|hand| hand.state.is_broken())
+    }
+}

@@ -1,0 +1,19 @@
+//! The outside over the real thing: the files, the ports and the connections of the system, behind
+//! the traits of orca_rig.
+#![tactic(auto)]
+
+mod hands;
+mod moments;
+mod real_files;
+mod real_outs;
+pub mod room;
+mod saving;
+mod sinks;
+mod start;
+mod tcp_inbox;
+pub mod whole;
+
+pub use real_files::RealFiles;
+pub use real_outs::RealOuts;
+pub use start::{open_closed_streams, words_after_name};
+pub use tcp_inbox::TcpInbox;

@@ -1,0 +1,297 @@
+ghost use Rattle.std.specs.Prelude.{◌≡◌, ◌≢◌, ◌≤◌, ◌↔◌, ◌+◌, min, None, IsSome, IsNone, IsOk, IfOk, OnOk, OnErr, IsErrAnd, IsErrOf, Option, Some, Ok};
+ghost use Rattle.std.specs.Option.{option_map};
+ghost use Rattle.std.specs.IoError.{error_kind};
+ghost use Rattle.std.specs.declared.io.ErrorKind.TheVariants.{Interrupted};
+ghost use Rattle.orca_edge.specs.Taken.{Takes, TakesOrNot};
+
+use crate::room::{Gate, Patience};
+use crate::sinks::{Output, Sink};
+use crate::whole::unless_interrupted;
+use libc::{STDERR_FILENO, STDOUT_FILENO};
+use orca_base::Port;
+use orca_rig::{Outs, OutsideFault, count_fault};
+use std::fs::OpenOptions;
+use std::io::ErrorKind;
+use std::net::{Ipv4Addr, Ipv6Addr, Net, SocketAddr, ToSocketAddrs, UdpSocket};
+use std::os::fd::AsRawFd;
+use std::rt::Clock;
+use std::{io, rt, str};
+
+/// The ports of a running program. It tells nothing of what it was given.
+///
+/// | port | goes to |
+/// |---|---|
+/// | [`Port::Midi`] | the attached file or pipe, one write for each send; a device, byte by byte |
+/// | [`Port::Udp`], [`Port::Osc`] | the attached address, one datagram for each send |
+/// | [`Port::Text`], [`Port::View`] | the standard output, in pieces |
+/// | [`Port::Fault`] | the standard error |
+///
+/// Midi, Udp and Osc drop their bytes while they are not attached. Nothing is kept back: when a
+/// send returns, its bytes have left the program.
+///
+/// A send waits for room, but no longer than 250 milliseconds in all. Then it has failed, and its
+/// port is stuck: no send waits there any more until the port shows room. It shows room by itself,
+/// as when a pipe is read again.
+///
+/// | what is given up | what the peer gets |
+/// |---|---|
+/// | a MIDI message | none of it |
+/// | a painting | its first pieces. The next painting begins with CAN (ECMA-48) |
+/// | a text | its first pieces |
+/// | a datagram | none of it |
+///
+/// A device that shows room may have it for one byte alone, and would let a longer write wait. So
+/// it may take the first bytes of a MIDI message and no more. The rest then goes before the next
+/// message. A painting may be given up inside an escape sequence, which CAN ends.
+///
+/// Some sinks can still make a write wait: a pipe into which somebody else writes in the same
+/// moment, and a terminal of hardware that stops in the middle of a piece.
+#[derive(Drop)]
+pub struct RealOuts<'a, R: rt::Files> {
+    rt: &'a R,
+    output: Output,
+    errors: Gate,
+    midi: Option<Sink<R::File>>,
+    udp: Option<Peer>,
+    osc: Option<Peer>,
+    failed: u64,
+    refused: u64,
+}
+
+/// What datagrams go to, and whether there is room for them.
+#[derive(Drop)]
+struct Peer {
+    lane: Lane,
+    gate: Gate,
+}
+
+/// An address that datagrams are sent to, and the socket that they are sent from.
+#[derive(Drop)]
+struct Lane {
+    socket: UdpSocket,
+    address: SocketAddr,
+}
+
+impl<R: Print + Eprint + rt::Files + Net + Clock> RealOuts<'_, R>
+where
+    R::File: AsRawFd,
+{
+    /// The outputs that the runtime reaches. No port is attached.
+    pub fn new(rt: &R) -> RealOuts<'_, R>
+        ensures faults { ⟦<RealOuts<'static, R> as Outs>⟧.faults result ≡ 0 }
+        ensures wants { ⟦<RealOuts<'static, R> as Outs>⟧.wants result ≡ 0 }
+    {
+        RealOuts {
+            rt,
+            output: Output::new(Gate::new(STDOUT_FILENO)),
+            errors: Gate::new(STDERR_FILENO),
+            midi: None,
+            udp: None,
+            osc: None,
+            failed: 0,
+            refused: 0,
+        }
+    }
+
+    /// Attaches the port, in place of what it was attached to. After a fault it is unattached.
+    fn connect(&mut self, port: Port, name: &str) -> Result<(), OutsideFault>
+        ensures failed { self.new.failed ≡ self.old.failed }
+        ensures refused { self.new.refused ≡ self.old.refused }
+        ensures midi { port ≡ Port.Midi → (IsSome self.new.midi ↔ IsOk result) }
+        ensures udp { port ≡ Port.Udp → (IsSome self.new.udp ↔ IsOk result) }
+        ensures osc { port ≡ Port.Osc → (IsSome self.new.osc ↔ IsOk result) }
+        ensures midi_stays { port ≢ Port.Midi → self.new.midi ≡ self.old.midi }
+        ensures udp_stays { port ≢ Port.Udp → self.new.udp ≡ self.old.udp }
+        ensures osc_stays { port ≢ Port.Osc → self.new.osc ≡ self.old.osc }
+    {
+        match port {
+            Port::Midi => {
+                self.midi = None;
+                self.midi = Some(open_sink(self.rt, name)?);
+            }
+            Port::Udp => {
+                self.udp = None;
+                self.udp = Some(open_peer(self.rt, name)?);
+            }
+            Port::Osc => {
+                self.osc = None;
+                self.osc = Some(open_peer(self.rt, name)?);
+            }
+            Port::Text | Port::Fault | Port::View => return Err(OutsideFault::Failed),
+        }
+        Ok(())
+    }
+
+    /// Sends the bytes where the port goes. They are dropped where it is not attached.
+    fn write(&mut self, port: Port, bytes: &[u8]) -> Result<(), OutsideFault>
+        ensures failed { self.new.failed ≡ self.old.failed }
+        ensures refused { self.new.refused ≡ self.old.refused }
+        ensures midi { port ≡ Port.Midi
+            → OnOk result (Takes R.File.contents self.old.midi self.new.midi bytes.now) }
+        ensures midi_whole { port ≡ Port.Midi
+            → OnErr result (TakesOrNot R.File.contents self.old.midi self.new.midi bytes.now) }
+        ensures midi_dropped { port ≡ Port.Midi → IsNone self.old.midi → IsOk result }
+        ensures udp_dropped { port ≡ Port.Udp → IsNone self.old.udp → IsOk result }
+        ensures osc_dropped { port ≡ Port.Osc → IsNone self.old.osc → IsOk result }
+        ensures midi_stays { port ≢ Port.Midi → self.new.midi ≡ self.old.midi }
+        ensures udp_stays { option_map (λ peer. peer.lane) self.new.udp
+            ≡ option_map (λ peer. peer.lane) self.old.udp }
+        ensures osc_stays { option_map (λ peer. peer.lane) self.new.osc
+            ≡ option_map (λ peer. peer.lane) self.old.osc }
+    {
+        let rt = self.rt;
+        let mut writer = io::writer(rt);
+        match port {
+            Port::Text => self.output.print(&Patience::start(rt), &mut writer, bytes)?,
+            Port::View => self.output.paint(&Patience::start(rt), &mut writer, bytes)?,
+            Port::Fault => {
+                self.errors.wait(&Patience::start(rt))?;
+                print_fault(rt, bytes)?;
+            }
+            Port::Midi => write_midi(rt, &mut self.midi, bytes)?,
+            Port::Udp => send_to(rt, &mut self.udp, bytes)?,
+            Port::Osc => send_to(rt, &mut self.osc, bytes)?,
+        }
+        Ok(())
+    }
+}
+
+impl<R: Print + Eprint + rt::Files + Net + Clock> Outs for RealOuts<'_, R>
+where
+    R::File: AsRawFd,
+{
+    ghost handed = { λ _. None };
+
+    ghost attached = { λ _. None };
+
+    ghost sent = { λ _. 0 };
+
+    ghost faults = { λ o. o.failed };
+
+    ghost wants = { λ o. o.refused };
+
+    /// Midi is attached to a file, a named pipe or a device file, which is opened for writing: a
+    /// plain file is created or emptied. A pipe that nobody reads waits here until somebody does,
+    /// as open(2) says. The name of a device that is missing becomes a plain file where its folder
+    /// takes one, and is a failure elsewhere.
+    ///
+    /// Udp and Osc are attached to an address, `HOST:PORT`, with IPv6 in brackets. A name is looked
+    /// up here, and the first of its addresses is taken. An address that is malformed is a failure,
+    /// and so is a name that stands for none.
+    ///
+    /// The other ports cannot be attached: that is a failure. A failed attach leaves the port
+    /// unattached, also where it was attached before.
+    fn attach(&mut self, port: Port, name: &str) -> Result<(), OutsideFault> {
+        let done = self.connect(port, name);
+        count_fault(&mut self.failed, &mut self.refused, done)
+    }
+
+    /// Text for the standard error that is no UTF-8 is a failure. So are a datagram that was cut or is
+    /// too long, a pipe whose reader has gone away, and a MIDI message of more than
+    /// [`WIRE_BYTES`](orca_base::limits::WIRE_BYTES). A datagram that nobody takes is none, since the
+    /// system does not tell.
+    fn send(&mut self, port: Port, bytes: &[u8]) -> Result<(), OutsideFault> {
+        let done = self.write(port, bytes);
+        count_fault(&mut self.failed, &mut self.refused, done)
+    }
+
+    fn sent(&self) -> u64 {
+        0
+    }
+
+    ghost sent_is_length = { λ outs pieces told fits. Prim.cc };
+}
+
+/// Opens a file, a named pipe or a device file for writing. A plain file is created or emptied.
+fn open_sink<R: rt::Files>(rt: &R, name: &str) -> io::Result<Sink<R::File>>
+where
+    R::File: AsRawFd,
+{
+    let file = OpenOptions::new()
+        .write(true)
+        .create(true)
+        .truncate(true)
+        .open(rt, name)?;
+    let gate = Gate::of_messages(&file)?;
+    Ok(Sink::new(file, gate))
+}
+
+/// A socket of the family of the first address that the name stands for.
+fn open_peer<R: Net>(rt: &R, name: &str) -> io::Result<Peer> {
+    let address = first_of(name.to_socket_addrs(rt)?)?;
+    let local = match address {
+        SocketAddr::V4(_) => SocketAddr::from((Ipv4Addr::UNSPECIFIED, 0)),
+        SocketAddr::V6(_) => SocketAddr::from((Ipv6Addr::UNSPECIFIED, 0)),
+    };
+    let socket = rt.bind_udp(local)?;
+    let gate = Gate::new(socket.as_raw_fd());
+    let lane = Lane { socket, address };
+    Ok(Peer { lane, gate })
+}
+
+/// The first of the addresses.
+fn first_of<I: Iterator<Item = SocketAddr>>(mut addresses: I) -> io::Result<SocketAddr>
+    requires { I.can_next addresses }
+    ensures { IfOk result (λ address. (rest : I) × I.next_gives addresses (Some address) rest) }
+{
+    match addresses.next() {
+        Some(address) => Ok(address),
+        None => Err(io::Error::from(ErrorKind::InvalidInput)),
+    }
+}
+
+/// Hands out a message; it is dropped where there is no sink, and no clock is read for it.
+fn write_midi<W: io::Write, C: Clock>(
+    clock: &C,
+    sink: &mut Option<Sink<W>>,
+    bytes: &[u8],
+) -> io::Result<()>
+    ensures taken { OnOk result (Takes W.contents sink.old sink.new bytes.now) }
+    ensures whole { OnErr result (TakesOrNot W.contents sink.old sink.new bytes.now) }
+    ensures dropped { IsNone sink.old → IsOk result }
+{
+    match sink {
+        Some(sink) => sink.write_message(&Patience::start(clock), bytes),
+        None => Ok(()),
+    }
+}
+
+/// Sends one datagram; it is dropped where there is no peer, and no clock is read for it.
+fn send_to<C: Clock>(clock: &C, peer: &mut Option<Peer>, bytes: &[u8]) -> io::Result<()>
+    ensures dropped { IsNone peer.old → IsOk result }
+    ensures same { option_map (λ peer. peer.lane) peer.new
+        ≡ option_map (λ peer. peer.lane) peer.old }
+{
+    let Some(Peer { lane, gate }) = peer else {
+        return Ok(());
+    };
+    let patience = Patience::start(clock);
+    for _ in 0..u64::MAX {
+        gate.wait(&patience)?;
+        if let Some(done) = outcome_of(lane.socket.send_to(bytes, lane.address), bytes.len()) {
+            return done;
+        }
+    }
+    Err(io::Error::from(ErrorKind::TimedOut))
+}
+
+/// What became of a datagram of so many bytes, if no signal interrupted its send: it has gone out
+/// whole, or has failed.
+fn outcome_of(sent: io::Result<usize>, length: usize) -> Option<io::Result<()>>
+    ensures again { IsNone result ↔ IsErrAnd sent (λ error. error_kind error ≡ Interrupted) }
+    ensures whole { result ≡ Some (Ok tt) ↔ sent ≡ Ok length }
+{
+    match unless_interrupted(sent)? {
+        Ok(count) if count == length => Some(Ok(())),
+        Ok(_) => Some(Err(io::Error::from(ErrorKind::WriteZero))),
+        Err(error) => Some(Err(error)),
+    }
+}
+
+/// Prints a line of text on the standard error, which takes text alone.
+fn print_fault<R: Eprint>(rt: &R, bytes: &[u8]) -> io::Result<()> {
+    match str::from_utf8(bytes) {
+        Ok(text) => rt.eprint(text),
+        Err(_) => Err(io::Error::from(ErrorKind::InvalidData)),
+    }
+}

@@ -1,0 +1,69 @@
+//! Reading and writing until all is done.
+
+ghost use Rattle.std.specs.Prelude.{◌≡◌, ◌≤◌, ◌↔◌, length, IsNone, IsErrAnd, OnOk, IfOk, IfSome};
+ghost use Rattle.std.specs.IoError.{error_kind};
+ghost use Rattle.std.specs.declared.io.ErrorKind.TheVariants.{Interrupted};
+ghost use Rattle.std.specs.Io.KnownBytes.{Appends};
+ghost use Rattle.orca_base.specs.declared.limits.TheConstants.{MAX_FILE_BYTES};
+
+use orca_base::limits::MAX_FILE_BYTES;
+use orca_rig::OutsideFault;
+use std::alloc::Global;
+use std::io;
+use std::io::{ErrorKind, Read, Write};
+
+/// How many bytes are read at once.
+const PIECE_BYTES: usize = 4096;
+
+/// All that the reader has left. An interrupted read is tried again.
+pub fn read_whole<R: Read>(alloc: Global, from: &mut R) -> Result<Vec<u8>, OutsideFault>
+    ensures short { IfOk result (λ bytes. length bytes.items ≤ MAX_FILE_BYTES) }
+    ensures whole { IfOk result (λ bytes.
+        IfSome (R.remaining from.old) (λ left. bytes.items ≡ left)) }
+{
+    let mut bytes = Vec::new(alloc);
+    let mut piece = [0u8; PIECE_BYTES];
+    for _ in 0..u64::MAX {
+        match from.read(&mut piece) {
+            Ok(0) => return Ok(bytes),
+            Ok(count) if count > MAX_FILE_BYTES - bytes.len() => return Err(OutsideFault::Failed),
+            Ok(count) => bytes.extend_from_slice(&piece[..count])?,
+            Err(error) if error.kind() == ErrorKind::Interrupted => {}
+            Err(error) => return Err(OutsideFault::from(error)),
+        }
+    }
+    Err(OutsideFault::Failed)
+}
+
+/// Writes all of the bytes. After a short write it goes on with the rest, an interrupted one is
+/// tried again, and one that takes nothing is a failure. Nothing is kept back, so nothing is
+/// flushed.
+pub fn write_whole<W: Write>(to: &mut W, bytes: &[u8]) -> io::Result<()>
+    ensures { OnOk result (Appends (W.contents to.old) (W.contents to.new) bytes.now) }
+{
+    let mut rest = bytes;
+    for _ in 0..u64::MAX {
+        if rest.is_empty() {
+            return Ok(());
+        }
+        match to.write(rest) {
+            Ok(0) => break,
+            Ok(count) => rest = &rest[count..],
+            Err(error) if error.kind() == ErrorKind::Interrupted => {}
+            Err(error) => return Err(error),
+        }
+    }
+    Err(io::Error::from(ErrorKind::WriteZero))
+}
+
+/// What a call gave, but where a signal interrupted it: then it is to be tried again.
+pub fn unless_interrupted<T: Drop>(gave: io::Result<T>) -> Option<io::Result<T>>
+    ensures interrupted { IsNone result
+        ↔ IsErrAnd gave (λ error. error_kind error ≡ Interrupted) }
+    ensures same { IfSome result (λ same. same ≡ gave) }
+{
+    match gave {
+        Err(error) if error.kind() == ErrorKind::Interrupted => None,
+        gave => Some(gave),
+    }
+}
