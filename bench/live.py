@@ -1,10 +1,11 @@
 #!/usr/bin/env python3
-"""Measures `orca play` over a real connection: bench/live.py [PROGRAM] [--seconds S] [--turns N] [--keys N] [--flood BYTES]
+"""Measures `orca play` over a real connection: bench/live.py [PROGRAM] [--short] [--seconds S] [--turns N] [--keys N]
+[--flood BYTES]
 
 It prints how late frames are, how long a key waits for its painting, near a frame and away from one, how a beat that fell
 behind catches up, what eight megabytes of keys and saves do to the frames, how much of a processor is used, and how many
-bytes a frame paints. PROGRAM is crates/orca/out/orca if it is not given. For figures that mean something nothing else may
-run.
+bytes a frame paints; with --short it prints only how late frames and keys are. PROGRAM is crates/orca/out/orca if it is not
+given. For figures that mean something nothing else may run.
 """
 import os, random, select, signal, socket, subprocess, sys, tempfile, threading, time
 
@@ -22,6 +23,7 @@ NEAR = 0.012
 WAITER = '''
 import select, sys, time
 interval, late = float(sys.argv[1]), []
+print(flush=True)
 moment = time.monotonic() + interval
 while not select.select([sys.stdin], [], [], 0)[0]:
     time.sleep(max(0, moment - 0.00008 - time.monotonic()))
@@ -140,6 +142,8 @@ class Waiter:
     def __init__(self, interval):
         words = [sys.executable, '-c', WAITER, str(interval)]
         self.process = subprocess.Popen(words, stdin=subprocess.PIPE, stdout=subprocess.PIPE)
+        # Its start takes a processor, and is no part of what is measured.
+        self.process.stdout.readline()
 
     def tell(self):
         """Prints how late it was."""
@@ -149,7 +153,7 @@ class Waiter:
 
 def lateness(bpm, seconds):
     """How late frames are, and how late a program is meanwhile that only waits."""
-    player, waiter = Player(BEAT, '--bpm', bpm, '--midi', 'pipe'), Waiter(interval_of(bpm))
+    waiter, player = Waiter(interval_of(bpm)), Player(BEAT, '--bpm', bpm, '--midi', 'pipe')
     moments = list(player.frames(seconds))
     player.leave()
     late = late_by(moments, interval_of(bpm))
@@ -206,7 +210,7 @@ def answer_time(player, key):
 def keys_by_frames(bpm, count):
     """Keys while a piece plays: those that are typed shortly before a frame, and the others. After each of them a program
     is asked that only answers."""
-    player, echo, interval = Player(BEAT, '--bpm', bpm, '--midi', 'pipe'), Echo(), interval_of(bpm)
+    echo, player, interval = Echo(), Player(BEAT, '--bpm', bpm, '--midi', 'pipe'), interval_of(bpm)
     # The cursor goes where no instrument is.
     player.keys.send(b'\x1b[B' * 20)
     times, echoed = {True: [], False: []}, []
@@ -262,8 +266,8 @@ def flood(bpm, count):
 
 def saving(bpm, count):
     """How late the frames are while the piece is saved in every fifth of them."""
-    player, interval = Player(BEAT, '--bpm', bpm, '--midi', 'pipe', '--save', 'saved'), interval_of(bpm)
-    waiter, moments = Waiter(interval), []
+    interval, moments = interval_of(bpm), []
+    waiter, player = Waiter(interval), Player(BEAT, '--bpm', bpm, '--midi', 'pipe', '--save', 'saved')
     for _ in range(count):
         moments += [moment for _, moment in zip(range(5), player.frames(10))]
         player.keys.send(b'\x13')
@@ -299,8 +303,11 @@ def main():
     for bpm in (120, 999):
         keys_by_frames(bpm, min(keys, 8 * seconds))
         catching_up(bpm)
-        flood(bpm, option('--flood', 8_000_000))
     saving(999, min(keys, 8 * seconds))
+    if '--short' in sys.argv:
+        return
+    for bpm in (120, 999):
+        flood(bpm, option('--flood', 8_000_000))
     key_times('25 x 57, paused', grids.piece(), keys)
     key_times('256 x 256 of dots', grids.dots(256, 256), keys, *large)
     key_times('256 x 256 with 10 %', grids.crowded(256, 256, 10), keys, *large)
