@@ -1,44 +1,27 @@
 -- More answers only add acts.
-use Rattle.std.proofs.Common.{◌≡◌, Bool, true, false, List, [], ◌++◌, refl, sym, ◌∙◌, ap, append_assoc, append-nil, length}
-use Rattle.std.specs.Prelude.{nat_le, if◌then◌else◌, Option, Some, None}
-use Rattle.orca_base.specs.declared.limits.TheConstants.{MAX_POLLS}
-use Rattle.orca_course.specs.Courses.{Course, each, ended, onward, onward_by, still}
-use Rattle.orca_course.specs.Performers.{attended, begun, opened, polled, spent}
+use Rattle.std.proofs.Common.{List, [], ◌++◌, sym, ◌∙◌, ap, append_assoc, append-nil}
+use Rattle.std.specs.Prelude.{Option, Some, None}
+use Rattle.orca_course.specs.Acts.{Act}
+use Rattle.orca_course.specs.Courses.{Course, onward, onward_by}
+use Rattle.orca_course.specs.Performers.{attended, begun, opened, polled}
 use Rattle.orca_course.specs.declared.ending.Ending.{Ending}
-use Rattle.orca_course.specs.declared.ending.Ending.TheVariants.{Spent}
 use Rattle.orca_course.proofs.CourseLemmas.{each-longer}
 use Rattle.orca_rig.specs.Arrived.{Poll}
 use Rattle.orca_live.specs.Laws.{Extends, OnlyAppends}
 use Rattle.orca_live.specs.Performing.{live_part}
 use Rattle.orca_live.specs.States.{LiveState}
-
--- the last poll adds nothing
-spent_by : (b : Bool) (s : LiveState) → (if b then ended Spent s else still s).acts ≡ []
-spent_by true s = refl
-spent_by false s = refl
-
-attended_by : (end : Option Ending) (c : Course LiveState Ending) (polls : List Poll)
-    → (onward_by end c (spent polls)).acts ≡ c.acts
-unfolding spent
-attended_by None c polls =
-    ap (λ acts. c.acts ++ acts) (spent_by (nat_le MAX_POLLS (length polls)) c.state)
-    ∙ append-nil c.acts
-attended_by (Some e) c polls = refl
-
-attended_acts : (polls : List Poll) (s : LiveState)
-    → (attended live_part polls s).acts ≡ (each (polled live_part) polls s).acts
-unfolding attended onward
-attended_acts polls s =
-    let c = each (polled live_part) polls s in attended_by c.ending c polls
+use Rattle.orca_live.proofs.Carried.{attended_done}
 
 attended_longer : (polls more : List Poll) (s : LiveState)
     → Extends (attended live_part polls s) (attended live_part (polls ++ more) s)
 attended_longer polls more s =
+    let acts_of : List Act × LiveState → List Act = λ (done : List Act × LiveState). done.0 in
     let longer = each-longer (polled live_part) polls more s in
     record {
       tail = longer.0;
-      acts = attended_acts (polls ++ more) s
-          ∙ (longer.1 ∙ ap (λ acts. acts ++ longer.0) (sym (attended_acts polls s)));
+      acts = ap acts_of (attended_done (polls ++ more) s)
+          ∙ (longer.1
+          ∙ ap (λ acts. acts ++ longer.0) (sym (ap acts_of (attended_done polls s))));
     }
 
 extends_by : (end : Option Ending) (c : Course LiveState Ending)

@@ -7,9 +7,8 @@ use Rattle.orca_base.specs.Ports.{Sent}
 use Rattle.orca_concert.specs.Concerts.{close_course as silence_course, command_course as obey_course, handed_of}
 use Rattle.orca_course.specs.Acts.{commands_in, gives, Act}
 use Rattle.orca_course.specs.Acts.Act.{Save, Show, Stand}
-use Rattle.orca_course.specs.Courses.{Course, mapped, onward}
+use Rattle.orca_course.specs.Courses.{mapped, onward}
 use Rattle.orca_course.specs.Standings.{Standing, notes_of, standing_after, standing_closed}
-use Rattle.orca_course.specs.declared.ending.Stop.{Stop}
 use Rattle.orca_course.proofs.ActLemmas.{commands_in-append}
 use Rattle.orca_edit.specs.Obeying.{obey}
 use Rattle.orca_notes.specs.Sound.{ends}
@@ -20,17 +19,18 @@ use Rattle.orca_live.specs.States.{LiveState}
 
 -- ---- the commands of acts
 
-no_commands : (sends : List Sent) → commands_in (gives sends) ≡ []
-no_commands [] = refl
-no_commands (sent ∷ sends) = no_commands sends
+-- acts without a command after others
+pub commands_before : (xs ys : List Act) → commands_in ys ≡ []
+    → commands_in (xs ++ ys) ≡ commands_in xs
+commands_before xs ys none =
+    commands_in-append xs ys
+    ∙ (ap (λ after. commands_in xs ++ after) none ∙ append-nil (commands_in xs))
 
 -- messages that are handed out, and where the run stands then
 handed_commands : (sends : List Sent) (t : Standing)
     → commands_in ((gives sends ++ Stand t ∷ []) ++ []) ≡ []
-handed_commands sends t =
-    ap commands_in (append-nil (gives sends ++ Stand t ∷ []))
-    ∙ (commands_in-append (gives sends) (Stand t ∷ [])
-    ∙ (append-nil (commands_in (gives sends)) ∙ no_commands sends))
+handed_commands [] t = refl
+handed_commands (sent ∷ sends) t = handed_commands sends t
 
 -- a command is given once
 pub command_once : (command : Command) (s : LiveState)
@@ -40,11 +40,6 @@ command_once command s =
     let o = obey s.standing.machine command in
     ap (λ more. command ∷ more)
     (handed_commands (handed_of true o.messages) (standing_after s.standing o))
-
-pub close_commands : (s : LiveState) → commands_in (close_course s).acts ≡ []
-unfolding close_course silence_course onward mapped
-close_commands s =
-    handed_commands (handed_of true (ends (notes_of s.standing))) (standing_closed s.standing)
 
 views_commands : (bytes : List ℕ) (cells : List Cell)
     → commands_in (view_sends bytes ++ Show cells ∷ []) ≡ []
@@ -59,34 +54,41 @@ paint_commands marks s =
 
 -- ---- the end
 
--- the end gives no command, keeps those that were given, and closes the session
-pub record Closes (c : Course LiveState Stop) (s : LiveState) : Type 0 where
-  pub commands : commands_in c.acts ≡ []
-  pub given : c.state.given ≡ s.given
-  pub standing : c.state.standing ≡ standing_closed s.standing
+-- acts that give no command, keep those that were given, and close the session
+pub record Closes (s : LiveState) (acts : List Act) (t : LiveState) : Type 0 where
+  pub commands : (before : List Act) → commands_in (before ++ acts) ≡ commands_in before
+  pub given : t.given ≡ s.given
+  pub standing : t.standing ≡ standing_closed s.standing
 
--- acts without a command, after those of a close
-closes_with : (s : LiveState) (c : Course LiveState Stop) (acts : List Act)
-    → c.acts ≡ (close_course s).acts ++ acts → commands_in acts ≡ [] → c.state.given ≡ s.given
-    → c.state.standing ≡ standing_closed s.standing → Closes c s
-closes_with s c acts is none given standing = record {
-  commands = ap commands_in is
-      ∙ (commands_in-append (close_course s).acts acts
-      ∙ (ap (λ after. commands_in (close_course s).acts ++ after) none
-      ∙ (append-nil (commands_in (close_course s).acts) ∙ close_commands s)));
-  given = given;
-  standing = standing;
-}
+-- those of a close, and then others without a command
+closes_with : (s : LiveState) (acts : List Act) → commands_in acts ≡ []
+    → Closes s ((close_course s).acts ++ acts) (close_course s).state
+unfolding close_course silence_course onward mapped
+closes_with s acts none =
+    let first = (close_course s).acts in
+    record {
+      commands = λ before.
+          commands_before before (first ++ acts)
+          (commands_before first acts none
+          ∙ handed_commands (handed_of true (ends (notes_of s.standing)))
+          (standing_closed s.standing));
+      given = refl;
+      standing = refl;
+    }
 
 -- a state with these names
-abbrev pub naming : LiveState → Option (List ℕ) → Option (List ℕ) → LiveState
+abbrev naming : LiveState → Option (List ℕ) → Option (List ℕ) → LiveState
 naming s save script = record s { setting = record s.setting { save = save; script = script } }
 
-pub finish_closes : (save script : Option (List ℕ)) (s : LiveState)
-    → Closes (finish_course (naming s save script)) (naming s save script)
+named_closes : (save script : Option (List ℕ)) (s : LiveState)
+    → Closes (naming s save script) (finish_course (naming s save script)).acts
+    (finish_course (naming s save script)).state
 unfolding finish_course close_course silence_course last_grid_course last_script_course save_course script_course onward mapped
-finish_closes None None s = closes_with _ _ [] refl refl refl refl
-finish_closes (Some name) None s = closes_with _ _ (Save name _ ∷ []) refl refl refl refl
-finish_closes None (Some name) s = closes_with _ _ (Save name _ ∷ []) refl refl refl refl
-finish_closes (Some save) (Some script) s =
-    closes_with _ _ (Save save _ ∷ Save script _ ∷ []) refl refl refl refl
+named_closes None None s = closes_with (naming s None None) [] refl
+named_closes (Some name) None s = closes_with (naming s (Some name) None) (Save name _ ∷ []) refl
+named_closes None (Some name) s = closes_with (naming s None (Some name)) (Save name _ ∷ []) refl
+named_closes (Some save) (Some script) s =
+    closes_with (naming s (Some save) (Some script)) (Save save _ ∷ Save script _ ∷ []) refl
+
+pub finish_closes : (s : LiveState) → Closes s (finish_course s).acts (finish_course s).state
+finish_closes s = named_closes s.setting.save s.setting.script s

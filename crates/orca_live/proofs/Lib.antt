@@ -1,10 +1,7 @@
 pub mod DoneLemmas
 pub mod SaveLemmas
 pub mod KeyLemmas
-pub mod ClockLemmas
 pub mod PaintLemmas
-pub mod AnswerLemmas
-pub mod EndLemmas
 pub mod Carried
 pub mod AppendingLaw
 pub mod PaintingLaw

@@ -1,5 +1,5 @@
 -- The commands of a performance are kept, and their script leads to the same session.
-use Rattle.std.proofs.Common.{◌≡◌, ℕ, zero, suc, ◌+◌, List, [], ◌∷◌, ◌++◌, refl, sym, ◌∙◌, ap, subst, append_assoc, append-nil}
+use Rattle.std.proofs.Common.{◌≡◌, ℕ, zero, suc, ◌+◌, List, [], ◌∷◌, ◌++◌, refl, sym, ◌∙◌, ap, append_assoc, append-nil}
 use Rattle.std.specs.Prelude.{replicate, Option, Some, None, Result, Ok, Err}
 use Rattle.std.specs.List.{flat_map}
 use Rattle.std.specs.Option.{option_map, option_map_or}
@@ -11,7 +11,6 @@ use Rattle.orca_base.specs.declared.command.Rule.{Rule}
 use Rattle.orca_base.specs.declared.command.Rule.TheVariants.{NothingToUndo}
 use Rattle.orca_base.specs.Grids.{Sheet}
 use Rattle.orca_base.specs.Histories.{last_edit}
-use Rattle.orca_base.specs.MarkSet.{MarkSet}
 use Rattle.orca_concert.specs.Concerts.{Concert, after_cue, command_course as obey_course, concert, cue_course, cues_course, halt_of, order_course}
 use Rattle.orca_concert.specs.Manners.{Manner}
 use Rattle.orca_course.specs.Acts.{Act, commands_in}
@@ -22,20 +21,19 @@ use Rattle.orca_course.specs.Standings.{Standing, note_of}
 use Rattle.orca_course.specs.declared.ending.Ending.{Ending}
 use Rattle.orca_course.specs.declared.ending.Stop.{Stop}
 use Rattle.orca_course.proofs.ActLemmas.{commands_in-append}
-use Rattle.orca_course.proofs.CourseLemmas.{onward_ended, onward_goes}
 use Rattle.orca_cues.specs.Scripts.{cue_asking, cues_asking}
 use Rattle.orca_cues.specs.declared.source.Order.TheVariants.{Do as Once}
-use Rattle.orca_edit.specs.Obeying.{MachineState, accept, carry_out, jump, machine_closed, obey, redo, refuse, rule_against}
+use Rattle.orca_edit.specs.Obeying.{MachineState, Obeyed, accept, carry_out, jump, machine_closed, obey, redo, refuse, rule_against}
 use Rattle.orca_notes.specs.Sound.{ends}
 use Rattle.orca_script.specs.Runs.{commands_of, lines_behind}
 use Rattle.orca_script.specs.declared.format_2.Line.{Line}
 use Rattle.orca_script.specs.declared.format_2.Line.TheVariants as asks
-use Rattle.orca_live.specs.Carrying.{Carries, LooksAlike}
+use Rattle.orca_live.specs.Carrying.{Carries}
 use Rattle.orca_live.proofs.Carried.{begun_carried}
 use Rattle.orca_live.specs.Laws.{GoesOn, Replays, ReplaysScript, replayed}
-use Rattle.orca_live.specs.Performing.{command_course, finish_course, live_part, painted_course}
+use Rattle.orca_live.specs.Performing.{command_course, live_part, painted_course}
 use Rattle.orca_live.specs.States.{LiveState}
-use Rattle.orca_live.proofs.GivenLemmas.{Closes, command_once, finish_closes, paint_commands}
+use Rattle.orca_live.proofs.GivenLemmas.{command_once, finish_closes, paint_commands}
 use Rattle.orca_live.proofs.ScriptLines.{behind_same}
 
 -- ---- commands, one after another
@@ -91,10 +89,6 @@ keeps_nothing s t acts none given machine = record {
   machine = machine ∙ ap (λ more. machine_after more s.standing.machine) (sym none);
 }
 
-keeps_alike : (s t : LiveState) → LooksAlike s t → Keeps s [] t
-keeps_alike s t alike =
-    keeps_nothing s t [] refl alike.given (ap (λ (at : Standing). at.machine) alike.standing)
-
 keeps_command : (command : Command) (s : LiveState)
     → Keeps s (command_course command s).acts (command_course command s).state
 unfolding command_course obey_course onward mapped
@@ -105,214 +99,153 @@ keeps_command command s =
       machine = ap (λ more. machine_after more s.standing.machine) once;
     }
 
-keeps_paint : (marks : List MarkSet) (s : LiveState)
-    → Keeps s (painted_course marks s).acts (painted_course marks s).state
-unfolding painted_course
-keeps_paint marks s =
-    keeps_nothing s (painted_course marks s).state (painted_course marks s).acts
-    (paint_commands marks s) refl refl
-
 keeps_carries : Carries Keeps
+unfolding painted_course
 keeps_carries = record {
-  none = keeps_alike;
+  none = λ s t alike.
+      keeps_nothing s t [] refl alike.given (ap (λ (at : Standing). at.machine) alike.standing);
   both = keeps_twice;
   command = keeps_command;
   save = λ name bytes s. keeps_nothing s s (Save name bytes ∷ []) refl refl refl;
-  paint = keeps_paint;
+  paint = λ marks s. keeps_nothing s _ _ (paint_commands marks s) refl refl;
 }
 
 -- ---- cues
 
 -- a refused command changes nothing
+abbrev Stays : MachineState → Obeyed → Type 0
+Stays m o = (rule : Rule) → o.answer ≡ Err rule → o.machine ≡ m
 
 carried_on : (m : MachineState) (c : Command) (clip : Option Sheet) (entry : Option Entry)
-    (rule : Rule) → (carry_out m c clip entry).answer ≡ Err rule
-    → (carry_out m c clip entry).machine ≡ m
+    → Stays m (carry_out m c clip entry)
 carried_on m c clip None rule is = absurd cc
 carried_on m c clip (Some entry) rule is = absurd cc
 
-undone : (m : MachineState) (moment : Option ℕ) (rule : Rule)
-    → (option_map_or (jump m) moment (refuse m NothingToUndo)).answer ≡ Err rule
-    → (option_map_or (jump m) moment (refuse m NothingToUndo)).machine ≡ m
+undone : (m : MachineState) (moment : Option ℕ)
+    → Stays m (option_map_or (jump m) moment (refuse m NothingToUndo))
 unfolding jump
 undone m None rule is = refl
 undone m (Some moment) rule is = absurd cc
 
-accepted : (m : MachineState) (c : Command) (rule : Rule) → (accept m c).answer ≡ Err rule
-    → (accept m c).machine ≡ m
+accepted : (m : MachineState) (c : Command) → Stays m (accept m c)
 unfolding accept jump redo
-accepted m command.Undo rule is = undone m (last_edit m.history) rule is
-accepted m (command.Rewind moment) rule is = absurd cc
-accepted m command.Redo rule is = absurd cc
-accepted m command.Frame rule is = carried_on m command.Frame _ _ rule is
-accepted m (command.Write y x glyph) rule is =
-    carried_on m (command.Write y x glyph) _ _ rule is
-accepted m (command.Fill rect glyph) rule is = carried_on m (command.Fill rect glyph) _ _ rule is
-accepted m (command.Erase rect) rule is = carried_on m (command.Erase rect) _ _ rule is
-accepted m (command.Copy rect) rule is = carried_on m (command.Copy rect) _ _ rule is
-accepted m (command.Cut rect) rule is = carried_on m (command.Cut rect) _ _ rule is
-accepted m (command.Paste y x) rule is = carried_on m (command.Paste y x) _ _ rule is
-accepted m (command.Move rect to_y to_x) rule is =
-    carried_on m (command.Move rect to_y to_x) _ _ rule is
-accepted m (command.Resize h w) rule is = carried_on m (command.Resize h w) _ _ rule is
-accepted m command.Reset rule is = carried_on m command.Reset _ _ rule is
+accepted m command.Undo = undone m (last_edit m.history)
+accepted m (command.Rewind moment) = λ rule is. absurd cc
+accepted m command.Redo = λ rule is. absurd cc
+accepted m command.Frame = carried_on m command.Frame _ _
+accepted m (command.Write y x glyph) = carried_on m (command.Write y x glyph) _ _
+accepted m (command.Fill rect glyph) = carried_on m (command.Fill rect glyph) _ _
+accepted m (command.Erase rect) = carried_on m (command.Erase rect) _ _
+accepted m (command.Copy rect) = carried_on m (command.Copy rect) _ _
+accepted m (command.Cut rect) = carried_on m (command.Cut rect) _ _
+accepted m (command.Paste y x) = carried_on m (command.Paste y x) _ _
+accepted m (command.Move rect to_y to_x) = carried_on m (command.Move rect to_y to_x) _ _
+accepted m (command.Resize h w) = carried_on m (command.Resize h w) _ _
+accepted m command.Reset = carried_on m command.Reset _ _
 
-refused_by : (m : MachineState) (c : Command) (against : Option Rule) (rule : Rule)
-    → (option_map_or (refuse m) against (accept m c)).answer ≡ Err rule
-    → (option_map_or (refuse m) against (accept m c)).machine ≡ m
-refused_by m c None rule is = accepted m c rule is
-refused_by m c (Some other) rule is = refl
+refused_by : (m : MachineState) (c : Command) (against : Option Rule)
+    → Stays m (option_map_or (refuse m) against (accept m c))
+refused_by m c None = accepted m c
+refused_by m c (Some other) = λ rule is. refl
 
-stays : (m : MachineState) (c : Command) (rule : Rule) → (obey m c).answer ≡ Err rule
-    → (obey m c).machine ≡ m
+stays : (m : MachineState) (c : Command) → Stays m (obey m c)
 unfolding obey
-stays m c rule is = refused_by m c (rule_against m c) rule is
+stays m c = refused_by m c (rule_against m c)
 
 -- so it is refused as often as it is given
-stays_all : (m : MachineState) (c : Command) (rule : Rule) (n : ℕ) → (obey m c).answer ≡ Err rule
+stays_all : (m : MachineState) (c : Command) (n : ℕ) → (obey m c).machine ≡ m
     → machine_after (replicate n c) m ≡ m
-stays_all m c rule zero is = refl
-stays_all m c rule (suc n) is =
-    ap (machine_after (replicate n c)) (stays m c rule is) ∙ stays_all m c rule n is
+stays_all m c zero same = refl
+stays_all m c (suc n) same = ap (machine_after (replicate n c)) same ∙ stays_all m c n same
 
--- a command, whose report doesn't end the run
-obey_goes : (m : Manner (Unit {0})) → GoesOn m → (line : ℕ) (command : Command)
-    (s : Concert (Unit {0})) → (obey_course m line command s).ending ≡ None
-unfolding obey_course onward mapped
-obey_goes m goes line command s =
-    let o = obey s.standing.machine command in goes line o.answer o.messages s.kept
-
--- a refusal drops the rest of a cue
-order_halts : (m : Manner (Unit {0})) → GoesOn m → (line : ℕ) (command : Command)
-    (s : Concert (Unit {0}))
-    → (order_course m line (Once command) s).ending
-    ≡ halt_of (note_of (obey s.standing.machine command).answer) None
-unfolding order_course obey_course onward mapped
-order_halts m goes line command s =
-    ap (halt_of (note_of (obey s.standing.machine command).answer))
-    (obey_goes m goes line command s)
-
--- a command that is given so often, where an ending of this kind drops the rest
+-- a course that leads where commands do, where an ending of this kind drops the rest
 record IsRun {H : Type 0} (after : Option H → Option Stop) (c : Course (Concert (Unit {0})) H)
     (commands : List Command) (old : MachineState) : Type 0 where
   pub goes : after c.ending ≡ None
   pub machine : c.state.standing.machine ≡ machine_after commands old
 
--- once, and then the others
-run_goes : {H : Type 0} (after : Option H → Option Stop) (c : Course (Concert (Unit {0})) H)
-    (next : Concert (Unit {0}) → Course (Concert (Unit {0})) H) (command : Command) (n : ℕ)
-    (old : MachineState) → c.ending ≡ None
+-- a command, and then the same so often; where that drops the rest, it has changed nothing
+run_by : {H : Type 0} (after : Option H → Option Stop) (end : Option H)
+    (c : Course (Concert (Unit {0})) H) (next : Concert (Unit {0}) → Course (Concert (Unit {0})) H)
+    (command : Command) (n : ℕ) (old : MachineState) → c.ending ≡ end → after end ≡ None
+    → ((end ≡ None → ⊥) → (obey old command).machine ≡ old)
     → c.state.standing.machine ≡ (obey old command).machine
     → IsRun after (next c.state) (replicate n command) c.state.standing.machine
     → IsRun after (onward c next) (command ∷ replicate n command) old
-run_goes after c next command n old goes machine more =
-    subst (λ d. IsRun after d (command ∷ replicate n command) old) (sym (onward_goes c next goes))
-    (record {
+unfolding onward
+run_by after None c next command n old is halts same leads more =
+    rw is (record {
       goes = more.goes;
-      machine = more.machine ∙ ap (machine_after (replicate n command)) machine;
+      machine = more.machine ∙ ap (machine_after (replicate n command)) leads;
+    })
+run_by after (Some e) c next command n old is halts same leads more =
+    let stay = same (λ none. cc) in
+    rw is (record {
+      goes = halts;
+      machine = leads
+          ∙ (stay
+          ∙ sym (ap (machine_after (replicate n command)) stay ∙ stays_all old command n stay));
     })
 
--- it was refused, and so would be the others
-run_drops : {H : Type 0} (after : Option H → Option Stop) (c : Course (Concert (Unit {0})) H)
-    (next : Concert (Unit {0}) → Course (Concert (Unit {0})) H) (command : Command) (n : ℕ)
-    (old : MachineState) (e : H) (rule : Rule) → c.ending ≡ Some e → after (Some e) ≡ None
-    → c.state.standing.machine ≡ (obey old command).machine → (obey old command).answer ≡ Err rule
-    → IsRun after (onward c next) (command ∷ replicate n command) old
-run_drops after c next command n old e rule drops goes machine is =
-    let same = stays old command rule is in
-    subst (λ d. IsRun after d (command ∷ replicate n command) old)
-    (sym (onward_ended c next e drops))
-    (record {
-      goes = ap after drops ∙ goes;
-      machine = machine
-          ∙ (same
-          ∙ sym (ap (machine_after (replicate n command)) same
-          ∙ stays_all old command rule n is));
-    })
+-- a refusal drops the rest of a cue, and the run goes on
+stays_by : (answer : Result Reply Rule) (m : MachineState) (c : Command)
+    → (obey m c).answer ≡ answer → (halt_of (note_of answer) None ≡ None → ⊥)
+    → (obey m c).machine ≡ m
+stays_by (Ok reply) m c is drops = absurd (drops refl)
+stays_by (Err rule) m c is drops = stays m c rule is
 
-order_machine : (m : Manner (Unit {0})) (line : ℕ) (command : Command) (s : Concert (Unit {0}))
-    → (order_course m line (Once command) s).state.standing.machine
-    ≡ (obey s.standing.machine command).machine
-unfolding order_course obey_course onward mapped
-order_machine m line command s = refl
+goes_by : (note : Option Rule) → after_cue (halt_of note None) ≡ None
+goes_by None = refl
+goes_by (Some rule) = refl
 
-run_by : (m : Manner (Unit {0})) → GoesOn m → (line : ℕ) (command : Command) (n : ℕ)
-    (s : Concert (Unit {0})) (answer : Result Reply Rule)
-    → (obey s.standing.machine command).answer ≡ answer
-    → IsRun after_cue
-    (each (order_course m line) (replicate n (Once command))
-    (order_course m line (Once command) s).state)
-    (replicate n command) (order_course m line (Once command) s).state.standing.machine
-    → IsRun after_cue
-    (onward (order_course m line (Once command) s)
-    (each (order_course m line) (replicate n (Once command))))
-    (command ∷ replicate n command) s.standing.machine
-run_by m goes line command n s (Ok reply) is more =
-    run_goes after_cue (order_course m line (Once command) s)
-    (each (order_course m line) (replicate n (Once command))) command n s.standing.machine
-    (order_halts m goes line command s
-    ∙ ap (λ (answer : Result Reply Rule). halt_of (note_of answer) None) is)
-    (order_machine m line command s) more
-run_by m goes line command n s (Err rule) is more =
-    run_drops after_cue (order_course m line (Once command) s)
-    (each (order_course m line) (replicate n (Once command))) command n s.standing.machine _ rule
-    (order_halts m goes line command s
-    ∙ ap (λ (answer : Result Reply Rule). halt_of (note_of answer) None) is) refl
-    (order_machine m line command s) is
+module _ (m : Manner (Unit {0})) (goes : GoesOn m) where
+  run_replays : (line : ℕ) (command : Command) (n : ℕ) (s : Concert (Unit {0}))
+      → IsRun after_cue (each (order_course m line) (replicate n (Once command)) s)
+      (replicate n command) s.standing.machine
+  unfolding each order_course obey_course onward mapped
+  run_replays line command zero s = record { goes = refl; machine = refl }
+  run_replays line command (suc n) s =
+      let o = obey s.standing.machine command in
+      let c = order_course m line (Once command) s in
+      let ends = ap (halt_of (note_of o.answer)) (goes line o.answer o.messages s.kept) in
+      run_by after_cue c.ending c (each (order_course m line) (replicate n (Once command))) command
+      n s.standing.machine refl (ap after_cue ends ∙ goes_by (note_of o.answer))
+      (λ drops. stays_by o.answer s.standing.machine command refl (λ none. drops (ends ∙ none)))
+      refl (run_replays line command n c.state)
 
-run_replays : (m : Manner (Unit {0})) → GoesOn m → (line : ℕ) (command : Command) (n : ℕ)
-    (s : Concert (Unit {0}))
-    → IsRun after_cue (each (order_course m line) (replicate n (Once command)) s)
-    (replicate n command) s.standing.machine
-unfolding each
-run_replays m goes line command zero s = record { goes = refl; machine = refl }
-run_replays m goes line command (suc n) s =
-    run_by m goes line command n s (obey s.standing.machine command).answer refl
-    (run_replays m goes line command n (order_course m line (Once command) s).state)
+  cue_replays : (line : ℕ) (asked : Line) (s : Concert (Unit {0}))
+      → IsRun (λ end. end) (cue_course m (cue_asking line asked) s) (commands_of asked)
+      s.standing.machine
+  unfolding cue_course mapped
+  cue_replays line (asks.Do command) s =
+      let run = run_replays line command 1 s in
+      record { goes = run.goes; machine = run.machine }
+  cue_replays line (asks.Frames times) s =
+      let run = run_replays line command.Frame times s in
+      record { goes = run.goes; machine = run.machine }
 
--- cues that lead where commands do
-record IsReplay (c : Course (Concert (Unit {0})) Stop) (commands : List Command)
-    (old : MachineState) : Type 0 where
-  pub goes : c.ending ≡ None
-  pub machine : c.state.standing.machine ≡ machine_after commands old
+  cues_replay : (lines : List Line) (line : ℕ) (s : Concert (Unit {0}))
+      → IsRun (λ end. end) (cues_course m (cues_asking line lines) s)
+      (flat_map commands_of lines) s.standing.machine
+  unfolding cues_course each onward
+  cues_replay [] line s = record { goes = refl; machine = refl }
+  cues_replay (asked ∷ lines) line s =
+      let first = cue_replays line asked s in
+      let more =
+      cues_replay lines (line + 1) (cue_course m (cue_asking line asked) s).state in
+      rw first.goes (record {
+        goes = more.goes;
+        machine = more.machine
+            ∙ (ap (machine_after (flat_map commands_of lines)) first.machine
+            ∙ sym (machine_after-append (commands_of asked) (flat_map commands_of lines)
+            s.standing.machine));
+      })
 
-cue_replays : (m : Manner (Unit {0})) → GoesOn m → (line : ℕ) (asked : Line)
-    (s : Concert (Unit {0}))
-    → IsReplay (cue_course m (cue_asking line asked) s) (commands_of asked) s.standing.machine
-unfolding cue_course mapped
-cue_replays m goes line (asks.Do command) s =
-    let run = run_replays m goes line command 1 s in
-    record { goes = run.goes; machine = run.machine }
-cue_replays m goes line (asks.Frames times) s =
-    let run = run_replays m goes line command.Frame times s in
-    record { goes = run.goes; machine = run.machine }
-
-cues_replay : (m : Manner (Unit {0})) → GoesOn m → (lines : List Line) (line : ℕ)
-    (s : Concert (Unit {0}))
-    → IsReplay (cues_course m (cues_asking line lines) s) (flat_map commands_of lines)
-    s.standing.machine
-unfolding cues_course each
-cues_replay m goes [] line s = record { goes = refl; machine = refl }
-cues_replay m goes (asked ∷ lines) line s =
-    let c = cue_course m (cue_asking line asked) s in
-    let next = each (cue_course m) (cues_asking (line + 1) lines) in
-    let first = cue_replays m goes line asked s in
-    let more = cues_replay m goes lines (line + 1) c.state in
-    subst (λ d. IsReplay d (commands_of asked ++ flat_map commands_of lines) s.standing.machine)
-    (sym (onward_goes c next first.goes))
-    (record {
-      goes = more.goes;
-      machine = more.machine
-          ∙ (ap (machine_after (flat_map commands_of lines)) first.machine
-          ∙ sym (machine_after-append (commands_of asked) (flat_map commands_of lines)
-          s.standing.machine));
-    })
-
-replayed_machine : (m : Manner (Unit {0})) → GoesOn m → (commands : List Command) (s : Standing)
-    → replayed m commands s ≡ machine_after commands s.machine
-replayed_machine m goes commands s =
-    (cues_replay m goes (lines_behind 0 commands) 2 (concert s tt)).machine
-    ∙ ap (λ list. machine_after list s.machine) (behind_same commands 0)
+  replayed_machine : (commands : List Command) (s : Standing)
+      → replayed m commands s ≡ machine_after commands s.machine
+  replayed_machine commands s =
+      (cues_replay (lines_behind 0 commands) 2 (concert s tt)).machine
+      ∙ ap (λ list. machine_after list s.machine) (behind_same commands 0)
 
 -- ---- a performance
 
@@ -323,13 +256,8 @@ replays_by : (end : Option Ending) (c : Course LiveState Ending) (s : LiveState)
 unfolding finished mapped
 replays_by None c s empty keeps ends = absurd (ends refl)
 replays_by (Some e) c s empty keeps ends =
-    let t = c.state in
-    let last = finish_course t in
-    let closes : Closes last t = finish_closes t.setting.save t.setting.script t in
-    let same : commands_in (c.acts ++ last.acts) ≡ commands_in c.acts =
-    commands_in-append c.acts last.acts
-    ∙ (ap (λ after. commands_in c.acts ++ after) closes.commands
-    ∙ append-nil (commands_in c.acts)) in
+    let closes = finish_closes c.state in
+    let same = closes.commands c.acts in
     record {
       given = closes.given
           ∙ (keeps.given

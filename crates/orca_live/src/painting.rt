@@ -2,8 +2,8 @@
 
 ghost use Rattle.std.specs.Prelude.{[]};
 ghost use Rattle.orca_course.specs.Doing.{Does, goes_of};
-ghost use Rattle.orca_course.specs.Worlds.{owing};
-ghost use Rattle.orca_live.specs.Performing.{open_course, paint_course, painted_course, show_course};
+ghost use Rattle.orca_course.specs.Worlds.{Calls, owing};
+ghost use Rattle.orca_live.specs.Performing.{open_course, paint_course, painted_course, show_course, view_sends};
 ghost use Rattle.orca_live.specs.States.{live_stance, state_of};
 
 use crate::Live;
@@ -14,6 +14,19 @@ use orca_course::{Desk, NoMemory};
 use orca_edit::Machine;
 use orca_rig::{Files, Inbox, Outs};
 use std::sync::ledger::Ledger;
+
+/// Sends a painting, unless it is empty.
+fn send_view<F: Files + Drop, O: Outs + Drop, I: Inbox + Drop, L: Ledger>(
+    desk: &mut Desk<F, O, I, L>,
+    bytes: &[u8],
+) -> Result<(), NoMemory>
+    ensures { Calls (view_sends bytes.now) result desk.old desk.new }
+{
+    if bytes.is_empty() {
+        return Ok(());
+    }
+    desk.send(Port::View, bytes)
+}
 
 /// Paints the first picture, which has no marks.
 pub(crate) fn paint_first<
@@ -43,10 +56,7 @@ pub(crate) fn paint_first<
         look: &stage.machine,
     };
     let bytes = view.paint(&unmarked, editor, &line);
-    if !bytes.is_empty() {
-        desk.send(Port::View, bytes)?;
-    }
-    Ok(())
+    send_view(desk, bytes)
 }
 
 /// Paints the picture, with the marks that the session shows.
@@ -71,10 +81,7 @@ fn paint<M: Machine + Drop, F: Files + Drop, O: Outs + Drop, I: Inbox + Drop, L:
         ..
     } = live;
     let bytes = view.paint(&stage.machine, editor, &line);
-    if !bytes.is_empty() {
-        desk.send(Port::View, bytes)?;
-    }
-    Ok(())
+    send_view(desk, bytes)
 }
 
 /// Paints the picture, with the marks of a scan of the piece as it stands.

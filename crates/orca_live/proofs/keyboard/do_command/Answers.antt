@@ -1,7 +1,7 @@
 use Rattle.std.proofs.Common.{refl}
 use Rattle.std.specs.Prelude.{Ok, Err}
 use Rattle.orca_course.proofs.DoingLemmas.{does_nothing, goes_err}
-use Rattle.orca_live.proofs.DoneLemmas.{command_did, command_goes, goes_on}
+use Rattle.orca_live.proofs.DoneLemmas.{command_did}
 use Rattle.orca_live.proofs.keyboard.do_command.Goals as goal
 
 pub returns-in_err-keep : goal.returns-in_err-keep
@@ -16,5 +16,4 @@ returns-in_err-do_command g c =
 
 pub returns : goal.returns
 returns g c =
-    goes_on _ (command_goes _ _)
-    (command_did _ _ _ _ (Ok _) c.in_ok-keep.ensures.kept c.in_ok-do_command.ensures)
+    command_did _ _ _ _ (Ok _) c.in_ok-keep.ensures.kept c.in_ok-do_command.ensures

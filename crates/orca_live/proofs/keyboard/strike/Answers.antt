@@ -5,6 +5,6 @@ use Rattle.orca_live.proofs.keyboard.strike.Goals as goal
 
 pub returns : goal.returns
 returns g c =
-    struck_did _ _ _ _ _ _ _ c.key-wish.ensures.wish c.key-wish.ensures.editor
-    (c.dims-dims.ensures.size ∙ ap (λ (sheet : Sheet). sheet.dims) c.is_shown.ensures)
-    c.moments-moments.ensures.moments c.do_wish.ensures
+    let size = c.dims-dims.ensures.size ∙ ap (λ (sheet : Sheet). sheet.dims) c.is_shown.ensures in
+    struck_did _ _ _ _ (rw c.moments-moments.ensures.moments at c.key-wish.ensures.wish)
+    (rw size at c.key-wish.ensures.editor) c.do_wish.ensures

@@ -1,46 +1,15 @@
 use Rattle.std.proofs.Common.{ap}
-use Rattle.std.specs.Prelude.{None, Ok, Err}
-use Rattle.orca_course.proofs.DoingLemmas.{goes_err}
 use Rattle.orca_live.specs.States.{state_of}
-use Rattle.orca_live.proofs.PaintLemmas.{is_empty, is_some, paint_did, painted_empty, painted_of, painted_sent}
+use Rattle.orca_live.proofs.PaintLemmas.{paint_did, painted_did}
 use Rattle.orca_live.proofs.painting.paint.Goals as goal
 
-pub returns-in_err-send : goal.returns-in_err-send
-returns-in_err-send g c =
+pub returns : goal.returns
+returns g c =
     let live = c.fit.new.live in
     let s = state_of (g.M.Machine.machine live.stage.machine)
     (g.M.Machine.kept live.stage.machine) live in
-    goes_err _ _ c.from_residual.ensures.1
-    (paint_did _ _ _ s _ _ _ (Err _) (ap g.M.Look.marks c.fit.ensures.machine)
+    paint_did _ _ _ s _ _ _ (ap g.M.Look.marks c.fit.ensures.machine)
     (ap g.M.Machine.residue c.fit.ensures.machine) c.fit.ensures.fitted
-    (painted_sent _ s _ _ _ (Err _)
-    (painted_of _ s _ _ _ _ c.is_shown.ensures c.line-line.ensures
+    (painted_did _ s _ _ _ _ _ _ c.is_shown.ensures c.line-line.ensures
     c.paint-bytes.ensures.painting c.paint-bytes.follows.holds-at-none
-    c.paint-bytes.ensures.printable)
-    (is_some _ _ c.is_empty.ensures c.if-not-is_empty.true) c.in_err-send.ensures.called))
-
-pub returns-in_ok-send : goal.returns-in_ok-send
-returns-in_ok-send g c =
-    let live = c.fit.new.live in
-    let s = state_of (g.M.Machine.machine live.stage.machine)
-    (g.M.Machine.kept live.stage.machine) live in
-    paint_did _ _ _ s _ _ _ (Ok None) (ap g.M.Look.marks c.fit.ensures.machine)
-    (ap g.M.Machine.residue c.fit.ensures.machine) c.fit.ensures.fitted
-    (painted_sent _ s _ _ _ (Ok _)
-    (painted_of _ s _ _ _ _ c.is_shown.ensures c.line-line.ensures
-    c.paint-bytes.ensures.painting c.paint-bytes.follows.holds-at-none
-    c.paint-bytes.ensures.printable)
-    (is_some _ _ c.is_empty.ensures c.if-not-is_empty.true) c.in_ok-send.ensures.called)
-
-pub returns-else-not-is_empty : goal.returns-else-not-is_empty
-returns-else-not-is_empty g c =
-    let live = c.fit.new.live in
-    let s = state_of (g.M.Machine.machine live.stage.machine)
-    (g.M.Machine.kept live.stage.machine) live in
-    paint_did _ _ _ s _ _ _ (Ok None) (ap g.M.Look.marks c.fit.ensures.machine)
-    (ap g.M.Machine.residue c.fit.ensures.machine) c.fit.ensures.fitted
-    (painted_empty _ s _ _ _
-    (painted_of _ s _ _ _ _ c.is_shown.ensures c.line-line.ensures
-    c.paint-bytes.ensures.painting c.paint-bytes.follows.holds-at-none
-    c.paint-bytes.ensures.printable)
-    (is_empty _ _ c.is_empty.ensures c.if-not-is_empty.false))
+    c.paint-bytes.ensures.printable c.send_view.ensures)

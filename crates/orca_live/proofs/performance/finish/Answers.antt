@@ -1,17 +1,20 @@
-use Rattle.orca_course.proofs.DoingLemmas.{goes_err}
-use Rattle.orca_live.proofs.EndLemmas.{finish_cut, finish_cut_grid, finish_did}
+use Rattle.orca_course.proofs.DoingLemmas.{does_cut, does_then, goes_err}
+use Rattle.orca_live.specs.Performing.{finish_course}
 use Rattle.orca_live.proofs.performance.finish.Goals as goal
 
 pub returns-in_err-do_close : goal.returns-in_err-do_close
+unfolding finish_course
 returns-in_err-do_close g c =
-    goes_err _ _ c.from_residual.ensures.1 (finish_cut c.in_err-do_close.ensures)
+    goes_err _ _ c.from_residual.ensures.1 (does_cut _ c.in_err-do_close.ensures)
 
 pub returns-in_err-save_last_grid : goal.returns-in_err-save_last_grid
+unfolding finish_course
 returns-in_err-save_last_grid g c =
     goes_err _ _ c.from_residual-in_err-save_last_grid.ensures.1
-    (finish_cut_grid c.in_ok-do_close.ensures c.in_err-save_last_grid.ensures)
+    (does_then _ c.in_ok-do_close.ensures (does_cut _ c.in_err-save_last_grid.ensures))
 
 pub returns : goal.returns
+unfolding finish_course
 returns g c =
-    finish_did c.in_ok-do_close.ensures c.in_ok-save_last_grid.ensures
-    c.save_last_script.ensures
+    does_then _ c.in_ok-do_close.ensures
+    (does_then _ c.in_ok-save_last_grid.ensures c.save_last_script.ensures)

@@ -1,11 +1,16 @@
 use Rattle.std.proofs.Common.{ap}
 use Rattle.std.specs.Option.{option_map}
-use Rattle.orca_live.proofs.SaveLemmas.{last_grid_none, last_grid_some}
+use Rattle.orca_live.specs.Performing.{last_grid_course, save_course}
+use Rattle.orca_live.proofs.SaveLemmas.{none_named, some_named}
 use Rattle.orca_live.proofs.saving.save_last_grid.Goals as goal
 
 pub returns-in-Some : goal.returns-in-Some
+unfolding last_grid_course
 returns-in-Some g c =
-    last_grid_some _ _ (ap (option_map (λ name. name.now)) c.in-Some.is) c.save_grid.ensures
+    some_named _ _ save_course (ap (option_map (λ name. name.now)) c.in-Some.is)
+    c.save_grid.ensures
 
 pub returns-in-None : goal.returns-in-None
-returns-in-None g c = last_grid_none _ _ (ap (option_map (λ name. name.now)) c.in-None.is)
+unfolding last_grid_course
+returns-in-None g c =
+    none_named _ save_course _ _ (ap (option_map (λ name. name.now)) c.in-None.is)
