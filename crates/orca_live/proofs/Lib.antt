@@ -6,6 +6,5 @@ pub mod Carried
 pub mod AppendingLaw
 pub mod PaintingLaw
 pub mod GivenLemmas
-pub mod ScriptLines
 pub mod ScriptLaw
 pub mod CuttingLaw

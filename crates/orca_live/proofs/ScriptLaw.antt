@@ -28,13 +28,13 @@ use Rattle.orca_notes.specs.Sound.{ends}
 use Rattle.orca_script.specs.Runs.{commands_of, lines_behind}
 use Rattle.orca_script.specs.declared.format_2.Line.{Line}
 use Rattle.orca_script.specs.declared.format_2.Line.TheVariants as asks
+use Rattle.orca_script.proofs.RunsReadBack.{behind_same}
 use Rattle.orca_live.specs.Carrying.{Carries}
 use Rattle.orca_live.proofs.Carried.{begun_carried}
 use Rattle.orca_live.specs.Laws.{GoesOn, Replays, ReplaysScript, replayed}
 use Rattle.orca_live.specs.Performing.{command_course, live_part, painted_course}
 use Rattle.orca_live.specs.States.{LiveState}
 use Rattle.orca_live.proofs.GivenLemmas.{command_once, finish_closes, paint_commands}
-use Rattle.orca_live.proofs.ScriptLines.{behind_same}
 
 -- ---- commands, one after another
 
