@@ -1,12 +1,11 @@
 -- A terminal that is sent all paintings shows each picture.
-use Rattle.std.proofs.Common.{◌≡◌, ℕ, true, length, List, [], ◌∷◌, ◌++◌, refl, sym, ◌∙◌, ap, subst, append-nil}
+use Rattle.std.proofs.Common.{◌≡◌, ℕ, true, length, List, [], ◌∷◌, ◌++◌, refl, sym, ◌∙◌, ap, append-nil}
 use Rattle.std.specs.Prelude.{All, IfSome, Option, Some}
 use Rattle.std.proofs.lemmas.List.FromFn.{length-map-range_with_len}
 use Rattle.orca_base.specs.declared.command.Command.{Command}
 use Rattle.orca_base.specs.declared.message.Message.{Message}
 use Rattle.orca_base.specs.declared.message.Message.TheVariants as message
 use Rattle.orca_base.specs.MarkSet.{MarkSet}
-use Rattle.orca_base.specs.Ports.{Sent}
 use Rattle.orca_concert.specs.Concerts.{close_course as silence_course, command_course as obey_course, handed_of}
 use Rattle.orca_course.specs.Acts.{Act, ArePrintable, gives}
 use Rattle.orca_course.specs.Acts.Act.{Give, Show, Stand}
@@ -22,7 +21,7 @@ use Rattle.orca_term.specs.declared.cell.ScreenSize.{ScreenSize}
 use Rattle.orca_term.proofs.Views.{shown_bytes}
 use Rattle.orca_live.specs.Carrying.{Carries}
 use Rattle.orca_live.proofs.Carried.{performance_carried}
-use Rattle.orca_live.specs.Paintings.{ShowsPerformance, ShowsPictures, viewed}
+use Rattle.orca_live.specs.Paintings.{ShowsPerformance, ShowsPictures, viewed, views_in}
 use Rattle.orca_live.specs.Performing.{close_course, command_course, live_part, painted_course, picture_at, view_sends}
 use Rattle.orca_live.specs.States.{LiveState}
 
@@ -78,43 +77,36 @@ Displays s acts t =
 
 -- ---- messages
 
--- sends of which none goes to the terminal
-abbrev AreHidden : List Sent → Type 0
-AreHidden [] = Unit {0}
-AreHidden (piece ∷ sends) = (viewed piece ≡ []) × AreHidden sends
-
-no_views : (messages : List Message) → AreHidden (handed_of true messages)
-no_views [] = tt
-no_views (message.On channel key velocity ∷ messages) = (refl, no_views messages)
-no_views (message.Off channel key ∷ messages) = (refl, no_views messages)
-no_views (message.Control channel control value ∷ messages) = (refl, no_views messages)
-no_views (message.Bend channel lsb msb ∷ messages) = (refl, no_views messages)
-no_views (message.Udp text ∷ messages) = (refl, no_views messages)
-no_views (message.Osc path values ∷ messages) = (refl, no_views messages)
+-- no message goes to the terminal
+no_views : (message : Message) → views_in (gives (handed_of true (message ∷ []))) ≡ []
+no_views (message.On channel key velocity) = refl
+no_views (message.Off channel key) = refl
+no_views (message.Control channel control value) = refl
+no_views (message.Bend channel lsb msb) = refl
+no_views (message.Udp text) = refl
+no_views (message.Osc path values) = refl
 
 -- messages are handed out, and then the run stands so
-handed_shows : (d : ScreenSize) (after : List ℕ → Type 0) (t : Standing) (sends : List Sent)
-    (sent : List ℕ) → AreHidden sends → after sent
-    → ShownThen d after sent ((gives sends ++ Stand t ∷ []) ++ [])
-handed_shows d after t [] sent hidden seen = seen
-handed_shows d after t (piece ∷ sends) sent hidden seen =
-    handed_shows d after t sends (sent ++ viewed piece) hidden.1
-    (subst after (sym (ap (λ bytes. sent ++ bytes) hidden.0 ∙ append-nil sent)) seen)
+handed_shows : (d : ScreenSize) (after : List ℕ → Type 0) (t : Standing) (messages : List Message)
+    (sent : List ℕ) → after sent
+    → ShownThen d after sent ((gives (handed_of true messages) ++ Stand t ∷ []) ++ [])
+handed_shows d after t [] sent seen = seen
+handed_shows d after t (message ∷ messages) sent seen =
+    handed_shows d after t messages _
+    (rw (sym (append-nil _) ∙ no_views message, append-nil sent) seen)
 
 displays_command : (command : Command) (s : LiveState)
     → Displays s (command_course command s).acts (command_course command s).state
 unfolding command_course obey_course onward mapped
 displays_command command s d sent seen =
     let o = obey s.standing.machine command in
-    handed_shows d (IsSeen d s.screen s.shown) (standing_after s.standing o)
-    (handed_of true o.messages) sent (no_views o.messages) seen
+    handed_shows d (IsSeen d s.screen s.shown) (standing_after s.standing o) o.messages sent seen
 
 displays_close : (s : LiveState) → Displays s (close_course s).acts (close_course s).state
 unfolding close_course silence_course onward mapped
 displays_close s d sent seen =
-    let messages = ends (notes_of s.standing) in
     handed_shows d (IsSeen d s.screen s.shown) (standing_closed s.standing)
-    (handed_of true messages) sent (no_views messages) seen
+    (ends (notes_of s.standing)) sent seen
 
 -- ---- paintings
 
@@ -122,46 +114,26 @@ painting_shows : (d : ScreenSize) (after : List ℕ → Type 0) (sent bytes : Li
     (cells : List Cell)
     → (All IsPrintable cells → Shows d (sent ++ bytes) (Some cells) × after (sent ++ bytes))
     → ShownThen d after sent (view_sends bytes ++ Show cells ∷ [])
-painting_shows d after sent [] cells shows =
-    subst (λ sent. All IsPrintable cells → Shows d sent (Some cells) × after sent)
-    (append-nil sent) shows
+painting_shows d after sent [] cells shows = rw append-nil at shows
 painting_shows d after sent (byte ∷ bytes) cells shows = shows
 
--- the picture has a cell for each place of the screen
-picture_whole : (marks : List MarkSet) (s : LiveState)
-    → length (picture_at marks s) ≡ screen_cells s.screen
-unfolding picture
-picture_whole marks s = length-map-range_with_len _ 0 (screen_cells s.screen)
-
--- after its painting the terminal shows it
-paint_shows : (marks : List MarkSet) (s : LiveState) (sent : List ℕ)
-    → IsSeen s.screen s.screen s.shown sent
-    → ShownThen s.screen (IsSeen s.screen s.screen (Some (picture_at marks s))) sent
-    (painted_course marks s).acts
-unfolding painted_course
-paint_shows marks s sent seen =
+-- the picture has a cell for each place of the screen, and after its painting the terminal shows it
+displays_paint : (marks : List MarkSet) (s : LiveState)
+    → Displays s (painted_course marks s).acts (painted_course marks s).state
+unfolding painted_course picture
+displays_paint marks s d sent seen =
     let cells = picture_at marks s in
     let bytes = painting_bytes s.screen s.shown cells in
-    let whole = picture_whole marks s in
-    painting_shows s.screen (IsSeen s.screen s.screen (Some cells)) sent bytes cells
-    (λ printable.
-    let shows = shown_bytes s.screen s.shown cells bytes (record {
+    let whole = length-map-range_with_len _ 0 (screen_cells s.screen) ∙ ap screen_cells seen.size in
+    painting_shows d (IsSeen d s.screen (Some cells)) sent bytes cells (λ printable.
+    let shows = shown_bytes d s.shown cells bytes (record {
       screen = seen.screen;
       old = seen.whole;
       whole = whole;
       printable = printable;
-      bytes_are = refl;
+      bytes_are = ap (λ d. painting_bytes d s.shown cells) seen.size;
     }) sent seen.shows in
-    (shows, record { size = refl; screen = seen.screen; whole = whole; shows = shows }))
-
-displays_paint : (marks : List MarkSet) (s : LiveState)
-    → Displays s (painted_course marks s).acts (painted_course marks s).state
-unfolding painted_course
-displays_paint marks s d sent seen =
-    let painted = Some (picture_at marks s) in
-    subst (λ d. IsSeen d s.screen s.shown sent
-    → ShownThen d (IsSeen d s.screen painted) sent (painted_course marks s).acts)
-    seen.size (paint_shows marks s sent) seen
+    (shows, record { size = seen.size; screen = seen.screen; whole = whole; shows = shows }))
 
 -- ---- a performance
 

@@ -1,15 +1,14 @@
 -- What is saved, as what was done of a course.
 use Rattle.std.proofs.Common.{◌≡◌, ℕ, List, [], ◌∷◌, refl}
-use Rattle.std.specs.Prelude.{Option, Some, None, Result, Ok}
+use Rattle.std.specs.Prelude.{Result}
 use Rattle.orca_course.specs.Acts.Act.{Save}
-use Rattle.orca_course.specs.Courses.{Course, course}
+use Rattle.orca_course.specs.Courses.{course}
 use Rattle.orca_course.specs.Doing.{Does, goes_of}
 use Rattle.orca_course.specs.Worlds.{Called, World, owing}
 use Rattle.orca_course.specs.declared.ending.Stop.{Stop}
 use Rattle.orca_course.specs.declared.refused.NoMemory.{NoMemory}
 use Rattle.orca_course.proofs.CallLemmas.{calls_one, does_calls}
-use Rattle.orca_course.proofs.DoingLemmas.{does_owing, does_still}
-use Rattle.orca_live.specs.Performing.{if_named}
+use Rattle.orca_course.proofs.DoingLemmas.{does_owing}
 use Rattle.orca_live.specs.States.{LiveState, live_stance}
 
 -- a text was saved
@@ -20,17 +19,3 @@ pub save_did : (name bytes text : List ℕ) (s : LiveState) {x y : World} (n : �
 save_did name bytes text s n result is called =
     does_owing n (goes_of result)
     (does_calls (Save name text ∷ []) result tt refl (calls_one result (rw is at called)))
-
--- ---- under a name
-
-pub none_named : (name : Option (List ℕ)) (next : List ℕ → LiveState → Course LiveState Stop)
-    (s : LiveState) (x : World) → name ≡ None
-    → Does live_stance (if_named name next s) s x (Ok None) s x
-none_named name next s x is = rw is (does_still x refl)
-
-pub some_named : (name : Option (List ℕ)) (some : List ℕ)
-    (next : List ℕ → LiveState → Course LiveState Stop) {s t : LiveState} {x y : World}
-    {result : Result (Option Stop) NoMemory} → name ≡ Some some
-    → Does live_stance (next some s) s x result t y
-    → Does live_stance (if_named name next s) s x result t y
-some_named name some next is did = rw is did

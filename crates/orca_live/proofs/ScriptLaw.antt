@@ -5,16 +5,12 @@ use Rattle.std.specs.List.{flat_map}
 use Rattle.std.specs.Option.{option_map, option_map_or}
 use Rattle.orca_base.specs.declared.command.Command.{Command}
 use Rattle.orca_base.specs.declared.command.Command.TheVariants as command
-use Rattle.orca_base.specs.declared.command.Entry.{Entry}
 use Rattle.orca_base.specs.declared.command.Reply.{Reply}
 use Rattle.orca_base.specs.declared.command.Rule.{Rule}
-use Rattle.orca_base.specs.declared.command.Rule.TheVariants.{NothingToUndo}
-use Rattle.orca_base.specs.Grids.{Sheet}
-use Rattle.orca_base.specs.Histories.{last_edit}
+use Rattle.orca_base.specs.MarkSet.{MarkSet}
 use Rattle.orca_concert.specs.Concerts.{Concert, after_cue, command_course as obey_course, concert, cue_course, cues_course, halt_of, order_course}
 use Rattle.orca_concert.specs.Manners.{Manner}
 use Rattle.orca_course.specs.Acts.{Act, commands_in}
-use Rattle.orca_course.specs.Acts.Act.{Save}
 use Rattle.orca_course.specs.Courses.{Course, each, lastly, lastly_by, mapped, onward}
 use Rattle.orca_course.specs.Performers.{begun, finished, performance}
 use Rattle.orca_course.specs.Standings.{Standing, note_of}
@@ -23,8 +19,7 @@ use Rattle.orca_course.specs.declared.ending.Stop.{Stop}
 use Rattle.orca_course.proofs.ActLemmas.{commands_in-append}
 use Rattle.orca_cues.specs.Scripts.{cue_asking, cues_asking}
 use Rattle.orca_cues.specs.declared.source.Order.TheVariants.{Do as Once}
-use Rattle.orca_edit.specs.Obeying.{MachineState, Obeyed, accept, carry_out, jump, machine_closed, obey, redo, refuse, rule_against}
-use Rattle.orca_notes.specs.Sound.{ends}
+use Rattle.orca_edit.specs.Obeying.{MachineState, accept, entry_of, machine_closed, obey, refuse, rule_against}
 use Rattle.orca_script.specs.Runs.{commands_of, lines_behind}
 use Rattle.orca_script.specs.declared.format_2.Line.{Line}
 use Rattle.orca_script.specs.declared.format_2.Line.TheVariants as asks
@@ -50,201 +45,158 @@ machine_after-append (command ∷ xs) ys machine =
     machine_after-append xs ys (obey machine command).machine
 
 -- these commands after those that are kept
-abbrev kept_with : Option (List Command) → List Command → Option (List Command)
-kept_with given more = option_map (λ before. before ++ more) given
+abbrev kept_with : List Command → Option (List Command) → Option (List Command)
+kept_with more given = option_map (λ before. before ++ more) given
 
-kept_none : (given : Option (List Command)) → given ≡ kept_with given []
+kept_none : (given : Option (List Command)) → given ≡ kept_with [] given
 kept_none None = refl
 kept_none (Some before) = ap Some (sym (append-nil before))
 
 kept_twice : (given : Option (List Command)) (xs ys : List Command)
-    → kept_with (kept_with given xs) ys ≡ kept_with given (xs ++ ys)
+    → kept_with ys (kept_with xs given) ≡ kept_with (xs ++ ys) given
 kept_twice None xs ys = refl
 kept_twice (Some before) xs ys = ap Some (append_assoc before xs ys)
 
+-- what commands make of those that are kept, and of the session
+abbrev after : List Command → LiveState → Option (List Command) × MachineState
+after commands s = (kept_with commands s.given, machine_after commands s.standing.machine)
+
 -- the commands of acts are kept, and lead to the session
-record Keeps (s : LiveState) (acts : List Act) (t : LiveState) : Type 0 where
-  pub given : t.given ≡ kept_with s.given (commands_in acts)
-  pub machine : t.standing.machine ≡ machine_after (commands_in acts) s.standing.machine
+abbrev Keeps : LiveState → List Act → LiveState → Type 0
+Keeps s acts t = (t.given, t.standing.machine) ≡ after (commands_in acts) s
+
+keeps_none : (s : LiveState) → Keeps s [] s
+keeps_none s = ap (λ given. (given, s.standing.machine)) (kept_none s.given)
 
 keeps_twice : (r s t : LiveState) (xs ys : List Act) → Keeps r xs s → Keeps s ys t
     → Keeps r (xs ++ ys) t
 keeps_twice r s t xs ys first second =
-    let all = sym (commands_in-append xs ys) in
-    record {
-      given = second.given
-          ∙ (ap (λ given. kept_with given (commands_in ys)) first.given
-          ∙ (kept_twice r.given (commands_in xs) (commands_in ys) ∙ ap (kept_with r.given) all));
-      machine = second.machine
-          ∙ (ap (machine_after (commands_in ys)) first.machine
-          ∙ (sym (machine_after-append (commands_in xs) (commands_in ys) r.standing.machine)
-          ∙ ap (λ more. machine_after more r.standing.machine) all));
-    }
-
--- acts without a command
-keeps_nothing : (s t : LiveState) (acts : List Act) → commands_in acts ≡ [] → t.given ≡ s.given
-    → t.standing.machine ≡ s.standing.machine → Keeps s acts t
-keeps_nothing s t acts none given machine = record {
-  given = given ∙ (kept_none s.given ∙ ap (kept_with s.given) (sym none));
-  machine = machine ∙ ap (λ more. machine_after more s.standing.machine) (sym none);
-}
+    let more = commands_in ys in
+    second
+    ∙ (ap (λ (x : Option (List Command) × MachineState).
+    (kept_with more x.0, machine_after more x.1)) first
+    ∙ (cc (
+      kept_twice r.given (commands_in xs) more,
+      machine_after-append (commands_in xs) more r.standing.machine,
+    )
+    ∙ ap (λ commands. after commands r) (sym (commands_in-append xs ys))))
 
 keeps_command : (command : Command) (s : LiveState)
     → Keeps s (command_course command s).acts (command_course command s).state
 unfolding command_course obey_course onward mapped
-keeps_command command s =
-    let once = sym (command_once command s) in
-    record {
-      given = ap (kept_with s.given) once;
-      machine = ap (λ more. machine_after more s.standing.machine) once;
-    }
+keeps_command command s = ap (λ commands. after commands s) (sym (command_once command s))
+
+keeps_paint : (marks : List MarkSet) (s : LiveState)
+    → Keeps s (painted_course marks s).acts (painted_course marks s).state
+unfolding painted_course
+keeps_paint marks s =
+    keeps_none s ∙ ap (λ commands. after commands s) (sym (paint_commands marks s))
 
 keeps_carries : Carries Keeps
-unfolding painted_course
 keeps_carries = record {
-  none = λ s t alike.
-      keeps_nothing s t [] refl alike.given (ap (λ (at : Standing). at.machine) alike.standing);
+  none = λ s t alike. rw (alike.given, alike.standing) (keeps_none s);
   both = keeps_twice;
   command = keeps_command;
-  save = λ name bytes s. keeps_nothing s s (Save name bytes ∷ []) refl refl refl;
-  paint = λ marks s. keeps_nothing s _ _ (paint_commands marks s) refl refl;
+  save = λ name bytes s. keeps_none s;
+  paint = keeps_paint;
 }
 
 -- ---- cues
 
--- a refused command changes nothing
-abbrev Stays : MachineState → Obeyed → Type 0
-Stays m o = (rule : Rule) → o.answer ≡ Err rule → o.machine ≡ m
+-- a course leads to a session, and ends so, where an ending of this kind drops the rest
+abbrev ran : {H : Type 0} → (Option H → Option Stop) → Course (Concert (Unit {0})) H
+    → MachineState × Option Stop
+ran over c = (c.state.standing.machine, over c.ending)
 
-carried_on : (m : MachineState) (c : Command) (clip : Option Sheet) (entry : Option Entry)
-    → Stays m (carry_out m c clip entry)
-carried_on m c clip None rule is = absurd cc
-carried_on m c clip (Some entry) rule is = absurd cc
+-- a command, and then others; where its refusal drops them, they would have changed nothing
+order_by : (answer : Result Reply Rule) (end : Option Stop)
+    (c : Course (Concert (Unit {0})) _)
+    (next : Concert (Unit {0}) → Course (Concert (Unit {0})) _) (more : MachineState)
+    → end ≡ None → c.ending ≡ halt_of (note_of answer) end
+    → ran after_cue (next c.state) ≡ (more, None)
+    → ((rule : Rule) → answer ≡ Err rule → more ≡ c.state.standing.machine)
+    → ran after_cue (onward c next) ≡ (more, None)
+unfolding onward
+order_by (Ok reply) end c next more goes is run stays = rw (is, goes) run
+order_by (Err rule) end c next more goes is run stays =
+    rw (is, goes) (ap (λ m. (m, None)) (sym (stays rule refl)))
 
-undone : (m : MachineState) (moment : Option ℕ)
-    → Stays m (option_map_or (jump m) moment (refuse m NothingToUndo))
-unfolding jump
-undone m None rule is = refl
-undone m (Some moment) rule is = absurd cc
+-- a refused frame changes nothing
+frame_by : (m : MachineState) (against : Option Rule) (rule : Rule)
+    → (option_map_or (refuse m) against (accept m command.Frame)).answer ≡ Err rule
+    → (option_map_or (refuse m) against (accept m command.Frame)).machine ≡ m
+unfolding accept entry_of
+frame_by m None rule is = absurd cc
+frame_by m (Some other) rule is = refl
 
-accepted : (m : MachineState) (c : Command) → Stays m (accept m c)
-unfolding accept jump redo
-accepted m command.Undo = undone m (last_edit m.history)
-accepted m (command.Rewind moment) = λ rule is. absurd cc
-accepted m command.Redo = λ rule is. absurd cc
-accepted m command.Frame = carried_on m command.Frame _ _
-accepted m (command.Write y x glyph) = carried_on m (command.Write y x glyph) _ _
-accepted m (command.Fill rect glyph) = carried_on m (command.Fill rect glyph) _ _
-accepted m (command.Erase rect) = carried_on m (command.Erase rect) _ _
-accepted m (command.Copy rect) = carried_on m (command.Copy rect) _ _
-accepted m (command.Cut rect) = carried_on m (command.Cut rect) _ _
-accepted m (command.Paste y x) = carried_on m (command.Paste y x) _ _
-accepted m (command.Move rect to_y to_x) = carried_on m (command.Move rect to_y to_x) _ _
-accepted m (command.Resize h w) = carried_on m (command.Resize h w) _ _
-accepted m command.Reset = carried_on m command.Reset _ _
-
-refused_by : (m : MachineState) (c : Command) (against : Option Rule)
-    → Stays m (option_map_or (refuse m) against (accept m c))
-refused_by m c None = accepted m c
-refused_by m c (Some other) = λ rule is. refl
-
-stays : (m : MachineState) (c : Command) → Stays m (obey m c)
+frame_stays : (m : MachineState) (rule : Rule) → (obey m command.Frame).answer ≡ Err rule
+    → (obey m command.Frame).machine ≡ m
 unfolding obey
-stays m c = refused_by m c (rule_against m c)
+frame_stays m rule is = frame_by m (rule_against m command.Frame) rule is
 
 -- so it is refused as often as it is given
-stays_all : (m : MachineState) (c : Command) (n : ℕ) → (obey m c).machine ≡ m
-    → machine_after (replicate n c) m ≡ m
-stays_all m c zero same = refl
-stays_all m c (suc n) same = ap (machine_after (replicate n c)) same ∙ stays_all m c n same
-
--- a course that leads where commands do, where an ending of this kind drops the rest
-record IsRun {H : Type 0} (after : Option H → Option Stop) (c : Course (Concert (Unit {0})) H)
-    (commands : List Command) (old : MachineState) : Type 0 where
-  pub goes : after c.ending ≡ None
-  pub machine : c.state.standing.machine ≡ machine_after commands old
-
--- a command, and then the same so often; where that drops the rest, it has changed nothing
-run_by : {H : Type 0} (after : Option H → Option Stop) (end : Option H)
-    (c : Course (Concert (Unit {0})) H) (next : Concert (Unit {0}) → Course (Concert (Unit {0})) H)
-    (command : Command) (n : ℕ) (old : MachineState) → c.ending ≡ end → after end ≡ None
-    → ((end ≡ None → ⊥) → (obey old command).machine ≡ old)
-    → c.state.standing.machine ≡ (obey old command).machine
-    → IsRun after (next c.state) (replicate n command) c.state.standing.machine
-    → IsRun after (onward c next) (command ∷ replicate n command) old
-unfolding onward
-run_by after None c next command n old is halts same leads more =
-    rw is (record {
-      goes = more.goes;
-      machine = more.machine ∙ ap (machine_after (replicate n command)) leads;
-    })
-run_by after (Some e) c next command n old is halts same leads more =
-    let stay = same (λ none. cc) in
-    rw is (record {
-      goes = halts;
-      machine = leads
-          ∙ (stay
-          ∙ sym (ap (machine_after (replicate n command)) stay ∙ stays_all old command n stay));
-    })
-
--- a refusal drops the rest of a cue, and the run goes on
-stays_by : (answer : Result Reply Rule) (m : MachineState) (c : Command)
-    → (obey m c).answer ≡ answer → (halt_of (note_of answer) None ≡ None → ⊥)
-    → (obey m c).machine ≡ m
-stays_by (Ok reply) m c is drops = absurd (drops refl)
-stays_by (Err rule) m c is drops = stays m c rule is
-
-goes_by : (note : Option Rule) → after_cue (halt_of note None) ≡ None
-goes_by None = refl
-goes_by (Some rule) = refl
+frames_stay : (n : ℕ) (m : MachineState) → (obey m command.Frame).machine ≡ m
+    → machine_after (replicate n command.Frame) m ≡ m
+frames_stay zero m same = refl
+frames_stay (suc n) m same =
+    ap (machine_after (replicate n command.Frame)) same ∙ frames_stay n m same
 
 module _ (m : Manner (Unit {0})) (goes : GoesOn m) where
-  run_replays : (line : ℕ) (command : Command) (n : ℕ) (s : Concert (Unit {0}))
-      → IsRun after_cue (each (order_course m line) (replicate n (Once command)) s)
-      (replicate n command) s.standing.machine
-  unfolding each order_course obey_course onward mapped
-  run_replays line command zero s = record { goes = refl; machine = refl }
-  run_replays line command (suc n) s =
+  order_replays : (line : ℕ) (command : Command) (s : Concert (Unit {0})) (more : MachineState)
+      (next : Concert (Unit {0}) → Course (Concert (Unit {0})) _)
+      → ran after_cue (next (order_course m line (Once command) s).state) ≡ (more, None)
+      → ((rule : Rule) → (obey s.standing.machine command).answer ≡ Err rule
+      → more ≡ (obey s.standing.machine command).machine)
+      → ran after_cue (onward (order_course m line (Once command) s) next) ≡ (more, None)
+  unfolding order_course obey_course onward mapped
+  order_replays line command s more next run stays =
       let o = obey s.standing.machine command in
-      let c = order_course m line (Once command) s in
-      let ends = ap (halt_of (note_of o.answer)) (goes line o.answer o.messages s.kept) in
-      run_by after_cue c.ending c (each (order_course m line) (replicate n (Once command))) command
-      n s.standing.machine refl (ap after_cue ends ∙ goes_by (note_of o.answer))
-      (λ drops. stays_by o.answer s.standing.machine command refl (λ none. drops (ends ∙ none)))
-      refl (run_replays line command n c.state)
+      order_by o.answer _ (order_course m line (Once command) s) next more
+      (goes line o.answer o.messages s.kept) refl run stays
+
+  frames_replay : (line n : ℕ) (s : Concert (Unit {0}))
+      → ran after_cue (each (order_course m line) (replicate n (Once command.Frame)) s)
+      ≡ (machine_after (replicate n command.Frame) s.standing.machine, None)
+  unfolding each order_course obey_course onward mapped
+  frames_replay line zero s = refl
+  frames_replay line (suc n) s =
+      let old = s.standing.machine in
+      let more = machine_after (replicate n command.Frame) in
+      order_replays line command.Frame s (more (obey old command.Frame).machine)
+      (each (order_course m line) (replicate n (Once command.Frame)))
+      (frames_replay line n (order_course m line (Once command.Frame) s).state)
+      (λ rule is.
+      let same = frame_stays old rule is in
+      ap more same ∙ (frames_stay n old same ∙ sym same))
 
   cue_replays : (line : ℕ) (asked : Line) (s : Concert (Unit {0}))
-      → IsRun (λ end. end) (cue_course m (cue_asking line asked) s) (commands_of asked)
-      s.standing.machine
-  unfolding cue_course mapped
+      → ran (λ end. end) (cue_course m (cue_asking line asked) s)
+      ≡ (machine_after (commands_of asked) s.standing.machine, None)
+  unfolding cue_course each order_course obey_course onward mapped
   cue_replays line (asks.Do command) s =
-      let run = run_replays line command 1 s in
-      record { goes = run.goes; machine = run.machine }
-  cue_replays line (asks.Frames times) s =
-      let run = run_replays line command.Frame times s in
-      record { goes = run.goes; machine = run.machine }
+      order_replays line command s (obey s.standing.machine command).machine
+      (each (order_course m line) []) refl (λ rule is. refl)
+  cue_replays line (asks.Frames times) s = frames_replay line times s
 
   cues_replay : (lines : List Line) (line : ℕ) (s : Concert (Unit {0}))
-      → IsRun (λ end. end) (cues_course m (cues_asking line lines) s)
-      (flat_map commands_of lines) s.standing.machine
+      → ran (λ end. end) (cues_course m (cues_asking line lines) s)
+      ≡ (machine_after (flat_map commands_of lines) s.standing.machine, None)
   unfolding cues_course each onward
-  cues_replay [] line s = record { goes = refl; machine = refl }
+  cues_replay [] line s = refl
   cues_replay (asked ∷ lines) line s =
       let first = cue_replays line asked s in
-      let more =
-      cues_replay lines (line + 1) (cue_course m (cue_asking line asked) s).state in
-      rw first.goes (record {
-        goes = more.goes;
-        machine = more.machine
-            ∙ (ap (machine_after (flat_map commands_of lines)) first.machine
-            ∙ sym (machine_after-append (commands_of asked) (flat_map commands_of lines)
-            s.standing.machine));
-      })
+      let rest = flat_map commands_of lines in
+      rw (ap (λ (x : MachineState × Option Stop). x.1) first)
+      (cues_replay lines (line + 1) (cue_course m (cue_asking line asked) s).state
+      ∙ (ap (λ (x : MachineState × Option Stop). (machine_after rest x.0, None)) first
+      ∙ ap (λ m. (m, None))
+      (sym (machine_after-append (commands_of asked) rest s.standing.machine))))
 
   replayed_machine : (commands : List Command) (s : Standing)
       → replayed m commands s ≡ machine_after commands s.machine
   replayed_machine commands s =
-      (cues_replay (lines_behind 0 commands) 2 (concert s tt)).machine
+      ap (λ (x : MachineState × Option Stop). x.0)
+      (cues_replay (lines_behind 0 commands) 2 (concert s tt))
       ∙ ap (λ list. machine_after list s.machine) (behind_same commands 0)
 
 -- ---- a performance
@@ -260,12 +212,13 @@ replays_by (Some e) c s empty keeps ends =
     let same = closes.commands c.acts in
     record {
       given = closes.given
-          ∙ (keeps.given
-          ∙ (ap (λ given. kept_with given (commands_in c.acts)) empty ∙ ap Some (sym same)));
+          ∙ (ap (λ (x : Option (List Command) × MachineState). x.0) keeps
+          ∙ (ap (kept_with (commands_in c.acts)) empty ∙ ap Some (sym same)));
       machine = λ m goes.
           ap (λ commands. machine_closed (replayed m commands s.standing)) same
           ∙ (ap machine_closed
-          (replayed_machine m goes (commands_in c.acts) s.standing ∙ sym keeps.machine)
+          (replayed_machine m goes (commands_in c.acts) s.standing
+          ∙ sym (ap (λ (x : Option (List Command) × MachineState). x.1) keeps))
           ∙ sym (ap (λ (at : Standing). at.machine) closes.standing));
     }
 
@@ -273,5 +226,5 @@ pub replays_script : ReplaysScript
 unfolding performance lastly
 replays_script polls s empty ends =
     let c = begun live_part s polls in
-    replays_by c.ending c s empty
-    (begun_carried keeps_carries (λ poll t. keeps_nothing t t _ refl refl refl) s polls) ends
+    replays_by c.ending c s empty (begun_carried keeps_carries (λ poll t. keeps_none t) s polls)
+    ends

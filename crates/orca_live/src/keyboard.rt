@@ -34,6 +34,7 @@ fn keep(given: &mut Option<Vec<Command>>, command: &Command) -> Result<(), NoMem
 }
 
 /// Does a command, and keeps it for the script.
+#[tactic(auto, using(orca_course::proofs::DoingLemmas::goes_err, orca_course::proofs::DoingLemmas::does_nothing))]
 pub(crate) fn do_command<
     M: Machine + Drop,
     F: Files + Drop,
@@ -54,6 +55,7 @@ pub(crate) fn do_command<
 }
 
 /// Does what a key asks for, once the editor has changed.
+#[tactic(auto, using(orca_course::proofs::DoingLemmas::does_end, orca_course::proofs::DoingLemmas::does_err, orca_course::proofs::DoingLemmas::does_still, crate::proofs::DoneLemmas::does_paced), unfolding(crate::specs::Performing::wish_course))]
 fn do_wish<M: Machine + Drop, F: Files + Drop, O: Outs + Drop, I: Inbox + Drop, L: Ledger>(
     live: &mut Live<'_, M>,
     desk: &mut Desk<F, O, I, L>,
@@ -124,6 +126,7 @@ fn strike<M: Machine + Drop, F: Files + Drop, O: Outs + Drop, I: Inbox + Drop, L
 }
 
 /// Does what the key does that was ended, if any was.
+#[tactic(auto, using(orca_course::proofs::DoingLemmas::does_still, crate::proofs::KeyLemmas::press_some), unfolding(crate::specs::Performing::press_course))]
 pub(crate) fn press<M: Machine + Drop, F: Files + Drop, O: Outs + Drop, I: Inbox + Drop, L: Ledger>(
     live: &mut Live<'_, M>,
     desk: &mut Desk<F, O, I, L>,
@@ -146,6 +149,7 @@ pub(crate) fn press<M: Machine + Drop, F: Files + Drop, O: Outs + Drop, I: Inbox
 }
 
 /// Reads a byte.
+#[tactic(auto, using(crate::proofs::KeyLemmas::item_did), unfolding(crate::specs::Performing::byte_course))]
 fn do_byte<M: Machine + Drop, F: Files + Drop, O: Outs + Drop, I: Inbox + Drop, L: Ledger>(
     live: &mut Live<'_, M>,
     desk: &mut Desk<F, O, I, L>,

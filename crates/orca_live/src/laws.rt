@@ -2,6 +2,7 @@ ghost use Rattle.orca_live.specs.Laws.{ItemsDecide, OnlyAppends, ReplaysScript};
 ghost use Rattle.orca_live.specs.Paintings.{ShowsPerformance};
 
 /// More answers only add acts: what was done before stays done. It does nothing.
+#[tactic(auto, using(crate::proofs::AppendingLaw::only_appends))]
 pub fn appending_law()
     ensures { OnlyAppends }
 {}
@@ -9,18 +10,21 @@ pub fn appending_law()
 /// How bytes were cut into answers changes no command: two lists of answers with the same bytes and
 /// due frames, in the same order, give the same commands, and leave the session and the commands
 /// that are kept the same. It does nothing.
+#[tactic(auto, using(crate::proofs::CuttingLaw::items_decide))]
 pub fn cutting_law()
     ensures { ItemsDecide }
 {}
 
 /// The commands that are kept are those that were given, and their script, done again, leads to the
 /// same session. It does nothing.
+#[tactic(auto, using(crate::proofs::ScriptLaw::replays_script))]
 pub fn script_law()
     ensures { ReplaysScript }
 {}
 
 /// A small terminal that is sent all paintings shows each picture, if it can show their cells: each
 /// is a printable byte with a style. It does nothing.
+#[tactic(auto, using(crate::proofs::PaintingLaw::shows_performance))]
 pub fn painting_law()
     ensures { ShowsPerformance }
 {}

@@ -16,6 +16,7 @@ use orca_rig::{Files, Inbox, Outs};
 use std::sync::ledger::Ledger;
 
 /// Sends a painting, unless it is empty.
+#[tactic(auto, using(crate::proofs::PaintLemmas::sent_none, crate::proofs::PaintLemmas::sent_some))]
 fn send_view<F: Files + Drop, O: Outs + Drop, I: Inbox + Drop, L: Ledger>(
     desk: &mut Desk<F, O, I, L>,
     bytes: &[u8],

@@ -38,6 +38,7 @@ pub(crate) fn save_grid<
 }
 
 /// Saves the grid at the end, if it has a name.
+#[tactic(auto, using(orca_course::proofs::DoingLemmas::does_still), unfolding(crate::specs::Performing::last_grid_course))]
 pub(crate) fn save_last_grid<
     M: Machine + Drop,
     F: Files + Drop,
@@ -59,6 +60,7 @@ pub(crate) fn save_last_grid<
 }
 
 /// Saves the script of the commands under a name. A save that fails is recorded.
+#[tactic(auto, using(orca_course::proofs::DoingLemmas::does_nothing, orca_course::proofs::DoingLemmas::goes_err, crate::proofs::SaveLemmas::save_did), unfolding(crate::specs::Performing::script_course))]
 fn save_script<M: Machine + Drop, F: Files + Drop, O: Outs + Drop, I: Inbox + Drop, L: Ledger>(
     live: &mut Live<'_, M>,
     desk: &mut Desk<F, O, I, L>,
@@ -77,6 +79,7 @@ fn save_script<M: Machine + Drop, F: Files + Drop, O: Outs + Drop, I: Inbox + Dr
 }
 
 /// Saves the script of the commands at the end, if it has a name.
+#[tactic(auto, using(orca_course::proofs::DoingLemmas::does_still), unfolding(crate::specs::Performing::last_script_course))]
 pub(crate) fn save_last_script<
     M: Machine + Drop,
     F: Files + Drop,

@@ -1,13 +1,7 @@
-use Rattle.std.proofs.Common.{refl}
 use Rattle.std.specs.Prelude.{Ok, Err}
-use Rattle.orca_course.proofs.DoingLemmas.{does_nothing, goes_err}
+use Rattle.orca_course.proofs.DoingLemmas.{goes_err}
 use Rattle.orca_live.proofs.DoneLemmas.{command_did}
 use Rattle.orca_live.proofs.keyboard.do_command.Goals as goal
-
-pub returns-in_err-keep : goal.returns-in_err-keep
-returns-in_err-keep g c =
-    goes_err _ _ c.from_residual.ensures.1
-    (rw c.in_err-keep.ensures.err (does_nothing _ _ refl))
 
 pub returns-in_err-do_command : goal.returns-in_err-do_command
 returns-in_err-do_command g c =
