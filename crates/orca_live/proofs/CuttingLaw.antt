@@ -1,5 +1,5 @@
 -- How bytes are cut into answers changes no command: polls give the commands of their items.
-use Rattle.std.proofs.Common.{◌≡◌, ◌==◌, ℕ, ◌-◌, arith, Bool, true, false, List, [], ◌∷◌, ◌++◌, refl, sym, ◌∙◌, ap, append_assoc, append-nil}
+use Rattle.std.proofs.Common.{◌≡◌, ◌==◌, ℕ, arith, Bool, true, false, List, [], ◌∷◌, ◌++◌, refl, sym, ◌∙◌, ap, append_assoc, append-nil}
 use Rattle.std.specs.Prelude.{max, min, if◌then◌else◌, map, Option, Some, None}
 use Rattle.std.specs.Option.{is_some, option_map, option_map_or}
 use Rattle.orca_base.specs.declared.command.Command.{Command}
@@ -7,7 +7,6 @@ use Rattle.orca_base.specs.declared.command.Command.TheVariants.{Frame}
 use Rattle.orca_base.specs.declared.command.Entry.{Entry}
 use Rattle.orca_base.specs.declared.command.Entry.TheVariants as entry
 use Rattle.orca_base.specs.declared.command.Rule.{Rule}
-use Rattle.orca_base.specs.Grids.{Size}
 use Rattle.orca_concert.specs.Concerts.{command_course as obey_course}
 use Rattle.orca_course.specs.Acts.{Act, commands_in}
 use Rattle.orca_course.specs.Courses.{Course, each, ended, joined, lastly, lastly_by, mapped, onward, onward_by, still}
@@ -27,11 +26,10 @@ use Rattle.orca_op.specs.Scan.{places, scan}
 use Rattle.orca_rig.specs.Arrived.{Poll}
 use Rattle.orca_rig.specs.declared.inbox.Answer.{Answer}
 use Rattle.orca_rig.specs.declared.inbox.Answer.TheVariants as answer
-use Rattle.orca_term.specs.Editing.{editor_after, editor_inside, wish_of}
+use Rattle.orca_term.specs.Editing.{editor_after, wish_of}
 use Rattle.orca_term.specs.Keys.{Byte, Due, Item, turn}
 use Rattle.orca_term.specs.declared.editor.Wish.{Wish}
 use Rattle.orca_term.specs.declared.editor.Wish.TheVariants as wish
-use Rattle.orca_term.specs.declared.editor.Editor.{Editor}
 use Rattle.orca_term.specs.declared.keys.Key.{Key}
 use Rattle.orca_live.specs.Items.{items_by, items_of}
 use Rattle.orca_live.specs.Laws.{AreAlike, ItemsDecide, PlayAlike}
@@ -122,11 +120,8 @@ min_twice a b = omega arith
 side_twice : (a b : ℕ) → max 1 (min (max 1 (min a b)) b) ≡ max 1 (min a b)
 side_twice a b = omega arith
 
-fits_twice : (d : Size) (e : Editor) → editor_inside d (editor_inside d e) ≡ editor_inside d e
-fits_twice d e = simp (min_twice, side_twice)
-
 core_fitted : (s : LiveState) → core (fitted s) ≡ core s
-core_fitted s = ap (λ e. record (plain s) { editor = e }) (fits_twice (dims_at s) s.editor)
+core_fitted s = simp (min_twice, side_twice)
 
 -- ---- keys
 
@@ -179,31 +174,20 @@ obeyed_dims : (m : MachineState) (against : Option Rule)
     → (piece_of (option_map_or (refuse m) against (accept m Frame)).machine).sheet.dims
     ≡ (piece_of m).sheet.dims
 unfolding accept entry_of
-obeyed_dims m None =
-    let before = fold_entries (opened_piece m.opened m.seed) m.history in
-    folded_dims m (m.history ++ entry.Frame ∷ [])
-    ∙ (ap (λ (p : Piece). p.sheet.dims)
-    (fold_entries-append (opened_piece m.opened m.seed) m.history (entry.Frame ∷ []))
-    ∙ (played_dims before ∙ sym (folded_dims m m.history)))
+obeyed_dims m None = simp (folded_dims, fold_entries-append, played_dims)
 obeyed_dims m (Some rule) = refl
 
--- so an editor that fits it goes on to do so
-frame_dims : (m : MachineState) (e : Editor)
-    → editor_inside (piece_of (obey m Frame).machine).sheet.dims e
-    ≡ editor_inside (piece_of (obey m Frame).machine).sheet.dims
-    (editor_inside (piece_of m).sheet.dims e)
+frame_dims : (m : MachineState)
+    → (piece_of (obey m Frame).machine).sheet.dims ≡ (piece_of m).sheet.dims
 unfolding obey
-frame_dims m e =
-    rw (obeyed_dims m (rule_against m Frame)) (sym (fits_twice (piece_of m).sheet.dims e))
+frame_dims m = obeyed_dims m (rule_against m Frame)
 
+-- so an editor that fits it goes on to do so
 frame_by : (full : Bool)
     → Steady (λ s. if full then ended Full s else onward (command_course Frame s) (λ t. still (fired t)))
 unfolding command_course obey_course onward mapped
 frame_by true s = ap (quiet true) (sym (core_fitted s))
-frame_by false s =
-    let c = onward (command_course Frame s) (λ t. still (fired t)) in
-    ap (λ e. record (told c) { state = record (core c.state) { editor = e } })
-    (frame_dims s.standing.machine s.editor)
+frame_by false s = simp (frame_dims, min_twice, side_twice)
 
 frame_steady : Steady frame_course
 unfolding frame_course
@@ -238,30 +222,18 @@ due_items rest s =
 
 -- ---- answers
 
--- what ends a player ends the performance
-stopped_by : (end : Option Stop) → is_some (option_map Stopped end) ≡ is_some end
-stopped_by None = refl
-stopped_by (Some stop) = refl
-
--- a picture changes nothing that matters
-shown_by : (end : Option Stop) (c : Course LiveState Stop) → c.ending ≡ end
-    → told (onward_by end c show_course) ≡ told c
-unfolding show_course preview_course paint_course painted_course
-shown_by None c is =
+-- a picture changes nothing that matters, and what ends a player ends the performance
+heard_by : (end : Option Stop) (c : Course LiveState Stop) → c.ending ≡ end
+    → told (mapped {F = Ending} (λ t. t) (option_map Stopped) (onward_by end c show_course)) ≡ told c
+unfolding mapped show_course preview_course paint_course painted_course
+heard_by None c is =
     let t = c.state in
     let d = show_course t in
     ap (λ u. record (told (joined c d)) { state = u }) (core_fitted t)
     ∙ (ap (λ xs. record (quiet false (core t)) { commands = xs })
     (commands_before c.acts d.acts (paint_commands (preview_of (piece_at t)) (fitted t)))
     ∙ ap (λ (end : Option Stop). record (told c) { over = is_some end }) (sym is))
-shown_by (Some stop) c is = refl
-
-heard_told : (c : Course LiveState Stop)
-    → told (mapped {F = Ending} (λ t. t) (option_map Stopped) (onward c show_course)) ≡ told c
-unfolding mapped onward
-heard_told c =
-    let d = onward c show_course in
-    ap (λ over. record (told d) { over = over }) (stopped_by d.ending) ∙ shown_by c.ending c refl
+heard_by (Some stop) c is = rw is refl
 
 mine_items : (mine : Bool) (bytes : List ℕ) (rest : List Item) (s : LiveState)
     → next (told (if mine then each byte_course bytes s else still s)) (items_told rest)
@@ -272,13 +244,14 @@ mine_items false bytes rest s = refl
 answer_items : (a : Answer) (bytes : List ℕ) (rest : List Item) (s : LiveState)
     → next (told (heard live_part a bytes s)) (items_told rest)
     ≡ items_told (items_by a bytes rest) (core s)
-unfolding heard heard_course answer_course
+unfolding heard heard_course answer_course onward
 answer_items (answer.Bytes hand count at) bytes rest s =
-    ap (λ (x : Told). next x (items_told rest))
-    (heard_told (answer_course (answer.Bytes hand count at) bytes s))
+    let c = answer_course (answer.Bytes hand count at) bytes s in
+    ap (λ (x : Told). next x (items_told rest)) (heard_by c.ending c refl)
     ∙ mine_items (hand == 0) bytes rest (answered_at at s)
 answer_items (answer.Due at) bytes rest s =
-    ap (λ (x : Told). next x (items_told rest)) (heard_told (due_course (answered_at at s)))
+    let c = due_course (answered_at at s) in
+    ap (λ (x : Told). next x (items_told rest)) (heard_by c.ending c refl)
     ∙ due_items rest (answered_at at s)
 answer_items answer.End bytes rest s = refl
 answer_items answer.Failed bytes rest s = refl

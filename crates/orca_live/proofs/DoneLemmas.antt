@@ -1,20 +1,38 @@
--- What was done of a course, from another state, of the session alone, and of a pacer.
-use Rattle.std.proofs.Common.{◌≡◌, ℕ, List, [], ◌∷◌, ◌++◌, refl, sym, ◌∙◌, ap, subst}
-use Rattle.std.specs.Prelude.{Option, None, Result, Ok, Err}
+-- What was done of a course: from another state, of the session alone, for keys, of what is saved,
+-- and of what is shown.
+use Rattle.std.proofs.Common.{◌≡◌, ℕ, List, [], ◌∷◌, ◌++◌, refl, sym, ◌∙◌, ap, subst, ◌==◌, Bool, true, false, length, arith}
+use Rattle.std.specs.Prelude.{Option, None, Result, Ok, Err, Some, All}
 use Rattle.std.specs.Option.{option_map}
 use Rattle.orca_base.specs.declared.command.Command.{Command}
+use Rattle.orca_base.specs.declared.port.Port.TheVariants as port
+use Rattle.orca_base.specs.MarkSet.{MarkSet}
 use Rattle.orca_concert.specs.Concerts.{Concert, concert, close_course as silence_course, command_course as obey_course, stance_of}
-use Rattle.orca_course.specs.Courses.{Course, mapped, onward, still}
+use Rattle.orca_course.specs.Courses.{Course, mapped, onward, still, course}
 use Rattle.orca_course.specs.Doing.{Does, Stance, goes_of}
-use Rattle.orca_course.specs.Worlds.{World}
+use Rattle.orca_course.specs.Worlds.{World, Called, owing, Calls, Made, Sated}
 use Rattle.orca_course.specs.declared.ending.Stop.{Stop}
 use Rattle.orca_course.specs.declared.refused.NoMemory.{NoMemory}
 use Rattle.orca_course.proofs.CourseLemmas.{still_onward}
-use Rattle.orca_course.proofs.DoingLemmas.{does_mapped, does_still, does_then}
+use Rattle.orca_course.proofs.DoingLemmas.{does_mapped, does_still, does_then, does_owing, does_acts, does_cut, does_joined, rests_mute, rests_none}
+use Rattle.orca_course.specs.Acts.Act.{Save, Give, Show}
+use Rattle.orca_course.proofs.CallLemmas.{calls_one, does_calls}
+use Rattle.orca_course.specs.Acts.{AreMute}
+use Rattle.orca_course.proofs.WorldLemmas.{made_none, made_show}
+use Rattle.orca_edit.specs.Machines.{preview_of}
+use Rattle.orca_edit.specs.Prices.{preview_price}
 use Rattle.orca_term.specs.Pacing.{Pace}
-use Rattle.orca_live.specs.Performing.{close_course, command_course, keeping_command, of_session}
+use Rattle.orca_term.specs.Editing.{editor_after, wish_of}
+use Rattle.orca_term.specs.Keys.{Item, turn}
+use Rattle.orca_term.specs.declared.editor.Wish.{Wish}
+use Rattle.orca_term.specs.declared.editor.Editor.{Editor}
+use Rattle.orca_term.specs.declared.keys.Key.{Key}
+use Rattle.orca_term.specs.declared.keys.Pending.{Pending}
+use Rattle.orca_term.specs.Picture.{IsPrintable}
+use Rattle.orca_term.specs.Viewing.{Seen, painting_bytes}
+use Rattle.orca_term.specs.declared.cell.Cell.{Cell}
+use Rattle.orca_live.specs.Performing.{close_course, command_course, keeping_command, of_session, item_course, key_course, press_course, struck_course, wish_course, paint_course, painted_course, picture_at, preview_course, show_course, view_sends}
 use Rattle.orca_live.specs.Quiet.{silent_manner}
-use Rattle.orca_live.specs.States.{LiveState, live_stance}
+use Rattle.orca_live.specs.States.{LiveState, live_stance, dims_at, fitted, moments_at, piece_at}
 
 -- from a state in which the run stands alike
 pub does_from : {S E : Type 0} {v : Stance S} {c : Course S E} (r : S) {s t : S} {x y : World}
@@ -75,3 +93,118 @@ pub close_did : (s : LiveState) (t : Concert (Unit {0})) {x y : World}
     → Does live_stance (close_course s) s x (goes_of result) (record s { standing = t.standing }) y
 unfolding close_course silence_course onward mapped
 close_did s t result did = session_did (silence_course silent_manner) s t result refl did
+
+-- ---- keys and items
+
+-- the editor has changed, and then what the key asks for was done
+pub struck_did : (key : Key) (s : LiveState) (w : Wish) (e : Editor) {t : LiveState} {x y : World}
+    {result : Result (Option Stop) NoMemory} → w ≡ wish_of key (moments_at s) s.editor
+    → e ≡ editor_after key (dims_at s) s.editor
+    → Does live_stance (wish_course w (record s { editor = e })) (record s { editor = e }) x result
+    t y
+    → Does live_stance (struck_course key s) s x result t y
+unfolding struck_course
+struck_did key s w e asks changes did = does_from s refl (rw (asks, changes) at did)
+
+-- the editor was fitted to the grid, and then the key was struck
+pub press_some : (key : Option Key) (some : Key) (s u : LiveState) {t : LiveState} {x y : World}
+    {result : Result (Option Stop) NoMemory} → key ≡ Some some → u ≡ fitted s
+    → Does live_stance (struck_course some u) u x result t y
+    → Does live_stance (press_course key s) s x result t y
+unfolding press_course key_course
+press_some key some s u is fits did = rw is (does_from s refl (rw fits at did))
+
+-- an item, whose key was pressed
+pub item_did : (item : Item) (s : LiveState) (key : Option Key) (p : Pending) {t : LiveState}
+    {x y : World} {result : Result (Option Stop) NoMemory} → key ≡ (turn s.pending item).key
+    → p ≡ (turn s.pending item).pending
+    → Does live_stance (press_course key (record s { pending = p })) (record s { pending = p }) x
+    result t y
+    → Does live_stance (item_course item s) s x result t y
+unfolding item_course
+item_did item s key p ends leaves did = does_from s refl (rw (ends, leaves) at did)
+
+-- ---- what is saved
+
+-- a text was saved
+pub save_did : (name bytes text : List ℕ) (s : LiveState) {x y : World} (n : ℕ)
+    (result : Result (Unit {0}) NoMemory) → bytes ≡ text → Called result (Save name bytes) x y
+    → Does {E = Stop} live_stance (course (Save name text ∷ []) 0 s) s (owing n x) (goes_of result)
+    s (owing n y)
+save_did name bytes text s n result is called =
+    does_owing n (goes_of result)
+    (does_calls (Save name text ∷ []) result tt refl (calls_one result (rw is at called)))
+
+-- ---- a painting is sent, unless it is empty
+
+pub sent_none : (bytes : List ℕ) (none : Bool) (x : World) → none ≡ (length bytes == 0)
+    → none ≡ true → Calls {T = Unit {0}} (view_sends bytes) (Ok tt) x x
+sent_none [] none x is on = record { called = (made_none x, refl) }
+sent_none (byte ∷ bytes) none x is on = absurd (grind arith)
+
+pub sent_some : (bytes : List ℕ) (none : Bool) {x y : World} (result : Result (Unit {0}) NoMemory)
+    → none ≡ (length bytes == 0) → none ≡ false
+    → Called result (Give (record { port = port.View; bytes = bytes })) x y
+    → Calls (view_sends bytes) result x y
+sent_some [] none result is off called = absurd (grind arith)
+sent_some (byte ∷ bytes) none result is off called = calls_one result called
+
+sent_mute : (bytes : List ℕ) → AreMute (view_sends bytes)
+sent_mute [] = tt
+sent_mute (byte ∷ bytes) = (refl, tt)
+
+-- ---- a painting
+
+-- the picture was painted
+abbrev shown_course : List Cell → LiveState → Course LiveState Stop
+shown_course cells s = course (Show cells ∷ []) 0 (record s { shown = Some cells })
+
+painting_did : (bytes : List ℕ) (cells : List Cell) (s : LiveState) {x y : World}
+    (result : Result (Unit {0}) NoMemory) → All IsPrintable cells
+    → Calls (view_sends bytes) result x y
+    → Does live_stance (onward (course (view_sends bytes) 0 s) (shown_course cells)) s x
+    (goes_of result) (record s { shown = Some cells }) y
+unfolding onward
+painting_did bytes cells s {y = y} (Ok done) printable calls =
+    does_then (shown_course cells)
+    (does_calls (view_sends bytes) (Ok done) (sent_mute bytes) refl calls)
+    (does_acts (made_show cells printable (made_none y)) refl
+    (rests_mute live_stance s (record s { shown = Some cells }) (Show cells ∷ []) tt refl))
+painting_did bytes cells s (Err e) printable calls =
+    does_cut (shown_course cells)
+    (does_calls (view_sends bytes) (Err e) (sent_mute bytes) refl calls)
+
+-- the picture with these marks was painted, and the view keeps it
+pub painted_did : (marks : List MarkSet) (s : LiveState) (bytes : List ℕ) (view : Seen)
+    {x y : World} (n : ℕ) (result : Result (Unit {0}) NoMemory)
+    → bytes ≡ painting_bytes s.screen s.shown (picture_at marks s)
+    → view ≡ record { size = s.screen; last = Some (picture_at marks s); bytes = bytes }
+    → All IsPrintable (picture_at marks s) → Calls (view_sends bytes) result x y
+    → Does live_stance (painted_course marks s) s (owing n x) (goes_of result)
+    (record s { screen = view.size; shown = view.last }) (owing n y)
+unfolding painted_course onward
+painted_did marks s bytes view n result painting kept printable calls =
+    let cells = picture_at marks s in
+    rw kept (does_owing n (goes_of result)
+    (painting_did (painting_bytes s.screen s.shown cells) cells s result printable
+    (rw painting at calls)))
+
+-- the editor was fitted to the grid before, which moves nothing else
+pub paint_did : (marks others : List MarkSet) (s u : LiveState) (n m : ℕ) (x : World)
+    {t : LiveState} {y : World} {result : Result (Option Stop) NoMemory} → others ≡ marks → m ≡ n
+    → u ≡ fitted s → Does live_stance (painted_course others u) u (owing m x) result t y
+    → Does live_stance (paint_course marks s) s (owing n x) result t y
+unfolding paint_course
+paint_did marks others s u n m x same owes fits did =
+    does_from s refl (rw (same, owes, fits) at did)
+
+-- the picture with the marks of a scan
+pub show_did : (marks : List MarkSet) (s : LiveState) {t : LiveState} {x y z : World}
+    (result : Result (Option Stop) NoMemory) → Made [] (preview_price (piece_at s)) x y
+    → Sated x y → marks ≡ preview_of (piece_at s)
+    → Does live_stance (paint_course marks s) s y result t z
+    → Does live_stance (show_course s) s x result t z
+unfolding show_course preview_course
+show_did marks s result made sated scanned did =
+    does_joined {E = Stop} result (does_acts made sated (rests_none live_stance s s refl)).did
+    (rw scanned at did)

@@ -1,20 +1,17 @@
 -- Which acts give commands, and what the end of a performance leaves.
-use Rattle.std.proofs.Common.{◌≡◌, ℕ, true, List, [], ◌∷◌, ◌++◌, refl, ◌∙◌, ap, append-nil}
+use Rattle.std.proofs.Common.{◌≡◌, ℕ, List, [], ◌∷◌, ◌++◌, refl, ◌∙◌, append-nil}
 use Rattle.std.specs.Prelude.{Option, Some, None}
 use Rattle.orca_base.specs.declared.command.Command.{Command}
 use Rattle.orca_base.specs.MarkSet.{MarkSet}
 use Rattle.orca_base.specs.Ports.{Sent}
-use Rattle.orca_concert.specs.Concerts.{close_course as silence_course, command_course as obey_course, handed_of}
+use Rattle.orca_concert.specs.Concerts.{close_course as silence_course, command_course as obey_course}
 use Rattle.orca_course.specs.Acts.{commands_in, gives, Act}
 use Rattle.orca_course.specs.Acts.Act.{Save, Show, Stand}
 use Rattle.orca_course.specs.Courses.{mapped, onward}
-use Rattle.orca_course.specs.Standings.{Standing, notes_of, standing_after, standing_closed}
+use Rattle.orca_course.specs.Standings.{Standing, standing_closed}
 use Rattle.orca_course.proofs.ActLemmas.{commands_in-append}
-use Rattle.orca_edit.specs.Obeying.{obey}
-use Rattle.orca_notes.specs.Sound.{ends}
-use Rattle.orca_term.specs.Viewing.{painting_bytes}
 use Rattle.orca_term.specs.declared.cell.Cell.{Cell}
-use Rattle.orca_live.specs.Performing.{close_course, command_course, finish_course, last_grid_course, last_script_course, painted_course, picture_at, save_course, script_course, view_sends}
+use Rattle.orca_live.specs.Performing.{close_course, command_course, finish_course, last_grid_course, last_script_course, painted_course, save_course, script_course, view_sends}
 use Rattle.orca_live.specs.States.{LiveState}
 
 -- ---- the commands of acts
@@ -22,9 +19,7 @@ use Rattle.orca_live.specs.States.{LiveState}
 -- acts without a command after others
 pub commands_before : (xs ys : List Act) → commands_in ys ≡ []
     → commands_in (xs ++ ys) ≡ commands_in xs
-commands_before xs ys none =
-    commands_in-append xs ys
-    ∙ (ap (λ after. commands_in xs ++ after) none ∙ append-nil (commands_in xs))
+commands_before xs ys none = simp (commands_in-append, none, append-nil)
 
 -- messages that are handed out, and where the run stands then
 handed_commands : (sends : List Sent) (t : Standing)
@@ -36,10 +31,7 @@ handed_commands (sent ∷ sends) t = handed_commands sends t
 pub command_once : (command : Command) (s : LiveState)
     → commands_in (command_course command s).acts ≡ command ∷ []
 unfolding command_course obey_course onward mapped
-command_once command s =
-    let o = obey s.standing.machine command in
-    ap (λ more. command ∷ more)
-    (handed_commands (handed_of true o.messages) (standing_after s.standing o))
+command_once command s = simp handed_commands
 
 views_commands : (bytes : List ℕ) (cells : List Cell)
     → commands_in (view_sends bytes ++ Show cells ∷ []) ≡ []
@@ -49,8 +41,7 @@ views_commands (byte ∷ bytes) cells = refl
 pub paint_commands : (marks : List MarkSet) (s : LiveState)
     → commands_in (painted_course marks s).acts ≡ []
 unfolding painted_course
-paint_commands marks s =
-    let cells = picture_at marks s in views_commands (painting_bytes s.screen s.shown cells) cells
+paint_commands marks s = simp views_commands
 
 -- ---- the end
 
@@ -64,17 +55,13 @@ pub record Closes (s : LiveState) (acts : List Act) (t : LiveState) : Type 0 whe
 closes_with : (s : LiveState) (acts : List Act) → commands_in acts ≡ []
     → Closes s ((close_course s).acts ++ acts) (close_course s).state
 unfolding close_course silence_course onward mapped
-closes_with s acts none =
-    let first = (close_course s).acts in
-    record {
-      commands = λ before.
-          commands_before before (first ++ acts)
-          (commands_before first acts none
-          ∙ handed_commands (handed_of true (ends (notes_of s.standing)))
-          (standing_closed s.standing));
-      given = refl;
-      standing = refl;
-    }
+closes_with s acts none = record {
+  commands = λ before.
+      commands_before before ((close_course s).acts ++ acts)
+      (commands_before (close_course s).acts acts none ∙ simp handed_commands);
+  given = refl;
+  standing = refl;
+}
 
 -- a state with these names
 abbrev naming : LiveState → Option (List ℕ) → Option (List ℕ) → LiveState

@@ -1,7 +1,4 @@
 pub mod DoneLemmas
-pub mod SaveLemmas
-pub mod KeyLemmas
-pub mod PaintLemmas
 pub mod Carried
 pub mod AppendingLaw
 pub mod PaintingLaw

@@ -71,15 +71,10 @@ keeps_none s = ap (λ given. (given, s.standing.machine)) (kept_none s.given)
 keeps_twice : (r s t : LiveState) (xs ys : List Act) → Keeps r xs s → Keeps s ys t
     → Keeps r (xs ++ ys) t
 keeps_twice r s t xs ys first second =
-    let more = commands_in ys in
     second
     ∙ (ap (λ (x : Option (List Command) × MachineState).
-    (kept_with more x.0, machine_after more x.1)) first
-    ∙ (cc (
-      kept_twice r.given (commands_in xs) more,
-      machine_after-append (commands_in xs) more r.standing.machine,
-    )
-    ∙ ap (λ commands. after commands r) (sym (commands_in-append xs ys))))
+    (kept_with (commands_in ys) x.0, machine_after (commands_in ys) x.1)) first
+    ∙ simp (commands_in-append, kept_twice, machine_after-append))
 
 keeps_command : (command : Command) (s : LiveState)
     → Keeps s (command_course command s).acts (command_course command s).state

@@ -104,6 +104,7 @@ pub(crate) fn fit<M: Machine + Drop>(live: &mut Live<'_, M>)
 }
 
 /// Does what a key does, where the editor is fitted to the grid.
+#[tactic(auto, using(crate::proofs::DoneLemmas::struck_did))]
 fn strike<M: Machine + Drop, F: Files + Drop, O: Outs + Drop, I: Inbox + Drop, L: Ledger>(
     live: &mut Live<'_, M>,
     desk: &mut Desk<F, O, I, L>,
@@ -126,7 +127,7 @@ fn strike<M: Machine + Drop, F: Files + Drop, O: Outs + Drop, I: Inbox + Drop, L
 }
 
 /// Does what the key does that was ended, if any was.
-#[tactic(auto, using(orca_course::proofs::DoingLemmas::does_still, crate::proofs::KeyLemmas::press_some), unfolding(crate::specs::Performing::press_course))]
+#[tactic(auto, using(orca_course::proofs::DoingLemmas::does_still, crate::proofs::DoneLemmas::press_some), unfolding(crate::specs::Performing::press_course))]
 pub(crate) fn press<M: Machine + Drop, F: Files + Drop, O: Outs + Drop, I: Inbox + Drop, L: Ledger>(
     live: &mut Live<'_, M>,
     desk: &mut Desk<F, O, I, L>,
@@ -149,7 +150,7 @@ pub(crate) fn press<M: Machine + Drop, F: Files + Drop, O: Outs + Drop, I: Inbox
 }
 
 /// Reads a byte.
-#[tactic(auto, using(crate::proofs::KeyLemmas::item_did), unfolding(crate::specs::Performing::byte_course))]
+#[tactic(auto, using(crate::proofs::DoneLemmas::item_did), unfolding(crate::specs::Performing::byte_course))]
 fn do_byte<M: Machine + Drop, F: Files + Drop, O: Outs + Drop, I: Inbox + Drop, L: Ledger>(
     live: &mut Live<'_, M>,
     desk: &mut Desk<F, O, I, L>,
@@ -167,6 +168,7 @@ fn do_byte<M: Machine + Drop, F: Files + Drop, O: Outs + Drop, I: Inbox + Drop, 
 }
 
 /// Reads bytes, one by one. Those after the end of the performance are dropped.
+#[tactic(auto, using(orca_course::proofs::DoingLemmas::far_more, orca_course::proofs::DoingLemmas::far_none, orca_course::proofs::DoingLemmas::far_over, std::proofs::lemmas::List::drop_all, std::proofs::lemmas::List::drop_more))]
 pub(crate) fn do_bytes<
     M: Machine + Drop,
     F: Files + Drop,

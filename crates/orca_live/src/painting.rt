@@ -16,7 +16,7 @@ use orca_rig::{Files, Inbox, Outs};
 use std::sync::ledger::Ledger;
 
 /// Sends a painting, unless it is empty.
-#[tactic(auto, using(crate::proofs::PaintLemmas::sent_none, crate::proofs::PaintLemmas::sent_some))]
+#[tactic(auto, using(crate::proofs::DoneLemmas::sent_none, crate::proofs::DoneLemmas::sent_some))]
 fn send_view<F: Files + Drop, O: Outs + Drop, I: Inbox + Drop, L: Ledger>(
     desk: &mut Desk<F, O, I, L>,
     bytes: &[u8],
@@ -86,6 +86,7 @@ fn paint<M: Machine + Drop, F: Files + Drop, O: Outs + Drop, I: Inbox + Drop, L:
 }
 
 /// Paints the picture, with the marks of a scan of the piece as it stands.
+#[tactic(auto, using(crate::proofs::DoneLemmas::show_did))]
 pub(crate) fn show<M: Machine + Drop, F: Files + Drop, O: Outs + Drop, I: Inbox + Drop, L: Ledger>(
     live: &mut Live<'_, M>,
     desk: &mut Desk<F, O, I, L>,

@@ -97,6 +97,7 @@ fn do_answer<M: Machine + Drop, F: Files + Drop, O: Outs + Drop, I: Inbox + Drop
 }
 
 /// Does what an answer brings, and paints the picture, unless the performance ended.
+#[tactic(auto, using(orca_course::proofs::DoingLemmas::does_cut, orca_course::proofs::DoingLemmas::does_err), unfolding(crate::specs::Performing::heard_course))]
 fn hear<M: Machine + Drop, F: Files + Drop, O: Outs + Drop, I: Inbox + Drop, L: Ledger>(
     live: &mut Live<'_, M>,
     desk: &mut Desk<F, O, I, L>,
@@ -134,6 +135,7 @@ fn do_close<M: Machine + Drop, F: Files + Drop, O: Outs + Drop, I: Inbox + Drop,
 }
 
 /// Ends every note, and then saves the grid and the script.
+#[tactic(auto, using(orca_course::proofs::DoingLemmas::does_cut, orca_course::proofs::DoingLemmas::goes_err), unfolding(crate::specs::Performing::finish_course))]
 fn finish<M: Machine + Drop, F: Files + Drop, O: Outs + Drop, I: Inbox + Drop, L: Ledger>(
     live: &mut Live<'_, M>,
     desk: &mut Desk<F, O, I, L>,

@@ -17,6 +17,7 @@ use orca_script::print2;
 use std::sync::ledger::Ledger;
 
 /// Saves the grid under a name. A save that fails is recorded, and the performance goes on.
+#[tactic(auto, using(orca_course::proofs::DoingLemmas::does_nothing, orca_course::proofs::DoingLemmas::goes_err, crate::proofs::DoneLemmas::save_did), unfolding(crate::specs::Performing::save_course))]
 pub(crate) fn save_grid<
     M: Machine + Drop,
     F: Files + Drop,
@@ -60,7 +61,7 @@ pub(crate) fn save_last_grid<
 }
 
 /// Saves the script of the commands under a name. A save that fails is recorded.
-#[tactic(auto, using(orca_course::proofs::DoingLemmas::does_nothing, orca_course::proofs::DoingLemmas::goes_err, crate::proofs::SaveLemmas::save_did), unfolding(crate::specs::Performing::script_course))]
+#[tactic(auto, using(orca_course::proofs::DoingLemmas::does_nothing, orca_course::proofs::DoingLemmas::goes_err, crate::proofs::DoneLemmas::save_did), unfolding(crate::specs::Performing::script_course))]
 fn save_script<M: Machine + Drop, F: Files + Drop, O: Outs + Drop, I: Inbox + Drop, L: Ledger>(
     live: &mut Live<'_, M>,
     desk: &mut Desk<F, O, I, L>,

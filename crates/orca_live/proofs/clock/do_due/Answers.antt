@@ -1,6 +1,6 @@
 use Rattle.orca_course.proofs.DoingLemmas.{does_cut, does_err, does_stop, does_then}
 use Rattle.orca_live.specs.Performing.{due_course}
-use Rattle.orca_live.proofs.KeyLemmas.{item_did}
+use Rattle.orca_live.proofs.DoneLemmas.{item_did}
 use Rattle.orca_live.proofs.clock.do_due.Goals as goal
 
 pub returns-in_err-stop : goal.returns-in_err-stop

@@ -1,15 +1,6 @@
-use Rattle.std.proofs.Common.{refl}
-use Rattle.std.proofs.lemmas.List.{drop_all, drop_more}
-use Rattle.orca_course.proofs.DoingLemmas.{does_err, far_cut, far_more, far_none, far_over, far_stop}
+use Rattle.std.proofs.lemmas.List.{drop_more}
+use Rattle.orca_course.proofs.DoingLemmas.{does_err, far_cut, far_stop}
 use Rattle.orca_live.proofs.keyboard.do_bytes.Goals as goal
-
-pub loop-byte-init : goal.loop-byte-init
-loop-byte-init g c = far_none refl
-
-pub loop-byte-preserved : goal.loop-byte-preserved
-loop-byte-preserved g c =
-    far_more _ _ (drop_more _ _ 0 c.loop-byte-test.true) c.loop-byte.invariant
-    (rw c.in_default.is at c.in_ok-stop.ensures)
 
 pub returns-in_err-stop : goal.returns-in_err-stop
 returns-in_err-stop g c =
@@ -21,6 +12,3 @@ pub returns-in-Some : goal.returns-in-Some
 returns-in-Some g c =
     far_stop _ _ (drop_more _ _ 0 c.loop-byte-test.true) c.loop-byte.invariant
     (rw c.in-Some.is at c.in_ok-stop.ensures)
-
-pub returns : goal.returns
-returns g c = far_over (drop_all _ _ c.loop-byte-test.false) c.loop-byte.invariant

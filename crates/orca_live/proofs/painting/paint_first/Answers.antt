@@ -1,17 +1,15 @@
 use Rattle.std.proofs.Common.{ap, refl}
 use Rattle.orca_live.specs.Performing.{open_course}
-use Rattle.orca_live.specs.States.{state_of}
-use Rattle.orca_live.proofs.PaintLemmas.{paint_did, painted_did}
+use Rattle.orca_live.proofs.DoneLemmas.{paint_did, painted_did}
 use Rattle.orca_live.proofs.painting.paint_first.Goals as goal
 
 pub returns : goal.returns
 unfolding open_course
 returns g c =
-    let live = c.fit.new.live in
-    let s = state_of (g.M.Machine.machine live.stage.machine)
-    (g.M.Machine.kept live.stage.machine) live in
-    paint_did _ _ _ s _ _ _ refl (ap g.M.Machine.residue c.fit.ensures.machine)
+    paint_did _ _ _ _ _ _ _ refl (ap g.M.Machine.residue c.fit.ensures.machine)
     c.fit.ensures.fitted
-    (painted_did _ s _ _ _ _ _ _ c.is_shown.ensures c.line-line.ensures
-    c.paint-bytes.ensures.painting c.paint-bytes.follows.holds-at-none
-    c.paint-bytes.ensures.printable c.send_view.ensures)
+    (painted_did _ _ _ _ _ _
+    (rw (c.is_shown.ensures, c.line-line.ensures) at c.paint-bytes.ensures.painting)
+    (rw (c.is_shown.ensures, c.line-line.ensures) at c.paint-bytes.follows.holds-at-none)
+    (rw (c.is_shown.ensures, c.line-line.ensures) at c.paint-bytes.ensures.printable)
+    c.send_view.ensures)

@@ -2,11 +2,6 @@ use Rattle.orca_course.proofs.DoingLemmas.{does_cut, does_then, goes_err}
 use Rattle.orca_live.specs.Performing.{finish_course}
 use Rattle.orca_live.proofs.performance.finish.Goals as goal
 
-pub returns-in_err-do_close : goal.returns-in_err-do_close
-unfolding finish_course
-returns-in_err-do_close g c =
-    goes_err _ _ c.from_residual.ensures.1 (does_cut _ c.in_err-do_close.ensures)
-
 pub returns-in_err-save_last_grid : goal.returns-in_err-save_last_grid
 unfolding finish_course
 returns-in_err-save_last_grid g c =

@@ -1,11 +1,6 @@
-use Rattle.orca_course.proofs.DoingLemmas.{does_cut, does_err, does_stop, does_then}
+use Rattle.orca_course.proofs.DoingLemmas.{does_err, does_stop, does_then}
 use Rattle.orca_live.specs.Performing.{heard_course}
 use Rattle.orca_live.proofs.performance.hear.Goals as goal
-
-pub returns-in_err-stop : goal.returns-in_err-stop
-unfolding heard_course
-returns-in_err-stop g c =
-    does_err _ _ c.from_residual.ensures.1 (does_cut _ c.in_err-stop.ensures)
 
 pub returns-in-Some : goal.returns-in-Some
 unfolding heard_course
