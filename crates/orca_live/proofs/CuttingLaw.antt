@@ -32,7 +32,7 @@ use Rattle.orca_term.specs.declared.editor.Wish.{Wish}
 use Rattle.orca_term.specs.declared.editor.Wish.TheVariants as wish
 use Rattle.orca_term.specs.declared.keys.Key.{Key}
 use Rattle.orca_live.specs.Items.{items_by, items_of}
-use Rattle.orca_live.specs.Laws.{AreAlike, ItemsDecide, PlayAlike}
+use Rattle.orca_live.specs.Laws.{ItemsDecide, PlayAlike}
 use Rattle.orca_live.specs.Performing.{answer_course, answered_at, byte_course, command_course, due_course, fired, frame_course, heard_course, item_course, key_course, live_part, open_course, paint_course, painted_course, press_course, preview_course, save_course, show_course, struck_course, wish_course}
 use Rattle.orca_live.specs.States.{LiveState, dims_at, fitted, is_full, moments_at, piece_at}
 use Rattle.orca_live.proofs.Carried.{attended_done}
@@ -82,15 +82,12 @@ next x g = if x.over then record x { over = false } else before x.commands (g x.
 next_nothing : (over : Bool) (x : Told)
     → record x { over = false } ≡ next (record x { over = over }) (quiet false)
 next_nothing true x = refl
-next_nothing false x =
-    ap (λ xs. record x { commands = xs; over = false }) (sym (append-nil x.commands))
+next_nothing false x = simp append-nil
 
 next_before : (over : Bool) (xs : List Command) (x : Told) (g : LiveState → Told)
     → next (before xs (record x { over = over })) g ≡ before xs (next (record x { over = over }) g)
 next_before true xs x g = refl
-next_before false xs x g =
-    ap (λ ys. record (g x.state) { commands = ys })
-    (append_assoc xs x.commands (g x.state).commands)
+next_before false xs x g = simp append_assoc
 
 next_by : {E : Type 0} (end : Option E) (c : Course LiveState E)
     (f : LiveState → Course LiveState E) (g h : LiveState → Told)
@@ -227,12 +224,10 @@ heard_by : (end : Option Stop) (c : Course LiveState Stop) → c.ending ≡ end
     → told (mapped {F = Ending} (λ t. t) (option_map Stopped) (onward_by end c show_course)) ≡ told c
 unfolding mapped show_course preview_course paint_course painted_course
 heard_by None c is =
-    let t = c.state in
-    let d = show_course t in
-    ap (λ u. record (told (joined c d)) { state = u }) (core_fitted t)
-    ∙ (ap (λ xs. record (quiet false (core t)) { commands = xs })
-    (commands_before c.acts d.acts (paint_commands (preview_of (piece_at t)) (fitted t)))
-    ∙ ap (λ (end : Option Stop). record (told c) { over = is_some end }) (sym is))
+    let d = show_course c.state in
+    rw is (ap (λ u. record (told (joined c d)) { state = u }) (core_fitted c.state)
+    ∙ ap (λ xs. record (quiet false (core c.state)) { commands = xs })
+    (commands_before c.acts d.acts (paint_commands (preview_of (piece_at c.state)) (fitted c.state))))
 heard_by (Some stop) c is = rw is refl
 
 mine_items : (mine : Bool) (bytes : List ℕ) (rest : List Item) (s : LiveState)
@@ -307,16 +302,14 @@ last_by (Some a) (Some b) c d same ends others =
           ∙ (ap (λ (x : Told). x.commands) same ∙ sym (second.commands d.acts));
     }
 
-core_alike : (s t : LiveState) → AreAlike s t → core s ≡ core t
-core_alike s t same = cc
-
 pub items_decide : ItemsDecide
 unfolding performance lastly
 items_decide polls others s t few few_others items same ends others_end =
     let c = begun live_part s polls in
     let d = begun live_part t others in
+    let alike : core s ≡ core t = cc in
     last_by c.ending d.ending c d
     (begun_items polls s
-    ∙ (ap (items_told (items_of polls)) (core_alike s t same)
+    ∙ (ap (items_told (items_of polls)) alike
     ∙ (ap (λ list. items_told list (core t)) items ∙ sym (begun_items others t))))
     ends others_end

@@ -48,10 +48,9 @@ pub does_paced : (s : LiveState) (p q : Pace) (x : World) → q.interval ≡ p.i
     → Does {E = Stop} live_stance (still (record s { pace = p })) s x (Ok None)
     (record s { pace = q }) x
 does_paced s p q x steps falls =
-    let paced : ℕ → ℕ → LiveState =
-    λ (n : ℕ) (due : ℕ). record s { pace = record { interval = n; due = due } } in
-    subst (λ t. Does {E = Stop} live_stance (still (record s { pace = p })) s x (Ok None) t x)
-    (ap (λ n. paced n p.due) (sym steps) ∙ ap (paced q.interval) (sym falls)) (does_still x refl)
+    let same : q ≡ p =
+    ap (λ n. record q { interval = n }) steps ∙ ap (λ due. record p { due = due }) falls in
+    rw same (does_still x refl)
 
 -- ---- the session alone
 
@@ -61,9 +60,8 @@ session_did : (c : Concert (Unit {0}) → Course (Concert (Unit {0})) Stop) (s :
     → (c (concert s.standing tt)).ending ≡ None
     → Does (stance_of silent_manner) (c (concert s.standing tt)) (concert s.standing tt) x result t y
     → Does live_stance (of_session c s) s x (goes_of result) (record s { standing = t.standing }) y
-session_did c s t {x = x} {y = y} (Ok end) goes did =
-    subst (λ end. Does live_stance (of_session c s) s x (Ok end)
-    (record s { standing = t.standing }) y) (sym did.did.ending ∙ goes)
+session_did c s t (Ok end) goes did =
+    rw (sym (sym did.did.ending ∙ goes))
     (does_mapped (λ (u : Concert (Unit {0})). record s { standing = u.standing }) (λ end. end)
     (Ok end) refl (λ u. refl) did)
 session_did c s t (Err e) goes did =

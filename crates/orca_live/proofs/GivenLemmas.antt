@@ -71,11 +71,10 @@ named_closes : (save script : Option (List ℕ)) (s : LiveState)
     → Closes (naming s save script) (finish_course (naming s save script)).acts
     (finish_course (naming s save script)).state
 unfolding finish_course close_course silence_course last_grid_course last_script_course save_course script_course onward mapped
-named_closes None None s = closes_with (naming s None None) [] refl
-named_closes (Some name) None s = closes_with (naming s (Some name) None) (Save name _ ∷ []) refl
-named_closes None (Some name) s = closes_with (naming s None (Some name)) (Save name _ ∷ []) refl
-named_closes (Some save) (Some script) s =
-    closes_with (naming s (Some save) (Some script)) (Save save _ ∷ Save script _ ∷ []) refl
+named_closes None None s = closes_with _ [] refl
+named_closes (Some name) None s = closes_with _ (Save name _ ∷ []) refl
+named_closes None (Some name) s = closes_with _ (Save name _ ∷ []) refl
+named_closes (Some save) (Some script) s = closes_with _ (Save save _ ∷ Save script _ ∷ []) refl
 
 pub finish_closes : (s : LiveState) → Closes s (finish_course s).acts (finish_course s).state
 finish_closes s = named_closes s.setting.save s.setting.script s

@@ -137,18 +137,6 @@ frames_stay (suc n) m same =
     ap (machine_after (replicate n command.Frame)) same ∙ frames_stay n m same
 
 module _ (m : Manner (Unit {0})) (goes : GoesOn m) where
-  order_replays : (line : ℕ) (command : Command) (s : Concert (Unit {0})) (more : MachineState)
-      (next : Concert (Unit {0}) → Course (Concert (Unit {0})) _)
-      → ran after_cue (next (order_course m line (Once command) s).state) ≡ (more, None)
-      → ((rule : Rule) → (obey s.standing.machine command).answer ≡ Err rule
-      → more ≡ (obey s.standing.machine command).machine)
-      → ran after_cue (onward (order_course m line (Once command) s) next) ≡ (more, None)
-  unfolding order_course obey_course onward mapped
-  order_replays line command s more next run stays =
-      let o = obey s.standing.machine command in
-      order_by o.answer _ (order_course m line (Once command) s) next more
-      (goes line o.answer o.messages s.kept) refl run stays
-
   frames_replay : (line n : ℕ) (s : Concert (Unit {0}))
       → ran after_cue (each (order_course m line) (replicate n (Once command.Frame)) s)
       ≡ (machine_after (replicate n command.Frame) s.standing.machine, None)
@@ -156,21 +144,22 @@ module _ (m : Manner (Unit {0})) (goes : GoesOn m) where
   frames_replay line zero s = refl
   frames_replay line (suc n) s =
       let old = s.standing.machine in
+      let o = obey old command.Frame in
       let more = machine_after (replicate n command.Frame) in
-      order_replays line command.Frame s (more (obey old command.Frame).machine)
-      (each (order_course m line) (replicate n (Once command.Frame)))
-      (frames_replay line n (order_course m line (Once command.Frame) s).state)
+      let c = order_course m line (Once command.Frame) s in
+      order_by o.answer _ c (each (order_course m line) (replicate n (Once command.Frame)))
+      (more o.machine) (goes line o.answer o.messages s.kept) refl (frames_replay line n c.state)
       (λ rule is.
-      let same = frame_stays old rule is in
-      ap more same ∙ (frames_stay n old same ∙ sym same))
+      let same = frame_stays old rule is in ap more same ∙ (frames_stay n old same ∙ sym same))
 
   cue_replays : (line : ℕ) (asked : Line) (s : Concert (Unit {0}))
       → ran (λ end. end) (cue_course m (cue_asking line asked) s)
       ≡ (machine_after (commands_of asked) s.standing.machine, None)
   unfolding cue_course each order_course obey_course onward mapped
   cue_replays line (asks.Do command) s =
-      order_replays line command s (obey s.standing.machine command).machine
-      (each (order_course m line) []) refl (λ rule is. refl)
+      let o = obey s.standing.machine command in
+      order_by o.answer _ (order_course m line (Once command) s) (each (order_course m line) [])
+      o.machine (goes line o.answer o.messages s.kept) refl refl (λ rule is. refl)
   cue_replays line (asks.Frames times) s = frames_replay line times s
 
   cues_replay : (lines : List Line) (line : ℕ) (s : Concert (Unit {0}))
