@@ -2,14 +2,7 @@ pub mod SaidLemmas
 pub mod SongLemmas
 pub mod RecordingLemmas
 pub mod WaveLemmas
-pub mod SoundingLemmas
-pub mod TickLemmas
-pub mod CallLemmas
 pub mod FrameLemmas
 pub mod RunLemmas
-pub mod SavedSongLemmas
-pub mod PlayedLemmas
-pub mod TuneLemmas
 pub mod SongLaw
-pub mod FairLemmas
 pub mod WaveLaw
