@@ -1,7 +1,5 @@
-pub mod SaidLemmas
+pub mod DoneLemmas
 pub mod SongLemmas
-pub mod RecordingLemmas
-pub mod WaveLemmas
 pub mod FrameLemmas
 pub mod RunLemmas
 pub mod SongLaw

@@ -1,7 +1,7 @@
 use Rattle.std.proofs.Common.{◌≡◌, ℕ, ◌*◌, List, ◌++◌, length, drop, ◌∙◌, ap, arith}
 use Rattle.orca_wav.specs.declared.limits.TheConstants.{SAMPLE_BYTES}
 use Rattle.orca_wav.specs.Header.{header_bytes}
-use Rattle.orca_reports.proofs.WaveLemmas.{written}
+use Rattle.orca_reports.proofs.DoneLemmas.{written}
 use Rattle.orca_reports.proofs.wav.put_header.Goals as goal
 
 pub returns : goal.returns

@@ -1,6 +1,6 @@
 use Rattle.std.specs.Prelude.{Ok, Err}
 use Rattle.orca_course.proofs.DoingLemmas.{does_err}
-use Rattle.orca_reports.proofs.SaidLemmas.{printed}
+use Rattle.orca_reports.proofs.DoneLemmas.{printed}
 use Rattle.orca_reports.proofs.events.EventsReportReport.close.Goals as goal
 
 pub returns-in_err-print_messages : goal.returns-in_err-print_messages

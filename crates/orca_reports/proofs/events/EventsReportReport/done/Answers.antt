@@ -2,7 +2,7 @@ use Rattle.std.proofs.Common.{◌≡◌}
 use Rattle.std.specs.Prelude.{Ok, Err}
 use Rattle.orca_base.specs.declared.command.Reply.TheVariants.{Framed}
 use Rattle.orca_course.proofs.DoingLemmas.{does_err}
-use Rattle.orca_reports.proofs.SaidLemmas.{printed}
+use Rattle.orca_reports.proofs.DoneLemmas.{printed}
 use Rattle.orca_reports.proofs.events.EventsReportReport.done.Goals as goal
 
 pub returns-in_err-print_messages-in-Ok-Framed : goal.returns-in_err-print_messages-in-Ok-Framed

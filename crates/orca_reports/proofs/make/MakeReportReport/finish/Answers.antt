@@ -1,7 +1,7 @@
 use Rattle.std.proofs.Common.{◌∙◌}
 use Rattle.std.specs.Prelude.{Ok, Err}
 use Rattle.orca_course.proofs.DoingLemmas.{does_err}
-use Rattle.orca_reports.proofs.SaidLemmas.{said, unsaid}
+use Rattle.orca_reports.proofs.DoneLemmas.{said, unsaid}
 use Rattle.orca_reports.proofs.make.MakeReportReport.finish.Goals as goal
 
 pub returns-in_err-write_five_lines : goal.returns-in_err-write_five_lines

@@ -2,7 +2,7 @@ use Rattle.std.proofs.Common.{◌∙◌, ap}
 use Rattle.std.specs.Prelude.{Ok, Err}
 use Rattle.orca_course.proofs.DoingLemmas.{does_err}
 use Rattle.orca_grid.specs.GridText.{text_of}
-use Rattle.orca_reports.proofs.SaidLemmas.{said, unsaid}
+use Rattle.orca_reports.proofs.DoneLemmas.{said, unsaid}
 use Rattle.orca_reports.proofs.run.RunReportReport.finish.Goals as goal
 
 pub returns-in_err-write_grid : goal.returns-in_err-write_grid

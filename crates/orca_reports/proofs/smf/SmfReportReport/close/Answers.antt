@@ -1,5 +1,4 @@
-use Rattle.orca_reports.proofs.RecordingLemmas.{recorded_done}
-use Rattle.orca_reports.proofs.SaidLemmas.{unsaid}
+use Rattle.orca_reports.proofs.DoneLemmas.{recorded_done, unsaid}
 use Rattle.orca_reports.proofs.smf.SmfReportReport.close.Goals as goal
 
 pub returns-in_err-record : goal.returns-in_err-record

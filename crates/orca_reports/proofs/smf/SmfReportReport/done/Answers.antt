@@ -3,8 +3,7 @@ use Rattle.orca_base.specs.declared.command.Reply.TheVariants.{Framed}
 use Rattle.orca_base.specs.declared.command.Rule.TheVariants.{HistoryFull}
 use Rattle.orca_course.specs.declared.ending.Stop.TheVariants.{Full}
 use Rattle.orca_course.proofs.DoingLemmas.{does_end}
-use Rattle.orca_reports.proofs.RecordingLemmas.{recorded_done}
-use Rattle.orca_reports.proofs.SaidLemmas.{unsaid}
+use Rattle.orca_reports.proofs.DoneLemmas.{recorded_done, unsaid}
 use Rattle.orca_reports.proofs.smf.SmfReportReport.done.Goals as goal
 
 pub returns-in_err-record-in-Ok-Framed : goal.returns-in_err-record-in-Ok-Framed

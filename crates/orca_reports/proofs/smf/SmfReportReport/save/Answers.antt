@@ -1,7 +1,7 @@
 use Rattle.std.proofs.Common.{◌≡◌, refl, sym, ◌∙◌, ap}
 use Rattle.std.specs.Prelude.{Some, Err}
 use Rattle.orca_course.proofs.DoingLemmas.{does_nothing}
-use Rattle.orca_reports.proofs.RecordingLemmas.{finished_done, finished_long, short_of}
+use Rattle.orca_reports.proofs.DoneLemmas.{finished_done, finished_long, short_of}
 use Rattle.orca_reports.proofs.smf.SmfReportReport.save.Goals as goal
 use Rattle.orca_reports.proofs.smf.SmfReportReport.save.Goals.{in-Ok+in_ok-save-in-Ok, in-Err-TooLong, in-Err-Memory}
 
@@ -12,8 +12,8 @@ returns g c = λ at hands.
     elim c.match-finish.branch [
       | in-Ok+in_ok-save-in-Ok w ↦
           rw (w.result-is, w.desk-is, c.take.ensures.after, ← c.self.view_is, song)
-          (finished_done c.in-Some.song _ _ _ (short_of w.in-Ok.ensures.too_long.1)
-          w.as_slice.ensures.value w.in-Ok.ensures.file w.in_ok-save-in-Ok.ensures)
+          (finished_done c.in-Some.song _ _ (short_of w.in-Ok.ensures.too_long.1)
+          (w.as_slice.ensures.value ∙ w.in-Ok.ensures.file) w.in_ok-save-in-Ok.ensures)
       | in-Err-TooLong w ↦
           rw (w.result-is, w.desk-is, c.take.ensures.after, ← c.self.view_is, song)
           (finished_long c.in-Some.song _

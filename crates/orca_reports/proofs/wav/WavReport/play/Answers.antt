@@ -1,5 +1,5 @@
 use Rattle.std.proofs.Common.{arith, refl}
-use Rattle.orca_reports.proofs.WaveLemmas.{framed_is}
+use Rattle.orca_reports.proofs.DoneLemmas.{framed_is}
 use Rattle.orca_reports.proofs.wav.WavReport.play.Goals as goal
 
 pub returns-clause-state : goal.returns-clause-state

@@ -1,4 +1,4 @@
-use Rattle.orca_reports.proofs.SaidLemmas.{unsaid}
+use Rattle.orca_reports.proofs.DoneLemmas.{unsaid}
 use Rattle.orca_reports.proofs.wav.WavReportReport.done.Goals as goal
 
 pub returns-in_err-play-in-Ok-Framed : goal.returns-in_err-play-in-Ok-Framed

@@ -1,4 +1,4 @@
-use Rattle.orca_reports.proofs.WaveLemmas.{saved_done}
+use Rattle.orca_reports.proofs.DoneLemmas.{saved_done}
 use Rattle.orca_reports.proofs.wav.WavReportReport.save.Goals as goal
 
 pub returns : goal.returns
