@@ -1,8 +1,8 @@
--- The laws of songs: the song that a run of frames saves is one that can be read.
-use Rattle.std.proofs.Common.{◌≡◌, inl, inr, ℕ, ◌+◌, ◌/◌, ◌≤◌, List, [], ◌∷◌, length, refl, ◌∙◌, ap, subst, arith, append_assoc, append-nil, ◌^◌, ◌++◌}
-use Rattle.std.specs.Prelude.{Option, Some, None, fold, IfSome}
-use Rattle.std.proofs.lemmas.Bool.{cases_lt, le-ltb, lt-ltb}
+-- The laws of songs: what a run of frames records and saves, and that it can be read.
+use Rattle.std.proofs.Common.{◌≡◌, ℕ, ◌+◌, ◌-◌, ◌/◌, ◌^◌, ◌<◌, ◌≤◌, ◌⊎◌, inl, inr, List, [], ◌∷◌, ◌++◌, length, refl, ◌∙◌, ap, arith, append_assoc, append-nil, length-append}
+use Rattle.std.specs.Prelude.{◌↔◌, Option, Some, None, IfSome, fold}
 use Rattle.std.specs.List.{AllByRecursion}
+use Rattle.std.proofs.lemmas.Bool.{cases_lt, le-ltb, lt-ltb}
 use Rattle.std.proofs.lemmas.List.Elements.{recursion_from_All}
 use Rattle.std.proofs.lemmas.Nat.{div_below}
 use Rattle.orca_base.specs.declared.limits.TheConstants.{MAX_HISTORY, MINUTE_MICROSECONDS}
@@ -11,29 +11,96 @@ use Rattle.orca_base.specs.declared.note.Note.{Note}
 use Rattle.orca_base.specs.MidiBytes.{midi_bytes_of}
 use Rattle.orca_base.specs.Ranges.{HasDataInRange, IsSendable}
 use Rattle.orca_base.proofs.RangeFacts.{HasDataInRange-sendable}
-use Rattle.orca_concert.specs.Concerts.{Concert, close_course, concert, final_course, last_course, saved_course}
+use Rattle.orca_concert.specs.Concerts.{Concert, close_course, final_course, last_course, saved_course}
 use Rattle.orca_course.specs.Acts.{Act}
 use Rattle.orca_course.specs.Acts.Act.{Save}
-use Rattle.orca_course.specs.Courses.{Course, afterwards, keeping, mapped, onward}
-use Rattle.orca_course.specs.Standings.{Standing, notes_of, standing, standing_closed}
-use Rattle.orca_course.specs.declared.ending.Stop.{Stop}
+use Rattle.orca_course.specs.Courses.{afterwards, keeping, mapped, onward}
+use Rattle.orca_course.specs.Standings.{notes_of}
 use Rattle.orca_course.specs.declared.tally.Tally.{Tally}
 use Rattle.orca_edit.specs.Obeying.{MachineState, piece_of}
 use Rattle.orca_edit.specs.Prices.{Kept}
 use Rattle.orca_notes.specs.Sound.{ends}
-use Rattle.orca_notes.specs.Device.{Plays}
-use Rattle.orca_notes.proofs.PlayFacts.{Plays-ends}
 use Rattle.orca_smf.specs.declared.limits.TheConstants.{MAX_DELTA, MAX_TRACK_BYTES}
-use Rattle.orca_smf.specs.Recording.{Recorded}
-use Rattle.orca_smf.specs.Songs.{file_of, last_tick, smf, track, AreMessages, IsVoice}
 use Rattle.orca_smf.specs.declared.timed.Timed.{Timed}
-use Rattle.orca_reports.specs.Runs.{Opened, calls_in, close_of, frames_of, session_of, machine_after}
-use Rattle.orca_reports.specs.SavedSongs.{SongIsSaved, song_of, song_run, timed_frames, SongIsTune}
-use Rattle.orca_reports.specs.Songs.{Recording, added, loss, reached_in, recorded, recording_at_start, smf_manner, whole_size}
-use Rattle.orca_reports.specs.Ticks.{timed_of, with_messages, timed_by}
-use Rattle.orca_reports.proofs.FrameLemmas.{opened_at, ArePlayed, frames_play, opened_plays}
-use Rattle.orca_reports.proofs.RunLemmas.{Goes, Records, frames_count, frames_ran}
-use Rattle.orca_reports.proofs.SongLemmas.{last-append, last_same, last_one, IsOr, adds}
+use Rattle.orca_smf.specs.Recording.{Recorded}
+use Rattle.orca_smf.specs.Songs.{AreMessages, IsVoice, Tune, delta, end_event, file_of, last_tick, opening, track}
+use Rattle.orca_reports.specs.Runs.{Opened, calls_in, close_of, frames_of, session_of}
+use Rattle.orca_reports.specs.SavedSongs.{SongIsSaved, SongIsTune, song_of, song_run, timed_frames}
+use Rattle.orca_reports.specs.Songs.{Recording, added, added_by, if_short, least_size, reached, reached_in, recorded, recording_at_start, smf_manner, whole_size, with_message}
+use Rattle.orca_reports.specs.Ticks.{TicksAreKept, timed_by, timed_of, with_messages}
+use Rattle.orca_reports.proofs.FrameLemmas.{ArePlayed, Goes, Records, frames_count, frames_ran, run_plays}
+
+-- ---- the messages of a tick
+
+-- the last tick of messages, and of others after them
+pub last-append : (before : ℕ) (list more : List Timed)
+    → last_tick before (list ++ more) ≡ last_tick (last_tick before list) more
+last-append before [] more = refl
+last-append before (m ∷ list) more = last-append m.tick list more
+
+last_one : (tick : ℕ) (bytes : Option (List ℕ)) (list : List Timed) → last_tick 0 list ≤ tick
+    → let last = last_tick 0 (list ++ timed_by tick bytes) in
+    (last_tick 0 list ≤ last) × (last ≤ tick)
+last_one tick bytes list low = grind (arith, last-append)
+
+-- a song was given up, or is this one
+abbrev IsOr : Option Recorded → Recorded → Type 0
+IsOr song s = (song ≡ None) ⊎ (song ≡ Some s)
+
+short_or : (s : Recorded) → IsOr (if_short s) s
+short_or s = grind arith
+
+adds_one : (tick : ℕ) (bytes : Option (List ℕ)) (song : Option Recorded) (s : Recorded)
+    → last_tick 0 s.list ≤ tick → tick ≤ last_tick 0 s.list + MAX_DELTA → IsOr song s
+    → IsOr (added_by tick bytes song) (with_messages s (timed_by tick bytes))
+adds_one tick None song s low high is = rw append-nil is
+adds_one tick (Some bytes) song s low high (inl none) = inl (rw none)
+adds_one tick (Some bytes) song s low high (inr some) =
+    let same : reached_in s tick ≡ tick = omega arith in
+    rw (some, same) (short_or (with_messages s (timed_by tick (Some bytes))))
+
+adds : (tick : ℕ) (messages : List Message) (song : Option Recorded) (s : Recorded)
+    → last_tick 0 s.list ≤ tick → tick ≤ last_tick 0 s.list + MAX_DELTA → IsOr song s
+    → let t = with_messages s (timed_of tick messages) in
+    IsOr (fold (added tick) song messages) t × (last_tick 0 t.list ≤ tick)
+unfolding added
+adds tick [] song s low high is = rw append-nil (is, low)
+adds tick (m ∷ messages) song s low high is =
+    let bytes = midi_bytes_of m in
+    let last = last_one tick bytes s.list low in
+    rw (← append_assoc s.list (timed_by tick bytes) (timed_of tick messages))
+    (adds tick messages (added_by tick bytes song) (with_messages s (timed_by tick bytes)) last.1
+    (omega (arith, high, last.0)) (adds_one tick bytes song s low high is))
+
+pub ticks_are_kept : TicksAreKept
+ticks_are_kept = λ tick messages s t low high is.
+    elim (adds tick messages (Some s) s low high (inr refl)).0 [ inl none ↦ cc | inr some ↦ cc ]
+
+-- ---- the size of a song
+
+-- the shortest end has four bytes
+end_size : (tick : ℕ) → length (end_event tick tick) ≡ 4
+unfolding delta
+end_size tick = let none : tick - tick ≡ 0 = omega arith in rw none
+
+least_is : (s : Recorded) → least_size s ≡ length (opening s.tempo s.list) + 4
+least_is s =
+    let tick = last_tick 0 s.list in
+    length-append (opening s.tempo s.list) (end_event tick tick)
+    ∙ ap (λ n. length (opening s.tempo s.list) + n) (end_size tick)
+
+-- a song with the message at the tick that is reached
+abbrev pushed : Recorded → ℕ → List ℕ → Recorded
+pushed s tick bytes = with_messages s (timed_by tick (Some bytes))
+
+pub too_long : {P : Type 0} (s : Recorded) (last tick now : ℕ) (bytes : List ℕ)
+    → now ≡ reached last tick → last ≡ last_tick 0 s.list
+    → (P ↔ (MAX_TRACK_BYTES < length (opening s.tempo (pushed s now bytes).list) + 4))
+    → P ↔ (MAX_TRACK_BYTES < least_size (with_message s tick bytes))
+too_long s last tick now bytes is same iff =
+    rw (is, same) at (rw (← least_is (pushed s now bytes)) at iff)
+
+-- ---- a run
 
 smf_records : Records smf_manner
 unfolding recorded
@@ -43,193 +110,140 @@ smf_records = record {
   full = λ line messages r is. absurd cc;
 }
 
--- ---- frames
+abbrev recording : List ℕ → ℕ → Recorded → Recording
+recording out end s = record { out = out; end = end; song = Some s }
 
--- frames that come in order
-pub last_frames : (tick : ℕ) (frames : List (List Message)) (before : ℕ) → before ≤ tick
-    → last_tick before (timed_frames tick frames) ≤ tick + length frames
-last_frames tick [] before low = omega arith
-last_frames tick (messages ∷ frames) before low =
-    let first = last_same tick messages before low in
-    let more = last_frames (tick + 1) frames (last_tick before (timed_of tick messages))
-    (omega (arith, first)) in
-    rw last-append (omega (arith, more))
-
-abbrev recording : List ℕ → ℕ → Option Recorded → Recording
-recording out end song = record { out = out; end = end; song = song }
-
--- a song that was not given up
-not_lost : (u v : Recorded) (song : Option Recorded) → IsOr song v → loss (Some u) song ≡ None
-    → song ≡ Some v
-not_lost u v song (inl none) goes = let lost = rw none at goes in absurd cc
-not_lost u v song (inr some) goes = some
-
-frames_kept : (out : List ℕ) (end : ℕ) (u : Recorded) (tick : ℕ) (frames : List (List Message))
+frames_kept : (out : List ℕ) (end tick : ℕ) (frames : List (List Message)) (u : Recorded)
     (s : Recording) → last_tick 0 u.list ≤ tick → tick + length frames ≤ MAX_DELTA
-    → Goes smf_manner tick frames (recording out end (Some u)) s
-    → s ≡ recording out end (Some (with_messages u (timed_frames tick frames)))
+    → Goes smf_manner tick frames (recording out end u) s
+    → let v = with_messages u (timed_frames tick frames) in
+    (s ≡ recording out end v) × (last_tick 0 v.list ≤ tick + length frames)
 unfolding recorded
-frames_kept out end u tick [] s low high goes = rw append-nil goes
-frames_kept out end u tick (messages ∷ frames) s low high goes =
-    let one = timed_of tick messages in
-    let v = with_messages u one in
-    let is = not_lost u v (fold (added tick) (Some u) messages)
-    (adds tick messages u low (omega (arith, high))) goes.0 in
-    let first = last_same tick messages (last_tick 0 u.list) low in
-    rw (← append_assoc u.list one (timed_frames (tick + 1) frames))
-    (frames_kept out end v (tick + 1) frames s
-    (rw last-append (omega (arith, first))) (omega (arith, high)) (rw is at goes.1))
-
--- ---- the end
-
--- the song is saved at last
-record Saves (out : List ℕ) (end : ℕ) (v : Recorded) (acts : List Act) : Type 0 where
-  saved : calls_in acts ≡ Save out (smf v.tempo v.list end) ∷ []
-  short : length (track v.tempo v.list end) ≤ MAX_TRACK_BYTES
-
-saves : (out : List ℕ) (end : ℕ) (v : Recorded) (st : Standing) → reached_in v end ≡ end
-    → (let c = saved_course smf_manner None (concert st (recording out end (Some v))) in
-    c.ending ≡ None → Saves out end v c.acts)
-unfolding saved_course mapped
-saves out end v st is goes = elim (cases_lt MAX_TRACK_BYTES (whole_size v end)) [
-  | inl long ↦
-      let ended = rw (lt-ltb MAX_TRACK_BYTES (whole_size v end) long) at goes in absurd cc
-  | inr short ↦
-      rw (le-ltb MAX_TRACK_BYTES (whole_size v end) short)
-      (record { saved = rw is; short = rw is at short })
-]
-
-abbrev last_of : List ℕ → ℕ → Recorded → Standing → Course (Concert Recording) Stop
-last_of out end u st = last_course smf_manner None (concert st (recording out end (Some u)))
-
-song_finishes : (out : List ℕ) (end : ℕ) (u : Recorded) (st : Standing) (messages : List Message)
-    → ends (notes_of st) ≡ messages → last_tick 0 u.list ≤ end → end ≤ MAX_DELTA
-    → (last_of out end u st).ending ≡ None
-    → Saves out end (with_messages u (timed_of end messages)) (last_of out end u st).acts
-unfolding last_course final_course close_course saved_course recorded afterwards keeping onward mapped
-song_finishes out end u st messages is low high goes =
-    let close = timed_of end messages in
-    let v = with_messages u close in
-    let last = last_same end messages (last_tick 0 u.list) low in
-    let whole = last-append 0 u.list close in
-    elim (adds end messages u low (omega (arith, high))) [
-      | inl none ↦ let lost = rw (is, none) at goes in absurd cc
+frames_kept out end tick [] u s low high goes = rw append-nil (goes, omega arith)
+frames_kept out end tick (messages ∷ frames) u s low high goes =
+    let all = adds tick messages (Some u) u low (omega (arith, high)) (inr refl) in
+    elim all.0 [
+      | inl none ↦ let lost = rw none at goes.0 in absurd cc
       | inr some ↦
-          let did = saves out end v (standing_closed st) (omega (arith, last, whole, high))
-          (rw (is, some) at goes) in
-          rw (is, some) (record { saved = did.saved; short = did.short })
+          let more = frames_kept out end (tick + 1) frames
+          (with_messages u (timed_of tick messages)) s (omega (arith, all.1)) (omega (arith, high))
+          (rw some at goes.1) in
+          rw (← append_assoc u.list (timed_of tick messages) (timed_frames (tick + 1) frames))
+          (more.0, omega (arith, more.1))
     ]
 
--- ---- the whole run
+-- the song is saved at last, and is not too long
+record Saves (out : List ℕ) (t : Tune) (calls : List Act) : Type 0 where
+  saved : calls ≡ Save out (file_of t) ∷ []
+  later : last_tick 0 t.list ≤ t.end
+  short : length (track t.tempo t.list t.end) ≤ MAX_TRACK_BYTES
 
--- what a run that was not ended early has recorded and saved
-pub record HasSaved (out : List ℕ) (bpm frames : ℕ) (o : Opened) (acts : List Act) : Type 0 where
-  pub few : frames ≤ o.limit
-  pub saved : calls_in acts ≡ Save out (file_of (song_of bpm frames (session_of o))) ∷ []
-  pub short : let song = song_of bpm frames (session_of o) in
-      length (track song.tempo song.list song.end) ≤ MAX_TRACK_BYTES
+song_finishes : (out : List ℕ) (end : ℕ) (u : Recorded) (s : Concert Recording)
+    (messages : List Message) → ends (notes_of s.standing) ≡ messages
+    → s.kept ≡ recording out end u → last_tick 0 u.list ≤ end → end ≤ MAX_DELTA
+    → (last_course smf_manner None s).ending ≡ None
+    → let list = u.list ++ timed_of end messages in
+    Saves out (record { tempo = u.tempo; list = list; end = end })
+    (calls_in (last_course smf_manner None s).acts)
+unfolding last_course final_course close_course saved_course recorded afterwards keeping onward mapped
+song_finishes out end u s messages close kept low high goes =
+    let v = with_messages u (timed_of end messages) in
+    let all = adds end messages (Some u) u low (omega (arith, high)) (inr refl) in
+    let same : reached_in v end ≡ end = omega (arith, all.1, high) in
+    let size = whole_size v end in
+    elim all.0 [
+      | inl none ↦ let lost = rw (close, kept, none) at goes in absurd cc
+      | inr some ↦
+          elim (cases_lt MAX_TRACK_BYTES size) [
+            | inl long ↦
+                let lost = rw (close, kept, some, lt-ltb MAX_TRACK_BYTES size long) at goes in
+                absurd cc
+            | inr short ↦
+                rw (close, kept, some, le-ltb MAX_TRACK_BYTES size short)
+                (record { saved = rw same; later = all.1; short = rw same at short })
+          ]
+    ]
 
-pub song_is_saved : (out : List ℕ) (bpm frames : ℕ) (o : Opened) (kept : Kept) (tally : Tally)
-    → o.limit ≤ MAX_HISTORY → (song_run out bpm frames o kept tally).ending ≡ None
-    → HasSaved out bpm frames o (song_run out bpm frames o kept tally).acts
+song_is_saved : (out : List ℕ) (bpm frames : ℕ) (o : Opened) (kept : Kept) (tally : Tally)
+    → o.limit ≤ MAX_HISTORY
+    → let c = song_run out bpm frames o kept tally in
+    c.ending ≡ None
+    → (frames ≤ o.limit) × Saves out (song_of bpm frames (session_of o)) (calls_in c.acts)
 song_is_saved out bpm frames o kept tally most goes =
     let m = session_of o in
     let list = frames_of frames m in
     let count = frames_count frames m in
-    let u : Recorded = record { tempo = MINUTE_MICROSECONDS / bpm; list = timed_frames 0 list } in
-    let ran = frames_ran smf_manner smf_records frames
-    (concert (standing m kept tally) (recording_at_start out bpm frames)) (opened_at o) goes in
-    let st = ran.stands.standing in
-    let few : frames ≤ o.limit = omega (arith, ran.played.room) in
-    let is : ran.stands.kept ≡ recording out frames (Some u) =
-    frames_kept out frames (record u { list = [] }) 0 list ran.stands.kept (omega arith)
-    (omega (arith, few, most, count)) ran.played.kept in
-    let did = song_finishes out frames u st (close_of frames m)
-    (ap (λ (m : MachineState). ends (piece_of m).notes) ran.played.machine)
-    (omega (arith, last_frames 0 list 0 (omega arith), count)) (omega (arith, few, most))
-    (subst (λ (r : Recording). (last_course smf_manner None (concert st r)).ending ≡ None) is
-    ran.goes) in
-    record {
-      few = few;
-      saved = ran.calls
-          ∙ (ap (λ (r : Recording). calls_in (last_course smf_manner None (concert st r)).acts) is
-          ∙ did.saved);
-      short = did.short;
-    }
+    let u : Recorded = record { tempo = MINUTE_MICROSECONDS / bpm; list = [] } in
+    let ran = frames_ran smf_manner smf_records (recording_at_start out bpm frames) frames o kept
+    tally goes in
+    let few : frames ≤ o.limit = omega (arith, ran.room) in
+    let is = frames_kept out frames 0 list u ran.stands.kept (omega arith)
+    (omega (arith, few, most, count)) ran.kept in (
+      few,
+      rw ran.calls
+          (song_finishes out frames (with_messages u (timed_frames 0 list)) ran.stands
+          (close_of frames m) (ap (λ (m : MachineState). ends (piece_of m).notes) ran.machine) is.0
+          (omega (arith, is.1, count)) (omega (arith, few, most)) ran.goes),
+    )
 
 pub songs_are_saved : SongIsSaved
 songs_are_saved = λ out bpm frames o kept tally most goes.
-    (song_is_saved out bpm frames o kept tally most goes).saved
+    (song_is_saved out bpm frames o kept tally most goes).1.saved
+
+-- ---- what can be read
 
 -- the bytes of a message in range
 is_voice : (m : Message) → HasDataInRange m → IfSome (midi_bytes_of m) IsVoice
 is_voice m range = grind arith
 
--- messages after a tick, and then others
-follow : (before : ℕ) (list more : List Timed) → AreMessages before list
-    → AreMessages (last_tick before list) more → AreMessages before (list ++ more)
-follow before [] more first second = second
-follow before (m ∷ list) more first second =
-    (first.0, first.1, follow m.tick list more first.2 second)
+-- messages at a tick, and then others
+follow : (tick : ℕ) (messages : List Message) (more : List Timed) (before : ℕ) → before ≤ tick
+    → tick ≤ MAX_DELTA → AllByRecursion IsSendable messages
+    → ((last : ℕ) → last ≤ tick → AreMessages last more)
+    → AreMessages before (timed_of tick messages ++ more)
+follow tick [] more before low few all rest = rest before low
+follow tick (m ∷ messages) more before low few all rest =
+    elim (midi_bytes_of m) as
+    (λ bytes. IfSome bytes IsVoice
+    → AreMessages before ((timed_by tick bytes ++ timed_of tick messages) ++ more)) [
+      | None ↦ λ _. follow tick messages more before low few all.1 rest
+      | Some bytes ↦ λ voice. (
+        record { later = low; near = omega (arith, few); fits = omega (arith, few) },
+        voice,
+        follow tick messages more tick (omega arith) few all.1 rest,
+      )
+    ] (is_voice m (HasDataInRange-sendable m all.0))
 
-one_follows : (before tick : ℕ) (bytes : Option (List ℕ)) → before ≤ tick → tick ≤ MAX_DELTA
-    → IfSome bytes IsVoice → AreMessages before (timed_by tick bytes)
-one_follows before tick None low few voice = tt
-one_follows before tick (Some bytes) low few voice =
-    (record { later = low; near = omega (arith, few); fits = omega (arith, few) }, voice, tt)
-
-same_follow : (before tick : ℕ) (messages : List Message) → before ≤ tick → tick ≤ MAX_DELTA
-    → AllByRecursion IsSendable messages → AreMessages before (timed_of tick messages)
-same_follow before tick [] low few all = tt
-same_follow before tick (m ∷ messages) low few all =
-    let bytes = midi_bytes_of m in
-    follow before (timed_by tick bytes) (timed_of tick messages)
-    (one_follows before tick bytes low few (is_voice m (HasDataInRange-sendable m all.0)))
-    (same_follow (last_tick before (timed_by tick bytes)) tick messages
-    (last_one tick bytes before low).1 few all.1)
-
--- the messages of a frame or of the close
-played_follow : (before tick : ℕ) {from to : List Note} (messages : List Message)
-    → before ≤ tick → tick ≤ MAX_DELTA → Plays from messages to
-    → AreMessages before (timed_of tick messages)
-played_follow before tick messages low few plays =
-    same_follow before tick messages low few (recursion_from_All IsSendable messages plays.sendable)
-
-frames_follow : (before tick : ℕ) (frames : List (List Message)) (notes : List Note)
-    → before ≤ tick → tick + length frames ≤ MAX_DELTA → ArePlayed notes frames
-    → AreMessages before (timed_frames tick frames)
-frames_follow before tick [] notes low few all = tt
-frames_follow before tick (messages ∷ frames) notes low few all =
-    let first = last_same tick messages before low in
-    follow before (timed_of tick messages) (timed_frames (tick + 1) frames)
-    (played_follow before tick messages low (omega (arith, few)) all.1.0)
-    (frames_follow (last_tick before (timed_of tick messages)) (tick + 1) frames all.0 (omega (arith, first)) (omega (arith, few)) all.1.1)
+-- the messages of frames, and of the close
+all_follow : (tick end : ℕ) (frames : List (List Message)) (close : List Message)
+    (notes : List Note) (before : ℕ) → tick + length frames ≡ end → end ≤ MAX_DELTA
+    → ArePlayed notes (frames ++ close ∷ []) → before ≤ tick
+    → AreMessages before (timed_frames tick frames ++ timed_of end close)
+all_follow tick end [] close notes before count few all low =
+    rw append-nil at (follow end close [] before (omega (arith, count)) few
+    (recursion_from_All IsSendable close all.1.0.sendable) (λ last under. tt))
+all_follow tick end (messages ∷ frames) close notes before count few all low =
+    rw append_assoc
+    (follow tick messages (timed_frames (tick + 1) frames ++ timed_of end close) before low
+    (omega (arith, count, few)) (recursion_from_All IsSendable messages all.1.0.sendable)
+    (λ last under. all_follow (tick + 1) end frames close all.0 last (omega (arith, count)) few
+    all.1.1 (omega (arith, under))))
 
 pub songs_are_tunes : SongIsTune
 songs_are_tunes = λ lawful out bpm frames o kept tally sheet slow most goes.
     let m = session_of o in
     let saved = song_is_saved out bpm frames o kept tally most goes in
-    let have = frames_play lawful frames 0 m (opened_at o) (omega (arith, saved.few))
-    (opened_plays o sheet) in
-    let few : frames ≤ MAX_DELTA = omega (arith, saved.few, most) in
-    let list = timed_frames 0 (frames_of frames m) in
-    let close = close_of frames m in
-    let low : last_tick 0 list ≤ frames =
-    omega (arith, last_frames 0 (frames_of frames m) 0 (omega arith), frames_count frames m) in
-    let last = last_same frames close (last_tick 0 list) low in
-    let whole = last-append 0 list (timed_of frames close) in
+    let few : frames ≤ MAX_DELTA = omega (arith, saved.0, most) in
     record {
       tempo = div_below MINUTE_MICROSECONDS bpm (2 ^ 24) (omega (arith, slow))
           (omega (arith, slow));
-      messages = follow 0 list (timed_of frames close)
-          (frames_follow 0 0 (frames_of frames m) (piece_of m).notes (omega arith)
-          (omega (arith, few, frames_count frames m)) have.frames)
-          (played_follow (last_tick 0 list) frames close low few
-          (Plays-ends (piece_of (machine_after frames m)).notes have.next.chord));
+      messages = all_follow 0 frames (frames_of frames m) (close_of frames m) [] 0
+          (omega (arith, frames_count frames m)) few (run_plays lawful frames o sheet saved.0)
+          (omega arith);
       end = record {
-        later = omega (arith, last, whole);
+        later = saved.1.later;
         near = omega (arith, few);
         fits = omega (arith, few);
       };
-      short = omega (arith, saved.short);
+      short = omega (arith, saved.1.short);
     }

@@ -1,38 +1,32 @@
--- The law of waves: the frames of a run are rendered with their messages, which are fair.
-use Rattle.std.proofs.Common.{◌≡◌, ℕ, ◌+◌, ◌*◌, List, [], ◌∷◌, ◌++◌, length, refl, sym, ◌∙◌, ap, append_assoc, append-nil, arith, ◌<◌, ◌≤◌, Bool, true, cond, not, map, subst}
-use Rattle.std.specs.Prelude.{fold, false, if◌then◌else◌, nat_lt, None}
+-- The laws of waves: the frames of a run are rendered with their messages, which are fair.
+use Rattle.std.proofs.Common.{◌≡◌, ℕ, ◌+◌, ◌*◌, true, not, cond, map, List, [], ◌∷◌, ◌++◌, length, refl, ◌∙◌, ap, append_assoc, append-nil, arith}
+use Rattle.std.specs.Prelude.{Bool, Option, Some, None, fold}
+use Rattle.std.specs.List.{AllByRecursion, cons_option, filter}
 use Rattle.std.proofs.lemmas.Bool.{cond-true, not_from_false}
-use Rattle.std.specs.List.{AllByRecursion, filter}
 use Rattle.std.proofs.lemmas.List.{map-append}
 use Rattle.std.proofs.lemmas.List.Elements.{recursion_from_All}
 use Rattle.orca_base.specs.declared.message.Message.{Message}
-use Rattle.orca_base.specs.declared.limits.TheConstants.{MAX_CHANNEL, MIN_VELOCITY}
-use Rattle.orca_base.specs.declared.note.Note.{Note}
-use Rattle.orca_base.specs.MidiBytes.{note_off_bytes, note_on_bytes, voice_message}
-use Rattle.orca_base.specs.Ranges.{IsSendable}
 use Rattle.orca_base.specs.declared.message.Message.TheVariants as message
-use Rattle.orca_concert.specs.Concerts.{close_course, concert, final_course, last_course, saved_course}
-use Rattle.orca_course.specs.Acts.Act.{Save}
-use Rattle.orca_course.specs.Courses.{afterwards, ended, keeping, mapped, onward, still}
-use Rattle.orca_course.specs.Standings.{Standing, standing}
-use Rattle.orca_course.specs.declared.ending.Stop.{Stop}
-use Rattle.orca_course.specs.declared.ending.Stop.TheVariants.{WaveTooLong}
-use Rattle.orca_edit.specs.Pieces.{piece_after}
+use Rattle.orca_base.specs.declared.note.Note.{Note}
+use Rattle.orca_base.specs.MidiBytes.{midi_bytes_of}
+use Rattle.orca_base.specs.Ranges.{IsSendable}
+use Rattle.orca_concert.specs.Concerts.{close_course, final_course, last_course, saved_course}
+use Rattle.orca_course.specs.Courses.{afterwards, keeping, mapped, onward}
 use Rattle.orca_notes.specs.Device.{Ends, IsFair, Leads, Neither, Starts, Suits, Turn, device, is_on as is_key_on, is_same, keys_after, keys_without, midi, turn_of, voices}
-use Rattle.orca_notes.proofs.Voices.{keys_without-absent, same_voices}
 use Rattle.orca_notes.specs.Device as notes
-use Rattle.orca_wav.specs.Rendering.{Rendering, Renders, rendering_after, is_of, is_on}
-use Rattle.orca_wav.specs.Waves.{TimedMessage, voices_of}
-use Rattle.orca_wav.proofs.Runs.{Renders-message, Renders-none, Renders-samples}
+use Rattle.orca_notes.proofs.Voices.{keys_without-absent, same_voices}
 use Rattle.orca_wav.specs.declared.voice.Voice.{Voice}
+use Rattle.orca_wav.specs.Rendering.{Rendering, Renders, is_of, is_on, rendering_after}
+use Rattle.orca_wav.specs.Waves.{TimedMessage, voices_of}
 use Rattle.orca_wav.proofs.Messages.{voices-after}
-use Rattle.orca_wav.specs.declared.limits.TheConstants.{MAX_WAVE_BYTES}
-use Rattle.orca_reports.specs.Sounding.{AreFair, FramesSound, played, timed_at, timed_from}
-use Rattle.orca_reports.specs.Waves.{Wave, framed, heard, suits, wave_at_start, next_size, wav_manner, wave_file}
-use Rattle.orca_reports.proofs.FrameLemmas.{ArePlayed, frames_play, opened_plays, opened_at}
-use Rattle.orca_reports.specs.Runs.{calls_in, frames_of, session_of}
+use Rattle.orca_wav.proofs.Runs.{Renders-message, Renders-none, Renders-samples}
+use Rattle.orca_reports.specs.Runs.{frames_of, session_of}
 use Rattle.orca_reports.specs.SavedWaves.{WaveIsSaved}
-use Rattle.orca_reports.proofs.RunLemmas.{Goes, Records, frames_count, frames_ran}
+use Rattle.orca_reports.specs.Sounding.{AreFair, FramesSound, SoundsAs, played, timed_at, timed_from}
+use Rattle.orca_reports.specs.Waves.{Wave, frame_course, framed, heard, suits, wav_manner, wave_at_start, wave_file}
+use Rattle.orca_reports.proofs.FrameLemmas.{ArePlayed, Goes, Records, frames_count, frames_ran, run_plays}
+
+-- ---- the sound of frames
 
 abbrev timed : ℕ → Message → TimedMessage
 timed n m = record { message = m; samples = n }
@@ -41,72 +35,56 @@ timed n m = record { message = m; samples = n }
 same_samples : (s : Rendering) (m : Message) → (rendering_after s m).samples ≡ s.samples
 same_samples s m = grind arith
 
--- of all messages some were taken when there are n samples, and the others are fair after them
-record IsAt (all later : List TimedMessage) (n : ℕ) (s : Rendering) (bytes : List ℕ) : Type 0 where
-  before : List TimedMessage
-  splits : before ++ later ≡ all
+-- some messages were taken when there are n samples, and the others are fair after them
+record IsAt (before later : List TimedMessage) (n : ℕ) (s : Rendering) (bytes : List ℕ)
+    : Type 0 where
   fair : AreFair before later
   renders : Renders before s bytes
   samples : s.samples ≡ n
 
-hears_one : (all later : List TimedMessage) (n : ℕ) (s : Rendering) (bytes : List ℕ) (m : Message)
-    → IsAt all (timed n m ∷ later) n s bytes → IsAt all later n (heard s m) bytes
+hears : (before later : List TimedMessage) (n : ℕ) (messages : List Message) (s : Rendering)
+    (bytes : List ℕ) → IsAt before (timed_at n messages ++ later) n s bytes
+    → IsAt (before ++ timed_at n messages) later n (fold heard s messages) bytes
 unfolding heard
-hears_one all later n s bytes m far =
+hears before later n [] s bytes at = rw append-nil at
+hears before later n (m ∷ messages) s bytes at =
     let is : heard s m ≡ rendering_after s m =
-    cond-true (suits s.voices m) (rendering_after s m) s (rw far.renders.voices far.fair.0) in
+    cond-true (suits s.voices m) (rendering_after s m) s (rw at.renders.voices at.fair.0) in
     let same : (heard s m).samples ≡ s.samples = rw is (same_samples s m) in
-    record {
-      before = far.before ++ timed n m ∷ [];
-      splits = append_assoc far.before (timed n m ∷ []) later ∙ far.splits;
-      fair = far.fair.1;
-      renders = rw (← far.samples)
-          (Renders-message far.before s (heard s m) m bytes is same far.renders);
-      samples = same ∙ far.samples;
-    }
+    rw (← append_assoc before (timed n m ∷ []) (timed_at n messages))
+    (hears (before ++ timed n m ∷ []) later n messages (heard s m) bytes (record {
+      fair = at.fair.1;
+      renders = rw (← at.samples)
+          (Renders-message before s (heard s m) m bytes is same at.renders);
+      samples = same ∙ at.samples;
+    }))
 
-hears : (all later : List TimedMessage) (n : ℕ) (messages : List Message) (s : Rendering)
-    (bytes : List ℕ) → IsAt all (timed_at n messages ++ later) n s bytes
-    → IsAt all later n (fold heard s messages) bytes
-hears all later n [] s bytes far = far
-hears all later n (m ∷ messages) s bytes far =
-    hears all later n messages (heard s m) bytes
-    (hears_one all (timed_at n messages ++ later) n s bytes m far)
-
-frames_from : (all : List TimedMessage) (n count : ℕ) (w : Wave) (frames : List (List Message))
+frames_from : (before : List TimedMessage) (n count : ℕ) (w : Wave) (frames : List (List Message))
     → n + w.frame * length frames ≡ count
-    → IsAt all (timed_from w.frame n frames) n w.rendering w.bytes
-    → IsAt all [] count (played w frames).rendering (played w frames).bytes
+    → IsAt before (timed_from w.frame n frames) n w.rendering w.bytes
+    → SoundsAs (before ++ timed_from w.frame n frames) count (played w frames)
 unfolding framed
-frames_from all n count w [] is far =
+frames_from before n count w [] is at =
     let same : count ≡ n = omega (arith, is) in
-    rw same far
-frames_from all n count w (messages ∷ frames) is far =
+    rw (append-nil, same)
+    (record { samples = at.samples; bytes = rw at.samples at at.renders.bytes })
+frames_from before n count w (messages ∷ frames) is at =
     let later = timed_from w.frame (n + w.frame) frames in
-    let heard_all = hears all later n messages w.rendering w.bytes far in
+    let all = hears before later n messages w.rendering w.bytes at in
     let v = framed messages w in
-    frames_from all (n + w.frame) count v frames (omega (arith, is)) (record {
-      before = heard_all.before;
-      splits = heard_all.splits;
-      fair = heard_all.fair;
-      renders = Renders-samples heard_all.before (fold heard w.rendering messages) v.rendering
-          w.frame w.bytes refl heard_all.renders;
-      samples = ap (λ k. k + w.frame) heard_all.samples;
-    })
+    rw (← append_assoc before (timed_at n messages) later)
+    (frames_from (before ++ timed_at n messages) (n + w.frame) count v frames (omega (arith, is))
+    (record {
+      fair = all.fair;
+      renders = Renders-samples (before ++ timed_at n messages) (fold heard w.rendering messages)
+          v.rendering w.frame w.bytes refl all.renders;
+      samples = ap (λ k. k + w.frame) all.samples;
+    }))
 
 pub frames_sound : FramesSound
 frames_sound = λ out bpm frames fair.
-    let w = wave_at_start out bpm in
-    let far = frames_from (timed_from w.frame 0 frames) 0 (w.frame * length frames) w frames
-    (omega arith) (record {
-      before = [];
-      splits = refl;
-      fair = fair;
-      renders = Renders-none;
-      samples = refl;
-    }) in
-    let all = sym (append-nil far.before) ∙ far.splits in
-    record { samples = far.samples; bytes = rw (all, far.samples) at far.renders.bytes }
+    frames_from [] 0 _ (wave_at_start out bpm) frames (omega arith)
+    (record { fair = fair; renders = Renders-none; samples = refl })
 
 -- ---- voices and keys
 
@@ -141,7 +119,7 @@ without_is channel number [] = refl
 without_is channel number (v ∷ voices) =
     rw (keys_if, turned channel number v, without_is channel number voices)
 
--- ---- one message
+-- ---- the messages of frames are fair
 
 -- what a message does to a device
 abbrev turn_by : Message → Turn
@@ -149,40 +127,21 @@ turn_by (message.On channel number velocity) = Starts (key channel number)
 turn_by (message.Off channel number) = Ends (key channel number)
 turn_by _ = Neither
 
-turn_on : (channel number velocity : ℕ) → channel ≤ MAX_CHANNEL → MIN_VELOCITY ≤ velocity
-    → turn_of (note_on_bytes channel number velocity) ≡ Starts (key channel number)
-turn_on channel number velocity low loud = grind arith
+abbrev turn_if : Option (List ℕ) → Turn
+turn_if None = Neither
+turn_if (Some bytes) = turn_of bytes
 
-turn_off : (channel number : ℕ) → channel ≤ MAX_CHANNEL
-    → turn_of (note_off_bytes channel number) ≡ Ends (key channel number)
-turn_off channel number low = grind arith
+turn_is : (m : Message) → IsSendable m → turn_if (midi_bytes_of m) ≡ turn_by m
+turn_is m sendable = grind arith
 
-turn_other : (kind channel first second : ℕ) → 9 < kind
-    → turn_of (voice_message kind channel first second) ≡ Neither
-turn_other kind channel first second other = grind arith
-
--- a device takes a message by this turn, and then others
-took : {bytes : List ℕ} {turn : Turn} {on after : List notes.Voice} {messages : List (List ℕ)}
-    → turn_of bytes ≡ turn → Leads on (bytes ∷ messages) after
-    → Suits on turn × Leads (keys_after on turn) messages after
-unfolding device IsFair
-took {on = on} {after = after} {messages = messages} is leads =
-    subst (λ turn. Suits on turn × Leads (keys_after on turn) messages after) is
+-- a device takes a message by its turn, and then others
+took : (bytes : Option (List ℕ)) (messages : List (List ℕ)) (on after : List notes.Voice)
+    → Leads on (cons_option bytes messages) after
+    → Suits on (turn_if bytes) × Leads (keys_after on (turn_if bytes)) messages after
+unfolding device IsFair keys_after
+took None messages on after leads = (tt, leads)
+took (Some bytes) messages on after leads =
     (leads.fair.0, record { device = leads.device; fair = leads.fair.1 })
-
-took_by : (m : Message) (messages : List Message) (on after : List notes.Voice) → IsSendable m
-    → Leads on (midi (m ∷ messages)) after
-    → Suits on (turn_by m) × Leads (keys_after on (turn_by m)) (midi messages) after
-unfolding midi keys_after
-took_by (message.On channel number velocity) messages on after sendable leads =
-    took (turn_on channel number velocity sendable.0.channel_low sendable.1) leads
-took_by (message.Off channel number) messages on after sendable leads =
-    took (turn_off channel number sendable.channel_low) leads
-took_by (message.Control channel control value) messages on after sendable leads =
-    took (turn_other 11 channel control value (omega arith)) leads
-took_by (message.Bend channel lsb msb) messages on after sendable leads =
-    took (turn_other 14 channel lsb msb (omega arith)) leads
-took_by _ messages on after sendable leads = (tt, leads)
 
 -- such a message is fair, and the voices have the keys of the device after it
 one_fair : (before : List TimedMessage) (n : ℕ) (m : Message)
@@ -201,8 +160,6 @@ one_fair before n (message.Off channel number) sounds = (
 )
 one_fair before n _ neither = (refl, rw voices-after)
 
--- ---- messages
-
 -- whatever follows is fair, if the voices have these keys
 abbrev FairAfter : List notes.Voice → List TimedMessage → Type 0
 FairAfter on later =
@@ -215,52 +172,40 @@ follow : (n : ℕ) (messages : List Message) (before later : List TimedMessage)
 unfolding midi device
 follow n [] before later after all leads fair = fair before leads.device
 follow n (m ∷ messages) before later after all leads fair =
-    let taken = took_by m messages (keys_of (voices_of before)) after all.0 leads in
+    let taken = rw (turn_is m all.0) at (took (midi_bytes_of m) (midi messages) _ after leads) in
     let did = one_fair before n m taken.0 in
     (did.0, follow n messages (before ++ timed n m ∷ []) later after all.1 (rw did.1 taken.1) fair)
 
-frames_follow : (frame n : ℕ) (frames : List (List Message)) (sounding : List Note)
-    → ArePlayed sounding frames → FairAfter (voices sounding) (timed_from frame n frames)
-frames_follow frame n [] sounding all before is = tt
-frames_follow frame n (messages ∷ frames) sounding all before is =
+frames_follow : (frame n : ℕ) (frames more : List (List Message)) (sounding : List Note)
+    → ArePlayed sounding (frames ++ more)
+    → FairAfter (voices sounding) (timed_from frame n frames)
+frames_follow frame n [] more sounding all before is = tt
+frames_follow frame n (messages ∷ frames) more sounding all before is =
     let plays = all.1.0 in
     follow n messages before (timed_from frame (n + frame) frames) (voices all.0)
     (recursion_from_All IsSendable messages plays.sendable) (rw is plays.keys)
-    (frames_follow frame (n + frame) frames all.0 all.1.1)
+    (frames_follow frame (n + frame) frames more all.0 all.1.1)
 
--- frames that begin without notes
-pub frames_are_fair : (frame : ℕ) (frames : List (List Message)) → ArePlayed [] frames
-    → AreFair [] (timed_from frame 0 frames)
-frames_are_fair frame frames all = frames_follow frame 0 frames [] all [] refl
-
--- ---- frames
-
-no_call_if : (long : Bool) (w v : Wave)
-    → calls_in (if long then ended {E = Stop} WaveTooLong w else still v).acts ≡ []
-no_call_if true w v = refl
-no_call_if false w v = refl
+-- ---- a run
 
 wav_records : Records wav_manner
 wav_records = record {
   hands = refl;
-  calls = λ line tick messages w.
-      no_call_if (nat_lt MAX_WAVE_BYTES (next_size w)) w (framed messages w);
+  calls = λ line tick messages w. grind arith;
   full = λ line messages w is. absurd cc;
 }
 
 -- a frame after which the run goes on was rendered
-goes_if : (long : Bool) (w v : Wave)
-    → (if long then ended {E = Stop} WaveTooLong w else still v).ending ≡ None
-    → (if long then ended {E = Stop} WaveTooLong w else still v).state ≡ v
-goes_if true w v goes = absurd cc
-goes_if false w v goes = refl
+goes_on : (messages : List Message) (w : Wave) → (frame_course messages w).ending ≡ None
+    → (frame_course messages w).state ≡ framed messages w
+goes_on messages w goes = grind arith
 
 frames_played : (tick : ℕ) (frames : List (List Message)) (w v : Wave)
     → Goes wav_manner tick frames w v → v ≡ played w frames
 frames_played tick [] w v goes = goes
 frames_played tick (messages ∷ frames) w v goes =
     frames_played (tick + 1) frames (framed messages w) v
-    (rw (goes_if (nat_lt MAX_WAVE_BYTES (next_size w)) w (framed messages w) goes.0) at goes.1)
+    (rw (goes_on messages w goes.0) at goes.1)
 
 -- the name of the file stays
 played_out : (frames : List (List Message)) (w : Wave) → (played w frames).out ≡ w.out
@@ -268,23 +213,19 @@ unfolding framed
 played_out [] w = refl
 played_out (messages ∷ frames) w = played_out frames (framed messages w)
 
--- ---- the whole run
-
-wave_saved : (st : Standing) (w : Wave)
-    → calls_in (last_course wav_manner None (concert st w)).acts ≡ Save w.out (wave_file w) ∷ []
-unfolding last_course final_course close_course saved_course afterwards keeping onward mapped
-wave_saved st w = refl
-
 pub waves_are_saved : WaveIsSaved
-unfolding piece_after wave_file
+unfolding last_course final_course close_course saved_course afterwards keeping onward mapped wave_file
 waves_are_saved = λ lawful out bpm frames o kept tally sheet goes.
-    let m = session_of o in
     let w = wave_at_start out bpm in
-    let list = frames_of frames m in
-    let ran = frames_ran wav_manner wav_records frames (concert (standing m kept tally) w)
-    (opened_at o) goes in
-    let have = frames_play lawful frames 0 m (opened_at o) ran.played.room (opened_plays o sheet) in
-    let sounds = frames_sound out bpm list (frames_are_fair w.frame list have.frames) in
-    let is = frames_played 0 list w ran.stands.kept ran.played.kept in
-    ran.calls ∙ (wave_saved ran.stands.standing ran.stands.kept
-    ∙ rw (is, played_out list w, sounds.bytes, sounds.samples, frames_count frames m))
+    let list = frames_of frames (session_of o) in
+    let ran = frames_ran wav_manner wav_records w frames o kept tally goes in
+    let plays = run_plays lawful frames o sheet (omega (arith, ran.room)) in
+    let sounds = frames_sound out bpm list (frames_follow w.frame 0 list _ [] plays [] refl) in
+    ran.calls
+    ∙ rw (
+      frames_played 0 list w ran.stands.kept ran.kept,
+      played_out list w,
+      sounds.bytes,
+      sounds.samples,
+      frames_count frames (session_of o),
+    )

@@ -2,7 +2,7 @@ use Rattle.std.proofs.Common.{[], ◌∷◌, ◌∙◌, ap, sym}
 use Rattle.orca_smf.specs.declared.timed.Timed.{Timed}
 use Rattle.orca_smf.specs.Recording.{Recorded}
 use Rattle.orca_smf.specs.Songs.{last_tick}
-use Rattle.orca_reports.proofs.SongLemmas.{last-append, too_long}
+use Rattle.orca_reports.proofs.SongLaw.{last-append, too_long}
 use Rattle.orca_reports.proofs.recorder.Recorder.add.Goals as goal
 
 pub returns-in-Ok-clause-too_long : goal.returns-in-Ok-clause-too_long
