@@ -1,3 +1,4 @@
+use crate::going::goes;
 use orca_base::{Message, Reply, Rule};
 use orca_concert::{Report, Turn, print_messages};
 use orca_course::{Desk, NoMemory, Stop, Tally};
@@ -47,8 +48,7 @@ impl Report for EventsReport {
     ) -> Result<Option<Stop>, NoMemory> {
         match turn.answer {
             Ok(Reply::Framed { tick }) => {
-                print_messages(desk, &mut self.line, Label::Tick(tick), turn.messages)?;
-                Ok(None)
+                goes(print_messages(desk, &mut self.line, Label::Tick(tick), turn.messages))
             }
             Err(Rule::HistoryFull) => Ok(Some(Stop::Full)),
             Ok(_) | Err(_) => Ok(None),
@@ -69,8 +69,7 @@ impl Report for EventsReport {
         desk: &mut Desk<F, O, I, L>,
         messages: &[Message],
     ) -> Result<Option<Stop>, NoMemory> {
-        print_messages(desk, &mut self.line, Label::End, messages)?;
-        Ok(None)
+        goes(print_messages(desk, &mut self.line, Label::End, messages))
     }
 
     fn save<F: Files + Drop, O: Outs + Drop, I: Inbox + Drop, L: Ledger>(

@@ -4,6 +4,7 @@
 
 mod events;
 mod figures;
+mod going;
 mod laws;
 mod listener;
 mod make;

@@ -5,6 +5,7 @@ ghost use Rattle.orca_reports.specs.Manners.{figures_at};
 ghost use Rattle.orca_reports.specs.Texts.{figure_line, figures_text, size_line};
 
 use crate::figures::push_figure;
+use crate::going::goes;
 use orca_base::{Dims, Glyph, Look, Memory, Message};
 use orca_concert::{Report, Turn, say};
 use orca_course::{Desk, NoMemory, Stop, Tally};
@@ -61,8 +62,7 @@ impl Report for MakeReport {
         tally: Tally,
     ) -> Result<Option<Stop>, NoMemory> {
         write_five_lines(&mut self.line, machine, tally)?;
-        say(desk, self.line.as_slice())?;
-        Ok(None)
+        goes(say(desk, self.line.as_slice()))
     }
 
     fn close<F: Files + Drop, O: Outs + Drop, I: Inbox + Drop, L: Ledger>(

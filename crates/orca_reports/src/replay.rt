@@ -3,6 +3,7 @@ ghost use Rattle.orca_reports.specs.Manners.{state_at};
 ghost use Rattle.orca_reports.specs.Texts.{kept_text, refusal_text, state_text};
 
 use crate::figures::push_figure;
+use crate::going::goes;
 use crate::run::write_grid;
 use orca_base::{Memory, Message, Rule};
 use orca_concert::{Report, Turn, say};
@@ -54,8 +55,7 @@ impl Report for ReplayReport {
             Ok(_) => Ok(None),
             Err(rule) => {
                 write_refusal(&mut self.line, turn.line, rule)?;
-                say(desk, self.line.as_slice())?;
-                Ok(None)
+                goes(say(desk, self.line.as_slice()))
             }
         }
     }
@@ -67,8 +67,7 @@ impl Report for ReplayReport {
         _: Tally,
     ) -> Result<Option<Stop>, NoMemory> {
         write_state(&mut self.line, machine)?;
-        say(desk, self.line.as_slice())?;
-        Ok(None)
+        goes(say(desk, self.line.as_slice()))
     }
 
     fn close<F: Files + Drop, O: Outs + Drop, I: Inbox + Drop, L: Ledger>(

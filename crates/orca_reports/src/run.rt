@@ -1,6 +1,7 @@
 ghost use Rattle.std.specs.Prelude.{◌≡◌, OnOk};
 ghost use Rattle.orca_grid.specs.GridText.{text_of};
 
+use crate::going::goes;
 use orca_base::{Look, Memory, Message, Rule};
 use orca_concert::{Report, Turn, say};
 use orca_course::{Desk, NoMemory, Stop, Tally};
@@ -61,8 +62,7 @@ impl Report for RunReport {
     ) -> Result<Option<Stop>, NoMemory> {
         machine.is_shown();
         write_grid(&mut self.line, machine)?;
-        say(desk, self.line.as_slice())?;
-        Ok(None)
+        goes(say(desk, self.line.as_slice()))
     }
 
     fn close<F: Files + Drop, O: Outs + Drop, I: Inbox + Drop, L: Ledger>(

@@ -1,17 +1,11 @@
 use Rattle.std.proofs.Common.{◌∙◌}
-use Rattle.std.specs.Prelude.{Ok, Err}
-use Rattle.orca_course.proofs.DoingLemmas.{does_err}
 use Rattle.orca_reports.proofs.DoneLemmas.{said, unsaid}
 use Rattle.orca_reports.proofs.make.MakeReportReport.finish.Goals as goal
 
 pub returns-in_err-write_five_lines : goal.returns-in_err-write_five_lines
 returns-in_err-write_five_lines g c = λ at hands. unsaid _ c.from_residual.ensures.1
 
-pub returns-in_err-say : goal.returns-in_err-say
-returns-in_err-say g c = λ at hands.
-    does_err _ _ c.from_residual-in_err-say.ensures.1
-    (said (Err _) (c.as_slice.ensures.value ∙ c.in_ok-write_five_lines.ensures) c.in_err-say.ensures)
-
 pub returns : goal.returns
 returns g c = λ at hands.
-    said (Ok tt) (c.as_slice.ensures.value ∙ c.in_ok-write_five_lines.ensures) c.in_ok-say.ensures
+    rw c.goes.ensures
+    (said _ (c.as_slice.ensures.value ∙ c.in_ok-write_five_lines.ensures) c.say.ensures)
