@@ -41,6 +41,7 @@ impl Report for EventsReport {
         true
     }
 
+    #[tactic(auto, using(crate::proofs::DoneLemmas::printed))]
     fn done<F: Files + Drop, O: Outs + Drop, I: Inbox + Drop, L: Ledger>(
         &mut self,
         desk: &mut Desk<F, O, I, L>,
@@ -64,6 +65,7 @@ impl Report for EventsReport {
         Ok(None)
     }
 
+    #[tactic(auto, using(crate::proofs::DoneLemmas::printed))]
     fn close<F: Files + Drop, O: Outs + Drop, I: Inbox + Drop, L: Ledger>(
         &mut self,
         desk: &mut Desk<F, O, I, L>,

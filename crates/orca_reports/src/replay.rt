@@ -46,6 +46,7 @@ impl Report for ReplayReport {
         true
     }
 
+    #[tactic(auto, using(crate::proofs::DoneLemmas::unsaid, crate::proofs::DoneLemmas::said))]
     fn done<F: Files + Drop, O: Outs + Drop, I: Inbox + Drop, L: Ledger>(
         &mut self,
         desk: &mut Desk<F, O, I, L>,
@@ -60,6 +61,7 @@ impl Report for ReplayReport {
         }
     }
 
+    #[tactic(auto, using(crate::proofs::DoneLemmas::unsaid, crate::proofs::DoneLemmas::said))]
     fn finish<M: Machine, F: Files + Drop, O: Outs + Drop, I: Inbox + Drop, L: Ledger>(
         &mut self,
         desk: &mut Desk<F, O, I, L>,

@@ -54,6 +54,7 @@ impl Report for RunReport {
         }
     }
 
+    #[tactic(auto, using(crate::proofs::DoneLemmas::unsaid, crate::proofs::DoneLemmas::said))]
     fn finish<M: Machine, F: Files + Drop, O: Outs + Drop, I: Inbox + Drop, L: Ledger>(
         &mut self,
         desk: &mut Desk<F, O, I, L>,

@@ -73,6 +73,7 @@ impl Report for SmfReport<'_> {
         false
     }
 
+    #[tactic(auto, using(crate::proofs::DoneLemmas::unsaid))]
     fn done<F: Files + Drop, O: Outs + Drop, I: Inbox + Drop, L: Ledger>(
         &mut self,
         _: &mut Desk<F, O, I, L>,
@@ -97,6 +98,7 @@ impl Report for SmfReport<'_> {
         Ok(None)
     }
 
+    #[tactic(auto, using(crate::proofs::DoneLemmas::unsaid))]
     fn close<F: Files + Drop, O: Outs + Drop, I: Inbox + Drop, L: Ledger>(
         &mut self,
         _: &mut Desk<F, O, I, L>,

@@ -122,6 +122,7 @@ impl Report for WavReport<'_> {
         false
     }
 
+    #[tactic(auto, using(crate::proofs::DoneLemmas::unsaid))]
     fn done<F: Files + Drop, O: Outs + Drop, I: Inbox + Drop, L: Ledger>(
         &mut self,
         _: &mut Desk<F, O, I, L>,
@@ -162,6 +163,7 @@ impl Report for WavReport<'_> {
 }
 
 /// Writes the header of so many samples into its room at the front of a file.
+#[tactic(auto, using(crate::proofs::DoneLemmas::written))]
 fn put_header(samples: u32, file: &mut Vec<u8>)
     requires room { HEADER_BYTES ≤ length file.old.items }
     requires short { SAMPLE_BYTES * samples ≤ MAX_WAVE_BYTES }

@@ -3,11 +3,8 @@ use Rattle.orca_base.specs.declared.command.Reply.TheVariants.{Framed}
 use Rattle.orca_base.specs.declared.command.Rule.TheVariants.{HistoryFull}
 use Rattle.orca_course.specs.declared.ending.Stop.TheVariants.{Full}
 use Rattle.orca_course.proofs.DoingLemmas.{does_end}
-use Rattle.orca_reports.proofs.DoneLemmas.{recorded_done, unsaid}
+use Rattle.orca_reports.proofs.DoneLemmas.{recorded_done}
 use Rattle.orca_reports.proofs.smf.SmfReportReport.done.Goals as goal
-
-pub returns-in_err-record-in-Ok-Framed : goal.returns-in_err-record-in-Ok-Framed
-returns-in_err-record-in-Ok-Framed g c = λ at hands. unsaid _ c.from_residual.ensures.1
 
 pub returns-in_ok-record-in-Ok-Framed : goal.returns-in_ok-record-in-Ok-Framed
 returns-in_ok-record-in-Ok-Framed g c = λ at hands.
