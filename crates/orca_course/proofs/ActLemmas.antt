@@ -1,10 +1,8 @@
 -- What is read off acts, and then off others.
-use Rattle.std.proofs.Common.{◌≡◌, ◌≢◌, List, [], ◌∷◌, ◌++◌, refl, sym, ◌∙◌, ap}
+use Rattle.std.proofs.Common.{◌≡◌, List, [], ◌∷◌, ◌++◌, refl, ◌∙◌, ap}
 use Rattle.std.specs.Prelude.{Bool, true, false, ◌||◌, Option, Some, None}
 use Rattle.orca_base.specs.Ports.{Sent}
 use Rattle.orca_rig.specs.Arrived.{Log, after_poll, is_ending, with_listen}
-use Rattle.orca_rig.specs.declared.inbox.Answer.{Answer}
-use Rattle.orca_rig.specs.declared.inbox.Answer.TheVariants as answer
 use Rattle.orca_rig.specs.Outside.Ask.{Load as AskLoad, Save as AskSave}
 use Rattle.orca_course.specs.Acts.{Act, AreDeaf, AreMute, ArePrintable, asked_in, attached_in, commands_in, ended_after, given, gives, is_failure, is_of_messages, log_after, lost_after, open_after, polls_in, stand_after}
 use Rattle.orca_course.specs.Acts.Act.{Attach, Await, Give, Listen, Load, Obey, Save, Show, Stand}
@@ -94,49 +92,25 @@ pub AreDeaf-append : (xs ys : List Act) → AreDeaf xs → AreDeaf ys → AreDea
 AreDeaf-append [] ys first second = second
 AreDeaf-append (Listen name hands start ∷ xs) ys first second = absurd first
 AreDeaf-append (Await poll ∷ xs) ys first second = absurd first
-AreDeaf-append (Attach attached ∷ xs) ys first second = AreDeaf-append xs ys first second
-AreDeaf-append (Load name text ∷ xs) ys first second = AreDeaf-append xs ys first second
-AreDeaf-append (Save name bytes ∷ xs) ys first second = AreDeaf-append xs ys first second
-AreDeaf-append (Give sent ∷ xs) ys first second = AreDeaf-append xs ys first second
-AreDeaf-append (Obey command ∷ xs) ys first second = AreDeaf-append xs ys first second
-AreDeaf-append (Stand s ∷ xs) ys first second = AreDeaf-append xs ys first second
-AreDeaf-append (Show cells ∷ xs) ys first second = AreDeaf-append xs ys first second
+AreDeaf-append (_ ∷ xs) ys first second = AreDeaf-append xs ys first second
 
 pub polls-deaf : (acts : List Act) → AreDeaf acts → polls_in acts ≡ []
 polls-deaf [] deaf = refl
 polls-deaf (Listen name hands start ∷ acts) deaf = absurd deaf
 polls-deaf (Await poll ∷ acts) deaf = absurd deaf
-polls-deaf (Attach attached ∷ acts) deaf = polls-deaf acts deaf
-polls-deaf (Load name text ∷ acts) deaf = polls-deaf acts deaf
-polls-deaf (Save name bytes ∷ acts) deaf = polls-deaf acts deaf
-polls-deaf (Give sent ∷ acts) deaf = polls-deaf acts deaf
-polls-deaf (Obey command ∷ acts) deaf = polls-deaf acts deaf
-polls-deaf (Stand s ∷ acts) deaf = polls-deaf acts deaf
-polls-deaf (Show cells ∷ acts) deaf = polls-deaf acts deaf
+polls-deaf (_ ∷ acts) deaf = polls-deaf acts deaf
 
 pub ended-deaf : (acts : List Act) (b : Bool) → AreDeaf acts → ended_after acts b ≡ b
 ended-deaf [] b deaf = refl
 ended-deaf (Listen name hands start ∷ acts) b deaf = absurd deaf
 ended-deaf (Await poll ∷ acts) b deaf = absurd deaf
-ended-deaf (Attach attached ∷ acts) b deaf = ended-deaf acts b deaf
-ended-deaf (Load name text ∷ acts) b deaf = ended-deaf acts b deaf
-ended-deaf (Save name bytes ∷ acts) b deaf = ended-deaf acts b deaf
-ended-deaf (Give sent ∷ acts) b deaf = ended-deaf acts b deaf
-ended-deaf (Obey command ∷ acts) b deaf = ended-deaf acts b deaf
-ended-deaf (Stand s ∷ acts) b deaf = ended-deaf acts b deaf
-ended-deaf (Show cells ∷ acts) b deaf = ended-deaf acts b deaf
+ended-deaf (_ ∷ acts) b deaf = ended-deaf acts b deaf
 
 pub lost-deaf : (acts : List Act) (b : Bool) → AreDeaf acts → lost_after acts b ≡ b
 lost-deaf [] b deaf = refl
 lost-deaf (Listen name hands start ∷ acts) b deaf = absurd deaf
 lost-deaf (Await poll ∷ acts) b deaf = absurd deaf
-lost-deaf (Attach attached ∷ acts) b deaf = lost-deaf acts b deaf
-lost-deaf (Load name text ∷ acts) b deaf = lost-deaf acts b deaf
-lost-deaf (Save name bytes ∷ acts) b deaf = lost-deaf acts b deaf
-lost-deaf (Give sent ∷ acts) b deaf = lost-deaf acts b deaf
-lost-deaf (Obey command ∷ acts) b deaf = lost-deaf acts b deaf
-lost-deaf (Stand s ∷ acts) b deaf = lost-deaf acts b deaf
-lost-deaf (Show cells ∷ acts) b deaf = lost-deaf acts b deaf
+lost-deaf (_ ∷ acts) b deaf = lost-deaf acts b deaf
 
 -- acts whose pictures a terminal can show
 
@@ -154,53 +128,16 @@ open-mute [] mute = refl
 open-mute (Give sent ∷ acts) mute =
     ap (λ b. open_after b acts) mute.0 ∙ open-mute acts mute.1
 open-mute (Stand s ∷ acts) mute = absurd mute
-open-mute (Attach attached ∷ acts) mute = open-mute acts mute
-open-mute (Load name text ∷ acts) mute = open-mute acts mute
-open-mute (Save name bytes ∷ acts) mute = open-mute acts mute
-open-mute (Listen name hands start ∷ acts) mute = open-mute acts mute
-open-mute (Await poll ∷ acts) mute = open-mute acts mute
-open-mute (Obey command ∷ acts) mute = open-mute acts mute
-open-mute (Show cells ∷ acts) mute = open-mute acts mute
+open-mute (_ ∷ acts) mute = open-mute acts mute
 
 pub stand-mute : (s : Option Standing) (acts : List Act) → AreMute acts → stand_after s acts ≡ s
 stand-mute s [] mute = refl
 stand-mute s (Give sent ∷ acts) mute = stand-mute s acts mute.1
 stand-mute s (Stand t ∷ acts) mute = absurd mute
-stand-mute s (Attach attached ∷ acts) mute = stand-mute s acts mute
-stand-mute s (Load name text ∷ acts) mute = stand-mute s acts mute
-stand-mute s (Save name bytes ∷ acts) mute = stand-mute s acts mute
-stand-mute s (Listen name hands start ∷ acts) mute = stand-mute s acts mute
-stand-mute s (Await poll ∷ acts) mute = stand-mute s acts mute
-stand-mute s (Obey command ∷ acts) mute = stand-mute s acts mute
-stand-mute s (Show cells ∷ acts) mute = stand-mute s acts mute
+stand-mute s (_ ∷ acts) mute = stand-mute s acts mute
 
 pub AreMute-front : (xs ys : List Act) → AreMute (xs ++ ys) → AreMute xs
 AreMute-front [] ys mute = tt
 AreMute-front (Give sent ∷ xs) ys mute = (mute.0, AreMute-front xs ys mute.1)
 AreMute-front (Stand s ∷ xs) ys mute = absurd mute
-AreMute-front (Attach attached ∷ xs) ys mute = AreMute-front xs ys mute
-AreMute-front (Load name text ∷ xs) ys mute = AreMute-front xs ys mute
-AreMute-front (Save name bytes ∷ xs) ys mute = AreMute-front xs ys mute
-AreMute-front (Listen name hands start ∷ xs) ys mute = AreMute-front xs ys mute
-AreMute-front (Await poll ∷ xs) ys mute = AreMute-front xs ys mute
-AreMute-front (Obey command ∷ xs) ys mute = AreMute-front xs ys mute
-AreMute-front (Show cells ∷ xs) ys mute = AreMute-front xs ys mute
-
--- answers that are failures
-
-pub or_false : (b : Bool) → (b || false) ≡ b
-or_false true = refl
-or_false false = refl
-
-pub or_true : (b : Bool) → (b || true) ≡ true
-or_true true = refl
-or_true false = refl
-
-pub lost-other : (b : Bool) (a : Answer) → a ≢ answer.Failed → b ≡ (b || is_failure a)
-lost-other b (answer.Bytes hand count at) other = sym (or_false b)
-lost-other b (answer.Due at) other = sym (or_false b)
-lost-other b answer.End other = sym (or_false b)
-lost-other b answer.Failed other = absurd (other refl)
-
-pub lost-failed : (b : Bool) (a : Answer) → a ≡ answer.Failed → true ≡ (b || is_failure a)
-lost-failed b a is = sym (ap (λ a. b || is_failure a) is ∙ or_true b)
+AreMute-front (_ ∷ xs) ys mute = AreMute-front xs ys mute

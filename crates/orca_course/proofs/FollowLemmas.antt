@@ -1,5 +1,5 @@
 -- A device that follows acts.
-use Rattle.std.proofs.Common.{◌≡◌, ℕ, Bool, true, false, List, [], ◌∷◌, ◌++◌, refl, sym, ◌∙◌, ap, subst}
+use Rattle.std.proofs.Common.{◌≡◌, ℕ, arith, true, false, List, [], ◌∷◌, ◌++◌, refl, sym, ◌∙◌, ap}
 use Rattle.std.specs.Prelude.{if◌then◌else◌, map, filter, Option}
 use Rattle.orca_base.specs.declared.port.Port.{Port}
 use Rattle.orca_base.specs.declared.port.Port.TheVariants as port
@@ -7,7 +7,7 @@ use Rattle.orca_base.specs.Ports.{Sent, is_same_port}
 use Rattle.orca_notes.specs.Device.{Voice, Turn, Suits, keys_after, turn_of, voices, device, IsFair}
 use Rattle.orca_notes.specs.Device.Turn.{Neither}
 use Rattle.orca_course.specs.Acts.{Act, AreMute, given, gives, is_of_messages}
-use Rattle.orca_course.specs.Acts.Act.{Attach, Await, Give, Listen, Load, Obey, Save, Show, Stand}
+use Rattle.orca_course.specs.Acts.Act.{Give, Stand}
 use Rattle.orca_course.specs.Following.{Accompanies, EndsAsDevice, Follows, IsFairToDevice, StandsAsDevice, keys_after_acts, midi_sent, sounding, turn_given}
 use Rattle.orca_course.specs.Standings.{Standing, notes_of}
 use Rattle.orca_course.proofs.ActLemmas.{given-gives}
@@ -39,63 +39,36 @@ Follows-front on (_ ∷ xs) ys follows = Follows-front on xs ys follows
 
 -- a device that reads the MIDI messages of acts
 
--- one send more, by whether it goes to the MIDI port
-abbrev turn_if : Bool → Sent → Turn
-turn_if to_midi sent = if to_midi then turn_of sent.bytes else Neither
+-- one send more
+abbrev Reads : List Voice → Turn → List (List ℕ) → List (List ℕ) → Type 0
+Reads on turn more messages =
+    (device (keys_after on turn) more ≡ device on messages)
+    × (Suits on turn × IsFair (keys_after on turn) more → IsFair on messages)
+    × (IsFair on messages → Suits on turn × IsFair (keys_after on turn) more)
 
-abbrev midi_if : Bool → Sent → List Sent → List (List ℕ)
-midi_if to_midi sent sends = if to_midi then sent.bytes ∷ midi_sent sends else midi_sent sends
-
-midi_given : (sent : Sent) (sends : List Sent)
-    → midi_sent (sent ∷ sends) ≡ midi_if (is_same_port sent.port port.Midi) sent sends
-unfolding midi_sent
-midi_given sent sends =
-    let is_midi : Sent → Bool = λ (other : Sent). is_same_port other.port port.Midi in
-    let bytes_of : Sent → List ℕ = λ (other : Sent). other.bytes in
+reads : (on : List Voice) (sent : Sent) (sends : List Sent)
+    → Reads on (turn_given sent) (midi_sent sends) (midi_sent (sent ∷ sends))
+unfolding midi_sent device IsFair keys_after
+reads on sent sends =
+    let others = filter (λ (other : Sent). is_same_port other.port port.Midi) sends in
     elim (is_same_port sent.port port.Midi) as
-    (λ b. map bytes_of (if b then sent ∷ filter is_midi sends else filter is_midi sends)
-    ≡ midi_if b sent sends)
-    [ true ↦ refl | false ↦ refl ]
-
-device_if : (on : List Voice) (to_midi : Bool) (sent : Sent) (sends : List Sent)
-    → device (keys_after on (turn_if to_midi sent)) (midi_sent sends)
-    ≡ device on (midi_if to_midi sent sends)
-unfolding device keys_after
-device_if on true sent sends = refl
-device_if on false sent sends = refl
-
-fair_if : (on : List Voice) (to_midi : Bool) (sent : Sent) (sends : List Sent)
-    → Suits on (turn_if to_midi sent)
-    → IsFair (keys_after on (turn_if to_midi sent)) (midi_sent sends)
-    → IsFair on (midi_if to_midi sent sends)
-unfolding IsFair keys_after
-fair_if on true sent sends suits fair = (suits, fair)
-fair_if on false sent sends suits fair = fair
-
-suits_if : (on : List Voice) (to_midi : Bool) (sent : Sent) (sends : List Sent)
-    → IsFair on (midi_if to_midi sent sends)
-    → Suits on (turn_if to_midi sent)
-    × IsFair (keys_after on (turn_if to_midi sent)) (midi_sent sends)
-unfolding IsFair keys_after
-suits_if on true sent sends fair = fair
-suits_if on false sent sends fair = (tt, fair)
+    (λ b. Reads on (if b then turn_of sent.bytes else Neither) (midi_sent sends)
+    (map (λ (other : Sent). other.bytes) (if b then sent ∷ others else others)))
+    [ true ↦ (refl, λ h. h, λ h. h) | false ↦ (refl, λ h. h.1, λ h. (tt, h)) ]
 
 pub ends_as_device : EndsAsDevice
 unfolding device midi_sent
 ends_as_device on [] = refl
 ends_as_device on (Give sent ∷ acts) =
-    ends_as_device (keys_after on (turn_given sent)) acts
-    ∙ (device_if on (is_same_port sent.port port.Midi) sent (given acts)
-    ∙ ap (device on) (sym (midi_given sent (given acts))))
+    ends_as_device (keys_after on (turn_given sent)) acts ∙ (reads on sent (given acts)).0
 ends_as_device on (_ ∷ acts) = ends_as_device on acts
 
 pub is_fair_to_device : IsFairToDevice
 unfolding IsFair midi_sent
 is_fair_to_device on [] follows = tt
 is_fair_to_device on (Give sent ∷ acts) follows =
-    subst (IsFair on) (sym (midi_given sent (given acts)))
-    (fair_if on (is_same_port sent.port port.Midi) sent (given acts) follows.0
-    (is_fair_to_device (keys_after on (turn_given sent)) acts follows.1))
+    (reads on sent (given acts)).1
+    (follows.0, is_fair_to_device (keys_after on (turn_given sent)) acts follows.1)
 is_fair_to_device on (Stand s ∷ acts) follows = is_fair_to_device on acts follows.1
 is_fair_to_device on (_ ∷ acts) follows = is_fair_to_device on acts follows
 
@@ -117,8 +90,7 @@ pub follows_gives : (on : List Voice) (sends : List Sent) → IsFair on (midi_se
     → Follows on (gives sends)
 follows_gives on [] fair = tt
 follows_gives on (sent ∷ sends) fair =
-    let suits = suits_if on (is_same_port sent.port port.Midi) sent sends
-    (subst (IsFair on) (midi_given sent sends) fair) in
+    let suits = (reads on sent sends).2 fair in
     (suits.0, follows_gives (keys_after on (turn_given sent)) sends suits.1)
 
 pub keys_after_gives : (on : List Voice) (sends : List Sent)
@@ -134,31 +106,21 @@ accompanies_none s t same =
 
 pub accompanies_twice : {r s t : Option Standing} {xs ys : List Act}
     → Accompanies r xs s → Accompanies s ys t → Accompanies r (xs ++ ys) t
-accompanies_twice {r = r} {s = s} {t = t} {xs = xs} {ys = ys} first second =
-    let on = voices (sounding r) in
-    record {
-      follows = Follows-append on xs ys first.follows
-          (subst (λ now. Follows now ys) (sym first.keys) second.follows);
-      keys = keys-append on xs ys
-          ∙ (ap (λ now. keys_after_acts now ys) first.keys ∙ second.keys);
-    }
+accompanies_twice {r = r} {xs = xs} {ys = ys} first second = record {
+  follows = Follows-append (voices (sounding r)) xs ys first.follows (rw first.keys second.follows);
+  keys = grind (arith, keys-append, first.keys, second.keys);
+}
 
 -- a device follows acts, and then others from where they lead
 pub follows_later : {r s : Option Standing} {xs : List Act} (ys : List Act) → Accompanies r xs s
     → Follows (voices (sounding s)) ys → Follows (voices (sounding r)) (xs ++ ys)
 follows_later {r = r} {xs = xs} ys first second =
-    Follows-append (voices (sounding r)) xs ys first.follows
-    (subst (λ now. Follows now ys) (sym first.keys) second)
+    Follows-append (voices (sounding r)) xs ys first.follows (rw first.keys second)
 
 -- ---- acts without messages
 
 same_port : (p : Port) → is_of_messages p ≡ false → is_same_port p port.Midi ≡ false
-same_port port.Midi is = absurd cc
-same_port port.Udp is = absurd cc
-same_port port.Osc is = absurd cc
-same_port port.Text is = refl
-same_port port.Fault is = refl
-same_port port.View is = refl
+same_port p is = grind arith
 
 turn_mute : (sent : Sent) → is_of_messages sent.port ≡ false → turn_given sent ≡ Neither
 turn_mute sent is =
@@ -169,31 +131,17 @@ pub keys-mute : (on : List Voice) (acts : List Act) → AreMute acts
 unfolding keys_after
 keys-mute on [] mute = refl
 keys-mute on (Give sent ∷ acts) mute =
-    ap (λ turn. keys_after_acts (keys_after on turn) acts) (turn_mute sent mute.0)
-    ∙ keys-mute on acts mute.1
+    rw (turn_mute sent mute.0) (keys-mute on acts mute.1)
 keys-mute on (Stand s ∷ acts) mute = absurd mute
-keys-mute on (Attach attached ∷ acts) mute = keys-mute on acts mute
-keys-mute on (Load name text ∷ acts) mute = keys-mute on acts mute
-keys-mute on (Save name bytes ∷ acts) mute = keys-mute on acts mute
-keys-mute on (Listen name hands start ∷ acts) mute = keys-mute on acts mute
-keys-mute on (Await poll ∷ acts) mute = keys-mute on acts mute
-keys-mute on (Obey command ∷ acts) mute = keys-mute on acts mute
-keys-mute on (Show cells ∷ acts) mute = keys-mute on acts mute
+keys-mute on (_ ∷ acts) mute = keys-mute on acts mute
 
 pub follows-mute : (on : List Voice) (acts : List Act) → AreMute acts → Follows on acts
 unfolding keys_after
 follows-mute on [] mute = tt
 follows-mute on (Give sent ∷ acts) mute =
-    subst (λ turn. Suits on turn × Follows (keys_after on turn) acts)
-    (sym (turn_mute sent mute.0)) (tt, follows-mute on acts mute.1)
+    rw (turn_mute sent mute.0) (tt, follows-mute on acts mute.1)
 follows-mute on (Stand s ∷ acts) mute = absurd mute
-follows-mute on (Attach attached ∷ acts) mute = follows-mute on acts mute
-follows-mute on (Load name text ∷ acts) mute = follows-mute on acts mute
-follows-mute on (Save name bytes ∷ acts) mute = follows-mute on acts mute
-follows-mute on (Listen name hands start ∷ acts) mute = follows-mute on acts mute
-follows-mute on (Await poll ∷ acts) mute = follows-mute on acts mute
-follows-mute on (Obey command ∷ acts) mute = follows-mute on acts mute
-follows-mute on (Show cells ∷ acts) mute = follows-mute on acts mute
+follows-mute on (_ ∷ acts) mute = follows-mute on acts mute
 
 pub accompanies-mute : (s t : Option Standing) (acts : List Act) → AreMute acts → t ≡ s
     → Accompanies s acts t

@@ -1,6 +1,8 @@
+use Rattle.std.proofs.Common.{refl}
 use Rattle.std.specs.Prelude.{Some, None, Ok, Err}
-use Rattle.orca_course.proofs.DoingLemmas.{does_err}
-use Rattle.orca_course.proofs.PollLemmas.{heard_done, heard_end, heard_failed}
+use Rattle.orca_course.specs.Performers.{heard}
+use Rattle.orca_course.proofs.DoingLemmas.{does_end, does_err}
+use Rattle.orca_course.proofs.PollLemmas.{heard_done}
 use Rattle.orca_course.proofs.performer.heed.Goals as goal
 
 pub returns-in_err-stop-in-Bytes : goal.returns-in_err-stop-in-Bytes
@@ -9,10 +11,12 @@ returns-in_err-stop-in-Bytes g c =
     (heard_done _ _ _ (Err _) c.in-Bytes.is c.in_err-stop-in-Bytes.ensures)
 
 pub returns-in-End : goal.returns-in-End
-returns-in-End g c = heard_end _ _ _ _ _ c.in-End.is
+unfolding heard
+returns-in-End g c = rw c.in-End.is (does_end _ _ refl)
 
 pub returns-in-Failed : goal.returns-in-Failed
-returns-in-Failed g c = heard_failed _ _ _ _ _ c.in-Failed.is
+unfolding heard
+returns-in-Failed g c = rw c.in-Failed.is (does_end _ _ refl)
 
 pub returns-in-Some : goal.returns-in-Some
 returns-in-Some g c =
