@@ -1,5 +1,5 @@
 -- What may be taken where memory was refused is within the bill.
-use Rattle.std.proofs.Common.{◌≡◌, ℕ, ◌+◌, ◌≤◌, Bool, false, refl, sym, ◌∙◌, ap, subst, arith}
+use Rattle.std.proofs.Common.{◌≡◌, ℕ, ◌+◌, ◌≤◌, false, refl, ap, arith}
 use Rattle.std.specs.Prelude.{List, Option, Some, None, Result, Ok, Err}
 use Rattle.std.specs.Option.{option_map_or}
 use Rattle.orca_base.specs.declared.command.Command.{Command}
@@ -13,9 +13,9 @@ use Rattle.orca_base.specs.declared.limits.TheConstants.{COMMAND_PRICE}
 use Rattle.orca_base.specs.declared.message.Message.{Message}
 use Rattle.orca_base.specs.Grids.{Sheet}
 use Rattle.orca_edit.specs.Machines.{Acts, is_jump, obeyed}
-use Rattle.orca_edit.specs.Obeying.{MachineState, Obeyed, accept, carry_out, clip_after, entry_of, obey, piece_of, refuse, reply_of, rule_against, taken_area}
+use Rattle.orca_edit.specs.Obeying.{MachineState, Obeyed, accept, carry_out, entry_of, obey, piece_of, reply_of, rule_against}
 use Rattle.orca_edit.specs.Pieces.{Piece}
-use Rattle.orca_edit.specs.Prices.{Kept, bill, bill_of, charge, entry_price, kept_after, kept_by, new_cells, price}
+use Rattle.orca_edit.specs.Prices.{Kept, bill, bill_of, charge, entry_price, kept_after, new_cells, price}
 use Rattle.orca_course.specs.Standings.{kept_of}
 use Rattle.orca_course.specs.declared.refused.NoMemory.{NoMemory}
 use Rattle.orca_concert.specs.Concerts.{answer_of}
@@ -24,18 +24,7 @@ use Rattle.orca_concert.specs.Concerts.{answer_of}
 reply_bill : (m : MachineState) (k : Kept) (c : Command) (p : Piece) (after : MachineState)
     → bill_of (Ok (reply_of c p)) m k c after ≡ entry_price m c + new_cells k.spacing after
 reply_bill m k command.Frame p after = refl
-reply_bill m k (command.Write y x glyph) p after = refl
-reply_bill m k (command.Fill rect glyph) p after = refl
-reply_bill m k (command.Erase rect) p after = refl
-reply_bill m k (command.Copy rect) p after = refl
-reply_bill m k (command.Cut rect) p after = refl
-reply_bill m k (command.Paste y x) p after = refl
-reply_bill m k (command.Move rect to_y to_x) p after = refl
-reply_bill m k (command.Resize h w) p after = refl
-reply_bill m k command.Reset p after = refl
-reply_bill m k command.Undo p after = refl
-reply_bill m k (command.Rewind moment) p after = refl
-reply_bill m k command.Redo p after = refl
+reply_bill m k _ p after = refl
 
 -- the bill, by what obeying led to
 abbrev bill_by : MachineState → Kept → Command → Obeyed → ℕ
@@ -57,24 +46,13 @@ unfolding accept
 accepted m k command.Undo forward = absurd cc
 accepted m k (command.Rewind moment) forward = absurd cc
 accepted m k command.Redo forward = absurd cc
-accepted m k command.Frame forward = carried m k command.Frame _ _ refl
-accepted m k (command.Write y x glyph) forward = carried m k (command.Write y x glyph) _ _ refl
-accepted m k (command.Fill rect glyph) forward = carried m k (command.Fill rect glyph) _ _ refl
-accepted m k (command.Erase rect) forward = carried m k (command.Erase rect) _ _ refl
-accepted m k (command.Copy rect) forward = carried m k (command.Copy rect) _ _ refl
-accepted m k (command.Cut rect) forward = carried m k (command.Cut rect) _ _ refl
-accepted m k (command.Paste y x) forward = carried m k (command.Paste y x) _ _ refl
-accepted m k (command.Move rect to_y to_x) forward =
-    carried m k (command.Move rect to_y to_x) _ _ refl
-accepted m k (command.Resize h w) forward = carried m k (command.Resize h w) _ _ refl
-accepted m k command.Reset forward = carried m k command.Reset _ _ refl
+accepted m k c forward = carried m k c _ _ refl
 
 charge_given_up : (m : MachineState) (k : Kept) (c : Command) → rule_against m c ≡ None
     → is_jump c ≡ false → entry_price m c ≤ bill m k c
 unfolding bill obey
 charge_given_up m k c allowed forward =
-    subst (λ r. entry_price m c ≤ bill_by m k c (option_map_or (refuse m) r (accept m c)))
-    (sym allowed) (accepted m k c forward)
+    rw allowed (accepted m k c forward)
 
 charge_refused : (m : MachineState) (k : Kept) (c : Command) (rule : Rule) (after : MachineState)
     (messages : List Message) → obey m c ≡ obeyed (Err rule) after messages
@@ -100,11 +78,10 @@ pub kept_is : (acted : Result Reply Fault) (answer : Result Reply Rule) (m : Mac
 unfolding kept_after
 kept_is (Ok reply) answer m k c {new = new} acts is =
     let same : answer ≡ Ok reply = cc in
-    subst (λ a. kept_by reply (obey m c).machine k ≡ kept_of a new k) (sym same)
-    (ap (λ (o : Obeyed). kept_of (Ok reply) o.machine k) acts.obeys)
+    rw same (ap (λ (o : Obeyed). kept_of (Ok reply) o.machine k) acts.obeys)
 kept_is (Err (Refused rule)) answer m k c {new = new} acts is =
     let same : answer ≡ Err rule = cc in
-    subst (λ a. k ≡ kept_of a new k) (sym same) refl
+    rw same
 kept_is (Err Memory) answer m k c acts is = absurd cc
 
 pub kept_given_up : (acted : Result Reply Fault) (e : NoMemory) (m : MachineState) (k : Kept)

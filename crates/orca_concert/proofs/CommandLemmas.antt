@@ -1,6 +1,6 @@
 -- A command, and the close: messages are handed out, the run stands, and then its report is told.
-use Rattle.std.proofs.Common.{◌≡◌, ◌≢◌, ℕ, ◌+◌, ◌≤◌, Bool, true, false, List, [], ◌∷◌, ◌++◌, refl, sym, ◌∙◌, ap, subst, append_assoc, arith}
-use Rattle.std.specs.Prelude.{Option, Some, None, Result, Ok, Err, if◌then◌else◌}
+use Rattle.std.proofs.Common.{◌≡◌, ◌≢◌, ℕ, ◌≤◌, Bool, true, false, List, [], ◌∷◌, ◌++◌, refl, sym, ◌∙◌, ap, subst, append_assoc, arith}
+use Rattle.std.specs.Prelude.{Option, Some, None, Result, Ok, Err}
 use Rattle.orca_base.specs.declared.command.Command.{Command}
 use Rattle.orca_base.specs.declared.command.Fault.{Fault}
 use Rattle.orca_base.specs.declared.command.Fault.TheVariants.{Memory, Refused}
@@ -8,33 +8,30 @@ use Rattle.orca_base.specs.declared.command.Reply.{Reply}
 use Rattle.orca_base.specs.declared.command.Rule.{Rule}
 use Rattle.orca_base.specs.declared.message.Message.{Message}
 use Rattle.orca_base.specs.declared.message.Message.TheVariants as message
-use Rattle.orca_base.specs.declared.note.Note.{Note}
-use Rattle.orca_base.specs.MidiBytes.{note_on_bytes, note_off_bytes, control_bytes, bend_bytes}
-use Rattle.orca_base.specs.Ports.{Sent}
 use Rattle.orca_edit.specs.Machines.{Acts, Closes, obeyed}
-use Rattle.orca_edit.specs.Obeying.{MachineState, Obeyed, machine_closed, obey, piece_of}
-use Rattle.orca_edit.specs.Prices.{Kept, bill, charge}
-use Rattle.orca_notes.specs.Device.{Plays, device, midi, voices, IsFair}
+use Rattle.orca_edit.specs.Obeying.{MachineState, Obeyed, obey, piece_of}
+use Rattle.orca_edit.specs.Prices.{Kept, bill}
+use Rattle.orca_notes.specs.Device.{Plays, device, midi, voices}
 use Rattle.orca_notes.specs.Sound.{ends}
 use Rattle.orca_send.specs.Sending.{sends_of}
-use Rattle.orca_course.specs.Acts.{Act, gives, open_after, stand_after}
-use Rattle.orca_course.specs.Acts.Act.{Give, Obey, Stand}
-use Rattle.orca_course.specs.Courses.{Course, course, mapped, onward, onward_by}
-use Rattle.orca_course.specs.Doing.{Does, Rests, Stance, nowhere}
-use Rattle.orca_course.specs.Following.{Accompanies, Follows, midi_sent, sounding}
+use Rattle.orca_course.specs.Acts.{Act, gives}
+use Rattle.orca_course.specs.Acts.Act.{Obey, Stand}
+use Rattle.orca_course.specs.Courses.{Course}
+use Rattle.orca_course.specs.Doing.{Does, Rests, nowhere}
+use Rattle.orca_course.specs.Following.{Accompanies, Follows, midi_sent}
 use Rattle.orca_course.specs.Standings.{Standing, notes_of, standing, standing_after, standing_closed}
-use Rattle.orca_course.specs.Worlds.{Calls, Made, Sated, World, owing}
+use Rattle.orca_course.specs.Worlds.{Calls, Made, Sated, World}
 use Rattle.orca_course.specs.declared.ending.Stop.{Stop}
 use Rattle.orca_course.specs.declared.tally.Tally.{Tally}
 use Rattle.orca_course.specs.declared.refused.NoMemory.{NoMemory}
 use Rattle.orca_course.specs.declared.refused.NoMemory.TheVariants.{InSend, Elsewhere}
-use Rattle.orca_course.proofs.ActLemmas.{open_after-append, stand_after-append, stand_after-gives}
-use Rattle.orca_course.proofs.DoingLemmas.{answered, answered_same, does_acts, does_cut, does_mapped, does_none, does_then}
+use Rattle.orca_course.proofs.ActLemmas.{open_after-append, stand_after-append}
+use Rattle.orca_course.proofs.CourseLemmas.{onward_longer}
+use Rattle.orca_course.proofs.DoingLemmas.{answered_same, does_acts, does_begun, does_cut, does_mapped, does_none, does_then}
 use Rattle.orca_course.proofs.FollowLemmas.{Follows-front, accompanies_twice, follows_gives, keys_after_gives}
 use Rattle.orca_course.proofs.WorldLemmas.{made_none, made_obey, made_stand, made_twice, made_within, sated_twice, wants_later}
 use Rattle.orca_concert.specs.Concerts.{Concert, answer_of, close_course, command_course, concert, handed_of, obeyed_course, reported, silenced_course, stance_of, told_course, with_kept}
 use Rattle.orca_concert.specs.Manners.{Manner}
-use Rattle.orca_concert.proofs.ChargeLemmas.{charge_most}
 
 -- ---- messages
 
@@ -42,15 +39,8 @@ use Rattle.orca_concert.proofs.ChargeLemmas.{charge_most}
 midi_sent-sends_of : (messages : List Message) → midi_sent (sends_of messages) ≡ midi messages
 unfolding midi_sent midi
 midi_sent-sends_of [] = refl
-midi_sent-sends_of (message.On channel key velocity ∷ messages) =
-    ap (λ xs. note_on_bytes channel key velocity ∷ xs) (midi_sent-sends_of messages)
-midi_sent-sends_of (message.Off channel key ∷ messages) =
-    ap (λ xs. note_off_bytes channel key ∷ xs) (midi_sent-sends_of messages)
-midi_sent-sends_of (message.Control channel control value ∷ messages) =
-    ap (λ xs. control_bytes channel control value ∷ xs) (midi_sent-sends_of messages)
-midi_sent-sends_of (message.Bend channel lsb msb ∷ messages) =
-    ap (λ xs. bend_bytes channel lsb msb ∷ xs) (midi_sent-sends_of messages)
-midi_sent-sends_of (_ ∷ messages) = midi_sent-sends_of messages
+midi_sent-sends_of (message.On channel key velocity ∷ messages) = cc (midi_sent-sends_of messages)
+midi_sent-sends_of (_ ∷ messages) = cc (midi_sent-sends_of messages)
 
 -- messages that lead a device from one standing to another
 accompanies_sends : (s t : Standing) (messages : List Message)
@@ -60,7 +50,7 @@ accompanies_sends s t messages plays =
     let on = voices (notes_of s) in
     let is = midi_sent-sends_of messages in
     record {
-      follows = follows_gives on (sends_of messages) (subst (IsFair on) (sym is) plays.keys.fair);
+      follows = follows_gives on (sends_of messages) (rw is plays.keys.fair);
       keys = keys_after_gives on (sends_of messages) ∙ (ap (device on) is ∙ plays.keys.device);
     }
 
@@ -104,9 +94,8 @@ pub reported_done : {R : Type 0} (m : Manner R) (c : Course R Stop) (s : Concert
     {x y : World} {result : Result (Option Stop) NoMemory}
     → Does (nowhere (Some s.standing) m.hands) c s.kept x result kept y
     → Does (stance_of m) (reported c s) s x result (with_kept s kept) y
-reported_done m c s {kept = kept} {x = x} {y = y} {result = result} did =
-    subst (λ r. Does (stance_of m) (reported c s) s x r (with_kept s kept) y)
-    (answered_same result)
+reported_done m c s {result = result} did =
+    rw (← (answered_same result))
     (does_mapped (with_kept s) (λ end. end) result refl (λ r. refl) did)
 
 -- ---- a command
@@ -119,14 +108,12 @@ pub record IsObeyed (m : MachineState) (command : Command) (answer : Result Repl
 
 pub standing_same : {m n : MachineState} {k l : Kept} (t : Tally) → m ≡ n → k ≡ l
     → standing m k t ≡ standing n l t
-standing_same {n = n} {k = k} t machines kepts =
-    ap (λ m. standing m k t) machines ∙ ap (λ k. standing n k t) kepts
+standing_same t machines kepts = rw (machines, kepts)
 
 pub with_messages : {m : MachineState} {command : Command} {answer : Result Reply Rule}
     {new : MachineState} {messages others : List Message} → others ≡ messages
     → IsObeyed m command answer new messages → IsObeyed m command answer new others
-with_messages {m = m} {command = command} {answer = answer} {new = new} same is =
-    subst (λ ms. IsObeyed m command answer new ms) (sym same) is
+with_messages same is = rw same is
 
 pub obeyed_by : {m : MachineState} {command : Command} {new : MachineState}
     {messages : List Message} (acted : Result Reply Fault) (answer : Result Reply Rule)
@@ -149,18 +136,13 @@ given_up_by (Err (Refused rule)) e acts is = absurd cc
 given_up_by (Err Memory) e acts is = acts.obeys.machine
 
 -- the course of a command may take its bill at least
-least_by : {R : Type 0} (end : Option Stop) (c : Course (Concert R) Stop)
-    (next : Concert R → Course (Concert R) Stop) → c.bill ≤ (onward_by end c next).bill
-least_by None c next = omega arith
-least_by (Some stop) c next = omega arith
-
 bill_least : {R : Type 0} (m : Manner R) (line : ℕ) (command : Command) (s : Concert R)
     → bill s.standing.machine s.standing.kept command ≤ (command_course m line command s).bill
-unfolding command_course onward
+unfolding command_course
 bill_least m line command s =
     let o = obey s.standing.machine command in
-    least_by None (obeyed_course m command o s)
-    (λ t. reported (m.done line o.answer o.messages t.kept) t)
+    (onward_longer (obeyed_course m command o s)
+    (λ t. reported (m.done line o.answer o.messages t.kept) t)).2
 
 elsewhere_by : (acted : Result Reply Fault) (e : NoMemory) → Err e ≡ answer_of acted
     → e ≡ Elsewhere
@@ -230,11 +212,8 @@ pub command_done : {R : Type 0} (m : Manner R) (line : ℕ) (command : Command) 
     → Does (stance_of m) (command_course m line command s) s x result
     (concert (standing_after s.standing (obeyed answer new messages)) kept) w
 unfolding command_course
-command_done m line command s answer new messages {kept = kept} {w = w} {x = x} {result = result}
-    is made sated calls told =
-    subst (λ o. Does (stance_of m) (told_course m line command o s) s x result
-    (concert (standing_after s.standing (obeyed answer new messages)) kept) w)
-    (sym is.obeys)
+command_done m line command s answer new messages is made sated calls told =
+    rw is.obeys
     (told_done m line command (obeyed answer new messages) s is.plays made sated calls told)
 
 -- a send of a message was refused memory
@@ -247,20 +226,12 @@ obeyed_cut : {R : Type 0} (m : Manner R) (command : Command) (o : Obeyed) (s u :
 obeyed_cut m command o s u {x = x} {y = y} {z = z} InSend plays made sated other cut =
     let t = standing_after s.standing o in
     let begun = cut.called in
-    record {
-      did = record {
-        done = Obey command ∷ begun.done;
-        left = begun.left ++ Stand t ∷ [];
-        splits = ap (λ acts. Obey command ∷ acts ++ Stand t ∷ []) begun.splits
-            ∙ ap (λ acts. Obey command ∷ acts)
-            (append_assoc begun.done begun.left (Stand t ∷ []));
-        made = made_within (bill s.standing.machine s.standing.kept command) (omega arith)
-            (made_obey command (made_twice made begun.made));
-        rests = λ hands.
-            follows_cut m s.standing t o.messages begun.done begun.left plays begun.splits hands;
-        wants = wants_later InSend x y z sated begun.wants;
-      };
-    }
+    does_begun (Obey command ∷ begun.done) (begun.left ++ Stand t ∷ [])
+    (grind (arith, append_assoc, begun.splits))
+    (made_within (bill s.standing.machine s.standing.kept command) (omega arith)
+    (made_obey command (made_twice made begun.made)))
+    (λ hands. follows_cut m s.standing t o.messages begun.done begun.left plays begun.splits hands)
+    (wants_later InSend x y z sated begun.wants)
 obeyed_cut m command o s u Elsewhere plays made sated other cut = absurd (other refl)
 
 told_cut : {R : Type 0} (m : Manner R) (line : ℕ) (command : Command) (o : Obeyed)
@@ -280,9 +251,8 @@ pub command_cut : {R : Type 0} (m : Manner R) (line : ℕ) (command : Command) (
     → e ≢ Elsewhere → Calls {T = Unit {0}} (gives (handed_of m.hands messages)) (Err e) y z
     → Does (stance_of m) (command_course m line command s) s x (Err e) u z
 unfolding command_course
-command_cut m line command s u answer new messages {x = x} {z = z} e is made sated other cut =
-    subst (λ o. Does (stance_of m) (told_course m line command o s) s x (Err e) u z)
-    (sym is.obeys)
+command_cut m line command s u answer new messages e is made sated other cut =
+    rw is.obeys
     (told_cut m line command (obeyed answer new messages) s u e is.plays made sated other cut)
 
 -- the session was refused memory: nothing was done
@@ -292,9 +262,8 @@ pub command_given_up : {R : Type 0} (m : Manner R) (line : ℕ) (command : Comma
     → Made [] (bill s.standing.machine s.standing.kept command) x y → Sated x y
     → Does (stance_of m) (command_course m line command s) s x (Err e) (concert now s.kept) y
 unfolding command_course
-command_given_up m line command s now {x = x} {y = y} acted e is same made sated =
-    subst (λ f. Does (stance_of m) (command_course m line command s) s x (Err f)
-    (concert now s.kept) y) (sym (elsewhere_by acted e is))
+command_given_up m line command s now acted e is same made sated =
+    rw (elsewhere_by acted e is)
     (does_none (command_course m line command s) Elsewhere
     (made_within (command_course m line command s).bill (bill_least m line command s) made) sated
     (ap Some same))
@@ -306,44 +275,29 @@ silenced_done : {R : Type 0} (m : Manner R) (s : Concert R) {new : MachineState}
     → Calls {T = Unit {0}} (gives (handed_of m.hands messages)) (Ok tt) x y
     → Does (stance_of m) (silenced_course m s) s x (Ok None)
     (concert (standing_closed s.standing) s.kept) y
-silenced_done m s {new = new} {messages = messages} {x = x} {y = y} closes calls =
+silenced_done m s {messages = messages} {y = y} closes calls =
     let t = standing_closed s.standing in
-    let plays : Plays (notes_of s.standing) messages (notes_of t) =
-    subst (λ n. Plays (notes_of s.standing) messages (piece_of n).notes) closes.machine closes.plays
-    in
-    subst (λ ms. Does {E = Stop} (stance_of m)
-    (course (gives (handed_of m.hands ms) ++ Stand t ∷ []) 0 (concert t s.kept)) s x (Ok None)
-    (concert t s.kept) y) closes.ended
+    rw (← closes.ended)
     (does_acts
     (made_within 0 (omega arith) (made_twice calls.called.0 (made_stand t (made_none y))))
-    calls.called.1 (rests_handed m s.standing t messages s.kept s.kept plays))
+    calls.called.1
+    (rests_handed m s.standing t messages s.kept s.kept (rw closes.machine at closes.plays)))
 
 silenced_cut : {R : Type 0} (m : Manner R) (s u : Concert R) {new : MachineState}
     {messages : List Message} {x y : World} (e : NoMemory)
     → Closes s.standing.machine new messages → e ≢ Elsewhere
     → Calls {T = Unit {0}} (gives (handed_of m.hands messages)) (Err e) x y
     → Does (stance_of m) (silenced_course m s) s x (Err e) u y
-silenced_cut m s u {new = new} {messages = messages} {x = x} {y = y} InSend closes other cut =
+silenced_cut m s u {messages = messages} InSend closes other cut =
     let t = standing_closed s.standing in
     let begun = cut.called in
     let plays : Plays (notes_of s.standing) messages (notes_of t) =
-    subst (λ n. Plays (notes_of s.standing) messages (piece_of n).notes) closes.machine closes.plays
-    in
-    subst (λ ms. Does {E = Stop} (stance_of m)
-    (course (gives (handed_of m.hands ms) ++ Stand t ∷ []) 0 (concert t s.kept)) s x (Err InSend) u
-    y) closes.ended
-    (record {
-      did = record {
-        done = begun.done;
-        left = begun.left ++ Stand t ∷ [];
-        splits = ap (λ acts. acts ++ Stand t ∷ []) begun.splits
-            ∙ append_assoc begun.done begun.left (Stand t ∷ []);
-        made = begun.made;
-        rests = λ hands.
-            follows_cut m s.standing t messages begun.done begun.left plays begun.splits hands;
-        wants = begun.wants;
-      };
-    })
+    rw closes.machine at closes.plays in
+    rw (← closes.ended)
+    (does_begun begun.done (begun.left ++ Stand t ∷ []) (grind (arith, append_assoc, begun.splits))
+    begun.made
+    (λ hands. follows_cut m s.standing t messages begun.done begun.left plays begun.splits hands)
+    begun.wants)
 silenced_cut m s u Elsewhere closes other cut = absurd (other refl)
 
 pub close_done : {R : Type 0} (m : Manner R) (s : Concert R) {new : MachineState}
@@ -355,16 +309,12 @@ pub close_done : {R : Type 0} (m : Manner R) (s : Concert R) {new : MachineState
     → Does (stance_of m) (close_course m s) s x result
     (concert (standing new s.standing.kept s.standing.tally) kept) z
 unfolding close_course
-close_done m s {new = new} {messages = messages} {kept = kept} {x = x} {y = y} {z = z}
-    {result = result} closes calls told =
-    subst (λ n. Does (stance_of m) (close_course m s) s x result
-    (concert (standing n s.standing.kept s.standing.tally) kept) z) (sym closes.machine)
+close_done m s closes calls told =
+    rw closes.machine
     (does_then (λ t. reported (m.close (ends (notes_of s.standing)) t.kept) t)
     (silenced_done m s closes calls)
     (reported_done m (m.close (ends (notes_of s.standing)) s.kept)
-    (concert (standing_closed s.standing) s.kept)
-    (subst (λ ms. Does (nowhere (Some (standing_closed s.standing)) m.hands) (m.close ms s.kept)
-    s.kept y result kept z) closes.ended told)))
+    (concert (standing_closed s.standing) s.kept) (rw closes.ended at told)))
 
 pub close_cut : {R : Type 0} (m : Manner R) (s u : Concert R) {new : MachineState}
     {messages : List Message} {x y : World} (e : NoMemory)
@@ -380,8 +330,6 @@ close_cut m s u e closes other cut =
 pub ends_followed : (s : Standing) {new : MachineState} {messages : List Message}
     → Closes s.machine new messages
     → Accompanies (Some s) (gives (sends_of (ends (notes_of s)))) (Some (standing_closed s))
-ends_followed s {new = new} {messages = messages} closes =
-    let t = standing_closed s in
-    subst (λ ms. Accompanies (Some s) (gives (sends_of ms)) (Some t)) closes.ended
-    (accompanies_sends s t messages
-    (subst (λ n. Plays (notes_of s) messages (piece_of n).notes) closes.machine closes.plays))
+ends_followed s {messages = messages} closes =
+    rw (← closes.ended)
+    (accompanies_sends s (standing_closed s) messages (rw closes.machine at closes.plays))

@@ -1,9 +1,9 @@
 -- Messages that are sent, one after another.
-use Rattle.std.proofs.Common.{◌≡◌, ℕ, ◌+◌, ◌<◌, List, [], ◌∷◌, ◌++◌, refl, sym, ◌∙◌, ap, length, get_or, drop}
+use Rattle.std.proofs.Common.{◌≡◌, ℕ, ◌+◌, ◌<◌, List, [], ◌∷◌, ◌++◌, sym, ◌∙◌, ap, length, get_or, drop}
 use Rattle.std.specs.Prelude.{map}
-use Rattle.std.proofs.lemmas.List.{drop_all, drop_more}
+use Rattle.std.proofs.lemmas.List.{drop_more}
 use Rattle.orca_base.specs.Ports.{Sent}
-use Rattle.orca_course.specs.Acts.{Act, gives}
+use Rattle.orca_course.specs.Acts.{gives}
 use Rattle.orca_course.specs.Acts.Act.{Give}
 
 -- the sends for the items from here on: that of the next one, and the others

@@ -1,4 +1,4 @@
-use Rattle.std.proofs.Common.{ap, sym}
+use Rattle.std.proofs.Common.{ap}
 use Rattle.std.specs.Prelude.{Some, Ok, Err}
 use Rattle.orca_course.proofs.CallLemmas.{calls_owing}
 use Rattle.orca_course.proofs.DoingLemmas.{does_err, does_owing}

@@ -1,5 +1,5 @@
 use Rattle.std.proofs.Common.{◌∙◌, ap}
-use Rattle.std.specs.Prelude.{Some, None, Ok, Err}
+use Rattle.std.specs.Prelude.{None}
 use Rattle.orca_course.proofs.DoingLemmas.{does_err}
 use Rattle.orca_concert.specs.Concerts.{halt_of}
 use Rattle.orca_concert.proofs.ConcertLemmas.{order_cut, order_done}

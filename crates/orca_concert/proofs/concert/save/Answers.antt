@@ -1,12 +1,14 @@
 use Rattle.std.proofs.Common.{refl}
-use Rattle.std.specs.Prelude.{Some}
-use Rattle.orca_course.proofs.DoingLemmas.{does_owing}
-use Rattle.orca_concert.proofs.ConcertLemmas.{saved_ended, saved_told}
+use Rattle.orca_course.proofs.DoingLemmas.{does_end, does_owing}
+use Rattle.orca_concert.specs.Concerts.{saved_course}
+use Rattle.orca_concert.proofs.CommandLemmas.{reported_done}
 use Rattle.orca_concert.proofs.concert.save.Goals as goal
 
 pub returns-in-Some : goal.returns-in-Some
-returns-in-Some g c = saved_ended _ _ _ _ _ c.in-Some.is
+unfolding saved_course
+returns-in-Some g c = rw c.in-Some.is (does_end _ _ refl)
 
 pub returns-in-None : goal.returns-in-None
+unfolding saved_course
 returns-in-None g c =
-    saved_told _ _ _ c.in-None.is (does_owing _ _ (c.save.ensures _ _))
+    rw c.in-None.is (reported_done g.R.Report.manner _ _ (does_owing _ _ (c.save.ensures _ _)))
