@@ -231,9 +231,7 @@ impl<F: Files + Drop, O: Outs + Drop, I: Inbox + Drop, L: Ledger> Desk<F, O, I, 
         ensures { Polled until result (arrived result bytes.new) self.old self.new }
     {
         let answer = self.inbox.poll(&self.outs, until, bytes);
-        if let Answer::Failed = answer {
-            self.lost = true;
-        }
+        self.lost |= matches!(answer, Answer::Failed);
         answer
     }
 

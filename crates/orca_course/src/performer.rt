@@ -79,6 +79,7 @@ fn arrived(answer: Answer, filled: &[u8; ARRIVAL_BYTES]) -> &[u8]
 }
 
 /// Does what an answer brings.
+#[tactic(auto, using(crate::proofs::DoingLemmas::does_end), unfolding(crate::specs::Performers::heard, crate::specs::Courses::mapped))]
 fn heed<P: Performer, F: Files + Drop, O: Outs + Drop, I: Inbox + Drop, L: Ledger>(
     performer: &mut P,
     desk: &mut Desk<F, O, I, L>,
@@ -122,6 +123,7 @@ fn attend<P: Performer, F: Files + Drop, O: Outs + Drop, I: Inbox + Drop, L: Led
 }
 
 /// Does what comes first.
+#[tactic(auto, unfolding(crate::specs::Performers::opened, crate::specs::Courses::mapped))]
 fn open<P: Performer, F: Files + Drop, O: Outs + Drop, I: Inbox + Drop, L: Ledger>(
     performer: &mut P,
     desk: &mut Desk<F, O, I, L>,
@@ -137,6 +139,7 @@ fn open<P: Performer, F: Files + Drop, O: Outs + Drop, I: Inbox + Drop, L: Ledge
 }
 
 /// Does what comes first, and then polls until the performance ends.
+#[tactic(auto, using(crate::proofs::PollLemmas::begun_left))]
 fn begin<P: Performer, F: Files + Drop, O: Outs + Drop, I: Inbox + Drop, L: Ledger>(
     performer: &mut P,
     desk: &mut Desk<F, O, I, L>,
@@ -158,6 +161,7 @@ fn begin<P: Performer, F: Files + Drop, O: Outs + Drop, I: Inbox + Drop, L: Ledg
 ///
 /// If memory is refused by a send, nothing follows it. If it is refused elsewhere, the notes still
 /// sound: the caller ends them.
+#[tactic(auto, using(crate::proofs::PollLemmas::performance_err))]
 pub fn perform<P: Performer, F: Files + Drop, O: Outs + Drop, I: Inbox + Drop, L: Ledger>(
     performer: &mut P,
     desk: &mut Desk<F, O, I, L>,
