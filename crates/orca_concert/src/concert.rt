@@ -23,6 +23,7 @@ use std::sync::ledger::Ledger;
 /// Does all that the source gives, and ends the run: the report is told where the run stands, every
 /// note ends, and the report saves. What has ended the run early is answered; then nothing is told
 /// of where it stands, and nothing is saved.
+#[tactic(auto, using(orca_course::proofs::DoingLemmas::does_afterwards_cut), unfolding(crate::specs::Concerts::concert_course))]
 pub fn play<
     M: Machine + Drop,
     S: Source,
@@ -60,6 +61,7 @@ fn command_at<M: Machine>(order: Order, machine: &M) -> Command
 }
 
 /// Does an order once, and tells whether its cue goes on.
+#[tactic(auto, unfolding(crate::specs::Concerts::order_course, orca_course::specs::Courses::mapped))]
 fn do_order<
     M: Machine + Drop,
     R: Report + Drop,
@@ -145,6 +147,7 @@ fn do_cues<
 }
 
 /// Ends a run, by what has ended it early, if anything has.
+#[tactic(auto, using(orca_course::proofs::DoingLemmas::does_afterwards_cut), unfolding(crate::specs::Concerts::last_course))]
 fn finish<
     M: Machine + Drop,
     R: Report + Drop,
@@ -170,6 +173,7 @@ fn finish<
 }
 
 /// Tells the report where the run stands at last, unless it was ended.
+#[tactic(auto, using(orca_course::proofs::DoingLemmas::does_end), unfolding(crate::specs::Concerts::final_course))]
 fn tell_last<
     M: Machine + Drop,
     R: Report + Drop,
@@ -219,6 +223,7 @@ pub fn close<
 }
 
 /// Lets the report save, unless the run was ended.
+#[tactic(auto, using(orca_course::proofs::DoingLemmas::does_end), unfolding(crate::specs::Concerts::saved_course))]
 fn save<
     M: Machine + Drop,
     R: Report + Drop,

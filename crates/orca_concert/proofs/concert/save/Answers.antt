@@ -1,12 +1,7 @@
-use Rattle.std.proofs.Common.{refl}
-use Rattle.orca_course.proofs.DoingLemmas.{does_end, does_owing}
+use Rattle.orca_course.proofs.DoingLemmas.{does_owing}
 use Rattle.orca_concert.specs.Concerts.{saved_course}
 use Rattle.orca_concert.proofs.CommandLemmas.{reported_done}
 use Rattle.orca_concert.proofs.concert.save.Goals as goal
-
-pub returns-in-Some : goal.returns-in-Some
-unfolding saved_course
-returns-in-Some g c = rw c.in-Some.is (does_end _ _ refl)
 
 pub returns-in-None : goal.returns-in-None
 unfolding saved_course
