@@ -1,8 +1,8 @@
-//! Tests of sessions and of notes. They need public calls
-//! alone, so they stand in a crate of their own: the tests of a crate prove that crate once more.
+//! What a rewind far back may cost, and calls that no run makes. They need public calls alone, so they
+//! stand in a crate of their own: the tests of a crate prove that crate once more.
 #![tactic(auto)]
 
 #[cfg(test)]
-mod notes;
+mod calls;
 #[cfg(test)]
-mod sessions;
+mod rewinds;

@@ -1,5 +1,5 @@
 use Rattle.session_tests.proofs.BlankLemmas.{IsPlayed, column}
-use Rattle.session_tests.proofs.sessions.checkpoints.play_dots.Given as goal
+use Rattle.session_tests.proofs.rewinds.play_dots.Given as goal
 
 -- so many frames were played
 abbrev pub invariant-loop : goal.invariant-loop

@@ -1,7 +1,7 @@
-use Rattle.std.proofs.Common.{arith, ◌∙◌}
+use Rattle.std.proofs.Common.{arith}
 use Rattle.std.proofs.lemmas.Result.{err_from_is_err_and}
 use Rattle.session_tests.proofs.BlankLemmas.{column, one-more, only-memory-frame}
-use Rattle.session_tests.proofs.sessions.checkpoints.play_dots.Goals as goal
+use Rattle.session_tests.proofs.rewinds.play_dots.Goals as goal
 
 pub loop-preserved : goal.loop-preserved
 loop-preserved g c =

@@ -7,8 +7,7 @@ use Rattle.orca_base.specs.declared.command.Reply.TheVariants.{Jumped}
 use Rattle.orca_edit.specs.Obeying.{MachineState}
 use Rattle.orca_edit.specs.Prices.{charge}
 use Rattle.session_tests.proofs.BlankLemmas.{IsIdle, bill-far, column, rewind-answer}
-use Rattle.session_tests.proofs.sessions.checkpoints.rewind_dots.Given.{Over}
-use Rattle.session_tests.proofs.sessions.checkpoints.rewind_dots.Goals as goal
+use Rattle.session_tests.proofs.rewinds.rewind_dots.Goals as goal
 
 pub returns-clause-jumped : goal.returns-clause-jumped
 returns-clause-jumped g c =

@@ -1,4 +1,4 @@
-use Rattle.session_tests.proofs.sessions.checkpoints.rewind_far_back.Given as goal
+use Rattle.session_tests.proofs.rewinds.rewind_far_back.Given as goal
 
 abbrev pub ghosts-go_far_back : goal.ghosts-go_far_back
 ghosts-go_far_back g a = record { name = a.blank.name; parts = a.blank.parts }

@@ -1,11 +1,10 @@
-//! Checkpoints: how many are kept, and what a rewind far back takes by them.
+//! What a rewind far back takes, by the checkpoints.
 
 ghost use Rattle.std.specs.Prelude.{◌≡◌, ◌+◌, ◌<◌, ◌≤◌, All, IfErr, OnOk, length};
 ghost use Rattle.orca_base.specs.declared.command.Entry.TheVariants.{Frame};
 ghost use Rattle.orca_grid.specs.BlankGrid.{blank_sheet};
 ghost use Rattle.orca_session.specs.Session.{session_at_start};
 
-use super::{expect_left, jumped, open, play_frames};
 use orca_base::{Command, Dims, Entry, Fault, Now, Reply, Steps};
 use orca_board::Board;
 use orca_edit::Machine;
@@ -13,41 +12,9 @@ use orca_frame::frame;
 use orca_grid::Grid;
 use orca_notes::Messages;
 use orca_session::Session;
-use std::alloc::Global;
 use std::marker::Brand;
-use std::process::Abort;
 use std::sync::ledger::{Blank, Ledger};
 use std::test::Fail;
-
-/// How many entries there are, each of them a frame, and the spacing and the checkpoints then. The
-/// 66th checkpoint would be too many: every second one stays.
-const SPACINGS: [(u32, u32, u32); 5] = [
-    (0, 256, 1),
-    (255, 256, 1),
-    (256, 256, 2),
-    (16_639, 256, 65),
-    (16_640, 512, 33),
-];
-
-fn expect_spacings<L: Ledger>(rt: &impl Abort, alloc: Global, blank: Blank) -> Result<(), Fail>
-    requires name { blank.name ≡ L.name }
-    requires parts { blank.parts ≡ L.parts }
-    requires some { 0 < blank.parts }
-{
-    let mut steps = Steps::<L>::start(blank);
-    for (frames, spacing, checkpoints) in SPACINGS {
-        let mut session = open(rt, alloc, b".\n", 20_000)?;
-        play_frames(rt, alloc, &mut session, frames, &mut steps)?;
-        assert_eq!(rt; session.spacing(), spacing, "{frames}");
-        assert_eq!(rt; session.checkpoints(), checkpoints, "{frames}");
-    }
-    Ok(())
-}
-
-#[test]
-fn spacings(rt: HostRuntime) -> Result<(), Fail> {
-    expect_spacings::<Brand>(&rt, rt.alloc(), Blank::new(1))
-}
 
 /// Plays 2,000 frames on 256 rows of one dot. The last 1,024 of them keep their patches.
 fn play_dots<L: Ledger>(
@@ -136,10 +103,9 @@ fn rewind_far_back(rt: HostRuntime) -> Result<(), Fail> {
     let mut session = Session::start(alloc, &grid, 1, 4_000)?;
     let mut messages = Messages::start(alloc)?;
     let answer = go_far_back::<Brand>(&mut session, &mut messages, Blank::new(1));
-    assert_eq!(rt; answer, jumped(900));
-    expect_left(&rt, &session, 900, 901, 0);
+    assert_eq!(rt; answer, Ok(Reply::Jumped { moment: 900 }));
     assert!(rt; matches!(session.entry(900), Some(Entry::Hush)) && session.entry(901).is_none());
-    assert_eq!(rt; session.checkpoints(), 4);
+    assert!(rt; session.checkpoints() == 4 && session.spacing() == 256);
     let mut board = Board::start(alloc, &grid)?;
     go_forward::<Brand>(&mut board, Blank::new(1));
     Ok(())

@@ -1,5 +1,5 @@
 use Rattle.std.proofs.Common.{◌≡◌, ◌+◌, ◌*◌, ◌≤◌}
-use Rattle.session_tests.proofs.sessions.checkpoints.play_rows.Given as goal
+use Rattle.session_tests.proofs.rewinds.play_rows.Given as goal
 
 -- at least a step for each row and one more, for each frame so far
 abbrev pub invariant-loop-tick : goal.invariant-loop-tick

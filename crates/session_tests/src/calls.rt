@@ -1,0 +1,42 @@
+//! Calls that no run makes: a line that is printed, a script of format 1, and the small terminal.
+
+use orca_base::{Command, Dims};
+use orca_cues::{Cue, Order, Script, ScriptFault, Source, check_script};
+use orca_grid::Grid;
+use orca_script::print;
+use orca_term::{Editor, Screen, StatusLine, View};
+use std::test::Fail;
+
+#[test]
+fn a_printed_line_is_a_script_of_format_1(rt: HostRuntime) -> Result<(), Fail> {
+    let command = Command::Rewind { moment: 10 };
+    let mut text = Vec::from_slice(rt.alloc(), b"# a song\n\n")?;
+    print(&command, &mut text)?;
+    assert!(rt; text.as_slice() == b"# a song\n\nrewind 10\n".as_slice());
+    let Ok(()) = check_script(b"# a song\n\nrewind 10\n") else {
+        panic!(rt; "the script is refused");
+    };
+    let mut script = Script::of(b"# a song\n\nrewind 10\n");
+    let (line, times, order) = (3, 1, Order::Do(command));
+    assert!(rt; script.next() == Some(Cue { line, times, order }) && script.next() == None);
+    let (line, column) = (1, 1);
+    assert!(rt; check_script(b"!orca 2 seed 1") == Err(ScriptFault { line, column }));
+    Ok(())
+}
+
+#[test]
+fn a_painting_is_shown(rt: HostRuntime) -> Result<(), Fail> {
+    let grid = Grid::blank(rt.alloc(), Dims { h: 1, w: 2 })?;
+    let mut view = View::start(rt.alloc(), 2, 8)?;
+    let mut screen = Screen::start(rt.alloc(), 2, 8)?;
+    let line = StatusLine {
+        tick: 0,
+        moments: 0,
+        sounding: 0,
+        note: None,
+    };
+    screen.show(view.paint(&grid, &Editor::start(), &line));
+    assert!(rt; screen.cell(0, 0) == (b'.', 7) && screen.cell(0, 1) == (b'.', 2));
+    assert!(rt; screen.cell(0, 2) == (b' ', 0) && screen.cell(1, 7) == (b',', 0));
+    Ok(())
+}
