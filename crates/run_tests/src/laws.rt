@@ -1,0 +1,13 @@
+//! The laws of devices and of performances, which stand with the program.
+
+use orca_course::device_law;
+use orca_live::{appending_law, cutting_law, painting_law, script_law};
+
+#[test]
+fn the_laws_can_be_called(rt: HostRuntime) {
+    device_law();
+    appending_law();
+    cutting_law();
+    script_law();
+    painting_law();
+}
