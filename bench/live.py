@@ -119,8 +119,8 @@ def interval_of(bpm):
 
 
 def late_by(moments, interval):
-    """How late each frame is. The least late of a row is taken to be in time; a frame that is more than an interval late
-    begins another row, since its beat begins anew."""
+    """How late each frame is. The least late of a row is taken to be in time; after a frame that is more than an interval
+    late another row begins, since the beat begins anew."""
     late, row = [], []
 
     def close():
@@ -128,11 +128,12 @@ def late_by(moments, interval):
         late.extend(moment - turn * interval - due for turn, moment in enumerate(row))
 
     for moment in moments:
-        if row and moment - row[0] - len(row) * interval > 2 * interval:
+        row.append(moment)
+        if moment - row[0] - (len(row) - 1) * interval > interval:
             close()
             row = []
-        row.append(moment)
-    close()
+    if row:
+        close()
     return late
 
 
