@@ -1,14 +1,12 @@
 -- What was done of an outline, and calls before it: a load, the wait for a player, the ports.
 use Rattle.std.proofs.Common.{◌≡◌, ◌≢◌, ◌⊎◌, inl, inr, ℕ, ◌+◌, Bool, false, List, [], ◌∷◌, ◌++◌, refl, sym, ◌∙◌, ap, subst, append_assoc, append-nil, arith}
-use Rattle.std.specs.Prelude.{Option, Some, None, IfSome, Result, Ok, Err}
-use Rattle.orca_concert.specs.Concerts.{handed_of}
+use Rattle.std.specs.Prelude.{Option, Some, None, IfSome, Ok}
 use Rattle.orca_course.specs.Acts.{Act, AreMute, commands_in, given, gives, lost_after, open_after, polls_in, stand_after}
 use Rattle.orca_course.specs.Acts.Act.{Attach, Listen, Load}
 use Rattle.orca_course.specs.Following.{Follows, keys_after_acts, sounding}
 use Rattle.orca_course.specs.Worlds.{AreBegun, AreStored, Called, Calls, Made, Sated, World}
 use Rattle.orca_course.specs.declared.refused.NoMemory.{NoMemory}
 use Rattle.orca_course.proofs.ActLemmas.{open-mute, stand-mute}
-use Rattle.orca_course.proofs.CallLemmas.{SoCalled, so_cut, so_more, so_over}
 use Rattle.orca_course.proofs.FollowLemmas.{follows-mute, keys-mute}
 use Rattle.orca_course.proofs.WorldLemmas.{made_none, made_twice, made_within, sated_twice}
 use Rattle.orca_notes.specs.Device.{Voice}
@@ -18,10 +16,10 @@ use Rattle.orca_rig.specs.Outside.{Contents, Rose}
 use Rattle.orca_term.specs.Picture.{IsScreen}
 use Rattle.orca_words.specs.Requests.{Setup}
 use Rattle.orca_player.specs.Doing.{Came, CameBy, IsBlamed, IsWhole, KeepsTake, ReadsBack, WasRefused, status_at}
-use Rattle.orca_player.specs.Outlines.{Brought, Outline, after, attaches, stopped}
+use Rattle.orca_player.specs.Outlines.{Brought, Outline, after, attaches, nothing, plain, stopped}
 use Rattle.orca_player.specs.Takes.{IsKept, Take, saves_in}
 use Rattle.orca_player.specs.declared.status.Status.{Status}
-use Rattle.orca_player.specs.declared.status.Status.TheVariants.{FileFault, InboxFault, Memory}
+use Rattle.orca_player.specs.declared.status.Status.TheVariants.{FileFault, Memory}
 
 -- ---- calls before the session is opened
 
@@ -62,15 +60,6 @@ calls-front (_ ∷ xs) ys calls = absurd calls
 pub attaches-calls : (setup : Setup) → AreCalls (attaches setup)
 attaches-calls setup = grind arith
 
--- the last of some calls, which are all that is left
-pub calls_last : {T : Type 0} {whole left : List Act} (acts : List Act) {x y z : World}
-    (result : Result T NoMemory) → left ≡ acts → SoCalled whole left x y → Calls acts result y z
-    → Calls whole result x z
-calls_last acts (Ok done) is so_far calls =
-    so_over done refl (so_more acts [] (is ∙ sym (append-nil acts)) so_far calls.called)
-calls_last acts (Err e) is so_far calls =
-    so_cut acts [] (is ∙ sym (append-nil acts)) so_far calls
-
 -- ---- one of the ways
 
 pub came_whole : {o : Outline} {x y : World} {status : Status} → IsWhole o x status y
@@ -95,52 +84,47 @@ came_still o made =
 pub came_none : (o : Outline) (x : World) → Came o x Memory x
 came_none o x = came_still o (made_none x)
 
--- a run ends as planned that opened no session and sent nothing
-pub came_bare : (o : Outline) (planned : Status) {x y : World} → o.course.ending ≡ Some planned
-    → o.course.state ≡ None → AreMute o.course.acts → Made o.course.acts o.course.bill x y
-    → Sated x y → IsBlamed planned x y → Came o x (status_at planned y) y
-came_bare o planned ends none mute made sated blamed = came_whole (record {
-  planned = planned;
-  ending = ends;
-  settles = refl;
-  blamed = blamed;
-  made = made;
-  sated = sated;
-  settled = open-mute o.course.acts mute;
-  stands = none ∙ sym (stand-mute None o.course.acts mute);
-  silent = ap sounding none;
-  follows = λ hands. follows-mute [] o.course.acts mute;
-  keys = λ hands. keys-mute [] o.course.acts mute;
-})
-
-pub came_stopped : (planned : Status) (x : World) → IsBlamed planned x x
-    → Came (stopped planned) x (status_at planned x) x
-came_stopped planned x blamed =
-    came_bare (stopped planned) planned refl refl tt (made_none x) refl blamed
+-- what matters of an outline is its course, and whether it hands out
+pub came_plain : (o : Outline) {x y : World} {status : Status}
+    → Came (plain o.hands o.course) x status y → Came o x status y
+came_plain o came = record {
+  came = elim came.came [
+    | inl whole ↦ inl (search whole)
+    | inr (memory, inl stops) ↦ inr (memory, inl (search stops))
+    | inr (memory, inr (inl closes)) ↦ inr (memory, inr (inl (search closes)))
+    | inr (memory, inr (inr early)) ↦ inr (memory, inr (inr (search early)))
+  ];
+}
 
 -- ---- calls before it
 
--- the counts of faults of the files, and the record of those of the inbox, are as before
-record AsBefore (x y : World) : Type 0 where
+-- calls were done, and the count of faults of the files, and the record of those of the inbox, are
+-- as before
+pub record Before (acts : List Act) (x y : World) : Type 0 where
+  pub calls : AreCalls acts
   pub lost : y.lost ≡ x.lost
   pub files : y.shelf.faults ≡ x.shelf.faults
+  pub made : Made acts 0 x y
+  pub sated : Sated x y
 
-blamed_after : (planned : Status) {x y : World} (z : World) → AsBefore x y → IsBlamed planned y z
-    → IsBlamed planned x z
-blamed_after planned z same blamed = grind arith
+blamed_after : (planned : Status) {acts : List Act} {x y : World} (z : World) → Before acts x y
+    → IsBlamed planned y z → IsBlamed planned x z
+blamed_after planned z before blamed =
+    let lost = before.lost in
+    let files = before.files in
+    grind arith
 
-whole_after : (acts : List Act) (o : Outline) {x y z : World} {status : Status} → AreCalls acts
-    → AsBefore x y → Made acts 0 x y → Sated x y → IsWhole o y status z
-    → IsWhole (after acts o) x status z
-whole_after acts o {x = x} {y = y} {z = z} calls same made sated whole =
-    let bare = calls_bare acts calls in
+whole_after : {acts : List Act} (o : Outline) {x y z : World} {status : Status} → Before acts x y
+    → IsWhole o y status z → IsWhole (after acts o) x status z
+whole_after {acts = acts} o {x = x} {y = y} {z = z} before whole =
+    let bare = calls_bare acts before.calls in
     record {
       planned = whole.planned;
       ending = whole.ending;
       settles = whole.settles;
-      blamed = blamed_after whole.planned z same whole.blamed;
-      made = made_twice made whole.made;
-      sated = sated_twice x y z sated whole.sated;
+      blamed = blamed_after whole.planned z before whole.blamed;
+      made = made_twice before.made whole.made;
+      sated = sated_twice x y z before.sated whole.sated;
       settled = bare.settled o.course.acts ∙ whole.settled;
       stands = whole.stands ∙ sym (bare.stands o.course.acts);
       silent = whole.silent;
@@ -153,57 +137,54 @@ splits_after : (acts whole begun left : List Act) → whole ≡ begun ++ left
 splits_after acts whole begun left splits =
     ap (λ more. acts ++ more) splits ∙ sym (append_assoc acts begun left)
 
-rose_after : (x y z : World) → Sated x y → Rose y.ports.wants z.ports.wants
-    → Rose x.ports.wants z.ports.wants
-rose_after x y z sated rose = subst (λ n. Rose n z.ports.wants) sated rose
-
 pub unsaid_after : {A : Type 0} (x y z : World) → Sated x y
     → A ⊎ Rose y.ports.wants z.ports.wants → A ⊎ Rose x.ports.wants z.ports.wants
 unsaid_after x y z sated all = grind arith
 
-refused_after : (acts : List Act) (o : Outline) {x y z : World} → AreBare acts
-    → Made acts 0 x y → Sated x y → WasRefused o y z → WasRefused (after acts o) x z
-refused_after acts o {x = x} {y = y} {z = z} bare made sated (inl stops) = inl (record {
-  begun = acts ++ stops.begun;
-  left = stops.left;
-  splits = splits_after acts o.course.acts stops.begun stops.left stops.splits;
-  made = made_twice made stops.made;
-  wanted = rose_after x y z sated stops.wanted;
-  follows = λ hands. bare.follows [] stops.begun (stops.follows hands);
-})
-refused_after acts o {x = x} {y = y} {z = z} bare made sated (inr (inl closes)) =
-    let all = sym (append_assoc acts closes.begun (gives closes.closing)) in
-    inr (inl (record {
-      begun = acts ++ closes.begun;
-      left = closes.left;
-      splits = splits_after acts o.course.acts closes.begun closes.left closes.splits;
-      settled = bare.settled closes.begun ∙ closes.settled;
-      closing = closes.closing;
-      unsaid = closes.unsaid;
-      closes = ap (λ s. handed_of o.hands (ends (sounding s))) (bare.stands closes.begun)
-          ∙ closes.closes;
-      all = unsaid_after x y z sated closes.all;
-      made = subst (λ acts. Made acts (0 + o.course.bill) x z) all (made_twice made closes.made);
-      follows = λ hands. subst (Follows []) all
-          (bare.follows [] (closes.begun ++ gives closes.closing) (closes.follows hands));
-    }))
-refused_after acts o bare made sated (inr (inr early)) = inr (inr (record {
-  begun = acts ++ early.begun;
-  left = early.left;
-  splits = splits_after acts o.course.acts early.begun early.left early.splits;
-  none = bare.sends early.begun ∙ early.none;
-  unopened = bare.stands early.begun ∙ early.unopened;
-  made = made_twice made early.made;
-}))
+refused_after : {acts : List Act} (o : Outline) {x y z : World} → Before acts x y
+    → WasRefused o y z → WasRefused (after acts o) x z
+refused_after {acts = acts} o {x = x} {y = y} {z = z} before refused =
+    let bare = calls_bare acts before.calls in
+    elim refused [
+      | inl stops ↦ inl (record {
+        begun = acts ++ stops.begun;
+        left = stops.left;
+        splits = splits_after acts _ stops.begun stops.left stops.splits;
+        made = made_twice before.made stops.made;
+        wanted = subst (λ n. Rose n z.ports.wants) before.sated stops.wanted;
+        follows = λ hands. bare.follows [] stops.begun (stops.follows hands);
+      })
+      | inr (inl closes) ↦
+          let all = sym (append_assoc acts closes.begun (gives closes.closing)) in
+          inr (inl (record {
+            begun = acts ++ closes.begun;
+            left = closes.left;
+            splits = splits_after acts _ closes.begun closes.left closes.splits;
+            settled = bare.settled closes.begun ∙ closes.settled;
+            closing = closes.closing;
+            unsaid = closes.unsaid;
+            closes = rw bare.stands closes.closes;
+            all = unsaid_after x y z before.sated closes.all;
+            made = rw all at (made_twice before.made closes.made);
+            follows = λ hands. rw all at
+                (bare.follows [] (closes.begun ++ gives closes.closing) (closes.follows hands));
+          }))
+      | inr (inr early) ↦ inr (inr (record {
+        begun = acts ++ early.begun;
+        left = early.left;
+        splits = splits_after acts _ early.begun early.left early.splits;
+        none = bare.sends early.begun ∙ early.none;
+        unopened = bare.stands early.begun ∙ early.unopened;
+        made = made_twice before.made early.made;
+      }))
+    ]
 
-came_after : {acts : List Act} (o : Outline) {x y z : World} {status : Status} → AreCalls acts
-    → AsBefore x y → Made acts 0 x y → Sated x y → Came o y status z
-    → Came (after acts o) x status z
-came_after {acts = acts} o calls same made sated more = record {
+pub came_after : {acts : List Act} (o : Outline) {x y z : World} {status : Status}
+    → Before acts x y → Came o y status z → Came (after acts o) x status z
+came_after o before more = record {
   came = elim more.came [
-    | inl whole ↦ inl (whole_after acts o calls same made sated whole)
-    | inr refused ↦
-        inr (refused.0, refused_after acts o (calls_bare acts calls) made sated refused.1)
+    | inl whole ↦ inl (whole_after o before whole)
+    | inr refused ↦ inr (refused.0, refused_after o before refused.1)
   ];
 }
 
@@ -223,47 +204,61 @@ came_cut acts o calls cut =
       made = made_within (0 + o.course.bill) (omega arith) cut.made;
     })))
 
--- ---- a load
+-- a run ends as planned that opened no session and sent nothing
+pub came_bare : (o : Outline) (planned : Status) {x y : World} → o.course.ending ≡ Some planned
+    → o.course.state ≡ None → AreMute o.course.acts
+    → Made o.course.acts o.course.bill x y × Sated x y → IsBlamed planned x y
+    → Came o x (status_at planned y) y
+came_bare o planned ends none mute done blamed = came_whole (record {
+  planned = planned;
+  ending = ends;
+  settles = refl;
+  blamed = blamed;
+  made = done.0;
+  sated = done.1;
+  settled = open-mute o.course.acts mute;
+  stands = none ∙ sym (stand-mute None o.course.acts mute);
+  silent = ap sounding none;
+  follows = λ hands. follows-mute [] o.course.acts mute;
+  keys = λ hands. keys-mute [] o.course.acts mute;
+})
 
-pub came_load : {T : Type 0} {done : T} (name text : List ℕ) (o : Outline) {x y z : World}
-    {status : Status} → Called (Ok done) (Load name (Some text)) x y → Came o y status z
-    → Came (after (Load name (Some text) ∷ []) o) x status z
-came_load name text o called more =
-    let made = called.called.0 in
-    let stored = made.shelf.left in
-    came_after o tt (record { lost = made.mail.lost; files = stored.4.1 ∙ stored.3.1 }) made
-    called.called.1 more
+pub came_stopped : (planned : Status) (x : World) → IsBlamed planned x x
+    → Came (stopped planned) x (status_at planned x) x
+came_stopped planned x blamed =
+    came_bare (stopped planned) planned refl refl tt (made_none x, refl) blamed
 
--- it failed
-pub came_load_failed : {T : Type 0} {done : T} (name : List ℕ) {x y : World}
-    → Called (Ok done) (Load name None) x y
-    → Came (after (Load name None ∷ []) (stopped FileFault)) x FileFault y
-came_load_failed name {x = x} called =
+-- ---- which calls
+
+pub loaded : {T : Type 0} {done : T} {name text : List ℕ} {x y : World}
+    → Called (Ok done) (Load name (Some text)) x y → Before (Load name (Some text) ∷ []) x y
+loaded called =
     let made = called.called.0 in
+    record {
+      calls = tt;
+      lost = made.mail.lost;
+      files = made.shelf.left.4.1 ∙ made.shelf.left.3.1;
+      made = made;
+      sated = called.called.1;
+    }
+
+pub load_blamed : {name : List ℕ} {x y : World} → Made (Load name None ∷ []) 0 x y
+    → IsBlamed FileFault x y
+load_blamed {x = x} made =
     let stored = made.shelf.left in
-    came_bare (after (Load name None ∷ []) (stopped FileFault)) FileFault refl refl tt made
-    called.called.1
     (made.mail.lost, subst (λ n. Rose x.shelf.faults n) (sym stored.4.1) stored.3.1)
 
--- ---- the wait for a player
-
-pub came_listen : {T : Type 0} {done : T} (name : List ℕ) (at : ℕ) (o : Outline) {x y z : World}
-    {status : Status} → Called (Ok done) (Listen name 1 (Some at)) x y → Came o y status z
-    → Came (after (Listen name 1 (Some at) ∷ []) o) x status z
-came_listen name at o called more =
+pub listened : {T : Type 0} {done : T} {name : List ℕ} {at : ℕ} {x y : World}
+    → Called (Ok done) (Listen name 1 (Some at)) x y → Before (Listen name 1 (Some at) ∷ []) x y
+listened called =
     let made = called.called.0 in
-    came_after o tt (record { lost = made.mail.lost; files = made.shelf.left.1 }) made
-    called.called.1 more
-
-pub came_listen_failed : {T : Type 0} {done : T} (name : List ℕ) {x y : World}
-    → Called (Ok done) (Listen name 1 None) x y
-    → Came (after (Listen name 1 None ∷ []) (stopped InboxFault)) x InboxFault y
-came_listen_failed name called =
-    let made = called.called.0 in
-    came_bare (after (Listen name 1 None ∷ []) (stopped InboxFault)) InboxFault refl refl tt made
-    called.called.1 made.mail.lost
-
--- ---- the ports
+    record {
+      calls = tt;
+      lost = made.mail.lost;
+      files = made.shelf.left.1;
+      made = made;
+      sated = called.called.1;
+    }
 
 lost-attaches : (setup : Setup) (b : Bool) → lost_after (attaches setup) b ≡ b
 lost-attaches setup b = grind arith
@@ -272,16 +267,17 @@ stored-attaches : (setup : Setup) (old new : Option Contents) (was is : ℕ)
     → AreStored (attaches setup) old was new is → is ≡ was
 stored-attaches setup old new was is stored = grind arith
 
--- they were attached, which leaves the files and the inbox as they were
-pub came_attached : {T : Type 0} {done : T} (setup : Setup) (o : Outline) {x y z : World}
-    {status : Status} → Calls (attaches setup) (Ok done) x y → Came o y status z
-    → Came (after (attaches setup) o) x status z
-came_attached setup o {x = x} calls more =
+pub attached : {T : Type 0} {done : T} (setup : Setup) {x y : World}
+    → Calls (attaches setup) (Ok done) x y → Before (attaches setup) x y
+attached setup {x = x} calls =
     let made = calls.called.0 in
-    came_after o (attaches-calls setup) (record {
+    record {
+      calls = attaches-calls setup;
       lost = made.mail.lost ∙ lost-attaches setup x.lost;
       files = stored-attaches setup _ _ _ _ made.shelf.left;
-    }) made calls.called.1 more
+      made = made;
+      sated = calls.called.1;
+    }
 
 -- ---- what an outline asks, paints and saves
 
@@ -302,39 +298,57 @@ by b kind came = record {
   takes = kind.takes;
 }
 
-pub kind_of : {o : Brought → Outline} {x y : World} {status : Status} (did : CameBy o x status y)
-    → IsKind (o did.brought) did.brought.polls status
-kind_of did = assumption did
+-- an outline asks the inbox nothing, and paints on a screen that a view may have, if on any
+abbrev pub IsIdle : Outline → Type 0
+IsIdle o = (polls_in o.course.acts ≡ []) × IfSome o.screen IsScreen
 
 -- out of memory nothing is said of what is saved
-pub kind_memory : (o : Outline) {heard : List Poll} → polls_in o.course.acts ≡ heard
-    → IfSome o.screen IsScreen → IsKind o heard Memory
-kind_memory o polls sized = record {
-  polls = polls;
-  sized = sized;
-  reads = λ other. absurd (other refl);
-  takes = λ other. absurd (other refl);
-}
+pub by_memory : {o : Brought → Outline} {x y : World} → IsIdle (o nothing)
+    → Came (o nothing) x Memory y → CameBy o x Memory y
+by_memory idle came =
+    by nothing (record {
+      polls = idle.0;
+      sized = idle.1;
+      reads = λ other. absurd (other refl);
+      takes = λ other. absurd (other refl);
+    }) came
 
-pub kind_stopped : {status : Status} (planned : Status) → IsKind (stopped planned) [] status
-kind_stopped planned = record {
-  polls = refl;
-  sized = tt;
-  reads = λ other. tt;
-  takes = λ other ends. tt;
-}
+-- a run ends as planned after these calls
+pub by_failed : {o : Brought → Outline} (acts : List Act) (planned : Status) {x y : World}
+    → o nothing ≡ after acts (stopped planned) → AreMute (acts ++ [])
+    → polls_in (acts ++ []) ≡ [] → Made (acts ++ []) 0 x y × Sated x y → IsBlamed planned x y
+    → CameBy o x (status_at planned y) y
+by_failed acts planned is mute polls done blamed =
+    by nothing (rw is (record {
+      polls = polls;
+      sized = tt;
+      reads = λ other. tt;
+      takes = λ other ends. tt;
+    })) (rw is (came_bare (after acts (stopped planned)) planned refl refl mute done blamed))
 
 kept_by : (take : Option Take) (acts more : List Act) → saves_in acts ≡ saves_in more
     → IfSome take (λ take. IsKept take more) → IfSome take (λ take. IsKept take acts)
 kept_by take acts more same kept = grind arith
 
-pub kind_after : {o : Outline} {heard : List Poll} {status : Status} (acts : List Act)
-    → AreCalls acts → IsKind o heard status → IsKind (after acts o) heard status
-kind_after {o = o} acts calls kind =
-    let bare = calls_bare acts calls in
-    record {
-      polls = bare.polls o.course.acts ∙ kind.polls;
+-- calls by what was brought, and then the rest
+pub by_after : {acts : List Act} {o : Brought → Outline} {more : Outline} {x y z : World}
+    {status : Status} (b : Brought) → Before acts x y → IsKind more b.polls status
+    → Came more y status z → o b ≡ after acts more → CameBy o x status z
+by_after {acts = acts} {more = more} b before kind came is =
+    let bare = calls_bare acts before.calls in
+    by b (rw is (record {
+      polls = bare.polls more.course.acts ∙ kind.polls;
       sized = kind.sized;
       reads = kind.reads;
-      takes = λ other ends. kept_by o.take _ _ (bare.saves o.course.acts) (kind.takes other ends);
-    }
+      takes = λ other ends.
+          kept_by more.take _ _ (bare.saves more.course.acts) (kind.takes other ends);
+    })) (rw is (came_after more before came))
+
+pub kind_of : {o : Brought → Outline} {x y : World} {status : Status} (did : CameBy o x status y)
+    → IsKind (o did.brought) did.brought.polls status
+kind_of did = assumption did
+
+-- the same calls, whatever was brought
+pub by_later : {acts : List Act} {o : Brought → Outline} {x y z : World} {status : Status}
+    → Before acts x y → CameBy o y status z → CameBy (λ b. after acts (o b)) x status z
+by_later before did = by_after did.brought before (kind_of did) did.came refl

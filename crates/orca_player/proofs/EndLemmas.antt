@@ -1,20 +1,21 @@
--- The line of the status, after what was done of an outline.
-use Rattle.std.proofs.Common.{◌≡◌, ◌≢◌, ◌⊎◌, inl, inr, ℕ, Bool, List, [], ◌∷◌, ◌++◌, refl, sym, ◌∙◌, ap, subst, append-nil, arith}
-use Rattle.std.specs.Prelude.{Ok, IsSomeAnd}
+-- The line of the status, after what was done of an outline; and what caused the status.
+use Rattle.std.proofs.Common.{◌≡◌, ◌≢◌, ◌⊎◌, inl, inr, ℕ, Bool, List, [], ◌∷◌, ◌++◌, refl, sym, ◌∙◌, ap, subst, append-nil, arith, ◌≤◌, false}
+use Rattle.std.specs.Prelude.{Ok, IsSomeAnd, Option}
 use Rattle.orca_base.specs.Ascii.{line_feed}
 use Rattle.orca_base.specs.declared.port.Port.TheVariants as port
 use Rattle.orca_base.specs.Ports.{Sent}
 use Rattle.orca_concert.specs.Concerts.{handed_of}
-use Rattle.orca_course.specs.Acts.{gives}
+use Rattle.orca_course.specs.Acts.{gives, lost_after}
 use Rattle.orca_course.specs.Acts.Act.{Give}
 use Rattle.orca_course.specs.Following.{Follows, sounding}
-use Rattle.orca_course.specs.Worlds.{Called, Made, World}
+use Rattle.orca_course.specs.Worlds.{Called, Made, World, AreStored, RecordsFaults}
 use Rattle.orca_course.proofs.FollowLemmas.{ends_as_device, is_fair_to_device}
 use Rattle.orca_course.proofs.WorldLemmas.{made_none}
 use Rattle.orca_notes.specs.Sound.{ends}
+use Rattle.orca_rig.specs.Outside.{Contents}
 use Rattle.orca_player.specs.Doing.{Came, CameSo, ClosesEarly, IsBlamed, IsWhole, Said, SaidSo, WasRefused, status_at}
 use Rattle.orca_player.specs.Outlines.{Outline}
-use Rattle.orca_player.specs.Running.{EndsAs, IsDone, IsLast, Went}
+use Rattle.orca_player.specs.Running.{EndsAs, IsDone, IsLast, Went, IsCaused, counts_of}
 use Rattle.orca_player.specs.Statuses.{fault_sends, status_sends, status_text}
 use Rattle.orca_player.specs.declared.status.Status.{Status}
 use Rattle.orca_player.specs.declared.status.Status.TheVariants.{Done, Memory}
@@ -153,3 +154,60 @@ over_by result said made (inr is) came =
 pub over_came : {o : Outline} {x y z : World} {status result : Status} → Came o x status y
     → Said status result y z → Over o x result z
 over_came {result = result} came said = over_by result said.said said.made said.so came.came
+
+-- nothing has failed yet
+abbrev pub IsSound : World → Type 0
+IsSound x = (x.failed ≡ false) × (x.unstored ≡ false) × (x.lost ≡ false)
+
+-- ---- sends alone touch neither the files nor the inbox
+
+stored-gives : (sends : List Sent) (old new : Option Contents) (was is : ℕ)
+    → AreStored (gives sends) old was new is → is ≡ was
+stored-gives [] old new was is stored = stored.1
+stored-gives (sent ∷ sends) old new was is stored = stored-gives sends old new was is stored
+
+lost-gives : (sends : List Sent) (b : Bool) → lost_after (gives sends) b ≡ b
+lost-gives [] b = refl
+lost-gives (sent ∷ sends) b = lost-gives sends b
+
+-- ---- causes
+
+caused_at : (planned : Status) (x y z : World) → IsSound x → IsBlamed planned x y
+    → RecordsFaults x.failed y.failed x.ports.faults y.ports.faults
+    → RecordsFaults x.unstored y.unstored x.shelf.faults y.shelf.faults
+    → RecordsFaults x.lost y.lost x.mail.faults y.mail.faults
+    → y.ports.faults ≤ z.ports.faults → z.shelf.faults ≡ y.shelf.faults → z.lost ≡ y.lost
+    → RecordsFaults y.lost z.lost y.mail.faults z.mail.faults
+    → (status_at planned y ≡ Done → z ≡ y)
+    → IsCaused (status_at planned y) (counts_of x) (counts_of z)
+caused_at planned x y z sound blamed ports shelf mail more same_shelf same_lost later still =
+    grind arith
+
+caused_whole : {o : Outline} {x y z : World} {status : Status} → IsSound x
+    → IsWhole o x status y → Said status status y z
+    → IsCaused status (counts_of x) (counts_of z)
+caused_whole {x = x} {y = y} {z = z} sound whole said =
+    let first = whole.made in
+    let last = said.made in
+    rw whole.settles (caused_at whole.planned x y z sound whole.blamed first.ports.recorded
+    first.shelf.recorded first.mail.recorded last.ports.recorded.grows
+    (stored-gives said.said _ _ _ _ last.shelf.left)
+    (last.mail.lost ∙ lost-gives said.said y.lost) last.mail.recorded
+    (λ is. (said.still (whole.settles ∙ is)).1))
+
+pub said_result : {status result : Status} {y z : World} → Said status result y z
+    → (result ≡ status) ⊎ (result ≡ Memory)
+said_result said = elim said.so [ inl is ↦ inl is.0 | inr is ↦ inr is.0 ]
+
+-- out of memory is free
+pub caused_came : {o : Outline} {x y z : World} {status result : Status} → IsSound x
+    → Came o x status y → Said status result y z
+    → IsCaused result (counts_of x) (counts_of z)
+caused_came sound came said =
+    elim (said_result said) [
+      | inl is ↦ rw is (elim came.came [
+        | inl whole ↦ caused_whole sound whole (rw is at said)
+        | inr refused ↦ rw refused.0 tt
+      ])
+      | inr is ↦ rw is tt
+    ]

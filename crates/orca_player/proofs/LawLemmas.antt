@@ -27,7 +27,7 @@ use Rattle.orca_player.specs.Doing.{ReadsBack}
 use Rattle.orca_player.specs.Laws.{CutsAlike, EndAlike, HasEnd, IsReplayed, ReplaysAlike}
 use Rattle.orca_player.specs.Outlines.{Brought, Heard, Outline, Script, asked_outline, attaches, concert, grid_outline, live_outline, live_start, loaded_grid, loaded_script, opening, outline, performed, request_outline, script_kept, script_outline, standing_at, started_outline, status_of_ending, work_outline}
 use Rattle.orca_player.proofs.CameLemmas.{attaches-calls, calls_bare}
-use Rattle.orca_player.proofs.ConcertLemmas.{concert-standing}
+use Rattle.orca_player.proofs.CourseLemmas.{concert-standing}
 
 -- how a course ended, if the outline has an end
 ended_by : (end : Option Ending) → option_map status_of_ending end ≢ None → end ≢ None

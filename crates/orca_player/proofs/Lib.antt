@@ -1,10 +1,7 @@
 pub mod CameLemmas
-pub mod CauseLemmas
-pub mod ConcertLemmas
+pub mod CourseLemmas
 pub mod EndLemmas
-pub mod FineLemmas
 pub mod LawLemmas
-pub mod LiveLemmas
 pub mod OpeningLemmas
 pub mod PlayLemmas
 pub mod ReadyLemmas
@@ -12,4 +9,3 @@ pub mod RecordedLemmas
 pub mod RunLemmas
 pub mod ShowLemmas
 pub mod TopLemmas
-pub mod UsageLemmas

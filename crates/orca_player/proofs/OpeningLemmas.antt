@@ -23,7 +23,7 @@ use Rattle.orca_rig.specs.Outside.{Rose}
 use Rattle.orca_send.specs.Sending.{sends_of}
 use Rattle.std.proofs.lemmas.List.{map-append}
 use Rattle.orca_player.specs.Doing.{Came, IsBlamed, status_at}
-use Rattle.orca_player.specs.Outlines.{Outline, opening, standing_at}
+use Rattle.orca_player.specs.Outlines.{opening, plain, standing_at}
 use Rattle.orca_player.specs.declared.status.Status.{Status}
 use Rattle.orca_player.specs.declared.status.Status.TheVariants.{Memory}
 use Rattle.orca_player.proofs.CameLemmas.{came_refused, came_whole, unsaid_after}
@@ -67,23 +67,17 @@ follows_opened s acts silent follows =
     let none : voices (notes_of s) ≡ [] = ap voices silent in
     (sym none, subst (λ (on : List Voice). Follows on acts) none follows)
 
--- ---- all of it
+-- ---- what was done of a course
 
--- an outline of the opened session and then this course
-abbrev opens : {S E : Type 0} → Outline → (S → Standing) → (Option E → Option Status) → S
-    → Course S E → Outline
-opens o f g s c = record o { course = opening f g (f s) c }
-
--- a course that ends with no note was done, from the opened session on
-pub opened_whole : {S E : Type 0} (f : S → Standing) (g : Option E → Option Status)
-    (o : Outline) {c : Course S E} {s t : S} {m : ℕ} (n : ℕ) {x y : World} {end : Option E}
-    (planned : Status) → m ≡ 0 → notes_of (f s) ≡ [] → notes_of (f t) ≡ []
-    → g end ≡ Some planned → IsBlamed planned x y
-    → Does (stance f o.hands) c s (owing m x) (Ok end) t (owing n y)
-    → Came (opens o f g s c) x (status_at planned y) y
+-- one that ends with no note, from the opened session on
+pub opened_whole : {S E : Type 0} {f : S → Standing} (g : Option E → Option Status) {hands : Bool}
+    {c : Course S E} {s t : S} {m : ℕ} (n : ℕ) {x y : World} {end : Option E} (planned : Status)
+    → m ≡ 0 → notes_of (f s) ≡ [] → notes_of (f c.state) ≡ [] → g end ≡ Some planned
+    → IsBlamed planned x y → Does (stance f hands) c s (owing m x) (Ok end) t (owing n y)
+    → Came (plain hands (opening f g (f s) c)) x (status_at planned y) y
 unfolding opening mapped
-opened_whole f g o {c = c} {s = s} {t = t} {m = m} n planned none begins over plans blamed did =
-    let leads = did.did.rests in
+opened_whole {f = f} g {c = c} {s = s} {m = m} n planned none begins over plans blamed did =
+    let leads = rw (← did.did.state) at did.did.rests in
     came_whole (record {
       planned = planned;
       ending = ap g did.did.ending ∙ plans;
@@ -92,23 +86,21 @@ opened_whole f g o {c = c} {s = s} {t = t} {m = m} n planned none begins over pl
       made = made_opened (f s) m n none did.did.made;
       sated = did.did.sated;
       settled = leads.settled;
-      stands = ap (λ u. Some (f u)) did.did.state ∙ leads.stands;
-      silent = ap (λ u. notes_of (f u)) did.did.state ∙ over;
+      stands = leads.stands;
+      silent = over;
       follows = λ hands. follows_opened (f s) c.acts begins (leads.follows hands).follows;
       keys = λ hands.
           ap (λ (on : List Voice). keys_after_acts on c.acts) (sym (ap voices begins))
           ∙ ((leads.follows hands).keys ∙ ap voices over);
     })
 
--- ---- memory was refused
-
--- by a send
-pub opened_in_send : {S E : Type 0} (f : S → Standing) (g : Option E → Option Status)
-    (o : Outline) {c : Course S E} {s t : S} {m : ℕ} (n : ℕ) {x y : World} → m ≡ 0
-    → notes_of (f s) ≡ [] → Does (stance f o.hands) c s (owing m x) (Err InSend) t (owing n y)
-    → Came (opens o f g s c) x Memory y
+-- memory was refused by a send
+pub opened_in_send : {S E : Type 0} {f : S → Standing} (g : Option E → Option Status)
+    {hands : Bool} {c : Course S E} {s t : S} {m : ℕ} (n : ℕ) {x y : World} → m ≡ 0
+    → notes_of (f s) ≡ [] → Does (stance f hands) c s (owing m x) (Err InSend) t (owing n y)
+    → Came (plain hands (opening f g (f s) c)) x Memory y
 unfolding opening mapped
-opened_in_send f g o {s = s} {m = m} n none begins cut =
+opened_in_send {f = f} g {s = s} {m = m} n none begins cut =
     came_refused (inl (record {
       begun = Stand (f s) ∷ cut.did.done;
       left = cut.did.left;
@@ -158,31 +150,28 @@ sends_by whole (Err InSend) other calls =
 sends_by whole (Err Elsewhere) other calls = absurd (other refl)
 
 -- a device follows the sends that were begun, from where the run stands
-closing_followed : (o : Outline) (s : Standing) (closing unsaid : List Sent) → o.hands ≡ true
-    → handed_of o.hands (ends (notes_of s)) ≡ closing ++ unsaid
+closing_followed : (hands : Bool) (s : Standing) (closing unsaid : List Sent) → hands ≡ true
+    → handed_of hands (ends (notes_of s)) ≡ closing ++ unsaid
     → Accompanies (Some s) (gives (sends_of (ends (notes_of s)))) (Some (standing_closed s))
     → Follows (voices (notes_of s)) (gives closing)
-closing_followed o s closing unsaid on splits with =
-    let all : sends_of (ends (notes_of s)) ≡ closing ++ unsaid =
-    ap (λ b. handed_of b (ends (notes_of s))) (sym on) ∙ splits in
+closing_followed hands s closing unsaid on splits with =
     Follows-front (voices (notes_of s)) (gives closing) (gives unsaid)
-    (subst (Follows (voices (notes_of s))) (ap gives all ∙ map-append Give closing unsaid)
-    with.follows)
+    (subst (Follows (voices (notes_of s)))
+    (ap gives (rw on at splits) ∙ map-append Give closing unsaid) with.follows)
 
--- elsewhere: the notes that sound are ended, so far as memory is not refused again
-pub opened_elsewhere : {S E T : Type 0} (f : S → Standing) (g : Option E → Option Status)
-    (o : Outline) {c : Course S E} {s t : S} {m : ℕ} (n : ℕ) {x y z : World}
+-- memory was refused elsewhere: the notes that sound are ended, so far as it is not refused again
+pub opened_elsewhere : {S E T : Type 0} {f : S → Standing} (g : Option E → Option Status)
+    {hands : Bool} {c : Course S E} {s t : S} {m : ℕ} (n : ℕ) {x y z : World}
     (result : Result T NoMemory) → m ≡ 0 → notes_of (f s) ≡ []
-    → Does (stance f o.hands) c s (owing m x) (Err Elsewhere) t (owing n y)
-    → result ≢ Err Elsewhere
-    → Calls (gives (handed_of o.hands (ends (notes_of (f t))))) result y z
+    → Does (stance f hands) c s (owing m x) (Err Elsewhere) t (owing n y)
+    → result ≢ Err Elsewhere → Calls (gives (handed_of hands (ends (notes_of (f t))))) result y z
     → Accompanies (Some (f t)) (gives (sends_of (ends (notes_of (f t)))))
-    (Some (standing_closed (f t))) → Came (opens o f g s c) x Memory z
+    (Some (standing_closed (f t))) → Came (plain hands (opening f g (f s) c)) x Memory z
 unfolding opening mapped
-opened_elsewhere f g o {c = c} {s = s} {t = t} {m = m} n {x = x} {y = y} {z = z}
-    result none begins cut other calls with =
+opened_elsewhere {f = f} g {hands = hands} {c = c} {s = s} {t = t} {m = m} n
+    {x = x} {y = y} {z = z} result none begins cut other calls with =
     let leads = cut.did.rests in
-    let sends = sends_by (handed_of o.hands (ends (notes_of (f t)))) result other calls in
+    let sends = sends_by (handed_of hands (ends (notes_of (f t)))) result other calls in
     came_refused (inr (inl (record {
       begun = Stand (f s) ∷ cut.did.done;
       left = cut.did.left;
@@ -190,7 +179,7 @@ opened_elsewhere f g o {c = c} {s = s} {t = t} {m = m} n {x = x} {y = y} {z = z}
       settled = leads.settled;
       closing = sends.closing;
       unsaid = sends.unsaid;
-      closes = ap (λ u. handed_of o.hands (ends (sounding u))) (sym leads.stands) ∙ sends.splits;
+      closes = ap (λ u. handed_of hands (ends (sounding u))) (sym leads.stands) ∙ sends.splits;
       all = unsaid_after x y z cut.did.wants sends.all;
       made = made_within (0 + c.bill) (omega arith)
           (made_twice (made_opened (f s) m n none cut.did.made) sends.made);
@@ -198,5 +187,5 @@ opened_elsewhere f g o {c = c} {s = s} {t = t} {m = m} n {x = x} {y = y} {z = z}
           follows_opened (f s) (cut.did.done ++ gives sends.closing) begins
           (follows_later {r = Some (f s)} {s = Some (f t)} (gives sends.closing)
           (leads.follows on)
-          (closing_followed o (f t) sends.closing sends.unsaid on sends.splits with));
+          (closing_followed hands (f t) sends.closing sends.unsaid on sends.splits with));
     })))

@@ -27,7 +27,7 @@ use Rattle.orca_term.specs.declared.editor.Wish.{Wish}
 use Rattle.orca_term.specs.declared.editor.Wish.TheVariants as wish
 use Rattle.orca_term.specs.declared.keys.Key.{Key}
 use Rattle.orca_player.specs.Ready.{HasRoom, before_frame}
-use Rattle.orca_player.proofs.FineLemmas.{each-kind, onward-kind}
+use Rattle.orca_player.proofs.RecordedLemmas.{each-kind, onward-kind}
 
 -- ---- keys end a performance by leaving alone
 

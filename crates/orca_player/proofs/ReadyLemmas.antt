@@ -1,4 +1,4 @@
--- A run for which all is ready ends without a refusal.
+-- How a run can end: without a refusal if all is ready, and for faulty words alone as such.
 use Rattle.std.proofs.Common.{◌≡◌, ◌≢◌, ℕ, ◌*◌, ◌<◌, ◌≤◌, arith, zero-add, false, List, sym, ◌∙◌, ap, subst}
 use Rattle.std.specs.Prelude.{Option, Some, IfSome, IsSomeAnd}
 use Rattle.std.specs.Option.{option_map}
@@ -19,13 +19,12 @@ use Rattle.orca_reports.specs.Songs.{recording_at_start, smf_manner}
 use Rattle.orca_reports.specs.Waves.{frame_samples, wav_manner, wave_at_start}
 use Rattle.orca_rig.specs.Arrived.{Poll}
 use Rattle.orca_wav.specs.declared.limits.TheConstants.{MAX_WAVE_BYTES, SAMPLE_BYTES}
-use Rattle.orca_words.specs.Requests.{Events, Performance, Play, Recording, Replay, Run, Setup, Smf, Wav, Work, request_of}
+use Rattle.orca_words.specs.Requests.{Events, Performance, Play, Recording, Replay, Run, Setup, Smf, Wav, Work, request_of, Request}
 use Rattle.orca_player.specs.Outlines.{Brought, Heard, Outline, concert, grid_outline, is_too_long, live_outline, live_start, loaded_grid, loaded_migration, loaded_script, made_outline, migrated, opening, outline, performed, request_outline, script_outline, standing_at, started_outline, status_of_end, status_of_ending, wave_bytes, work_outline}
 use Rattle.orca_player.specs.Ready.{CanDo, HasRoom, IsReady}
 use Rattle.orca_player.specs.declared.status.Status.{Status}
-use Rattle.orca_player.specs.declared.status.Status.TheVariants.{Done, FileFault, InboxFault}
-use Rattle.orca_player.proofs.FineLemmas.{Closes, Ends, Frames, concert-ends, cues-end, frames-cue}
-use Rattle.orca_player.proofs.RecordedLemmas.{AnyRoom, IsLong, Never, WaveRoom, smf-closes, smf-frames, wav-frames}
+use Rattle.orca_player.specs.declared.status.Status.TheVariants.{Done, FileFault, InboxFault, Usage}
+use Rattle.orca_player.proofs.RecordedLemmas.{Closes, Ends, Frames, concert-ends, cues-end, frames-cue, AnyRoom, IsLong, Never, WaveRoom, smf-closes, smf-frames, wav-frames}
 use Rattle.orca_player.proofs.PlayLemmas.{IsFineEnd, performance-fine}
 
 -- a run that would end without a refusal: all is done, or something outside fails
@@ -131,3 +130,17 @@ pub outline_fine : (words : List (List ℕ)) (h : Heard)
     → IfSome (outline words h).course.ending IsFine
 unfolding outline request_outline performed loaded_grid grid_outline loaded_migration migrated made_outline
 outline_fine words h ready = grind (arith, work_fine, make_fine)
+
+-- ---- only words that ask for nothing are blamed
+
+end-other : (end : Option Stop) → status_of_end end ≢ Usage
+end-other end = grind arith
+
+ending-other : (end : Option Ending)
+    → IfSome (option_map status_of_ending end) (λ status. status ≢ Usage)
+ending-other end = grind arith
+
+pub request-other : (request : Request) (h : Heard)
+    → IfSome (request_outline request h).course.ending (λ status. status ≢ Usage)
+unfolding request_outline performed loaded_grid grid_outline work_outline started_outline loaded_script script_outline loaded_migration migrated made_outline concert live_outline opening mapped
+request-other request h = grind (arith, end-other, ending-other)

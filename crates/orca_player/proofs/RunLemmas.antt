@@ -10,11 +10,9 @@ use Rattle.orca_player.specs.Ready.{IsReady}
 use Rattle.orca_player.specs.Running.{AreLow, Counts, EndsAs, IsCaused, Ran, Went}
 use Rattle.orca_player.specs.declared.status.Status.{Status}
 use Rattle.orca_player.specs.declared.status.Status.TheVariants.{Done, Usage, Memory}
-use Rattle.orca_player.proofs.CauseLemmas.{IsSound, caused_came, said_result}
-use Rattle.orca_player.proofs.EndLemmas.{ends_by, over_came}
-use Rattle.orca_player.proofs.ReadyLemmas.{IsFine, outline_fine}
+use Rattle.orca_player.proofs.EndLemmas.{IsSound, caused_came, said_result, ends_by, over_came}
+use Rattle.orca_player.proofs.ReadyLemmas.{IsFine, outline_fine, request-other}
 use Rattle.orca_player.proofs.ShowLemmas.{shows_outline}
-use Rattle.orca_player.proofs.UsageLemmas.{request-other}
 
 -- what the outside gave to a run
 abbrev pub heard_of : Option (List ℕ) → Brought → Heard

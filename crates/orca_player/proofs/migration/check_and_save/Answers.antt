@@ -1,8 +1,9 @@
-use Rattle.orca_player.proofs.TopLemmas.{refused_reads, script_refused}
+use Rattle.std.proofs.Common.{refl}
+use Rattle.orca_player.specs.Outlines.{migrated}
+use Rattle.orca_player.proofs.CameLemmas.{came_stopped}
 use Rattle.orca_player.proofs.migration.check_and_save.Goals as goal
 
-pub returns-in-Err-clause-came : goal.returns-in-Err-clause-came
-returns-in-Err-clause-came g c = script_refused _ _ _ _ c.in-Err.ensures.fault
-
-pub returns-in-Err-clause-reads : goal.returns-in-Err-clause-reads
-returns-in-Err-clause-reads g c = λ other. refused_reads _ _ _ c.in-Err.ensures.fault
+pub returns-in-Err : goal.returns-in-Err
+unfolding migrated
+returns-in-Err g c = rw c.in-Err.ensures.fault
+    (record { came = came_stopped _ _ (refl, refl); reads = λ other. tt })

@@ -1,24 +1,26 @@
-use Rattle.std.proofs.Common.{refl}
+use Rattle.std.proofs.Common.{◌∷◌, [], refl}
+use Rattle.std.specs.Prelude.{None, Some}
+use Rattle.orca_course.specs.Acts.Act.{Load}
 use Rattle.orca_player.specs.Outlines.{loaded_migration}
-use Rattle.orca_player.proofs.CameLemmas.{came_load_failed, came_still}
-use Rattle.orca_player.proofs.TopLemmas.{kind_moved, load_done, unloaded}
+use Rattle.orca_player.specs.declared.status.Status.TheVariants.{FileFault}
+use Rattle.orca_player.proofs.CameLemmas.{by_after, by_failed, by_memory, came_still, load_blamed, loaded}
+use Rattle.orca_player.proofs.TopLemmas.{kind_moved}
 use Rattle.orca_player.proofs.migration.migrate.Goals as goal
 
 pub returns-in-Ok-Some : goal.returns-in-Ok-Some
 unfolding loaded_migration
 returns-in-Ok-Some g c =
-    load_done _ _ (loaded_migration _)
-    (rw c.in-Ok-Some.field-0-is at c.in-Ok-Some.ensures.called)
+    by_after (record { script = Some _; start = None; polls = [] })
+    (loaded (rw c.in-Ok-Some.field-0-is at c.in-Ok-Some.ensures.called))
     (kind_moved _ _ _ (rw c.as_slice.ensures.value at c.check_and_save.ensures.reads))
-    (rw c.as_slice.ensures.value at c.check_and_save.ensures.came)
+    (rw c.as_slice.ensures.value at c.check_and_save.ensures.came) refl
 
 pub returns-in-Ok-None : goal.returns-in-Ok-None
 unfolding loaded_migration
 returns-in-Ok-None g c =
-    unloaded _ (loaded_migration _) refl
-    (came_load_failed _ (rw c.in-Ok-None.field-0-is at c.in-Ok-None.ensures.called))
+    let done = (rw c.in-Ok-None.field-0-is at c.in-Ok-None.ensures.called).called in
+    by_failed (Load _ None ∷ []) FileFault refl tt refl done (load_blamed done.0)
 
 pub returns-in-Err : goal.returns-in-Err
 unfolding loaded_migration
-returns-in-Err g c =
-    unloaded _ (loaded_migration _) refl (came_still _ c.in-Err.ensures.called.called.0)
+returns-in-Err g c = by_memory (refl, tt) (came_still _ c.in-Err.ensures.called.called.0)

@@ -1,21 +1,31 @@
-use Rattle.orca_player.proofs.CameLemmas.{came_load_failed, came_still}
-use Rattle.orca_player.proofs.TopLemmas.{attach_cut, grid_loaded, grid_unloaded}
+use Rattle.std.proofs.Common.{◌∷◌, [], refl}
+use Rattle.std.specs.Prelude.{None}
+use Rattle.orca_course.specs.Acts.Act.{Load}
+use Rattle.orca_player.specs.Outlines.{loaded_grid}
+use Rattle.orca_player.specs.declared.status.Status.TheVariants.{FileFault}
+use Rattle.orca_player.proofs.CameLemmas.{by_failed, by_later, by_memory, came_still, load_blamed, loaded}
+use Rattle.orca_player.proofs.TopLemmas.{attach_cut, by_grid}
 use Rattle.orca_player.proofs.top.open.Goals as goal
 
 pub returns-in_default : goal.returns-in_default
-returns-in_default g c = attach_cut _ _ c.in_default.ensures.called.called
+returns-in_default g c = (None, attach_cut _ _ c.in_default.ensures.called.called)
 
 pub returns-in-Ok-Some : goal.returns-in-Ok-Some
+unfolding loaded_grid
 returns-in-Ok-Some g c =
-    grid_loaded _ _ _ c.in-Ok.ensures.called
-    (rw c.in-Ok-Some.field-0-is at c.in-Ok-Some.ensures.called)
-    (rw c.as_slice.ensures.value at c.read_grid.ensures)
+    by_grid _ _ c.in-Ok.ensures.called
+    (by_later (loaded (rw c.in-Ok-Some.field-0-is at c.in-Ok-Some.ensures.called))
+    (rw c.as_slice.ensures.value at c.read_grid.ensures))
 
 pub returns-in-Ok-None : goal.returns-in-Ok-None
+unfolding loaded_grid
 returns-in-Ok-None g c =
-    grid_unloaded _ _ c.in-Ok.ensures.called
-    (came_load_failed _ (rw c.in-Ok-None.field-0-is at c.in-Ok-None.ensures.called))
+    let done = (rw c.in-Ok-None.field-0-is at c.in-Ok-None.ensures.called).called in
+    by_grid _ _ {grid = None} c.in-Ok.ensures.called
+    (by_failed (Load _ None ∷ []) FileFault refl tt refl done (load_blamed done.0))
 
 pub returns-in-Err : goal.returns-in-Err
+unfolding loaded_grid
 returns-in-Err g c =
-    grid_unloaded _ _ c.in-Ok.ensures.called (came_still _ c.in-Err.ensures.called.called.0)
+    by_grid _ _ {grid = None} c.in-Ok.ensures.called
+    (by_memory (refl, tt) (came_still _ c.in-Err.ensures.called.called.0))
