@@ -242,12 +242,6 @@ loaded called =
       sated = called.called.1;
     }
 
-pub load_blamed : {name : List ℕ} {x y : World} → Made (Load name None ∷ []) 0 x y
-    → IsBlamed FileFault x y
-load_blamed {x = x} made =
-    let stored = made.shelf.left in
-    (made.mail.lost, subst (λ n. Rose x.shelf.faults n) (sym stored.4.1) stored.3.1)
-
 pub listened : {T : Type 0} {done : T} {name : List ℕ} {at : ℕ} {x y : World}
     → Called (Ok done) (Listen name 1 (Some at)) x y → Before (Listen name 1 (Some at) ∷ []) x y
 listened called =
@@ -325,6 +319,16 @@ by_failed acts planned is mute polls done blamed =
       reads = λ other. tt;
       takes = λ other ends. tt;
     })) (rw is (came_bare (after acts (stopped planned)) planned refl refl mute done blamed))
+
+-- the load of a file failed
+pub by_unloaded : {T : Type 0} {done : T} {o : Brought → Outline} {name : List ℕ} {x y : World}
+    → o nothing ≡ after (Load name None ∷ []) (stopped FileFault)
+    → Called (Ok done) (Load name None) x y → CameBy o x FileFault y
+by_unloaded {name = name} {x = x} is called =
+    let made = called.called.0 in
+    let stored = made.shelf.left in
+    by_failed (Load name None ∷ []) FileFault is tt refl called.called
+    (made.mail.lost, subst (λ n. Rose x.shelf.faults n) (sym stored.4.1) stored.3.1)
 
 kept_by : (take : Option Take) (acts more : List Act) → saves_in acts ≡ saves_in more
     → IfSome take (λ take. IsKept take more) → IfSome take (λ take. IsKept take acts)

@@ -22,10 +22,9 @@ use Rattle.orca_live.specs.States.{LiveState, is_full}
 use Rattle.orca_rig.specs.Arrived.{Poll, is_ending}
 use Rattle.orca_rig.specs.declared.inbox.Answer.{Answer}
 use Rattle.orca_rig.specs.declared.inbox.Answer.TheVariants as answer
-use Rattle.orca_term.specs.Keys.{Byte, Due, Item, turn}
+use Rattle.orca_term.specs.Keys.{Byte, Due, Item}
 use Rattle.orca_term.specs.declared.editor.Wish.{Wish}
 use Rattle.orca_term.specs.declared.editor.Wish.TheVariants as wish
-use Rattle.orca_term.specs.declared.keys.Key.{Key}
 use Rattle.orca_player.specs.Ready.{HasRoom, before_frame}
 use Rattle.orca_player.proofs.RecordedLemmas.{each-kind, onward-kind}
 
@@ -39,13 +38,9 @@ unfolding wish_course save_course command_course obey_course onward mapped
 wish-leaves wish.Quit s = refl
 wish-leaves _ s = tt
 
-press-leaves : (key : Option Key) (s : LiveState) → Leaves (press_course key s).ending
-unfolding press_course key_course struck_course
-press-leaves key s = grind (arith, wish-leaves)
-
 item-leaves : (item : Item) (s : LiveState) → Leaves (item_course item s).ending
-unfolding item_course
-item-leaves item s = press-leaves (turn s.pending item).key _
+unfolding item_course press_course key_course struck_course
+item-leaves item s = grind (arith, wish-leaves)
 
 bytes-leave : (bytes : List ℕ) (s : LiveState) → Leaves (each byte_course bytes s).ending
 unfolding byte_course

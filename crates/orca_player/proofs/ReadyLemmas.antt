@@ -1,5 +1,5 @@
 -- How a run can end: without a refusal if all is ready, and for faulty words alone as such.
-use Rattle.std.proofs.Common.{◌≡◌, ◌≢◌, ℕ, ◌*◌, ◌<◌, ◌≤◌, arith, zero-add, false, List, sym, ◌∙◌, ap, subst}
+use Rattle.std.proofs.Common.{◌≡◌, ◌≢◌, ℕ, ◌*◌, ◌<◌, ◌≤◌, arith, zero-add, false, List, sym, ◌∙◌, ap, subst, refl}
 use Rattle.std.specs.Prelude.{Option, Some, IfSome, IsSomeAnd}
 use Rattle.std.specs.Option.{option_map}
 use Rattle.std.proofs.lemmas.Bool.Decides.{nat_tests}
@@ -115,7 +115,7 @@ work_fine setup (Events frames) sheet b short ready =
 work_fine setup (Smf song) sheet b short ready =
     let s = standing_at sheet setup.seed setup.limit in
     let r = recording_at_start song.out song.bpm song.frames in
-    concert_fine smf_manner r (frames_cue song.frames) s smf-closes
+    concert_fine smf_manner r (frames_cue song.frames) s (smf-closes IsLong refl)
     (frames-cue IsLong AnyRoom smf_manner song.frames (concert_at s r) smf-frames tt
     (omega (arith, ready.0)))
     (λ stop long is. ready.1 (is ∙ ap Some long))

@@ -23,8 +23,8 @@ use Rattle.orca_op.specs.Rules.{rule}
 use Rattle.orca_reports.specs.Runs.{Opened, calls_in}
 use Rattle.orca_reports.specs.SavedSongs.{SongIsSaved, SongIsTune}
 use Rattle.orca_reports.specs.SavedWaves.{WaveIsSaved}
-use Rattle.orca_reports.specs.Songs.{Recording as SongSoFar, recorded as recorded_course, recording_at_start, saved_by, smf_manner, smf_report}
-use Rattle.orca_reports.specs.Waves.{Wave as WaveSoFar, framed, heard, next_size, wav_manner, wav_report, wave_at_start}
+use Rattle.orca_reports.specs.Songs.{Recording as SongSoFar, recorded as recorded_course, recording_at_start, saved_by, smf_manner}
+use Rattle.orca_reports.specs.Waves.{Wave as WaveSoFar, framed, heard, next_size, wav_manner, wave_at_start}
 use Rattle.orca_wav.specs.declared.limits.TheConstants.{MAX_WAVE_BYTES, SAMPLE_BYTES}
 use Rattle.orca_wav.specs.Rendering.{Rendering, rendering_after}
 use Rattle.orca_words.specs.Requests.{Recording, Setup, Smf, Wav}
@@ -175,23 +175,24 @@ AnyRoom n r = Unit {0}
 abbrev pub IsLong : Stop → Type 0
 IsLong stop = stop ≡ SongTooLong
 
-recorded-long : (tick : ℕ) (messages : List Message) (r : SongSoFar)
-    → IfSome (recorded_course tick messages r).ending IsLong
+recorded-ends : (P : Stop → Type 0) (tick : ℕ) (messages : List Message) (r : SongSoFar)
+    → P SongTooLong → IfSome (recorded_course tick messages r).ending P
 unfolding recorded_course
-recorded-long tick messages r = grind arith
+recorded-ends P tick messages r long = grind arith
 
-saved-long : (song : Option _) (r : SongSoFar) → IfSome (saved_by song r).ending IsLong
-saved-long song r = grind arith
+saved-ends : (P : Stop → Type 0) (song : Option _) (r : SongSoFar) → P SongTooLong
+    → IfSome (saved_by song r).ending P
+saved-ends P song r long = grind arith
 
-pub smf-closes : Closes IsLong smf_manner
-smf-closes = record {
+pub smf-closes : (P : Stop → Type 0) → P SongTooLong → Closes P smf_manner
+smf-closes P long = record {
   final = λ s r. tt;
-  close = λ messages r. recorded-long r.end messages r;
-  saves = λ r. saved-long r.song r;
+  close = λ messages r. recorded-ends P r.end messages r long;
+  saves = λ r. saved-ends P r.song r long;
 }
 
 pub smf-frames : Frames IsLong AnyRoom smf_manner
-smf-frames line tick n messages r some = (recorded-long tick messages r, tt)
+smf-frames line tick n messages r some = (recorded-ends IsLong tick messages r refl, tt)
 
 -- ---- a wave with room for its frames ends no run
 
@@ -257,23 +258,15 @@ one_save : (acts : List Act) (out bytes : List ℕ) → calls_in acts ≡ Save o
     → saves_in acts ≡ Save out bytes ∷ []
 one_save acts out bytes is = sym (saves-calls_in acts) ∙ ap saves_in is
 
-recorded-stays : (tick : ℕ) (messages : List Message) (r : SongSoFar)
-    → IfSome (recorded_course tick messages r).ending IsNoLeave
-unfolding recorded_course
-recorded-stays tick messages r = grind arith
+-- so does a run of a report that nobody leaves
+goes_on : {R : Type 0} (m : Manner R) (cues : List Cue) (s : Concert R) → Closes IsNoLeave m
+    → Ends IsNoLeave m → Some (status_of_end (concert_course m cues s).ending) ≡ Some Done
+    → (concert_course m cues s).ending ≡ None
+goes_on m cues s closes ends done =
+    went_on _ (concert-ends m cues s closes (cues-end IsNoLeave m cues s ends)) done
 
-smf-done : (answer : Result Reply Rule) (messages : List Message) (r : SongSoFar)
-    → IfSome (smf_report answer messages r).ending IsNoLeave
-smf-done answer messages r = grind (arith, recorded-stays)
-
-smf-stays : (cues : List Cue) (s : Concert SongSoFar)
-    → IfSome (concert_course smf_manner cues s).ending IsNoLeave
-smf-stays cues s =
-    concert-ends smf_manner cues s (record {
-      final = λ s r. tt;
-      close = λ messages r. recorded-stays r.end messages r;
-      saves = λ r. grind (arith, saved-long);
-    }) (cues-end IsNoLeave smf_manner cues s (λ line answer messages r. smf-done answer messages r))
+smf-ends : Ends IsNoLeave smf_manner
+smf-ends line answer messages r = grind (arith, recorded-ends IsNoLeave)
 
 -- what is saved is the song of the messages of the run
 pub smf_keeps : SongIsSaved → SongIsTune → IsLawful rule → (setup : Setup) (song : Recording)
@@ -284,16 +277,15 @@ smf_keeps saved tune lawful setup song sheet is fast few = λ ends.
     let o : Opened = record { sheet = sheet; seed = setup.seed; limit = setup.limit } in
     let s = concert_at (standing_at sheet setup.seed setup.limit)
     (recording_at_start song.out song.bpm song.frames) in
-    let c = concert_course smf_manner (frames_cue song.frames) s in
-    let none = went_on c.ending (smf-stays (frames_cue song.frames) s) ends in (
-      one_save c.acts song.out _
+    let none = goes_on smf_manner (frames_cue song.frames) s (smf-closes IsNoLeave (λ same. cc))
+    smf-ends ends in (
+      one_save (concert_course smf_manner (frames_cue song.frames) s).acts song.out _
           (saved song.out song.bpm song.frames o kept_at_start tally_at_start few none),
       tune lawful song.out song.bpm song.frames o kept_at_start tally_at_start is fast few none,
     )
 
-wav-done : (answer : Result Reply Rule) (messages : List Message) (w : WaveSoFar)
-    → IfSome (wav_report answer messages w).ending IsNoLeave
-wav-done answer messages w = grind arith
+wav-ends : Ends IsNoLeave wav_manner
+wav-ends line answer messages w = grind arith
 
 -- what is saved is the wave of the messages of the run
 pub wav_keeps : WaveIsSaved → IsLawful rule → (setup : Setup) (wave : Recording) (sheet : Sheet)
@@ -303,10 +295,6 @@ wav_keeps saved lawful setup wave sheet is = λ ends.
     let o : Opened = record { sheet = sheet; seed = setup.seed; limit = setup.limit } in
     let s = concert_at (standing_at sheet setup.seed setup.limit)
     (wave_at_start wave.out wave.bpm) in
-    let c = concert_course wav_manner (frames_cue wave.frames) s in
-    let stays = concert-ends {P = IsNoLeave} wav_manner (frames_cue wave.frames) s (assumption)
-    (cues-end IsNoLeave wav_manner (frames_cue wave.frames) s
-    (λ line answer messages w. wav-done answer messages w)) in
-    one_save c.acts wave.out _
+    one_save (concert_course wav_manner (frames_cue wave.frames) s).acts wave.out _
     (saved lawful wave.out wave.bpm wave.frames o kept_at_start tally_at_start is
-    (went_on c.ending stays ends))
+    (goes_on wav_manner (frames_cue wave.frames) s (assumption) wav-ends ends))

@@ -5,43 +5,36 @@ use Rattle.orca_course.specs.Worlds.{World}
 use Rattle.orca_live.specs.Paintings.{ShowsPerformance}
 use Rattle.orca_words.specs.Requests.{Request, request_of}
 use Rattle.orca_player.specs.Doing.{CameBy, Said}
-use Rattle.orca_player.specs.Outlines.{Brought, Heard, asked_outline, outline}
-use Rattle.orca_player.specs.Ready.{IsReady}
-use Rattle.orca_player.specs.Running.{AreLow, Counts, EndsAs, IsCaused, Ran, Went}
+use Rattle.orca_player.specs.Outlines.{Heard, asked_outline, outline}
+use Rattle.orca_player.specs.Running.{AreLow, Counts, EndsAs, IsCaused, Ran}
 use Rattle.orca_player.specs.declared.status.Status.{Status}
 use Rattle.orca_player.specs.declared.status.Status.TheVariants.{Done, Usage, Memory}
 use Rattle.orca_player.proofs.EndLemmas.{IsSound, caused_came, said_result, ends_by, over_came}
 use Rattle.orca_player.proofs.ReadyLemmas.{IsFine, outline_fine, request-other}
 use Rattle.orca_player.proofs.ShowLemmas.{shows_outline}
 
--- what the outside gave to a run
-abbrev pub heard_of : Option (List ℕ) → Brought → Heard
-heard_of grid brought = record { grid = grid; brought = brought }
-
 -- ---- words that ask for nothing
 
 faulty : (end : Option Status) (status : Status) → end ≡ Some Usage
-    → IsSomeAnd end (λ planned. EndsAs planned status) → (status ≡ Usage) ⊎ (status ≡ Memory)
+    → (status ≡ Memory) ⊎ IsSomeAnd end (λ planned. EndsAs planned status)
+    → (status ≡ Usage) ⊎ (status ≡ Memory)
 faulty end status is ends = grind arith
 
 pub ran_usage : (words : List (List ℕ)) {x z : World} {status : Status} → Ran words x status z
     → request_of words ≡ None → (status ≡ Usage) ⊎ (status ≡ Memory)
 unfolding outline
 ran_usage words {status = status} ran none =
-    elim (ends_by (outline words ran.heard) status _ _ ran.went) [
-      | inl is ↦ inr is
-      | inr ends ↦
-          faulty _ status
-          (ap (λ request. (asked_outline request ran.heard).course.ending) none) ends
-    ]
+    faulty _ status (ap (λ request. (asked_outline request ran.heard).course.ending) none)
+    (ends_by (outline words ran.heard) status _ _ ran.went)
 
 -- and no others end so
 others : (end : Option Status) → IfSome end (λ planned. planned ≢ Usage)
-    → IsSomeAnd end (λ planned. EndsAs planned Usage) → ⊥
+    → (Usage ≡ Memory) ⊎ IsSomeAnd end (λ planned. EndsAs planned Usage) → ⊥
 others end other ends = grind arith
 
 only : (request : Option Request) (h : Heard)
-    → IsSomeAnd (asked_outline request h).course.ending (λ planned. EndsAs planned Usage)
+    → (Usage ≡ Memory)
+    ⊎ IsSomeAnd (asked_outline request h).course.ending (λ planned. EndsAs planned Usage)
     → request ≡ None
 only None h ends = refl
 only (Some request) h ends = absurd (others _ (request-other request h) ends)
@@ -50,37 +43,23 @@ pub ran_usage_only : (words : List (List ℕ)) {x z : World} {status : Status}
     → Ran words x status z → status ≡ Usage → request_of words ≡ None
 unfolding outline
 ran_usage_only words ran is =
-    elim (ends_by (outline words ran.heard) Usage _ _ (rw is at ran.went)) [
-      | inl wrong ↦ absurd cc
-      | inr ends ↦ only (request_of words) ran.heard ends
-    ]
+    only _ ran.heard (ends_by (outline words ran.heard) Usage _ _ (rw is at ran.went))
 
 -- ---- a run that can be done whole, and that meets no fault, is done whole
 
 fine_ends : (planned : Option Status) (status : Status) (old new : Counts)
-    → IfSome planned IsFine → IsSomeAnd planned (λ some. EndsAs some status)
+    → IfSome planned IsFine → (status ≡ Memory) ⊎ IsSomeAnd planned (λ some. EndsAs some status)
     → IsCaused status old new → new ≡ old → AreLow old → (status ≡ Done) ⊎ (status ≡ Memory)
 fine_ends planned status old new fine ends caused same low = grind arith
-
-completes : (words : List (List ℕ)) (h : Heard) (status : Status) (x mid : World) (old new : Counts)
-    → Went (outline words h) x status mid → IsCaused status old new
-    → IsSomeAnd (request_of words) (λ request. IsReady request h) → new ≡ old → AreLow old
-    → (status ≡ Done) ⊎ (status ≡ Memory)
-completes words h status x mid old new went caused ready same low =
-    elim (ends_by (outline words h) status _ _ went) [
-      | inl is ↦ inr is
-      | inr ends ↦
-          fine_ends _ status old new (outline_fine words h ready) ends caused same low
-    ]
 
 -- ---- all of it
 
 pub ran_by : ShowsPerformance → (words : List (List ℕ)) (grid : Option (List ℕ)) {x y z : World}
     {status result : Status} → IsSound x
-    → CameBy (λ brought. outline words (heard_of grid brought)) x status y
+    → CameBy (λ brought. outline words (record { grid = grid; brought = brought })) x status y
     → Said status result y z → Ran words x result z
 ran_by shows words grid {x = x} {status = status} {result = result} sound by said =
-    let h = heard_of grid by.brought in
+    let h : Heard = record { grid = grid; brought = by.brought } in
     let over = over_came by.came said in
     -- a status that is answered, and not for want of memory, was decided before
     let same : result ≢ Memory → status ≢ Memory =
@@ -96,6 +75,7 @@ ran_by shows words grid {x = x} {status = status} {result = result} sound by sai
       shows = shows_outline shows words h by.sized;
       reads = λ other. by.reads (same other);
       takes = λ other. by.takes (same other);
-      complete = completes words h result x over.over _ _ over.went
-          (caused_came sound by.came said);
+      complete = λ ready same low.
+          fine_ends _ result _ _ (outline_fine words h ready)
+          (ends_by (outline words h) result _ _ over.went) (caused_came sound by.came said) same low;
     }

@@ -12,10 +12,10 @@ use Rattle.orca_cues.specs.declared.fault.ScriptFault.{ScriptFault}
 use Rattle.orca_cues.specs.declared.source.Cue.{Cue}
 use Rattle.orca_grid.specs.declared.refusal.GridRefusal.{GridRefusal}
 use Rattle.orca_grid.specs.declared.refusal.GridRefusal.TheVariants as refused
-use Rattle.orca_reports.specs.Manners.{make_manner, replay_manner}
+use Rattle.orca_reports.specs.Manners.{replay_manner}
 use Rattle.orca_reports.specs.Quiet.{quiet-events, quiet-make, quiet-replay, quiet-run, quiet-smf, quiet-wav}
 use Rattle.orca_script.specs.Runs.{ScriptReadsBack, printed_script}
-use Rattle.orca_words.specs.Requests.{Migration, Request, Setup, Work, Workload}
+use Rattle.orca_words.specs.Requests.{Migration, Request, Setup, Work}
 use Rattle.orca_player.specs.Doing.{Came, CameBy, KeepsTake, ReadsBack, refused_status, status_at}
 use Rattle.orca_player.specs.Outlines.{after, asked_outline, attaches, concert, grid_outline, loaded_grid, loaded_migration, loaded_script, made_outline, migrated, nothing, performed, recorded, request_outline, saved, script_in, script_outline, started_outline, stopped, work_outline}
 use Rattle.orca_player.specs.Takes.{Take}
@@ -134,10 +134,6 @@ kind_moved m text read reads = record {
 }
 
 -- ---- words
-
-pub kind_made : {status : Status} (load : Workload) → IsKind (made_outline load) [] status
-unfolding made_outline
-kind_made load = kind_concert make_manner tt _ _ quiet-make
 
 -- memory was refused to an attach
 pub attach_cut : (setup : Setup) (work : Work) {e : NoMemory} {x y : World}

@@ -17,6 +17,7 @@ use orca_session::Session;
 use std::sync::ledger::Ledger;
 
 /// Opens a session, does all that the source gives, and ends the run.
+#[tactic(auto, using(crate::proofs::CameLemmas::came_none))]
 pub(crate) fn concert<
     S: Source,
     R: Report + Drop,

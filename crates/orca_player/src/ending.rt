@@ -16,7 +16,7 @@ use std::sync::ledger::Ledger;
 
 /// Sends the line of a status that is no success, and answers the status; or
 /// [`Status::Memory`] if memory is refused for it.
-#[tactic(auto, unfolding(crate::specs::Statuses::status_text))]
+#[tactic(auto, using(crate::proofs::EndLemmas::said_none), unfolding(crate::specs::Statuses::status_text))]
 pub fn end<F: Files + Drop, O: Outs + Drop, I: Inbox + Drop, L: Ledger>(
     alloc: Global,
     desk: &mut Desk<F, O, I, L>,

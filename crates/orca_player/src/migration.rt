@@ -57,6 +57,7 @@ fn check_and_save<F: Files + Drop, O: Outs + Drop, I: Inbox + Drop, L: Ledger>(
 }
 
 /// Saves a script in which no line is refused.
+#[tactic(auto, using(crate::proofs::CameLemmas::came_none))]
 fn print_and_save<F: Files + Drop, O: Outs + Drop, I: Inbox + Drop, L: Ledger>(
     alloc: Global,
     migration: &Migration<'_>,

@@ -23,6 +23,7 @@ use orca_words::{Recording, Work};
 use std::sync::ledger::Ledger;
 
 /// Plays frames on an opened grid, and saves their MIDI messages as a song.
+#[tactic(auto, using(crate::proofs::CameLemmas::came_none))]
 pub(crate) fn record_song<F: Files + Drop, O: Outs + Drop, I: Inbox + Drop, L: Ledger>(
     opening: &Opening,
     song: &Recording<'_>,
@@ -45,6 +46,7 @@ pub(crate) fn record_song<F: Files + Drop, O: Outs + Drop, I: Inbox + Drop, L: L
 }
 
 /// Plays frames on an opened grid, and saves their sound as a wave.
+#[tactic(auto, using(crate::proofs::CameLemmas::came_none))]
 pub(crate) fn record_wave<F: Files + Drop, O: Outs + Drop, I: Inbox + Drop, L: Ledger>(
     opening: &Opening,
     wave: &Recording<'_>,

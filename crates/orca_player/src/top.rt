@@ -231,7 +231,7 @@ fn do_work<F: Files + Drop, O: Outs + Drop, I: Inbox + Drop, L: Ledger>(
 }
 
 /// Makes a grid and its commands, does them, and prints a summary.
-#[tactic(auto, unfolding(crate::specs::Outlines::made_outline))]
+#[tactic(auto, using(crate::proofs::CameLemmas::came_none), unfolding(crate::specs::Outlines::made_outline))]
 fn make<F: Files + Drop, O: Outs + Drop, I: Inbox + Drop, L: Ledger>(
     alloc: Global,
     load: Workload,

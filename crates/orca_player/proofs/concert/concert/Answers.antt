@@ -1,6 +1,5 @@
 use Rattle.std.proofs.Common.{◌∙◌, ap}
 use Rattle.orca_course.specs.Standings.{notes_of}
-use Rattle.orca_player.proofs.CameLemmas.{came_none}
 use Rattle.orca_player.proofs.OpeningLemmas.{notes-standing_at}
 use Rattle.orca_player.proofs.concert.concert.Goals as goal
 
@@ -9,6 +8,3 @@ do_all-requires-clause-begins g c =
     let opening = c.args.opening.now in
     ap notes_of c.in-Ok.ensures.standing
     ∙ notes-standing_at opening.grid opening.seed opening.limit
-
-pub returns-in-Err : goal.returns-in-Err
-returns-in-Err g c = came_none _ _

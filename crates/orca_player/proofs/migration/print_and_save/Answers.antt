@@ -1,9 +1,5 @@
-use Rattle.orca_player.proofs.CameLemmas.{came_none}
 use Rattle.orca_player.proofs.TopLemmas.{script_reads, script_saved}
 use Rattle.orca_player.proofs.migration.print_and_save.Goals as goal
-
-pub returns-in_default-clause-came : goal.returns-in_default-clause-came
-returns-in_default-clause-came g c = came_none _ _
 
 pub returns-in-Ok-save-clause-came : goal.returns-in-Ok-save-clause-came
 returns-in-Ok-save-clause-came g c =

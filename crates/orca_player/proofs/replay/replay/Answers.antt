@@ -1,9 +1,7 @@
-use Rattle.std.proofs.Common.{◌∷◌, [], refl}
+use Rattle.std.proofs.Common.{[], refl}
 use Rattle.std.specs.Prelude.{None, Some}
-use Rattle.orca_course.specs.Acts.Act.{Load}
 use Rattle.orca_player.specs.Outlines.{loaded_script}
-use Rattle.orca_player.specs.declared.status.Status.TheVariants.{FileFault}
-use Rattle.orca_player.proofs.CameLemmas.{by_after, by_failed, by_memory, came_still, load_blamed, loaded}
+use Rattle.orca_player.proofs.CameLemmas.{by_after, by_memory, by_unloaded, came_still, loaded}
 use Rattle.orca_player.proofs.TopLemmas.{kind_read}
 use Rattle.orca_player.proofs.replay.replay.Goals as goal
 
@@ -19,8 +17,7 @@ returns-in-Ok-Some g c =
 pub returns-in-Ok-None : goal.returns-in-Ok-None
 unfolding loaded_script
 returns-in-Ok-None g c =
-    let done = (rw c.in-Ok-None.field-0-is at c.in-Ok-None.ensures.called).called in
-    by_failed (Load _ None ∷ []) FileFault refl tt refl done (load_blamed done.0)
+    by_unloaded refl (rw c.in-Ok-None.field-0-is at c.in-Ok-None.ensures.called)
 
 pub returns-in-Err : goal.returns-in-Err
 unfolding loaded_script

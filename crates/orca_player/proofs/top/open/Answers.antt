@@ -1,9 +1,7 @@
-use Rattle.std.proofs.Common.{◌∷◌, [], refl}
+use Rattle.std.proofs.Common.{refl}
 use Rattle.std.specs.Prelude.{None}
-use Rattle.orca_course.specs.Acts.Act.{Load}
 use Rattle.orca_player.specs.Outlines.{loaded_grid}
-use Rattle.orca_player.specs.declared.status.Status.TheVariants.{FileFault}
-use Rattle.orca_player.proofs.CameLemmas.{by_failed, by_later, by_memory, came_still, load_blamed, loaded}
+use Rattle.orca_player.proofs.CameLemmas.{by_later, by_memory, by_unloaded, came_still, loaded}
 use Rattle.orca_player.proofs.TopLemmas.{attach_cut, by_grid}
 use Rattle.orca_player.proofs.top.open.Goals as goal
 
@@ -20,9 +18,8 @@ returns-in-Ok-Some g c =
 pub returns-in-Ok-None : goal.returns-in-Ok-None
 unfolding loaded_grid
 returns-in-Ok-None g c =
-    let done = (rw c.in-Ok-None.field-0-is at c.in-Ok-None.ensures.called).called in
     by_grid _ _ {grid = None} c.in-Ok.ensures.called
-    (by_failed (Load _ None ∷ []) FileFault refl tt refl done (load_blamed done.0))
+    (by_unloaded refl (rw c.in-Ok-None.field-0-is at c.in-Ok-None.ensures.called))
 
 pub returns-in-Err : goal.returns-in-Err
 unfolding loaded_grid

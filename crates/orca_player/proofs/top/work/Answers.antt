@@ -1,17 +1,18 @@
 use Rattle.std.proofs.Common.{[], ap, refl}
 use Rattle.std.specs.Prelude.{Err, None}
 use Rattle.orca_course.proofs.WorldLemmas.{made_none}
-use Rattle.orca_player.specs.Outlines.{nothing, outline, request_outline}
+use Rattle.orca_player.specs.Outlines.{made_outline, nothing, outline, request_outline}
 use Rattle.orca_player.specs.declared.status.Status.TheVariants.{Usage}
 use Rattle.orca_player.proofs.CameLemmas.{by, by_failed, by_memory, came_none}
-use Rattle.orca_player.proofs.TopLemmas.{idle-asked, kind_made}
+use Rattle.orca_player.proofs.TopLemmas.{idle-asked, kind_concert}
+use Rattle.orca_reports.specs.Quiet.{quiet-make}
 use Rattle.orca_player.proofs.top.work.Goals as goal
 
 pub returns-in-Ok-Make : goal.returns-in-Ok-Make
-unfolding outline request_outline
+unfolding outline request_outline made_outline
 returns-in-Ok-Make g c =
     rw (rw c.in-Ok-Make.field-0-is at c.in-Ok-Make.ensures.read)
-    (None, by nothing (kind_made _) c.make.ensures)
+    (None, by nothing (kind_concert _ _ _ _ quiet-make) c.make.ensures)
 
 pub returns-in-Ok-Migrate : goal.returns-in-Ok-Migrate
 unfolding outline request_outline
