@@ -2,8 +2,6 @@ pub mod CameLemmas
 pub mod CourseLemmas
 pub mod EndLemmas
 pub mod LawLemmas
-pub mod OpeningLemmas
-pub mod PlayLemmas
 pub mod ReadyLemmas
 pub mod RecordedLemmas
 pub mod RunLemmas

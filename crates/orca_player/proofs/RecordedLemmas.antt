@@ -6,7 +6,6 @@ use Rattle.orca_base.specs.declared.command.Reply.{Reply}
 use Rattle.orca_base.specs.declared.command.Rule.{Rule}
 use Rattle.orca_base.specs.declared.limits.TheConstants.{MAX_HISTORY}
 use Rattle.orca_base.specs.declared.message.Message.{Message}
-use Rattle.orca_base.specs.declared.message.Message.TheVariants as message
 use Rattle.orca_base.specs.Grids.{IsSheet, Sheet}
 use Rattle.orca_concert.specs.Concerts.{Concert, concert as concert_at, concert_course, after_cue, close_course, command_course, cue_course, cues_course, final_course, halt_of, last_course, order_course, saved_course, told_course}
 use Rattle.orca_course.specs.Acts.{Act}

@@ -1,6 +1,6 @@
 use Rattle.std.proofs.Common.{◌∙◌, ap}
 use Rattle.orca_course.specs.Standings.{notes_of}
-use Rattle.orca_player.proofs.OpeningLemmas.{notes-standing_at}
+use Rattle.orca_player.proofs.CourseLemmas.{notes-standing_at}
 use Rattle.orca_player.proofs.concert.concert.Goals as goal
 
 pub do_all-requires-clause-begins : goal.do_all-requires-clause-begins

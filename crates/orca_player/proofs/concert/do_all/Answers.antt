@@ -1,7 +1,6 @@
 use Rattle.std.proofs.Common.{refl}
 use Rattle.orca_player.specs.Outlines.{concert}
-use Rattle.orca_player.proofs.CourseLemmas.{blamed-concert, concert-silent, lost-concert}
-use Rattle.orca_player.proofs.OpeningLemmas.{opened_elsewhere, opened_in_send, opened_whole}
+use Rattle.orca_player.proofs.CourseLemmas.{blamed-concert, concert-silent, lost-concert, opened_elsewhere, opened_in_send, opened_whole}
 use Rattle.orca_player.proofs.concert.do_all.Goals as goal
 
 pub returns-in-Ok : goal.returns-in-Ok

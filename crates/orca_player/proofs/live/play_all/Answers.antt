@@ -2,8 +2,7 @@ use Rattle.std.proofs.Common.{refl, subst, sym}
 use Rattle.std.specs.Prelude.{IfSome}
 use Rattle.orca_live.specs.States.{LiveState}
 use Rattle.orca_script.specs.Runs.{ScriptReadsBack}
-use Rattle.orca_player.proofs.CourseLemmas.{lost_by, performance-silent, played_by}
-use Rattle.orca_player.proofs.OpeningLemmas.{opened_elsewhere, opened_in_send, opened_whole}
+use Rattle.orca_player.proofs.CourseLemmas.{lost_by, performance-silent, played_by, opened_elsewhere, opened_in_send, opened_whole}
 use Rattle.orca_player.proofs.live.play_all.Goals as goal
 
 pub returns-in-Ok : goal.returns-in-Ok

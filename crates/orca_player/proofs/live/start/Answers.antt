@@ -1,8 +1,7 @@
 use Rattle.std.proofs.Common.{◌∙◌, ap}
 use Rattle.orca_course.specs.Standings.{notes_of}
 use Rattle.orca_player.specs.Outlines.{live_outline}
-use Rattle.orca_player.proofs.CourseLemmas.{live_from, live_none}
-use Rattle.orca_player.proofs.OpeningLemmas.{notes-standing_at}
+use Rattle.orca_player.proofs.CourseLemmas.{live_from, live_none, notes-standing_at}
 use Rattle.orca_player.proofs.live.start.Goals as goal
 
 pub play_all-requires-clause-begins : goal.play_all-requires-clause-begins
