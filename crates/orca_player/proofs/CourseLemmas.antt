@@ -209,23 +209,12 @@ opened_elsewhere {f = f} g {hands = hands} {c = c} {s = s} {t = t} {m = m} n
 
 -- ---- a list of commands: where it leads
 
-final-standing : {R : Type 0} (m : Manner R) (end : Option Stop) (s : Concert R)
-    → (final_course m end s).state.standing ≡ s.standing
-unfolding final_course mapped
-final-standing m end s = grind arith
-
-saved-standing : {R : Type 0} (m : Manner R) (end : Option Stop) (s : Concert R)
-    → (saved_course m end s).state.standing ≡ s.standing
-unfolding saved_course mapped
-saved-standing m end s = grind arith
-
 -- a run of cues ends closed
 pub concert-standing : {R : Type 0} (m : Manner R) (cues : List Cue) (s : Concert R)
     → (concert_course m cues s).state.standing
     ≡ standing_closed (cues_course m cues s).state.standing
-unfolding concert_course last_course afterwards keeping close_course onward mapped
-concert-standing m cues s =
-    saved-standing m _ _ ∙ ap standing_closed (final-standing m _ (cues_course m cues s).state)
+unfolding concert_course last_course final_course saved_course afterwards keeping close_course onward mapped
+concert-standing m cues s = grind arith
 
 -- and so with no note
 pub concert-silent : {R : Type 0} (m : Manner R) (cues : List Cue) (s : Concert R)
@@ -268,15 +257,10 @@ deaf-cues m cues s quiet =
     deaf-each (cue_course m) (λ cue t. deaf-each (order_course m cue.line)
     (λ order u. deaf-order m cue.line order u quiet) (replicate cue.times cue.order) t) cues s
 
-deaf-final : {R : Type 0} (m : Manner R) (end : Option Stop) (s : Concert R) → IsQuiet m
-    → AreDeaf (final_course m end s).acts
-unfolding final_course mapped
-deaf-final m end s quiet = grind (arith, quiet.final)
-
-deaf-saved : {R : Type 0} (m : Manner R) (end : Option Stop) (s : Concert R) → IsQuiet m
-    → AreDeaf (saved_course m end s).acts
-unfolding saved_course mapped
-deaf-saved m end s quiet = grind (arith, quiet.saves)
+deaf-last : {R : Type 0} (m : Manner R) (end : Option Stop) (s : Concert R) → IsQuiet m
+    → AreDeaf (final_course m end s).acts × AreDeaf (saved_course m end s).acts
+unfolding final_course saved_course mapped
+deaf-last m end s quiet = grind (arith, quiet.final, quiet.saves)
 
 deaf-concert : {R : Type 0} (m : Manner R) (cues : List Cue) (s : Concert R) → IsQuiet m
     → AreDeaf (concert_course m cues s).acts
@@ -287,10 +271,10 @@ deaf-concert m cues s quiet =
     let over = keeping told.ending (close_course m told.state) in
     let messages = ends (notes_of told.state.standing) in
     AreDeaf-append c.acts _ (deaf-cues m cues s quiet)
-    (AreDeaf-append told.acts _ (deaf-final m c.ending c.state quiet)
+    (AreDeaf-append told.acts _ (deaf-last m c.ending c.state quiet).0
     (AreDeaf-append over.acts _
     (deaf-told (handed_of m.hands messages) (standing_closed told.state.standing) _
-    (quiet.close messages told.state.kept).deaf) (deaf-saved m over.ending over.state quiet)))
+    (quiet.close messages told.state.kept).deaf) (deaf-last m over.ending over.state quiet).1))
 
 -- so no poll is heard
 pub polls-concert : {R : Type 0} (m : Manner R) (r : R) (cues : List Cue) (s : Standing)
@@ -313,17 +297,13 @@ blamed-concert end x y lost = grind arith
 
 -- ---- a performance
 
-finish-standing : (s : LiveState) → (finish_course s).state.standing ≡ standing_closed s.standing
-unfolding finish_course last_grid_course last_script_course save_course script_course live_close close_course onward mapped
-finish-standing s = grind arith
-
 -- a whole performance ends closed
 performance-standing : (s : LiveState) (polls : List Poll) (e : Ending)
     → (performance live_part s polls).ending ≡ Some e
     → (performance live_part s polls).state.standing
     ≡ standing_closed (begun live_part s polls).state.standing
-unfolding performance lastly finished mapped
-performance-standing s polls e is = grind (arith, finish-standing)
+unfolding performance lastly finished finish_course last_grid_course last_script_course save_course script_course live_close close_course onward mapped
+performance-standing s polls e is = grind arith
 
 -- and so with no note
 pub performance-silent : (s : LiveState) (polls : List Poll) (e : Ending)
