@@ -1,10 +1,12 @@
 -- What was done of an outline, and calls before it: a load, the wait for a player, the ports.
 use Rattle.std.proofs.Common.{◌≡◌, ◌≢◌, ◌⊎◌, inl, inr, ℕ, ◌+◌, Bool, false, List, [], ◌∷◌, ◌++◌, refl, sym, ◌∙◌, ap, subst, append_assoc, append-nil, arith}
 use Rattle.std.specs.Prelude.{Option, Some, None, IfSome, Ok}
-use Rattle.orca_course.specs.Acts.{Act, AreMute, commands_in, given, gives, lost_after, open_after, polls_in, stand_after}
+use Rattle.orca_course.specs.Acts.{Act, AreMute, commands_in, given, gives, open_after, polls_in, stand_after}
 use Rattle.orca_course.specs.Acts.Act.{Attach, Listen, Load}
+use Rattle.orca_course.specs.Courses.{Course}
+use Rattle.orca_course.specs.Standings.{Standing}
 use Rattle.orca_course.specs.Following.{Follows, keys_after_acts, sounding}
-use Rattle.orca_course.specs.Worlds.{AreBegun, AreStored, Called, Calls, Made, Sated, World}
+use Rattle.orca_course.specs.Worlds.{AreBegun, Called, Calls, Made, Sated, World}
 use Rattle.orca_course.specs.declared.refused.NoMemory.{NoMemory}
 use Rattle.orca_course.proofs.ActLemmas.{open-mute, stand-mute}
 use Rattle.orca_course.proofs.FollowLemmas.{follows-mute, keys-mute}
@@ -12,12 +14,12 @@ use Rattle.orca_course.proofs.WorldLemmas.{made_none, made_twice, made_within, s
 use Rattle.orca_notes.specs.Device.{Voice}
 use Rattle.orca_notes.specs.Sound.{ends}
 use Rattle.orca_rig.specs.Arrived.{Poll}
-use Rattle.orca_rig.specs.Outside.{Contents, Rose}
+use Rattle.orca_rig.specs.Outside.{Rose}
 use Rattle.orca_term.specs.Picture.{IsScreen}
 use Rattle.orca_words.specs.Requests.{Setup}
 use Rattle.orca_player.specs.Doing.{Came, CameBy, IsBlamed, IsWhole, KeepsTake, ReadsBack, WasRefused, status_at}
 use Rattle.orca_player.specs.Outlines.{Brought, Outline, after, attaches, nothing, plain, stopped}
-use Rattle.orca_player.specs.Takes.{IsKept, Take, saves_in}
+use Rattle.orca_player.specs.Takes.{saves_in}
 use Rattle.orca_player.specs.declared.status.Status.{Status}
 use Rattle.orca_player.specs.declared.status.Status.TheVariants.{FileFault, Memory}
 
@@ -52,10 +54,7 @@ calls_bare (_ ∷ acts) calls = absurd calls
 
 calls-front : (xs ys : List Act) → AreCalls (xs ++ ys) → AreCalls xs
 calls-front [] ys calls = tt
-calls-front (Attach attached ∷ xs) ys calls = calls-front xs ys calls
-calls-front (Load name text ∷ xs) ys calls = calls-front xs ys calls
-calls-front (Listen name hands start ∷ xs) ys calls = calls-front xs ys calls
-calls-front (_ ∷ xs) ys calls = absurd calls
+calls-front (act ∷ xs) ys calls = grind (arith, calls-front xs ys)
 
 pub attaches-calls : (setup : Setup) → AreCalls (attaches setup)
 attaches-calls setup = grind arith
@@ -107,13 +106,6 @@ pub record Before (acts : List Act) (x y : World) : Type 0 where
   pub made : Made acts 0 x y
   pub sated : Sated x y
 
-blamed_after : (planned : Status) {acts : List Act} {x y : World} (z : World) → Before acts x y
-    → IsBlamed planned y z → IsBlamed planned x z
-blamed_after planned z before blamed =
-    let lost = before.lost in
-    let files = before.files in
-    grind arith
-
 whole_after : {acts : List Act} (o : Outline) {x y z : World} {status : Status} → Before acts x y
     → IsWhole o y status z → IsWhole (after acts o) x status z
 whole_after {acts = acts} o {x = x} {y = y} {z = z} before whole =
@@ -122,7 +114,7 @@ whole_after {acts = acts} o {x = x} {y = y} {z = z} before whole =
       planned = whole.planned;
       ending = whole.ending;
       settles = whole.settles;
-      blamed = blamed_after whole.planned z before whole.blamed;
+      blamed = grind (arith, before.lost, before.files, whole.blamed);
       made = made_twice before.made whole.made;
       sated = sated_twice x y z before.sated whole.sated;
       settled = bare.settled o.course.acts ∙ whole.settled;
@@ -254,21 +246,14 @@ listened called =
       sated = called.called.1;
     }
 
-lost-attaches : (setup : Setup) (b : Bool) → lost_after (attaches setup) b ≡ b
-lost-attaches setup b = grind arith
-
-stored-attaches : (setup : Setup) (old new : Option Contents) (was is : ℕ)
-    → AreStored (attaches setup) old was new is → is ≡ was
-stored-attaches setup old new was is stored = grind arith
-
 pub attached : {T : Type 0} {done : T} (setup : Setup) {x y : World}
     → Calls (attaches setup) (Ok done) x y → Before (attaches setup) x y
 attached setup {x = x} calls =
     let made = calls.called.0 in
     record {
       calls = attaches-calls setup;
-      lost = made.mail.lost ∙ lost-attaches setup x.lost;
-      files = stored-attaches setup _ _ _ _ made.shelf.left;
+      lost = made.mail.lost ∙ grind arith;
+      files = grind (arith, made.shelf.left);
       made = made;
       sated = calls.called.1;
     }
@@ -292,6 +277,16 @@ by b kind came = record {
   takes = kind.takes;
 }
 
+-- one that neither paints nor saves
+pub kind_plain : {hands : Bool} {c : Course (Option Standing) Status} {status : Status}
+    → polls_in c.acts ≡ [] → IsKind (plain hands c) [] status
+kind_plain polls = record {
+  polls = polls;
+  sized = tt;
+  reads = λ other. tt;
+  takes = λ other ends. tt;
+}
+
 -- an outline asks the inbox nothing, and paints on a screen that a view may have, if on any
 abbrev pub IsIdle : Outline → Type 0
 IsIdle o = (polls_in o.course.acts ≡ []) × IfSome o.screen IsScreen
@@ -313,12 +308,7 @@ pub by_failed : {o : Brought → Outline} (acts : List Act) (planned : Status) {
     → polls_in (acts ++ []) ≡ [] → Made (acts ++ []) 0 x y × Sated x y → IsBlamed planned x y
     → CameBy o x (status_at planned y) y
 by_failed acts planned is mute polls done blamed =
-    by nothing (rw is (record {
-      polls = polls;
-      sized = tt;
-      reads = λ other. tt;
-      takes = λ other ends. tt;
-    })) (rw is (came_bare (after acts (stopped planned)) planned refl refl mute done blamed))
+    by nothing (rw is (kind_plain polls)) (rw is (came_bare (after acts (stopped planned)) planned refl refl mute done blamed))
 
 -- the load of a file failed
 pub by_unloaded : {T : Type 0} {done : T} {o : Brought → Outline} {name : List ℕ} {x y : World}
@@ -330,10 +320,6 @@ by_unloaded {name = name} {x = x} is called =
     by_failed (Load name None ∷ []) FileFault is tt refl called.called
     (made.mail.lost, subst (λ n. Rose x.shelf.faults n) (sym stored.4.1) stored.3.1)
 
-kept_by : (take : Option Take) (acts more : List Act) → saves_in acts ≡ saves_in more
-    → IfSome take (λ take. IsKept take more) → IfSome take (λ take. IsKept take acts)
-kept_by take acts more same kept = grind arith
-
 -- calls by what was brought, and then the rest
 pub by_after : {acts : List Act} {o : Brought → Outline} {more : Outline} {x y z : World}
     {status : Status} (b : Brought) → Before acts x y → IsKind more b.polls status
@@ -344,8 +330,7 @@ by_after {acts = acts} {more = more} b before kind came is =
       polls = bare.polls more.course.acts ∙ kind.polls;
       sized = kind.sized;
       reads = kind.reads;
-      takes = λ other ends.
-          kept_by more.take _ _ (bare.saves more.course.acts) (kind.takes other ends);
+      takes = λ other ends. grind (arith, bare.saves more.course.acts, kind.takes other ends);
     })) (rw is (came_after more before came))
 
 pub kind_of : {o : Brought → Outline} {x y : World} {status : Status} (did : CameBy o x status y)

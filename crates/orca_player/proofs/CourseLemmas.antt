@@ -1,7 +1,6 @@
 -- What was done of an opened session, and the courses of a list of commands and of a performance.
 use Rattle.std.proofs.Common.{◌≡◌, ◌≢◌, ℕ, true, List, [], refl, ◌∙◌, ap, arith, ◌∷◌, ◌++◌, replicate, append-nil, ◌⊎◌, inl, inr, ◌+◌, Bool, length, sym, subst}
 use Rattle.std.specs.Prelude.{Option, Some, None, IfSome, Ok, Result, Err}
-use Rattle.orca_base.specs.declared.command.Command.{Command}
 use Rattle.orca_concert.specs.Concerts.{Concert, close_course, command_at, command_course, concert as concert_at, concert_course, cue_course, cues_course, final_course, handed_of, last_course, order_course, saved_course}
 use Rattle.orca_course.specs.Acts.{polls_in, Act, AreDeaf, gives}
 use Rattle.orca_course.specs.Courses.{lastly, mapped, onward, Course, afterwards, each, keeping}
@@ -39,8 +38,8 @@ use Rattle.orca_notes.specs.Device.{Voice, voices}
 use Rattle.orca_rig.specs.Outside.{Rose}
 use Rattle.orca_send.specs.Sending.{sends_of}
 use Rattle.std.proofs.lemmas.List.{map-append}
-use Rattle.orca_player.specs.Doing.{Came, CameBy, IsBlamed, ReadsBack, status_at}
-use Rattle.orca_player.specs.Outlines.{live_outline, live_start, opening, plain, played, script_kept, status_of_ending, concert, status_of_end, standing_at}
+use Rattle.orca_player.specs.Doing.{Came, CameBy, IsBlamed, status_at}
+use Rattle.orca_player.specs.Outlines.{live_outline, live_start, opening, plain, played, status_of_ending, concert, status_of_end, standing_at}
 use Rattle.orca_player.specs.declared.status.Status.{Status}
 use Rattle.orca_player.specs.declared.status.Status.TheVariants.{Memory}
 use Rattle.orca_player.proofs.CameLemmas.{by, came_none, came_plain, came_refused, came_whole, unsaid_after}
@@ -297,21 +296,15 @@ blamed-concert end x y lost = grind arith
 
 -- ---- a performance
 
--- a whole performance ends closed
-performance-standing : (s : LiveState) (polls : List Poll) (e : Ending)
-    → (performance live_part s polls).ending ≡ Some e
-    → (performance live_part s polls).state.standing
-    ≡ standing_closed (begun live_part s polls).state.standing
-unfolding performance lastly finished finish_course last_grid_course last_script_course save_course script_course live_close close_course onward mapped
-performance-standing s polls e is = grind arith
-
--- and so with no note
+-- a whole performance ends closed, and so with no note
 pub performance-silent : (s : LiveState) (polls : List Poll) (e : Ending)
     → (performance live_part s polls).ending ≡ Some e
     → notes_of (performance live_part s polls).state.standing ≡ []
+unfolding performance lastly finished finish_course last_grid_course last_script_course save_course script_course live_close close_course onward mapped
 performance-silent s polls e ended =
-    ap notes_of (performance-standing s polls e ended)
-    ∙ notes-standing_closed (begun live_part s polls).state.standing
+    let closed : (performance live_part s polls).state.standing
+    ≡ standing_closed (begun live_part s polls).state.standing = grind arith in
+    ap notes_of closed ∙ notes-standing_closed (begun live_part s polls).state.standing
 
 -- a performance without answers polls nothing
 pub polls-none : (s : LiveState) → polls_in (performance live_part s []).acts ≡ []
@@ -323,11 +316,6 @@ pub lost_by : (ending : Ending) (x y : World) → IsLostBy (Ok (Some ending)) x.
     → IsBlamed (status_of_ending ending) x y
 lost_by ending x y lost = grind arith
 
--- the script that was kept reads back
-kept-reads : (name : Option (List ℕ)) (seed : ℕ) (given : Option (List Command))
-    → IfSome given (ScriptReadsBack seed) → IfSome (script_kept name seed given) ReadsBack
-kept-reads name seed given reads = grind arith
-
 pub played_by : (s : LiveState) (polls : List Poll) {x y : World} {status : Status}
     → IsScreen s.screen → polls_in (performance live_part s polls).acts ≡ polls
     → (status ≢ Memory
@@ -338,7 +326,7 @@ played_by s polls sized all reads came =
     by (record { script = None; start = None; polls = polls }) (record {
       polls = all;
       sized = sized;
-      reads = λ other. kept-reads s.setting.script s.setting.seed _ (reads other);
+      reads = λ other. grind (arith, reads other);
       takes = λ other ends. tt;
     }) (came_plain (played s polls) came)
 

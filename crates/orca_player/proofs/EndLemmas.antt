@@ -1,24 +1,27 @@
 -- The line of the status, after what was done of an outline; and what caused the status.
 use Rattle.std.proofs.Common.{◌≡◌, ◌≢◌, ◌⊎◌, inl, inr, ℕ, Bool, List, [], ◌∷◌, ◌++◌, refl, sym, ◌∙◌, ap, subst, append-nil, arith, ◌≤◌, false}
-use Rattle.std.specs.Prelude.{Ok, IsSomeAnd, Option}
+use Rattle.std.specs.Prelude.{Ok, IsSomeAnd, Option, Some, None, IfSome}
 use Rattle.orca_base.specs.Ascii.{line_feed}
 use Rattle.orca_base.specs.declared.port.Port.TheVariants as port
 use Rattle.orca_base.specs.Ports.{Sent}
-use Rattle.orca_concert.specs.Concerts.{handed_of}
 use Rattle.orca_course.specs.Acts.{gives, lost_after}
 use Rattle.orca_course.specs.Acts.Act.{Give}
-use Rattle.orca_course.specs.Following.{Follows, sounding}
+use Rattle.orca_course.specs.Following.{Follows}
 use Rattle.orca_course.specs.Worlds.{Called, Made, World, AreStored, RecordsFaults}
 use Rattle.orca_course.proofs.FollowLemmas.{ends_as_device, is_fair_to_device}
 use Rattle.orca_course.proofs.WorldLemmas.{made_none}
 use Rattle.orca_notes.specs.Sound.{ends}
 use Rattle.orca_rig.specs.Outside.{Contents}
-use Rattle.orca_player.specs.Doing.{Came, CameSo, ClosesEarly, IsBlamed, IsWhole, Said, SaidSo, WasRefused, status_at}
-use Rattle.orca_player.specs.Outlines.{Outline}
-use Rattle.orca_player.specs.Running.{EndsAs, IsDone, IsLast, Went, IsCaused, counts_of}
+use Rattle.orca_live.specs.Paintings.{ShowsPerformance}
+use Rattle.orca_words.specs.Requests.{Request, request_of}
+use Rattle.orca_player.specs.Doing.{Came, CameSo, ClosesEarly, IsBlamed, IsWhole, Said, SaidSo, WasRefused, status_at, CameBy}
+use Rattle.orca_player.specs.Outlines.{Outline, Heard, asked_outline, outline}
+use Rattle.orca_player.specs.Running.{EndsAs, IsDone, IsLast, Went, IsCaused, counts_of, AreLow, Counts, Ran}
 use Rattle.orca_player.specs.Statuses.{fault_sends, status_sends, status_text}
 use Rattle.orca_player.specs.declared.status.Status.{Status}
-use Rattle.orca_player.specs.declared.status.Status.TheVariants.{Done, Memory}
+use Rattle.orca_player.specs.declared.status.Status.TheVariants.{Done, Memory, Usage}
+use Rattle.orca_player.proofs.ReadyLemmas.{IsFine, outline_fine, request-other}
+use Rattle.orca_player.proofs.LawLemmas.{shows_outline}
 
 -- ---- the line was sent
 
@@ -54,15 +57,7 @@ said_none x = record {
   still = λ done. (refl, refl);
 }
 
-last_line : (status : Status) (said : List Sent) → said ≡ status_sends status
-    → IsLast status said
-last_line status said is = grind arith
-
 -- ---- how it ended
-
-ends_at : (planned : Status) (x y : World) → IsBlamed planned x y
-    → EndsAs planned (status_at planned y)
-ends_at planned x y blamed = grind arith
 
 not_memory : (planned : Status) (x y : World) → IsBlamed planned x y
     → status_at planned y ≢ Memory
@@ -71,7 +66,7 @@ not_memory planned x y blamed = grind arith
 done_by : {o : Outline} {x y : World} {status : Status} → IsWhole o x status y
     → IsDone o x status y
 done_by {o = o} {x = x} {y = y} whole = record {
-  ends = rw (whole.ending, whole.settles) (ends_at whole.planned x y whole.blamed);
+  ends = rw (whole.ending, whole.settles) (grind (arith, whole.blamed));
   made = whole.made;
   sated = whole.sated;
   follows = whole.follows;
@@ -99,9 +94,6 @@ pub record Over (o : Outline) (x : World) (result : Status) (z : World) : Type 0
   pub last : IsLast result said
   pub line : Made (gives said) 0 over z
 
-handed-none : (hands : Bool) → handed_of hands (ends []) ≡ []
-handed-none hands = grind arith
-
 -- memory was refused to the line, after all was done
 closed_whole : {o : Outline} {x y : World} {status : Status} → IsWhole o x status y
     → ClosesEarly o x y
@@ -114,8 +106,7 @@ closed_whole {o = o} {x = x} {y = y} whole =
       settled = whole.settled;
       closing = [];
       unsaid = [];
-      closes = ap (λ s. handed_of o.hands (ends (sounding s))) (sym whole.stands)
-          ∙ (ap (λ notes. handed_of o.hands (ends notes)) whole.silent ∙ handed-none o.hands);
+      closes = rw (← whole.stands, whole.silent) (grind arith);
       all = inl refl;
       made = subst (λ acts. Made acts o.course.bill x y) all whole.made;
       follows = λ hands. subst (Follows []) all (whole.follows hands);
@@ -142,7 +133,7 @@ over_by {x = x} {y = y} {status = status} result said made (inl is) (inl whole) 
       went = went_done status (λ memory. not_memory whole.planned x y whole.blamed
           (sym whole.settles ∙ memory)) (done_by whole);
       said = said;
-      last = last_line status said is.1;
+      last = grind (arith, is.1);
       line = made;
     })
 over_by result said made (inl is) (inr refused) =
@@ -211,3 +202,65 @@ caused_came sound came said =
       ])
       | inr is ↦ rw is tt
     ]
+
+-- ---- words that ask for nothing
+
+pub ran_usage : (words : List (List ℕ)) {x z : World} {status : Status} → Ran words x status z
+    → request_of words ≡ None → (status ≡ Usage) ⊎ (status ≡ Memory)
+unfolding outline
+ran_usage words {status = status} ran none =
+    let ends = rw none at (ends_by (outline words ran.heard) status _ _ ran.went) in
+    grind (arith, ends)
+
+-- and no others end so
+others : (end : Option Status) → IfSome end (λ planned. planned ≢ Usage)
+    → (Usage ≡ Memory) ⊎ IsSomeAnd end (λ planned. EndsAs planned Usage) → ⊥
+others end other ends = grind arith
+
+only : (request : Option Request) (h : Heard)
+    → (Usage ≡ Memory)
+    ⊎ IsSomeAnd (asked_outline request h).course.ending (λ planned. EndsAs planned Usage)
+    → request ≡ None
+only None h ends = refl
+only (Some request) h ends = absurd (others _ (request-other request h) ends)
+
+pub ran_usage_only : (words : List (List ℕ)) {x z : World} {status : Status}
+    → Ran words x status z → status ≡ Usage → request_of words ≡ None
+unfolding outline
+ran_usage_only words ran is =
+    only _ ran.heard (ends_by (outline words ran.heard) Usage _ _ (rw is at ran.went))
+
+-- ---- a run that can be done whole, and that meets no fault, is done whole
+
+fine_ends : (planned : Option Status) (status : Status) (old new : Counts)
+    → IfSome planned IsFine → (status ≡ Memory) ⊎ IsSomeAnd planned (λ some. EndsAs some status)
+    → IsCaused status old new → new ≡ old → AreLow old → (status ≡ Done) ⊎ (status ≡ Memory)
+fine_ends planned status old new fine ends caused same low = grind arith
+
+-- ---- all of it
+
+pub ran_by : ShowsPerformance → (words : List (List ℕ)) (grid : Option (List ℕ)) {x y z : World}
+    {status result : Status} → IsSound x
+    → CameBy (λ brought. outline words (record { grid = grid; brought = brought })) x status y
+    → Said status result y z → Ran words x result z
+ran_by shows words grid {x = x} {status = status} {result = result} sound by said =
+    let h : Heard = record { grid = grid; brought = by.brought } in
+    let over = over_came by.came said in
+    -- a status that is answered, and not for want of memory, was decided before
+    let same : result ≢ Memory → status ≢ Memory =
+    λ other memory. other (elim (said_result said) [ inl is ↦ is ∙ memory | inr is ↦ is ]) in
+    record {
+      heard = h;
+      over = over.over;
+      went = over.went;
+      said = over.said;
+      last = over.last;
+      line = over.line;
+      polls = by.polls;
+      shows = shows_outline shows words h by.sized;
+      reads = λ other. by.reads (same other);
+      takes = λ other. by.takes (same other);
+      complete = λ ready same low.
+          fine_ends _ result _ _ (outline_fine words h ready)
+          (ends_by (outline words h) result _ _ over.went) (caused_came sound by.came said) same low;
+    }

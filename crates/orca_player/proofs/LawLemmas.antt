@@ -1,12 +1,11 @@
 -- The laws of performances, on the outlines of runs.
-use Rattle.std.proofs.Common.{◌≡◌, ◌≢◌, ◌≤◌, ℕ, List, [], ◌++◌, length, refl, sym, ◌∙◌, ap, arith}
-use Rattle.std.specs.Prelude.{Option, Some, None, is_some, unwrap_or, Result, Ok, Err}
+use Rattle.std.proofs.Common.{◌≡◌, ◌≢◌, ℕ, List, [], ◌++◌, refl, sym, ◌∙◌, ap, arith, ◌∷◌}
+use Rattle.std.specs.Prelude.{Option, Some, None, unwrap_or, Result, Ok, Err, IfSome}
 use Rattle.std.specs.Option.{option_map}
 use Rattle.orca_base.specs.declared.command.Command.{Command}
 use Rattle.orca_base.specs.Grids.{Sheet}
-use Rattle.orca_base.specs.declared.limits.TheConstants.{MAX_POLLS}
 use Rattle.orca_concert.specs.Concerts.{concert as concert_at}
-use Rattle.orca_course.specs.Acts.{Act, commands_in}
+use Rattle.orca_course.specs.Acts.{Act, commands_in, ArePrintable}
 use Rattle.orca_course.specs.Courses.{mapped}
 use Rattle.orca_course.specs.Performers.{performance}
 use Rattle.orca_course.specs.Standings.{Standing}
@@ -16,18 +15,112 @@ use Rattle.orca_cues.proofs.Printed.{script2_read}
 use Rattle.orca_edit.specs.Obeying.{MachineState, machine_closed}
 use Rattle.orca_grid.specs.GridText.{grid_text}
 use Rattle.orca_grid.specs.declared.refusal.GridRefusal.{GridRefusal}
-use Rattle.orca_live.specs.Items.{items_of}
 use Rattle.orca_live.specs.Laws.{GoesOn, ItemsDecide, ReplaysScript as LiveReplays, replayed}
 use Rattle.orca_live.specs.Performing.{live_part}
 use Rattle.orca_reports.specs.Manners.{replay_manner}
 use Rattle.orca_rig.specs.Arrived.{Poll}
 use Rattle.orca_script.specs.Runs.{lines_behind, printed_script}
 use Rattle.orca_words.specs.Requests.{Perform, Performance, Play, Replay, Request, Setup, Work, request_of}
+use Rattle.orca_course.specs.Acts.Act.{Attach, Listen, Load, Stand}
+use Rattle.orca_live.specs.Paintings.{ShowsPerformance, ShowsPictures}
+use Rattle.orca_term.specs.Picture.{IsScreen}
+use Rattle.orca_term.specs.declared.cell.ScreenSize.{ScreenSize}
 use Rattle.orca_player.specs.Doing.{ReadsBack}
-use Rattle.orca_player.specs.Laws.{CutsAlike, EndAlike, HasEnd, IsReplayed, ReplaysAlike}
-use Rattle.orca_player.specs.Outlines.{Brought, Heard, Outline, Script, asked_outline, attaches, concert, grid_outline, live_outline, live_start, loaded_grid, loaded_script, opening, outline, performed, request_outline, script_kept, script_outline, standing_at, started_outline, status_of_ending, work_outline}
-use Rattle.orca_player.proofs.CameLemmas.{attaches-calls, calls_bare}
+use Rattle.orca_player.specs.Laws.{CutsAlike, EndAlike, HasEnd, HearAlike, IsReplayed, ReplaysAlike}
+use Rattle.orca_player.specs.Outlines.{Brought, Heard, Outline, Script, asked_outline, attaches, concert, grid_outline, live_outline, live_start, loaded_grid, loaded_script, opening, outline, performed, request_outline, script_kept, script_outline, standing_at, started_outline, status_of_ending, work_outline, after, loaded_migration, made_outline, migrated}
+use Rattle.orca_player.proofs.CameLemmas.{attaches-calls, calls_bare, AreCalls}
 use Rattle.orca_player.proofs.CourseLemmas.{concert-standing}
+
+-- each beginning of acts shows its pictures
+record AllShow (d : ScreenSize) (acts : List Act) : Type 0 where
+  pub show : (begun left : List Act) → acts ≡ begun ++ left → ArePrintable begun
+      → ShowsPictures d [] begun
+
+-- an act before them that neither gives nor paints
+show_before : {d : ScreenSize} (act : Act) {acts : List Act}
+    → ((bs : List Act) → ArePrintable (act ∷ bs) → ArePrintable bs)
+    → ((bs : List Act) → ShowsPictures d [] bs → ShowsPictures d [] (act ∷ bs))
+    → AllShow d acts → AllShow d (act ∷ acts)
+show_before {d = d} act {acts = acts} prints passes all = record {
+  show = elim [
+    | [] ↦ λ left is printable. tt
+    | b ∷ bs ↦ λ left is printable.
+        let same : b ≡ act = cc in
+        let more : acts ≡ bs ++ left = cc in
+        rw same (passes bs (all.show bs left more (prints bs (rw same at printable))))
+  ];
+}
+
+show_calls : {d : ScreenSize} (xs acts : List Act) → AreCalls xs → AllShow d acts
+    → AllShow d (xs ++ acts)
+show_calls [] acts calls all = all
+show_calls (Attach attached ∷ xs) acts calls all =
+    show_before (Attach attached) (λ bs prints. prints) (λ bs shows. shows)
+    (show_calls xs acts calls all)
+show_calls (Load name text ∷ xs) acts calls all =
+    show_before (Load name text) (λ bs prints. prints) (λ bs shows. shows)
+    (show_calls xs acts calls all)
+show_calls (Listen name hands start ∷ xs) acts calls all =
+    show_before (Listen name hands start) (λ bs prints. prints) (λ bs shows. shows)
+    (show_calls xs acts calls all)
+show_calls (_ ∷ xs) acts calls all = absurd calls
+
+-- an outline that paints on a screen shows each picture
+abbrev Shown : Outline → Type 0
+Shown o = IfSome o.screen (λ d. AllShow d o.course.acts)
+
+-- a screen is one that a view may have
+abbrev Sized : Outline → Type 0
+Sized o = IfSome o.screen IsScreen
+
+shown_listened : ShowsPerformance → (setup : Setup) (play : Performance) (at : ℕ)
+    (polls : List Poll) (s : Standing) → Sized (live_outline setup play at polls s)
+    → Shown (after (Listen play.address 1 (Some at) ∷ []) (live_outline setup play at polls s))
+unfolding live_outline opening mapped
+shown_listened law setup play at polls s sized =
+    show_calls (Listen play.address 1 (Some at) ∷ []) _ tt
+    (show_before (Stand s) (λ bs prints. prints) (λ bs shows. shows) (record {
+      show = λ begun left is printable.
+          law (live_start setup play at s) polls begun left sized refl is printable;
+    }))
+
+shown_loaded : ShowsPerformance → (setup : Setup) (work : Work) (b : Brought)
+    (grid : Option (List ℕ)) → Sized (loaded_grid setup work b grid)
+    → Shown (loaded_grid setup work b grid)
+unfolding loaded_grid grid_outline work_outline started_outline loaded_script script_outline concert
+shown_loaded law setup work b grid sized = grind (arith, shown_listened law)
+
+shown_by : (screen : Option ScreenSize) (xs acts : List Act) → AreCalls xs
+    → IfSome screen (λ d. AllShow d acts) → IfSome screen (λ d. AllShow d (xs ++ acts))
+shown_by None xs acts calls all = tt
+shown_by (Some d) xs acts calls all = show_calls xs acts calls all
+
+shown_performed : ShowsPerformance → (setup : Setup) (work : Work) (h : Heard)
+    → Sized (performed setup work h) → Shown (performed setup work h)
+unfolding performed
+shown_performed law setup work h sized =
+    shown_by _ (attaches setup) _ (attaches-calls setup)
+    (shown_by _ (Load setup.grid h.grid ∷ []) _ tt
+    (shown_loaded law setup work h.brought h.grid sized))
+
+shown_outline : ShowsPerformance → (words : List (List ℕ)) (h : Heard) → Sized (outline words h)
+    → Shown (outline words h)
+unfolding outline request_outline loaded_migration migrated made_outline concert
+shown_outline law words h sized = grind (arith, shown_performed law)
+
+shown_some : (screen : Option ScreenSize) (acts begun left : List Act)
+    → IfSome screen (λ d. AllShow d acts) → acts ≡ begun ++ left → ArePrintable begun
+    → IfSome screen (λ d. ShowsPictures d [] begun)
+shown_some None acts begun left all is printable = tt
+shown_some (Some d) acts begun left all is printable = all.show begun left is printable
+
+-- wherever a picture is painted in a beginning of a run, the terminal shows it
+pub shows_outline : ShowsPerformance → (words : List (List ℕ)) (h : Heard)
+    → Sized (outline words h) → (begun left : List Act)
+    → (outline words h).course.acts ≡ begun ++ left → ArePrintable begun
+    → IfSome (outline words h).screen (λ d. ShowsPictures d [] begun)
+shows_outline law words h sized begun left is printable =
+    shown_some _ _ begun left (shown_outline law words h sized) is printable
 
 -- how a course ended, if the outline has an end
 ended_by : (end : Option Ending) → option_map status_of_ending end ≢ None → end ≢ None
@@ -35,15 +128,15 @@ ended_by end is none = grind arith
 
 -- ---- any cutting
 
--- how the same items were cut into answers
-record AreCut (a b : Option ℕ) (polls others : List Poll) : Type 0 where
-  pub starts : is_some b ≡ is_some a
-  pub items : items_of polls ≡ items_of others
-  pub few : length polls ≤ MAX_POLLS
-  pub few_others : length others ≤ MAX_POLLS
-
 abbrev brings : Option (List ℕ) → Option ℕ → List Poll → Brought
 brings script start polls = record { script = script; start = start; polls = polls }
+
+abbrev hears : Option (List ℕ) → Option (List ℕ) → Option ℕ → List Poll → Heard
+hears grid script start polls = record { grid = grid; brought = brings script start polls }
+
+-- the same items, cut into answers in two ways
+abbrev AreCut : Option ℕ → Option ℕ → List Poll → List Poll → Type 0
+AreCut a b polls others = HearAlike (hears None None a polls) (hears None None b others)
 
 -- if both have an end
 abbrev Alike : Outline → Outline → Type 0
@@ -58,8 +151,6 @@ work_alike : ItemsDecide → (setup : Setup) (work : Work) (sheet : Sheet) (scri
     (work_outline setup work sheet (brings script b others))
 unfolding work_outline started_outline live_outline opening mapped
 work_alike cutting setup (Play play) sheet script None None polls others cut = alike_none _
-work_alike cutting setup (Play play) sheet script None (Some b) polls others cut = absurd cc
-work_alike cutting setup (Play play) sheet script (Some a) None polls others cut = absurd cc
 work_alike cutting setup (Play play) sheet script (Some a) (Some b) polls others cut =
     λ ends other_ends.
     let s = standing_at sheet setup.seed setup.limit in
@@ -74,14 +165,12 @@ work_alike cutting setup (Play play) sheet script (Some a) (Some b) polls others
       standing = ap Some alike.standing;
       given = ap (script_kept play.script setup.seed) alike.given;
     }
+work_alike cutting setup (Play play) sheet script _ _ polls others cut = absurd cc
 work_alike cutting setup _ sheet script a b polls others cut = alike_none _
 
 commands_attached : (setup : Setup) (more : List Act)
     → commands_in (attaches setup ++ more) ≡ commands_in more
 commands_attached setup = (calls_bare (attaches setup) (attaches-calls setup)).commands
-
-abbrev hears : Option (List ℕ) → Option (List ℕ) → Option ℕ → List Poll → Heard
-hears grid script start polls = record { grid = grid; brought = brings script start polls }
 
 asked_alike : ItemsDecide → (request : Option Request) (grid script : Option (List ℕ))
     (a b : Option ℕ) (polls others : List Poll) → AreCut a b polls others

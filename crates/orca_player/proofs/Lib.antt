@@ -4,6 +4,4 @@ pub mod EndLemmas
 pub mod LawLemmas
 pub mod ReadyLemmas
 pub mod RecordedLemmas
-pub mod RunLemmas
-pub mod ShowLemmas
 pub mod TopLemmas

@@ -92,15 +92,12 @@ IsFineEnd (Some (Stopped stop)) = stop ≡ Left
 IsFineEnd (Some Lost) = Unit {0}
 IsFineEnd (Some Spent) = ⊥
 
-stopped-fine : (end : Option Stop) → Leaves end → IsFineEnd (option_map Stopped end)
-stopped-fine end leaves = grind arith
-
 heard-fine : (a : Answer) (bytes : List ℕ) (s : LiveState) → Room a s
     → IsFineEnd (heard live_part a bytes s).ending
 unfolding heard mapped
 heard-fine answer.End bytes s room = refl
 heard-fine answer.Failed bytes s room = tt
-heard-fine a bytes s room = stopped-fine _ (heard-leaves a bytes s room)
+heard-fine a bytes s room = grind (arith, heard-leaves a bytes s room)
 
 -- ---- the number of answers
 
@@ -271,16 +268,12 @@ make_fine : (cues : List Cue) (s : Standing) → FineOutline (concert make_manne
 make_fine cues s =
     goes_fine make_manner tt cues s (assumption) (λ line answer messages r. tt)
 
-ending_fine : (end : Option Ending) → IsFineEnd end
-    → IfSome (option_map status_of_ending end) IsFine
-ending_fine end fine = grind arith
-
 live_fine : (setup : Setup) (play : Performance) (at : ℕ) (polls : List Poll) (s : Standing)
     → turns_of polls < MAX_POLLS → HasRoom (live_start setup play at s) polls
     → FineOutline (live_outline setup play at polls s)
 unfolding live_outline opening mapped
 live_fine setup play at polls s few room =
-    ending_fine _ (performance-fine (live_start setup play at s) polls room few)
+    grind (arith, performance-fine (live_start setup play at s) polls room few)
 
 -- ---- requests
 

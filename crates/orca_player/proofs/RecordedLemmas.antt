@@ -9,7 +9,7 @@ use Rattle.orca_base.specs.declared.message.Message.{Message}
 use Rattle.orca_base.specs.Grids.{IsSheet, Sheet}
 use Rattle.orca_concert.specs.Concerts.{Concert, concert as concert_at, concert_course, after_cue, close_course, command_course, cue_course, cues_course, final_course, halt_of, last_course, order_course, saved_course, told_course}
 use Rattle.orca_course.specs.Acts.{Act}
-use Rattle.orca_course.specs.Acts.Act.{Attach, Save}
+use Rattle.orca_course.specs.Acts.Act.{Save}
 use Rattle.orca_course.specs.Courses.{mapped, Course, afterwards, each, keeping, onward}
 use Rattle.orca_course.specs.Standings.{tally_at_start, Standing}
 use Rattle.orca_course.specs.declared.ending.Stop.{Stop}
@@ -22,10 +22,10 @@ use Rattle.orca_op.specs.Rules.{rule}
 use Rattle.orca_reports.specs.Runs.{Opened, calls_in}
 use Rattle.orca_reports.specs.SavedSongs.{SongIsSaved, SongIsTune}
 use Rattle.orca_reports.specs.SavedWaves.{WaveIsSaved}
-use Rattle.orca_reports.specs.Songs.{Recording as SongSoFar, recorded as recorded_course, recording_at_start, saved_by, smf_manner}
+use Rattle.orca_reports.specs.Songs.{Recording as SongSoFar, recorded as recorded_course, recording_at_start, smf_manner}
 use Rattle.orca_reports.specs.Waves.{Wave as WaveSoFar, framed, heard, next_size, wav_manner, wave_at_start}
 use Rattle.orca_wav.specs.declared.limits.TheConstants.{MAX_WAVE_BYTES, SAMPLE_BYTES}
-use Rattle.orca_wav.specs.Rendering.{Rendering, rendering_after}
+use Rattle.orca_wav.specs.Rendering.{Rendering}
 use Rattle.orca_words.specs.Requests.{Recording, Setup, Smf, Wav}
 use Rattle.std.proofs.Math.Numerals.{suc-eq-add-one}
 use Rattle.std.proofs.lemmas.List.{length-append}
@@ -79,16 +79,11 @@ Frames {R} P Room m =
     × Room n (m.done line (Ok (Framed tick)) messages r).state
 
 -- a run ends as its cues did, or in one of these ways
-last-ends : {R : Type 0} {P : Stop → Type 0} (m : Manner R) (end : Option Stop) (s : Concert R)
-    → Closes P m → IfSome end P → IfSome (last_course m end s).ending P
-unfolding last_course afterwards keeping final_course saved_course close_course onward mapped
-last-ends m end s closes ends = grind arith
-
 pub concert-ends : {R : Type 0} {P : Stop → Type 0} (m : Manner R) (cues : List Cue) (s : Concert R)
     → Closes P m → IfSome (cues_course m cues s).ending P
     → IfSome (concert_course m cues s).ending P
-unfolding concert_course afterwards
-concert-ends m cues s closes ends = last-ends m _ (cues_course m cues s).state closes ends
+unfolding concert_course last_course afterwards keeping final_course saved_course close_course onward mapped
+concert-ends m cues s closes ends = grind arith
 
 -- ---- commands, whatever comes
 
@@ -179,15 +174,11 @@ recorded-ends : (P : Stop → Type 0) (tick : ℕ) (messages : List Message) (r 
 unfolding recorded_course
 recorded-ends P tick messages r long = grind arith
 
-saved-ends : (P : Stop → Type 0) (song : Option _) (r : SongSoFar) → P SongTooLong
-    → IfSome (saved_by song r).ending P
-saved-ends P song r long = grind arith
-
 pub smf-closes : (P : Stop → Type 0) → P SongTooLong → Closes P smf_manner
 smf-closes P long = record {
   final = λ s r. tt;
   close = λ messages r. recorded-ends P r.end messages r long;
-  saves = λ r. saved-ends P r.song r long;
+  saves = λ r. grind arith;
 }
 
 pub smf-frames : Frames IsLong AnyRoom smf_manner
@@ -200,26 +191,20 @@ abbrev pub WaveRoom : ℕ → WaveSoFar → Type 0
 WaveRoom n w = SAMPLE_BYTES * (w.rendering.samples + n * w.frame) ≤ MAX_WAVE_BYTES
 
 -- a message adds no sample
-after-samples : (s : Rendering) (m : Message) → (rendering_after s m).samples ≡ s.samples
-after-samples s m = grind arith
-
 heard-samples : (s : Rendering) (m : Message) → (heard s m).samples ≡ s.samples
 unfolding heard
-heard-samples s m = grind (arith, after-samples)
+heard-samples s m = grind arith
 
 fold-samples : (messages : List Message) (s : Rendering)
     → (fold heard s messages).samples ≡ s.samples
 fold-samples [] s = refl
 fold-samples (m ∷ messages) s = fold-samples messages (heard s m) ∙ heard-samples s m
 
-framed-samples : (messages : List Message) (w : WaveSoFar)
-    → (framed messages w).rendering.samples ≡ w.rendering.samples + w.frame
+framed-room : (n : ℕ) (messages : List Message) (w : WaveSoFar)
+    → SAMPLE_BYTES * ((w.rendering.samples + w.frame) + n * w.frame) ≤ MAX_WAVE_BYTES
+    → WaveRoom n (framed messages w)
 unfolding framed
-framed-samples messages w = ap (λ n. n + w.frame) (fold-samples messages w.rendering)
-
-framed-frame : (messages : List Message) (w : WaveSoFar) → (framed messages w).frame ≡ w.frame
-unfolding framed
-framed-frame messages w = refl
+framed-room n messages w size = rw (fold-samples messages w.rendering) size
 
 -- one frame more
 more_frames : (n frame samples : ℕ) → samples + (n + 1) * frame ≡ (samples + frame) + n * frame
@@ -230,9 +215,7 @@ wav-frames line tick n messages w some =
     let size : SAMPLE_BYTES * ((w.rendering.samples + w.frame) + n * w.frame) ≤ MAX_WAVE_BYTES =
     rw more_frames at some in
     let short : next_size w ≤ MAX_WAVE_BYTES = omega (arith, size) in
-    let room : WaveRoom n (framed messages w) =
-    rw (framed-frame messages w, framed-samples messages w) size in
-    rw (le-ltb MAX_WAVE_BYTES (next_size w) short) (tt, room)
+    rw (le-ltb MAX_WAVE_BYTES (next_size w) short) (tt, framed-room n messages w size)
 
 -- ---- what is saved
 
@@ -240,29 +223,22 @@ wav-frames line tick n messages w some =
 abbrev IsNoLeave : Stop → Type 0
 IsNoLeave stop = stop ≢ Left
 
--- so one that ends as planned went on to its end
-went_on : (end : Option Stop) → IfSome end IsNoLeave → Some (status_of_end end) ≡ Some Done
-    → end ≡ None
-went_on end stays done = grind arith
-
 -- the saves are those among the calls
 saves-calls_in : (acts : List Act) → saves_in (calls_in acts) ≡ saves_in acts
 saves-calls_in [] = refl
-saves-calls_in (Attach attached ∷ acts) = saves-calls_in acts
-saves-calls_in (Save name bytes ∷ acts) =
-    ap (λ saves. Save name bytes ∷ saves) (saves-calls_in acts)
-saves-calls_in (_ ∷ acts) = saves-calls_in acts
+saves-calls_in (act ∷ acts) = grind (arith, saves-calls_in acts)
 
 one_save : (acts : List Act) (out bytes : List ℕ) → calls_in acts ≡ Save out bytes ∷ []
     → saves_in acts ≡ Save out bytes ∷ []
 one_save acts out bytes is = sym (saves-calls_in acts) ∙ ap saves_in is
 
--- so does a run of a report that nobody leaves
+-- so a run that ends as planned went on to its end
 goes_on : {R : Type 0} (m : Manner R) (cues : List Cue) (s : Concert R) → Closes IsNoLeave m
     → Ends IsNoLeave m → Some (status_of_end (concert_course m cues s).ending) ≡ Some Done
     → (concert_course m cues s).ending ≡ None
 goes_on m cues s closes ends done =
-    went_on _ (concert-ends m cues s closes (cues-end IsNoLeave m cues s ends)) done
+    let stays = concert-ends m cues s closes (cues-end IsNoLeave m cues s ends) in
+    grind (arith, stays, done)
 
 smf-ends : Ends IsNoLeave smf_manner
 smf-ends line answer messages r = grind (arith, recorded-ends IsNoLeave)

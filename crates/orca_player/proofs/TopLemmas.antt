@@ -21,7 +21,7 @@ use Rattle.orca_player.specs.Outlines.{after, asked_outline, attaches, concert, 
 use Rattle.orca_player.specs.Takes.{Take}
 use Rattle.orca_player.specs.declared.status.Status.{Status}
 use Rattle.orca_player.specs.declared.status.Status.TheVariants.{Done, FileFault, GridRefused, Memory}
-use Rattle.orca_player.proofs.CameLemmas.{IsIdle, IsKind, attached, by_later, attaches-calls, by, by_failed, by_memory, calls_bare, came_bare, came_cut, came_none, came_plain}
+use Rattle.orca_player.proofs.CameLemmas.{IsIdle, IsKind, attached, by_later, attaches-calls, by, by_failed, by_memory, kind_plain, calls_bare, came_bare, came_cut, came_none, came_plain}
 use Rattle.orca_course.proofs.WorldLemmas.{made_none}
 use Rattle.orca_player.proofs.CourseLemmas.{polls-concert}
 
@@ -30,12 +30,7 @@ use Rattle.orca_player.proofs.CourseLemmas.{polls-concert}
 pub kind_concert : {R : Type 0} {status : Status} (m : Manner R) (r : R) (cues : List Cue)
     (s : Standing) → IsQuiet m → IsKind (concert m r cues s) [] status
 unfolding concert
-kind_concert m r cues s quiet = record {
-  polls = polls-concert m r cues s quiet;
-  sized = tt;
-  reads = λ other. tt;
-  takes = λ other ends. tt;
-}
+kind_concert m r cues s quiet = kind_plain (polls-concert m r cues s quiet)
 
 pub by_recorded : {R : Type 0} (take : Take) (m : Manner R) (r : R) (cues : List Cue)
     (s : Standing) {x y : World} {status : Status} → IsQuiet m
@@ -53,12 +48,7 @@ by_recorded take m r cues s quiet keeps came =
 pub kind_read : {status : Status} (read : Result (List Cue) ScriptFault) (s : Standing)
     → IsKind (script_outline read s) [] status
 unfolding script_outline
-kind_read (Err fault) s = record {
-  polls = refl;
-  sized = tt;
-  reads = λ other. tt;
-  takes = λ other ends. tt;
-}
+kind_read (Err fault) s = kind_plain refl
 kind_read (Ok cues) s = kind_concert replay_manner tt cues s quiet-replay
 
 -- ---- a grid

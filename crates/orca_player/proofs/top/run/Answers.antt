@@ -1,9 +1,8 @@
 use Rattle.orca_live.proofs.CuttingLaw.{items_decide}
 use Rattle.orca_live.proofs.PaintingLaw.{shows_performance}
 use Rattle.orca_live.proofs.ScriptLaw.{replays_script}
-use Rattle.orca_player.proofs.EndLemmas.{caused_came}
+use Rattle.orca_player.proofs.EndLemmas.{caused_came, ran_by, ran_usage, ran_usage_only}
 use Rattle.orca_player.proofs.LawLemmas.{cuts_alike, replays_alike}
-use Rattle.orca_player.proofs.RunLemmas.{ran_by, ran_usage, ran_usage_only}
 use Rattle.orca_player.proofs.top.run.Goals as goal
 
 pub returns-clause-cutting : goal.returns-clause-cutting
