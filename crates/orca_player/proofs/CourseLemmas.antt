@@ -165,16 +165,6 @@ sends_by whole (Err InSend) other calls =
     }
 sends_by whole (Err Elsewhere) other calls = absurd (other refl)
 
--- a device follows the sends that were begun, from where the run stands
-closing_followed : (hands : Bool) (s : Standing) (closing unsaid : List Sent) → hands ≡ true
-    → handed_of hands (ends (notes_of s)) ≡ closing ++ unsaid
-    → Accompanies (Some s) (gives (sends_of (ends (notes_of s)))) (Some (standing_closed s))
-    → Follows (voices (notes_of s)) (gives closing)
-closing_followed hands s closing unsaid on splits with =
-    Follows-front (voices (notes_of s)) (gives closing) (gives unsaid)
-    (subst (Follows (voices (notes_of s)))
-    (ap gives (rw on at splits) ∙ map-append Give closing unsaid) with.follows)
-
 -- memory was refused elsewhere: the notes that sound are ended, so far as it is not refused again
 pub opened_elsewhere : {S E T : Type 0} {f : S → Standing} (g : Option E → Option Status)
     {hands : Bool} {c : Course S E} {s t : S} {m : ℕ} (n : ℕ) {x y z : World}
@@ -203,7 +193,10 @@ opened_elsewhere {f = f} g {hands = hands} {c = c} {s = s} {t = t} {m = m} n
           follows_opened (f s) (cut.did.done ++ gives sends.closing) begins
           (follows_later {r = Some (f s)} {s = Some (f t)} (gives sends.closing)
           (leads.follows on)
-          (closing_followed hands (f t) sends.closing sends.unsaid on sends.splits with));
+          (Follows-front (voices (notes_of (f t))) (gives sends.closing) (gives sends.unsaid)
+          (subst (Follows (voices (notes_of (f t)))) (ap gives
+          (ap (λ b. handed_of b (ends (notes_of (f t)))) (sym on) ∙ sends.splits)
+          ∙ map-append Give sends.closing sends.unsaid) with.follows)));
     })))
 
 -- ---- a list of commands: where it leads

@@ -59,10 +59,6 @@ said_none x = record {
 
 -- ---- how it ended
 
-not_memory : (planned : Status) (x y : World) → IsBlamed planned x y
-    → status_at planned y ≢ Memory
-not_memory planned x y blamed = grind arith
-
 done_by : {o : Outline} {x y : World} {status : Status} → IsWhole o x status y
     → IsDone o x status y
 done_by {o = o} {x = x} {y = y} whole = record {
@@ -130,8 +126,7 @@ over_by : {o : Outline} {x y z : World} {status : Status} (result : Status) (sai
 over_by {x = x} {y = y} {status = status} result said made (inl is) (inl whole) =
     rw is.0 (record {
       over = y;
-      went = went_done status (λ memory. not_memory whole.planned x y whole.blamed
-          (sym whole.settles ∙ memory)) (done_by whole);
+      went = went_done status (grind (arith, whole.blamed, whole.settles)) (done_by whole);
       said = said;
       last = grind (arith, is.1);
       line = made;
@@ -213,16 +208,12 @@ ran_usage words {status = status} ran none =
     grind (arith, ends)
 
 -- and no others end so
-others : (end : Option Status) → IfSome end (λ planned. planned ≢ Usage)
-    → (Usage ≡ Memory) ⊎ IsSomeAnd end (λ planned. EndsAs planned Usage) → ⊥
-others end other ends = grind arith
-
 only : (request : Option Request) (h : Heard)
     → (Usage ≡ Memory)
     ⊎ IsSomeAnd (asked_outline request h).course.ending (λ planned. EndsAs planned Usage)
     → request ≡ None
 only None h ends = refl
-only (Some request) h ends = absurd (others _ (request-other request h) ends)
+only (Some request) h ends = grind (arith, request-other request h)
 
 pub ran_usage_only : (words : List (List ℕ)) {x z : World} {status : Status}
     → Ran words x status z → status ≡ Usage → request_of words ≡ None

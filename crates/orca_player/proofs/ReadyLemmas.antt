@@ -7,7 +7,7 @@ use Rattle.orca_base.specs.declared.limits.TheConstants.{MAX_POLLS}
 use Rattle.orca_base.specs.Grids.{Sheet}
 use Rattle.orca_concert.specs.Concerts.{concert as concert_at, concert_course, cues_course, command_course as obey_course}
 use Rattle.orca_concert.specs.Manners.{Manner}
-use Rattle.orca_course.specs.Courses.{mapped, Course, each, lastly, lastly_by, onward}
+use Rattle.orca_course.specs.Courses.{mapped, Course, each, lastly, onward}
 use Rattle.orca_course.specs.Standings.{Standing}
 use Rattle.orca_course.specs.declared.ending.Ending.{Ending}
 use Rattle.orca_course.specs.declared.ending.Stop.{Stop}
@@ -200,19 +200,14 @@ attended-fine s polls room few =
     let below : length polls < MAX_POLLS = omega (arith, few, all-turns polls t goes) in
     rw (lt-leb MAX_POLLS (length polls) below) tt)
 
-last-fine_by : (end : Option Ending) (c : Course LiveState Ending) → IsFineEnd end
-    → IsFineEnd (lastly_by end c (finished live_part)).ending
-unfolding finished mapped
-last-fine_by end c fine = grind arith
-
 -- a performance with room for its frames, and few polls, ends well
 pub performance-fine : (s : LiveState) (polls : List Poll) → HasRoom s polls
     → turns_of polls < MAX_POLLS → IsFineEnd (performance live_part s polls).ending
-unfolding performance lastly begun opened mapped open_course paint_course painted_course
+unfolding performance lastly begun opened finished mapped open_course paint_course painted_course
 performance-fine s polls room few =
-    last-fine_by _ (begun live_part s polls)
-    (onward-kind IsFineEnd (opened live_part s) (attended live_part polls) tt
-    (λ on. attended-fine s polls room few))
+    let fine = onward-kind IsFineEnd (opened live_part s) (attended live_part polls) tt
+    (λ on. attended-fine s polls room few) in
+    grind (arith, fine)
 
 -- a run that would end without a refusal: all is done, or something outside fails
 abbrev pub IsFine : Status → Type 0

@@ -206,14 +206,10 @@ framed-room : (n : ℕ) (messages : List Message) (w : WaveSoFar)
 unfolding framed
 framed-room n messages w size = rw (fold-samples messages w.rendering) size
 
--- one frame more
-more_frames : (n frame samples : ℕ) → samples + (n + 1) * frame ≡ (samples + frame) + n * frame
-more_frames n frame samples = grind arith
-
 pub wav-frames : Frames Never WaveRoom wav_manner
 wav-frames line tick n messages w some =
     let size : SAMPLE_BYTES * ((w.rendering.samples + w.frame) + n * w.frame) ≤ MAX_WAVE_BYTES =
-    rw more_frames at some in
+    grind (arith, some) in
     let short : next_size w ≤ MAX_WAVE_BYTES = omega (arith, size) in
     rw (le-ltb MAX_WAVE_BYTES (next_size w) short) (tt, framed-room n messages w size)
 
