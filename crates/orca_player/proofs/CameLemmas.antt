@@ -308,7 +308,8 @@ pub by_failed : {o : Brought → Outline} (acts : List Act) (planned : Status) {
     → polls_in (acts ++ []) ≡ [] → Made (acts ++ []) 0 x y × Sated x y → IsBlamed planned x y
     → CameBy o x (status_at planned y) y
 by_failed acts planned is mute polls done blamed =
-    by nothing (rw is (kind_plain polls)) (rw is (came_bare (after acts (stopped planned)) planned refl refl mute done blamed))
+    by nothing (rw is (kind_plain polls))
+    (rw is (came_bare (after acts (stopped planned)) planned refl refl mute done blamed))
 
 -- the load of a file failed
 pub by_unloaded : {T : Type 0} {done : T} {o : Brought → Outline} {name : List ℕ} {x y : World}

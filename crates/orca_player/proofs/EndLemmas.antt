@@ -1,6 +1,6 @@
 -- The line of the status, after what was done of an outline; and what caused the status.
 use Rattle.std.proofs.Common.{◌≡◌, ◌≢◌, ◌⊎◌, inl, inr, ℕ, Bool, List, [], ◌∷◌, ◌++◌, refl, sym, ◌∙◌, ap, subst, append-nil, arith, ◌≤◌, false}
-use Rattle.std.specs.Prelude.{Ok, IsSomeAnd, Option, Some, None, IfSome}
+use Rattle.std.specs.Prelude.{Ok, IsSomeAnd, Option, Some, None}
 use Rattle.orca_base.specs.Ascii.{line_feed}
 use Rattle.orca_base.specs.declared.port.Port.TheVariants as port
 use Rattle.orca_base.specs.Ports.{Sent}
@@ -16,11 +16,11 @@ use Rattle.orca_live.specs.Paintings.{ShowsPerformance}
 use Rattle.orca_words.specs.Requests.{Request, request_of}
 use Rattle.orca_player.specs.Doing.{Came, CameSo, ClosesEarly, IsBlamed, IsWhole, Said, SaidSo, WasRefused, status_at, CameBy}
 use Rattle.orca_player.specs.Outlines.{Outline, Heard, asked_outline, outline}
-use Rattle.orca_player.specs.Running.{EndsAs, IsDone, IsLast, Went, IsCaused, counts_of, AreLow, Counts, Ran}
+use Rattle.orca_player.specs.Running.{EndsAs, IsDone, IsLast, Went, IsCaused, counts_of, Ran}
 use Rattle.orca_player.specs.Statuses.{fault_sends, status_sends, status_text}
 use Rattle.orca_player.specs.declared.status.Status.{Status}
 use Rattle.orca_player.specs.declared.status.Status.TheVariants.{Done, Memory, Usage}
-use Rattle.orca_player.proofs.ReadyLemmas.{IsFine, outline_fine, request-other}
+use Rattle.orca_player.proofs.ReadyLemmas.{outline_fine, request-other}
 use Rattle.orca_player.proofs.LawLemmas.{shows_outline}
 
 -- ---- the line was sent
@@ -223,11 +223,6 @@ ran_usage_only words ran is =
 
 -- ---- a run that can be done whole, and that meets no fault, is done whole
 
-fine_ends : (planned : Option Status) (status : Status) (old new : Counts)
-    → IfSome planned IsFine → (status ≡ Memory) ⊎ IsSomeAnd planned (λ some. EndsAs some status)
-    → IsCaused status old new → new ≡ old → AreLow old → (status ≡ Done) ⊎ (status ≡ Memory)
-fine_ends planned status old new fine ends caused same low = grind arith
-
 -- ---- all of it
 
 pub ran_by : ShowsPerformance → (words : List (List ℕ)) (grid : Option (List ℕ)) {x y z : World}
@@ -252,6 +247,8 @@ ran_by shows words grid {x = x} {status = status} {result = result} sound by sai
       reads = λ other. by.reads (same other);
       takes = λ other. by.takes (same other);
       complete = λ ready same low.
-          fine_ends _ result _ _ (outline_fine words h ready)
-          (ends_by (outline words h) result _ _ over.went) (caused_came sound by.came said) same low;
+          let fine = outline_fine words h ready in
+          let ends = ends_by (outline words h) result _ _ over.went in
+          let caused = caused_came sound by.came said in
+          grind (arith, fine, ends, caused, same, low);
     }

@@ -15,7 +15,7 @@ use Rattle.orca_cues.proofs.Printed.{script2_read}
 use Rattle.orca_edit.specs.Obeying.{MachineState, machine_closed}
 use Rattle.orca_grid.specs.GridText.{grid_text}
 use Rattle.orca_grid.specs.declared.refusal.GridRefusal.{GridRefusal}
-use Rattle.orca_live.specs.Laws.{GoesOn, ItemsDecide, ReplaysScript as LiveReplays, replayed}
+use Rattle.orca_live.specs.Laws.{ItemsDecide, ReplaysScript as LiveReplays, replayed}
 use Rattle.orca_live.specs.Performing.{live_part}
 use Rattle.orca_reports.specs.Manners.{replay_manner}
 use Rattle.orca_rig.specs.Arrived.{Poll}
@@ -197,9 +197,6 @@ cuts_alike cutting words h k same ends others =
 
 -- ---- the script
 
-replay-goes-on : GoesOn replay_manner
-replay-goes-on line answer messages r = grind arith
-
 -- the machine at the end of an outline
 abbrev machine_of : Outline → Option MachineState
 machine_of o = option_map (λ s. s.machine) o.course.state
@@ -258,7 +255,8 @@ live_again replays setup play at polls sheet script ends given reads =
       all = all;
       session = λ other same.
           replay_state script sheet other.seed other.limit read.0 read.1
-          ∙ rw (same, kept.0, all) (ap Some (again.machine replay_manner replay-goes-on));
+          ∙ rw (same, kept.0, all) (ap Some (again.machine replay_manner
+          (λ line answer messages r. grind arith)));
     }
 
 grid_again : LiveReplays → (setup : Setup) (play : Performance) (old : Option (List ℕ))

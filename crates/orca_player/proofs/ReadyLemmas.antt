@@ -223,17 +223,14 @@ FineOutline o = IfSome o.course.ending IsFine
 -- ---- lists of commands
 
 -- a run of commands ends without a refusal, if none of the ways in which it can end early comes
-fine_by : (P : Stop → Type 0) (end : Option Stop) → IfSome end P
-    → ((stop : Stop) → P stop → end ≢ Some stop) → IsFine (status_of_end end)
-fine_by P end ends never = grind arith
-
 concert_fine : {R : Type 0} {P : Stop → Type 0} (m : Manner R) (r : R) (cues : List Cue)
     (s : Standing) → Closes P m → IfSome (cues_course m cues (concert_at s r)).ending P
     → ((stop : Stop) → P stop → (concert_course m cues (concert_at s r)).ending ≢ Some stop)
     → FineOutline (concert m r cues s)
 unfolding concert opening mapped
-concert_fine {P = P} m r cues s closes ends never =
-    fine_by P _ (concert-ends m cues (concert_at s r) closes ends) never
+concert_fine m r cues s closes ends never =
+    let kind = concert-ends m cues (concert_at s r) closes ends in
+    grind (arith, kind, never)
 
 goes_fine : {R : Type 0} (m : Manner R) (r : R) (cues : List Cue) (s : Standing)
     → Closes Never m → Ends Never m → FineOutline (concert m r cues s)
@@ -253,11 +250,9 @@ frames_fine Room m r n limit seed sheet closes frames some room =
 
 -- ---- scripts and performances
 
-replay-ends : Ends Never replay_manner
-replay-ends line answer messages r = grind arith
-
 replay_fine : (cues : List Cue) (s : Standing) → FineOutline (concert replay_manner tt cues s)
-replay_fine cues s = goes_fine replay_manner tt cues s (assumption) replay-ends
+replay_fine cues s =
+    goes_fine replay_manner tt cues s (assumption) (λ line answer messages r. grind arith)
 
 make_fine : (cues : List Cue) (s : Standing) → FineOutline (concert make_manner tt cues s)
 make_fine cues s =

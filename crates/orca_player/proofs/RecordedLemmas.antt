@@ -190,15 +190,12 @@ smf-frames line tick n messages r some = (recorded-ends IsLong tick messages r r
 abbrev pub WaveRoom : ℕ → WaveSoFar → Type 0
 WaveRoom n w = SAMPLE_BYTES * (w.rendering.samples + n * w.frame) ≤ MAX_WAVE_BYTES
 
--- a message adds no sample
-heard-samples : (s : Rendering) (m : Message) → (heard s m).samples ≡ s.samples
-unfolding heard
-heard-samples s m = grind arith
-
+-- messages add no sample
 fold-samples : (messages : List Message) (s : Rendering)
     → (fold heard s messages).samples ≡ s.samples
+unfolding heard
 fold-samples [] s = refl
-fold-samples (m ∷ messages) s = fold-samples messages (heard s m) ∙ heard-samples s m
+fold-samples (m ∷ messages) s = fold-samples messages (heard s m) ∙ grind arith
 
 framed-room : (n : ℕ) (messages : List Message) (w : WaveSoFar)
     → SAMPLE_BYTES * ((w.rendering.samples + w.frame) + n * w.frame) ≤ MAX_WAVE_BYTES
@@ -236,9 +233,6 @@ goes_on m cues s closes ends done =
     let stays = concert-ends m cues s closes (cues-end IsNoLeave m cues s ends) in
     grind (arith, stays, done)
 
-smf-ends : Ends IsNoLeave smf_manner
-smf-ends line answer messages r = grind (arith, recorded-ends IsNoLeave)
-
 -- what is saved is the song of the messages of the run
 pub smf_keeps : SongIsSaved → SongIsTune → IsLawful rule → (setup : Setup) (song : Recording)
     (sheet : Sheet) → IsSheet sheet → 4 ≤ song.bpm → setup.limit ≤ MAX_HISTORY
@@ -249,14 +243,11 @@ smf_keeps saved tune lawful setup song sheet is fast few = λ ends.
     let s = concert_at (standing_at sheet setup.seed setup.limit)
     (recording_at_start song.out song.bpm song.frames) in
     let none = goes_on smf_manner (frames_cue song.frames) s (smf-closes IsNoLeave (λ same. cc))
-    smf-ends ends in (
+    (λ line answer messages r. grind (arith, recorded-ends IsNoLeave)) ends in (
       one_save (concert_course smf_manner (frames_cue song.frames) s).acts song.out _
           (saved song.out song.bpm song.frames o kept_at_start tally_at_start few none),
       tune lawful song.out song.bpm song.frames o kept_at_start tally_at_start is fast few none,
     )
-
-wav-ends : Ends IsNoLeave wav_manner
-wav-ends line answer messages w = grind arith
 
 -- what is saved is the wave of the messages of the run
 pub wav_keeps : WaveIsSaved → IsLawful rule → (setup : Setup) (wave : Recording) (sheet : Sheet)
@@ -268,4 +259,5 @@ wav_keeps saved lawful setup wave sheet is = λ ends.
     (wave_at_start wave.out wave.bpm) in
     one_save (concert_course wav_manner (frames_cue wave.frames) s).acts wave.out _
     (saved lawful wave.out wave.bpm wave.frames o kept_at_start tally_at_start is
-    (goes_on wav_manner (frames_cue wave.frames) s (assumption) wav-ends ends))
+    (goes_on wav_manner (frames_cue wave.frames) s (assumption)
+    (λ line answer messages w. grind arith) ends))

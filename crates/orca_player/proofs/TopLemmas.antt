@@ -60,13 +60,6 @@ unfolding grid_outline work_outline loaded_script started_outline concert
 idle-grid setup work read =
     grind (arith, polls-concert, quiet-run, quiet-events, quiet-smf, quiet-wav)
 
--- how a text is read that is no grid
-read_is : {T : Type 0} (read : Result Sheet GridRefusal) (refusal : GridRefusal)
-    (result : Result T GridRefusal) → result ≡ Err refusal
-    → IfErr read (λ named. result ≡ Err named) → OnOk read (IsOkUnless result refused.Memory)
-    → refusal ≢ refused.Memory → read ≡ Err refusal
-read_is read refusal result said is memory other = grind arith
-
 pub grid_refused : {T : Type 0} (setup : Setup) (work : Work) (read : Result Sheet GridRefusal)
     (refusal : GridRefusal) (result : Result T GridRefusal) (x : World) → result ≡ Err refusal
     → IfErr read (λ named. result ≡ Err named) → OnOk read (IsOkUnless result refused.Memory)
@@ -75,8 +68,8 @@ unfolding grid_outline
 grid_refused setup work read refused.Memory result x said is memory =
     by_memory (idle-grid setup work read) (came_none _ x)
 grid_refused setup work read refusal result x said is memory =
-    by_failed [] (GridRefused refusal)
-    (rw (read_is read refusal result said is memory (λ same. cc)) refl) tt refl
+    let found : read ≡ Err refusal = grind arith in
+    by_failed [] (GridRefused refusal) (rw found refl) tt refl
     (made_none x, refl) (refl, refl, λ same. cc)
 
 -- ---- a script in format 2
