@@ -1,4 +1,0 @@
-use Rattle.grid_tests.proofs.boards.blocks.expect.Given as goal
-
-abbrev pub ghosts-work : goal.ghosts-work
-ghosts-work g a = record { name = a.blank.name; parts = a.blank.parts }
