@@ -28,10 +28,16 @@ pub(crate) struct Case {
     pub steps: Vec<Step>,
     /// The words of the command line.
     pub words: Vec<String>,
-    /// The files that are held at the start, each a name and its bytes.
-    pub files: Vec<(String, Vec<u8>)>,
     /// The names of the files that are told at the end.
     pub wanted: Vec<String>,
+    pub outside: Outside,
+}
+
+/// What a run finds outside, and which calls of it fail.
+#[derive(Drop)]
+pub(crate) struct Outside {
+    /// The files that are held at the start, each a name and its bytes.
+    pub files: Vec<(String, Vec<u8>)>,
     /// The calls of the files that are to fail, counted from 1.
     pub failing_calls: Vec<u64>,
     /// The sends that are to fail, counted from 1 at each port.
@@ -52,13 +58,15 @@ impl Case {
             frame: None,
             steps: Vec::new(alloc),
             words: Vec::new(alloc),
-            files: Vec::new(alloc),
             wanted: Vec::new(alloc),
-            failing_calls: Vec::new(alloc),
-            failing_sends: Vec::new(alloc),
-            start: 0,
-            answers: Vec::new(alloc),
-            failing_polls: Vec::new(alloc),
+            outside: Outside {
+                files: Vec::new(alloc),
+                failing_calls: Vec::new(alloc),
+                failing_sends: Vec::new(alloc),
+                start: 0,
+                answers: Vec::new(alloc),
+                failing_polls: Vec::new(alloc),
+            },
         })
     }
 
@@ -70,12 +78,12 @@ impl Case {
             "word" => self
                 .words
                 .push(String::from_utf8(read_bytes(alloc, rest)?)?)?,
-            "file" => self.files.push(read_file(alloc, rest)?)?,
+            "file" => self.outside.files.push(read_file(alloc, rest)?)?,
             "want" => self.wanted.push(String::from_str(alloc, rest)?)?,
             "fail" => self.add_failure(rest)?,
-            "start" => self.start = rest.parse::<u64>()?,
-            "bytes" => self.answers.push(read_arrival(alloc, rest)?)?,
-            "due" => self.answers.push(MemAnswer::Due {
+            "start" => self.outside.start = rest.parse::<u64>()?,
+            "bytes" => self.outside.answers.push(read_arrival(alloc, rest)?)?,
+            "due" => self.outside.answers.push(MemAnswer::Due {
                 at: rest.parse::<u64>()?,
             })?,
             _ => bail!("these cases have no line {key:?}"),
@@ -88,9 +96,9 @@ impl Case {
         let (who, number) = halves(rest)?;
         let number = number.parse::<u64>()?;
         match who {
-            "files" => self.failing_calls.push(number)?,
-            "inbox" => self.failing_polls.push(number)?,
-            _ => self.failing_sends.push((read_port(who)?, number))?,
+            "files" => self.outside.failing_calls.push(number)?,
+            "inbox" => self.outside.failing_polls.push(number)?,
+            _ => self.outside.failing_sends.push((read_port(who)?, number))?,
         }
         Ok(())
     }

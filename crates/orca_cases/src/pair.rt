@@ -11,6 +11,7 @@ use anyhow::{Result, bail, ensure};
 use orca_base::{Area, Change, Dims, Event, Glyph, Look, Place, Steps};
 use orca_board::{Board, PlainBoard};
 use orca_frame::{frame, frame_plain};
+use orca_grid::Grid;
 use orca_op::{Bench, next_live};
 use std::alloc::Global;
 use std::marker::Brand;
@@ -31,16 +32,25 @@ struct Pair {
 /// Adds the line of the answer.
 pub(crate) fn tell(alloc: Global, case: &Case, into: &mut String) -> Result<()> {
     let grid = read_grid(alloc, case)?;
-    let live = live_board(alloc, &grid)?;
-    let plain = plain_board(alloc, &grid)?;
+    let mut pair = pair_of(alloc, &grid)?;
+    tell_steps(alloc, &mut pair, &case.steps, into)
+}
+
+/// Both boards with this grid.
+fn pair_of(alloc: Global, grid: &Grid) -> Result<Pair> {
+    let plain = plain_board(alloc, grid)?;
     let began = Cells::of(alloc, &plain)?;
-    let mut pair = Pair {
-        live,
+    Ok(Pair {
+        live: live_board(alloc, grid)?,
         plain,
         began,
         alike: true,
-    };
-    let line = match work::<Brand>(alloc, &mut pair, &case.steps, Blank::new(1))? {
+    })
+}
+
+/// Does the steps, and adds the line of the answer.
+fn tell_steps(alloc: Global, pair: &mut Pair, list: &[Step], into: &mut String) -> Result<()> {
+    let line = match work::<Brand>(alloc, pair, list, Blank::new(1))? {
         None => String::from_str(alloc, "one answer\n")?,
         Some(n) => format!(in alloc; "two answers after step {n}\n")?,
     };

@@ -1,13 +1,14 @@
 //! A whole run, over files and ports in memory.
 
-ghost use Rattle.std.specs.Prelude.{◌≡◌, ◌<◌, false};
+ghost use Rattle.std.specs.Prelude.{◌≡◌, ◌<◌, false, IfOk};
 
 use crate::bytes::{tell_bytes, write_bytes};
-use crate::case::Case;
+use crate::case::{Case, Outside};
 use anyhow::{Result, bail, ensure};
-use orca_base::Steps;
+use orca_base::{Port, Steps};
 use orca_course::Desk;
-use orca_rig::{MemFiles, MemInbox, MemOuts, are_arrivals, is_in_order, names_differ};
+use orca_player::{Status, run};
+use orca_rig::{MemAnswer, MemFiles, MemInbox, MemOuts, are_arrivals, is_in_order, names_differ};
 use std::alloc::Global;
 use std::marker::Brand;
 use std::sync::ledger::{Blank, Ledger};
@@ -19,39 +20,73 @@ pub(crate) fn tell(alloc: Global, case: Case, into: &mut String) -> Result<()> {
         frame: _,
         steps: _,
         words,
-        files,
         wanted,
+        outside,
+    } = case;
+    tell_outside(alloc, &words, &wanted, outside, into)
+}
+
+/// Does the run outside, and adds the lines of what came of it.
+fn tell_outside(
+    alloc: Global,
+    words: &Vec<String>,
+    wanted: &Vec<String>,
+    outside: Outside,
+    into: &mut String,
+) -> Result<()> {
+    let Outside {
+        files,
         failing_calls,
         failing_sends,
         start,
         answers,
         failing_polls,
-    } = case;
-    ensure!(names_differ(&files), "two files have one name");
-    ensure!(
-        is_in_order(start, &answers),
-        "a moment is below an earlier one"
-    );
-    ensure!(are_arrivals(&answers), "an arrival has no bytes");
-    let Ok(files) = MemFiles::new(files, failing_calls) else {
-        bail!("memory was refused");
-    };
-    let Ok(outs) = MemOuts::new(failing_sends) else {
-        bail!("memory was refused");
-    };
-    let Ok(inbox) = MemInbox::new(start, answers, failing_polls) else {
-        bail!("memory was refused");
-    };
+    } = outside;
+    let files = files_of(files, failing_calls)?;
+    let outs = outs_of(failing_sends)?;
+    let inbox = inbox_of(start, answers, failing_polls)?;
     tell_run::<Brand>(
         alloc,
-        &words,
-        &wanted,
+        words,
+        wanted,
         files,
         outs,
         inbox,
         Blank::new(1),
         into,
     )
+}
+
+/// The files of a case, and which calls of them fail.
+fn files_of(files: Vec<(String, Vec<u8>)>, failing: Vec<u64>) -> Result<MemFiles> {
+    ensure!(names_differ(&files), "two files have one name");
+    let Ok(files) = MemFiles::new(files, failing) else {
+        bail!("memory was refused");
+    };
+    Ok(files)
+}
+
+/// The ports of a case, and which sends fail.
+fn outs_of(failing: Vec<(Port, u64)>) -> Result<MemOuts> {
+    let Ok(outs) = MemOuts::new(failing) else {
+        bail!("memory was refused");
+    };
+    Ok(outs)
+}
+
+/// The inbox of a case, and which calls of it fail.
+fn inbox_of(start: u64, answers: Vec<MemAnswer>, failing: Vec<u64>) -> Result<MemInbox>
+    ensures { IfOk result (λ inbox. (inbox.listened ≡ false) × (inbox.ended ≡ false)) }
+{
+    ensure!(
+        is_in_order(start, &answers),
+        "a moment is below an earlier one"
+    );
+    ensure!(are_arrivals(&answers), "an arrival has no bytes");
+    let Ok(inbox) = MemInbox::new(start, answers, failing) else {
+        bail!("memory was refused");
+    };
+    Ok(inbox)
 }
 
 /// Does the run at a desk of these, and adds the lines of what came of it.
@@ -72,7 +107,18 @@ fn tell_run<L: Ledger>(
     requires some { 0 < blank.parts }
 {
     let mut desk = Desk::new(files, outs, inbox, Steps::<L>::start(blank));
-    let status = orca_player::run(alloc, words, &mut desk);
+    let status = run(alloc, words, &mut desk);
+    tell_end(alloc, wanted, &desk, status, into)
+}
+
+/// Adds the lines of what came of a run.
+fn tell_end<L: Ledger>(
+    alloc: Global,
+    wanted: &Vec<String>,
+    desk: &Desk<MemFiles, MemOuts, MemInbox, L>,
+    status: Status,
+    into: &mut String,
+) -> Result<()> {
     tell_sends(alloc, desk.outs(), into)?;
     for name in wanted {
         tell_file(alloc, desk.files(), name.as_str(), into)?;

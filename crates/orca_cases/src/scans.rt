@@ -18,18 +18,33 @@ use std::sync::ledger::{Blank, Ledger};
 /// Adds the lines of the answer, which both boards have to give.
 pub(crate) fn tell(alloc: Global, case: &Case, now: Now, into: &mut String) -> Result<()> {
     let grid = read_grid(alloc, case)?;
-    let mut plain = plain_board(alloc, &grid)?;
-    let mut live = live_board(alloc, &grid)?;
-    let slow = scan::<Brand>(alloc, &mut plain, now, Blank::new(1))?;
-    let quick = walk::<Brand>(alloc, &mut live, now, Blank::new(1))?;
+    tell_both(alloc, &grid, now, into)
+}
+
+/// Adds the one answer of both boards.
+fn tell_both(alloc: Global, grid: &Grid, now: Now, into: &mut String) -> Result<()> {
+    let slow = plain_answer(alloc, grid, now)?;
+    let quick = live_answer(alloc, grid, now)?;
     ensure!(slow.as_str() == quick.as_str(), "the boards differ");
     into.push_str(slow.as_str())?;
     Ok(())
 }
 
+/// What the plain board answers.
+fn plain_answer(alloc: Global, grid: &Grid, now: Now) -> Result<String> {
+    let mut board = plain_board(alloc, grid)?;
+    scan::<Brand>(alloc, &mut board, now, Blank::new(1))
+}
+
+/// What the live board answers.
+fn live_answer(alloc: Global, grid: &Grid, now: Now) -> Result<String> {
+    let mut board = live_board(alloc, grid)?;
+    walk::<Brand>(alloc, &mut board, now, Blank::new(1))
+}
+
 /// The grid of a case, its one file.
 pub(crate) fn read_grid(alloc: Global, case: &Case) -> Result<Grid> {
-    let [(_, text)] = case.files.as_slice() else {
+    let [(_, text)] = case.outside.files.as_slice() else {
         bail!("a case on boards has one grid");
     };
     ensure!(text.len() <= MAX_FILE_BYTES, "the grid is too long");

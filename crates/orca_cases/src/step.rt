@@ -29,7 +29,12 @@ pub(crate) enum Step {
 /// Reads a step: its name and its values, with a blank between two words.
 pub(crate) fn read_step(alloc: Global, text: &str) -> Result<Step> {
     let words: Vec<&str> = text.split(' ').collect(alloc)?;
-    match words.as_slice() {
+    step_of(alloc, text, words.as_slice())
+}
+
+/// The step of these words, which are those of the text.
+fn step_of(alloc: Global, text: &str, words: &[&str]) -> Result<Step> {
+    match words {
         ["frame", tick, seed] => Ok(Step::Frame(Now {
             tick: tick.parse::<u32>()?,
             seed: seed.parse::<u32>()?,
