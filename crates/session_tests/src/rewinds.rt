@@ -12,7 +12,9 @@ use orca_frame::frame;
 use orca_grid::Grid;
 use orca_notes::Messages;
 use orca_session::Session;
+use std::alloc::Global;
 use std::marker::Brand;
+use std::process::Abort;
 use std::sync::ledger::{Blank, Ledger};
 use std::test::Fail;
 
@@ -96,17 +98,39 @@ fn go_forward<L: Ledger>(board: &mut Board, blank: Blank)
     play_rows(board, &mut Steps::<L>::start(blank));
 }
 
-#[test]
-fn rewind_far_back(rt: HostRuntime) -> Result<(), Fail> {
-    let alloc = rt.alloc();
-    let grid = Grid::blank(alloc, Dims { h: 256, w: 1 })?;
-    let mut session = Session::start(alloc, &grid, 1, 4_000)?;
-    let mut messages = Messages::start(alloc)?;
-    let answer = go_far_back::<Brand>(&mut session, &mut messages, Blank::new(1));
+/// Goes far back, and looks at the session that comes of it.
+fn check_jump(rt: &impl Abort, session: &mut Session, messages: &mut Messages)
+    requires { session.old
+        ≡ session_at_start (blank_sheet (record { h = 256; w = 1 })) 1 4000 }
+{
+    let answer = go_far_back::<Brand>(session, messages, Blank::new(1));
     assert_eq!(rt; answer, Ok(Reply::Jumped { moment: 900 }));
     assert!(rt; matches!(session.entry(900), Some(Entry::Hush)) && session.entry(901).is_none());
     assert!(rt; session.checkpoints() == 4 && session.spacing() == 256);
-    let mut board = Board::start(alloc, &grid)?;
+}
+
+/// The way back, on a session of its own.
+fn check_back(rt: &impl Abort, alloc: Global, grid: &Grid) -> Result<(), Fail>
+    requires { grid.now ≡ blank_sheet (record { h = 256; w = 1 }) }
+{
+    let mut session = Session::start(alloc, grid, 1, 4_000)?;
+    let mut messages = Messages::start(alloc)?;
+    check_jump(rt, &mut session, &mut messages);
+    Ok(())
+}
+
+/// The way forward, on a board of its own.
+fn check_forward(alloc: Global, grid: &Grid) -> Result<(), Fail>
+    requires { grid.now.dims.h ≡ 256 }
+{
+    let mut board = Board::start(alloc, grid)?;
     go_forward::<Brand>(&mut board, Blank::new(1));
     Ok(())
+}
+
+#[test]
+fn rewind_far_back(rt: HostRuntime) -> Result<(), Fail> {
+    let grid = Grid::blank(rt.alloc(), Dims { h: 256, w: 1 })?;
+    check_back(&rt, rt.alloc(), &grid)?;
+    check_forward(rt.alloc(), &grid)
 }
