@@ -4,8 +4,6 @@
 pub mod limits;
 mod pitch;
 mod riff;
-#[cfg(test)]
-mod tests;
 mod tone;
 mod voice;
 mod voices;

@@ -13,9 +13,6 @@ use orca_base::{Memory, Message};
 use std::alloc::Global;
 use std::marker::Model;
 
-#[cfg(test)]
-mod tests;
-
 /// The voices that there are, and how many samples the run has so far. Room for a voice of each channel
 /// and key is taken at the start, so that no message takes memory. A contract sees the samples, and
 /// the voices in the order in which they started.
