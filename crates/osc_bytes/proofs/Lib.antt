@@ -1,1 +1,2 @@
 pub mod ZeroBytes
+mod WorkedMessages

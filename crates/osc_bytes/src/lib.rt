@@ -8,9 +8,6 @@ use byteorder::{BigEndian, ByteOrder};
 use orca_base::limits::{MAX_OSC_BYTES, MAX_VALUES, SHORT_BYTES, WIRE_BYTES};
 use orca_base::{Glyph, Short, Wire};
 
-#[cfg(test)]
-mod tests;
-
 /// Puts a message into an empty wire: the address `/` and the path glyph, and each value, at most
 /// [`MAX_VALUES`] of them, as an int32 (OSC 1.0, OSC messages).
 #[tactic(auto, unfolding(crate::specs::OscBytes::message_bytes))]

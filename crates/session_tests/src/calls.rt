@@ -1,9 +1,10 @@
-//! Calls that no run makes: a line that is printed, a script of format 1, and the small terminal.
+//! Calls that no run makes: a line that is printed, a script of format 1, the greatest numbers, and the small terminal.
 
-use orca_base::{Command, Dims};
+use orca_base::{Command, Dims, Port};
 use orca_cues::{Cue, Order, Script, ScriptFault, Source, check_script};
 use orca_grid::Grid;
 use orca_script::print;
+use orca_send::{Label, push_decimal, write_line};
 use orca_term::{Editor, Screen, StatusLine, View};
 use std::test::Fail;
 
@@ -22,6 +23,16 @@ fn a_printed_line_is_a_script_of_format_1(rt: HostRuntime) -> Result<(), Fail> {
     let (line, column) = (1, 1);
     assert!(rt; check_script(b"!orca 2 seed 1") == Err(ScriptFault { line, column }));
     Ok(())
+}
+
+#[test]
+fn the_greatest_numbers_are_printed(rt: HostRuntime) {
+    let mut text = Vec::new(rt.alloc());
+    let line = write_line(&mut text, Label::Tick(u32::MAX), Port::Midi, b"\x90\x30\x3f");
+    assert!(rt; line == Ok(()) && text.as_slice() == b"4294967295 midi 90 30 3F\n".as_slice());
+    text.clear();
+    let number = push_decimal(&mut text, u64::MAX);
+    assert!(rt; number == Ok(()) && text.as_slice() == b"18446744073709551615".as_slice());
 }
 
 #[test]
