@@ -6,4 +6,3 @@ mod message_bytes;
 
 pub use lines::{Label, push_decimal, write_line};
 pub use message_bytes::wire;
-

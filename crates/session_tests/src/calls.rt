@@ -28,7 +28,12 @@ fn a_printed_line_is_a_script_of_format_1(rt: HostRuntime) -> Result<(), Fail> {
 #[test]
 fn the_greatest_numbers_are_printed(rt: HostRuntime) {
     let mut text = Vec::new(rt.alloc());
-    let line = write_line(&mut text, Label::Tick(u32::MAX), Port::Midi, b"\x90\x30\x3f");
+    let line = write_line(
+        &mut text,
+        Label::Tick(u32::MAX),
+        Port::Midi,
+        b"\x90\x30\x3f",
+    );
     assert!(rt; line == Ok(()) && text.as_slice() == b"4294967295 midi 90 30 3F\n".as_slice());
     text.clear();
     let number = push_decimal(&mut text, u64::MAX);
