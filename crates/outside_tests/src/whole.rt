@@ -1,6 +1,8 @@
 use orca_edge::whole::{read_whole, write_whole};
+use std::alloc::Global;
 use std::io;
 use std::io::{ErrorKind, Read, Write};
+use std::process::Abort;
 
 /// A reader that gives one byte at each second turn, and then ends in this way.
 #[derive(Drop)]
@@ -62,36 +64,53 @@ impl Write for SlowWriter {
     }
 }
 
-fn slow_writer(rt: &HostRuntime, most: usize) -> SlowWriter {
+fn slow_writer(alloc: Global, most: usize) -> SlowWriter {
     SlowWriter {
-        kept: Vec::new(rt.alloc()),
+        kept: Vec::new(alloc),
         most,
         turns: 0,
         interrupted: false,
     }
 }
 
+/// How many bytes a reader has, how it ends, and how many of them are read.
+const READS: [(usize, Option<ErrorKind>, Option<usize>); 4] = [
+    (0, None, Some(0)),
+    (3, None, Some(3)),
+    (6000, None, Some(6000)),
+    (3, Some(ErrorKind::Other), None),
+];
+
+/// How many bytes are read, if all are.
+fn length_of(alloc: Global, reader: &mut SlowReader) -> Option<usize> {
+    let bytes = read_whole(alloc, reader).ok()?;
+    Some(bytes.len())
+}
+
 #[test]
 fn reads_go_on_until_the_end(rt: HostRuntime) {
-    for (count, end) in [
-        (0, None),
-        (3, None),
-        (6000, None),
-        (3, Some(ErrorKind::Other)),
-    ] {
-        let bytes = read_whole(rt.alloc(), &mut slow_reader(count, end)).ok();
-        let wanted = if end.is_none() { Some(count) } else { None };
-        assert_eq!(rt; bytes.map(|bytes| bytes.len()), wanted);
+    for (count, end, wanted) in &READS {
+        let length = length_of(rt.alloc(), &mut slow_reader(*count, *end));
+        assert!(rt; length == *wanted, "{count} bytes");
     }
+}
+
+/// How many bytes a writer takes at once, and its turns for five bytes: each second one is interrupted.
+const WRITES: [(usize, u8); 3] = [(2, 6), (5, 2), (0, 2)];
+
+/// Writes five bytes, and says whether they are written in so many turns, or else refused.
+fn is_right(to: &mut SlowWriter, turns: u8) -> bool {
+    let is_written = write_whole(to, b"three").is_ok();
+    let is_kept = to.kept.as_slice() == b"three".as_slice();
+    is_written == (to.most > 0) && is_kept == (to.most > 0) && to.turns == turns
 }
 
 #[test]
 fn writes_go_on_until_all_is_written(rt: HostRuntime) {
-    // Each second turn is interrupted. All that fits is one write.
-    for (most, turns) in [(2, 6), (5, 2), (0, 2)] {
-        let mut to = slow_writer(&rt, most);
-        let is_written = write_whole(&mut to, b"three").is_ok();
-        assert_eq!(rt; (is_written, to.turns), (most > 0, turns));
-        assert_eq!(rt; to.kept.as_slice() == b"three".as_slice(), most > 0);
+    for (most, turns) in &WRITES {
+        assert!(rt;
+            is_right(&mut slow_writer(rt.alloc(), *most), *turns),
+            "{most} at once"
+        );
     }
 }
