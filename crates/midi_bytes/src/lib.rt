@@ -8,9 +8,6 @@ ghost use Rattle.orca_base.specs.MidiBytes.{bend_bytes, control_bytes, note_off_
 
 use orca_base::limits::{MAX_CHANNEL, MAX_DATA};
 
-#[cfg(test)]
-mod tests;
-
 /// The status byte of Note Off on channel 0 (MIDI 1.0, channel voice messages).
 const NOTE_OFF: u8 = 0x80;
 
