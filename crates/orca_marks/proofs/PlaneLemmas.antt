@@ -1,9 +1,8 @@
 -- Marks added, and marks taken away.
-use Rattle.std.proofs.Common.{◌≡◌, ℕ, zero, suc, ◌+◌, ◌*◌, ◌/◌, ◌<◌, ◌≤◌, Bool, true, false, List, [], ◌++◌, length, get_or, replicate, arith, ap, ◌∙◌, sym, refl, take, ◌-◌, inl, inr}
+use Rattle.std.proofs.Common.{◌≡◌, ℕ, zero, suc, ◌+◌, ◌*◌, ◌/◌, ◌<◌, List, [], ◌++◌, length, get_or, max, replicate, arith, ap, ◌∙◌, refl, take, ◌-◌, inl, inr}
 use Rattle.std.proofs.Math.ListN.{set}
-use Rattle.std.proofs.lemmas.Bool.{both_ways, cases_lt}
 use Rattle.std.proofs.lemmas.Bool.Decides.{eqb_tells}
-use Rattle.std.proofs.lemmas.List.{get_or_past, get_or-set_other, get_or-set_same, length-replicate, length-set}
+use Rattle.std.proofs.lemmas.List.{get_or-set_other, get_or-set_same, length-replicate, length-set}
 use Rattle.orca_base.proofs.ListFacts.{resized}
 use Rattle.orca_base.specs.declared.limits.TheConstants.{MAX_CELLS, MAX_COLUMNS, MAX_ROWS}
 use Rattle.orca_base.specs.MarkSet.{MarkSet, no_marks}
@@ -35,50 +34,30 @@ filled_blank n len marks start m most none zero_long unmarked is =
 
 -- ---- marks added to a row
 
--- the row of a place that is marked has its flag
-pub plane_set : (marks : List MarkSet) (flags : List Bool) (columns y x i : ℕ) (m : MarkSet)
-    → IsPlane marks flags columns → y < MAX_ROWS → x < MAX_COLUMNS → i ≡ y * MAX_COLUMNS + x
-    → IsPlane (set marks i m) (set flags y true) columns
-plane_set marks flags columns y x i m plane row column number = record {
+-- the end of the marked row is raised beyond the place
+pub plane_set : (marks : List MarkSet) (ends raised : List ℕ) (y x i : ℕ) (m : MarkSet)
+    → IsPlane marks ends → y < MAX_ROWS → x < MAX_COLUMNS → i ≡ y * MAX_COLUMNS + x
+    → raised ≡ set ends y (max (get_or ends y 0) (x + 1)) → IsPlane (set marks i m) raised
+plane_set marks ends raised y x i m plane row column number is = record {
   size = length-set marks i m ∙ plane.size;
-  rows = length-set flags y true ∙ plane.rows;
-  few = plane.few;
-  clean = λ k quiet low. elim (eqb_tells (k / MAX_COLUMNS) y) [
-    | inl same ↦ absurd (both_ways _ quiet
-        (rw same.1 (get_or-set_same flags y true false (omega (arith, plane.rows)))))
+  rows = rw is (length-set ends y _ ∙ plane.rows);
+  clean = λ k beyond. elim (eqb_tells (k / MAX_COLUMNS) y) [
+    | inl same ↦
+        let here : get_or raised (k / MAX_COLUMNS) 0 ≡ max (get_or ends y 0) (x + 1) =
+        ap (λ (j : ℕ). get_or raised j 0) same.1 ∙ ap (λ (e : List ℕ). get_or e y 0) is
+        ∙ get_or-set_same ends y _ 0 (omega (arith, row, plane.rows)) in
+        let old : get_or ends (k / MAX_COLUMNS) 0 ≡ get_or ends y 0 =
+        ap (λ (j : ℕ). get_or ends j 0) same.1 in
+        get_or-set_other marks i k m no_marks
+        (λ same_place. omega (arith, same_place, number, here, beyond, column))
+        ∙ plane.clean k (omega (arith, here, beyond, old))
     | inr other ↦
-        get_or-set_other marks i k m no_marks (λ is. other.1 (omega arith))
-        ∙ plane.clean k (sym (get_or-set_other flags y (k / MAX_COLUMNS) true false other.1)
-        ∙ quiet) low
+        get_or-set_other marks i k m no_marks (λ same_place. other.1 (omega arith))
+        ∙ plane.clean k (omega (
+          arith,
+          beyond,
+          ap (λ (e : List ℕ). get_or e (k / MAX_COLUMNS) 0) is,
+          get_or-set_other ends y (k / MAX_COLUMNS) (max (get_or ends y 0) (x + 1)) 0 other.1,
+        ))
   ];
-}
-
--- ---- marks taken away
-
-all_up : (n k : ℕ) → k < n → get_or (replicate n true) k false ≡ true
-all_up zero k below = absurd (omega (arith, below))
-all_up (suc n) zero below = refl
-all_up (suc n) (suc k) below = all_up n k (omega (arith, below))
-
--- where each row has its flag, any number of columns will do
-pub plane_up : (marks : List MarkSet) (columns : ℕ) → length marks ≡ MAX_CELLS
-    → columns ≤ MAX_COLUMNS → IsPlane marks (replicate MAX_ROWS true) columns
-plane_up marks columns size few = record {
-  size = size;
-  rows = length-replicate MAX_ROWS true;
-  few = few;
-  clean = λ k quiet low. elim (cases_lt (k / MAX_COLUMNS) MAX_ROWS) [
-    | inl row ↦ absurd (both_ways _ quiet (all_up MAX_ROWS (k / MAX_COLUMNS) row))
-    | inr past ↦ get_or_past marks k no_marks (omega (arith, past, size))
-  ];
-}
-
--- fewer columns
-pub plane_less : (marks : List MarkSet) (flags : List Bool) (columns less : ℕ)
-    → IsPlane marks flags columns → less ≤ columns → IsPlane marks flags less
-plane_less marks flags columns less plane fewer = record {
-  size = plane.size;
-  rows = plane.rows;
-  few = omega (arith, plane.few, fewer);
-  clean = λ k quiet low. plane.clean k quiet (omega (arith, low, fewer));
 }

@@ -1,4 +1,4 @@
-ghost use Rattle.std.specs.Prelude.{◌≡◌, ◌≤◌, ◌<◌, ◌+◌, ◌*◌, ◌&&◌, ℕ, length, map, nat_le, nat_lt, slice_set, slice_index_or, count_by, if◌then◌else◌, IfOk};
+ghost use Rattle.std.specs.Prelude.{◌≡◌, ◌≤◌, ◌<◌, ◌+◌, ◌*◌, ◌&&◌, ℕ, length, map, max, nat_le, nat_lt, slice_set, slice_index_or, count_by, if◌then◌else◌, IfOk};
 ghost use Rattle.orca_base.specs.declared.limits.TheConstants.{MAX_CELLS, MAX_COLUMNS, MAX_ROWS};
 ghost use Rattle.orca_base.specs.declared.place.Place.{Place};
 ghost use Rattle.orca_base.specs.Grids.{IsInside, largest, index_of, is_inside};
@@ -17,10 +17,8 @@ const ROWS: usize = MAX_ROWS as usize;
 #[derive(Drop)]
 pub struct MarkPlane {
     marks: Vec<Marks>,
-    /// Which rows may have marks in the columns that are cleared.
-    marked: [bool; ROWS],
-    /// How many columns of a row are cleared. Beyond them old marks may stay.
-    columns: u16,
+    /// For each row the end of its marked columns: from there on none of its places is marked.
+    ends: [u16; ROWS],
 }
 
 impl Model for MarkPlane {
@@ -32,7 +30,7 @@ impl Model for MarkPlane {
 
     ghost view = { λ p. p.marks.items };
 
-    ghost invariant = { λ p. IsPlane p.marks.items p.marked p.columns };
+    ghost invariant = { λ p. IsPlane p.marks.items p.ends };
 }
 
 impl MarkPlane {
@@ -44,8 +42,7 @@ impl MarkPlane {
         marks.resize(MAX_CELLS, Marks::none())?;
         Ok(MarkPlane {
             marks,
-            marked: [false; ROWS],
-            columns: MAX_COLUMNS,
+            ends: [0; ROWS],
         })
     }
 
@@ -56,7 +53,7 @@ impl MarkPlane {
             (all_marks (slice_index_or self.old (index_of largest at) no_marks) marks) }
     {
         let index = Dims::largest().index(at);
-        self.marked[usize::from(at.y)] = true;
+        raise(&mut self.ends, at.y, at.x + 1);
         self.marks[index] = self.marks[index].union(marks);
     }
 
@@ -71,8 +68,7 @@ impl MarkPlane {
             else slice_index_or self.old i no_marks) }
     {
         let first = Dims::largest().index(at);
-        let row = usize::from(at.y);
-        self.marked[row] = true;
+        raise(&mut self.ends, at.y, at.x + count);
         add_from(&mut self.marks, first, usize::from(count), marks);
     }
 
@@ -92,37 +88,46 @@ impl MarkPlane {
         self.marks.iter().filter(|place| !place.is_empty()).count() as u32
     }
 
-    /// Takes the marks of a grid's places away. It goes over the rows of the grid that were marked,
-    /// and no column beyond it. Where the grid is wider than at the last call, it goes over all its
-    /// rows.
+    /// Takes the marks of a grid's places away. It goes over the rows of the grid that are marked, in
+    /// each up to the end of its marked columns, and over no column beyond the grid.
     pub fn clear(&mut self, dims: Dims)
         ensures size { length self.new ≡ MAX_CELLS }
         ensures marks { (at : Place) → IsInside largest at
             → slice_index_or self.new (index_of largest at) no_marks ≡ (if is_inside dims at
             then no_marks else slice_index_or self.old (index_of largest at) no_marks) }
     {
-        if dims.w > self.columns {
-            self.marked = [true; ROWS];
-        }
-        self.columns = dims.w;
-        clear_rows(&mut self.marks, &mut self.marked, dims);
+        clear_rows(&mut self.marks, &mut self.ends, dims);
     }
 }
 
-/// Takes the marks of a grid's places away, and the flags of its rows. A row without a flag has no
-/// marks there.
-fn clear_rows(places: &mut [Marks], marked: &mut [bool; ROWS], dims: Dims)
-    requires { IsPlane places.old marked.old dims.w }
-    ensures plane { IsPlane places.new marked.new dims.w }
+/// Raises the end of a row's marked columns to `end`, where it is less.
+fn raise(ends: &mut [u16; ROWS], row: u16, end: u16)
+    requires { row < MAX_ROWS }
+    ensures { ends.new ≡ slice_set ends.old row (max (slice_index_or ends.old row 0) end) }
+{
+    let row = usize::from(row);
+    ends[row] = ends[row].max(end);
+}
+
+/// Takes the marks of a grid's places away, in each row up to the end of its marked columns. A row
+/// that has marks beyond the grid keeps its end.
+fn clear_rows(places: &mut [Marks], ends: &mut [u16; ROWS], dims: Dims)
+    requires { IsPlane places.old ends.old }
+    ensures plane { IsPlane places.new ends.new }
     ensures marks { (at : Place) → IsInside largest at
         → slice_index_or places.new (index_of largest at) no_marks ≡ (if is_inside dims at
         then no_marks else slice_index_or places.old (index_of largest at) no_marks) }
 {
-    let columns = usize::from(dims.w);
     for row in 0..usize::from(dims.h) {
-        if marked[row] {
-            marked[row] = false;
-            clear_from(places, row * usize::from(MAX_COLUMNS), columns);
+        let end = ends[row];
+        if end > 0 {
+            let first = row * usize::from(MAX_COLUMNS);
+            if end <= dims.w {
+                clear_from(places, first, usize::from(end));
+                ends[row] = 0;
+            } else {
+                clear_from(places, first, usize::from(dims.w));
+            }
         }
     }
 }
