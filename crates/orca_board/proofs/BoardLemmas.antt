@@ -3,7 +3,7 @@
 use Rattle.std.proofs.Common.{◌≡◌, ℕ, zero, suc, ◌+◌, ◌*◌, ◌/◌, ◌-◌, ◌%◌, ◌<◌, ◌≤◌, ◌==◌, Bool, true, false, ◌&&◌, List, [], length, get_or, replicate, refl, arith, ap, sym, ◌∙◌, subst, inl, inr}
 use Rattle.std.proofs.Math.ListN.{set}
 use Rattle.std.specs.Prelude.{Some, nat_lt, slice_index, if◌then◌else◌}
-use Rattle.std.proofs.lemmas.Bool.{both_ways, cases_Bool, cases_lt, le-ltb, lt-ltb}
+use Rattle.std.proofs.lemmas.Bool.{both_ways, cases_lt, le-ltb, lt-ltb}
 use Rattle.std.proofs.lemmas.Bool.Decides.{eqb_tells}
 use Rattle.std.proofs.lemmas.Nat.Bits.{bit_at-zero}
 use Rattle.std.proofs.lemmas.List.{get_or_default, get_or_past, get_or-set_other, get_or-set_same}
@@ -12,9 +12,9 @@ use Rattle.orca_base.specs.declared.limits.TheConstants.{MAX_EVENTS, MAX_CELLS, 
 use Rattle.orca_base.specs.declared.place.Place.{Place}
 use Rattle.orca_base.specs.declared.place.Spot.{Spot}
 use Rattle.orca_base.specs.Glyphs.{empty, is_operator}
-use Rattle.orca_base.specs.Grids.{Sheet, IsSheet, Size, IsSize, IsInside, by_place, cells_of, index_of, is_inside, is_place, largest, place_in, place_of}
+use Rattle.orca_base.specs.Grids.{Sheet, IsSheet, Size, IsSize, IsInside, by_place, cells_of, index_of, is_inside, is_place, largest, place_in}
 use Rattle.orca_base.specs.MarkSet.{MarkSet, all_marks, no_marks}
-use Rattle.orca_base.proofs.PlaceFacts.{inside-place_of, index_of-place_of, place_of-index_of, index-injective, inside-is_inside, index_of-below, index-apart, is_inside-inside, is_place-same}
+use Rattle.orca_base.proofs.PlaceFacts.{index_of-below, index-apart, is_inside-inside, is_place-same}
 use Rattle.orca_base.proofs.SheetFacts.{index-by_place, list-by_place, set-by_place}
 use Rattle.orca_marks.specs.Planes.{blank}
 use Rattle.orca_marks.proofs.PlaneLemmas.{index-blank}

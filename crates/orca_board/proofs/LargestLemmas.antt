@@ -1,12 +1,12 @@
 -- Spots of the largest grid, seen in a grid: what a place holds, and the marks that are added,
 -- counted and taken away.
-use Rattle.std.proofs.Common.{◌≡◌, ℕ, ◌+◌, ◌*◌, ◌<◌, Bool, true, false, List, length, take, get_or, arith, ap, sym, ◌∙◌, refl, inl, inr}
+use Rattle.std.proofs.Common.{◌≡◌, ℕ, ◌+◌, ◌<◌, Bool, true, false, List, length, take, get_or, arith, ap, sym, ◌∙◌, refl, inl, inr}
 use Rattle.std.proofs.Math.ListN.{set}
-use Rattle.std.specs.Prelude.{ℤ, pos, negsuc, Option, Some, None, count_by, if◌then◌else◌, nat_lt}
-use Rattle.std.proofs.lemmas.Bool.{both_ways, cases_Bool, lt-ltb}
+use Rattle.std.specs.Prelude.{ℤ, pos, negsuc, Option, Some, None, count_by, if◌then◌else◌}
+use Rattle.std.proofs.lemmas.Bool.{both_ways, cases_Bool}
 use Rattle.std.proofs.lemmas.List.{get_or_default, get_or-replicate, get_or-set_other, length-replicate, take_all}
 use Rattle.std.proofs.lemmas.List.Sums.{count_by_more_no, count_by_more_yes}
-use Rattle.orca_base.specs.declared.limits.TheConstants.{MAX_CELLS, MAX_COLUMNS}
+use Rattle.orca_base.specs.declared.limits.TheConstants.{MAX_CELLS}
 use Rattle.orca_base.specs.declared.place.Place.{Place}
 use Rattle.orca_base.specs.declared.place.Spot.{Spot}
 use Rattle.orca_base.specs.Glyphs.{empty}
@@ -71,23 +71,19 @@ glyph_of_part s cells spot at size is outside place there =
         ∙ index-by_place s.dims (glyph_in cells) at 0 (inside-is_inside s.dims at inside)))
     each false past = rw past (outside at there past)
 
-pub peek-some : (s : State) (most : Size) (cells : List ℕ) (spot : Spot) (at : Place) (i read : ℕ)
+pub peek-some : (s : State) (cells : List ℕ) (spot : Spot) (at : Place) (i read : ℕ)
     → IsSize s.dims → s.cells ≡ by_place s.dims (glyph_in cells) → IsEmptyOutside s.dims cells
-    → most ≡ largest → Some at ≡ place_in most spot → IsInside most at → i ≡ index_of most at → i
+    → Some at ≡ place_in largest spot → IsInside largest at → i ≡ index_of largest at → i
     < MAX_CELLS → length cells ≡ MAX_CELLS → read ≡ get_or cells i read → read ≡ peek s spot
-peek-some s most cells spot at i read size is outside is_most place there number below whole shown =
-    let in_largest : IsInside largest at = rw is_most at there in
+peek-some s cells spot at i read size is outside place there number below whole shown =
     shown ∙ (get_or_default cells i read 0 (omega (arith, below, whole))
-    ∙ (ap (λ (n : ℕ). get_or cells n 0) (number ∙ ap (λ (m : Size). index_of m at) is_most)
-    ∙ glyph_of_part s cells spot at size is outside
-    (sym (place ∙ ap (λ (m : Size). place_in m spot) is_most)) in_largest))
+    ∙ (ap (λ (n : ℕ). get_or cells n 0) number
+    ∙ glyph_of_part s cells spot at size is outside (sym place) there))
 
-pub peek-none : (s : State) (most : Size) (spot : Spot) → IsSize s.dims → most ≡ largest
-    → None ≡ place_in most spot → empty ≡ peek s spot
+pub peek-none : (s : State) (spot : Spot) → IsSize s.dims → None ≡ place_in largest spot
+    → empty ≡ peek s spot
 unfolding peek
-peek-none s most spot size is_most none =
-    rw (place_in-none s.dims spot size (sym (none ∙ ap (λ (m : Size). place_in m spot) is_most)))
-    refl
+peek-none s spot size none = rw (place_in-none s.dims spot size (sym none)) refl
 
 -- ---- marks that are added
 
@@ -108,11 +104,10 @@ marks_beside d plane at m size there past =
     apart q inside false same = refl
 
 -- the desk after marks of a place of the largest grid
-pub marked-part : (d : Desk) (most : Size) (plane : List MarkSet) (spot : Spot) (at : Place)
-    (marks : MarkSet)
+pub marked-part : (d : Desk) (plane : List MarkSet) (spot : Spot) (at : Place) (marks : MarkSet)
     → IsSize d.scan.dims → d.scan.marks ≡ by_place d.scan.dims (marks_in plane)
     → length plane ≡ MAX_CELLS
-    → most ≡ largest → Some at ≡ place_in most spot → IsInside most at
+    → Some at ≡ place_in largest spot → IsInside largest at
     → record d {
       scan = record d.scan {
         marks = by_place d.scan.dims
@@ -120,11 +115,8 @@ pub marked-part : (d : Desk) (most : Size) (plane : List MarkSet) (spot : Spot) 
       };
     } ≡ desk_after d (Mark spot marks)
 unfolding after list_after
-marked-part d most plane spot at marks size is whole is_most place there =
-    let there_largest : IsInside largest at = rw is_most at there in
-    let found : place_in largest spot ≡ Some at =
-    sym (place ∙ ap (λ (m : Size). place_in m spot) is_most) in
-    each there_largest found (is_inside d.scan.dims at) refl
+marked-part d plane spot at marks size is whole place there =
+    each there (sym place) (is_inside d.scan.dims at) refl
   where
     each : IsInside largest at → place_in largest spot ≡ Some at → (b : Bool)
         → is_inside d.scan.dims at ≡ b
@@ -147,12 +139,10 @@ marked-part d most plane spot at marks size is whole is_most place there =
           is,
         ) refl
 
-pub marked-none : (d : Desk) (most : Size) (spot : Spot) (marks : MarkSet) → IsSize d.scan.dims
-    → most ≡ largest → None ≡ place_in most spot → d ≡ desk_after d (Mark spot marks)
+pub marked-none : (d : Desk) (spot : Spot) (marks : MarkSet) → IsSize d.scan.dims
+    → None ≡ place_in largest spot → d ≡ desk_after d (Mark spot marks)
 unfolding after list_after
-marked-none d most spot marks size is_most none =
-    rw (place_in-none d.scan.dims spot size
-    (sym (none ∙ ap (λ (m : Size). place_in m spot) is_most))) refl
+marked-none d spot marks size none = rw (place_in-none d.scan.dims spot size (sym none)) refl
 
 -- ---- marks that are taken away, and counted
 

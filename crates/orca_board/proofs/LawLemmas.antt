@@ -1,10 +1,10 @@
 -- Places of which none stands twice, and their listing.
-use Rattle.std.proofs.Common.{◌≡◌, ℕ, zero, suc, ◌+◌, ◌-◌, ◌*◌, ◌/◌, ◌%◌, ◌<◌, ◌≤◌, Bool, true, false, not, ◌||◌, List, [], ◌∷◌, ◌++◌, length, append_assoc, refl, arith, ap, subst, sym, ◌∙◌, inl, inr, zero-add}
-use Rattle.std.specs.Prelude.{All, Some, filter, map}
-use Rattle.std.specs.List.{AllByRecursion, IsDistinct, range_with_len}
+use Rattle.std.proofs.Common.{◌≡◌, ℕ, zero, suc, ◌+◌, ◌-◌, ◌*◌, ◌/◌, ◌%◌, ◌<◌, ◌≤◌, Bool, true, false, not, List, [], ◌∷◌, ◌++◌, length, append_assoc, refl, arith, ap, subst, sym, ◌∙◌, inl, inr, zero-add}
+use Rattle.std.specs.Prelude.{All, Some, filter}
+use Rattle.std.specs.List.{AllByRecursion, IsDistinct}
 use Rattle.std.proofs.Math.Numerals.{suc-eq-add-one}
 use Rattle.std.proofs.lemmas.Nat.{div-add-mod'}
-use Rattle.std.proofs.lemmas.Bool.{both_ways, cases_Bool, false_from_ne_true, or_parts}
+use Rattle.std.proofs.lemmas.Bool.{cases_Bool, false_from_ne_true, or_parts}
 use Rattle.std.proofs.lemmas.List.Elements.{recursion_from_All}
 use Rattle.std.proofs.lemmas.List.Folds.{list_any-append}
 use Rattle.std.proofs.lemmas.List.FromFn.{map-range_with_len_more}
@@ -14,7 +14,7 @@ use Rattle.orca_base.specs.declared.area.Area.{Area}
 use Rattle.orca_base.specs.declared.place.Place.{Place}
 use Rattle.orca_base.specs.Areas.{IsArea, size_of}
 use Rattle.orca_base.specs.Edits.{is_in_area}
-use Rattle.orca_base.specs.Grids.{Size, Sheet, IsInside, cells_of, is_place}
+use Rattle.orca_base.specs.Grids.{Size, IsInside, cells_of, is_place}
 use Rattle.orca_base.proofs.PlaceFacts.{is_inside-inside, is_place-same}
 use Rattle.orca_op.specs.Desk.{is_listed, list_with}
 use Rattle.orca_op.proofs.DeskFacts.{IsEquivalence-is_place}

@@ -11,6 +11,7 @@ mod ListingLemmas
 mod LargestLemmas
 mod LiveBitsLemmas
 mod SizeLemmas
+mod SpotLemmas
 mod CutLemmas
 mod RevertLemmas
 mod SpanLemmas

@@ -9,7 +9,7 @@ use Rattle.orca_base.specs.declared.limits.TheConstants.{MAX_CELLS, MAX_COLUMNS}
 use Rattle.orca_base.specs.declared.place.Place.{Place}
 use Rattle.orca_base.specs.Glyphs.{AreGlyphs, IsGlyph, empty}
 use Rattle.orca_base.specs.Grids.{Size, IsSize, IsInside, cells_of, index_of, is_inside, largest, place_of}
-use Rattle.orca_base.proofs.PlaceFacts.{index_of-place_of, inside-is_inside, inside-place_of, is_inside-inside}
+use Rattle.orca_base.proofs.PlaceFacts.{index_of-place_of, inside-place_of, is_inside-inside}
 use Rattle.orca_base.proofs.SheetFacts.{IsGlyph-index}
 use Rattle.orca_board.specs.Board.{IsEmptyOutside, glyph_in}
 use Rattle.orca_board.proofs.BoardLemmas.{inside-largest, most_size}

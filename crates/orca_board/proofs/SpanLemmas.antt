@@ -190,7 +190,7 @@ peek_cell s cells spot y x i read size is outside whole row column high wide num
     let there : IsInside largest at = record { row = high; column = wide } in
     let place : Some at ≡ place_in largest spot =
     rw (row, column, is_inside-inside largest at there) refl in
-    peek-some s largest cells spot at i read size is outside refl place there number
+    peek-some s cells spot at i read size is outside place there number
     (omega (arith, number, high, wide)) whole shown
 
 -- a spot outside the largest grid shows none
@@ -198,7 +198,7 @@ pub peek_beyond : (s : State) (spot : Spot) (y x : ℕ) → IsSize s.dims → sp
     ≡ pos x → is_inside largest (record { y = y; x = x }) ≡ false → empty ≡ peek s spot
 peek_beyond s spot y x size row column outside =
     let none : place_in largest spot ≡ None = rw (row, column, outside) refl in
-    peek-none s largest spot size refl (sym none)
+    peek-none s spot size (sym none)
 
 and_false : (b : Bool) → (b && false) ≡ false
 and_false true = refl
@@ -214,12 +214,12 @@ outside_right y = and_false (nat_lt y MAX_ROWS)
 pub peek_above : (s : State) (at : Place) → IsSize s.dims → at.y ≡ 0 → empty ≡ peek s (above at)
 peek_above s at size first =
     let none : place_in largest (above at) ≡ None = rw first refl in
-    peek-none s largest (above at) size refl (sym none)
+    peek-none s (above at) size (sym none)
 
 pub peek_left : (s : State) (at : Place) → IsSize s.dims → at.x ≡ 0 → empty ≡ peek s (left at 1)
 peek_left s at size first =
     let none : place_in largest (left at 1) ≡ None = rw first refl in
-    peek-none s largest (left at 1) size refl (sym none)
+    peek-none s (left at 1) size (sym none)
 
 -- one row or column less
 pub one_less : (n : ℕ) → 0 < n → pos n +ℤ negsuc 0 ≡ pos (n - 1)

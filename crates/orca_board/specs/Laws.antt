@@ -1,10 +1,10 @@
 -- What an edit lists, where nothing was listed before it: each place that it touches, once.
-use Rattle.std.specs.Prelude.{ℕ, ◌+◌, ◌*◌, ◌≡◌, ◌≤◌, List, [], All, length}
+use Rattle.std.specs.Prelude.{◌*◌, ◌≡◌, ◌≤◌, List, [], All, length}
 use Rattle.std.specs.List.{IsDistinct}
 use Rattle.orca_base.specs.declared.area.Area.{Area}
 use Rattle.orca_base.specs.declared.place.Place.{Place}
 use Rattle.orca_base.specs.Areas.{IsArea}
-use Rattle.orca_base.specs.Grids.{Size, IsSize, Sheet, IsInside, cells_of, is_place}
+use Rattle.orca_base.specs.Grids.{Size, Sheet, IsInside, cells_of, is_place}
 use Rattle.orca_op.specs.Desk.{desk_of_sheet, residue}
 use Rattle.orca_board.specs.Blocks.{fill_places, list_each, put_places, shift_places}
 use Rattle.orca_board.specs.Sizes.{cut_places}

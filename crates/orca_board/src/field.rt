@@ -1,6 +1,6 @@
-ghost use Rattle.std.specs.Prelude.{ℕ, All, true, ◌≤◌, ◌≡◌, ◌==◌, ◌||◌, ◌+◌, ◌-◌, ◌*◌, ◌<◌, false, length, count_by, if◌then◌else◌, nat_le, nat_lt, slice_index, slice_set, ◌&&◌, IfOk};
+ghost use Rattle.std.specs.Prelude.{ℕ, All, true, ◌≤◌, ◌≡◌, ◌==◌, ◌||◌, ◌+◌, ◌-◌, ◌*◌, ◌<◌, false, length, count_by, if◌then◌else◌, nat_le, nat_lt, slice_index, slice_set, ◌&&◌, IfOk, IfSome};
 ghost use Rattle.orca_base.specs.Edits.{sheet_after_resize};
-ghost use Rattle.orca_base.specs.Grids.{IsInside, IsSize, above, below, by_place, cells_of, is_inside, largest, left, right};
+ghost use Rattle.orca_base.specs.Grids.{IsInside, IsSize, above, below, by_place, cells_of, is_inside, largest, left, place_in, right};
 ghost use Rattle.orca_base.specs.declared.place.Place.{Place};
 ghost use Rattle.orca_board.specs.Listing.{places_of};
 ghost use Rattle.orca_board.specs.Sizes.{cut_places, desk_after_resize, desk_reverted, with_sheet};
@@ -454,6 +454,24 @@ fn skip_groups<L: Ledger>(
     1 + groups * GROUP
 }
 
+/// The place of a spot in the largest grid; none exactly where the spot lies outside. Its sides are
+/// one power of two, so it takes one comparison: a negative number is a great one without its sign.
+#[tactic(auto, using(crate::proofs::SpotLemmas::or_below, crate::proofs::SpotLemmas::or_small))]
+fn in_largest(spot: Spot) -> Option<Place>
+    ensures place { result ≡ place_in largest spot }
+    ensures inside { IfSome result (IsInside largest) }
+{
+    let y = spot.y.cast_unsigned();
+    let x = spot.x.cast_unsigned();
+    if (y | x) >= u32::from(MAX_COLUMNS) {
+        return None;
+    }
+    Some(Place {
+        y: y as u16,
+        x: x as u16,
+    })
+}
+
 /// Counts a step for each place of a grid that is marked.
 fn count_marked<L: Ledger>(marks: &MarkPlane, dims: Dims, steps: &mut Steps<L>)
     ensures { steps.new ≡ steps.old + count_by is_marked (by_place dims (marks_in marks.now)) }
@@ -476,9 +494,8 @@ impl Bench for Field {
     fn peek<L: Ledger>(&self, at: Spot, steps: &mut Steps<L>) -> Glyph {
         steps.count_one();
         // Outside the grid each cell is empty.
-        let most = Dims::largest();
-        match most.holds(at) {
-            Some(place) => self.cells[most.index(place)],
+        match in_largest(at) {
+            Some(place) => self.cells[Dims::largest().index(place)],
             None => Glyph::EMPTY,
         }
     }
@@ -498,7 +515,7 @@ impl Bench for Field {
     fn mark<L: Ledger>(&mut self, at: Spot, marks: Marks, steps: &mut Steps<L>) {
         steps.count_one();
         // Marks outside the grid are never looked at.
-        if let Some(place) = Dims::largest().holds(at) {
+        if let Some(place) = in_largest(at) {
             self.marks.add(place, marks);
         }
     }
@@ -588,6 +605,8 @@ impl Bench for Field {
         }
     }
 
+    // It stands apart, so that the walk of a row keeps its registers.
+    #[inline(never)]
     #[tactic(auto, unfolding(orca_op::specs::Desk::residue))]
     fn begin<L: Ledger>(&mut self, steps: &mut Steps<L>) {
         let dims = self.dims;
@@ -605,7 +624,6 @@ impl Bench for Field {
 impl Walk for Field {
     fn live_words<L: Ledger>(&self, row: u16, steps: &mut Steps<L>) -> &[u64] {
         steps.count_one();
-        let dims = self.dims;
-        self.live.row(row, dims.w)
+        self.live.row(row, self.dims.w)
     }
 }

@@ -86,6 +86,10 @@ impl Cursor {
         if bits != 0 {
             return Some(self.stop(first, base, bits));
         }
+        // A row of few columns has no other word, and most rows of a piece are that short.
+        if words.len() <= first + 1 {
+            return None;
+        }
         for i in first + 1..words.len() {
             if words[i] != 0 {
                 return Some(self.stop(i, i * usize::from(WORD_COLUMNS), words[i]));

@@ -1,11 +1,9 @@
-use Rattle.std.proofs.Common.{◌≡◌, ◌*◌, ◌<◌, ◌≤◌, ℕ, List, refl, arith, ap, subst, sym, ◌∙◌}
-use Rattle.orca_base.specs.declared.limits.TheConstants.{MAX_COLUMNS}
+use Rattle.std.proofs.Common.{◌≡◌, ◌*◌, ℕ, List, arith, ap, subst, sym, ◌∙◌}
 use Rattle.orca_base.specs.Grids.{Size, IsSize}
 use Rattle.orca_base.proofs.SheetFacts.{AreGlyphs-each, list-by_place}
 use Rattle.orca_board.specs.Board.{glyph_in}
 use Rattle.orca_board.proofs.BoardLemmas.{live-none, outside-none}
 use Rattle.orca_board.proofs.RowLemmas.{IsLaidRow, glyphs-laid, outside-laid, part-is, part_of, rows-laid}
-use Rattle.orca_board.proofs.RunLemmas.{product, row-fits}
 use Rattle.orca_board.proofs.field.lay.Goals as goal
 
 pub loop-row-init : goal.loop-row-init

@@ -10,10 +10,10 @@ invariant_of-self g c =
     rw c.add.ensures (record {
       lists = lists-mark (desk_of c.self.inside) _ c.args.at c.args.marks
           c.self.inside.listing.changes c.self.invariant.lists
-          (marked-part (desk_of c.self.inside) _ c.self.inside.marks c.args.at c.in-Some.place
+          (marked-part (desk_of c.self.inside) c.self.inside.marks c.args.at c.in-Some.place
           c.args.marks c.self.invariant.lists.desk.state.sheet.size refl
           c.self.invariant.marks_whole
-          c.largest.ensures c.in-Some.ensures.place c.in-Some.ensures.inside);
+          c.in-Some.ensures.place c.in-Some.ensures.inside);
       whole = c.self.invariant.whole;
       marks_whole = length-set c.self.inside.marks _ _ ∙ c.self.invariant.marks_whole;
       outside = c.self.invariant.outside;
@@ -24,13 +24,13 @@ invariant_of-self g c =
 pub returns-in-Some-clause-deed : goal.returns-in-Some-clause-deed
 returns-in-Some-clause-deed g c =
     rw (← c.self.view_is, c.add.ensures)
-    (marked-part (desk_of c.self.inside) _ c.self.inside.marks c.args.at c.in-Some.place
+    (marked-part (desk_of c.self.inside) c.self.inside.marks c.args.at c.in-Some.place
     c.args.marks c.self.invariant.lists.desk.state.sheet.size refl c.self.invariant.marks_whole
-    c.largest.ensures c.in-Some.ensures.place c.in-Some.ensures.inside)
+    c.in-Some.ensures.place c.in-Some.ensures.inside)
 
 pub returns-in_default-clause-deed : goal.returns-in_default-clause-deed
 returns-in_default-clause-deed g c =
     rw (← c.self.view_is)
-    (marked-none (desk_of c.self.inside) _ c.args.at c.args.marks
-    c.self.invariant.lists.desk.state.sheet.size c.largest.ensures
-    (sym c.in_default.is ∙ c.holds.ensures.place))
+    (marked-none (desk_of c.self.inside) c.args.at c.args.marks
+    c.self.invariant.lists.desk.state.sheet.size
+    (sym c.in_default.is ∙ c.in_largest.ensures.place))

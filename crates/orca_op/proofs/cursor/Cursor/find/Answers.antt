@@ -1,4 +1,4 @@
-use Rattle.std.proofs.Common.{◌≡◌, ◌*◌, ◌-◌, arith, refl, sym}
+use Rattle.std.proofs.Common.{◌≡◌, ◌+◌, ◌*◌, ◌-◌, arith, refl, sym}
 use Rattle.std.specs.Prelude.{slice_index}
 use Rattle.orca_op.proofs.LiveLemmas.{least_bit-some, least_bit-whole, next_bit-found, next_bit-missing, passed-first, passed-more}
 use Rattle.orca_op.proofs.cursor.Cursor.find.Goals as goal
@@ -15,6 +15,16 @@ returns-then-bits-ne0-clause-least c =
     (sym (next_bit-found c.args.words.now c.self.inside.column c.self.inside.word _ _
     (omega (arith, c.requires.some, c.self.invariant.word, from)) refl least
     (λ k low high. absurd (omega (arith, low, high, c.self.invariant.word)))))
+
+-- there is no other word
+pub returns-then-words-first-clause-least : goal.returns-then-words-first-clause-least
+returns-then-words-first-clause-least c =
+    let from : c.self.inside.column ≡ c.args.self.now = c.self.view_is in
+    let none = rw c.self.invariant.bits at c.if-bits-ne0.false in
+    sym (next_bit-missing c.args.words.now c.args.self.now (c.self.inside.word + 1)
+    (omega (arith, c.if-words-first.true))
+    (λ k low high. passed-first c.args.words.now c.self.inside.column c.self.inside.word
+    (omega (arith, c.self.invariant.word)) none k (omega (arith, low, from)) high))
 
 pub loop-i-init : goal.loop-i-init
 loop-i-init c k low high =
