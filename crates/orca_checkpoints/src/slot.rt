@@ -1,4 +1,4 @@
-ghost use Rattle.std.specs.Prelude.{◌≡◌, ◌+◌, ◌*◌, ◌<◌, ◌≤◌, take, vec_capacity, IfOk};
+ghost use Rattle.std.specs.Prelude.{◌≡◌, ◌+◌, ◌*◌, ◌<◌, length, take};
 ghost use Rattle.orca_base.specs.Grids.{IsSheet};
 
 use orca_base::limits::MAX_CELLS;
@@ -60,9 +60,10 @@ impl Slot {
         let dims = look.dims();
         self.dims = dims;
         self.tick = tick;
-        self.cells.clear();
+        // There is room for the largest grid, so this takes no memory.
+        let _ = self.cells.resize(dims.cells(), Glyph::EMPTY);
         for y in 0..dims.h {
-            add_row(&mut self.cells, look, dims, y);
+            copy_row(&mut self.cells, look, dims, y);
         }
     }
 
@@ -82,18 +83,19 @@ impl Slot {
     }
 }
 
-/// Adds the glyphs of a row to those of the rows before it. There is room for them.
-fn add_row<T: Look>(cells: &mut Vec<Glyph>, look: &T, dims: Dims, y: u16)
-    requires whole { IsSheet (T.sheet look.now) }
+/// Copies the glyphs of a row, after those of the rows before it.
+fn copy_row<T: Look>(cells: &mut [Glyph], look: &T, dims: Dims, y: u16)
     requires size { dims ≡ (T.sheet look.now).dims }
     requires row { y < dims.h }
-    requires before { cells.old.items ≡ take (y * dims.w) (T.sheet look.now).cells }
-    requires room { MAX_CELLS ≤ vec_capacity cells.old }
-    ensures row { cells.new.items ≡ take ((y + 1) * dims.w) (T.sheet look.now).cells }
-    ensures room { MAX_CELLS ≤ vec_capacity cells.new }
+    requires whole { length cells.old ≡ length (T.sheet look.now).cells }
+    requires before { take (y * dims.w) cells.old ≡ take (y * dims.w) (T.sheet look.now).cells }
+    ensures row { take ((y + 1) * dims.w) cells.new
+        ≡ take ((y + 1) * dims.w) (T.sheet look.now).cells }
+    ensures whole { length cells.new ≡ length (T.sheet look.now).cells }
 {
-    prove!(dims.cells() <= MAX_CELLS);
+    let first = usize::from(y) * usize::from(dims.w);
     for x in 0..dims.w {
-        cells.push_reserved(look.glyph_at(Place { y, x }));
+        let glyph = look.glyph_at(Place { y, x });
+        glyph.put(cells, first + usize::from(x));
     }
 }
