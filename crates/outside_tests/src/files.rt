@@ -1,7 +1,7 @@
 use super::common::check_file;
 use orca_base::limits::MAX_FILE_BYTES;
 use orca_edge::RealFiles;
-use orca_rig::{Files, MemFiles, OutsideFault, names_differ};
+use orca_rig::{Files, OutsideFault};
 use std::alloc::Global;
 use std::fs::Permissions;
 use std::io::Read;
@@ -35,40 +35,6 @@ fn check_calls<F: Files>(rt: &impl Abort, alloc: Global, files: &mut F, calls: &
             }
         }
     }
-}
-
-/// A file in memory: its name, and its bytes.
-fn file(rt: &impl Abort, alloc: Global, name: &str, bytes: &[u8]) -> (String, Vec<u8>) {
-    let name = String::from_str(alloc, name).expect(rt, "memory");
-    (name, bytes.to_vec(alloc).expect(rt, "memory"))
-}
-
-// The second and the fifth call are listed, and there is no file of the third name.
-const IN_MEMORY: [Call; 11] = [
-    Load("a.orca", Ok(()), b"E.E"),
-    Load("b.orca", FAILED, b"E.E"),
-    Load("c.orca", FAILED, b"E.E"),
-    Save("a.orca", b"D2", Ok(())),
-    Save("b.orca", b"lost", FAILED),
-    Save("new.orca", b"..", Ok(())),
-    Save("", b"no name", Ok(())),
-    Load("a.orca", Ok(()), b"D2"),
-    Load("b.orca", Ok(()), b""),
-    Load("new.orca", Ok(()), b".."),
-    Load("", Ok(()), b"no name"),
-];
-
-#[test]
-fn files_in_memory_are_saved_and_loaded_or_fail(rt: HostRuntime) {
-    let alloc = rt.alloc();
-    let first = file(&rt, alloc, "a.orca", b"E.E");
-    let second = file(&rt, alloc, "b.orca", b"");
-    let contents = vec![in alloc; first, second].expect(&rt, "memory");
-    assert!(rt; names_differ(&contents));
-    let fail = [2u64, 5].to_vec(alloc).expect(&rt, "memory");
-    let mut files = MemFiles::new(contents, fail).expect(&rt, "memory");
-    check_calls(&rt, alloc, &mut files, &IN_MEMORY);
-    assert!(rt; files.file("new.orca").is_some() && files.file("a").is_none());
 }
 
 /// A name of 256 bytes.

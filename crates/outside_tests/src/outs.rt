@@ -3,7 +3,7 @@ use orca_base::Port;
 use orca_base::limits::WIRE_BYTES;
 use orca_edge::RealOuts;
 use orca_edge::room::Gate;
-use orca_rig::{MemOuts, Outs, OutsideFault};
+use orca_rig::{Outs, OutsideFault};
 use std::fs::OpenOptions;
 use std::io::Read;
 use std::net::{Net, UdpSocket};
@@ -41,38 +41,6 @@ fn check_calls<O: Outs>(rt: &impl Abort, outs: &mut O, calls: &[Call]) {
 /// Attaches a port.
 fn attach<O: Outs>(rt: &impl Abort, outs: &mut O, port: Port, name: &str) {
     assert!(rt; outs.attach(port, name) == Ok(()), "{name}");
-}
-
-const IN_MEMORY: [Call; 7] = [
-    Attach(Port::Midi, "a", Ok(())),
-    Attach(Port::Udp, "b", FAILED),
-    Send(Port::Text, b"one", Ok(())),
-    Send(Port::Midi, b"two", FAILED),
-    Send(Port::Text, b"three", FAILED),
-    Send(Port::Udp, b"four", Ok(())),
-    Send(Port::Text, b"", Ok(())),
-];
-
-const HANDED: [(Port, &[u8]); 5] = [
-    (Port::Text, b"one"),
-    (Port::Midi, b"two"),
-    (Port::Text, b"three"),
-    (Port::Udp, b"four"),
-    (Port::Text, b""),
-];
-
-#[test]
-fn ports_in_memory_keep_what_they_are_given(rt: HostRuntime) {
-    // An attach is a call of its port, too.
-    let fail = [(Port::Udp, 1u64), (Port::Midi, 2), (Port::Text, 2)].to_vec(rt.alloc());
-    let mut outs = MemOuts::new(fail.expect(&rt, "memory")).expect(&rt, "memory");
-    check_calls(&rt, &mut outs, &IN_MEMORY);
-    let mut index = 0u64;
-    for handed in HANDED {
-        assert!(rt; outs.handed_at(index) == Some(handed), "{index}");
-        index = index.saturating_add(1);
-    }
-    assert!(rt; outs.handed_at(index).is_none() && outs.sent() == index);
 }
 
 // The standard error takes text alone, and a port that is not attached drops what it is given.
