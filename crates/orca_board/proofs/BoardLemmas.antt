@@ -2,7 +2,7 @@
 -- the marked places.
 use Rattle.std.proofs.Common.{◌≡◌, ℕ, zero, suc, ◌+◌, ◌*◌, ◌/◌, ◌-◌, ◌%◌, ◌<◌, ◌≤◌, ◌==◌, Bool, true, false, ◌&&◌, List, [], length, get_or, replicate, refl, arith, ap, sym, ◌∙◌, subst, inl, inr}
 use Rattle.std.proofs.Math.ListN.{set}
-use Rattle.std.specs.Prelude.{Some, nat_lt, slice_index, if◌then◌else◌}
+use Rattle.std.specs.Prelude.{Some, is_some, nat_lt, slice_index, if◌then◌else◌}
 use Rattle.std.proofs.lemmas.Bool.{both_ways, cases_lt, le-ltb, lt-ltb}
 use Rattle.std.proofs.lemmas.Bool.Decides.{eqb_tells}
 use Rattle.std.proofs.lemmas.Nat.Bits.{bit_at-zero}
@@ -20,8 +20,9 @@ use Rattle.orca_marks.specs.Planes.{blank}
 use Rattle.orca_marks.proofs.PlaneLemmas.{index-blank}
 use Rattle.orca_op.specs.Deeds.{Mark, after}
 use Rattle.orca_op.specs.Desk.{Desk, desk_after, desk_of_sheet, list_after}
-use Rattle.orca_op.specs.Live.{has_bit, is_live}
+use Rattle.orca_op.specs.Live.{has_bit, is_live, IsSummary}
 use Rattle.orca_op.specs.State.{State, blank_marks, glyph_at}
+use Rattle.orca_op.proofs.FirstFacts.{first_where-same}
 use Rattle.orca_board.specs.Board.{AreLive, IsEmptyOutside, KeepsBoard, glyph_in, marks_in}
 use Rattle.orca_board.proofs.DeskLemmas.{lists-of_sheet}
 
@@ -130,17 +131,14 @@ no_word words x beyond =
     get_or_past words (x / WORD_COLUMNS) 0 (omega arith) in
     rw (none, bit_at-zero (x % WORD_COLUMNS)) refl
 
--- a column's bit in the words of a row, as many as the row needs
-pub live-row : (s : State) (cells bits words : List ℕ) (row x : ℕ) → IsSize s.dims → row < s.dims.h
-    → s.cells ≡ by_place s.dims (glyph_in cells)
-    → ((at : Place) → IsInside largest at → is_inside s.dims at ≡ false → glyph_in cells at ≡ empty)
-    → ((n : ℕ) → n < MAX_CELLS → has_bit bits n ≡ is_operator (slice_index cells n))
-    → length words ≡ (s.dims.w + (WORD_COLUMNS - 1)) / WORD_COLUMNS
-    → (x < WORD_COLUMNS * length words → has_bit words x ≡ has_bit bits (row * MAX_COLUMNS + x))
-    → has_bit words x ≡ is_live s row x
+-- the bit of a column's place shows whether the column is live
+pub live-cell : (s : State) (cells bits : List ℕ) (row x : ℕ) → IsSize s.dims → row < s.dims.h
+    → s.cells ≡ by_place s.dims (glyph_in cells) → IsEmptyOutside s.dims cells
+    → AreLive cells bits → x < MAX_COLUMNS → has_bit bits (row * MAX_COLUMNS + x) ≡ is_live s row x
 unfolding is_operator
-live-row s cells bits words row x size below is outside live long read =
-    elim (cases_lt x s.dims.w) [
+live-cell s cells bits row x size below is outside live few =
+    live (row * MAX_COLUMNS + x) (omega (arith, size.few_rows, few))
+    ∙ elim (cases_lt x s.dims.w) [
       | inl inside ↦
           let there : IsInside s.dims (record { y = row; x = x }) =
           record { row = below; column = inside } in
@@ -149,26 +147,49 @@ live-row s cells bits words row x size below is outside live long read =
           ap (λ (xs : List ℕ). slice_index xs (row * s.dims.w + x)) is
           ∙ index-by_place s.dims (glyph_in cells) (record { y = row; x = x }) 0 there in
           let column : nat_lt x s.dims.w ≡ true = lt-ltb x s.dims.w inside in
-          read (omega (arith, long)) ∙
-          (live (row * MAX_COLUMNS + x) (omega (arith, size.few_rows, size.few_columns))
-          ∙ (rw (column, same) refl))
+          rw (column, same) refl
       | inr past ↦
           let column : nat_lt x s.dims.w ≡ false = le-ltb x s.dims.w past in
-          rw column (elim (cases_lt x (WORD_COLUMNS * length words)) [
-            | inl short ↦
-                let few : x < MAX_COLUMNS = omega (arith, long, size.few_columns) in
-                read short ∙ (live (row * MAX_COLUMNS + x) (omega (arith, few, size.few_rows))
-                ∙ ap is_operator (outside (record { y = row; x = x })
-                (record { row = omega (arith, size.few_rows); column = few })
-                (past_edge row x past)))
-            | inr beyond ↦ no_word words x beyond
-          ])
+          let beyond : (nat_lt row s.dims.h && nat_lt x s.dims.w) ≡ false =
+          rw column (and_false (nat_lt row s.dims.h)) in
+          rw column (ap is_operator (outside (record { y = row; x = x })
+          (record { row = omega (arith, below, size.few_rows); column = few }) beyond))
     ]
-  where
-    past_edge : (row x : ℕ) → s.dims.w ≤ x → (nat_lt row s.dims.h && nat_lt x s.dims.w) ≡ false
-    past_edge row x past =
-        let column : nat_lt x s.dims.w ≡ false =
-        le-ltb x s.dims.w past in rw column (and_false (nat_lt row s.dims.h))
+
+-- the words of a row show its live columns
+pub live-row : (s : State) (cells bits words : List ℕ) (row x : ℕ) → IsSize s.dims → row < s.dims.h
+    → s.cells ≡ by_place s.dims (glyph_in cells) → IsEmptyOutside s.dims cells
+    → AreLive cells bits
+    → length words ≡ (s.dims.w + (WORD_COLUMNS - 1)) / WORD_COLUMNS
+    → (x < WORD_COLUMNS * length words → has_bit words x ≡ has_bit bits (row * MAX_COLUMNS + x))
+    → has_bit words x ≡ is_live s row x
+live-row s cells bits words row x size below is outside live long read =
+    elim (cases_lt x (WORD_COLUMNS * length words)) [
+      | inl short ↦
+          read short ∙ live-cell s cells bits row x size below is outside live
+          (omega (arith, long, size.few_columns))
+      | inr beyond ↦
+          let column : nat_lt x s.dims.w ≡ false = le-ltb x s.dims.w (omega (arith, long)) in
+          no_word words x beyond ∙ rw column refl
+    ]
+
+-- the summary of a row's bits, in the largest grid, is that of its live columns
+pub summary-row : (s : State) (cells bits : List ℕ) (row summary : ℕ) → IsSize s.dims
+    → row < s.dims.h → s.cells ≡ by_place s.dims (glyph_in cells) → IsEmptyOutside s.dims cells
+    → AreLive cells bits
+    → IsSummary (λ x. nat_lt x MAX_COLUMNS && has_bit bits (row * MAX_COLUMNS + x)) summary
+    → IsSummary (is_live s row) summary
+summary-row s cells bits row summary size below is outside live shown k =
+    shown k ∙ ap is_some (first_where-same
+    (λ x. nat_lt x MAX_COLUMNS && has_bit bits (row * MAX_COLUMNS + x)) (is_live s row)
+    (k * WORD_COLUMNS) WORD_COLUMNS (λ x. elim (cases_lt x MAX_COLUMNS) [
+      | inl few ↦
+          rw (lt-ltb x MAX_COLUMNS few) (live-cell s cells bits row x size below is outside live few)
+      | inr past ↦
+          let column : nat_lt x s.dims.w ≡ false =
+          le-ltb x s.dims.w (omega (arith, past, size.few_columns)) in
+          rw (le-ltb x MAX_COLUMNS past, column) refl
+    ]))
 
 pub most_size : IsSize largest
 most_size = record {

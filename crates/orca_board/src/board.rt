@@ -232,4 +232,8 @@ impl Walk for Board {
     fn live_words<L: Ledger>(&self, row: u16, steps: &mut Steps<L>) -> &[u64] {
         self.field.live_words(row, steps)
     }
+
+    fn summary(&self, row: u16) -> u64 {
+        self.field.summary(row)
+    }
 }

@@ -626,4 +626,8 @@ impl Walk for Field {
         steps.count_one();
         self.live.row(row, self.dims.w)
     }
+
+    fn summary(&self, row: u16) -> u64 {
+        self.live.summary(row)
+    }
 }

@@ -1,30 +1,33 @@
-ghost use Rattle.std.specs.Prelude.{ℕ, ◌≡◌, ◌+◌, ◌-◌, ◌*◌, ◌/◌, ◌%◌, ◌<◌, ◌≤◌, ◌==◌, Bool, false, length, if◌then◌else◌, IfOk};
+ghost use Rattle.std.specs.Prelude.{ℕ, ◌≡◌, ◌+◌, ◌-◌, ◌*◌, ◌/◌, ◌%◌, ◌<◌, ◌≤◌, ◌==◌, Bool, false, length, ◌&&◌, if◌then◌else◌, nat_lt, IfOk};
 ghost use Rattle.std.specs.Int.{bit_at};
 ghost use Rattle.orca_base.specs.declared.limits.TheConstants.{MAX_CELLS, MAX_COLUMNS, MAX_ROWS, WORD_COLUMNS};
-ghost use Rattle.orca_op.specs.Live.{has_bit};
-ghost use Rattle.orca_board.specs.LiveBits.{no_bits};
+ghost use Rattle.orca_op.specs.Live.{has_bit, IsSummary};
+ghost use Rattle.orca_board.specs.LiveBits.{AreLiveBits, no_bits};
 
 use orca_base::Memory;
-use orca_base::limits::{LIVE_WORDS, ROW_WORDS, WORD_COLUMNS};
+use orca_base::limits::{LIVE_WORDS, MAX_ROWS, ROW_WORDS, WORD_COLUMNS};
 use std::alloc::Global;
 use std::marker::Model;
 
 /// A bit for each place of the largest grid, in reading order. A contract sees the words, whose bits count
-/// from the least significant one.
+/// from the least significant one. Most words of a large grid are zero, so a summary of each row says
+/// which of its words are not, and the others are not looked at.
 #[derive(Drop)]
 pub(crate) struct LiveBits {
     words: Vec<u64>,
+    /// A summary of each row: its bit `k` is set exactly where word `k` of the row is not zero.
+    rows: Vec<u64>,
 }
 
 impl Model for LiveBits {
-    ghost use Rattle.std.specs.Prelude.{ℕ, ◌≡◌, List, length};
-    ghost use Rattle.orca_base.specs.declared.limits.TheConstants.{LIVE_WORDS};
+    ghost use Rattle.std.specs.Prelude.{ℕ, List};
+    ghost use Rattle.orca_board.specs.LiveBits.{AreLiveBits};
 
     ghost Value = { List ℕ };
 
     ghost view = { λ b. b.words.items };
 
-    ghost invariant = { λ b. length b.words.items ≡ LIVE_WORDS };
+    ghost invariant = { λ b. AreLiveBits b.words.items b.rows.items };
 }
 
 impl LiveBits {
@@ -34,17 +37,33 @@ impl LiveBits {
     {
         let mut words = Vec::new(alloc);
         words.resize(LIVE_WORDS, 0)?;
-        Ok(LiveBits { words })
+        let mut rows = Vec::new(alloc);
+        rows.resize(usize::from(MAX_ROWS), 0)?;
+        Ok(LiveBits { words, rows })
     }
 
-    /// Sets the bit of a place, by its number in the largest grid, or takes it away.
+    /// Sets the bit of a place, by its number in the largest grid, or takes it away. Few writes come to it,
+    /// so it stands apart, and what is left of a write is short enough to stand in each operator.
+    #[inline(never)]
     pub fn set(&mut self, number: usize, on: bool)
         requires { number < MAX_CELLS }
         ensures { (n : ℕ) → has_bit self.new n ≡ (if n == number then on else has_bit self.old n) }
     {
         let word = number / usize::from(WORD_COLUMNS);
         let bit = (number % usize::from(WORD_COLUMNS)) as u16;
-        self.words[word] = with_bit(self.words[word], bit, on);
+        let bits = with_bit(self.words[word], bit, on);
+        self.words[word] = bits;
+        let row = word / ROW_WORDS;
+        self.rows[row] = with_bit(self.rows[row], (word % ROW_WORDS) as u16, bits != 0);
+    }
+
+    /// Which words of a row are not zero: bit `k` of this number is set exactly where word `k` is not.
+    pub fn summary(&self, row: u16) -> u64
+        requires { row < MAX_ROWS }
+        ensures { IsSummary
+            (λ x. nat_lt x MAX_COLUMNS && has_bit self.now (row * MAX_COLUMNS + x)) result }
+    {
+        summary_of(&self.words, &self.rows, row)
     }
 
     /// The words of a row of `w` columns.
@@ -74,4 +93,14 @@ fn with_bit(word: u64, bit: u16, on: bool) -> u64
     } else {
         (word | alone) ^ alone
     }
+}
+
+/// The summary of a row, whose words stand in the contract alone.
+fn summary_of(_words: &[u64], rows: &[u64], row: u16) -> u64
+    requires bits { AreLiveBits _words.now rows.now }
+    requires row { row < MAX_ROWS }
+    ensures { IsSummary
+        (λ x. nat_lt x MAX_COLUMNS && has_bit _words.now (row * MAX_COLUMNS + x)) result }
+{
+    rows[usize::from(row)]
 }

@@ -52,7 +52,7 @@ fn walk_row<B: Walk, L: Ledger>(board: &mut B, row: u16, now: Now, steps: &mut S
     table_laws();
     let mut cursor = Cursor::start();
     // The first look stands before the loop, so that a row without operators costs little more.
-    let mut found = cursor.next(board, row, steps);
+    let mut found = cursor.first(board, row, steps);
     while let Some(x) = found {
         visit_operator(board, Place { y: row, x }, now, steps);
         found = cursor.next(board, row, steps);

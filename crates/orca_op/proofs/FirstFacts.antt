@@ -1,6 +1,7 @@
 -- What the first number that passes a test is.
-use Rattle.std.specs.Prelude.{ℕ, zero, suc, ◌+◌, ◌<◌, ◌≤◌, ◌≡◌, Bool, true, false, if◌then◌else◌, Option, Some, None, IfSome, unwrap_or, refl}
-use Rattle.std.proofs.Common.{inl, inr, arith, ap, ◌∙◌, sym, zero-add, suc-add}
+use Rattle.std.specs.Prelude.{ℕ, zero, suc, ◌+◌, ◌<◌, ◌≤◌, ◌≡◌, Bool, true, false, if◌then◌else◌, Option, Some, None, IfSome, is_some, unwrap_or, refl}
+use Rattle.std.proofs.Common.{inl, inr, arith, ap, subst, ◌∙◌, sym, zero-add, suc-add}
+use Rattle.std.proofs.lemmas.Bool.{both_ways}
 use Rattle.std.proofs.Math.Nat.{eq-or-lt_of_le}
 use Rattle.orca_op.specs.First.{first_where, NonePasses, IsCounted}
 
@@ -31,6 +32,24 @@ first_where-missing test from (suc many) before =
     λ k above below. before k (omega arith) (omega arith)
     in
     rw fails (first_where-missing test (from + 1) many later)
+
+some_if : (here : Bool) (later : Option ℕ) (from : ℕ) → is_some later ≡ true
+    → is_some (if here then Some from else later) ≡ true
+some_if true later from some = refl
+some_if false later from some = some
+
+-- where a number passes, there is a first
+pub first_where-some : (test : ℕ → Bool) (from many i : ℕ) → from ≤ i → i < from + many
+    → test i ≡ true → is_some (first_where test from many) ≡ true
+unfolding first_where
+first_where-some test from zero i low high here = absurd (omega arith)
+first_where-some test from (suc many) i low high here =
+    elim (eq-or-lt_of_le low) [
+      | inl same ↦ let passes : test from ≡ true = ap test same ∙ here in rw passes refl
+      | inr less ↦
+          some_if (test from) _ from
+          (first_where-some test (from + 1) many i (omega arith) (omega arith) here)
+    ]
 
 range_if : (here : Bool) (later : Option ℕ) (from many : ℕ)
     → IfSome later (IsCounted (from + 1) many)
@@ -83,6 +102,18 @@ unfolding first_where
 first_where-before test from zero k low high = absurd (omega arith)
 first_where-before test from (suc many) k low high =
     fails_if test from many k (test from) _ refl (first_where-before test (from + 1) many) low high
+
+unwrapped : (o : Option ℕ) (end : ℕ) → is_some o ≡ false → unwrap_or o end ≡ end
+unwrapped None end none = refl
+unwrapped (Some i) end none = absurd (both_ways _ none refl)
+
+-- where there is no first, no number passes
+pub first_where-none : (test : ℕ → Bool) (from many k : ℕ)
+    → is_some (first_where test from many) ≡ false → from ≤ k → k < from + many → test k ≡ false
+first_where-none test from many k none low high =
+    first_where-before test from many k low
+    (subst (λ (end : ℕ). k < end)
+    (sym (unwrapped (first_where test from many) (from + many) none)) high)
 
 -- tests that agree have the same first
 pub first_where-same : (p q : ℕ → Bool) (from many : ℕ) → ((k : ℕ) → p k ≡ q k)

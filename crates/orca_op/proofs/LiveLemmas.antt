@@ -1,15 +1,17 @@
 -- Bits of words, and the columns that they stand for.
 use Rattle.std.proofs.Common.{◌≡◌, ℕ, ◌+◌, ◌-◌, ◌*◌, ◌/◌, ◌%◌, ◌^◌, ◌<◌, ◌≤◌, List, length, Some, None, false, refl, arith, ap, subst, sym, ◌∙◌, inl, inr, bit_and}
-use Rattle.std.specs.Prelude.{◌==◌, nat_lt, slice_index, Bool, true, Option, IfSome, IsTrue, unwrap_or}
+use Rattle.std.specs.Prelude.{◌==◌, nat_lt, slice_index, Bool, true, Option, IfSome, IsTrue, is_some, unwrap_or}
 use Rattle.std.specs.Int.{bit_at, trailing_zeros, w64}
 use Rattle.std.proofs.Math.Pow.{pow_mono}
 use Rattle.std.proofs.lemmas.Grind.{pow_more}
 use Rattle.std.proofs.lemmas.Nat.{and_le_l, pow_pos}
 use Rattle.std.proofs.lemmas.Nat.Bits.{bit_at_and, bit_at_mask_inside, bit_at_mask_below, ones_shl, bit_at-lt, bit_at-zero, bit_at-trailing_zeros}
-use Rattle.std.proofs.lemmas.Bool.{cases_lt, le-ltb}
+use Rattle.std.proofs.lemmas.Bool.{both_ways, cases_lt, le-ltb}
+use Rattle.std.proofs.lemmas.Bool.Decides.{eqb_tells}
+use Rattle.std.proofs.lemmas.List.{get_or_past}
 use Rattle.orca_op.specs.First.{first_where}
-use Rattle.orca_op.proofs.FirstFacts.{first_where-found, first_where-missing, first_where-same, first_where-longer, first_where-range, first_where-passes, first_where-before}
-use Rattle.orca_op.specs.Live.{is_live, has_bit, IsLiveRow, next_live, HasNoLive, IsCursor, IsLeastBit}
+use Rattle.orca_op.proofs.FirstFacts.{first_where-found, first_where-missing, first_where-none, first_where-same, first_where-longer, first_where-range, first_where-passes, first_where-before}
+use Rattle.orca_op.specs.Live.{is_live, has_bit, IsLiveRow, IsSummary, next_live, HasNoLive, IsCursor, IsLeastBit}
 use Rattle.orca_op.specs.State.{State}
 
 -- a word without its low bits
@@ -75,16 +77,6 @@ passed-first words from i reached none k low high =
     has_bit-word words i k (omega (arith, reached, low)) (omega arith)
     ∙ ap (λ n. n == 1) (least_bit-none (slice_index words i) (from - i * 64) none (k - i * 64)
     (omega arith) (omega arith))
-
--- one word more without a bit
-pub passed-more : (words : List ℕ) (from i : ℕ)
-    → ((k : ℕ) → from ≤ k → k < i * 64 → has_bit words k ≡ false) → slice_index words i ≡ 0
-    → (k : ℕ) → from ≤ k → k < (i + 1) * 64 → has_bit words k ≡ false
-passed-more words from i before none k low high = elim (cases_lt k (i * 64)) [
-  | inl below ↦ before k low below
-  | inr here ↦ has_bit-word words i k here (omega arith)
-      ∙ ap (λ n. n == 1) (ap (λ n. bit_at n (k - i * 64)) none ∙ bit_at-zero (k - i * 64))
-]
 
 -- the least bit of a word is the first of the row, where no word before it has one
 pub next_bit-found : (words : List ℕ) (from i low bit : ℕ) → i < length words → low ≡ from - i * 64
@@ -156,14 +148,123 @@ next_live-passed s row from inside x low high =
     (subst (λ (w : ℕ). x < unwrap_or (first_where (is_live s row) from (s.dims.w - from)) w) whole
     high)
 
--- ---- a cursor
-
 -- the bits above a bit, as they are computed
 pub ahead_of : (bit : ℕ) → bit < 64
     → (2 ^ 64 - 1) * 2 ^ bit % 2 ^ 64 * 2 % 2 ^ 64 ≡ 2 ^ 64 - 2 ^ (bit + 1)
 ahead_of bit few =
     let low = pow_mono {i = bit} {j = 63} (omega (arith, few)) in
     rw (ones_shl 64 bit (omega (arith, few))) (omega (arith, low, pow_pos bit, pow_more 2 bit))
+
+-- ---- the summary of a row
+
+-- where the summary of a row is zero, no column passes the test
+pub summary-zero : (test : ℕ → Bool) (summary x : ℕ) → IsSummary test summary → summary ≡ 0
+    → test x ≡ false
+summary-zero test summary x is nothing =
+    first_where-none test (x / 64 * 64) 64 x
+    (sym (is (x / 64)) ∙ ap (λ n. n == 1) (ap (λ n. bit_at n (x / 64)) nothing ∙ bit_at-zero (x / 64)))
+    (omega arith) (omega arith)
+
+pub summary-next : (s : State) (row from summary : ℕ) → IsSummary (is_live s row) summary
+    → summary ≡ 0 → next_live s row from ≡ None
+unfolding next_live
+summary-next s row from summary is nothing =
+    first_where-missing (is_live s row) from (s.dims.w - from)
+    (λ x low high. summary-zero (is_live s row) summary x is nothing)
+
+-- the summary of the live columns is that of the words' bits
+pub summary-words : (s : State) (row summary : ℕ) (words : List ℕ) → IsLiveRow s row words
+    → IsSummary (is_live s row) summary → IsSummary (has_bit words) summary
+summary-words s row summary words live is k =
+    is k ∙ sym (ap is_some (first_where-same (has_bit words) (is_live s row) (k * 64) 64 live.bits))
+
+-- a word that is not shown has no bit
+word-none : (words : List ℕ) (summary x : ℕ) → IsSummary (has_bit words) summary
+    → bit_at summary (x / 64) ≡ 0 → has_bit words x ≡ false
+word-none words summary x is off =
+    first_where-none (has_bit words) (x / 64 * 64) 64 x
+    (sym (is (x / 64)) ∙ ap (λ n. n == 1) off) (omega arith) (omega arith)
+
+-- a word that is shown is not zero
+word-some : (words : List ℕ) (summary k : ℕ) → IsSummary (has_bit words) summary
+    → bit_at summary k ≡ 1 → 0 < slice_index words k
+word-some words summary k is on = elim (eqb_tells (slice_index words k) 0) [
+  | inl nothing ↦
+      let none : first_where (has_bit words) (k * 64) 64 ≡ None =
+      first_where-missing (has_bit words) (k * 64) 64
+      (λ x low high. has_bit-word words k x low high
+      ∙ ap (λ n. n == 1) (ap (λ n. bit_at n (x - k * 64)) nothing.1 ∙ bit_at-zero (x - k * 64)))
+      in
+      absurd (both_ways _ (ap is_some none) (sym (is k) ∙ ap (λ n. n == 1) on))
+  | inr some ↦ omega (arith, some.1)
+]
+
+-- the bits of a summary above a bit, as they are computed
+abbrev pub later : ℕ → ℕ → ℕ
+later summary i = bit_and summary ((2 ^ 64 - 1) * 2 ^ i % 2 ^ 64 * 2 % 2 ^ 64)
+
+pub later_is : (summary i : ℕ) → i < 64 → later summary i ≡ from_bit summary (i + 1)
+later_is summary i few = ap (bit_and summary) (ahead_of i few)
+
+-- no later word is shown, so there is no later bit
+pub later-missing : (words : List ℕ) (from i summary : ℕ) → IsSummary (has_bit words) summary
+    → length words ≤ 16 → ((k : ℕ) → from ≤ k → k < (i + 1) * 64 → has_bit words k ≡ false)
+    → i < 64 → later summary i ≡ 0
+    → first_where (has_bit words) from (64 * length words - from) ≡ None
+later-missing words from i summary is few before small none =
+    first_where-missing (has_bit words) from (64 * length words - from)
+    (λ x low high. elim (cases_lt x ((i + 1) * 64)) [
+      | inl below ↦ before x low below
+      | inr above ↦
+          word-none words summary x is
+          (least_bit-none summary (i + 1) (sym (later_is summary i small) ∙ none) (x / 64)
+          (omega (arith, above))
+          (omega (arith, high, few)))
+    ])
+
+-- the first later word that is shown is one of the words, and not zero
+pub later-word : (words : List ℕ) (summary i : ℕ) → IsSummary (has_bit words) summary
+    → summary < 2 ^ 64 → i < 64 → 0 < later summary i
+    → IsLeastBit summary (i + 1) (Some (trailing_zeros w64 (later summary i)))
+    × (trailing_zeros w64 (later summary i) < length words)
+    × (0 < slice_index words (trailing_zeros w64 (later summary i)))
+later-word words summary i is fits few some =
+    let same = later_is summary i few in
+    let least = subst
+    (λ (n : ℕ). IsLeastBit summary (i + 1) (Some (trailing_zeros w64 n))) (sym same)
+    (least_bit-some summary (i + 1) fits (omega (arith, some, same))) in
+    let shown = word-some words summary (trailing_zeros w64 (later summary i)) is least.2 in (
+      least,
+      elim (cases_lt (trailing_zeros w64 (later summary i)) (length words)) [
+        | inl inside ↦ inside
+        | inr past ↦
+            absurd (omega (
+              arith,
+              shown,
+              get_or_past words (trailing_zeros w64 (later summary i)) 0 past,
+            ))
+      ],
+      shown,
+    )
+
+-- its lowest bit is the first later bit
+pub later-found : (words : List ℕ) (from i summary k : ℕ) → IsSummary (has_bit words) summary
+    → from ≤ (i + 1) * 64 → ((k : ℕ) → from ≤ k → k < (i + 1) * 64 → has_bit words k ≡ false)
+    → IsLeastBit summary (i + 1) (Some k) → k < length words → 0 < slice_index words k
+    → slice_index words k < 2 ^ 64
+    → first_where (has_bit words) from (64 * length words - from)
+    ≡ Some (k * 64 + trailing_zeros w64 (slice_index words k))
+later-found words from i summary k is reached before least inside some fits =
+    next_bit-found words from k 0 _ inside (omega (arith, reached, least.0))
+    (least_bit-whole (slice_index words k) fits some)
+    (λ x low high. elim (cases_lt x ((i + 1) * 64)) [
+      | inl below ↦ before x low below
+      | inr above ↦
+          word-none words summary x is
+          (least.3 (x / 64) (omega (arith, above)) (omega (arith, high)))
+    ])
+
+-- ---- a cursor
 
 -- it stands after a bit of a word
 pub cursor_behind : (word base bit ahead : ℕ) → bit < 64 → base ≡ word * 64

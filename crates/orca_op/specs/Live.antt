@@ -1,5 +1,5 @@
 -- Live places: those that hold an operator.
-use Rattle.std.specs.Prelude.{ℕ, ◌+◌, ◌-◌, ◌*◌, ◌^◌, ◌/◌, ◌%◌, ◌≡◌, ◌≤◌, ◌<◌, ◌==◌, ◌&&◌, Bool, nat_lt, List, length, Option, Some, None, slice_index}
+use Rattle.std.specs.Prelude.{ℕ, ◌+◌, ◌-◌, ◌*◌, ◌^◌, ◌/◌, ◌%◌, ◌≡◌, ◌≤◌, ◌<◌, ◌==◌, ◌&&◌, Bool, nat_lt, List, length, Option, Some, None, is_some, slice_index}
 use Rattle.std.specs.Int.{bit_at}
 use Rattle.orca_base.specs.declared.limits.TheConstants.{WORD_COLUMNS}
 use Rattle.orca_base.specs.Glyphs.{is_operator}
@@ -18,6 +18,14 @@ has_bit words x = bit_at (slice_index words (x / WORD_COLUMNS)) (x % WORD_COLUMN
 pub record IsLiveRow (s : State) (row : ℕ) (words : List ℕ) : Type 0 where
   pub size : length words ≡ (s.dims.w + (WORD_COLUMNS - 1)) / WORD_COLUMNS
   pub bits : (x : ℕ) → has_bit words x ≡ is_live s row x
+
+-- one of the columns that stand in word `k` of a row passes the test
+abbrev pub word_has : (ℕ → Bool) → ℕ → Bool
+word_has test k = is_some (first_where test (k * WORD_COLUMNS) WORD_COLUMNS)
+
+-- the bits of a row's summary show which of its words have a column that passes the test
+abbrev pub IsSummary : (ℕ → Bool) → ℕ → Type 0
+IsSummary test summary = (k : ℕ) → (bit_at summary k == 1) ≡ word_has test k
 
 -- the least live column of a row that is at least `from`
 unfoldable pub next_live : State → ℕ → ℕ → Option ℕ

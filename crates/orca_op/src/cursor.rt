@@ -2,7 +2,7 @@ ghost use Rattle.std.specs.Prelude.{◌≡◌, ℕ, ◌+◌, ◌-◌, ◌*◌, �
 ghost use Rattle.std.specs.Int.{trailing_zeros, w64};
 ghost use Rattle.orca_base.specs.declared.limits.TheConstants.{WORD_COLUMNS, ROW_WORDS};
 ghost use Rattle.orca_op.specs.First.{first_where};
-ghost use Rattle.orca_op.specs.Live.{is_live, has_bit, next_live, HasNoLive};
+ghost use Rattle.orca_op.specs.Live.{is_live, has_bit, next_live, HasNoLive, IsSummary};
 
 use crate::Walk;
 use orca_base::Steps;
@@ -47,6 +47,33 @@ impl Cursor {
         }
     }
 
+    /// The first column of a row that holds an operator as the grid stands now; none exactly where
+    /// there is none. The cursor, which stands before the first column, then stands after it. The
+    /// words of a row without operators are not looked at. It counts one step.
+    #[inline(always)]
+    pub fn first<B: Walk, L: Ledger>(
+        &mut self,
+        bench: &B,
+        row: u16,
+        steps: &mut Steps<L>,
+    ) -> Option<u16>
+        requires row { row < (B.desk bench.now).scan.dims.h }
+        requires start { self.old ≡ 0 }
+        ensures least { result ≡ next_live (B.desk bench.now).scan row self.old }
+        ensures found { IfSome result (λ x.
+            (self.old ≤ x) × IsTrue (is_live (B.desk bench.now).scan row x)) }
+        ensures passed { let s = (B.desk bench.now).scan in
+            HasNoLive s row self.old (unwrap_or result s.dims.w) }
+        ensures behind { IfSome result (λ x. self.new ≡ x + 1) }
+        ensures steps { steps.new ≡ steps.old + 1 }
+    {
+        if bench.summary(row) == 0 {
+            steps.count_one();
+            return None;
+        }
+        self.next(bench, row, steps)
+    }
+
     /// The next column of a row that holds an operator as the grid stands now; none exactly where
     /// there is none. The cursor then stands after it. It counts one step.
     #[inline(always)]
@@ -66,36 +93,34 @@ impl Cursor {
         ensures behind { IfSome result (λ x. self.new ≡ x + 1) }
         ensures steps { steps.new ≡ steps.old + 1 }
     {
-        self.find(bench.live_words(row, steps))
+        self.find(bench.live_words(row, steps), bench.summary(row))
     }
 
     /// The least bit of a row's words, at the column or after it, that is set. The cursor then
-    /// stands after it.
+    /// stands after it. The summary says which words have a bit.
     #[inline(always)]
-    fn find(&mut self, words: &[u64]) -> Option<u16>
+    fn find(&mut self, words: &[u64], summary: u64) -> Option<u16>
         requires some { (self.old - 1) / WORD_COLUMNS < length words.now }
         requires few { length words.now ≤ ROW_WORDS }
+        requires summary { IsSummary (has_bit words.now) summary }
         ensures least { result ≡ first_where (has_bit words.now) self.old
             (WORD_COLUMNS * length words.now - self.old) }
         ensures behind { IfSome result (λ x. self.new ≡ x + 1) }
     {
+        // Most operators stand in the word of the one before, so it is looked at by itself.
         let first = self.word;
         let base = self.base;
-        // Most operators stand in the word of the one before, so it is looked at by itself.
         let bits = words[first] & self.ahead;
         if bits != 0 {
             return Some(self.stop(first, base, bits));
         }
-        // A row of few columns has no other word, and most rows of a piece are that short.
-        if words.len() <= first + 1 {
+        // Of the later words the summary tells the first that has a bit.
+        let rest = summary & ((u64::MAX << first) << 1);
+        if rest == 0 {
             return None;
         }
-        for i in first + 1..words.len() {
-            if words[i] != 0 {
-                return Some(self.stop(i, i * usize::from(WORD_COLUMNS), words[i]));
-            }
-        }
-        None
+        let word = rest.trailing_zeros() as usize;
+        Some(self.stop(word, word * usize::from(WORD_COLUMNS), words[word]))
     }
 
     /// The column of the least bit of a word, whose first bit stands for the column `base`. The

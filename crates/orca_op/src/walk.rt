@@ -1,6 +1,6 @@
 ghost use Rattle.std.specs.Prelude.{◌≡◌, ◌+◌, ◌<◌};
 ghost use Rattle.orca_op.specs.Desk.{IsDesk};
-ghost use Rattle.orca_op.specs.Live.{IsLiveRow};
+ghost use Rattle.orca_op.specs.Live.{IsLiveRow, IsSummary, is_live};
 
 use crate::Bench;
 use orca_base::Steps;
@@ -16,4 +16,11 @@ pub trait Walk: Bench {
         ensures live { IsLiveRow (Self.desk self.now).scan row result.now }
         ensures desk { IsDesk (Self.desk self.now) }
         ensures steps { steps.new ≡ steps.old + 1 };
+
+    /// Which words of a row have a bit, as the grid stands now: bit `k` of this number is set exactly
+    /// where word `k` of the row is not zero. It counts no step, since it is a part of a look at the
+    /// row, which counts one.
+    fn summary(&self, row: u16) -> u64
+        requires { row < (Self.desk self.now).scan.dims.h }
+        ensures { IsSummary (is_live (Self.desk self.now).scan row) result };
 }

@@ -5,8 +5,8 @@ use Rattle.orca_frame.proofs.FrameLemmas.{dims_desk, room_desk}
 use Rattle.orca_frame.proofs.SkipLemmas.{held, later_of, live_of, next_reached, visited}
 use Rattle.orca_frame.proofs.sparse.walk_row.Goals as goal
 
-pub next-found-requires-clause-row : goal.next-found-requires-clause-row
-next-found-requires-clause-row g c =
+pub first-found-requires-clause-row : goal.first-found-requires-clause-row
+first-found-requires-clause-row g c =
     let same = dims_desk _ _ _ _ c.requires.reached in
     omega (arith, c.requires.row, ap (λ (d : Size). d.h) same)
 
@@ -17,14 +17,14 @@ loop-found-init g c =
     omega (arith, c.start-cursor.ensures) in
     let passed = next_reached _ _ _ _ _ _
     (c.requires.reached ∙ ap (λ (n : ℕ). desk_after_places n sheet c.args.now) start)
-    c.requires.row (omega (arith, c.start-cursor.ensures)) c.next-found.ensures.found
-    c.next-found.ensures.passed in
+    c.requires.row (omega (arith, c.start-cursor.ensures)) c.first-found.ensures.found
+    c.first-found.ensures.passed in
     record {
       reached = passed.0;
-      live = live_of (g.B.Bench.desk c.args.board.now).scan _ _ _ c.next-found.ensures.found;
-      behind = c.next-found.ensures.behind;
-      most = omega (arith, c.next-found.ensures.steps, rw (← start) at passed.1);
-      least = omega (arith, c.next-found.ensures.steps);
+      live = live_of (g.B.Bench.desk c.args.board.now).scan _ _ _ c.first-found.ensures.found;
+      behind = c.first-found.ensures.behind;
+      most = omega (arith, c.first-found.ensures.steps, rw (← start) at passed.1);
+      least = omega (arith, c.first-found.ensures.steps);
     }
 
 pub visit_operator-requires-clause-inside : goal.visit_operator-requires-clause-inside
@@ -38,16 +38,16 @@ visit_operator-requires-clause-room g c =
     c.loop-found.invariant.live in
     room_desk _ _ _ _ found.reached c.table_laws.ensures c.requires.sheet found.below
 
-pub next-found-requires-in-Some-clause-row : goal.next-found-requires-in-Some-clause-row
-next-found-requires-in-Some-clause-row g c =
+pub next-found-requires-clause-row : goal.next-found-requires-clause-row
+next-found-requires-clause-row g c =
     let found = held _ _ _ _ _ _ c.in-Some.is c.loop-found.invariant.reached c.requires.row
     c.loop-found.invariant.live in
     let after = visited _ _ _ _ _ _ _ found c.requires.row c.visit_operator.ensures.deeds in
     let same = dims_desk _ _ _ _ after.reached in
     omega (arith, c.requires.row, ap (λ (d : Size). d.h) same)
 
-pub next-found-requires-in-Some-clause-column : goal.next-found-requires-in-Some-clause-column
-next-found-requires-in-Some-clause-column g c =
+pub next-found-requires-clause-column : goal.next-found-requires-clause-column
+next-found-requires-clause-column g c =
     let found = held _ _ _ _ _ _ c.in-Some.is c.loop-found.invariant.reached c.requires.row
     c.loop-found.invariant.live in
     let after = visited _ _ _ _ _ _ _ found c.requires.row c.visit_operator.ensures.deeds in
@@ -62,7 +62,7 @@ loop-found-smaller g c =
     let behind = rw c.in-Some.is at c.loop-found.invariant.behind in
     let later = later_of (g.B.Bench.desk c.visit_operator.new.bench).scan _ _
     (g.B.Bench.desk c.args.board.now).began.dims.w _
-    (omega (arith, found.column, behind)) c.next-found-in-Some.ensures.found in
+    (omega (arith, found.column, behind)) c.next-found.ensures.found in
     rw c.in-Some.is (omega (arith, found.column, behind, later))
 
 pub loop-found-preserved : goal.loop-found-preserved
@@ -72,18 +72,18 @@ loop-found-preserved g c =
     let after = visited _ _ _ _ _ _ _ found c.requires.row c.visit_operator.ensures.deeds in
     let behind = rw c.in-Some.is at c.loop-found.invariant.behind in
     let passed = next_reached _ _ _ _ (c.in-Some.x + 1) _ after.reached c.requires.row
-    (omega (arith, found.column)) (rw behind at c.next-found-in-Some.ensures.found)
-    (rw behind at c.next-found-in-Some.ensures.passed) in
+    (omega (arith, found.column)) (rw behind at c.next-found.ensures.found)
+    (rw behind at c.next-found.ensures.passed) in
     record {
       reached = passed.0;
       live = live_of (g.B.Bench.desk c.visit_operator.new.bench).scan _ _ _
-          c.next-found-in-Some.ensures.found;
-      behind = c.next-found-in-Some.ensures.behind;
+          c.next-found.ensures.found;
+      behind = c.next-found.ensures.behind;
       most = omega (
         arith,
         rw c.in-Some.is at c.loop-found.invariant.most,
         c.visit_operator.ensures.steps,
-        c.next-found-in-Some.ensures.steps,
+        c.next-found.ensures.steps,
         after.busy,
         passed.1,
       );
@@ -91,6 +91,6 @@ loop-found-preserved g c =
         arith,
         c.loop-found.invariant.least,
         c.visit_operator.ensures.later,
-        c.next-found-in-Some.ensures.steps,
+        c.next-found.ensures.steps,
       );
     }

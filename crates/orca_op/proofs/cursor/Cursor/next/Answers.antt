@@ -1,6 +1,10 @@
 use Rattle.std.proofs.Common.{◌∙◌}
-use Rattle.orca_op.proofs.LiveLemmas.{next_live-bit, next_live-found, next_live-passed}
+use Rattle.orca_op.proofs.LiveLemmas.{next_live-bit, next_live-found, next_live-passed, summary-words}
 use Rattle.orca_op.proofs.cursor.Cursor.next.Goals as goal
+
+pub find-requires-clause-summary : goal.find-requires-clause-summary
+find-requires-clause-summary g c =
+    summary-words _ _ _ _ c.live_words.ensures.live c.summary.ensures
 
 -- the words show which columns are live, so their first bit is the next live column
 pub returns-clause-least : goal.returns-clause-least
