@@ -1,14 +1,19 @@
 ghost use Rattle.std.specs.Prelude.{◌≡◌, false};
 
-use super::common::{UNKNOWN, make_outs, name_of};
 use orca_base::limits::ARRIVAL_BYTES;
 use orca_edge::TcpInbox;
-use orca_rig::{Answer, Inbox, MAX_HANDS, MemOuts, OutsideFault};
+use orca_rig::{Answer, Inbox, MAX_HANDS, MemOuts};
+use std::alloc::Global;
 use std::io::Write;
 use std::net::{Net, OpenListener, SocketAddr, TcpListener, TcpStream};
 use std::process::Abort;
 use std::rt::Clock;
 use std::time::{Duration, Instant};
+
+/// Outputs to which nothing is sent.
+fn make_outs(rt: &impl Abort, alloc: Global) -> MemOuts {
+    MemOuts::new(Vec::new(alloc)).expect(rt, "memory")
+}
 
 /// The players, hand 0 first, and the inbox that hears them.
 #[derive(Drop)]
@@ -181,28 +186,4 @@ fn twenty_moments_come_on_time(rt: HostRuntime) {
     let taken = start.elapsed(&rt).expect(&rt, "a clock");
     assert!(rt; late < 10, "{late} came late");
     assert!(rt; taken > Duration::from_millis(190) && taken < Duration::from_secs(20));
-}
-
-/// Nobody can be listened for at the address, and then nobody is heard.
-fn check_refusal<R>(rt: &R, outs: &MemOuts, address: &str)
-where
-    R: AllocGlobal + Net<Stream = TcpStream> + Clock + Abort,
-{
-    let mut inbox = TcpInbox::new(rt);
-    let start = inbox.listen_hands(address, 1);
-    assert!(rt; start == Err(OutsideFault::Failed), "{address}");
-    let answer = inbox.poll(outs, None, &mut [0; ARRIVAL_BYTES]);
-    assert!(rt; answer == Answer::Failed, "{address}");
-}
-
-#[test]
-fn an_address_that_cannot_be_listened_at_is_a_failure(rt: HostRuntime) {
-    let outs = make_outs(&rt, rt.alloc());
-    // Somebody else listens at the last one.
-    let listener = TcpListener::bind(&rt, "127.0.0.1:0").expect(&rt, "a listener");
-    let address = listener.local_addr().expect(&rt, "an address");
-    let taken = name_of(&rt, "127.0.0.1", address.port());
-    for address in ["", "no port", "127.0.0.1:65536", UNKNOWN, taken.as_str()] {
-        check_refusal(&rt, &outs, address);
-    }
 }
