@@ -5,7 +5,7 @@ ghost use Rattle.std.specs.Prelude.{◌≡◌, ◌<◌};
 
 use orca_base::{Memory, Steps};
 use orca_course::Desk;
-use orca_edge::{RealFiles, RealOuts, TcpInbox, open_closed_streams, words_after_name};
+use orca_edge::{RealFiles, RealInbox, RealOuts, open_closed_streams, words_after_name};
 use orca_player::{Status, end, run};
 use std::env;
 use std::marker::Brand;
@@ -30,7 +30,7 @@ where
     }
     let files = RealFiles::new(rt);
     let outs = RealOuts::new(rt);
-    let inbox = TcpInbox::new(rt);
+    let inbox = RealInbox::new(rt);
     let mut desk = Desk::new(files, outs, inbox, steps);
     match words_after_name(rt.alloc(), env::args(rt)) {
         Ok(words) => run(rt.alloc(), &words, &mut desk),

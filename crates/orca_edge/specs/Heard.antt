@@ -1,4 +1,4 @@
--- What the connections of an inbox gave, and what is answered of it.
+-- What the streams of an inbox gave, and what is answered of it.
 use Rattle.std.specs.Prelude.{◌≡◌, ◌≢◌, ℕ, ◌<◌, ◌≤◌, ◌==◌, if◌then◌else◌, List, [], length, take, slice_index_or, Option, Result, Ok, Err, Bool, true, false}
 use Rattle.std.specs.List.{list_any}
 use Rattle.std.specs.IoError.{error_kind}
@@ -18,7 +18,7 @@ use Rattle.orca_edge.specs.declared.hands.Turn.TheVariants as turn
 use Rattle.orca_rig.specs.Arrived.{MayAnswer, moment_after}
 
 -- what a read gave, by its result: no byte is the end, a read that would wait or that a signal
--- interrupted is neither, and any other error has broken the connection
+-- interrupted is neither, and any other error has broken the stream
 abbrev pub IsPieceOf : Result ℕ Error → Piece → Type 0
 IsPieceOf (Ok count) (piece.Bytes came) = (came ≡ count) × (1 ≤ count)
 IsPieceOf (Ok count) piece.End = count ≡ 0
@@ -62,7 +62,7 @@ turn_bytes hand (turn.Answered answer) filled = hand_bytes hand answer filled
 turn_bytes hand turn.Nothing filled = []
 turn_bytes hand turn.Again filled = []
 
--- each connection has piece_bytes the bytes that came of its hand, and no others
+-- each stream has given the bytes that came of its hand, and no others
 abbrev pub AreHeard : {S : Type 0}
     → (S → Option (List ℕ)) → List (Hand S) → List (Hand S) → (ℕ → List ℕ) → Type 0
 AreHeard {S} remaining old new came =
@@ -77,7 +77,7 @@ IsTurn due now (turn.Answered answer) =
 IsTurn due now turn.Nothing = Unit {0}
 IsTurn due now turn.Again = Unit {0}
 
--- how a connection stands
+-- how the stream of a hand stands
 abbrev pub is_open : State → Bool
 is_open state.Open = true
 is_open state.Ended = false
@@ -88,7 +88,7 @@ is_broken state.Open = false
 is_broken state.Ended = false
 is_broken state.Broken = true
 
--- nothing yet while a connection is open; after that a failure if one has broken, and else the end
+-- nothing yet while a hand is open; after that a failure if one has broken, and else the end
 abbrev pub last_turn : {S : Type 0} → List (Hand S) → Turn
 last_turn hands =
     if list_any (λ hand. is_open hand.state) hands then turn.Nothing

@@ -1,3 +1,4 @@
 pub mod Taken
 pub mod Heard
 pub mod Waits
+pub mod Names

@@ -1,20 +1,34 @@
-//! The connections of the players, and one turn over them.
+//! The streams of the hands, the turns over them, and the waits between the turns.
 
 ghost use Rattle.std.specs.Prelude.{◌≡◌, ◌≤◌, ◌<◌, ◌+◌, ◌++◌, ◌∷◌, [], nat_le, true, false, IfOk, OnOk, length};
 ghost use Rattle.std.specs.List.{list_any};
 ghost use Rattle.std.specs.Option.{option_map_or};
 ghost use Rattle.std.specs.Io.KnownBytes.{Consumes};
 ghost use Rattle.orca_base.specs.declared.limits.TheConstants.{ARRIVAL_BYTES};
-ghost use Rattle.orca_edge.specs.Heard.{IsPieceOf, IsPiece, piece_bytes, turn_bytes, AreHeard, IsTurn, is_open, is_broken, last_turn};
+ghost use Rattle.orca_rig.specs.Arrived.{MayAnswer};
+ghost use Rattle.orca_edge.specs.Heard.{IsPieceOf, IsPiece, piece_bytes, hand_bytes, turn_bytes, AreHeard, IsTurn, is_open, is_broken, last_turn};
 
-use crate::moments::has_come;
+use crate::moments::{FOREVER, Wait, Watch, has_come, milliseconds, wait_of};
+use crate::whole::status_of;
+use libc::net::{POLLIN, poll};
+use libc::types::pollfd;
 use orca_base::limits::ARRIVAL_BYTES;
-use orca_rig::Answer;
+use orca_rig::{Answer, MAX_HANDS};
 use std::alloc::{AllocError, AllocFailed, Global};
-use std::io;
 use std::io::{ErrorKind, Read};
+use std::os::fd::AsRawFd;
+use std::rt::Clock;
+use std::time::Duration;
+use std::{io, thread};
 
-/// The connections, that of hand 0 first.
+/// What the system is asked about a hand: nothing about one that is not open.
+const NOT_ASKED: pollfd = pollfd {
+    fd: -1,
+    events: POLLIN,
+    revents: 0,
+};
+
+/// The hands, hand 0 first.
 #[derive(Drop)]
 pub(crate) struct Hands<S> {
     hands: Vec<Hand<S>>,
@@ -22,20 +36,20 @@ pub(crate) struct Hands<S> {
     next: u8,
 }
 
-/// A connection, and how it stands.
+/// What a hand is heard over, and how that stands.
 #[derive(Drop)]
 pub(crate) struct Hand<S> {
     stream: S,
     state: State,
 }
 
-/// How a connection stands.
+/// How the stream of a hand stands.
 #[derive(Clone, Copy)]
 pub(crate) enum State {
     Open,
-    /// The peer has closed its end.
+    /// It has come to its end.
     Ended,
-    /// The connection broke.
+    /// A read of it failed.
     Broken,
 }
 
@@ -53,7 +67,7 @@ impl State {
     }
 }
 
-/// What a read of a connection gave.
+/// What a read of a stream gave.
 #[derive(Clone, Copy)]
 pub(crate) enum Piece {
     /// So many bytes, 1 to [`ARRIVAL_BYTES`].
@@ -62,9 +76,9 @@ pub(crate) enum Piece {
     Nothing,
     /// Nothing, since a signal came: the next read may give something.
     Interrupted,
-    /// The peer has closed its end.
+    /// The end.
     End,
-    /// The connection broke.
+    /// A failure.
     Broken,
 }
 
@@ -73,9 +87,9 @@ pub(crate) enum Piece {
 pub(crate) enum Turn {
     /// The answer of the poll.
     Answered(Answer),
-    /// The connection that was read has nothing yet.
+    /// The hand that was read has nothing yet.
     Nothing,
-    /// The connections have to be read again.
+    /// The hands have to be read again.
     Again,
 }
 
@@ -107,7 +121,7 @@ fn hand_after(hand: u8, count: usize) -> u8
 }
 
 impl<S: Read> Hand<S> {
-    /// Reads what has come, where the connection is open. The stream does not wait.
+    /// Reads what has come, where the stream is open. It does not wait.
     fn hear(&mut self, bytes: &mut [u8; ARRIVAL_BYTES]) -> Piece
         ensures piece { IsPiece result }
         ensures heard { Consumes (S.remaining self.old.stream) (S.remaining self.new.stream)
@@ -130,7 +144,7 @@ impl<S: Read> Hand<S> {
 }
 
 impl<S: Read> Hands<S> {
-    /// No connection yet, and room for so many.
+    /// No hand yet, and room for so many.
     pub(crate) fn new(alloc: Global, count: u8) -> Result<Hands<S>, AllocError>
         ensures { IfOk result (λ hands. hands.hands.items ≡ []) }
     {
@@ -140,7 +154,7 @@ impl<S: Read> Hands<S> {
         })
     }
 
-    /// Adds the connection of the next hand.
+    /// Adds the next hand.
     pub(crate) fn add(&mut self, stream: S) -> Result<(), AllocFailed<Hand<S>>>
         ensures { OnOk result (self.new.hands.items ≡ self.old.hands.items
             ++ (record { stream = stream; state = State.Open }) ∷ []) }
@@ -149,7 +163,7 @@ impl<S: Read> Hands<S> {
         self.hands.push(Hand { stream, state })
     }
 
-    /// How many connections there are.
+    /// How many hands there are.
     pub(crate) fn len(&self) -> usize
         ensures { result ≡ length self.now.hands.items }
     {
@@ -190,8 +204,7 @@ impl<S: Read> Hands<S> {
         }
     }
 
-    /// What a turn gives whose connection brings nothing any more: the last answer, once no
-    /// connection is open.
+    /// What a turn gives whose hand brings nothing any more: the last answer, once no hand is open.
     fn last_turn(&self) -> Turn
         ensures { result ≡ last_turn self.now.hands.items }
     {
@@ -204,17 +217,83 @@ impl<S: Read> Hands<S> {
         }
     }
 
-    /// Whether a connection is open.
+    /// Whether a hand is open.
     fn is_open(&self) -> bool
         ensures { result ≡ list_any (λ hand. is_open hand.state) self.now.hands.items }
     {
         self.hands.iter().any(|hand| hand.state.is_open())
     }
 
-    /// Whether a connection has broken.
+    /// Whether a hand has broken.
     fn has_broken(&self) -> bool
         ensures { result ≡ list_any (λ hand. is_broken hand.state) self.now.hands.items }
     {
         self.hands.iter().any(|hand| hand.state.is_broken())
+    }
+}
+
+impl<S: Read + AsRawFd> Hands<S> {
+    /// Waits for bytes or for the moment. Bytes go before the moment where the last answer was a
+    /// moment.
+    pub(crate) fn wait<C: Clock>(
+        &mut self,
+        clock: &Watch<'_, C>,
+        was_due: bool,
+        until: Option<u64>,
+        bytes: &mut [u8; ARRIVAL_BYTES],
+    ) -> Answer
+        ensures answer { MayAnswer until clock.now.last result }
+        ensures heard { AreHeard S.remaining self.old.hands.items self.new.hands.items
+            (λ hand. hand_bytes hand result bytes.new) }
+    {
+        let mut due = if was_due { None } else { until };
+        let mut unread = self.len();
+        for _ in 0..u64::MAX {
+            let Ok(now) = clock.moment() else {
+                return Answer::Failed;
+            };
+            match self.turn(due, now, bytes) {
+                Turn::Answered(answer) => return answer,
+                Turn::Again => unread = self.len(),
+                Turn::Nothing => unread = unread.saturating_sub(1),
+            }
+            // A wait for events comes only after a round in which no hand had anything.
+            if unread == 0 {
+                if self.rest(clock.rt, wait_of(until, now)).is_err() {
+                    return Answer::Failed;
+                }
+                due = until;
+                unread = self.len();
+            }
+        }
+        Answer::Failed
+    }
+
+    /// Waits for events, or sleeps, or goes on at once. A signal ends a wait.
+    fn rest<C: Clock>(&self, rt: &C, wait: Wait) -> io::Result<()> {
+        let limit = match wait {
+            Wait::Look => return Ok(()),
+            Wait::Sleep(pause) => {
+                thread::sleep(rt, Duration::from_micros(pause));
+                return Ok(());
+            }
+            Wait::Events(limit) => milliseconds(limit),
+            Wait::Forever => FOREVER,
+        };
+        match status_of(poll(&mut self.asked(), limit)) {
+            Err(error) if error.kind() != ErrorKind::Interrupted => Err(error),
+            _ => Ok(()),
+        }
+    }
+
+    /// What the system is asked: to wait for bytes of the hands that are open.
+    fn asked(&self) -> [pollfd; MAX_HANDS as usize] {
+        let mut asked = [NOT_ASKED; MAX_HANDS as usize];
+        for (place, hand) in asked.iter_mut().zip(self.hands.iter()) {
+            if hand.state.is_open() {
+                place.fd = hand.stream.as_raw_fd();
+            }
+        }
+        asked
     }
 }

@@ -5,15 +5,15 @@
 mod hands;
 mod moments;
 mod real_files;
+mod real_inbox;
 mod real_outs;
 pub mod room;
 mod saving;
 mod sinks;
 mod start;
-mod tcp_inbox;
 pub mod whole;
 
 pub use real_files::RealFiles;
+pub use real_inbox::RealInbox;
 pub use real_outs::RealOuts;
 pub use start::{open_closed_streams, words_after_name};
-pub use tcp_inbox::TcpInbox;

@@ -1,9 +1,10 @@
 //! The clock of an inbox, and how long a turn may wait.
 
-ghost use Rattle.std.specs.Prelude.{◌≡◌, ◌≤◌, ◌/◌, ◌^◌, ◌-◌, min, max, nat_le, false, IfOk};
+ghost use Rattle.std.specs.Prelude.{◌≡◌, ◌≤◌, ◌/◌, ◌^◌, ◌-◌, ◌+◌, pos, min, max, nat_le, false, IfOk};
 ghost use Rattle.std.specs.Option.{option_map_or};
 ghost use Rattle.std.specs.Duration.{as_nanos};
 ghost use Rattle.orca_edge.specs.Waits.{IsTimely};
+ghost use Rattle.orca_edge.specs.declared.moments.TheConstants.{LONGEST_STEP};
 
 use std::io;
 use std::rt::Clock;
@@ -17,7 +18,7 @@ pub(crate) const LEAD: u64 = 1_300;
 /// might end too late.
 pub(crate) const LONGEST_STEP: u64 = 200_000;
 
-/// The longest sleep between two looks at the connections, in microseconds. Bytes that come
+/// The longest sleep between two looks at the streams, in microseconds. Bytes that come
 /// meanwhile wait for its end.
 pub(crate) const NAP: u64 = 300;
 
@@ -25,6 +26,9 @@ pub(crate) const NAP: u64 = 300;
 /// microseconds late, so that it can wake several sleepers at once, and takes some 10 more to wake
 /// one. The 20 or so that are left are spent on looking, which costs a processor little.
 pub(crate) const MARGIN: u64 = 80;
+
+/// A wait for events that has no end, in the milliseconds of poll(2).
+pub(crate) const FOREVER: i32 = -1;
 
 /// A clock, what it showed at the start, and the last moment that was answered, in microseconds.
 #[derive(Drop)]
@@ -37,9 +41,9 @@ pub(crate) struct Watch<'a, R> {
 /// How one turn of a poll waits, in microseconds.
 #[derive(Clone, Copy)]
 pub(crate) enum Wait {
-    /// For events of the connections, with no end.
+    /// For events of the streams, with no end.
     Forever,
-    /// For events of the connections, up to so long.
+    /// For events of the streams, up to so long.
     Events(u64),
     /// By a sleep of so long.
     Sleep(u64),
@@ -80,6 +84,13 @@ pub(crate) fn has_come(until: Option<u64>, now: u64) -> bool
         Some(moment) => moment <= now,
         None => false,
     }
+}
+
+/// So many microseconds in milliseconds, rounded up, so that a short wait is one.
+pub(crate) fn milliseconds(micros: u64) -> i32
+    ensures { micros ≤ LONGEST_STEP → result ≡ pos ((micros + 999) / 1000) }
+{
+    ((micros.min(LONGEST_STEP) + 999) / 1000) as i32
 }
 
 /// How a turn may wait: for events, then by a sleep, and then not at all, the nearer the moment is.

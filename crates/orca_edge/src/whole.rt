@@ -1,6 +1,6 @@
-//! Reading and writing until all is done.
+//! Reading and writing until all is done, and what calls of the system answer.
 
-ghost use Rattle.std.specs.Prelude.{◌≡◌, ◌≤◌, ◌↔◌, length, IsNone, IsErrAnd, OnOk, IfOk, IfSome};
+ghost use Rattle.std.specs.Prelude.{◌≡◌, ◌≤◌, ◌↔◌, ◌<ℤ◌, pos, length, IsNone, IsErr, IsErrAnd, OnOk, IfOk, IfSome};
 ghost use Rattle.std.specs.IoError.{error_kind};
 ghost use Rattle.std.specs.declared.io.ErrorKind.TheVariants.{Interrupted};
 ghost use Rattle.std.specs.Io.KnownBytes.{Appends};
@@ -65,5 +65,16 @@ pub fn unless_interrupted<T: Drop>(gave: io::Result<T>) -> Option<io::Result<T>>
     match gave {
         Err(error) if error.kind() == ErrorKind::Interrupted => None,
         gave => Some(gave),
+    }
+}
+
+/// What a call of the system answered: below 0 it has failed, and the system says why.
+pub(crate) fn status_of(answered: i32) -> io::Result<()>
+    ensures { IsErr result ↔ answered <ℤ pos 0 }
+{
+    if answered < 0 {
+        Err(io::Error::from_raw_os_error(os::errno()))
+    } else {
+        Ok(())
     }
 }

@@ -1,25 +1,26 @@
 ghost use Rattle.std.specs.Prelude.{◌≡◌, false};
 
 use orca_base::limits::ARRIVAL_BYTES;
-use orca_edge::TcpInbox;
+use orca_edge::RealInbox;
 use orca_rig::{Answer, Inbox, MAX_HANDS, MemOuts};
 use std::alloc::Global;
 use std::io::Write;
 use std::net::{Net, OpenListener, SocketAddr, TcpListener, TcpStream};
+use std::os::fd::AsRawFd;
 use std::process::Abort;
-use std::rt::Clock;
+use std::rt::{Clock, Files};
 use std::time::{Duration, Instant};
 
 /// Outputs to which nothing is sent.
-fn make_outs(rt: &impl Abort, alloc: Global) -> MemOuts {
+pub fn make_outs(rt: &impl Abort, alloc: Global) -> MemOuts {
     MemOuts::new(Vec::new(alloc)).expect(rt, "memory")
 }
 
 /// The players, hand 0 first, and the inbox that hears them.
 #[derive(Drop)]
-struct Room<'a, R: Net> {
-    players: Vec<TcpStream>,
-    inbox: TcpInbox<'a, R>,
+pub struct Room<'a, R: Net + Files> {
+    pub players: Vec<TcpStream>,
+    pub inbox: RealInbox<'a, R>,
 }
 
 /// What happens in a room.
@@ -87,18 +88,22 @@ where
 /// As many players as may be, and an inbox that will accept them.
 fn open<R>(rt: &R) -> Room<'_, R>
 where
-    R: AllocGlobal + Net<Stream = TcpStream> + Clock + Abort,
+    R: AllocGlobal + Net<Stream = TcpStream> + Files + Clock + Abort,
+    R::File: AsRawFd,
     ensures listened { result.inbox.listened ≡ false }
     ensures ended { result.inbox.ended ≡ false }
 {
     let listener = TcpListener::bind(rt, "127.0.0.1:0").expect(rt, "a listener");
     let address = listener.local_addr().expect(rt, "an address");
     let players = connect(rt, address);
-    let inbox = TcpInbox::over(rt, listener);
+    let inbox = RealInbox::over(rt, listener);
     Room { players, inbox }
 }
 
-impl<R: AllocGlobal + Net<Stream = TcpStream> + Clock> Room<'_, R> {
+impl<R: AllocGlobal + Net<Stream = TcpStream> + Files + Clock> Room<'_, R>
+where
+    R::File: AsRawFd,
+{
     /// The inbox accepts the players.
     fn listen(&mut self, rt: &impl Abort)
         requires { self.old.inbox.listened ≡ false }
@@ -129,7 +134,7 @@ impl<R: AllocGlobal + Net<Stream = TcpStream> + Clock> Room<'_, R> {
 
     /// Polls, and looks at the answer: these bytes of this hand, or a Due where none are wanted. It
     /// gives the moment of the answer.
-    fn hear(
+    pub fn hear(
         &mut self,
         rt: &impl Abort,
         outs: &MemOuts,
@@ -149,7 +154,7 @@ impl<R: AllocGlobal + Net<Stream = TcpStream> + Clock> Room<'_, R> {
     }
 
     /// What a poll answers that waits for no moment.
-    fn last(&mut self, outs: &MemOuts) -> Answer
+    pub fn last(&mut self, outs: &MemOuts) -> Answer
         requires { self.old.inbox.ended ≡ false }
     {
         self.inbox.poll(outs, None, &mut [0; ARRIVAL_BYTES])

@@ -1,0 +1,10 @@
+use Rattle.std.specs.Prelude.{◌≡◌, ◌⊎◌, [], None}
+use Rattle.orca_edge.specs.Heard.{AreHeard}
+use Rattle.orca_edge.proofs.hands.Hands.wait.Given as goal
+
+-- no stream has given a byte so far, and no other moment is waited for
+abbrev pub invariant-loop : goal.invariant-loop
+invariant-loop g l = record {
+  due : (l.due ≡ None) ⊎ (l.due ≡ l.initial.until);
+  heard : AreHeard g.S.Read.remaining l.initial.self.hands.items l.self.hands.items (λ _. []);
+}

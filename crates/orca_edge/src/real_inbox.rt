@@ -1,0 +1,273 @@
+ghost use Rattle.std.specs.Prelude.{◌≡◌, ◌≤◌, ◌+◌, [], false, None, length, IfOk, OnOk, OnErr, IsErrOf, IsSomeAnd, true};
+ghost use Rattle.orca_rig.specs.Outside.{Rose};
+ghost use Rattle.orca_edge.specs.Names.{names_file};
+ghost use Rattle.orca_rig.specs.declared.inbox.TheConstants.{MAX_HANDS};
+
+use crate::hands::Hands;
+use crate::moments::{Watch, microseconds};
+use crate::whole::{status_of, unless_interrupted};
+use orca_base::limits::ARRIVAL_BYTES;
+use orca_rig::{Answer, Inbox, MAX_HANDS, Outs, OutsideFault, count_failure};
+use std::io::{ErrorKind, Read};
+use std::net::{Net, OpenListener, TcpListener, TcpStream};
+use std::os::fd::{AsRawFd, RawFd};
+use std::rt::Clock;
+use std::{fs, io, rt};
+
+/// What a hand is heard over.
+#[derive(Drop)]
+enum Source<F> {
+    Connection(TcpStream),
+    /// A terminal, a pipe, a device or a plain file.
+    File(F),
+}
+
+impl<F: Read> Read for Source<F> {
+    fn read(&mut self, bytes: &mut [u8]) -> io::Result<usize> {
+        match self {
+            Source::Connection(stream) => stream.read(bytes),
+            Source::File(file) => file.read(bytes),
+        }
+    }
+}
+
+impl<F: AsRawFd> AsRawFd for Source<F> {
+    fn as_raw_fd(&self) -> RawFd {
+        match self {
+            Source::Connection(stream) => stream.as_raw_fd(),
+            Source::File(file) => file.as_raw_fd(),
+        }
+    }
+}
+
+/// An inbox over what the name of `listen_hands` says: connections to an address, one for each hand,
+/// or a file of keys, for one hand. Moments are microseconds since all of them were open, by the
+/// clock that does not go back. It tells no log.
+///
+/// A name with a `/`, and one without a `:`, is that of a file: a terminal, a pipe, a device or a
+/// plain file. Any other is an address, `HOST:PORT`. A file is opened anew and for reading alone, so
+/// a program that has it open already, as the shell of a terminal has, is left as it is.
+///
+/// | what happens | what is answered |
+/// |---|---|
+/// | the address is malformed or taken, or its name stands for none | `listen_hands` fails |
+/// | the file is missing or may not be read, or there are several hands | `listen_hands` fails |
+/// | fewer connect than there are hands | `listen_hands` waits |
+/// | nobody has the pipe open for writing | `listen_hands` waits |
+/// | a peer closes its end, also inside the bytes of a key | its bytes, and then no more of it |
+/// | a pipe's last writer closes it, a plain file has been read, a terminal hangs up | the same |
+/// | a peer resets its connection | no more of it; bytes that came before may be lost |
+/// | a device is taken away, or a read of a terminal fails that another job has now | the same |
+/// | all have gone | [`Answer::End`], or [`Answer::Failed`] if one broke |
+/// | nothing comes, or another program reads it first | a poll waits for its moment, or forever |
+/// | a signal interrupts a wait or a read | it is tried again |
+/// | the clock cannot be read, or the system refuses to wait for events | the call fails |
+///
+/// A poll waits for events of what is open until shortly before its moment, and takes no processor.
+/// From there on it looks at the streams and sleeps, in turn, since the system ends a sleep nearer
+/// to its time than a wait for events. So bytes that come shortly before the moment wait for the end
+/// of a short sleep. The last sleep ends a little before the moment, since the system ends it late,
+/// and from there on the poll looks without a rest.
+///
+/// Neither side can hold the other up: of a moment that has come and bytes that have come, a poll
+/// answers the moment, and the next poll the bytes. Hands are heard in turn. No read waits, so a
+/// hand that is silent makes neither a moment nor the bytes of another one late.
+#[derive(Drop)]
+pub struct RealInbox<'a, R: Net + rt::Files> {
+    clock: Watch<'a, R>,
+    /// What was bound before `listen_hands`.
+    bound: Option<R::Listener>,
+    hands: Option<Hands<Source<R::File>>>,
+    /// The last answer was [`Answer::Due`].
+    was_due: bool,
+    listened: bool,
+    ended: bool,
+    failed: u64,
+}
+
+impl<R> RealInbox<'_, R>
+where
+    R: AllocGlobal + Net<Stream = TcpStream> + rt::Files + Clock,
+    R::File: AsRawFd,
+{
+    /// An inbox that opens what its `listen_hands` names.
+    pub fn new(rt: &R) -> RealInbox<'_, R>
+        ensures listened { ⟦<RealInbox<'static, R> as Inbox>⟧.listened result ≡ false }
+        ensures ended { ⟦<RealInbox<'static, R> as Inbox>⟧.ended result ≡ false }
+        ensures faults { ⟦<RealInbox<'static, R> as Inbox>⟧.faults result ≡ 0 }
+    {
+        let (origin, last) = (0, 0);
+        RealInbox {
+            clock: Watch { rt, origin, last },
+            bound: None,
+            hands: None,
+            was_due: false,
+            listened: false,
+            ended: false,
+            failed: 0,
+        }
+    }
+
+    /// An inbox whose address is bound already. Its `listen_hands` accepts those who connected
+    /// since then first, and reads no name.
+    pub fn over(rt: &R, bound: R::Listener) -> RealInbox<'_, R>
+        ensures listened { ⟦<RealInbox<'static, R> as Inbox>⟧.listened result ≡ false }
+        ensures ended { ⟦<RealInbox<'static, R> as Inbox>⟧.ended result ≡ false }
+        ensures faults { ⟦<RealInbox<'static, R> as Inbox>⟧.faults result ≡ 0 }
+    {
+        let mut inbox = RealInbox::new(rt);
+        inbox.bound = Some(bound);
+        inbox
+    }
+
+    /// Opens so many hands, and starts the clock.
+    fn open(&mut self, name: &str, hands: u8) -> Result<(), OutsideFault>
+        ensures hands { OnOk result (IsSomeAnd self.new.hands (λ opened.
+            length opened.hands.items ≡ hands)) }
+        ensures last { self.new.clock.last ≡ self.old.clock.last }
+        ensures listened { self.new.listened ≡ self.old.listened }
+        ensures ended { self.new.ended ≡ self.old.ended }
+        ensures failed { self.new.failed ≡ self.old.failed }
+    {
+        let rt = self.clock.rt;
+        let mut opened = Hands::new(rt.alloc(), hands)?;
+        match self.bound.take() {
+            Some(bound) => accept_all(&bound, hands, &mut opened)?,
+            None if is_file_name(name) => open_file(rt, name, hands, &mut opened)?,
+            None => accept_all(&TcpListener::bind(rt, name)?, hands, &mut opened)?,
+        }
+        self.clock.origin = microseconds(rt.monotonic()?);
+        self.hands = Some(opened);
+        Ok(())
+    }
+}
+
+impl<R> Inbox for RealInbox<'_, R>
+where
+    R: AllocGlobal + Net<Stream = TcpStream> + rt::Files + Clock,
+    R::File: AsRawFd,
+{
+    ghost log = { λ _. None };
+
+    ghost last = { λ i. i.clock.last };
+
+    ghost listened = { λ i. i.listened };
+
+    ghost ended = { λ i. i.ended };
+
+    ghost faults = { λ i. i.failed };
+
+    /// Waits until so many have connected to the address, and then accepts nobody else; or opens
+    /// the file. The moment of the start is 0.
+    fn listen_hands(&mut self, name: &str, hands: u8) -> Result<u64, OutsideFault>
+        requires fresh { self.old.listened ≡ false }
+        requires some { 1 ≤ hands }
+        requires few { hands ≤ MAX_HANDS }
+        ensures moment { IfOk result (λ at. self.new.clock.last ≡ at) }
+        ensures later { self.old.clock.last ≤ self.new.clock.last }
+        ensures unanswered { OnErr result (self.new.clock.last ≡ self.old.clock.last) }
+        ensures listened { self.new.listened ≡ true }
+        ensures ended { self.new.ended ≡ self.old.ended }
+        ensures count { self.old.failed ≤ self.new.failed }
+        ensures failed { IsErrOf result OutsideFault.Failed → Rose self.old.failed self.new.failed }
+        ensures steady { OnOk result (self.new.failed ≡ self.old.failed) }
+        ensures steady_memory { IsErrOf result OutsideFault.Memory
+            → self.new.failed ≡ self.old.failed }
+
+        ensures hands { OnOk result (IsSomeAnd self.new.hands (λ opened.
+            length opened.hands.items ≡ hands)) }
+    {
+        self.listened = true;
+        let opened = self.open(name, hands);
+        count_failure(&mut self.failed, opened)?;
+        Ok(self.clock.last)
+    }
+
+    /// A poll before `listen_hands`, one whose clock fails, and one that has taken 2^64 - 1 turns
+    /// without an answer are failures.
+    fn poll<O: Outs>(
+        &mut self,
+        outs: &O,
+        until: Option<u64>,
+        bytes: &mut [u8; ARRIVAL_BYTES],
+    ) -> Answer {
+        // What was sent is written down by an inbox that tells its log.
+        let _ = outs;
+        let answer = match &mut self.hands {
+            Some(hands) => hands.wait(&self.clock, self.was_due, until, bytes),
+            None => Answer::Failed,
+        };
+        self.was_due = false;
+        match answer {
+            Answer::Bytes { at, .. } => self.clock.last = at,
+            Answer::Due { at } => {
+                self.clock.last = at;
+                self.was_due = true;
+            }
+            Answer::End => self.ended = true,
+            Answer::Failed => {
+                self.ended = true;
+                self.failed = self.failed.saturating_add(1);
+            }
+        }
+        answer
+    }
+}
+
+/// Whether a name is that of a file, and no address.
+fn is_file_name(name: &str) -> bool
+    ensures { result ≡ names_file name.now }
+{
+    let bytes = name.as_bytes();
+    bytes.contains(&b'/') || !bytes.contains(&b':')
+}
+
+/// Opens the file for the one hand that there may be, so that no read of it waits. That a pipe is
+/// opened waits until somebody has it open for writing.
+fn open_file<R: rt::Files>(
+    rt: &R,
+    name: &str,
+    hands: u8,
+    opened: &mut Hands<Source<R::File>>,
+) -> Result<(), OutsideFault>
+where
+    R::File: AsRawFd,
+    ensures alone { OnOk result (hands ≡ 1) }
+    ensures one { OnOk result (length opened.new.hands.items
+        ≡ length opened.old.hands.items + 1) }
+{
+    if hands != 1 {
+        return Err(OutsideFault::Failed);
+    }
+    let file = fs::open(rt, name)?;
+    status_of(os::set_nonblocking(file.as_raw_fd(), true))?;
+    Ok(opened.add(Source::File(file))?)
+}
+
+/// Accepts so many connections, one after another.
+fn accept_all<L: OpenListener<Stream = TcpStream>, F: Read + Drop>(
+    listener: &L,
+    hands: u8,
+    opened: &mut Hands<Source<F>>,
+) -> Result<(), OutsideFault>
+    ensures { OnOk result (length opened.new.hands.items
+        ≡ length opened.old.hands.items + hands) }
+{
+    for _hand in 0..hands {
+        let stream = accept(listener)?;
+        stream.set_nonblocking(true)?;
+        opened.add(Source::Connection(stream))?;
+    }
+    Ok(())
+}
+
+/// Accepts one connection.
+fn accept<L: OpenListener>(listener: &L) -> io::Result<L::Stream> {
+    for _ in 0..u64::MAX {
+        if let Some(accepted) = unless_interrupted(listener.accept()) {
+            let (stream, _) = accepted?;
+            return Ok(stream);
+        }
+    }
+    Err(io::Error::from(ErrorKind::TimedOut))
+}
