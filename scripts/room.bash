@@ -1,0 +1,226 @@
+# For ./perform, which sources this: what was typed reaches the disk. While a piece is played there is a room beside it, a
+# folder that nobody else can enter. It has the piece as it was and the pipe of the keys. The script of all commands, whose
+# replay gives the grid of the end, comes at the end, in a second room: in memory, which is never full of other files. A
+# performance that is saved removes its rooms; another one leaves one of them.
+
+# The room that stays.
+kept=
+
+# full_name NAME: then $full is what it names, from the root, with all links followed
+full_name() {
+    IFS= read -rd '' full < <(readlink -mz -- "$1")
+}
+
+# Where rooms of this piece may be: beside it, and where files need not stay, there with a number of the folder it is in.
+name_rooms() {
+    local name sum
+    full_name "$piece"
+    sum=$(printf %s "$full" | cksum)
+    name=${full##*/}
+    name=.${name:0:200}
+    rooms=("${full%/*}/$name.orca-room")
+    rooms+=("${TMPDIR:-/tmp}/$name.${sum%% *}.orca-room" {/tmp,/dev/shm}"/$name.${sum%% *}.orca-room")
+}
+
+# is_room FOLDER: it is a room of this piece, and nobody else's
+is_room() {
+    full_name "$piece"
+    [ -O "$1" ] && printf %s "$full" | cmp -s - "$1/of"
+} 2>/dev/null
+
+# begin_room FOLDER: a room is made, with what is needed to tell later what was played
+begin_room() {
+    # A room without the name of its piece was never begun.
+    [ ! -O "$1" ] || [ -e "$1/of" ] || rm -rf -- "$1"
+    mkdir -m 700 -- "$1" || return 1
+    { [ -z "$is_new" ] && cat -- "$piece" || empty_piece; } >"$1/piece" &&
+        printf %s "${given[--limit]-}" >"$1/limit" && printf %s "$full" >"$1/of" || { rm -rf -- "$1" && return 1; }
+} 2>/dev/null
+
+# The two rooms of this performance, and a lock on the first, for as long as it or its program lives.
+make_room() {
+    is_new=
+    [ -e "$piece" ] || is_new=new
+    [ -z "$is_new" ] || given[--save]=${given[--save]-$piece}
+    for room in "${rooms[@]}" ''; do
+        [ -n "$room" ] || fails "there is no room for a copy of the piece, neither beside it nor in ${TMPDIR:-/tmp}"
+        ! begin_room "$room" || break
+    done
+    exec {lock}<"$room"
+    flock -n "$lock" || true
+    quick=${rooms[3]}
+    begin_room "$quick" || quick=$room
+    script=$quick/script
+}
+
+# An empty grid of the size of the picture, less its status line.
+empty_piece() {
+    yes "$(printf "%$((10#${given[--cols]}))s" '' | tr ' ' .)" | head -n $((10#${given[--rows]} - 1))
+}
+
+# Removes the rooms, but for one that stays.
+end_room() {
+    for room in "${rooms[@]}"; do
+        [ "$room" = "$kept" ] || ! is_room "$room" || rm -rf -- "$room"
+    done
+}
+
+# count_edits SCRIPT: then $edits tells how many commands it has that are no frames
+count_edits() {
+    edits=$(grep -cvE '^(!|#|copy |frames? ?[0-9]*$)' "$1") || true
+    [ "$edits" = 1 ] && edits+=' edit' || edits+=' edits'
+}
+
+# replayed: the grid after the script of standard input. Of what a replay prints the grid alone has no spaces.
+replayed() {
+    local limit
+    limit=$(<"$room/limit")
+    "$program" replay ${limit:+"--limit=$limit"} -- "$room/piece" /dev/stdin 2>/dev/null | sed '/ /d'
+}
+
+# has_grid FILE: it has the grid after the script of standard input
+has_grid() {
+    [ -f "$1" ] && replayed | cmp -s -- - "$1"
+}
+
+# was_saved FILE: it has the grid of a moment after the last edit. The moments are tried in both directions from that at
+# which the file was written, by the tempo, and for two seconds at the most.
+was_saved() {
+    local last count guess step at end=$((SECONDS + 2))
+    [ -f "$1" ] && ! cmp -s -- "$1" "$room/piece" || return 1
+    last=$(grep -nvE '^(#|frames? ?[0-9]*$)' "$script" | tail -n 1 | cut -d : -f 1)
+    count=$(tail -n "+$((last + 1))" "$script" | awk '{ n += $1 == "frame" ? 1 : $2 } END { print n + 0 }')
+    guess=$((count - ($(stat -c %Y "$script") - $(stat -c %Y -- "$1")) * 10#${given[--bpm]-120} / 15))
+    for ((step = 0; step <= 2 * count + 2 * (guess < 0 ? -guess : guess) && SECONDS <= end; step++)); do
+        at=$((guess + (step % 2 ? step + 1 : -step) / 2))
+        ((at >= 0 && at <= count)) || continue
+        ! { head -n "$last" "$script" && echo "frames $at"; } | has_grid "$1" || return 0
+    done
+    return 1
+}
+
+# replace_file FROM NAME: NAME has what FROM has, or is as it was. The target of a link is replaced; a device and a pipe
+# are written as they are, and have half a second to take it.
+replace_file() {
+    local beside full
+    full_name "$2"
+    if [ -e "$full" ] && [ ! -f "$full" ]; then
+        timeout 0.5 bash -c 'cat -- "$1" >"$2"' bash "$1" "$full"
+        return
+    fi
+    [ ! -e "$full" ] || [ -w "$full" ] || return 1
+    beside=$(mktemp -- "${full%/*}/.orca-save-XXXXXX") || return 1
+    # It gets the rights of the file that it replaces, or those of any new file.
+    { chmod --reference="$full" -- "$beside" || chmod "$(printf %o $((0666 & ~$(umask))))" -- "$beside"; } &&
+        cat -- "$1" >"$beside" && mv -fT -- "$beside" "$full" || { rm -f -- "$beside" && return 1; }
+} 2>/dev/null
+
+# Removes what a program that was killed in the middle of a save has left, beside the names under which it saves.
+sweep_saves() {
+    local name file
+    for name in "$piece" "${given[--save]-$piece}"; do
+        full_name "$name"
+        for file in "${full%/*}"/.orca-save-*; do
+            [ ! "$file" -nt "$room/of" ] || readlink /proc/[0-9]*/fd/* 2>/dev/null | grep -qxF -- "$file" || rm -f -- "$file"
+        done
+    done
+}
+
+# save_again NAME: what the program could not save there is tried once more
+save_again() {
+    replayed <"$script" >"$quick/grid" && replace_file "$quick/grid" "$1"
+}
+
+# tell_grid: whether the grid of the end is saved. Fails if edits are not.
+tell_grid() {
+    local name=${given[--save]-$piece} edits
+    count_edits "$script"
+    if has_grid "$name" <"$script" || { [ -e "$name" ] && [ ! -f "$name" ] && [[ $status == [03] ]]; } ||
+        { [ -n "${given[--save]+given}" ] && save_again "$name"; }; then
+        say "the grid is saved in $name"
+    elif was_saved "$name"; then
+        say "the grid was saved in $name, by Ctrl-S"
+    elif [ "$status" = 4 ] && save_again "$name"; then
+        say "the grid is saved in $name"
+    elif [ "$edits" = '0 edits' ]; then
+        say "no grid was saved: Ctrl-S and --save do that"
+    else
+        say "not saved in $name: $edits; ${0##*/} --recover saves them beside it, and ${0##*/} --discard drops them"
+        return 1
+    fi
+}
+
+# tell_replay SCRIPT: the line that replays it. If the piece has changed, the grid that it began with is put beside it.
+tell_replay() {
+    local begin=$piece limit
+    limit=$(<"$room/limit")
+    cmp -s -- "$piece" "$room/piece" || begin=$1.begin.orca
+    [ "$begin" = "$piece" ] || replace_file "$room/piece" "$begin" || return 0
+    say "this plays it again: ${0%perform}orca replay ${limit:+--limit=$limit }-- $(printf '%q %q' "$begin" "$1")"
+}
+
+# save_script: the script goes to its name, if there is one. Fails if it can't.
+save_script() {
+    local name=${given[--script]-}
+    [ -n "${given[--script]+given}" ] || return 0
+    if replace_file "$script" "$name"; then
+        say "the script is saved in $name"
+        tell_replay "$name"
+    else
+        say "--script $name: it could not be written"
+        [[ $status != [03] ]] || status=4
+        return 1
+    fi
+}
+
+# finish: after the program has ended, lines say what is saved where, and what is not saved stays in a room. Then $status
+# is that of this script.
+finish() {
+    if [ ! -s "$script" ]; then
+        say "the program has saved no script, so what was not saved is lost"
+        return
+    fi
+    tell_grid || kept=$room
+    save_script || kept=$room
+    [ -z "$kept" ] || cat "$script" >"$room/script" 2>/dev/null || kept=$quick
+}
+
+# find_room: whether a performance of this piece has left a room, which no other one has; then it is $room
+find_room() {
+    for room in "${rooms[@]}"; do
+        is_room "$room" || continue
+        exec {lock}<"$room"
+        flock -n "$lock" || fails "$piece is being performed now"
+        [ ! -s "$room/script" ] || return 0
+    done
+    return 1
+}
+
+# look_for_room: a performance that was cut off is not played over
+look_for_room() {
+    local edits
+    find_room || { end_room && return; }
+    count_edits "$room/script"
+    fails "a performance of $piece was cut off on $(date -r "$room/script" '+%F at %R'), with $edits not saved:" \
+        "${0##*/} --recover saves them beside it, and ${0##*/} --discard drops them"
+}
+
+# recover: what was played goes to files beside the piece, and the rooms go. A last line that was cut off is left out.
+recover() {
+    local name=$piece.recovered file
+    find_room || fails "$piece: there is nothing to recover"
+    for file in "$name.orca" "$name.script"; do
+        [ ! -e "$file" ] && [ ! -L "$file" ] || fails "$file: this file is there already: give it another name first"
+    done
+    head -n "$(wc -l <"$room/script")" "$room/script" >"$name.script" && replayed <"$name.script" >"$name.orca" &&
+        [ -s "$name.orca" ] || fails "$piece: it can't be played again; what is left is in $room"
+    say "the grid is in $name.orca, and the script in $name.script"
+    tell_replay "$name.script"
+    end_room
+}
+
+# discard: the rooms go
+discard() {
+    find_room || fails "$piece: there is nothing to discard"
+    end_room
+}
