@@ -1,1 +1,3 @@
 mod WriteLemmas
+mod OwedLemmas
+mod EndsLemmas

@@ -2,3 +2,4 @@ pub mod Taken
 pub mod Heard
 pub mod Waits
 pub mod Names
+pub mod Owed

@@ -9,7 +9,7 @@ ghost use Rattle.orca_rig.specs.Arrived.{MayAnswer};
 ghost use Rattle.orca_edge.specs.Heard.{IsPieceOf, IsPiece, piece_bytes, hand_bytes, turn_bytes, AreHeard, IsTurn, is_open, is_broken, last_turn};
 
 use crate::moments::{FOREVER, Wait, Watch, has_come, milliseconds, wait_of};
-use crate::whole::status_of;
+use crate::whole::{TRIES, status_of};
 use libc::net::{POLLIN, poll};
 use libc::types::pollfd;
 use orca_base::limits::ARRIVAL_BYTES;
@@ -248,7 +248,7 @@ impl<S: Read + AsRawFd> Hands<S> {
     {
         let mut due = if was_due { None } else { until };
         let mut unread = self.len();
-        for _ in 0..u64::MAX {
+        for _ in 0..TRIES {
             let Ok(now) = clock.moment() else {
                 return Answer::Failed;
             };

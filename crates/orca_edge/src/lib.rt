@@ -4,6 +4,7 @@
 
 mod hands;
 mod moments;
+mod owed;
 mod real_files;
 mod real_inbox;
 mod real_outs;

@@ -5,7 +5,7 @@ ghost use Rattle.orca_rig.specs.declared.inbox.TheConstants.{MAX_HANDS};
 
 use crate::hands::Hands;
 use crate::moments::{Watch, microseconds};
-use crate::whole::{status_of, unless_interrupted};
+use crate::whole::{TRIES, status_of, unless_interrupted};
 use orca_base::limits::ARRIVAL_BYTES;
 use orca_rig::{Answer, Inbox, MAX_HANDS, Outs, OutsideFault, count_failure};
 use std::io::{ErrorKind, Read};
@@ -263,7 +263,7 @@ fn accept_all<L: OpenListener<Stream = TcpStream>, F: Read + Drop>(
 
 /// Accepts one connection.
 fn accept<L: OpenListener>(listener: &L) -> io::Result<L::Stream> {
-    for _ in 0..u64::MAX {
+    for _ in 0..TRIES {
         if let Some(accepted) = unless_interrupted(listener.accept()) {
             let (stream, _) = accepted?;
             return Ok(stream);

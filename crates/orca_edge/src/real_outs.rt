@@ -2,11 +2,11 @@ ghost use Rattle.std.specs.Prelude.{◌≡◌, ◌≢◌, ◌≤◌, ◌↔◌, 
 ghost use Rattle.std.specs.Option.{option_map};
 ghost use Rattle.std.specs.IoError.{error_kind};
 ghost use Rattle.std.specs.declared.io.ErrorKind.TheVariants.{Interrupted};
-ghost use Rattle.orca_edge.specs.Taken.{Takes, TakesOrNot};
+ghost use Rattle.orca_edge.specs.Taken.{Takes, TakesEnds, TakesOrNot};
 
 use crate::room::{Gate, Patience};
 use crate::sinks::{Output, Sink};
-use crate::whole::unless_interrupted;
+use crate::whole::{TRIES, unless_interrupted};
 use libc::{STDERR_FILENO, STDOUT_FILENO};
 use orca_base::Port;
 use orca_rig::{Outs, OutsideFault, count_fault};
@@ -27,7 +27,7 @@ use std::{io, rt, str};
 /// | [`Port::Fault`] | the standard error |
 ///
 /// Midi, Udp and Osc drop their bytes while they are not attached. Nothing is kept back: when a
-/// send returns, its bytes have left the program.
+/// send returns, its bytes have left the program, or it has failed.
 ///
 /// A send waits for room, but no longer than 250 milliseconds in all. Then it has failed, and its
 /// port is stuck: no send waits there any more until the port shows room. It shows room by itself,
@@ -35,19 +35,25 @@ use std::{io, rt, str};
 ///
 /// | what is given up | what the peer gets |
 /// |---|---|
-/// | a MIDI message | none of it |
+/// | a MIDI message that ends a note | none of it, until there is room again |
+/// | another MIDI message | none of it |
 /// | a painting | its first pieces. The next painting begins with CAN (ECMA-48) |
 /// | a text | its first pieces |
 /// | a datagram | none of it |
 ///
+/// A note whose end was given up would sound on. So its Note Off is owed, also where the port failed
+/// for another reason, as a pipe does that nobody reads. The ends that are owed go before anything
+/// that is sent next, to whatever port, as soon as Midi takes them: those of the lowest channel and
+/// key first. At the end of the run they are waited for once more, for half a second at most. They
+/// are forgotten where Midi is attached to something else.
+///
 /// A device that shows room may have it for one byte alone, and would let a longer write wait. So
-/// it may take the first bytes of a MIDI message and no more. The rest then goes before the next
-/// message. A painting may be given up inside an escape sequence, which CAN ends.
+/// it may take the first bytes of a MIDI message and no more. The rest then goes before anything else
+/// there. A painting may be given up inside an escape sequence, which CAN ends.
 ///
 /// Some sinks can still make a write wait: a pipe into which somebody else writes in the same
 /// moment, and a terminal of hardware that stops in the middle of a piece.
-#[derive(Drop)]
-pub struct RealOuts<'a, R: rt::Files> {
+pub struct RealOuts<'a, R: rt::Files + Clock> {
     rt: &'a R,
     output: Output,
     errors: Gate,
@@ -56,6 +62,25 @@ pub struct RealOuts<'a, R: rt::Files> {
     osc: Option<Peer>,
     failed: u64,
     refused: u64,
+}
+
+impl<R: rt::Files + Clock> Drop for RealOuts<'_, R> {
+    /// The end of a run tries the ends once more that Midi is owed.
+    fn drop(self) {
+        let RealOuts {
+            rt,
+            output: _,
+            errors: _,
+            midi,
+            udp: _,
+            osc: _,
+            failed: _,
+            refused: _,
+        } = self;
+        if let Some(mut sink) = midi {
+            let _ = sink.send_last(&Patience::last(rt));
+        }
+    }
 }
 
 /// What datagrams go to, and whether there is room for them.
@@ -122,7 +147,8 @@ where
         Ok(())
     }
 
-    /// Sends the bytes where the port goes. They are dropped where it is not attached.
+    /// Sends the bytes where the port goes. They are dropped where it is not attached. The ends of
+    /// notes that Midi is owed go first.
     fn write(&mut self, port: Port, bytes: &[u8]) -> Result<(), OutsideFault>
         ensures failed { self.new.failed ≡ self.old.failed }
         ensures refused { self.new.refused ≡ self.old.refused }
@@ -133,7 +159,8 @@ where
         ensures midi_dropped { port ≡ Port.Midi → IsNone self.old.midi → IsOk result }
         ensures udp_dropped { port ≡ Port.Udp → IsNone self.old.udp → IsOk result }
         ensures osc_dropped { port ≡ Port.Osc → IsNone self.old.osc → IsOk result }
-        ensures midi_stays { port ≢ Port.Midi → self.new.midi ≡ self.old.midi }
+        ensures midi_ends { port ≢ Port.Midi
+            → TakesEnds R.File.contents self.old.midi self.new.midi }
         ensures udp_stays { option_map (λ peer. peer.lane) self.new.udp
             ≡ option_map (λ peer. peer.lane) self.old.udp }
         ensures osc_stays { option_map (λ peer. peer.lane) self.new.osc
@@ -141,6 +168,9 @@ where
     {
         let rt = self.rt;
         let mut writer = io::writer(rt);
+        if port != Port::Midi {
+            send_ends(rt, &mut self.midi);
+        }
         match port {
             Port::Text => self.output.print(&Patience::start(rt), &mut writer, bytes)?,
             Port::View => self.output.paint(&Patience::start(rt), &mut writer, bytes)?,
@@ -256,6 +286,15 @@ fn write_midi<W: io::Write, C: Clock>(
     }
 }
 
+/// Hands out the ends that are owed, as far as there is room for them.
+fn send_ends<W: io::Write, C: Clock>(clock: &C, sink: &mut Option<Sink<W>>)
+    ensures { TakesEnds W.contents sink.old sink.new }
+{
+    if let Some(sink) = sink {
+        let _ = sink.send_ends(&Patience::start(clock));
+    }
+}
+
 /// Sends one datagram; it is dropped where there is no peer, and no clock is read for it.
 fn send_to<C: Clock>(clock: &C, peer: &mut Option<Peer>, bytes: &[u8]) -> io::Result<()>
     ensures dropped { IsNone peer.old → IsOk result }
@@ -266,7 +305,7 @@ fn send_to<C: Clock>(clock: &C, peer: &mut Option<Peer>, bytes: &[u8]) -> io::Re
         return Ok(());
     };
     let patience = Patience::start(clock);
-    for _ in 0..u64::MAX {
+    for _ in 0..TRIES {
         gate.wait(&patience)?;
         if let Some(done) = outcome_of(lane.socket.send_to(bytes, lane.address), bytes.len()) {
             return done;

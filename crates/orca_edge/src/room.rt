@@ -5,6 +5,7 @@ ghost use Rattle.std.specs.IoError.{error_kind};
 ghost use Rattle.std.specs.declared.io.ErrorKind.TheVariants.{Interrupted, WouldBlock};
 
 use crate::moments::microseconds;
+use crate::whole::TRIES;
 use libc::isatty;
 use libc::net::{POLLOUT, poll};
 use libc::types::pollfd;
@@ -18,6 +19,9 @@ use std::{io, thread};
 
 /// The longest that a send waits for room, in milliseconds.
 pub const LONGEST_WAIT: u16 = 250;
+
+/// The longest that the end of a run waits for room, in milliseconds.
+const LAST_WAIT: u16 = 500;
 
 /// How long a send rests whose sink showed room, but would have waited, in milliseconds.
 const REST: u64 = 1;
@@ -44,24 +48,41 @@ pub struct Gate {
     is_stuck: bool,
 }
 
-/// The clock of a send, and when the send began, in microseconds.
+/// How long a send waits for room, in milliseconds, its clock, and when it began, in microseconds.
 #[derive(Drop)]
 pub struct Patience<'a, C> {
     clock: &'a C,
     began: u64,
+    longest: u16,
 }
 
 impl<C: Clock> Patience<'_, C> {
     /// The patience of a send that begins now.
-    pub fn start(clock: &C) -> Patience<'_, C> {
+    pub fn start(clock: &C) -> Patience<'_, C>
+        ensures { result.longest ≡ LONGEST_WAIT }
+    {
         let began = shown(clock).unwrap_or(0);
-        Patience { clock, began }
+        let longest = LONGEST_WAIT;
+        Patience {
+            clock,
+            began,
+            longest,
+        }
+    }
+
+    /// The patience of the end of a run.
+    pub(crate) fn last(clock: &C) -> Patience<'_, C>
+        ensures { result.longest ≡ LAST_WAIT }
+    {
+        let mut patience = Patience::start(clock);
+        patience.longest = LAST_WAIT;
+        patience
     }
 
     /// How long the send may still wait, in milliseconds: not at all if the clock cannot be read.
     fn left(&self) -> u16 {
         match shown(self.clock) {
-            Ok(now) => left_of(self.began, now),
+            Ok(now) => left_of(self.longest, self.began, now),
             Err(_) => 0,
         }
     }
@@ -102,12 +123,20 @@ impl Gate {
         &bytes[..bytes.len().min(self.most)]
     }
 
+    /// The next send waits for room again, also where the last one has waited in vain.
+    pub fn retry(&mut self)
+        ensures open { self.new.is_stuck ≡ false }
+        ensures same { (self.new.fd ≡ self.old.fd) × (self.new.most ≡ self.old.most) }
+    {
+        self.is_stuck = false;
+    }
+
     /// Waits until a write would not wait: the sink has room, or the write fails.
     pub fn wait<C: Clock>(&mut self, patience: &Patience<'_, C>) -> io::Result<()>
         ensures opens { OnOk result (self.new.is_stuck ≡ false) }
         ensures sticks { OnErr result (self.new.is_stuck ≡ true) }
     {
-        for _ in 0..u64::MAX {
+        for _ in 0..TRIES {
             let limit = limit_of(self.is_stuck, patience.left());
             if has_room(self.fd, limit) {
                 self.is_stuck = false;
@@ -145,12 +174,12 @@ fn shown<C: Clock>(clock: &C) -> io::Result<u64> {
     Ok(microseconds(clock.monotonic()?))
 }
 
-/// How long a send that began then may still wait now, in milliseconds.
-fn left_of(began: u64, now: u64) -> u16
-    ensures { result ≡ LONGEST_WAIT - (now - began) / 1000 }
+/// How long a send that began then, and waits so long at most, may still wait now, in milliseconds.
+fn left_of(longest: u16, began: u64, now: u64) -> u16
+    ensures { result ≡ longest - (now - began) / 1000 }
 {
     let waited = now.saturating_sub(began) / 1000;
-    LONGEST_WAIT.saturating_sub(u16::try_from(waited).unwrap_or(u16::MAX))
+    longest.saturating_sub(u16::try_from(waited).unwrap_or(u16::MAX))
 }
 
 /// How long a send waits whose patience has so long left: not at all at a sink that is stuck.

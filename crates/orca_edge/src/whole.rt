@@ -1,9 +1,10 @@
 //! Reading and writing until all is done, and what calls of the system answer.
 
-ghost use Rattle.std.specs.Prelude.{◌≡◌, ◌≤◌, ◌↔◌, ◌<ℤ◌, pos, length, IsNone, IsErr, IsErrAnd, OnOk, IfOk, IfSome};
+ghost use Rattle.std.specs.Prelude.{◌≡◌, ◌≤◌, ◌<◌, ◌↔◌, ◌<ℤ◌, pos, length, IsNone, IsErr, IsErrAnd, OnOk, IfOk, IfSome};
 ghost use Rattle.std.specs.IoError.{error_kind};
 ghost use Rattle.std.specs.declared.io.ErrorKind.TheVariants.{Interrupted};
-ghost use Rattle.std.specs.Io.KnownBytes.{Appends};
+ghost use Rattle.std.specs.Io.{WritesAtMost};
+ghost use Rattle.std.specs.Io.KnownBytes.{Appends, WriteAppends};
 ghost use Rattle.orca_base.specs.declared.limits.TheConstants.{MAX_FILE_BYTES};
 
 use orca_base::limits::MAX_FILE_BYTES;
@@ -11,6 +12,10 @@ use orca_rig::OutsideFault;
 use std::alloc::Global;
 use std::io;
 use std::io::{ErrorKind, Read, Write};
+
+/// How often a call is tried that signals interrupt, or that has to wait in pieces. It never comes to
+/// that many: the bound is there since every loop is proved to end.
+pub(crate) const TRIES: u64 = u64::MAX;
 
 /// How many bytes are read at once.
 const PIECE_BYTES: usize = 4096;
@@ -23,7 +28,7 @@ pub fn read_whole<R: Read>(alloc: Global, from: &mut R) -> Result<Vec<u8>, Outsi
 {
     let mut bytes = Vec::new(alloc);
     let mut piece = [0u8; PIECE_BYTES];
-    for _ in 0..u64::MAX {
+    for _ in 0..TRIES {
         match from.read(&mut piece) {
             Ok(0) => return Ok(bytes),
             Ok(count) if count > MAX_FILE_BYTES - bytes.len() => return Err(OutsideFault::Failed),
@@ -35,20 +40,30 @@ pub fn read_whole<R: Read>(alloc: Global, from: &mut R) -> Result<Vec<u8>, Outsi
     Err(OutsideFault::Failed)
 }
 
-/// Writes all of the bytes. After a short write it goes on with the rest, an interrupted one is
-/// tried again, and one that takes nothing is a failure. Nothing is kept back, so nothing is
-/// flushed.
+/// Writes all of the bytes. After a short write it goes on with the rest. Nothing is kept back, so
+/// nothing is flushed. It ends, since each write takes a byte.
 pub fn write_whole<W: Write>(to: &mut W, bytes: &[u8]) -> io::Result<()>
     ensures { OnOk result (Appends (W.contents to.old) (W.contents to.new) bytes.now) }
 {
     let mut rest = bytes;
-    for _ in 0..u64::MAX {
-        if rest.is_empty() {
-            return Ok(());
-        }
-        match to.write(rest) {
+    while !rest.is_empty() {
+        let count = write_on(to, rest)?;
+        rest = &rest[count..];
+    }
+    Ok(())
+}
+
+/// Writes the first of the bytes: as many as one write takes, and one at least. An interrupted write
+/// is tried again, and one that takes nothing is a failure.
+fn write_on<W: Write>(to: &mut W, bytes: &[u8]) -> io::Result<usize>
+    ensures bound { WritesAtMost result bytes.now }
+    ensures bytes { WriteAppends (W.contents to.old) (W.contents to.new) result bytes.now }
+    ensures some { IfOk result (λ count. 0 < count) }
+{
+    for _ in 0..TRIES {
+        match to.write(bytes) {
             Ok(0) => break,
-            Ok(count) => rest = &rest[count..],
+            Ok(count) => return Ok(count),
             Err(error) if error.kind() == ErrorKind::Interrupted => {}
             Err(error) => return Err(error),
         }

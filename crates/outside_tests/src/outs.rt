@@ -2,9 +2,11 @@ use orca_base::Port;
 use orca_edge::RealOuts;
 use orca_edge::room::Gate;
 use orca_rig::{Outs, OutsideFault};
-use std::fs;
 use std::fs::OpenOptions;
+use std::io::Read;
+use std::os::fd::AsRawFd;
 use std::process::Abort;
+use std::{fs, io};
 
 /// A call of the outputs, and its answer.
 #[derive(Clone, Copy)]
@@ -80,4 +82,44 @@ fn a_device_gets_a_byte_at_a_time(rt: HostRuntime) {
         assert_eq!(rt; gate.piece_of(message).len(), count);
     }
     fs::remove_file(&rt, "rig_plain").expect(&rt, "a removal");
+}
+
+/// A note starts, and it ends.
+const START: [u8; 3] = [0x90, 0x30, 0x3f];
+
+const END: [u8; 3] = [0x80, 0x30, 0];
+
+/// Midi takes what it has room for, and then it misses an end.
+fn miss_an_end<O: Outs>(rt: &impl Abort, outs: &mut O) {
+    for _ in 0..100_000 {
+        if outs.send(Port::Midi, &START).is_err() {
+            break;
+        }
+    }
+    assert!(rt; outs.send(Port::Midi, &END) == FAILED);
+}
+
+/// Reads what there is, up to these bytes.
+fn read_up_to(rt: &impl Abort, from: &mut impl Read, last: &[u8]) {
+    let mut bytes = [0; 70_000];
+    let count = from.read(&mut bytes).expect(rt, "a read");
+    assert!(rt; bytes[..count].ends_with(last));
+}
+
+#[test]
+fn a_pipe_with_room_again_gets_the_end_that_it_missed(rt: HostRuntime) {
+    let (mut reader, writer) = io::pipe(&rt).expect(&rt, "a pipe");
+    let name = format!(in rt.alloc(); "/dev/fd/{}", writer.as_raw_fd()).expect(&rt, "memory");
+    let mut outs = RealOuts::new(&rt);
+    assert!(rt; outs.attach(Port::Midi, &name) == Ok(()));
+    miss_an_end(&rt, &mut outs);
+    read_up_to(&rt, &mut reader, &START);
+    // A send to any port brings it.
+    assert!(rt; outs.send(Port::View, b"") == Ok(()));
+    read_up_to(&rt, &mut reader, &END);
+    // So does the end of the run.
+    miss_an_end(&rt, &mut outs);
+    read_up_to(&rt, &mut reader, &START);
+    drop(outs);
+    read_up_to(&rt, &mut reader, &END);
 }
