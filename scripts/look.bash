@@ -6,9 +6,10 @@ texts='--midi --udp --osc --save --script'
 numbers='--seed --limit --bpm --rows --cols'
 declare -A least=([--seed]=0 [--limit]=1 [--bpm]=1 [--rows]=2 [--cols]=8)
 declare -A most=([--seed]=4294967295 [--limit]=4000000 [--bpm]=999 [--rows]=100 [--cols]=256)
-# The options that were given, the piece, and what is to be done with it: play, recover or discard.
+# The options that were given, the piece, the one it begins as if it is new, and what is to be done: play, recover or discard.
 declare -A given=()
 piece=
+model=
 task=play
 
 # give OPTION VALUE
@@ -39,7 +40,10 @@ read_words() {
     done
     [ "${#names[@]}" -le 1 ] || fails "${names[1]}: one piece is played, and ${names[0]} is another name"
     piece=${names[0]-}
-    [ -n "$piece" ] || fails "usage: ./perform [--recover|--discard] PIECE [options of orca play]"
+    [ -n "$piece" ] || fails "usage: perform [--recover|--discard] PIECE [options of orca play]"
+    # A name that is no file may be that of a piece that came with this.
+    [[ $piece == */* ]] || [ -e "$piece" ] || [ ! -f "$top/pieces/${piece%.orca}.orca" ] ||
+        piece=${piece%.orca}.orca model=$top/pieces/$piece
     [ "$task" = play ] || [ "${#given[@]}" = 0 ] || fails "--$task: it has no other options"
     for word in "$piece" "${given[@]}"; do
         ! printf %s "$word" | LC_ALL=C.UTF-8 grep -qazxv '.*' || fails "$word: a name has to be UTF-8"

@@ -33,7 +33,7 @@ begin_room() {
     # A room without the name of its piece was never begun.
     [ ! -O "$1" ] || [ -e "$1/of" ] || rm -rf -- "$1"
     mkdir -m 700 -- "$1" || return 1
-    { [ -z "$is_new" ] && cat -- "$piece" || empty_piece; } >"$1/piece" &&
+    { [ -z "$is_new" ] && cat -- "$piece" || new_piece; } >"$1/piece" &&
         printf %s "${given[--limit]-}" >"$1/limit" && printf %s "$full" >"$1/of" || { rm -rf -- "$1" && return 1; }
 } 2>/dev/null
 
@@ -53,9 +53,10 @@ make_room() {
     script=$quick/script
 }
 
-# An empty grid of the size of the picture, less its status line.
-empty_piece() {
-    yes "$(printf "%$((10#${given[--cols]}))s" '' | tr ' ' .)" | head -n $((10#${given[--rows]} - 1))
+# What a new piece begins as: its model, or an empty grid of the size of the picture, less its status line.
+new_piece() {
+    [ -n "$model" ] && cat -- "$model" ||
+        yes "$(printf "%$((10#${given[--cols]}))s" '' | tr ' ' .)" | head -n $((10#${given[--rows]} - 1))
 }
 
 # Removes the rooms, but for one that stays.
