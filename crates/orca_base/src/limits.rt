@@ -118,6 +118,9 @@ pub const TOUCH_PRICE: u64 = 4;
 /// How many changes a patch keeps without memory of its own.
 pub const INLINE_CHANGES: usize = 8;
 
+/// The most players at once.
+pub const MAX_HANDS: u8 = 8;
+
 /// The most bytes of one arrival.
 pub const ARRIVAL_BYTES: usize = 64;
 

@@ -5,7 +5,7 @@ ghost use Rattle.orca_edit.specs.Machines.{Acts, preview_of};
 ghost use Rattle.orca_edit.specs.Obeying.{piece_of};
 ghost use Rattle.orca_edit.specs.Prices.{charge, kept_after, preview_price};
 ghost use Rattle.orca_rig.specs.Arrived.{arrived};
-ghost use Rattle.orca_rig.specs.declared.inbox.TheConstants.{MAX_HANDS};
+ghost use Rattle.orca_base.specs.declared.limits.TheConstants.{MAX_HANDS};
 ghost use Rattle.orca_course.specs.Acts.Act.{Attach, Await, Give, Listen, Load, Save};
 ghost use Rattle.orca_course.specs.Worlds.{Called, Made, Polled, Sated, owing, start_of, text_of};
 

@@ -1,13 +1,13 @@
 ghost use Rattle.std.specs.Prelude.{◌≡◌, ◌≤◌, ◌+◌, [], false, None, length, IfOk, OnOk, OnErr, IsErrOf, IsSomeAnd, true};
 ghost use Rattle.orca_rig.specs.Outside.{Rose};
 ghost use Rattle.orca_edge.specs.Names.{names_file};
-ghost use Rattle.orca_rig.specs.declared.inbox.TheConstants.{MAX_HANDS};
+ghost use Rattle.orca_base.specs.declared.limits.TheConstants.{MAX_HANDS};
 
 use crate::hands::Hands;
 use crate::moments::{Watch, microseconds};
 use crate::whole::{TRIES, status_of, unless_interrupted};
-use orca_base::limits::ARRIVAL_BYTES;
-use orca_rig::{Answer, Inbox, MAX_HANDS, Outs, OutsideFault, count_failure};
+use orca_base::limits::{ARRIVAL_BYTES, MAX_HANDS};
+use orca_rig::{Answer, Inbox, Outs, OutsideFault, count_failure};
 use std::io::{ErrorKind, Read};
 use std::net::{Net, OpenListener, TcpListener, TcpStream};
 use std::os::fd::{AsRawFd, RawFd};

@@ -2,13 +2,10 @@ ghost use Rattle.std.specs.Prelude.{◌≡◌, ◌≢◌, ◌≤◌, ◌⊎◌, 
 ghost use Rattle.std.specs.Option.{option_map};
 ghost use Rattle.orca_rig.specs.Outside.{Rose};
 ghost use Rattle.orca_rig.specs.Arrived.{Log, after_listen, after_poll, arrived, moment_after, is_ending, MayAnswer};
-ghost use Rattle.orca_rig.specs.declared.inbox.TheConstants.{MAX_HANDS};
+ghost use Rattle.orca_base.specs.declared.limits.TheConstants.{MAX_HANDS};
 
 use crate::{Outs, OutsideFault};
 use orca_base::limits::ARRIVAL_BYTES;
-
-/// The most players at once.
-pub const MAX_HANDS: u8 = 8;
 
 /// What a poll answers. Moments are in microseconds.
 #[derive(Clone, Copy, Debug, PartialEq, Eq)]
@@ -45,7 +42,7 @@ pub trait Inbox {
 
     /// Waits for so many players at that name, and answers the moment of the start, in
     /// microseconds. The first who comes is hand 0, and the next is hand 1. There are 1 to
-    /// [`MAX_HANDS`] of them.
+    /// [`MAX_HANDS`](orca_base::limits::MAX_HANDS) of them.
     fn listen_hands(&mut self, name: &str, hands: u8) -> Result<u64, OutsideFault>
         // Nobody listened before.
         requires fresh { listened self.old ≡ false }

@@ -14,7 +14,7 @@ mod outs;
 
 pub use fault::{OutsideFault, count_failure, count_fault};
 pub use files::Files;
-pub use inbox::{Answer, Inbox, MAX_HANDS};
+pub use inbox::{Answer, Inbox};
 pub use mem_answer::{MemAnswer, are_arrivals, is_in_order};
 pub use mem_files::{MemFiles, names_differ};
 pub use mem_inbox::MemInbox;

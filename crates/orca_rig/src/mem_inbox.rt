@@ -4,9 +4,8 @@ ghost use Rattle.orca_rig.specs.Outside.{Rose, last_count};
 ghost use Rattle.orca_rig.specs.Arrived.{empty_log, count_of, after_listen, after_poll, arrived, moment_after, is_ending, MayAnswer};
 ghost use Rattle.orca_rig.specs.InMemory.{is_to_fail};
 ghost use Rattle.orca_rig.specs.Schedule.{Schedule, is_in_order, is_arrival, are_arrivals, awaited, first_turn, turn_of, turn, calls_of, IsAnsweredInOrder};
-ghost use Rattle.orca_base.specs.declared.limits.TheConstants.{ARRIVAL_BYTES};
+ghost use Rattle.orca_base.specs.declared.limits.TheConstants.{ARRIVAL_BYTES, MAX_HANDS};
 ghost use Rattle.orca_rig.specs.KeptPolls.{poll_of};
-ghost use Rattle.orca_rig.specs.declared.inbox.TheConstants.{MAX_HANDS};
 
 use crate::{Answer, Inbox, MemAnswer, Outs, OutsideFault};
 use orca_base::limits::ARRIVAL_BYTES;

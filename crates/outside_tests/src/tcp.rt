@@ -1,8 +1,8 @@
 ghost use Rattle.std.specs.Prelude.{◌≡◌, false};
 
-use orca_base::limits::ARRIVAL_BYTES;
+use orca_base::limits::{ARRIVAL_BYTES, MAX_HANDS};
 use orca_edge::RealInbox;
-use orca_rig::{Answer, Inbox, MAX_HANDS, MemOuts};
+use orca_rig::{Answer, Inbox, MemOuts};
 use std::alloc::Global;
 use std::io::Write;
 use std::net::{Net, OpenListener, SocketAddr, TcpListener, TcpStream};
