@@ -13,7 +13,7 @@ use crate::field::Field;
 use orca_base::limits::MAX_CELLS;
 use orca_base::{Area, Block, Change, Dims, Event, Glyph, Look, Marks, Memory, Place, Spot, Steps};
 use orca_grid::Grid;
-use orca_op::{Bench, Span, Walk};
+use orca_op::{Bench, LiveRow, Span, Walk};
 use std::alloc::Global;
 use std::marker::Model;
 use std::sync::ledger::Ledger;
@@ -229,11 +229,8 @@ impl Bench for Board {
 }
 
 impl Walk for Board {
-    fn live_words<L: Ledger>(&self, row: u16, steps: &mut Steps<L>) -> &[u64] {
+    #[inline(always)]
+    fn live_words<L: Ledger>(&self, row: u16, steps: &mut Steps<L>) -> LiveRow<'_> {
         self.field.live_words(row, steps)
-    }
-
-    fn summary(&self, row: u16) -> u64 {
-        self.field.summary(row)
     }
 }

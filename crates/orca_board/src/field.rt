@@ -20,7 +20,7 @@ use orca_base::limits::{BASE, MAX_CELLS, MAX_COLUMNS, MAX_EVENTS, MAX_ROWS};
 use orca_base::{Change, Dims, Event, Glyph, Look, Marks, Memory, Place, Spot, Steps};
 use orca_grid::Grid;
 use orca_marks::MarkPlane;
-use orca_op::{Bench, Span, Walk};
+use orca_op::{Bench, LiveRow, Span, Walk};
 use std::alloc::Global;
 use std::marker::Model;
 use std::snapshot::Snapshot;
@@ -622,12 +622,13 @@ impl Bench for Field {
 }
 
 impl Walk for Field {
-    fn live_words<L: Ledger>(&self, row: u16, steps: &mut Steps<L>) -> &[u64] {
+    // A row is told by its summary alone where that is zero, and then nothing reads its words.
+    #[inline(always)]
+    fn live_words<L: Ledger>(&self, row: u16, steps: &mut Steps<L>) -> LiveRow<'_> {
         steps.count_one();
-        self.live.row(row, self.dims.w)
-    }
-
-    fn summary(&self, row: u16) -> u64 {
-        self.live.summary(row)
+        LiveRow {
+            words: self.live.row(row, self.dims.w),
+            summary: self.live.summary(row),
+        }
     }
 }

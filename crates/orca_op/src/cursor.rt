@@ -67,11 +67,11 @@ impl Cursor {
         ensures behind { IfSome result (λ x. self.new ≡ x + 1) }
         ensures steps { steps.new ≡ steps.old + 1 }
     {
-        if bench.summary(row) == 0 {
-            steps.count_one();
+        let live = bench.live_words(row, steps);
+        if live.summary == 0 {
             return None;
         }
-        self.next(bench, row, steps)
+        self.find(live.words, live.summary)
     }
 
     /// The next column of a row that holds an operator as the grid stands now; none exactly where
@@ -93,7 +93,8 @@ impl Cursor {
         ensures behind { IfSome result (λ x. self.new ≡ x + 1) }
         ensures steps { steps.new ≡ steps.old + 1 }
     {
-        self.find(bench.live_words(row, steps), bench.summary(row))
+        let seen = bench.live_words(row, steps);
+        self.find(seen.words, seen.summary)
     }
 
     /// The least bit of a row's words, at the column or after it, that is set. The cursor then

@@ -19,4 +19,4 @@ pub use live::next_live;
 pub use operator::Operator;
 pub use span::Span;
 pub use values::{rate_of, value_or};
-pub use walk::Walk;
+pub use walk::{LiveRow, Walk};

@@ -24,7 +24,7 @@ pub fn next_live<B: Walk, L: Ledger>(
         HasNoLive s row from (unwrap_or result s.dims.w) }
     ensures steps { steps.new ≡ steps.old + 1 }
 {
-    next_bit(bench.live_words(row, steps), from)
+    next_bit(bench.live_words(row, steps).words, from)
 }
 
 /// The least bit of a row's words, at least `from`, that is set.

@@ -1,10 +1,11 @@
-use Rattle.std.proofs.Common.{◌≡◌, ◌+◌, ◌-◌, ◌*◌, ◌/◌, ◌∙◌, ap, arith, length, refl}
+use Rattle.std.proofs.Common.{◌≡◌, ◌+◌, ◌-◌, ◌*◌, ◌/◌, ◌∙◌, ap, arith, length, refl, subst, ◌&&◌}
+use Rattle.std.specs.Prelude.{nat_lt}
 use Rattle.orca_base.specs.declared.limits.TheConstants.{MAX_COLUMNS, WORD_COLUMNS}
 use Rattle.orca_board.specs.Board.{desk_of}
 use Rattle.orca_board.specs.declared.field.Field.TheInside.{Inside}
-use Rattle.orca_board.proofs.BoardLemmas.{live-row}
+use Rattle.orca_board.proofs.BoardLemmas.{live-row, summary-row}
 use Rattle.orca_board.proofs.field.FieldWalk.live_words.Goals as goal
-use Rattle.orca_op.specs.Live.{has_bit}
+use Rattle.orca_op.specs.Live.{has_bit, IsSummary}
 
 pub returns-clause-live : goal.returns-clause-live
 returns-clause-live g c =
@@ -18,3 +19,13 @@ returns-clause-live g c =
           long (λ within. c.row.ensures.bits x within
           ∙ ap (λ (i : Inside). has_bit i.live (c.args.row * MAX_COLUMNS + x)) c.self-inside.view_is);
     })
+
+pub returns-clause-summary : goal.returns-clause-summary
+returns-clause-summary g c =
+    rw (← c.self.view_is) (summary-row (desk_of c.self.inside).scan
+    c.self.inside.cells.items c.self.inside.live c.args.row _
+    c.self.invariant.lists.desk.state.sheet.size (rw (← c.self.view_is) at c.requires) refl
+    c.self.invariant.outside c.self.invariant.live
+    (subst (λ (i : Inside). IsSummary
+    (λ x. nat_lt x MAX_COLUMNS && has_bit i.live (c.args.row * MAX_COLUMNS + x)) c.summary.result)
+    c.self-inside.view_is c.summary.ensures))
