@@ -10,7 +10,7 @@ use orca_notes::Messages;
 use std::sync::ledger::Ledger;
 
 /// A session as those above it see it: a machine that obeys commands, and that can be looked at.
-pub trait Machine: Look {
+pub trait Machine: Look + Drop {
     /// The machine that it means: the opened grid, the history, the clip, and the last close.
     ghost machine: { Self → MachineState };
 
