@@ -7,4 +7,5 @@ pub mod NumberLemmas
 pub mod PlaceFacts
 pub mod RangeFacts
 pub mod SheetFacts
+pub mod WornFacts
 mod WorkedLimits

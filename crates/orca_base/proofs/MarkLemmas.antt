@@ -1,9 +1,10 @@
 -- Marks as bits: the set of both bytes, a mark more, and a test.
-use Rattle.std.proofs.Common.{◌≡◌, ℕ, zero, suc, ◌<◌, Bool, true, false, not, ◌==◌, ◌||◌, arith, ap, ◌∙◌, refl, bit_or, bit_and}
+use Rattle.std.proofs.Common.{◌≡◌, ℕ, zero, suc, ◌<◌, not, ◌==◌, ◌||◌, arith, ap, ◌∙◌, refl, bit_or, bit_and}
 use Rattle.std.specs.Prelude.{max}
 use Rattle.std.specs.Int.{bit_at}
 use Rattle.std.proofs.lemmas.Nat.Bits.{bit_at_or, bit_at-lt}
 use Rattle.std.proofs.lemmas.Bool.{agree_below_at}
+use Rattle.std.proofs.Math.Bool.{or-true, or-false}
 use Rattle.orca_base.specs.MarkSet.{all_marks, with_mark, has_mark, is_marked}
 use Rattle.orca_base.specs.MarkBits.{marks_of, bit_of}
 use Rattle.orca_base.specs.declared.marks.Mark.{Mark}
@@ -24,54 +25,46 @@ or_bit a b i = ap (λ n. n == 1) (bit_at_or a b i) ∙ or_test (bit_at a i) (bit
 pub marks_or : (a b : ℕ) → marks_of (bit_or a b) ≡ all_marks (marks_of a) (marks_of b)
 marks_or a b = rw (or_bit a b 0, or_bit a b 1, or_bit a b 2, or_bit a b 3, or_bit a b 4) refl
 
-or_true : (b : Bool) → (b || true) ≡ true
-or_true true = refl
-or_true false = refl
-
-or_false : (b : Bool) → (b || false) ≡ b
-or_false true = refl
-or_false false = refl
-
 pub marks_with : (n : ℕ) (m : Mark) → marks_of (bit_or n (bit_of m)) ≡ with_mark (marks_of n) m
 marks_with n Lock = marks_or n 1
     ∙ rw (
-      or_true (bit_at n 0 == 1),
-      or_false (bit_at n 1 == 1),
-      or_false (bit_at n 2 == 1),
-      or_false (bit_at n 3 == 1),
-      or_false (bit_at n 4 == 1),
+      or-true (bit_at n 0 == 1),
+      or-false (bit_at n 1 == 1),
+      or-false (bit_at n 2 == 1),
+      or-false (bit_at n 3 == 1),
+      or-false (bit_at n 4 == 1),
     ) refl
 marks_with n Input = marks_or n 2
     ∙ rw (
-      or_false (bit_at n 0 == 1),
-      or_true (bit_at n 1 == 1),
-      or_false (bit_at n 2 == 1),
-      or_false (bit_at n 3 == 1),
-      or_false (bit_at n 4 == 1),
+      or-false (bit_at n 0 == 1),
+      or-true (bit_at n 1 == 1),
+      or-false (bit_at n 2 == 1),
+      or-false (bit_at n 3 == 1),
+      or-false (bit_at n 4 == 1),
     ) refl
 marks_with n Param = marks_or n 4
     ∙ rw (
-      or_false (bit_at n 0 == 1),
-      or_false (bit_at n 1 == 1),
-      or_true (bit_at n 2 == 1),
-      or_false (bit_at n 3 == 1),
-      or_false (bit_at n 4 == 1),
+      or-false (bit_at n 0 == 1),
+      or-false (bit_at n 1 == 1),
+      or-true (bit_at n 2 == 1),
+      or-false (bit_at n 3 == 1),
+      or-false (bit_at n 4 == 1),
     ) refl
 marks_with n Output = marks_or n 8
     ∙ rw (
-      or_false (bit_at n 0 == 1),
-      or_false (bit_at n 1 == 1),
-      or_false (bit_at n 2 == 1),
-      or_true (bit_at n 3 == 1),
-      or_false (bit_at n 4 == 1),
+      or-false (bit_at n 0 == 1),
+      or-false (bit_at n 1 == 1),
+      or-false (bit_at n 2 == 1),
+      or-true (bit_at n 3 == 1),
+      or-false (bit_at n 4 == 1),
     ) refl
 marks_with n Sleep = marks_or n 16
     ∙ rw (
-      or_false (bit_at n 0 == 1),
-      or_false (bit_at n 1 == 1),
-      or_false (bit_at n 2 == 1),
-      or_false (bit_at n 3 == 1),
-      or_true (bit_at n 4 == 1),
+      or-false (bit_at n 0 == 1),
+      or-false (bit_at n 1 == 1),
+      or-false (bit_at n 2 == 1),
+      or-false (bit_at n 3 == 1),
+      or-true (bit_at n 4 == 1),
     ) refl
 
 pub marks_has : (n : ℕ) (m : Mark) → n < 32

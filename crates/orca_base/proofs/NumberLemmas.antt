@@ -6,7 +6,7 @@ use Rattle.std.specs.Result.{result_ok}
 use Rattle.std.specs.Char.{digit_value}
 use Rattle.std.specs.Str.Parse.{AllDigits, IsNumeral, digits_value, without_leading_plus, ParsesUnsigned}
 use Rattle.std.proofs.lemmas.Bool.Decides.{nat_tests}
-use Rattle.std.proofs.lemmas.Bool.{ltb-true, lt-ltb, le-leb}
+use Rattle.std.proofs.lemmas.Bool.{ltb-true, lt-ltb, le-leb, and_parts}
 use Rattle.std.proofs.Math.Bool.{and-false}
 use Rattle.orca_base.specs.Glyphs.{is_digit}
 use Rattle.orca_base.specs.declared.limits.TheConstants.{MAX_DIGITS}
@@ -15,26 +15,18 @@ use Rattle.orca_base.specs.Numbers.{number_of}
 digit-below : (c : ℕ) → is_digit c ≡ true → digit_value c < 10
 digit-below c digit = grind (arith, nat_tests)
 
-both-left : (a b : Bool) → (a && b) ≡ true → a ≡ true
-both-left true b both = refl
-both-left false b both = both
-
-both-right : (a b : Bool) → (a && b) ≡ true → b ≡ true
-both-right true b both = both
-both-right false b both = cc
-
 all_digits : (text : List ℕ) → list_all is_digit text ≡ true → AllDigits 10 text
 all_digits [] all = tt
 all_digits (c ∷ cs) all = (
-  digit-below c (both-left (is_digit c) (list_all is_digit cs) all),
+  digit-below c (and_parts (is_digit c) (list_all is_digit cs) all).0,
   all_digits cs
-      (both-right (is_digit c) (list_all is_digit cs) all),
+      (and_parts (is_digit c) (list_all is_digit cs) all).1,
 )
 
 no_plus : (text : List ℕ) → list_all is_digit text ≡ true → without_leading_plus text ≡ text
 no_plus [] all = refl
 no_plus (c ∷ cs) all =
-    let digit = both-left (is_digit c) (list_all is_digit cs) all in
+    let digit = (and_parts (is_digit c) (list_all is_digit cs) all).0 in
     let other : (c == 43) ≡ false = grind (arith, nat_tests) in
     rw other refl
 

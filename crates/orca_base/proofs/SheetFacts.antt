@@ -1,14 +1,15 @@
 -- Grids of glyphs, by their places.
-use Rattle.std.proofs.Common.{◌≡◌, ℕ, zero, suc, ◌<◌, List, [], ◌∷◌, length, get_or, arith, ap, ◌∙◌, sym, subst, zero-add, inl, inr, false}
+use Rattle.std.proofs.Common.{◌≡◌, ℕ, zero, suc, ◌<◌, List, [], ◌∷◌, length, get_or, arith, ap, ◌∙◌, sym, subst, zero-add, inl, inr, Bool, true, false, refl}
 use Rattle.std.proofs.Math.ListN.{set}
-use Rattle.std.specs.Prelude.{slice_index}
+use Rattle.std.specs.Prelude.{slice_index, if◌then◌else◌}
 use Rattle.std.proofs.lemmas.List.{ext_get_or, get_or-set_same, get_or-set_other, length-set}
 use Rattle.std.proofs.lemmas.Bool.{cases_Bool}
 use Rattle.std.proofs.lemmas.List.FromFn.{length-map-range_with_len, get_or-map-range_with_len}
 use Rattle.orca_base.specs.declared.place.Place.{Place}
-use Rattle.orca_base.specs.Glyphs.{IsGlyph, AreGlyphs}
-use Rattle.orca_base.specs.Grids.{Size, IsSize, IsInside, Sheet, IsSheet, cells_of, by_place, sheet_by, glyph_at, index_of, place_of, is_place}
-use Rattle.orca_base.proofs.PlaceFacts.{index_of-below, inside-place_of, index_of-place_of, place_of-index_of, is_place-same, index-apart}
+use Rattle.orca_base.specs.Glyphs.{IsGlyph, AreGlyphs, empty}
+use Rattle.orca_base.specs.Grids.{Size, IsSize, IsInside, Sheet, IsSheet, cells_of, by_place, sheet_by, glyph_at, index_of, is_inside, place_of, is_place}
+use Rattle.orca_base.proofs.PlaceFacts.{index_of-below, inside-is_inside, inside-place_of, index_of-place_of, place_of-index_of, is_place-same, index-apart}
+use Rattle.orca_base.specs.Edits.{sheet_after_resize}
 
 -- a number read inside a list of glyphs is a glyph
 pub IsGlyph-index : (xs : List ℕ) (i : ℕ) → AreGlyphs xs → i < length xs
@@ -128,3 +129,15 @@ pub sheet-same : (g : Sheet) (glyph : Place → ℕ) → IsSize g.dims → lengt
 sheet-same g glyph size whole each =
     ap (λ (c : List ℕ). record { dims = g.dims; cells = c })
     (list-by_place g.dims g.cells glyph 0 size whole each)
+
+-- a grid of another size is a grid
+pub IsSheet-resize : (g : Sheet) (d : Size) → IsSheet g → IsSize d
+    → IsSheet (sheet_after_resize g d)
+IsSheet-resize g d sheet size =
+    IsSheet-sheet_by d (λ at. if is_inside g.dims at then glyph_at g at else empty) size
+    (λ at inside. each at (is_inside g.dims at) (inside-is_inside g.dims at))
+  where
+    each : (at : Place) (b : Bool) → (b ≡ true → IsInside g.dims at)
+        → IsGlyph (if b then glyph_at g at else empty)
+    each at true in_grid = IsGlyph-glyph_at g at sheet (in_grid refl)
+    each at false in_grid = (omega arith, omega arith)

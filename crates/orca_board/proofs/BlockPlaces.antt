@@ -7,15 +7,17 @@ use Rattle.std.proofs.lemmas.Bool.{both_ways, cases_Bool, cases_lt, false_from_n
 use Rattle.std.proofs.lemmas.List.Elements.{All-filter}
 use Rattle.std.proofs.lemmas.List.Folds.{list_any_at, list_any_none}
 use Rattle.std.proofs.lemmas.Map.Views.{any-filter_same}
+use Rattle.std.proofs.lemmas.List.Sums.{count_by-le-length, length-filter}
 use Rattle.orca_base.specs.declared.area.Area.{Area}
 use Rattle.orca_base.specs.declared.place.Place.{Place}
 use Rattle.orca_base.specs.Areas.{corner_of, size_of}
 use Rattle.orca_base.specs.Edits.{is_in_area, is_within, moved, origin}
-use Rattle.orca_base.specs.Grids.{Size, IsInside, is_place}
+use Rattle.orca_base.specs.Grids.{Size, IsInside, is_place, cells_of}
 use Rattle.orca_base.proofs.PlaceFacts.{index-below, is_place-same, is_place-refl}
 use Rattle.orca_base.proofs.SheetFacts.{length-by_place, number-by_place}
 use Rattle.orca_op.specs.Desk.{is_listed}
 use Rattle.orca_board.specs.Blocks.{image, nth_place, places_in, places_outside}
+use Rattle.orca_board.specs.Sizes.{cut_places, whole}
 
 -- where a place of an area stands
 pub record IsBetween (area : Area) (at : Place) : Type 0 where
@@ -198,3 +200,13 @@ pub image-fits : (d : Size) (to : Place) (size : Size) → IsInside d to
     → ImageFits d (image d to size)
 image-fits d to size start = record
     { bottom = omega (arith, start.row); right = omega (arith, start.column) }
+
+-- a size cuts off at most all places
+pub length-cut_places : (d to : Size) → length (cut_places d to) ≤ cells_of d
+length-cut_places d to =
+    omega (
+      arith,
+      length-filter (λ at. not (is_in_area (whole to) at)) (places_in (whole d)),
+      count_by-le-length (λ at. not (is_in_area (whole to) at)) (places_in (whole d)),
+      length-places_in (whole d),
+    )

@@ -7,6 +7,7 @@ use Rattle.std.proofs.lemmas.Bool.{both_ways, cases_lt, le-ltb, lt-ltb}
 use Rattle.std.proofs.lemmas.Bool.Decides.{eqb_tells}
 use Rattle.std.proofs.lemmas.Nat.Bits.{bit_at-zero}
 use Rattle.std.proofs.lemmas.List.{get_or_default, get_or_past, get_or-set_other, get_or-set_same}
+use Rattle.std.proofs.Math.Bool.{and-false}
 use Rattle.orca_base.specs.declared.change.Change.{Change}
 use Rattle.orca_base.specs.declared.limits.TheConstants.{MAX_EVENTS, MAX_CELLS, MAX_COLUMNS, WORD_COLUMNS}
 use Rattle.orca_base.specs.declared.place.Place.{Place}
@@ -120,10 +121,6 @@ blank-by_place d size =
     none (suc n) zero = refl
     none (suc n) (suc i) = none n i
 
-and_false : (b : Bool) → (b && false) ≡ false
-and_false true = refl
-and_false false = refl
-
 -- no bit stands beyond the words
 no_word : (words : List ℕ) (x : ℕ) → WORD_COLUMNS * length words ≤ x → has_bit words x ≡ false
 no_word words x beyond =
@@ -151,7 +148,7 @@ live-cell s cells bits row x size below is outside live few =
       | inr past ↦
           let column : nat_lt x s.dims.w ≡ false = le-ltb x s.dims.w past in
           let beyond : (nat_lt row s.dims.h && nat_lt x s.dims.w) ≡ false =
-          rw column (and_false (nat_lt row s.dims.h)) in
+          rw column (and-false (nat_lt row s.dims.h)) in
           rw column (ap is_operator (outside (record { y = row; x = x })
           (record { row = omega (arith, below, size.few_rows); column = few }) beyond))
     ]

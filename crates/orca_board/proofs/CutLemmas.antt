@@ -2,6 +2,7 @@
 use Rattle.std.proofs.Common.{◌≡◌, ℕ, Bool, true, false, not, ◌&&◌, List, [], ◌∷◌, refl, arith, ap, sym, ◌∙◌, inl, inr, zero-add}
 use Rattle.std.specs.Prelude.{filter, nat_lt, if◌then◌else◌, Some}
 use Rattle.std.proofs.lemmas.Bool.{both_ways, cases_Bool, le-leb}
+use Rattle.std.proofs.Math.Bool.{and-true}
 use Rattle.orca_base.specs.declared.place.Place.{Place}
 use Rattle.orca_base.specs.Edits.{is_in_area, sheet_after_resize}
 use Rattle.orca_base.specs.Glyphs.{empty}
@@ -16,15 +17,11 @@ use Rattle.orca_board.specs.Sizes.{cut_places, whole}
 use Rattle.orca_board.proofs.BlockLemmas.{after_writes}
 use Rattle.orca_board.proofs.BlockPlaces.{inside-places_outside, is_listed-places_outside}
 
-and_true : (b : Bool) → (b && true) ≡ b
-and_true true = refl
-and_true false = refl
-
 -- the places of a whole grid are those that lie in it
 in-whole : (d : Size) (at : Place) → is_in_area (whole d) at ≡ is_inside d at
 in-whole d at =
     rw (zero-add d.h, zero-add d.w, le-leb 0 at.y (omega arith), le-leb 0 at.x (omega arith))
-    (ap (λ (b : Bool). b && nat_lt at.x d.w) (and_true (nat_lt at.y d.h)))
+    (ap (λ (b : Bool). b && nat_lt at.x d.w) (and-true (nat_lt at.y d.h)))
 
 -- a place of the grid is cut off where it doesn't lie in the other size
 pub listed-cut : (d to : Size) (at : Place) → IsInside d at
@@ -32,7 +29,7 @@ pub listed-cut : (d to : Size) (at : Place) → IsInside d at
 listed-cut d to at inside =
     is_listed-places_outside (whole d) (whole to) at
     ∙ (rw (in-whole to at, in-whole d at, is_inside-inside d at inside)
-    (and_true (not (is_inside to at))))
+    (and-true (not (is_inside to at))))
 
 -- what a place holds once those that are cut off are empty
 abbrev pub left_glyph : Desk → Size → Place → ℕ

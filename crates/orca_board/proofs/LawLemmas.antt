@@ -1,5 +1,5 @@
 -- Places of which none stands twice, and their listing.
-use Rattle.std.proofs.Common.{◌≡◌, ℕ, zero, suc, ◌+◌, ◌-◌, ◌*◌, ◌/◌, ◌%◌, ◌<◌, ◌≤◌, Bool, true, false, not, List, [], ◌∷◌, ◌++◌, length, append_assoc, refl, arith, ap, subst, sym, ◌∙◌, inl, inr, zero-add}
+use Rattle.std.proofs.Common.{◌≡◌, ℕ, zero, suc, ◌+◌, ◌-◌, ◌*◌, ◌/◌, ◌%◌, ◌<◌, ◌≤◌, Bool, true, false, not, List, [], ◌∷◌, ◌++◌, append_assoc, refl, arith, ap, subst, sym, ◌∙◌, inl, inr, zero-add}
 use Rattle.std.specs.Prelude.{All, Some, filter}
 use Rattle.std.specs.List.{AllByRecursion, IsDistinct}
 use Rattle.std.proofs.Math.Numerals.{suc-eq-add-one}
@@ -14,7 +14,7 @@ use Rattle.orca_base.specs.declared.area.Area.{Area}
 use Rattle.orca_base.specs.declared.place.Place.{Place}
 use Rattle.orca_base.specs.Areas.{IsArea, size_of}
 use Rattle.orca_base.specs.Edits.{is_in_area}
-use Rattle.orca_base.specs.Grids.{Size, IsInside, cells_of, is_place}
+use Rattle.orca_base.specs.Grids.{Size, IsInside, is_place}
 use Rattle.orca_base.proofs.PlaceFacts.{is_inside-inside, is_place-same}
 use Rattle.orca_op.specs.Desk.{is_listed, list_with}
 use Rattle.orca_op.proofs.DeskFacts.{IsEquivalence-is_place}
@@ -22,7 +22,7 @@ use Rattle.orca_board.specs.Blocks.{image, list_each, nth_place, places_in, plac
 use Rattle.orca_board.specs.Laws.{AreAllListed}
 use Rattle.orca_board.specs.Sizes.{cut_places, whole}
 use Rattle.orca_board.proofs.BlockLemmas.{first_places, first_places-all}
-use Rattle.orca_board.proofs.BlockPlaces.{image-fits, inside-places_in, inside-places_outside, is_listed-places_in, length-places_in}
+use Rattle.orca_board.proofs.BlockPlaces.{image-fits, inside-places_in, inside-places_outside, is_listed-places_in}
 
 -- ---- places that are listed one after the other
 
@@ -139,14 +139,6 @@ passing keeps (p ∷ places) = elim (cases_Bool (keeps p)) [
   | inr not_kept ↦ rw not_kept (passing keeps places)
 ]
 
-length-kept : (keeps : Place → Bool) (places : List Place)
-    → length (filter keeps places) ≤ length places
-length-kept keeps [] = omega arith
-length-kept keeps (p ∷ places) = elim (cases_Bool (keeps p)) [
-  | inl is ↦ rw is (omega (arith, length-kept keeps places))
-  | inr not_kept ↦ rw not_kept (omega (arith, length-kept keeps places))
-]
-
 -- places, and then others
 all-append : (P : Place → Type 0) (xs ys : List Place) → AllByRecursion P xs → AllByRecursion P ys
     → AllByRecursion P (xs ++ ys)
@@ -223,11 +215,3 @@ cut-all_listed d to =
     (inside-places_outside d (whole d) (whole to) (omega arith) (omega arith))
     (once-filter (λ at. not (is_in_area (whole to) at)) (places_in (whole d))
     (once-places_in (whole d)))
-
-pub length-cut : (d to : Size) → length (cut_places d to) ≤ cells_of d
-length-cut d to =
-    omega (
-      arith,
-      length-kept (λ at. not (is_in_area (whole to) at)) (places_in (whole d)),
-      length-places_in (whole d),
-    )

@@ -3,7 +3,7 @@ pub mod BlockEdits
 pub mod BlockLemmas
 pub mod BlockPlaces
 pub mod DeskLemmas
-mod ResidueLemmas
+pub mod ResidueLemmas
 mod LawLemmas
 mod RunLemmas
 mod RowLemmas

@@ -1,21 +1,18 @@
 -- What is left to clear after an edit.
-use Rattle.std.proofs.Common.{◌≡◌, ℕ, zero, suc, ◌+◌, ◌≤◌, Bool, true, false, not, ◌&&◌, List, [], ◌∷◌, ◌++◌, length, length-append, replicate, refl, arith}
+use Rattle.std.proofs.Common.{◌≡◌, ℕ, ◌+◌, ◌≤◌, Bool, true, false, not, ◌&&◌, List, [], ◌∷◌, ◌++◌, length, length-append, arith}
 use Rattle.std.specs.Prelude.{Some, count_by, if◌then◌else◌}
 use Rattle.orca_base.specs.declared.place.Place.{Place}
 use Rattle.orca_base.specs.Edits.{sheet_after_resize}
 use Rattle.orca_base.specs.Grids.{Size, Sheet, cells_of, is_inside}
-use Rattle.orca_base.specs.MarkSet.{is_marked, no_marks}
-use Rattle.orca_op.specs.Desk.{Desk, desk_of_sheet, is_listed, list_with, residue}
+use Rattle.orca_base.specs.MarkSet.{is_marked}
+use Rattle.orca_op.specs.Desk.{Desk, is_listed, list_with, residue}
 use Rattle.orca_op.specs.State.{State, blank_marks, sheet_of}
+use Rattle.orca_op.proofs.DeskFacts.{count-blank}
 use Rattle.orca_board.specs.Blocks.{desk_after_edit, list_each}
 use Rattle.orca_board.specs.Sizes.{cut_places, desk_after_resize, desk_reverted, is_size, with_sheet}
 
-count-blank : (n : ℕ) → count_by is_marked (replicate n no_marks) ≡ 0
-count-blank zero = refl
-count-blank (suc n) = count-blank n
-
 -- another size marks no place
-count-with_sheet : (s : State) (g : Sheet)
+pub count-with_sheet : (s : State) (g : Sheet)
     → count_by is_marked (with_sheet s g).marks ≤ count_by is_marked s.marks
 count-with_sheet s g = by (is_size g.dims s.dims)
   where
@@ -26,7 +23,7 @@ count-with_sheet s g = by (is_size g.dims s.dims)
     by true = omega arith
     by false = omega (arith, count-blank (cells_of g.dims))
 
-length-list_with : (began : Size) (listed : List Place) (at : Place)
+pub length-list_with : (began : Size) (listed : List Place) (at : Place)
     → length (list_with began listed (Some at)) ≤ length listed + 1
 length-list_with began listed at = by (is_inside began at && not (is_listed listed at))
   where
@@ -35,7 +32,7 @@ length-list_with began listed at = by (is_inside began at && not (is_listed list
     by false = omega arith
 
 -- at most each place is listed
-length-list_each : (began : Size) (listed places : List Place)
+pub length-list_each : (began : Size) (listed places : List Place)
     → length (list_each began listed places) ≤ length listed + length places
 length-list_each began listed [] = omega arith
 length-list_each began listed (p ∷ places) =
@@ -63,11 +60,6 @@ residue-resize d to =
 pub residue-revert : (d : Desk) → residue (desk_reverted d) ≤ residue d
 unfolding residue
 residue-revert d = omega (arith, count-with_sheet d.scan d.began)
-
--- nothing is left to clear as a frame begins
-pub residue-of_sheet : (g : Sheet) → residue (desk_of_sheet g) ≡ 0
-unfolding residue
-residue-of_sheet g = omega (arith, count-blank (cells_of g.dims))
 
 -- ---- the clauses on an edit's steps
 

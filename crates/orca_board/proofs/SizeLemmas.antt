@@ -11,11 +11,11 @@ use Rattle.orca_base.specs.declared.limits.TheConstants.{MAX_CELLS}
 use Rattle.orca_base.specs.declared.event.Event.{Event}
 use Rattle.orca_base.specs.declared.place.Place.{Place}
 use Rattle.orca_base.specs.Edits.{sheet_after_resize}
-use Rattle.orca_base.specs.Glyphs.{IsGlyph, empty}
+use Rattle.orca_base.specs.Glyphs.{empty}
 use Rattle.orca_base.specs.Grids.{Size, IsSize, Sheet, IsSheet, IsInside, by_place, glyph_at as glyph_on, index_of, is_inside, is_place, largest, sheet_by, cells_of}
 use Rattle.orca_base.specs.MarkSet.{MarkSet, no_marks}
 use Rattle.orca_base.proofs.PlaceFacts.{index-apart, index_of-below, inside-is_inside, is_inside-inside, is_place-same}
-use Rattle.orca_base.proofs.SheetFacts.{index-by_place, IsGlyph-glyph_at, IsSheet-sheet_by, glyph_at-sheet_by, same-by_place, sheet-same}
+use Rattle.orca_base.proofs.SheetFacts.{index-by_place, glyph_at-sheet_by, same-by_place, sheet-same, IsSheet-resize}
 use Rattle.orca_op.specs.Desk.{Desk, IsDesk, is_listed}
 use Rattle.orca_op.specs.State.{State, blank_marks, glyph_at, sheet_of}
 use Rattle.orca_board.specs.Board.{IsEmptyOutside, KeepsBoard, glyph_in, marks_in}
@@ -29,18 +29,6 @@ pub resize-same : (g : Sheet) → IsSheet g → sheet_after_resize g g.dims ≡ 
 resize-same g sheet =
     sym (sheet-same g (λ at. if is_inside g.dims at then glyph_on g at else empty) sheet.size
     sheet.whole (λ at inside. rw (is_inside-inside g.dims at inside) refl))
-
--- a grid of another size is a grid
-pub IsSheet-resize : (g : Sheet) (d : Size) → IsSheet g → IsSize d
-    → IsSheet (sheet_after_resize g d)
-IsSheet-resize g d sheet size =
-    IsSheet-sheet_by d (λ at. if is_inside g.dims at then glyph_on g at else empty) size
-    (λ at inside. each at (is_inside g.dims at) (inside-is_inside g.dims at))
-  where
-    each : (at : Place) (b : Bool) → (b ≡ true → IsInside g.dims at)
-        → IsGlyph (if b then glyph_on g at else empty)
-    each at true in_grid = IsGlyph-glyph_at g at sheet (in_grid refl)
-    each at false in_grid = (omega arith, omega arith)
 
 -- cells of the largest grid that are empty outside a grid are those of the grid in another size
 pub cells-resize : (d to : Size) (cells : List ℕ) → IsSize d → IsSize to → IsEmptyOutside d cells

@@ -1,11 +1,12 @@
 -- Marks of the places of a span, and the glyphs beside a place.
 use Rattle.std.proofs.Common.{◌≡◌, ℕ, zero, suc, ◌+◌, ◌*◌, ◌<◌, ◌≤◌, ◌==◌, ◌&&◌, Bool, true, false, List, ◌∷◌, [], length, get_or, add-zero, arith, ap, sym, ◌∙◌, refl, subst, inl, inr}
-use Rattle.std.specs.Prelude.{◌≢◌, pos, negsuc, ◌+ℤ◌, ◌-◌, slice_index_or, Some, None, if◌then◌else◌, min, nat_lt, nat_le, ◌||◌, slice_index}
+use Rattle.std.specs.Prelude.{pos, negsuc, ◌+ℤ◌, ◌-◌, slice_index_or, Some, None, if◌then◌else◌, min, nat_lt, nat_le, ◌||◌, slice_index}
 use Rattle.std.proofs.Math.IntN.{+ℤ-neg_ℤ_cancel}
 use Rattle.std.proofs.Math.ListN.{set}
 use Rattle.std.proofs.lemmas.Bool.{both_ways, cases_lt, le-ltb, lt-ltb}
 use Rattle.std.proofs.lemmas.List.{get_or_default}
 use Rattle.std.proofs.lemmas.Bool.Decides.{nat_tests}
+use Rattle.std.proofs.Math.Bool.{and-false, and-true}
 use Rattle.orca_base.specs.declared.change.Change.{Change}
 use Rattle.orca_base.specs.declared.limits.TheConstants.{MAX_CELLS, MAX_COLUMNS, MAX_ROWS}
 use Rattle.orca_base.specs.declared.place.Place.{Place}
@@ -200,15 +201,11 @@ peek_beyond s spot y x size row column outside =
     let none : place_in largest spot ≡ None = rw (row, column, outside) refl in
     peek-none s spot size (sym none)
 
-and_false : (b : Bool) → (b && false) ≡ false
-and_false true = refl
-and_false false = refl
-
 pub outside_below : (x : ℕ) → is_inside largest (record { y = MAX_ROWS; x = x }) ≡ false
 outside_below x = refl
 
 pub outside_right : (y : ℕ) → is_inside largest (record { y = y; x = MAX_COLUMNS }) ≡ false
-outside_right y = and_false (nat_lt y MAX_ROWS)
+outside_right y = and-false (nat_lt y MAX_ROWS)
 
 -- above the first row, and at the left of the first column
 pub peek_above : (s : State) (at : Place) → IsSize s.dims → at.y ≡ 0 → empty ≡ peek s (above at)
@@ -237,20 +234,6 @@ holds_it glyph byte same = grind (arith, nat_tests)
 
 pub holds_other : (glyph byte : ℕ) → (glyph ≡ byte → ⊥) → (glyph == byte) ≡ false
 holds_other glyph byte other = grind (arith, nat_tests)
-
--- beyond the edge there is no glyph but `.`
-pub none_beyond : (s : State) (at : Place) (k byte : ℕ) → s.dims.w ≤ at.x + k → byte ≢ empty
-    → (peek s (right at k) == byte) ≡ false
-unfolding peek
-none_beyond s at k byte beyond visible =
-    let none : place_in s.dims (right at k) ≡ None =
-    rw (le-ltb (at.x + k) s.dims.w beyond)
-    (none_if (nat_lt (at.y + 0) s.dims.h) (record { y = at.y + 0; x = at.x + k })) in
-    rw none (holds_other empty byte (λ same. visible (sym same)))
-  where
-    none_if : (row : Bool) (place : Place) → (if row && false then Some place else None) ≡ None
-    none_if true place = refl
-    none_if false place = refl
 
 -- a cell of the row
 pub peek_right : (s : State) (cells : List ℕ) (at : Place) (k first i read : ℕ) → IsSize s.dims
@@ -286,10 +269,6 @@ cell_right s cells at k first size is outside whole inside wide number =
 
 -- ---- a bang beside a place
 
-and_true : (b : Bool) → (b && true) ≡ b
-and_true true = refl
-and_true false = refl
-
 -- a bang at the left, and at the right, where the row goes on
 bang_left : (s : State) (cells : List ℕ) (at : Place) (i : ℕ) → IsSize s.dims
     → s.cells ≡ by_place s.dims (glyph_in cells) → IsEmptyOutside s.dims cells
@@ -300,10 +279,10 @@ bang_left s cells at i size is outside whole high wide number = elim (cases_lt 0
   | inl some ↦
       let shown = cell_shown s cells (left at 1) at.y (at.x - 1) (i - 1) size is outside whole
       (still at.y) (one_less at.x some) high (omega (arith, wide)) (omega (arith, number, some)) in
-      rw (lt-ltb 0 at.x some, shown) (and_true (peek s (left at 1) == bang))
+      rw (lt-ltb 0 at.x some, shown) (and-true (peek s (left at 1) == bang))
   | inr none ↦
       rw (le-ltb 0 at.x none, ← peek_left s at size (omega (arith, none)))
-      (and_false (slice_index cells (i - 1) == bang))
+      (and-false (slice_index cells (i - 1) == bang))
 ]
 
 bang_right : (s : State) (cells : List ℕ) (at : Place) (i : ℕ) → IsSize s.dims
@@ -317,13 +296,13 @@ bang_right s cells at i size is outside whole high wide number =
       | inl some ↦
           let shown = cell_shown s cells (right at 1) at.y (at.x + 1) (i + 1) size is outside whole
           (still at.y) refl high (omega (arith, some)) (omega (arith, number)) in
-          rw (lt-ltb at.x (MAX_COLUMNS - 1) some, shown) (and_true (peek s (right at 1) == bang))
+          rw (lt-ltb at.x (MAX_COLUMNS - 1) some, shown) (and-true (peek s (right at 1) == bang))
       | inr none ↦
           let last : at.x + 1 ≡ MAX_COLUMNS = omega (arith, none, wide) in
           let beyond = peek_beyond s (right at 1) at.y MAX_COLUMNS size (still at.y)
           (ap (λ (n : ℕ). pos n) last) (outside_right at.y) in
           rw (le-ltb at.x (MAX_COLUMNS - 1) none, ← beyond)
-          (and_false (slice_index cells (i + 1) == bang))
+          (and-false (slice_index cells (i + 1) == bang))
     ]
 
 -- the four cells beside one in neither the first nor the last row

@@ -65,6 +65,10 @@ pub AreDeaf-append : (xs ys : List Act) → AreDeaf xs → AreDeaf ys → AreDea
 AreDeaf-append [] ys first second = second
 AreDeaf-append (x ∷ xs) ys first second = grind (arith, AreDeaf-append xs ys)
 
+pub AreDeaf-gives : (sends : List Sent) → AreDeaf (gives sends)
+AreDeaf-gives [] = tt
+AreDeaf-gives (sent ∷ sends) = AreDeaf-gives sends
+
 pub polls-deaf : (acts : List Act) → AreDeaf acts → polls_in acts ≡ []
 polls-deaf [] deaf = refl
 polls-deaf (x ∷ acts) deaf = grind (arith, polls-deaf acts)

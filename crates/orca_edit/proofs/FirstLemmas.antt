@@ -1,8 +1,8 @@
 -- The first patch that is kept, and how many cells the entries from it on touched.
-use Rattle.std.proofs.Common.{◌≡◌, ℕ, zero, suc, ◌+◌, ◌-◌, ◌<◌, ◌≤◌, ◌⊎◌, Bool, true, false, List, [], ◌∷◌, ◌++◌, length, take, drop, max, min, refl, arith, ap, sym, ◌∙◌, inl, inr, length-append}
+use Rattle.std.proofs.Common.{◌≡◌, ℕ, zero, suc, ◌+◌, ◌-◌, ◌<◌, ◌≤◌, Bool, true, false, List, [], ◌∷◌, ◌++◌, length, take, drop, max, min, refl, arith, ap, sym, ◌∙◌, inl, inr, length-append}
 use Rattle.std.specs.Prelude.{◌&&◌, Option, Some, map, nat_le, slice_get, unwrap_or}
 use Rattle.std.specs.List.{range_with_len, sum}
-use Rattle.std.proofs.lemmas.Bool.{and_from, and_parts, cases_lt, le-leb, leb-true}
+use Rattle.std.proofs.lemmas.Bool.{and_parts, cases_lt, le-leb, leb-true}
 use Rattle.std.proofs.lemmas.List.{length-take, length-take-le, take-append-le, take_all}
 use Rattle.std.proofs.lemmas.List.FromFn.{length-map-range_with_len, map-range_with_len_more, take-map-range_with_len}
 use Rattle.std.proofs.lemmas.List.Sums.{sum-map, sum_by-take-le, sum_by_push}
@@ -11,6 +11,7 @@ use Rattle.orca_base.specs.declared.command.Entry.{Entry}
 use Rattle.orca_base.specs.declared.command.Entry.TheVariants.{Hush}
 use Rattle.orca_base.specs.declared.limits.TheConstants.{KEPT_PATCHES, KEPT_TOUCHED}
 use Rattle.orca_base.specs.Histories.{few_touched, worn_of}
+use Rattle.orca_base.proofs.WornFacts.{few-both, few-length, few-sum, few-worn, many-worn, worn-cases, worn-none}
 use Rattle.orca_op.specs.First.{NonePasses}
 use Rattle.orca_op.proofs.FirstFacts.{first_where-found, first_where-missing}
 use Rattle.orca_edit.specs.Obeying.{MachineState, piece_of}
@@ -20,18 +21,6 @@ use Rattle.orca_edit.specs.Pricing.{AgreeUpTo, touched_from}
 use Rattle.orca_edit.proofs.PriceLemmas.{of_entry-agree, of_entry-at, piece_at-agree, piece_at-end, touched-same}
 
 -- ---- few cells
-
-few-length : (xs : List ℕ) → few_touched xs ≡ true → length xs ≤ KEPT_PATCHES
-few-length xs few =
-    leb-true _ _ (and_parts (nat_le (length xs) KEPT_PATCHES) (nat_le (sum xs) KEPT_TOUCHED) few).0
-
-few-sum : (xs : List ℕ) → few_touched xs ≡ true → sum xs ≤ KEPT_TOUCHED
-few-sum xs few =
-    leb-true _ _ (and_parts (nat_le (length xs) KEPT_PATCHES) (nat_le (sum xs) KEPT_TOUCHED) few).1
-
-few-both : (xs : List ℕ) → length xs ≤ KEPT_PATCHES → sum xs ≤ KEPT_TOUCHED
-    → few_touched xs ≡ true
-few-both xs long most = and_from _ _ (le-leb _ _ long) (le-leb _ _ most)
 
 -- of few cells the first ones, with an entry that touched none
 few-jumped : (count : ℕ) (xs : List ℕ) → few_touched xs ≡ true → count < KEPT_PATCHES
@@ -48,44 +37,11 @@ few-jumped count xs few below =
 
 -- ---- worn ones
 
-worn-cases : (n : ℕ) (ns : List ℕ)
-    → ((few_touched (n ∷ ns) ≡ true) × (worn_of (n ∷ ns) ≡ 0))
-    ⊎ ((few_touched (n ∷ ns) ≡ false) × (worn_of (n ∷ ns) ≡ suc (worn_of ns)))
-worn-cases n ns = by (few_touched (n ∷ ns)) refl
-  where
-    by : (b : Bool) → few_touched (n ∷ ns) ≡ b
-        → ((few_touched (n ∷ ns) ≡ true) × (worn_of (n ∷ ns) ≡ 0))
-        ⊎ ((few_touched (n ∷ ns) ≡ false) × (worn_of (n ∷ ns) ≡ suc (worn_of ns)))
-    by true is = inl (is, rw is refl)
-    by false is = inr (is, rw is (omega arith))
-
-worn-none : (xs : List ℕ) → few_touched xs ≡ true → worn_of xs ≡ 0
-worn-none [] few = refl
-worn-none (n ∷ ns) few = rw few refl
-
 worn-length : (xs : List ℕ) → worn_of xs ≤ length xs
 worn-length [] = omega arith
 worn-length (n ∷ ns) = elim (worn-cases n ns) [
   | inl none ↦ omega (arith, none.1)
   | inr some ↦ omega (arith, some.1, worn-length ns)
-]
-
-few-worn : (xs : List ℕ) → few_touched (drop (worn_of xs) xs) ≡ true
-few-worn [] = refl
-few-worn (n ∷ ns) = elim (worn-cases n ns) [
-  | inl none ↦ ap (λ (k : ℕ). few_touched (drop k (n ∷ ns))) none.1 ∙ none.0
-  | inr some ↦ ap (λ (k : ℕ). few_touched (drop k (n ∷ ns))) some.1 ∙ few-worn ns
-]
-
-many-worn : (xs : List ℕ) (k : ℕ) → k < worn_of xs → few_touched (drop k xs) ≡ false
-many-worn [] k below = absurd (omega arith)
-many-worn (n ∷ ns) zero below = elim (worn-cases n ns) [
-  | inl none ↦ absurd (omega (arith, none.1, below))
-  | inr some ↦ some.0
-]
-many-worn (n ∷ ns) (suc k) below = elim (worn-cases n ns) [
-  | inl none ↦ absurd (omega (arith, none.1, below))
-  | inr some ↦ many-worn ns k (omega (arith, some.1, below))
 ]
 
 -- ---- the cells from an entry on

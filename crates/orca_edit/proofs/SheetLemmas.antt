@@ -1,6 +1,6 @@
 -- A grid stays one through entries that fit and write glyphs.
-use Rattle.std.proofs.Common.{◌≡◌, ℕ, zero, suc, ◌+◌, ◌-◌, ◌<◌, ◌≤◌, Bool, true, false, List, [], ◌∷◌, length, refl, arith, ap, sym, ◌∙◌, subst, lit≤}
-use Rattle.std.specs.Prelude.{All, count_by, if◌then◌else◌}
+use Rattle.std.proofs.Common.{◌≡◌, ℕ, ◌+◌, ◌-◌, ◌<◌, ◌≤◌, Bool, true, false, List, [], ◌∷◌, refl, arith, ap, sym, subst, lit≤}
+use Rattle.std.specs.Prelude.{All, if◌then◌else◌}
 use Rattle.std.specs.List.{AllByRecursion}
 use Rattle.std.proofs.lemmas.Bool.{and_parts, leb-true, ltb-true}
 use Rattle.std.proofs.lemmas.List.Elements.{recursion_from_All}
@@ -10,17 +10,16 @@ use Rattle.orca_base.specs.declared.command.Entry.TheVariants.{Fill, Put, Move, 
 use Rattle.orca_base.specs.declared.now.Now.{Now}
 use Rattle.orca_base.specs.declared.place.Place.{Place}
 use Rattle.orca_base.specs.Areas.{IsArea, corner_of, size_of}
-use Rattle.orca_base.specs.Edits.{is_in_area, is_within, moved, origin, sheet_after_fill, sheet_after_move, sheet_after_put, sheet_after_resize}
+use Rattle.orca_base.specs.Edits.{is_in_area, is_within, moved, origin, sheet_after_fill, sheet_after_move, sheet_after_put}
 use Rattle.orca_base.specs.Glyphs.{IsGlyph, empty}
-use Rattle.orca_base.specs.Grids.{Size, Sheet, IsSheet, IsSize, IsInside, cells_of, glyph_at, index_of, is_inside, place_of}
-use Rattle.orca_base.proofs.PlaceFacts.{index_of-below, inside-is_inside, inside-place_of}
-use Rattle.orca_base.proofs.SheetFacts.{IsGlyph-glyph_at, IsGlyph-index, IsSheet-sheet_by}
-use Rattle.orca_op.specs.Deeds.{Deed}
-use Rattle.orca_op.specs.Laws.{Every, IsLawful, WritesGlyph, is_emit}
+use Rattle.orca_base.specs.Grids.{Size, Sheet, IsSheet, IsInside, glyph_at, index_of}
+use Rattle.orca_base.proofs.PlaceFacts.{index_of-below}
+use Rattle.orca_base.proofs.SheetFacts.{IsGlyph-glyph_at, IsGlyph-index, IsSheet-sheet_by, IsSheet-resize}
+use Rattle.orca_op.specs.Laws.{IsLawful}
 use Rattle.orca_op.specs.Rules.{rule}
-use Rattle.orca_op.specs.Scan.{is_idle, places, scan, state_after_places, visit_deeds}
-use Rattle.orca_op.specs.State.{State, IsState, glyph_at as glyph_of, sheet_of}
-use Rattle.orca_op.proofs.StateFacts.{IsState-after_all, IsState-fresh, dims_after_all, events_after_all}
+use Rattle.orca_op.specs.Scan.{places, scan}
+use Rattle.orca_op.specs.State.{sheet_of}
+use Rattle.orca_op.proofs.VisitFacts.{visited}
 use Rattle.orca_edit.specs.Editing.{AllFit, FitsIn, IsBlock, WritesGlyphs}
 use Rattle.orca_edit.specs.Pieces.{Piece, apply, fold_entries, next_frame, opened_piece, piece_after}
 use Rattle.orca_edit.proofs.FoldLemmas.{silence-piece_after}
@@ -100,74 +99,7 @@ IsSheet-move g area to sheet fits =
     (IsGlyph-if (is_in_area area at) empty (glyph_at g at) (λ _. IsGlyph-empty)
     (IsGlyph-glyph_at g at sheet inside)))
 
-IsSheet-resize : (g : Sheet) (d : Size) → IsSheet g → IsSize d → IsSheet (sheet_after_resize g d)
-IsSheet-resize g d sheet size =
-    IsSheet-sheet_by d (λ at. if is_inside g.dims at then glyph_at g at else empty) size
-    (λ at inside. IsGlyph-if (is_inside g.dims at) (glyph_at g at) empty
-    (λ common. IsGlyph-glyph_at g at sheet (inside-is_inside g.dims at common)) IsGlyph-empty)
-
 -- ---- a frame
-
--- a visit writes glyphs alone, and sends one event at most
-writes_if : (idle : Bool) (deeds : List Deed) → Every WritesGlyph deeds
-    → Every WritesGlyph (if idle then [] else deeds)
-writes_if true deeds all = tt
-writes_if false deeds all = all
-
-sends_if : (idle : Bool) (deeds : List Deed) → count_by is_emit deeds ≤ 1
-    → count_by is_emit (if idle then [] else deeds) ≤ 1
-sends_if true deeds one = omega arith
-sends_if false deeds one = one
-
-writes_glyphs : (s : State) (at : Place) (now : Now) → IsLawful rule → IsState s
-    → IsInside s.dims at → Every WritesGlyph (visit_deeds rule s at now)
-unfolding visit_deeds
-writes_glyphs s at now lawful state inside =
-    writes_if (is_idle s at) (rule (glyph_of s at) s at now)
-    (lawful.glyphs (glyph_of s at) s at now state
-    (IsGlyph-glyph_at (sheet_of s) at state.sheet inside))
-
-sends_one : (s : State) (at : Place) (now : Now) → IsLawful rule
-    → count_by is_emit (visit_deeds rule s at now) ≤ 1
-unfolding visit_deeds
-sends_one s at now lawful =
-    sends_if (is_idle s at) (rule (glyph_of s at) s at now)
-    (lawful.one_event (glyph_of s at) s at now)
-
-pub dims_after_places : (n : ℕ) (g : Sheet) (now : Now)
-    → (state_after_places rule n g now).dims ≡ g.dims
-dims_after_places zero g now = refl
-dims_after_places (suc n) g now =
-    dims_after_all (state_after_places rule n g now)
-    (visit_deeds rule (state_after_places rule n g now) (place_of g.dims n) now)
-    ∙ dims_after_places n g now
-
--- the state in the middle of a frame, with at most one event for each place that was visited
-record IsVisited (s : State) (n : ℕ) : Type 0 where
-  state : IsState s
-  few : length s.events ≤ n
-
-visited : (n : ℕ) (g : Sheet) (now : Now) → IsLawful rule → IsSheet g → n ≤ places g
-    → IsVisited (state_after_places rule n g now) n
-visited zero g now lawful sheet reached =
-    record { state = IsState-fresh g sheet; few = omega arith }
-visited (suc n) g now lawful sheet reached =
-    let s = state_after_places rule n g now in
-    let at = place_of g.dims n in
-    let deeds = visit_deeds rule s at now in
-    let before : IsVisited s n = visited n g now lawful sheet (omega arith) in
-    let same : s.dims ≡ g.dims = dims_after_places n g now in
-    let as_many : cells_of s.dims ≡ cells_of g.dims = ap cells_of same in
-    let inside : IsInside s.dims at =
-    subst (λ (d : Size). IsInside d at) (sym same)
-    (inside-place_of g.dims n sheet.size (omega arith)) in
-    let one = sends_one s at now lawful in
-    record {
-      state = IsState-after_all s deeds before.state
-          (writes_glyphs s at now lawful before.state inside)
-          (omega (arith, before.few, one, as_many, reached));
-      few = omega (arith, events_after_all s deeds, before.few, one);
-    }
 
 pub IsSheet-scan : (g : Sheet) (now : Now) → IsLawful rule → IsSheet g
     → IsSheet (sheet_of (scan g now))

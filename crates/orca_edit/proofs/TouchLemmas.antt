@@ -25,11 +25,12 @@ use Rattle.orca_op.specs.Deeds.{Deed, Mark, Write, Set, Emit}
 use Rattle.orca_op.specs.Desk.{is_listed, list_after, list_after_all, list_with}
 use Rattle.orca_op.specs.Scan.{places, scan, scan_deeds, written_places}
 use Rattle.orca_op.proofs.DeskFacts.{All-list_with, IsDistinct-list_with, IsEquivalence-is_place}
+use Rattle.orca_op.proofs.VisitFacts.{dims_after_places}
+use Rattle.orca_op.specs.Rules.{rule}
 use Rattle.orca_edit.specs.Editing.{FitsIn, IsGridEdit, steps_of}
 use Rattle.orca_edit.specs.Pieces.{Piece, apply, next_frame}
 use Rattle.orca_edit.specs.Prices.{price, touched}
 use Rattle.orca_edit.specs.Pricing.{KeepsSize, ListsPlaces, listed_by}
-use Rattle.orca_edit.proofs.SheetLemmas.{dims_after_places}
 
 -- ---- places of which none stands twice
 
@@ -207,7 +208,7 @@ touches_both cut p (Resize dims) =
     omega (arith, (cut p.sheet.dims dims).1, (cut dims p.sheet.dims).1)
 touches_both cut p Reset = same-size p Reset tt refl
 touches_both cut p Frame =
-    same-size p Frame tt (dims_after_places (places p.sheet) p.sheet (next_frame p))
+    same-size p Frame tt (dims_after_places rule (places p.sheet) p.sheet (next_frame p))
 touches_both cut p Hush = same-size p Hush tt refl
 
 -- ---- the most

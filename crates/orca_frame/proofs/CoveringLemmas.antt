@@ -19,9 +19,10 @@ use Rattle.orca_op.specs.Laws.{IsLawful, Every, AnyDeed, Covers, IsCovered}
 use Rattle.orca_base.proofs.PlaceFacts.{place_in-here, inside-place_of}
 use Rattle.orca_op.proofs.StateFacts.{length-marks_after}
 use Rattle.orca_op.specs.Scan.{Rules, visit_deeds, is_idle, state_after_places, places}
+use Rattle.orca_op.proofs.VisitFacts.{dims_after_places}
 use Rattle.orca_frame.specs.Covering.{IsCovering}
-use Rattle.orca_frame.proofs.DeskLemmas.{dims_after_places}
 use Rattle.orca_frame.proofs.MarkLemmas.{marks_of, or_left, or_right, marks_of-after_all}
+use Rattle.orca_frame.proofs.WrittenLemmas.{later}
 
 -- the place of a spot has this number
 abbrev IsAt : Size → ℕ → Option Place → Type 0
@@ -56,10 +57,6 @@ written_other s (Some at) glyph j =
       | inr other ↦ inl (get_or-set_other s.cells (index_of s.dims at) j glyph 0 other.1)
     ]
 
-one_more : (A B C : Type 0) → A ⊎ C → A ⊎ (B ⊎ C)
-one_more A B C (inl first) = inl first
-one_more A B C (inr last) = inr (inr last)
-
 either_write : (A B C : Type 0) (x y z : ℕ) → (y ≡ x) ⊎ B → (z ≡ y) ⊎ C → (z ≡ x) ⊎ (B ⊎ C)
 either_write A B C x y z (inl same) (inl later) = inl (later ∙ same)
 either_write A B C x y z (inl same) (inr writes) = inr (inr writes)
@@ -72,14 +69,14 @@ kept_or_written : (s : State) (deeds : List Deed) (j : ℕ)
 unfolding after
 kept_or_written s [] j = inl refl
 kept_or_written s (mark_deed at m ∷ deeds) j =
-    one_more _ ⊥ _ (kept_or_written (after s (mark_deed at m)) deeds j)
+    later _ ⊥ _ (kept_or_written (after s (mark_deed at m)) deeds j)
 kept_or_written s (Write at glyph ∷ deeds) j =
     either_write ⊥ _ _ _ _ _ (written_other s (place_in s.dims at) glyph j)
     (kept_or_written (after s (Write at glyph)) deeds j)
 kept_or_written s (Set variable glyph ∷ deeds) j =
-    one_more _ ⊥ _ (kept_or_written (after s (Set variable glyph)) deeds j)
+    later _ ⊥ _ (kept_or_written (after s (Set variable glyph)) deeds j)
 kept_or_written s (Emit event ∷ deeds) j =
-    one_more _ ⊥ _ (kept_or_written (after s (Emit event)) deeds j)
+    later _ ⊥ _ (kept_or_written (after s (Emit event)) deeds j)
 
 -- a deed that covers a spot covers its place
 covers_place : (d : Size) (j : ℕ) (spot : Spot) (deeds : List Deed) → IsAt d j (place_in d spot)

@@ -1,5 +1,5 @@
 -- The desk of a frame, one visit after another.
-use Rattle.std.proofs.Common.{◌≡◌, ℕ, zero, suc, List, [], ◌∷◌, ◌++◌, refl, ap, sym, ◌∙◌}
+use Rattle.std.proofs.Common.{◌≡◌, ℕ, suc, List, [], ◌∷◌, ◌++◌, refl, ap, sym, ◌∙◌}
 use Rattle.orca_base.specs.declared.now.Now.{Now}
 use Rattle.orca_base.specs.declared.place.Place.{Place}
 use Rattle.orca_base.specs.Grids.{Size, Sheet, place_of}
@@ -8,18 +8,10 @@ use Rattle.orca_op.specs.Deeds.{Deed}
 use Rattle.orca_op.specs.Desk.{Desk, desk_after, desk_after_all, list_after, list_after_all}
 use Rattle.orca_op.proofs.LawFacts.{scan-desk_after_all}
 use Rattle.orca_op.specs.Rules.{rule}
-use Rattle.orca_op.specs.Scan.{Rules, visit_deeds, state_after_places, scan_deeds}
-use Rattle.orca_op.proofs.StateFacts.{dims_after, dims_after_all}
+use Rattle.orca_op.specs.Scan.{visit_deeds, state_after_places, scan_deeds}
+use Rattle.orca_op.proofs.StateFacts.{dims_after}
+use Rattle.orca_op.proofs.VisitFacts.{dims_after_places}
 use Rattle.orca_frame.specs.Frames.{desk_after_places}
-
--- no visit changes the size
-pub dims_after_places : (rules : Rules) (n : ℕ) (g : Sheet) (now : Now)
-    → (state_after_places rules n g now).dims ≡ g.dims
-dims_after_places rules zero g now = refl
-dims_after_places rules (suc n) g now =
-    dims_after_all (state_after_places rules n g now)
-    (visit_deeds rules (state_after_places rules n g now) (place_of g.dims n) now)
-    ∙ dims_after_places rules n g now
 
 listed-desk_after_all : (d : Desk) (deeds : List Deed)
     → (desk_after_all d deeds).listed ≡ list_after_all d.began.dims d.scan.dims d.listed deeds

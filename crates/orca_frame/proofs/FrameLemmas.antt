@@ -11,9 +11,10 @@ use Rattle.orca_op.specs.Laws.{IsLawful}
 use Rattle.orca_op.specs.State.{sheet_of, glyph_at}
 use Rattle.orca_op.specs.Rules.{rule}
 use Rattle.orca_op.specs.Scan.{visit_deeds, state_after_places, scan, written_places, busy, busy_of, places}
+use Rattle.orca_op.proofs.VisitFacts.{dims_after_places}
 use Rattle.orca_frame.specs.Frames.{IsFramed, desk_after_places, looks, most_plain_steps}
 use Rattle.orca_frame.specs.Written.{IsWritten}
-use Rattle.orca_frame.proofs.DeskLemmas.{dims_after_places, desk_suc}
+use Rattle.orca_frame.proofs.DeskLemmas.{desk_suc}
 use Rattle.orca_frame.proofs.RangeLemmas.{IsPlayed, played}
 use Rattle.orca_frame.proofs.ResidueLemmas.{residue_desk}
 use Rattle.orca_frame.proofs.WrittenLemmas.{written_places-exactly, scan-deeds}

@@ -1,56 +1,21 @@
 -- What holds of every desk holds throughout a frame, and every event of a frame is in range.
-use Rattle.std.proofs.Common.{◌≡◌, ℕ, zero, suc, ◌≤◌, List, [], length, arith, ap, sym, subst, Bool, true, false}
-use Rattle.std.specs.Prelude.{All, count_by, if◌then◌else◌}
+use Rattle.std.proofs.Common.{◌≡◌, ℕ, zero, suc, ◌≤◌, length, arith, ap, sym, subst}
+use Rattle.std.specs.Prelude.{All}
 use Rattle.std.proofs.lemmas.List.Elements.{All-nil}
 use Rattle.orca_base.specs.declared.now.Now.{Now}
-use Rattle.orca_base.specs.declared.place.Place.{Place}
 use Rattle.orca_base.specs.EventRanges.{IsInRange}
 use Rattle.orca_base.specs.Grids.{Size, Sheet, IsSheet, IsInside, cells_of, place_of}
 use Rattle.orca_base.proofs.PlaceFacts.{inside-place_of}
-use Rattle.orca_base.proofs.SheetFacts.{IsGlyph-glyph_at}
-use Rattle.orca_op.specs.State.{State, IsState, sheet_of, glyph_at}
-use Rattle.orca_op.specs.Deeds.{Deed}
 use Rattle.orca_op.specs.Desk.{Desk, IsDesk, desk_after_all}
-use Rattle.orca_op.specs.Laws.{IsLawful, Every, WritesGlyph, EmitsInRange, is_emit}
+use Rattle.orca_op.specs.Laws.{IsLawful}
 use Rattle.orca_op.proofs.LawFacts.{in_range-after_all}
 use Rattle.orca_op.specs.Rules.{rule}
-use Rattle.orca_op.specs.Scan.{visit_deeds, is_idle, state_after_places, places}
+use Rattle.orca_op.specs.Scan.{visit_deeds, state_after_places, places}
 use Rattle.orca_op.proofs.DeskFacts.{IsDesk-after_all, IsDesk-of_sheet}
 use Rattle.orca_op.proofs.StateFacts.{events_after_all}
+use Rattle.orca_op.proofs.VisitFacts.{sends_in_range, sends_one, writes_glyphs, dims_after_places}
 use Rattle.orca_frame.specs.Frames.{desk_after_places}
-use Rattle.orca_frame.proofs.DeskLemmas.{dims_after_places, desk_suc}
-
-every_if : (P : Deed → Type 0) (idle : Bool) (deeds : List Deed) → Every P deeds
-    → Every P (if idle then [] else deeds)
-every_if P true deeds all = tt
-every_if P false deeds all = all
-
-few_if : (idle : Bool) (deeds : List Deed) → count_by is_emit deeds ≤ 1
-    → count_by is_emit (if idle then [] else deeds) ≤ 1
-few_if true deeds one = omega arith
-few_if false deeds one = one
-
--- a visit writes glyphs, sends events in range, and one at most
-writes_glyphs : (s : State) (at : Place) (now : Now) → IsLawful rule → IsState s
-    → IsInside s.dims at → Every WritesGlyph (visit_deeds rule s at now)
-unfolding visit_deeds
-writes_glyphs s at now lawful state inside =
-    every_if WritesGlyph (is_idle s at) (rule (glyph_at s at) s at now)
-    (lawful.glyphs (glyph_at s at) s at now state
-    (IsGlyph-glyph_at (sheet_of s) at state.sheet inside))
-
-sends_in_range : (s : State) (at : Place) (now : Now) → IsLawful rule → IsState s
-    → Every EmitsInRange (visit_deeds rule s at now)
-unfolding visit_deeds
-sends_in_range s at now lawful state =
-    every_if EmitsInRange (is_idle s at) (rule (glyph_at s at) s at now)
-    (lawful.events (glyph_at s at) s at now state)
-
-sends_one : (s : State) (at : Place) (now : Now) → IsLawful rule
-    → count_by is_emit (visit_deeds rule s at now) ≤ 1
-unfolding visit_deeds
-sends_one s at now lawful = few_if (is_idle s at) (rule (glyph_at s at) s at now)
-    (lawful.one_event (glyph_at s at) s at now)
+use Rattle.orca_frame.proofs.DeskLemmas.{desk_suc}
 
 -- a desk in the middle of a frame: at most one event for each place that was visited, each in range
 pub record IsPlayed (d : Desk) (n : ℕ) : Type 0 where

@@ -1,5 +1,5 @@
 -- What a frame leaves to be cleared.
-use Rattle.std.proofs.Common.{◌≡◌, ℕ, zero, suc, ◌+◌, ◌*◌, ◌≤◌, List, [], ◌∷◌, ◌++◌, length, refl, arith, length-append, Bool, true, false, not, ◌&&◌, ◌||◌, replicate, subst}
+use Rattle.std.proofs.Common.{◌≡◌, ℕ, zero, suc, ◌+◌, ◌*◌, ◌≤◌, List, [], ◌∷◌, ◌++◌, length, arith, length-append, Bool, true, false, not, ◌&&◌, ◌||◌, subst}
 use Rattle.std.specs.Prelude.{count_by, Option, Some, None, if◌then◌else◌}
 use Rattle.std.proofs.lemmas.List.Sums.{sum_by-append}
 use Rattle.std.proofs.Math.ListN.{set}
@@ -8,13 +8,14 @@ use Rattle.orca_base.specs.declared.now.Now.{Now}
 use Rattle.orca_base.specs.declared.place.Place.{Place}
 use Rattle.orca_base.specs.Glyphs.{is_operator, needs_bang}
 use Rattle.orca_base.specs.Grids.{Size, Sheet, place_of, place_in, index_of, is_inside}
-use Rattle.orca_base.specs.MarkSet.{MarkSet, is_marked, no_marks, all_marks}
+use Rattle.orca_base.specs.MarkSet.{MarkSet, is_marked, all_marks}
 use Rattle.orca_op.specs.State.{State, glyph_at, marks_at, has_bang}
 use Rattle.orca_op.specs.Deeds.{Deed, Mark, Write, Set, Emit, after, marks_after}
 use Rattle.orca_op.specs.Desk.{Desk, desk_after, desk_after_all, list_after, list_with, residue, is_listed}
 use Rattle.orca_op.specs.Laws.{IsLawful}
 use Rattle.orca_op.specs.Rules.{rule}
 use Rattle.orca_op.specs.Scan.{Rules, visit_deeds, is_idle, state_after_places, busy_of}
+use Rattle.orca_op.proofs.DeskFacts.{count-blank}
 use Rattle.orca_frame.specs.Frames.{desk_after_places}
 use Rattle.orca_frame.proofs.DeskLemmas.{desk_suc}
 
@@ -92,15 +93,11 @@ few_deeds rules s at now lawful =
     (needs_bang (glyph_at s at) && not (has_bang s at))
     (rules (glyph_at s at) s at now) (lawful.few_deeds (glyph_at s at) s at now)
 
-none_marked : (n : ℕ) → count_by is_marked (replicate n no_marks) ≡ 0
-none_marked zero = refl
-none_marked (suc n) = omega (arith, count_cons no_marks (replicate n no_marks), none_marked n)
-
 -- the residue is at most the deeds of the busy places
 pub residue_desk : (n : ℕ) (g : Sheet) (now : Now) → IsLawful rule
     → residue (desk_after_places n g now) ≤ MAX_DEEDS * busy_of n g now
 unfolding residue
-residue_desk zero g now lawful = omega (arith, none_marked (g.dims.h * g.dims.w))
+residue_desk zero g now lawful = omega (arith, count-blank (g.dims.h * g.dims.w))
 residue_desk (suc n) g now lawful =
     let deeds = visit_deeds rule (state_after_places rule n g now) (place_of g.dims n) now in
     let more : residue (desk_after_places (suc n) g now) ≤ residue (desk_after_places n g now)

@@ -1,18 +1,17 @@
 -- A frame of a grid that holds no operator.
 use Rattle.std.proofs.Common.{◌≡◌, ℕ, ◌+◌, List, [], arith, ap, sym, ◌∙◌, zero-add}
-use Rattle.std.specs.Prelude.{if◌then◌else◌, slice_index}
-use Rattle.std.proofs.lemmas.List.Folds.{sum_by-replicate}
+use Rattle.std.specs.Prelude.{slice_index}
 use Rattle.orca_base.specs.declared.now.Now.{Now}
 use Rattle.orca_base.specs.declared.place.Place.{Place}
 use Rattle.orca_base.specs.Glyphs.{is_operator}
-use Rattle.orca_base.specs.Grids.{Sheet, IsSheet, cells_of, index_of, place_of}
-use Rattle.orca_base.specs.MarkSet.{MarkSet, is_marked, no_marks}
+use Rattle.orca_base.specs.Grids.{Sheet, IsSheet, index_of, place_of}
 use Rattle.orca_base.proofs.PlaceFacts.{index_of-place_of}
 use Rattle.orca_op.specs.Deeds.{Deed}
-use Rattle.orca_op.specs.Desk.{Desk, desk_of_sheet, list_after_all, residue}
+use Rattle.orca_op.specs.Desk.{Desk, list_after_all}
 use Rattle.orca_op.specs.Rules.{rule}
 use Rattle.orca_op.specs.Scan.{state_after_places, scan_deeds, scan, written_places, busy, busy_of, places}
 use Rattle.orca_op.specs.State.{State, fresh}
+use Rattle.orca_op.proofs.DeskFacts.{residue-of_sheet}
 use Rattle.orca_frame.specs.Skips.{HoldsNone, IsInert, IsAtRest}
 use Rattle.orca_frame.proofs.SkipLemmas.{state-skip, deeds-skip, busy-skip}
 
@@ -44,13 +43,6 @@ busy-rest : (g : Sheet) (now : Now) → HoldsNone rule 0 (places g) g now → bu
 unfolding busy
 busy-rest g now none =
     ap (λ (n : ℕ). busy_of n g now) (sym (zero-add (places g))) ∙ busy-skip 0 (places g) g now none
-
-residue-of_sheet : (g : Sheet) → residue (desk_of_sheet g) ≡ 0
-unfolding residue
-residue-of_sheet g =
-    let marked : MarkSet → ℕ = λ m. if is_marked m then 1 else 0 in
-    let none = sum_by-replicate marked (cells_of g.dims) no_marks in
-    omega (arith, none)
 
 desk_by_parts : (d : Desk) (s : State) (g : Sheet) (at : List Place) → d.scan ≡ s → d.began ≡ g
     → d.listed ≡ at → d ≡ record { scan = s; began = g; listed = at }

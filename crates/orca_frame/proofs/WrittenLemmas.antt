@@ -83,7 +83,8 @@ added_with d listed p at is inside =
 
 -- ---- deeds in order
 
-later : (A B C : Type 0) → A ⊎ C → A ⊎ (B ⊎ C)
+-- a way more
+pub later : (A B C : Type 0) → A ⊎ C → A ⊎ (B ⊎ C)
 later A B C (inl first) = inl first
 later A B C (inr last) = inr (inr last)
 

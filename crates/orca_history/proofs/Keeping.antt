@@ -9,10 +9,11 @@ use Rattle.circular_buffer.proofs.Places.{slice_get-append_left, slice_get-drop,
 use Rattle.orca_base.specs.declared.command.Entry.{Entry}
 use Rattle.orca_base.specs.declared.command.Entry.TheVariants.{Hush}
 use Rattle.orca_base.specs.Histories.{done_of, few_touched, worn_of}
+use Rattle.orca_base.proofs.WornFacts.{few-length}
 use Rattle.orca_history.specs.declared.ring.Kept.{Kept}
 use Rattle.orca_history.specs.Trails.{Trail, IsKept, IsTrail, patch_at, touched_of, trail_jumped, trail_pushed, untouched}
 use Rattle.orca_history.proofs.Room.{cut-most, lists-jumped}
-use Rattle.orca_history.proofs.Worn.{few-kept, few-length, few-more, few-one, touched-more, worn-newest}
+use Rattle.orca_history.proofs.Worn.{few-kept, few-more, few-one, touched-more, worn-newest}
 use Rattle.orca_patch.specs.Patches.{Before}
 
 -- ---- a jump

@@ -1,30 +1,19 @@
 -- Which patches a ring may keep, and how many of the oldest go.
-use Rattle.std.proofs.Common.{◌≡◌, ℕ, zero, suc, ◌+◌, ◌-◌, ◌<◌, ◌≤◌, ◌⊎◌, Some, Bool, true, false, List, [], ◌∷◌, ◌++◌, length, take, drop, refl, arith, ap, sym, ◌∙◌, length-append, inl, inr}
+use Rattle.std.proofs.Common.{◌≡◌, ℕ, ◌+◌, ◌-◌, ◌<◌, ◌≤◌, Some, true, false, List, [], ◌∷◌, ◌++◌, length, take, drop, arith, ap, sym, ◌∙◌, length-append, inl, inr}
 use Rattle.circular_buffer.specs.Buffer.{buffer}
 use Rattle.std.specs.List.{sum}
-use Rattle.std.specs.Prelude.{nat_le, slice_get}
-use Rattle.std.proofs.lemmas.Bool.{and_from, and_parts, both_ways, le-leb, leb-true}
+use Rattle.std.specs.Prelude.{slice_get}
+use Rattle.std.proofs.lemmas.Bool.{both_ways}
 use Rattle.std.proofs.lemmas.List.{drop-drop, length-drop, length-take, map-append, take-map, take_all, take_more}
 use Rattle.std.proofs.lemmas.Option.{get_or_from_slice_get, slice_get_within}
 use Rattle.std.proofs.lemmas.List.Sums.{sum_by-take-le, sum_by_push}
-use Rattle.orca_base.specs.declared.limits.TheConstants.{KEPT_PATCHES, KEPT_TOUCHED, MAX_TOUCHED}
+use Rattle.orca_base.specs.declared.limits.TheConstants.{KEPT_PATCHES, MAX_TOUCHED}
 use Rattle.orca_base.specs.Histories.{few_touched, worn_of}
+use Rattle.orca_base.proofs.WornFacts.{few-both, few-length, few-sum, worn-cases, worn-none, worn-one}
 use Rattle.orca_history.specs.Trails.{touched_of}
 use Rattle.orca_history.specs.Ring.{IsRing}
 use Rattle.orca_history.specs.declared.ring.Kept.{Kept}
 use Rattle.orca_history.specs.declared.ring.Ring.TheInside.{Inside}
-
-pub few-length : (xs : List ℕ) → few_touched xs ≡ true → length xs ≤ KEPT_PATCHES
-few-length xs few =
-    leb-true _ _ (and_parts (nat_le (length xs) KEPT_PATCHES) (nat_le (sum xs) KEPT_TOUCHED) few).0
-
-pub few-sum : (xs : List ℕ) → few_touched xs ≡ true → sum xs ≤ KEPT_TOUCHED
-few-sum xs few =
-    leb-true _ _ (and_parts (nat_le (length xs) KEPT_PATCHES) (nat_le (sum xs) KEPT_TOUCHED) few).1
-
-pub few-both : (xs : List ℕ) → length xs ≤ KEPT_PATCHES → sum xs ≤ KEPT_TOUCHED
-    → few_touched xs ≡ true
-few-both xs long most = and_from _ _ (le-leb _ _ long) (le-leb _ _ most)
 
 pub few-take : (n : ℕ) (xs : List ℕ) → few_touched xs ≡ true → few_touched (take n xs) ≡ true
 few-take n xs few =
@@ -39,25 +28,6 @@ few-more xs few room =
 
 -- ---- worn ones
 
-pub worn-none : (xs : List ℕ) → few_touched xs ≡ true → worn_of xs ≡ 0
-worn-none [] few = refl
-worn-none (n ∷ ns) few = rw few refl
-
-pub worn-one : (n : ℕ) (ns : List ℕ) → few_touched (n ∷ ns) ≡ false
-    → worn_of (n ∷ ns) ≡ 1 + worn_of ns
-worn-one n ns many = rw many refl
-
-worn-cases : (n : ℕ) (ns : List ℕ)
-    → ((few_touched (n ∷ ns) ≡ true) × (worn_of (n ∷ ns) ≡ 0))
-    ⊎ ((few_touched (n ∷ ns) ≡ false) × (worn_of (n ∷ ns) ≡ suc (worn_of ns)))
-worn-cases n ns = by (few_touched (n ∷ ns)) refl
-  where
-    by : (b : Bool) → few_touched (n ∷ ns) ≡ b
-        → ((few_touched (n ∷ ns) ≡ true) × (worn_of (n ∷ ns) ≡ 0))
-        ⊎ ((few_touched (n ∷ ns) ≡ false) × (worn_of (n ∷ ns) ≡ suc (worn_of ns)))
-    by true is = inl (is, worn-none (n ∷ ns) is)
-    by false is = inr (is, omega (arith, worn-one n ns is))
-
 -- the newest stays, where it may be kept alone
 pub worn-newest : (xs : List ℕ) (n : ℕ) → few_touched (n ∷ []) ≡ true
     → worn_of (xs ++ n ∷ []) ≤ length xs
@@ -65,24 +35,6 @@ worn-newest [] n few = omega (arith, worn-none (n ∷ []) few)
 worn-newest (x ∷ xs) n few = elim (worn-cases x (xs ++ n ∷ [])) [
   | inl none ↦ omega (arith, none.1)
   | inr some ↦ omega (arith, some.1, worn-newest xs n few)
-]
-
-pub few-worn : (xs : List ℕ) → few_touched (drop (worn_of xs) xs) ≡ true
-few-worn [] = refl
-few-worn (n ∷ ns) = elim (worn-cases n ns) [
-  | inl none ↦ ap (λ (k : ℕ). few_touched (drop k (n ∷ ns))) none.1 ∙ none.0
-  | inr some ↦ ap (λ (k : ℕ). few_touched (drop k (n ∷ ns))) some.1 ∙ few-worn ns
-]
-
-pub many-worn : (xs : List ℕ) (k : ℕ) → k < worn_of xs → few_touched (drop k xs) ≡ false
-many-worn [] k below = absurd (omega arith)
-many-worn (n ∷ ns) zero below = elim (worn-cases n ns) [
-  | inl none ↦ absurd (omega (arith, none.1, below))
-  | inr some ↦ some.0
-]
-many-worn (n ∷ ns) (suc k) below = elim (worn-cases n ns) [
-  | inl none ↦ absurd (omega (arith, none.1, below))
-  | inr some ↦ many-worn ns k (omega (arith, some.1, below))
 ]
 
 -- ---- patches

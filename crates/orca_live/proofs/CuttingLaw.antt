@@ -21,8 +21,9 @@ use Rattle.orca_edit.specs.Machines.{preview_of}
 use Rattle.orca_edit.specs.Obeying.{MachineState, accept, entry_of, obey, piece_of, refuse, rule_against}
 use Rattle.orca_edit.specs.Pieces.{Piece, apply, fold_entries, next_frame, opened_piece, piece_after}
 use Rattle.orca_edit.proofs.FoldLemmas.{fold_entries-append, silence-piece_after}
-use Rattle.orca_edit.proofs.SheetLemmas.{dims_after_places}
 use Rattle.orca_op.specs.Scan.{places, scan}
+use Rattle.orca_op.proofs.VisitFacts.{dims_after_places}
+use Rattle.orca_op.specs.Rules.{rule}
 use Rattle.orca_rig.specs.Arrived.{Poll}
 use Rattle.orca_rig.specs.declared.inbox.Answer.{Answer}
 use Rattle.orca_rig.specs.declared.inbox.Answer.TheVariants as answer
@@ -158,7 +159,7 @@ item_steady item s =
 -- a frame keeps the size of the grid
 played_dims : (p : Piece) → (apply p entry.Frame).piece.sheet.dims ≡ p.sheet.dims
 unfolding apply scan
-played_dims p = dims_after_places (places p.sheet) p.sheet (next_frame p)
+played_dims p = dims_after_places rule (places p.sheet) p.sheet (next_frame p)
 
 -- notes do not matter to it
 folded_dims : (m : MachineState) (history : List Entry)

@@ -8,7 +8,7 @@ use Rattle.orca_course.specs.Acts.{Act, AreDeaf, gives}
 use Rattle.orca_course.specs.Acts.Act.{Show, Stand}
 use Rattle.orca_course.specs.Courses.{mapped, onward}
 use Rattle.orca_course.specs.Performers.{IsDeaf}
-use Rattle.orca_course.proofs.ActLemmas.{AreDeaf-append}
+use Rattle.orca_course.proofs.ActLemmas.{AreDeaf-append, AreDeaf-gives}
 use Rattle.orca_course.specs.Standings.{notes_of, standing_after, standing_closed}
 use Rattle.orca_edit.specs.Obeying.{obey}
 use Rattle.orca_notes.specs.Sound.{ends}
@@ -17,16 +17,12 @@ use Rattle.orca_live.specs.Performing.{close_course, command_course, live_part, 
 use Rattle.orca_live.specs.States.{LiveState}
 use Rattle.orca_live.specs.Carrying.{Carries, finish_carried, heard_carried, open_carried}
 
-deaf_gives : (sends : List Sent) → AreDeaf (gives sends)
-deaf_gives [] = tt
-deaf_gives (sent ∷ sends) = deaf_gives sends
-
 -- messages that are handed out, and where the run stands then
 deaf_handed : (sends : List Sent) (acts : List Act) → AreDeaf acts
     → AreDeaf ((gives sends ++ acts) ++ [])
 deaf_handed sends acts deaf =
     AreDeaf-append (gives sends ++ acts) []
-    (AreDeaf-append (gives sends) acts (deaf_gives sends) deaf) tt
+    (AreDeaf-append (gives sends) acts (AreDeaf-gives sends) deaf) tt
 
 deaf_views : (bytes : List ℕ) (acts : List Act) → AreDeaf acts → AreDeaf (view_sends bytes ++ acts)
 deaf_views [] acts deaf = deaf

@@ -1,5 +1,5 @@
 -- What holds of every desk holds after a deed, and as a frame begins.
-use Rattle.std.proofs.Common.{◌≡◌, ℕ, ◌+◌, ◌≤◌, Bool, true, false, not, ◌&&◌, List, [], ◌∷◌, ◌++◌, length, refl, arith, ap, sym, ◌∙◌, subst, inl, inr}
+use Rattle.std.proofs.Common.{◌≡◌, ℕ, zero, suc, ◌+◌, ◌≤◌, Bool, true, false, not, ◌&&◌, List, [], ◌∷◌, ◌++◌, length, replicate, refl, arith, ap, sym, ◌∙◌, subst, inl, inr}
 use Rattle.std.proofs.Math.ListN.{set}
 use Rattle.std.specs.Prelude.{All, count_by, Option, Some, None, IfSome, if◌then◌else◌, slice_index}
 use Rattle.std.specs.Cmp.{IsEquivalence}
@@ -12,9 +12,10 @@ use Rattle.std.proofs.lemmas.Map.Keys.{IsDistinct-push}
 use Rattle.orca_base.specs.declared.place.Place.{Place}
 use Rattle.orca_base.specs.Grids.{Size, Sheet, IsSheet, IsInside, cells_of, glyph_at as glyph_on, index_of, is_inside, is_place, place_in}
 use Rattle.orca_base.proofs.PlaceFacts.{is_place-same, is_place-refl, is_inside-inside, inside-is_inside, inside-place_in, index-injective}
+use Rattle.orca_base.specs.MarkSet.{is_marked, no_marks}
 use Rattle.orca_op.specs.State.{State, glyph_at}
 use Rattle.orca_op.specs.Deeds.{Deed, Mark, Write, Set, Emit, after, cells_after}
-use Rattle.orca_op.specs.Desk.{Desk, IsDesk, KeepsUnlisted, is_listed, list_with, list_after, desk_after, desk_after_all, desk_of_sheet}
+use Rattle.orca_op.specs.Desk.{Desk, IsDesk, KeepsUnlisted, is_listed, list_with, list_after, desk_after, desk_after_all, desk_of_sheet, residue}
 use Rattle.orca_op.specs.Laws.{Every, WritesGlyph, is_emit}
 use Rattle.orca_op.proofs.LawFacts.{count_by-append}
 use Rattle.orca_op.proofs.StateFacts.{IsState-after, IsState-fresh, dims_after, events_after}
@@ -185,3 +186,14 @@ IsDesk-of_sheet g sheet = record {
   once = tt;
   kept = λ at inside absent. (inside, refl);
 }
+
+-- ---- nothing to clear
+
+pub count-blank : (n : ℕ) → count_by is_marked (replicate n no_marks) ≡ 0
+count-blank zero = refl
+count-blank (suc n) = count-blank n
+
+-- nothing is left to clear as a frame begins
+pub residue-of_sheet : (g : Sheet) → residue (desk_of_sheet g) ≡ 0
+unfolding residue
+residue-of_sheet g = omega (arith, count-blank (cells_of g.dims))

@@ -4,3 +4,4 @@ pub mod HereFacts
 pub mod LawFacts
 pub mod LiveLemmas
 pub mod StateFacts
+pub mod VisitFacts

@@ -1,26 +1,15 @@
 -- How many places a size cuts off.
-use Rattle.std.proofs.Common.{◌≡◌, ◌≤◌, true, not, List, [], ◌∷◌, length, refl, arith, zero-add}
+use Rattle.std.proofs.Common.{◌≡◌, true, not, List, [], ◌∷◌, refl, arith, zero-add}
 use Rattle.std.specs.Prelude.{filter}
 use Rattle.std.specs.List.{AllByRecursion}
 use Rattle.std.proofs.lemmas.Bool.{le-leb, lt-ltb}
 use Rattle.std.proofs.lemmas.List.Elements.{recursion_from_All}
-use Rattle.std.proofs.lemmas.List.Sums.{count_by-le-length, length-filter}
 use Rattle.orca_base.specs.declared.place.Place.{Place}
 use Rattle.orca_base.specs.Edits.{is_in_area}
-use Rattle.orca_base.specs.Grids.{Size, IsInside, cells_of}
+use Rattle.orca_base.specs.Grids.{Size, IsInside}
 use Rattle.orca_board.specs.Blocks.{places_in}
 use Rattle.orca_board.specs.Sizes.{cut_places, whole}
-use Rattle.orca_board.proofs.BlockPlaces.{inside-places_in, length-places_in}
-
--- at most all
-pub length-cut_places : (d to : Size) → length (cut_places d to) ≤ cells_of d
-length-cut_places d to =
-    omega (
-      arith,
-      length-filter (λ at. not (is_in_area (whole to) at)) (places_in (whole d)),
-      count_by-le-length (λ at. not (is_in_area (whole to) at)) (places_in (whole d)),
-      length-places_in (whole d),
-    )
+use Rattle.orca_board.proofs.BlockPlaces.{inside-places_in}
 
 -- a place of a grid lies in the whole of it
 in-whole : (d : Size) (at : Place) → IsInside d at → is_in_area (whole d) at ≡ true

@@ -1,6 +1,6 @@
 -- The desk on which a patch was undone.
-use Rattle.std.proofs.Common.{◌≡◌, ℕ, zero, suc, ◌+◌, ◌<◌, ◌≤◌, Bool, true, false, not, ◌&&◌, List, [], ◌∷◌, ◌++◌, length, length-append, replicate, get_or, take, refl, arith, ap, sym, ◌∙◌, subst, inl, inr, map}
-use Rattle.std.specs.Prelude.{All, Some, count_by, if◌then◌else◌}
+use Rattle.std.proofs.Common.{◌≡◌, ℕ, ◌+◌, ◌<◌, ◌≤◌, Bool, true, false, List, [], ◌∷◌, ◌++◌, length, get_or, take, refl, arith, ap, sym, ◌∙◌, subst, inl, inr, map}
+use Rattle.std.specs.Prelude.{All, if◌then◌else◌}
 use Rattle.std.specs.List.{AllByRecursion, IsDistinct}
 use Rattle.std.proofs.lemmas.Bool.{both_ways, cases_Bool, or_parts}
 use Rattle.std.proofs.lemmas.List.{length-map, map_more, take_all}
@@ -10,11 +10,10 @@ use Rattle.orca_base.specs.declared.place.Spot.{Spot}
 use Rattle.orca_base.specs.Edits.{sheet_after_resize}
 use Rattle.orca_base.specs.Glyphs.{empty}
 use Rattle.orca_base.specs.Grids.{Size, Sheet, IsSize, IsInside, cells_of, glyph_at as glyph_on, here, is_inside, is_place, sheet_by}
-use Rattle.orca_base.specs.MarkSet.{is_marked, no_marks}
 use Rattle.orca_base.proofs.PlaceFacts.{is_place-refl}
 use Rattle.orca_base.proofs.SheetFacts.{glyph_at-sheet_by, length-by_place}
 use Rattle.orca_op.specs.Deeds.{Deed, Write}
-use Rattle.orca_op.specs.Desk.{Desk, desk_after, desk_after_all, is_listed, list_with, residue}
+use Rattle.orca_op.specs.Desk.{Desk, desk_after, desk_after_all, is_listed, residue}
 use Rattle.orca_op.proofs.LawFacts.{desk_after_all-append}
 use Rattle.orca_op.specs.State.{State, blank_marks, sheet_of}
 use Rattle.orca_op.proofs.DeskFacts.{IsEquivalence-is_place}
@@ -22,6 +21,7 @@ use Rattle.orca_board.specs.Blocks.{desk_after_edit, list_each, write_each}
 use Rattle.orca_board.specs.Listing.{places_of}
 use Rattle.orca_board.specs.Sizes.{cut_places, desk_after_resize, is_size, with_sheet}
 use Rattle.orca_board.proofs.BlockLemmas.{after_writes}
+use Rattle.orca_board.proofs.ResidueLemmas.{count-with_sheet, length-list_each}
 use Rattle.orca_patch.specs.Patches.{Before, IsPatch, CoversCut, desk_before, old_glyph, sheet_before}
 
 -- ---- the listed places are written
@@ -170,38 +170,6 @@ sheet-desk_before b d =
     size
 
 -- ---- what is left to clear
-
-count-blank : (n : ℕ) → count_by is_marked (replicate n no_marks) ≡ 0
-count-blank zero = refl
-count-blank (suc n) = count-blank n
-
--- another size marks no place
-count-with_sheet : (s : State) (g : Sheet)
-    → count_by is_marked (with_sheet s g).marks ≤ count_by is_marked s.marks
-count-with_sheet s g = rw either (by (is_size g.dims s.dims))
-  where
-    by : (b : Bool) → count_by is_marked (with_either s g b).marks ≤ count_by is_marked s.marks
-    by true = omega arith
-    by false = omega (arith, count-blank (cells_of g.dims))
-
-length-list_with : (began : Size) (listed : List Place) (at : Place)
-    → length (list_with began listed (Some at)) ≤ length listed + 1
-length-list_with began listed at = by (is_inside began at && not (is_listed listed at))
-  where
-    by : (b : Bool) → length (if b then listed ++ at ∷ [] else listed) ≤ length listed + 1
-    by true = omega (arith, length-append listed (at ∷ []))
-    by false = omega arith
-
--- at most each place is listed
-length-list_each : (began : Size) (listed places : List Place)
-    → length (list_each began listed places) ≤ length listed + length places
-length-list_each began listed [] = omega arith
-length-list_each began listed (p ∷ places) =
-    omega (
-      arith,
-      length-list_with began listed p,
-      length-list_each began (list_with began listed (Some p)) places,
-    )
 
 pub residue-desk_before : (b : Before) (d : Desk)
     → residue (desk_before b d)

@@ -20,7 +20,7 @@ use Rattle.orca_concert.specs.Manners.{IsQuiet, Manner}
 use Rattle.orca_course.specs.Acts.Act.{Stand, Give}
 use Rattle.orca_edit.specs.Obeying.{obey}
 use Rattle.orca_course.specs.declared.ending.Stop.{Stop}
-use Rattle.orca_course.proofs.ActLemmas.{AreDeaf-append, lost-deaf, polls-deaf}
+use Rattle.orca_course.proofs.ActLemmas.{AreDeaf-append, AreDeaf-gives, lost-deaf, polls-deaf}
 use Rattle.orca_course.proofs.CourseLemmas.{each-holds}
 use Rattle.orca_cues.specs.declared.source.Cue.{Cue}
 use Rattle.orca_cues.specs.declared.source.Order.{Order}
@@ -217,16 +217,12 @@ concert-silent m cues s =
 
 -- ---- it does not ask the inbox
 
-deaf-gives : (sends : List Sent) → AreDeaf (gives sends)
-deaf-gives [] = tt
-deaf-gives (sent ∷ sends) = deaf-gives sends
-
 -- messages, where the run stands then, and what is told of it
 deaf-told : (sends : List Sent) (s : Standing) (more : List Act) → AreDeaf more
     → AreDeaf ((gives sends ++ Stand s ∷ []) ++ more)
 deaf-told sends s more deaf =
     AreDeaf-append (gives sends ++ Stand s ∷ []) more
-    (AreDeaf-append (gives sends) (Stand s ∷ []) (deaf-gives sends) tt) deaf
+    (AreDeaf-append (gives sends) (Stand s ∷ []) (AreDeaf-gives sends) tt) deaf
 
 deaf-each : {X S E : Type 0} (f : X → S → Course S E) → ((x : X) (s : S) → AreDeaf (f x s).acts)
     → (xs : List X) (s : S) → AreDeaf (each f xs s).acts

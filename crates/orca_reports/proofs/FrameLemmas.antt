@@ -34,7 +34,7 @@ use Rattle.orca_edit.specs.Obeying.{MachineState, Obeyed, accept, entry_of, exte
 use Rattle.orca_edit.specs.Pieces.{Piece, apply, next_frame, next_sounds, piece_after}
 use Rattle.orca_edit.specs.Prices.{Kept}
 use Rattle.orca_edit.proofs.FoldLemmas.{piece_after-push}
-use Rattle.orca_edit.proofs.SheetLemmas.{IsSheet-scan, dims_after_places}
+use Rattle.orca_edit.proofs.SheetLemmas.{IsSheet-scan}
 use Rattle.orca_notes.specs.Device.{IsChord, Plays}
 use Rattle.orca_notes.proofs.Chords.{IsChord-nil}
 use Rattle.orca_notes.proofs.Follows.{Follows, sound-follows}
@@ -45,6 +45,7 @@ use Rattle.orca_op.specs.Scan.{is_idle, places, scan, state_after_places, visit_
 use Rattle.orca_op.specs.State.{IsState, State, glyph_at, sheet_of}
 use Rattle.orca_op.proofs.LawFacts.{in_range-after_all}
 use Rattle.orca_op.proofs.StateFacts.{IsState-after_all, IsState-fresh, events_after_all}
+use Rattle.orca_op.proofs.VisitFacts.{dims_after_places}
 use Rattle.orca_reports.specs.Runs.{Opened, calls_in, close_of, frames_of, frames_run, machine_after, session_of}
 
 -- ---- one frame
@@ -127,7 +128,7 @@ visited (suc n) g now lawful sheet reached =
     let s = state_after_places rule n g now in
     let deeds = visit_deeds rule s (place_of g.dims n) now in
     let before = visited n g now lawful sheet (omega arith) in
-    let same : s.dims ≡ g.dims = dims_after_places n g now in
+    let same : s.dims ≡ g.dims = dims_after_places rule n g now in
     let did = visit s (place_of g.dims n) now lawful before.state
     (rw same (inside-place_of g.dims n sheet.size (omega arith))) in
     record {

@@ -2,6 +2,7 @@
 use Rattle.std.proofs.Common.{◌≡◌, ℕ, ◌≤◌, Bool, true, false, ◌&&◌, List, [], ◌∷◌, length, refl, sym, ◌∙◌, ap, subst, arith, Some}
 use Rattle.std.specs.Prelude.{Option, None, nat_le, IsSomeAnd}
 use Rattle.std.proofs.lemmas.Bool.Decides.{nat_tests}
+use Rattle.std.proofs.lemmas.Bool.{and_parts}
 use Rattle.orca_base.specs.declared.limits.TheConstants.{ARRIVAL_BYTES}
 use Rattle.orca_rig.specs.declared.inbox.Answer.{Answer}
 use Rattle.orca_rig.specs.declared.inbox.Answer.TheVariants as answer
@@ -9,14 +10,6 @@ use Rattle.orca_rig.specs.declared.mem_answer.MemAnswer.{MemAnswer}
 use Rattle.orca_rig.specs.declared.mem_answer.MemAnswer.TheVariants.{Bytes, Due}
 use Rattle.orca_rig.specs.Arrived.{MayAnswer, moment_after}
 use Rattle.orca_rig.specs.Schedule.{moment_of, is_in_order, is_arrival, are_arrivals, is_passed_over, awaited, first_turn, IsAnsweredInOrder}
-
-both-left : (a b : Bool) → (a && b) ≡ true → a ≡ true
-both-left true b both = refl
-both-left false b both = cc
-
-both-right : (a b : Bool) → (a && b) ≡ true → b ≡ true
-both-right true b both = both
-both-right false b both = cc
 
 both : (a b : Bool) → a ≡ true → b ≡ true → (a && b) ≡ true
 both a b first second = rw first second
@@ -32,12 +25,12 @@ pub in_order_head : (first : ℕ) (a : MemAnswer) (answers : List MemAnswer)
     → is_in_order first (a ∷ answers) ≡ true → first ≤ moment_of a
 in_order_head first a answers ordered =
     let at = moment_of a in
-    at_least first at (both-left (nat_le first at) (is_in_order at answers) ordered)
+    at_least first at (and_parts (nat_le first at) (is_in_order at answers) ordered).0
 
 pub in_order_tail : (first : ℕ) (a : MemAnswer) (answers : List MemAnswer)
     → is_in_order first (a ∷ answers) ≡ true → is_in_order (moment_of a) answers ≡ true
 in_order_tail first a answers ordered =
-    let at = moment_of a in both-right (nat_le first at) (is_in_order at answers) ordered
+    let at = moment_of a in (and_parts (nat_le first at) (is_in_order at answers) ordered).1
 
 -- they are in order after an earlier moment, too
 in_order_earlier : (first later : ℕ) (answers : List MemAnswer) → first ≤ later
@@ -52,11 +45,11 @@ in_order_earlier first later (a ∷ answers) less ordered =
 -- the first of arrivals is one, and so are the others
 head_arrival : (a : MemAnswer) (answers : List MemAnswer)
     → are_arrivals (a ∷ answers) ≡ true → is_arrival a ≡ true
-head_arrival a answers arrivals = both-left (is_arrival a) (are_arrivals answers) arrivals
+head_arrival a answers arrivals = (and_parts (is_arrival a) (are_arrivals answers) arrivals).0
 
 tail_arrivals : (a : MemAnswer) (answers : List MemAnswer)
     → are_arrivals (a ∷ answers) ≡ true → are_arrivals answers ≡ true
-tail_arrivals a answers arrivals = both-right (is_arrival a) (are_arrivals answers) arrivals
+tail_arrivals a answers arrivals = (and_parts (is_arrival a) (are_arrivals answers) arrivals).1
 
 -- those that are awaited are in order, are arrivals, and are no more
 pub record IsKeptOf (first : ℕ) (before after : List MemAnswer) : Type 0 where
@@ -115,8 +108,8 @@ arrival_some : (count : ℕ) → (nat_le 1 count && nat_le count ARRIVAL_BYTES) 
     → (1 ≤ count) × (count ≤ ARRIVAL_BYTES)
 arrival_some count some =
     let few = nat_le count ARRIVAL_BYTES in (
-      at_least 1 count (both-left (nat_le 1 count) few some),
-      at_least count ARRIVAL_BYTES (both-right (nat_le 1 count) few some),
+      at_least 1 count (and_parts (nat_le 1 count) few some).0,
+      at_least count ARRIVAL_BYTES (and_parts (nat_le 1 count) few some).1,
     )
 
 -- what the first of these answers gives

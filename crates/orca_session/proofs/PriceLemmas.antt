@@ -1,12 +1,11 @@
 -- What the parts of a command take, beside their prices.
-use Rattle.std.proofs.Common.{◌≡◌, ℕ, zero, suc, ◌+◌, ◌*◌, ◌≤◌, Bool, true, false, [], length, replicate, refl, arith, ap, sym, ◌∙◌, subst}
-use Rattle.std.specs.Prelude.{count_by, if◌then◌else◌}
+use Rattle.std.proofs.Common.{◌≡◌, ℕ, ◌+◌, ◌*◌, ◌≤◌, length, refl, arith, ap, sym, ◌∙◌, subst}
 use Rattle.orca_base.specs.declared.command.Entry.{Entry}
 use Rattle.orca_base.specs.declared.command.Entry.TheVariants.{Fill, Put, Move, Resize, Reset, Frame, Hush}
 use Rattle.orca_base.specs.declared.now.Now.{Now}
-use Rattle.orca_base.specs.Grids.{Size, Sheet, cells_of}
-use Rattle.orca_base.specs.MarkSet.{is_marked, no_marks}
-use Rattle.orca_board.specs.Sizes.{cut_places, desk_reverted, is_size, with_sheet}
+use Rattle.orca_base.specs.Grids.{Size, Sheet}
+use Rattle.orca_board.specs.Sizes.{cut_places, desk_reverted}
+use Rattle.orca_board.proofs.ResidueLemmas.{count-with_sheet}
 use Rattle.orca_edit.specs.Editing.{FitsIn, IsGridEdit, steps_of}
 use Rattle.orca_edit.specs.Pieces.{Piece, apply, next_frame}
 use Rattle.orca_edit.specs.Prices.{preview_price, price}
@@ -14,7 +13,7 @@ use Rattle.orca_edit.specs.Pricing.{PaysTwice, TouchesBothWays}
 use Rattle.orca_frame.specs.Frames.{IsFramed, most_steps}
 use Rattle.orca_op.specs.Desk.{Desk, residue}
 use Rattle.orca_op.specs.Scan.{busy}
-use Rattle.orca_op.specs.State.{State, blank_marks, sheet_of}
+use Rattle.orca_op.specs.State.{sheet_of}
 
 -- ---- one entry
 
@@ -57,22 +56,6 @@ pays-edit pays old new entry p from to edit fits sheet steps grows =
     omega (arith, steps, grows, twice, ap (λ (d : Size). steps_of d entry) size)
 
 -- ---- going back to the last begin
-
-count-blank : (n : ℕ) → count_by is_marked (replicate n no_marks) ≡ 0
-count-blank zero = refl
-count-blank (suc n) = count-blank n
-
--- another grid marks no place
-count-with_sheet : (s : State) (g : Sheet)
-    → count_by is_marked (with_sheet s g).marks ≤ count_by is_marked s.marks
-count-with_sheet s g = by (is_size g.dims s.dims)
-  where
-    by : (b : Bool)
-        → count_by is_marked (if b then record s { dims = g.dims; cells = g.cells } else record s
-        { dims = g.dims; cells = g.cells; marks = blank_marks g.dims; events = [] }).marks
-        ≤ count_by is_marked s.marks
-    by true = omega arith
-    by false = omega (arith, count-blank (cells_of g.dims))
 
 -- what was listed is not to be cleared any more
 pub residue-back : (d : Desk) → residue (desk_reverted d) + length d.listed ≤ residue d

@@ -1,16 +1,15 @@
 -- The way of a redo: the checkpoints on it, and what it takes.
-use Rattle.std.proofs.Common.{◌≡◌, ℕ, ◌+◌, ◌-◌, ◌*◌, ◌/◌, ◌%◌, ◌<◌, ◌≤◌, true, List, [], ◌∷◌, ◌++◌, length, max, Some, refl, arith, ap, sym, ◌∙◌, subst, inl, inr, add-zero}
+use Rattle.std.proofs.Common.{◌≡◌, ℕ, ◌+◌, ◌-◌, ◌*◌, ◌/◌, ◌%◌, ◌<◌, ◌≤◌, true, length, max, Some, refl, arith, ap, sym, ◌∙◌, subst, inl, inr, add-zero}
 use Rattle.std.specs.Prelude.{◌==◌, fold, if◌then◌else◌, slice_get, sum_by}
 use Rattle.std.specs.List.{range_with_len}
 use Rattle.std.proofs.lemmas.Bool.{cases_eq, eq-eqb, ne_eqb}
-use Rattle.std.proofs.lemmas.List.{map-id}
-use Rattle.std.proofs.lemmas.List.FromFn.{map-range_with_len_more}
 use Rattle.std.proofs.lemmas.List.Sums.{fold_push, sum_by_push}
 use Rattle.std.proofs.lemmas.Nat.{div-add-mod', mod-mul-add}
 use Rattle.orca_base.specs.declared.command.Entry.{Entry}
 use Rattle.orca_base.specs.declared.limits.TheConstants.{MAX_CHECKPOINTS}
 use Rattle.orca_base.specs.Grids.{Sheet, cells_of}
 use Rattle.orca_base.specs.Histories.{group_of}
+use Rattle.orca_base.proofs.ListFacts.{range-more}
 use Rattle.orca_checkpoints.specs.Laws.{AreOf, points_after}
 use Rattle.orca_checkpoints.specs.Points.{ArePoints, Point, Points, is_due, next_moment, points_dropped}
 use Rattle.orca_checkpoints.proofs.PointLemmas.{due-next, next-after, spacing-after}
@@ -20,13 +19,6 @@ use Rattle.orca_patch.specs.Patches.{Before}
 use Rattle.orca_session.specs.Past.{IsPast, PastState, brought_back, moment_of, numbers_of, past_redone, piece_with, plain, point_at}
 use Rattle.orca_session.proofs.BillLemmas.{total-after}
 use Rattle.orca_session.proofs.RedoLemmas.{entry-with, length-redone, moment-with, points-back, some-entry}
-
--- a range with a number more
-range-more : (a n : ℕ) → range_with_len a (n + 1) ≡ range_with_len a n ++ (a + n) ∷ []
-range-more a n =
-    sym (map-id (range_with_len a (n + 1)))
-    ∙ (map-range_with_len_more (λ (x : ℕ). x) a n (a + n) refl
-    ∙ ap (λ (l : List ℕ). l ++ (a + n) ∷ []) (map-id (range_with_len a n)))
 
 -- ---- multiples
 

@@ -1,24 +1,18 @@
 -- One sample more.
-use Rattle.std.proofs.Common.{◌≡◌, ℕ, ◌+◌, List, [], ◌∷◌, ◌++◌, get_or, map, refl, sym, ap, ◌∙◌, append_assoc, ℤ, w16, to_z, of_z}
+use Rattle.std.proofs.Common.{◌≡◌, ℕ, ◌+◌, List, [], ◌∷◌, ◌++◌, get_or, map, refl, ap, ◌∙◌, append_assoc, ℤ, w16, to_z, of_z}
 use Rattle.std.specs.Int.{to_le_bytes}
 use Rattle.std.specs.Int.RustNames.{FitsSigned}
 use Rattle.std.specs.List.{flat_map, range_with_len}
 use Rattle.std.proofs.lemmas.Int.{to_z-of_z}
 use Rattle.std.proofs.lemmas.List.{append-nil}
-use Rattle.std.proofs.lemmas.List.FromFn.{map-range_with_len_more}
 use Rattle.std.proofs.lemmas.List.Concat.{flat_map-append}
+use Rattle.orca_base.proofs.ListFacts.{range-more}
 use Rattle.orca_wav.specs.Waves.{sample_at, sample_bytes}
 use Rattle.orca_wav.specs.Rendering.{Rendering, next_bytes}
 
 map-same : (xs : List ℕ) → map (λ x. x) xs ≡ xs
 map-same [] = refl
 map-same (x ∷ xs) = ap (λ ys. x ∷ ys) (map-same xs)
-
-pub range-more : (a n : ℕ) → range_with_len a (n + 1) ≡ range_with_len a n ++ (a + n) ∷ []
-range-more a n =
-    sym (map-same (range_with_len a (n + 1)))
-    ∙ (map-range_with_len_more (λ x. x) a n (a + n) refl
-    ∙ ap (λ xs. xs ++ (a + n) ∷ []) (map-same (range_with_len a n)))
 
 pub next_bytes-none : (s : Rendering) → next_bytes s 0 ≡ []
 unfolding next_bytes

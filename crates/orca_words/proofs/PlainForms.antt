@@ -1,8 +1,9 @@
 -- Two words that don't begin with a dash, by a form of a grid and one more positional: they are
 -- these two, and no option is set, whatever the options of the form are.
 use Rattle.std.proofs.Common.{◌≡◌, ◌∙◌, ap, refl, List, [], ◌∷◌, true, false, ℕ, Bool, None, Some, codes, fold, cond}
-use Rattle.std.specs.Prelude.{not, ◌&&◌, ◌||◌}
+use Rattle.std.specs.Prelude.{not, ◌&&◌}
 use Rattle.std.specs.List.{list_any}
+use Rattle.std.proofs.Math.Bool.{or-true}
 use Rattle.clap.specs.Words.{Row, Rule, Shape, Text, built, fault_of, matches_of}
 use Rattle.clap.specs.Simple.{index_after}
 use Rattle.clap.specs.Walk.{Held, Walk, finished, has_row, nothing_held, walk, walked, with_default}
@@ -21,10 +22,6 @@ same_either : {X : Type 0} (b : Bool) (x : X) → cond b x x ≡ x
 same_either true x = refl
 same_either false x = refl
 
-or_true : (b : Bool) → (b || true) ≡ true
-or_true true = refl
-or_true false = refl
-
 -- they have no default, so they add nothing to what is found
 options_stay : (i : ℕ) (options : List Text) (found : List Row)
     → fold with_default found (built_options i options) ≡ found
@@ -40,7 +37,7 @@ unfolding defaults_fault
 options_faultless i [] found = refl
 options_faultless i (name ∷ options) found =
     rw (
-      or_true (has_row name found),
+      or-true (has_row name found),
       same_either (has_row name found) found,
       options_faultless (index_after i (option_rule name)) options found,
     ) refl

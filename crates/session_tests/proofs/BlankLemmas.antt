@@ -21,6 +21,7 @@ use Rattle.orca_base.specs.declared.now.Now.{Now}
 use Rattle.orca_base.specs.Glyphs.{empty, is_operator}
 use Rattle.orca_base.specs.Grids.{Size, Sheet, IsSize, cells_of, index_of, place_of}
 use Rattle.orca_base.proofs.PlaceFacts.{index_of-place_of}
+use Rattle.orca_base.proofs.GlyphFacts.{none-empty}
 use Rattle.orca_edit.specs.Machines.{Obeys, obeyed}
 use Rattle.orca_edit.specs.Obeying.{MachineState, Obeyed, extend, jump, obey, piece_of, rule_against}
 use Rattle.orca_edit.specs.Pieces.{Piece, apply, fold_entries, next_frame, opened_piece}
@@ -41,10 +42,6 @@ use Rattle.orca_session.proofs.ObeyLemmas.{obey-frame, obey-rewind}
 
 -- ---- one frame
 
-dot : is_operator empty ≡ false
-unfolding is_operator
-dot = refl
-
 -- no place holds an operator as the frame begins
 holds-none : (d : Size) (now : Now) → IsSize d
     → HoldsNone rule 0 (cells_of d) (blank_sheet d) now
@@ -52,7 +49,7 @@ holds-none d now size i below =
     let number : index_of d (place_of d (0 + i)) ≡ i =
     index_of-place_of d (0 + i) size ∙ zero-add i in
     ap (λ (k : ℕ). is_operator (slice_index (replicate (cells_of d) empty) k)) number
-    ∙ (ap is_operator (get_or-replicate (cells_of d) i empty 0 below) ∙ dot)
+    ∙ (ap is_operator (get_or-replicate (cells_of d) i empty 0 below) ∙ none-empty)
 
 scan-blank : (d : Size) (now : Now) → IsSize d
     → sheet_of (scan (blank_sheet d) now) ≡ blank_sheet d

@@ -1,8 +1,9 @@
-use Rattle.std.proofs.Common.{◌≡◌, ◌+◌, false, arith, ap, subst, sym, ◌∙◌, refl}
+use Rattle.std.proofs.Common.{◌≡◌, ◌+◌, arith, ap, subst, sym, ◌∙◌}
 use Rattle.std.proofs.lemmas.List.{get_or-replicate}
 use Rattle.orca_base.specs.declared.now.Now.{Now}
 use Rattle.orca_base.specs.Glyphs.{empty, is_operator}
 use Rattle.orca_base.specs.Grids.{Size, Sheet, IsSheet, cells_of}
+use Rattle.orca_base.proofs.GlyphFacts.{none-empty}
 use Rattle.orca_grid.specs.BlankGrid.{blank_sheet}
 use Rattle.orca_op.specs.Desk.{Desk, desk_of_sheet}
 use Rattle.orca_frame.specs.Frames.{IsFramed, most_steps}
@@ -15,13 +16,9 @@ square = record { h = 256; w = 256 }
 abbrev dots : Sheet
 dots = blank_sheet square
 
-no_operator : is_operator empty ≡ false
-unfolding is_operator
-no_operator = refl
-
 dots_are_inert : IsInert dots
 dots_are_inert n below =
-    ap is_operator (get_or-replicate (cells_of square) n empty 0 below) ∙ no_operator
+    ap is_operator (get_or-replicate (cells_of square) n empty 0 below) ∙ none-empty
 
 -- the frame that is played
 abbrev first : Now

@@ -1,5 +1,5 @@
 use Rattle.orca_history.proofs.Keeping.{kept-jumped, kept-pushed, newest-jumped, newest-pushed}
-use Rattle.orca_history.proofs.Worn.{few-worn, many-worn}
+use Rattle.orca_base.proofs.WornFacts.{few-worn, many-worn}
 use Rattle.orca_history.proofs.laws.patch_laws.Goals as goal
 
 pub returns-clause-pushed : goal.returns-clause-pushed

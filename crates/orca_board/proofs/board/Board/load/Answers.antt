@@ -1,6 +1,6 @@
 use Rattle.std.proofs.Common.{◌∙◌, ap}
 use Rattle.orca_op.specs.Desk.{residue}
-use Rattle.orca_board.proofs.ResidueLemmas.{residue-of_sheet}
+use Rattle.orca_op.proofs.DeskFacts.{residue-of_sheet}
 use Rattle.orca_board.proofs.board.Board.load.Goals as goal
 
 pub returns-clause-clear : goal.returns-clause-clear

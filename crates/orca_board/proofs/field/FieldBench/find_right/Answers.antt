@@ -4,8 +4,9 @@ use Rattle.orca_base.specs.Grids.{Size, index_of, right}
 use Rattle.orca_op.specs.Desk.{Desk}
 use Rattle.orca_op.proofs.FirstFacts.{first_where-found, first_where-missing}
 use Rattle.orca_op.specs.State.{peek}
+use Rattle.orca_op.proofs.StateFacts.{none_beyond}
 use Rattle.orca_board.specs.Board.{desk_of}
-use Rattle.orca_board.proofs.SpanLemmas.{cell_right, holds_it, holds_other, none_beyond, peek_right}
+use Rattle.orca_board.proofs.SpanLemmas.{cell_right, holds_it, holds_other, peek_right}
 use Rattle.orca_board.proofs.field.FieldBench.find_right.Goals as goal
 
 pub returns-then-byte-clause-first : goal.returns-then-byte-clause-first

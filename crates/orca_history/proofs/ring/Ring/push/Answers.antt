@@ -1,7 +1,8 @@
 use Rattle.std.proofs.Common.{◌≡◌, [], ◌∷◌, ◌++◌, arith, sym, ◌∙◌, ap}
 use Rattle.orca_base.specs.Histories.{worn_of}
+use Rattle.orca_base.proofs.WornFacts.{worn-none}
 use Rattle.orca_history.specs.Trails.{touched_of}
-use Rattle.orca_history.proofs.Worn.{room-made, touched-more, worn-none}
+use Rattle.orca_history.proofs.Worn.{room-made, touched-more}
 use Rattle.orca_history.proofs.ring.Ring.push.Goals as goal
 
 pub loop-self-preserved : goal.loop-self-preserved

@@ -1,11 +1,12 @@
 use Rattle.std.proofs.Common.{◌≡◌, ◌+◌, List, length, arith, ap, ◌∙◌}
 use Rattle.orca_base.specs.declared.change.Change.{Change}
 use Rattle.orca_board.specs.Sizes.{cut_places}
+use Rattle.orca_board.proofs.BlockPlaces.{length-cut_places}
 use Rattle.orca_base.specs.declared.place.Place.{Place}
 use Rattle.orca_op.specs.State.{sheet_of}
 use Rattle.orca_patch.specs.Patches.{Before, before_of, desk_before, sheet_before}
 use Rattle.orca_patch.proofs.Inverse.{sheet-back}
-use Rattle.orca_patch.proofs.Cutting.{cut_places-same, length-cut_places}
+use Rattle.orca_patch.proofs.Cutting.{cut_places-same}
 use Rattle.orca_patch.proofs.Undoing.{step, undone, sheet-desk_before, residue-desk_before}
 use Rattle.orca_patch.proofs.patch.Patch.undo_on.Given.{Over}
 use Rattle.orca_patch.proofs.patch.Patch.undo_on.Goals as goal
