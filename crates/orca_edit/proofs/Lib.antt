@@ -2,6 +2,7 @@ pub mod CopyLemmas
 pub mod FirstLemmas
 pub mod FitLemmas
 pub mod FoldLemmas
+pub mod FrameLemmas
 mod GridRows
 pub mod PriceLemmas
 pub mod SheetLemmas

@@ -1,5 +1,6 @@
 pub mod Editing
 pub mod Folding
+pub mod Frames
 pub mod Machines
 pub mod Obeying
 pub mod Pieces

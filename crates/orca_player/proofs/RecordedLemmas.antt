@@ -1,7 +1,7 @@
 -- In which ways a run of commands can end early, and what it saves of a song and a wave.
 use Rattle.std.proofs.Common.{◌≡◌, ◌≢◌, ℕ, ◌+◌, ◌*◌, ◌≤◌, List, [], ◌∷◌, refl, sym, ◌∙◌, ap, arith, zero, suc, ◌<◌, length, subst}
 use Rattle.std.specs.Prelude.{fold, Option, Some, None, IfSome, Result, replicate, Ok}
-use Rattle.std.proofs.lemmas.Bool.{le-ltb, lt-leb}
+use Rattle.std.proofs.lemmas.Bool.{le-ltb}
 use Rattle.orca_base.specs.declared.command.Reply.{Reply}
 use Rattle.orca_base.specs.declared.command.Rule.{Rule}
 use Rattle.orca_base.specs.declared.limits.TheConstants.{MAX_HISTORY}
@@ -34,7 +34,7 @@ use Rattle.orca_base.specs.declared.command.Entry.TheVariants as entry
 use Rattle.orca_base.specs.declared.command.Reply.TheVariants.{Framed}
 use Rattle.orca_concert.specs.Manners.{Manner}
 use Rattle.orca_cues.specs.declared.source.Order.TheVariants.{Do}
-use Rattle.orca_edit.specs.Obeying.{MachineState, accept, entry_of, extend, obey, rule_against, taken_area}
+use Rattle.orca_edit.proofs.FrameLemmas.{frame_obeyed}
 use Rattle.orca_player.specs.Doing.{KeepsTake}
 use Rattle.orca_player.specs.Outlines.{concert, nothing, opening, standing_at, status_of_end, work_outline}
 use Rattle.orca_player.specs.Takes.{saves_in}
@@ -100,11 +100,6 @@ cues-end P m cues s ends =
     (λ order u. halts-end P _ _ (ends cue.line _ _ _)) (replicate cue.times cue.order) t) cues s
 
 -- ---- frames, if the history has room for them
-
-frame_obeyed : (m : MachineState) → length m.history < m.limit
-    → obey m command.Frame ≡ extend m command.Frame m.clip entry.Frame
-unfolding obey rule_against accept entry_of taken_area
-frame_obeyed m room = rw (lt-leb m.limit (length m.history) room)
 
 -- a frame was played, and the history is longer by one
 record Played {R : Type 0} (P : Stop → Type 0) (Room : ℕ → R → Type 0) (n : ℕ)

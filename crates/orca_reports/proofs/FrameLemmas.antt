@@ -1,24 +1,14 @@
--- The frames of a run: each is accepted, unless a full history refuses it; their messages lead a
--- device from notes to notes; and a run that was not ended early has played them all.
-use Rattle.std.proofs.Common.{◌≡◌, ◌≢◌, ℕ, zero, suc, ◌+◌, ◌-◌, ◌<◌, ◌≤◌, List, [], ◌∷◌, ◌++◌, length, refl, ◌∙◌, ap, subst, arith, inl, inr, append_assoc, append-nil, length-append}
-use Rattle.std.specs.Prelude.{All, count_by, false, replicate, Option, Some, None, Ok, Err}
-use Rattle.std.proofs.lemmas.Bool.{cases_lt, cond_both}
-use Rattle.std.proofs.lemmas.List.Elements.{All-nil, All-weaker}
+-- A run of frames: their messages lead a device from notes to notes, and a run that was not ended
+-- early has played them all.
+use Rattle.std.proofs.Common.{◌≡◌, ◌≢◌, ℕ, zero, suc, ◌+◌, ◌-◌, ◌≤◌, List, [], ◌∷◌, ◌++◌, length, refl, ◌∙◌, subst, arith, inl, inr, append_assoc}
+use Rattle.std.specs.Prelude.{false, replicate, Option, Some, None, Ok, Err}
+use Rattle.std.proofs.lemmas.Bool.{cases_lt}
 use Rattle.orca_base.specs.declared.command.Command.TheVariants as command
-use Rattle.orca_base.specs.declared.command.Entry.TheVariants as entry
 use Rattle.orca_base.specs.declared.command.Reply.TheVariants.{Framed}
 use Rattle.orca_base.specs.declared.command.Rule.{Rule}
 use Rattle.orca_base.specs.declared.command.Rule.TheVariants.{HistoryFull}
 use Rattle.orca_base.specs.declared.message.Message.{Message}
-use Rattle.orca_base.specs.declared.note.Note.{Note}
-use Rattle.orca_base.specs.declared.now.Now.{Now}
-use Rattle.orca_base.specs.declared.place.Place.{Place}
-use Rattle.orca_base.specs.EventRanges.{IsInRange}
-use Rattle.orca_base.specs.Grids.{IsInside, IsSheet, Sheet, cells_of, place_of}
-use Rattle.orca_base.specs.Ranges.{IsPlayable}
-use Rattle.orca_base.proofs.PlaceFacts.{inside-place_of}
-use Rattle.orca_base.proofs.RangeFacts.{IsPlayable-in_range}
-use Rattle.orca_base.proofs.SheetFacts.{IsGlyph-glyph_at}
+use Rattle.orca_base.specs.Grids.{IsSheet}
 use Rattle.orca_concert.specs.Concerts.{Concert, after_cue, command_course, concert, concert_course, cue_course, cues_course, final_course, halt_of, last_course, order_course, saved_course}
 use Rattle.orca_concert.specs.Manners.{Manner}
 use Rattle.orca_course.specs.Acts.{Act}
@@ -27,161 +17,24 @@ use Rattle.orca_course.specs.Courses.{Course, afterwards, each, keeping, mapped,
 use Rattle.orca_course.specs.Standings.{standing}
 use Rattle.orca_course.specs.declared.ending.Stop.{Stop}
 use Rattle.orca_course.specs.declared.tally.Tally.{Tally}
-use Rattle.orca_course.proofs.CourseLemmas.{onward_goes}
+use Rattle.orca_course.proofs.CourseLemmas.{each-one, onward_goes}
 use Rattle.orca_cues.specs.declared.source.Cue.{Cue}
 use Rattle.orca_cues.specs.declared.source.Order.TheVariants.{Do}
-use Rattle.orca_edit.specs.Obeying.{MachineState, Obeyed, accept, entry_of, extend, obey, piece_of, refuse, rule_against, taken_area}
-use Rattle.orca_edit.specs.Pieces.{Piece, apply, next_frame, next_sounds, piece_after}
+use Rattle.orca_edit.specs.Frames.{frames_of, machine_after}
+use Rattle.orca_edit.specs.Obeying.{obey}
+use Rattle.orca_edit.specs.Pieces.{piece_after}
 use Rattle.orca_edit.specs.Prices.{Kept}
-use Rattle.orca_edit.proofs.FoldLemmas.{piece_after-push}
-use Rattle.orca_edit.proofs.SheetLemmas.{IsSheet-scan}
-use Rattle.orca_notes.specs.Device.{IsChord, Plays}
+use Rattle.orca_edit.proofs.FrameLemmas.{ArePlayed, IsAt, all_of, frame_refused, framed, frames_play}
 use Rattle.orca_notes.proofs.Chords.{IsChord-nil}
-use Rattle.orca_notes.proofs.Follows.{Follows, sound-follows}
-use Rattle.orca_notes.proofs.PlayFacts.{Plays-ends}
-use Rattle.orca_op.specs.Laws.{EmitsInRange, Every, IsLawful, WritesGlyph, is_emit}
+use Rattle.orca_op.specs.Laws.{IsLawful}
 use Rattle.orca_op.specs.Rules.{rule}
-use Rattle.orca_op.specs.Scan.{is_idle, places, scan, state_after_places, visit_deeds}
-use Rattle.orca_op.specs.State.{IsState, State, glyph_at, sheet_of}
-use Rattle.orca_op.proofs.LawFacts.{in_range-after_all}
-use Rattle.orca_op.proofs.StateFacts.{IsState-after_all, IsState-fresh, events_after_all}
-use Rattle.orca_op.proofs.VisitFacts.{dims_after_places}
-use Rattle.orca_reports.specs.Runs.{Opened, calls_in, close_of, frames_of, frames_run, machine_after, session_of}
+use Rattle.orca_reports.specs.Runs.{Opened, calls_in, frames_run, session_of}
 
--- ---- one frame
-
-frame_obeyed : (m : MachineState) → length m.history < m.limit
-    → obey m command.Frame ≡ extend m command.Frame m.clip entry.Frame
-unfolding obey rule_against accept entry_of taken_area
-frame_obeyed m room = grind arith
-
-frame_refused : (m : MachineState) → m.limit ≤ length m.history
-    → obey m command.Frame ≡ refuse m HistoryFull
-unfolding obey rule_against accept entry_of taken_area
-frame_refused m full = grind arith
-
--- a session at a tick
-record IsAt (tick : ℕ) (m : MachineState) : Type 0 where
-  at : (piece_of m).tick ≡ tick
-  closed : m.closed ≤ length m.history
+-- ---- an opened grid
 
 opened_at : (o : Opened) → IsAt 0 (session_of o)
 unfolding piece_after
 opened_at o = record { at = refl; closed = omega arith }
-
--- an accepted frame leads to the next tick, and gives the messages of the piece
-record IsFramed (tick : ℕ) (m : MachineState) (o : Obeyed) : Type 0 where
-  answer : o.answer ≡ Ok (Framed tick)
-  piece : piece_of o.machine ≡ (apply (piece_of m) entry.Frame).piece
-  messages : o.messages ≡ (apply (piece_of m) entry.Frame).messages
-  next : IsAt (tick + 1) o.machine
-  longer : length o.machine.history ≡ length m.history + 1
-  limit : o.machine.limit ≡ m.limit
-
-framed : (tick : ℕ) (m : MachineState) → IsAt tick m → length m.history < m.limit
-    → IsFramed tick m (obey m command.Frame)
-unfolding apply
-framed tick m at room =
-    let piece = piece_after-push m.opened m.seed m.history entry.Frame m.closed at.closed in
-    let longer = length-append m.history (entry.Frame ∷ []) in
-    rw (frame_obeyed m room) (record {
-      answer = ap (λ t. Ok (Framed t)) at.at;
-      piece = piece;
-      messages = refl;
-      next = record {
-        at = ap (λ p. p.tick) piece ∙ ap (λ t. t + 1) at.at;
-        closed = omega (arith, longer, at.closed);
-      };
-      longer = longer;
-      limit = refl;
-    })
-
--- ---- the messages of frames
-
--- a visit writes glyphs, and sends events in range, one at most
-visit : (s : State) (at : Place) (now : Now) → IsLawful rule → IsState s → IsInside s.dims at
-    → let deeds = visit_deeds rule s at now in
-    Every WritesGlyph deeds × Every EmitsInRange deeds × (count_by is_emit deeds ≤ 1)
-unfolding visit_deeds
-visit s at now lawful state inside =
-    let glyph = glyph_at s at in
-    cond_both (is_idle s at) [] (rule glyph s at now)
-    (λ deeds. Every WritesGlyph deeds × Every EmitsInRange deeds × (count_by is_emit deeds ≤ 1))
-    (λ idle. (tt, tt, omega arith))
-    (λ busy. (
-      lawful.glyphs glyph s at now state (IsGlyph-glyph_at (sheet_of s) at state.sheet inside),
-      lawful.events glyph s at now state,
-      lawful.one_event glyph s at now,
-    ))
-
--- the state in the middle of a frame
-record IsVisited (s : State) (n : ℕ) : Type 0 where
-  state : IsState s
-  few : length s.events ≤ n
-  events : All IsInRange s.events
-
-visited : (n : ℕ) (g : Sheet) (now : Now) → IsLawful rule → IsSheet g → n ≤ places g
-    → IsVisited (state_after_places rule n g now) n
-visited zero g now lawful sheet reached =
-    record { state = IsState-fresh g sheet; few = omega arith; events = All-nil IsInRange }
-visited (suc n) g now lawful sheet reached =
-    let s = state_after_places rule n g now in
-    let deeds = visit_deeds rule s (place_of g.dims n) now in
-    let before = visited n g now lawful sheet (omega arith) in
-    let same : s.dims ≡ g.dims = dims_after_places rule n g now in
-    let did = visit s (place_of g.dims n) now lawful before.state
-    (rw same (inside-place_of g.dims n sheet.size (omega arith))) in
-    record {
-      state = IsState-after_all s deeds before.state did.0
-          (omega (arith, ap cells_of same, reached, before.few, did.2));
-      few = omega (arith, events_after_all s deeds, before.few, did.2);
-      events = in_range-after_all s deeds before.events did.1;
-    }
-
--- a grid, and notes that can sound together
-record IsPlayed (p : Piece) : Type 0 where
-  sheet : IsSheet p.sheet
-  chord : IsChord p.notes
-
--- a frame leaves such a piece, and its messages lead to the notes of it
-frame_plays : (p : Piece) → IsLawful rule → IsPlayed p
-    → let q = apply p entry.Frame in
-    IsPlayed q.piece × Plays p.notes q.messages q.piece.notes
-unfolding apply scan
-frame_plays p lawful is =
-    let now = next_frame p in
-    let all = visited (places p.sheet) p.sheet now lawful is.sheet (omega arith) in
-    let follows : Follows p.notes (next_sounds p) =
-    sound-follows p.notes p.tick (scan p.sheet now).events is.chord
-    (All-weaker IsInRange IsPlayable IsPlayable-in_range _ all.events) in (
-      record { sheet = IsSheet-scan p.sheet now lawful is.sheet; chord = follows.chord },
-      follows.plays,
-    )
-
--- each of these lists leads a device from notes to notes
-abbrev pub ArePlayed : List Note → List (List Message) → Type 0
-ArePlayed before [] = Unit {0}
-ArePlayed before (messages ∷ frames) =
-    (after : List Note) × (Plays before messages after × ArePlayed after frames)
-
--- the messages of frames and of the close
-abbrev pub all_of : ℕ → MachineState → List (List Message)
-all_of n m = frames_of n m ++ close_of n m ∷ []
-
-frames_play : IsLawful rule → (n tick : ℕ) (m : MachineState) → IsAt tick m
-    → length m.history + n ≤ m.limit → IsPlayed (piece_of m)
-    → ArePlayed (piece_of m).notes (all_of n m)
-frames_play lawful zero tick m at room is =
-    ([], (Plays-ends (piece_of m).notes is.chord, tt))
-frames_play lawful (suc n) tick m at room is =
-    let o = obey m command.Frame in
-    let did = framed tick m at (omega (arith, room)) in
-    let after : IsPlayed (piece_of o.machine)
-    × Plays (piece_of m).notes o.messages (piece_of o.machine).notes =
-    rw (did.piece, did.messages) (frame_plays (piece_of m) lawful is) in
-    let more = frames_play lawful n (tick + 1) o.machine did.next
-    (omega (arith, room, did.longer, did.limit)) after.0 in
-    ((piece_of o.machine).notes, (after.1, more))
 
 pub run_plays : IsLawful rule → (n : ℕ) (o : Opened) → IsSheet o.sheet → n ≤ o.limit
     → ArePlayed [] (all_of n (session_of o))
@@ -189,10 +42,6 @@ unfolding piece_after
 run_plays lawful n o sheet few =
     frames_play lawful n 0 (session_of o) (opened_at o) (omega arith)
     (record { sheet = sheet; chord = IsChord-nil })
-
-pub frames_count : (n : ℕ) (m : MachineState) → length (frames_of n m) ≡ n
-frames_count zero m = refl
-frames_count (suc n) m = ap suc (frames_count n (obey m command.Frame).machine)
 
 -- ---- a whole run
 
@@ -292,11 +141,6 @@ frames_went m records tick (suc n) s ready goes =
           (goes_on m (Some HistoryFull) _ c next (rw (frame_refused machine full)) goes))
     ]
 
--- a list of one
-each_one : {X S E : Type 0} (f : X → S → Course S E) (x : X) (s : S) → each f (x ∷ []) s ≡ f x s
-unfolding each onward
-each_one f x s = grind (arith, append-nil)
-
 pub frames_ran : {R : Type 0} (m : Manner R) → Records m → (r : R) (n : ℕ) (o : Opened)
     (kept : Kept) (tally : Tally) → (frames_run m r n o kept tally).ending ≡ None
     → HasRun m 0 n (concert (standing (session_of o) kept tally) r)
@@ -304,5 +148,5 @@ pub frames_ran : {R : Type 0} (m : Manner R) → Records m → (r : R) (n : ℕ)
 unfolding concert_course cues_course
 frames_ran m records r n o kept tally goes =
     let s = concert (standing (session_of o) kept tally) r in
-    let one = each_one (cue_course m) (record { line = 0; times = n; order = Do command.Frame }) s in
+    let one = each-one (cue_course m) (record { line = 0; times = n; order = Do command.Frame }) s in
     rw one (frames_went m records 0 n s (opened_at o) (rw one at goes))

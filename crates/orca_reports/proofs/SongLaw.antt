@@ -17,18 +17,20 @@ use Rattle.orca_course.specs.Acts.Act.{Save}
 use Rattle.orca_course.specs.Courses.{afterwards, keeping, mapped, onward}
 use Rattle.orca_course.specs.Standings.{notes_of}
 use Rattle.orca_course.specs.declared.tally.Tally.{Tally}
+use Rattle.orca_edit.specs.Frames.{close_of, frames_of}
 use Rattle.orca_edit.specs.Obeying.{MachineState, piece_of}
 use Rattle.orca_edit.specs.Prices.{Kept}
+use Rattle.orca_edit.proofs.FrameLemmas.{ArePlayed, frames_count}
 use Rattle.orca_notes.specs.Sound.{ends}
 use Rattle.orca_smf.specs.declared.limits.TheConstants.{MAX_DELTA, MAX_TRACK_BYTES}
 use Rattle.orca_smf.specs.declared.timed.Timed.{Timed}
 use Rattle.orca_smf.specs.Recording.{Recorded}
 use Rattle.orca_smf.specs.Songs.{AreMessages, IsVoice, Tune, delta, end_event, file_of, last_tick, opening, track}
-use Rattle.orca_reports.specs.Runs.{Opened, calls_in, close_of, frames_of, session_of}
+use Rattle.orca_reports.specs.Runs.{Opened, calls_in, session_of}
 use Rattle.orca_reports.specs.SavedSongs.{SongIsSaved, SongIsTune, song_of, song_run, timed_frames}
 use Rattle.orca_reports.specs.Songs.{Recording, added, added_by, if_short, least_size, reached, reached_in, recorded, recording_at_start, smf_manner, whole_size, with_message}
 use Rattle.orca_reports.specs.Ticks.{TicksAreKept, timed_by, timed_of, with_messages}
-use Rattle.orca_reports.proofs.FrameLemmas.{ArePlayed, Goes, Records, frames_count, frames_ran, run_plays}
+use Rattle.orca_reports.proofs.FrameLemmas.{Goes, Records, frames_ran, run_plays}
 
 -- ---- the messages of a tick
 

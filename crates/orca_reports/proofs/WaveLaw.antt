@@ -12,6 +12,8 @@ use Rattle.orca_base.specs.MidiBytes.{midi_bytes_of}
 use Rattle.orca_base.specs.Ranges.{IsSendable}
 use Rattle.orca_concert.specs.Concerts.{close_course, final_course, last_course, saved_course}
 use Rattle.orca_course.specs.Courses.{afterwards, keeping, mapped, onward}
+use Rattle.orca_edit.specs.Frames.{frames_of}
+use Rattle.orca_edit.proofs.FrameLemmas.{ArePlayed, frames_count}
 use Rattle.orca_notes.specs.Device.{Ends, IsFair, Leads, Neither, Starts, Suits, Turn, device, is_on as is_key_on, is_same, keys_after, keys_without, midi, turn_of, voices}
 use Rattle.orca_notes.specs.Device as notes
 use Rattle.orca_notes.proofs.Voices.{keys_without-absent, same_voices}
@@ -20,11 +22,11 @@ use Rattle.orca_wav.specs.Rendering.{Rendering, Renders, is_of, is_on, rendering
 use Rattle.orca_wav.specs.Waves.{TimedMessage, voices_of}
 use Rattle.orca_wav.proofs.Messages.{voices-after}
 use Rattle.orca_wav.proofs.Runs.{Renders-message, Renders-none, Renders-samples}
-use Rattle.orca_reports.specs.Runs.{frames_of, session_of}
+use Rattle.orca_reports.specs.Runs.{session_of}
 use Rattle.orca_reports.specs.SavedWaves.{WaveIsSaved}
 use Rattle.orca_reports.specs.Sounding.{AreFair, FramesSound, SoundsAs, played, timed_at, timed_from}
 use Rattle.orca_reports.specs.Waves.{Wave, frame_course, framed, heard, suits, wav_manner, wave_at_start, wave_file}
-use Rattle.orca_reports.proofs.FrameLemmas.{ArePlayed, Goes, Records, frames_count, frames_ran, run_plays}
+use Rattle.orca_reports.proofs.FrameLemmas.{Goes, Records, frames_ran, run_plays}
 
 -- ---- the sound of frames
 

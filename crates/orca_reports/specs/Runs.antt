@@ -1,7 +1,5 @@
--- A run of frames: the messages that its session gives, frame by frame, and the calls of the run.
-use Rattle.std.specs.Prelude.{ℕ, zero, suc, List, [], ◌∷◌}
-use Rattle.orca_base.specs.declared.command.Command.TheVariants.{Frame}
-use Rattle.orca_base.specs.declared.message.Message.{Message}
+-- A run of frames, from an opened grid to its end, and the calls of it.
+use Rattle.std.specs.Prelude.{ℕ, List, [], ◌∷◌}
 use Rattle.orca_base.specs.Grids.{Sheet}
 use Rattle.orca_concert.specs.Concerts.{Concert, concert, concert_course}
 use Rattle.orca_concert.specs.Manners.{Manner}
@@ -12,23 +10,8 @@ use Rattle.orca_course.specs.Standings.{standing}
 use Rattle.orca_course.specs.declared.ending.Stop.{Stop}
 use Rattle.orca_course.specs.declared.tally.Tally.{Tally}
 use Rattle.orca_cues.specs.Cues.{frames_cue}
-use Rattle.orca_edit.specs.Obeying.{MachineState, machine_at_start, obey, piece_of}
+use Rattle.orca_edit.specs.Obeying.{MachineState, machine_at_start}
 use Rattle.orca_edit.specs.Prices.{Kept}
-use Rattle.orca_notes.specs.Sound.{ends}
-
--- the session after so many frames
-abbrev pub machine_after : ℕ → MachineState → MachineState
-machine_after zero m = m
-machine_after (suc n) m = machine_after n (obey m Frame).machine
-
--- the messages of each of so many frames
-abbrev pub frames_of : ℕ → MachineState → List (List Message)
-frames_of zero m = []
-frames_of (suc n) m = (obey m Frame).messages ∷ frames_of n (obey m Frame).machine
-
--- the messages of the close after so many frames
-abbrev pub close_of : ℕ → MachineState → List Message
-close_of n m = ends (piece_of (machine_after n m)).notes
 
 -- an opened grid, a seed, and the most entries of the history
 pub record Opened : Type 0 where

@@ -8,13 +8,14 @@ use Rattle.orca_course.specs.Acts.Act.{Save}
 use Rattle.orca_course.specs.Courses.{Course}
 use Rattle.orca_course.specs.declared.ending.Stop.{Stop}
 use Rattle.orca_course.specs.declared.tally.Tally.{Tally}
+use Rattle.orca_edit.specs.Frames.{close_of, frames_of}
 use Rattle.orca_edit.specs.Obeying.{MachineState}
 use Rattle.orca_edit.specs.Prices.{Kept}
 use Rattle.orca_op.specs.Laws.{IsLawful}
 use Rattle.orca_op.specs.Rules.{rule}
 use Rattle.orca_smf.specs.declared.timed.Timed.{Timed}
 use Rattle.orca_smf.specs.Songs.{IsTune, Tune, file_of}
-use Rattle.orca_reports.specs.Runs.{Opened, calls_in, close_of, frames_of, frames_run, session_of}
+use Rattle.orca_reports.specs.Runs.{Opened, calls_in, frames_run, session_of}
 use Rattle.orca_reports.specs.Songs.{Recording, recording_at_start, smf_manner}
 use Rattle.orca_reports.specs.Ticks.{timed_of}
 

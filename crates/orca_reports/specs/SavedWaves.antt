@@ -6,6 +6,7 @@ use Rattle.orca_course.specs.Acts.Act.{Save}
 use Rattle.orca_course.specs.Courses.{Course}
 use Rattle.orca_course.specs.declared.ending.Stop.{Stop}
 use Rattle.orca_course.specs.declared.tally.Tally.{Tally}
+use Rattle.orca_edit.specs.Frames.{frames_of}
 use Rattle.orca_edit.specs.Obeying.{MachineState}
 use Rattle.orca_edit.specs.Prices.{Kept}
 use Rattle.orca_op.specs.Laws.{IsLawful}
@@ -13,7 +14,7 @@ use Rattle.orca_op.specs.Rules.{rule}
 use Rattle.orca_wav.specs.declared.limits.TheConstants.{SAMPLE_BYTES}
 use Rattle.orca_wav.specs.Header.{header_bytes}
 use Rattle.orca_wav.specs.Waves.{run_bytes}
-use Rattle.orca_reports.specs.Runs.{Opened, calls_in, frames_of, frames_run, session_of}
+use Rattle.orca_reports.specs.Runs.{Opened, calls_in, frames_run, session_of}
 use Rattle.orca_reports.specs.Sounding.{timed_from}
 use Rattle.orca_reports.specs.Waves.{Wave, frame_samples, wav_manner, wave_at_start}
 
