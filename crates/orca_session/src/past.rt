@@ -1,6 +1,6 @@
-ghost use Rattle.std.specs.Prelude.{◌≡◌, ◌+◌, ◌/◌, ◌<◌, ◌≤◌, ◌↔◌, [], length, max, slice_get, option_copied, IfOk, IfSome, IsSome, OnOk, OnErr};
+ghost use Rattle.std.specs.Prelude.{◌≡◌, ◌+◌, ◌/◌, ◌<◌, ◌≤◌, [], length, max, IfOk, OnOk, OnErr};
 ghost use Rattle.orca_base.specs.declared.command.Command.TheVariants as command_of;
-ghost use Rattle.orca_base.specs.Histories.{group_of, last_edit};
+ghost use Rattle.orca_base.specs.Histories.{group_of};
 ghost use Rattle.orca_board.specs.Sizes.{cut_places};
 ghost use Rattle.orca_edit.specs.Editing.{FitsIn};
 ghost use Rattle.orca_edit.specs.Obeying.{first_standing, history_tests};
@@ -332,35 +332,11 @@ impl Past {
         self.closed = self.history.len();
     }
 
-    /// The number of entries.
-    pub fn len(&self) -> u32
-        ensures len { result ≡ length self.now.trail.entries }
-        ensures few { result ≤ self.now.trail.limit }
+    /// The entries that were done, those that jumps cut off, and the patches of the newest.
+    pub fn history(&self) -> &History
+        ensures { result.now ≡ self.now.trail }
     {
-        self.history.len()
-    }
-
-    /// The entry of a number; none exactly from [`Past::len`] on.
-    pub fn entry(&self, index: u32) -> Option<&Entry>
-        ensures entry { option_copied result ≡ slice_get self.now.trail.entries index }
-        ensures some { IsSome result ↔ (index < length self.now.trail.entries) }
-    {
-        self.history.entry(index)
-    }
-
-    /// The number of the last edit; none exactly if no entry is an edit.
-    pub fn last_edit(&self) -> Option<u32>
-        ensures last { result ≡ last_edit self.now.trail.entries }
-        ensures within { IfSome result (λ index. index < length self.now.trail.entries) }
-    {
-        self.history.last_edit()
-    }
-
-    /// How many entries a redo brings back; 0 exactly if the tail is empty.
-    pub fn group(&self) -> u32
-        ensures { result ≡ group_of self.now.trail.tail }
-    {
-        self.history.group()
+        &self.history
     }
 
     /// The seed of random numbers.
@@ -368,13 +344,6 @@ impl Past {
         ensures { result ≡ (present self.now).seed }
     {
         self.seed
-    }
-
-    /// The most entries that there may be.
-    pub fn limit(&self) -> u32
-        ensures { result ≡ self.now.trail.limit }
-    {
-        self.history.limit()
     }
 
     /// The most entries that there have been.

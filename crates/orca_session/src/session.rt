@@ -77,7 +77,7 @@ impl Session {
         ensures entry { option_copied result ≡ slice_get self.now.machine.history index }
         ensures some { IsSome result ↔ (index < length self.now.machine.history) }
     {
-        self.past.entry(index)
+        self.past.history().entry(index)
     }
 
     /// How many entries lie between two checkpoints: [`FIRST_SPACING`], and twice as many each time
@@ -300,7 +300,7 @@ impl Session {
         ensures price { steps.new + self.new.residue ≤ steps.old + self.old.residue
             + charge (Ok result) self.old.machine self.old.kept command_of.Undo }
     {
-        let moment = self.past.last_edit().unwrap();
+        let moment = self.past.history().last_edit().unwrap();
         self.jump(moment, messages, steps)
     }
 
@@ -342,7 +342,7 @@ impl Session {
         ensures price { steps.new + self.new.residue ≤ steps.old + self.old.residue
             + charge (Ok result) self.old.machine self.old.kept command_of.Redo }
     {
-        let entries = self.past.group();
+        let entries = self.past.history().group();
         self.tick = self.past.redo(&mut self.board, self.tick, steps);
         Reply::Redone { entries }
     }
@@ -420,11 +420,11 @@ impl Machine for Session {
     }
 
     fn moments(&self) -> u32 {
-        self.past.len()
+        self.past.history().len()
     }
 
     fn limit(&self) -> u32 {
-        self.past.limit()
+        self.past.history().limit()
     }
 
     fn peak(&self) -> u32 {

@@ -1,6 +1,8 @@
 use Rattle.std.proofs.Common.{◌≡◌, ℕ, [], None, Ok, ap, arith, sym, ◌∙◌, subst}
 use Rattle.orca_base.specs.declared.command.Command.TheVariants as command
 use Rattle.orca_base.specs.declared.command.Reply.TheVariants.{Redone}
+use Rattle.orca_base.specs.Histories.{group_of}
+use Rattle.orca_history.specs.Trails.{Trail}
 use Rattle.orca_edit.specs.Machines.{obeyed}
 use Rattle.orca_edit.specs.Obeying.{MachineState, obey, rule_against}
 use Rattle.orca_edit.specs.Prices.{redo_price, redone}
@@ -24,6 +26,12 @@ redo-self-inside-requires-clause-room g c =
     (subst (λ (s : SessionState). rule_against s.machine command.Redo ≡ None) (sym c.self.view_is)
     c.requires.allowed)
 
+-- as many entries come back as the first group of the tail has
+group : (g : Over) (c : goal.After-self-1 g)
+    → c.group-entries.result ≡ group_of c.self.inside.past.trail.tail
+group g c =
+    c.group-entries.ensures.group ∙ ap (λ (t : Trail). group_of t.tail) c.history.ensures
+
 done : (g : Over) (c : goal.After-self-1 g)
     → obey (machine_of c.self.inside.past c.self.inside.clip) command.Redo
     ≡ obeyed (Ok (Redone c.group-entries.result))
@@ -36,7 +44,7 @@ done g c =
     c.redo-self-inside.ensures.redone
     ∙ ap (λ (n : ℕ). obeyed (Ok (Redone n))
     (machine_of c.redo-self-inside.new.self c.self.inside.clip) [])
-    (sym c.group-entries.ensures))
+    (sym (group g c)))
 
 pub returns-clause-obeys : goal.returns-clause-obeys
 returns-clause-obeys g c = rw (← c.self.view_is) (done g c)
@@ -49,7 +57,7 @@ returns-clause-kept g c =
     (machine_of c.redo-self-inside.new.self c.self.inside.clip) [] (done g c)
     (c.redo-self-inside.ensures.numbers
     ∙ ap (redone (machine_of c.redo-self-inside.new.self c.self.inside.clip)
-    (numbers_of c.self.inside.past)) (sym c.group-entries.ensures)))
+    (numbers_of c.self.inside.past)) (sym (group g c))))
 
 pub returns-clause-price : goal.returns-clause-price
 returns-clause-price g c =
@@ -64,5 +72,5 @@ returns-clause-price g c =
       redo-plain c.redo-self-inside.new.self c.self.inside.clip (numbers_of c.self.inside.past)
           c.group-entries.result,
       ap (redo_price (plain c.redo-self-inside.new.self) (numbers_of c.self.inside.past))
-          c.group-entries.ensures,
+          (group g c),
     )))

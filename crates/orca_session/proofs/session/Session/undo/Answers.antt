@@ -2,6 +2,7 @@ use Rattle.std.proofs.Common.{◌≡◌, Some, ap, sym, subst, ◌∙◌}
 use Rattle.std.specs.Prelude.{IsSome}
 use Rattle.orca_base.specs.declared.command.Command.TheVariants as command
 use Rattle.orca_base.specs.Histories.{last_edit}
+use Rattle.orca_history.specs.Trails.{Trail}
 use Rattle.orca_session.specs.Session.{SessionState}
 use Rattle.orca_session.proofs.ObeyLemmas.{obey-undo, some-edit}
 use Rattle.orca_session.proofs.PayLemmas.{charge-jump, kept-jump}
@@ -13,7 +14,8 @@ pub unwrap-moment-requires : goal.unwrap-moment-requires
 unwrap-moment-requires g c =
     let last : c.last_edit.result ≡ last_edit c.args.self.now.machine.history =
     c.last_edit.ensures.last
-    ∙ ap (λ (s : SessionState). last_edit s.machine.history) c.self.view_is in
+    ∙ (ap (λ (t : Trail). last_edit t.entries) c.history.ensures
+    ∙ ap (λ (s : SessionState). last_edit s.machine.history) c.self.view_is) in
     subst IsSome (sym last)
     (some-not-none _ (some-edit c.args.self.now.machine c.requires.allowed))
 
@@ -22,7 +24,8 @@ last : (g : Over) (c : goal.After-jump g)
     → last_edit c.args.self.now.machine.history ≡ Some c.unwrap-moment.result
 last g c =
     sym (c.last_edit.ensures.last
-    ∙ ap (λ (s : SessionState). last_edit s.machine.history) c.self.view_is)
+    ∙ (ap (λ (t : Trail). last_edit t.entries) c.history.ensures
+    ∙ ap (λ (s : SessionState). last_edit s.machine.history) c.self.view_is))
     ∙ c.unwrap-moment.ensures
 
 pub returns-clause-acts : goal.returns-clause-acts
