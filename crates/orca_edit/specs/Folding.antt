@@ -4,7 +4,7 @@ use Rattle.orca_base.specs.declared.command.Command.TheVariants.{Undo, Redo}
 use Rattle.orca_base.specs.declared.command.Entry.{Entry}
 use Rattle.orca_base.specs.declared.command.Entry.TheVariants.{Hush}
 use Rattle.orca_base.specs.Grids.{Sheet, IsSheet}
-use Rattle.orca_base.specs.Histories.{done_of, is_edit}
+use Rattle.orca_base.specs.Histories.{is_edit}
 use Rattle.orca_op.specs.Laws.{IsLawful}
 use Rattle.orca_op.specs.Rules.{rule}
 use Rattle.orca_edit.specs.Editing.{AllFit, FitsIn, WritesGlyphs}
@@ -92,16 +92,6 @@ FoldsFromMoment =
 
 -- ---- what was cut off
 
--- the end of a jump changes nothing but notes, so what was done leads where the entries lead
-abbrev pub FoldsDone : Type 0
-FoldsDone =
-    (p : Piece) (entries : List Entry)
-    → silence (fold_entries p (done_of entries)) ≡ silence (fold_entries p entries)
-
--- entries that fit, without the ends of jumps
-abbrev pub FitsDone : Type 0
-FitsDone = (p : Piece) (entries : List Entry) → AllFit p entries → AllFit p (done_of entries)
-
 -- nothing, or an edit first
 abbrev pub begins_anew : List Entry → Bool
 begins_anew [] = true
@@ -114,19 +104,6 @@ RedoesUndo =
     (m : MachineState) → begins_anew m.tail ≡ true → rule_against m Undo ≡ None
     → rule_against (obey m Undo).machine Redo ≡ None
     → silence (piece_of (obey (obey m Undo).machine Redo).machine) ≡ silence (piece_of m)
-
--- ---- ticks
-
--- an entry raises the tick by one at most
-abbrev pub TicksOnce : Type 0
-TicksOnce =
-    (p : Piece) (entries : List Entry) → (fold_entries p entries).tick ≤ p.tick + length entries
-
--- the tick is at most the number of the entries
-abbrev pub TicksAtMost : Type 0
-TicksAtMost =
-    (opened : Sheet) (seed : ℕ) (history : List Entry) (closed : ℕ)
-    → (piece_after opened seed history closed).tick ≤ length history
 
 -- ---- entries that fit
 

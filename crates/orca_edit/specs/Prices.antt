@@ -1,6 +1,6 @@
 -- What the commands of a session may cost at most, in steps, and the numbers that a session keeps
 -- to go back and forward within these prices.
-use Rattle.std.specs.Prelude.{ℕ, ◌+◌, ◌-◌, ◌*◌, ◌/◌, ◌%◌, ◌==◌, Bool, nat_le, max, min, if◌then◌else◌, length, take, unwrap_or, slice_get, fold, sum_by, Result, Ok, Err}
+use Rattle.std.specs.Prelude.{ℕ, ◌+◌, ◌-◌, ◌*◌, ◌/◌, ◌%◌, ◌==◌, ◌≤◌, Bool, nat_le, max, min, if◌then◌else◌, length, take, unwrap_or, slice_get, fold, sum_by, Result, Ok, Err}
 use Rattle.std.specs.List.{range_with_len}
 use Rattle.std.specs.Option.{option_map_or}
 use Rattle.orca_base.specs.declared.command.Command.{Command}
@@ -87,6 +87,13 @@ least_first m first =
 -- many
 abbrev pub spaced : ℕ → ℕ → ℕ
 spaced spacing n = if n == MAX_CHECKPOINTS * spacing then 2 * spacing else spacing
+
+-- how far checkpoints lie apart: at the multiples of the spacing there are at most MAX_CHECKPOINTS,
+-- and it is at most that of the start, or a 32nd of the longest history
+pub record IsSpaced (m : MachineState) (k : Kept) : Type 0 where
+  pub few : length m.history / k.spacing + 1 ≤ MAX_CHECKPOINTS
+  pub least : FIRST_SPACING ≤ k.spacing
+  pub most : k.spacing ≤ max FIRST_SPACING (k.peak / 32)
 
 -- after an entry was added, which led to this machine
 abbrev pub pushed : MachineState → Kept → Kept

@@ -1,7 +1,7 @@
 //! Laws of the folds of histories, and of prices. Each function does nothing; its contract is the
 //! law.
 
-ghost use Rattle.orca_edit.specs.Folding.{ClosesAll, FitsAtFirst, FitsAtMoment, FitsDone, FitsInParts, FitsOn, FitsOneMore, FitsWithoutNotes, FoldsDone, FoldsFromMoment, FoldsFromOpened, FoldsMore, FoldsNext, FoldsOn, FoldsOneMore, HushesAll, IgnoresCloses, IgnoresNotes, IsSheetAfter, KeepsSeed, KeepsSheet, RedoesUndo, TicksAtMost, TicksOnce};
+ghost use Rattle.orca_edit.specs.Folding.{ClosesAll, FitsAtFirst, FitsAtMoment, FitsInParts, FitsOn, FitsOneMore, FitsWithoutNotes, FoldsFromMoment, FoldsFromOpened, FoldsMore, FoldsNext, FoldsOn, FoldsOneMore, HushesAll, IgnoresCloses, IgnoresNotes, IsSheetAfter, KeepsSeed, KeepsSheet};
 ghost use Rattle.orca_edit.specs.Prices.{change_price, price, touched};
 ghost use Rattle.orca_edit.specs.Pricing.{ChargesReply, EndsAtPiece, FirstIsWorn, IgnoresNotesOf, JumpWearsNone, ListsPlaces, PaysTwice, PiecesAgree, TotalsAgree, TotalsNone, TotalsOne, TotalsSplit, TouchedByHush, TouchedJumped, TouchedLater, TouchedMore, TouchesBothWays, TouchesFew, TouchesListed};
 
@@ -30,20 +30,6 @@ pub fn notes_law()
 pub fn moment_law()
     ensures next { FoldsNext }
     ensures from { FoldsFromMoment }
-{}
-
-/// A redo brings back what an undo took. What was cut off fits, and leads where it led, without the
-/// ends of earlier jumps.
-pub fn redo_law()
-    ensures undone { RedoesUndo }
-    ensures folds { FoldsDone }
-    ensures fits { FitsDone }
-{}
-
-/// An entry raises the tick by one at most, so the tick is at most the number of entries.
-pub fn tick_law()
-    ensures once { TicksOnce }
-    ensures most { TicksAtMost }
 {}
 
 /// Entries that all fit: the first ones do, and the others after them. Each fits the piece of its

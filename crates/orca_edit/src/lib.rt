@@ -17,8 +17,7 @@ pub use applying::apply;
 pub use copying::copy;
 pub use entries::{Edit, to_entry};
 pub use laws::{
-    first_law, fit_law, fold_law, moment_law, notes_law, price_law, redo_law, sheet_law, tick_law,
-    touch_law,
+    first_law, fit_law, fold_law, moment_law, notes_law, price_law, sheet_law, touch_law,
 };
 pub use machine::Machine;
 pub use rules::block_rule;

@@ -1,9 +1,10 @@
 ghost use Rattle.std.specs.Prelude.{◌≡◌, ◌≤◌, ◌+◌, ℕ, List, [], length};
 ghost use Rattle.orca_base.specs.declared.limits.TheConstants.{MAX_NOTES};
 ghost use Rattle.orca_base.specs.declared.note.Note.{Note};
+ghost use Rattle.orca_edit.specs.Folding.{RedoesUndo};
 ghost use Rattle.orca_edit.specs.Machines.{Acts, Closes, preview_of};
 ghost use Rattle.orca_edit.specs.Obeying.{MachineState, piece_of};
-ghost use Rattle.orca_edit.specs.Prices.{Kept, charge, kept_after, preview_price};
+ghost use Rattle.orca_edit.specs.Prices.{IsSpaced, Kept, charge, kept_after, preview_price};
 
 use orca_base::{Command, Fault, Look, Note, Reply, Steps};
 use orca_notes::Messages;
@@ -37,7 +38,13 @@ pub trait Machine: Look + Drop {
         ensures kept { kept self.new
             ≡ kept_after (machine self.old) (kept self.old) command.now result }
         ensures price { steps.new + residue self.new ≤ steps.old + residue self.old
-            + charge result (machine self.old) (kept self.old) command.now };
+            + charge result (machine self.old) (kept self.old) command.now }
+
+        // The checkpoints stay few, and no farther apart than the history makes them.
+        ensures spaced { IsSpaced (machine self.new) (kept self.new) }
+
+        // The law of a redo: it brings back what an undo took.
+        ensures redo { RedoesUndo };
 
     /// Ends all notes that sound, and gives the messages of it. The history stays.
     fn close(&mut self, messages: &mut Messages)
@@ -56,9 +63,10 @@ pub trait Machine: Look + Drop {
         ensures price { steps.new + residue self.new
             ≤ steps.old + residue self.old + preview_price (piece_of (machine self.old)) };
 
-    /// The tick of the next frame.
+    /// The tick of the next frame, at most the number of entries.
     fn tick(&self) -> u32
-        ensures { result ≡ (piece_of (machine self.now)).tick };
+        ensures tick { result ≡ (piece_of (machine self.now)).tick }
+        ensures most { result ≤ length (machine self.now).history };
 
     /// The notes that sound, in the order in which they started.
     fn notes(&self) -> &[Note]

@@ -5,7 +5,7 @@ ghost use Rattle.orca_board.specs.Sizes.{cut_places};
 ghost use Rattle.orca_edit.specs.Editing.{FitsIn};
 ghost use Rattle.orca_edit.specs.Obeying.{first_standing, history_tests};
 ghost use Rattle.orca_edit.specs.Pieces.{apply, silence};
-ghost use Rattle.orca_edit.specs.Prices.{best_moment, jump_price, jumped, load_price, new_cells, pushed, redo_price, redone as kept_redone, undo_price};
+ghost use Rattle.orca_edit.specs.Prices.{IsSpaced, best_moment, jump_price, jumped, load_price, new_cells, pushed, redo_price, redone as kept_redone, undo_price};
 ghost use Rattle.orca_edit.specs.Pricing.{listed_by};
 ghost use Rattle.orca_op.specs.Desk.{residue};
 ghost use Rattle.orca_op.specs.State.{sheet_of};
@@ -370,6 +370,13 @@ impl Past {
         ensures most { result ≤ MAX_CHECKPOINTS }
     {
         self.checkpoints.count()
+    }
+
+    /// What holds of the checkpoints, whatever was done.
+    pub fn is_spaced(&self)
+        ensures { IsSpaced (plain self.now) (numbers_of self.now) }
+    {
+        let _spacing = self.checkpoints.spacing();
     }
 
     /// Where its memory comes from.

@@ -113,6 +113,33 @@ impl Session {
         }
     }
 
+    /// Does what a command asks for, if no rule stands against it.
+    fn obey<L: Ledger>(
+        &mut self,
+        command: &Command,
+        messages: &mut Messages,
+        steps: &mut Steps<L>,
+    ) -> Result<Reply, Fault>
+        requires silent { messages.old ≡ [] }
+        ensures acts { Acts self.old.machine command.now result self.new.machine messages.new }
+        ensures kept { self.new.kept
+            ≡ kept_after self.old.machine self.old.kept command.now result }
+        ensures price { steps.new + self.new.residue ≤ steps.old + self.old.residue
+            + charge result self.old.machine self.old.kept command.now }
+    {
+        if let Some(rule) = self.rule_against(command) {
+            return Err(Fault::Refused(rule));
+        }
+        match *command {
+            Command::Frame => self.play(messages, steps),
+            Command::Reset => self.reset(messages, steps),
+            Command::Undo => Ok(self.undo(messages, steps)),
+            Command::Rewind { moment } => Ok(self.jump(moment, messages, steps)),
+            Command::Redo => Ok(self.redo(steps)),
+            _ => self.edit(command, steps),
+        }
+    }
+
     /// Plays a frame, and adds it to the history.
     #[tactic(auto, unfolding(orca_edit::specs::Pieces::apply))]
     fn play<L: Ledger>(
@@ -377,23 +404,16 @@ impl Machine for Session {
 
     ghost shown = { λ _. refl };
 
+    #[tactic(auto, using(orca_edit::proofs::RedoLemmas::redoes_undo))]
     fn act<L: Ledger>(
         &mut self,
         command: &Command,
         messages: &mut Messages,
         steps: &mut Steps<L>,
     ) -> Result<Reply, Fault> {
-        if let Some(rule) = self.rule_against(command) {
-            return Err(Fault::Refused(rule));
-        }
-        match *command {
-            Command::Frame => self.play(messages, steps),
-            Command::Reset => self.reset(messages, steps),
-            Command::Undo => Ok(self.undo(messages, steps)),
-            Command::Rewind { moment } => Ok(self.jump(moment, messages, steps)),
-            Command::Redo => Ok(self.redo(steps)),
-            _ => self.edit(command, steps),
-        }
+        let answer = self.obey(command, messages, steps);
+        self.past.is_spaced();
+        answer
     }
 
     fn close(&mut self, messages: &mut Messages) {

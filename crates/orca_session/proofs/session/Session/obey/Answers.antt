@@ -6,12 +6,12 @@ use Rattle.orca_session.proofs.ObeyLemmas.{obey-rewind, some-moment}
 use Rattle.orca_base.specs.declared.command.Fault.TheVariants.{Refused}
 use Rattle.orca_session.proofs.PayLemmas.{charge-jump, kept-jump, kept-none}
 use Rattle.orca_session.proofs.SessionLemmas.{acts-refused, acts-silent}
-use Rattle.orca_session.proofs.session.SessionMachine.act.Goals as goal
+use Rattle.orca_session.proofs.session.Session.obey.Goals as goal
 
 pub returns-in-Some-clause-acts : goal.returns-in-Some-clause-acts
 returns-in-Some-clause-acts g c =
     acts-refused c.args.self.now.machine c.args.command.now c.in-Some.rule c.args.messages.now
-    c.requires (sym c.rule_against.ensures.rule ∙ c.in-Some.is)
+    c.requires.silent (sym c.rule_against.ensures.rule ∙ c.in-Some.is)
 
 pub jump-requires-clause-within : goal.jump-requires-clause-within
 jump-requires-clause-within g c =
@@ -35,12 +35,12 @@ pub returns-in-Redo-clause-acts : goal.returns-in-Redo-clause-acts
 returns-in-Redo-clause-acts g c =
     rw c.in-Redo.is
     (acts-silent c.args.self.now.machine c.redo.new.self.machine command.Redo (Ok c.redo.result)
-    c.args.messages.now c.requires c.redo.ensures.obeys c.redo.ensures.notes)
+    c.args.messages.now c.requires.silent c.redo.ensures.obeys c.redo.ensures.notes)
 
 pub returns-in_default-command : goal.returns-in_default-command
 returns-in_default-command g c = record {
   acts = acts-silent c.args.self.now.machine c.edit.new.self.machine c.args.command.now
-      c.edit.result c.args.messages.now c.requires c.edit.ensures.obeys c.edit.ensures.notes;
+      c.edit.result c.args.messages.now c.requires.silent c.edit.ensures.obeys c.edit.ensures.notes;
   kept = c.edit.ensures.kept;
   price = c.edit.ensures.price;
 }
