@@ -123,7 +123,7 @@ most_players = refl
 longest_arrival : ARRIVAL_BYTES ≡ 64
 longest_arrival = refl
 
-longest_sequence : SEQUENCE_BYTES ≡ 8
+longest_sequence : SEQUENCE_BYTES ≡ 12
 longest_sequence = refl
 
 -- screens, and the pace

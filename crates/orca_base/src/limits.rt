@@ -125,7 +125,7 @@ pub const MAX_HANDS: u8 = 8;
 pub const ARRIVAL_BYTES: usize = 64;
 
 /// The most bytes that a sequence of a key may hold between its beginning and its end.
-pub const SEQUENCE_BYTES: u8 = 8;
+pub const SEQUENCE_BYTES: u8 = 12;
 
 /// How many moments the key of going back takes.
 pub const BACK_MOMENTS: u32 = 16;
