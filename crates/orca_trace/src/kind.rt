@@ -1,0 +1,19 @@
+use orca_base::Port;
+use orca_rig::{Answer, OutsideFault};
+
+/// What was called and what it answered, but for the name and the bytes.
+#[derive(Clone, Copy)]
+pub enum Kind {
+    /// A port was to be attached to a name.
+    Attach(Port, Result<(), OutsideFault>),
+    /// Bytes were given to a port.
+    Give(Port, Result<(), OutsideFault>),
+    /// The file of a name was to be loaded; its bytes came if it was.
+    Load(Result<(), OutsideFault>),
+    /// Bytes were to be saved under a name.
+    Save(Result<(), OutsideFault>),
+    /// The inbox listened at a name for so many hands, and answered the moment of the start.
+    Listen(u8, Result<u64, OutsideFault>),
+    /// The inbox was to wait until a moment, where there is one, and answered; bytes may have come.
+    Await(Option<u64>, Answer),
+}
