@@ -26,7 +26,7 @@ use Rattle.orca_course.proofs.ActLemmas.{open_after-append, stand_after-append}
 use Rattle.orca_course.proofs.CourseLemmas.{onward_longer}
 use Rattle.orca_course.proofs.DoingLemmas.{answered_same, does_acts, does_begun, does_cut, does_joined, does_mapped, does_none, does_then, rests_mute}
 use Rattle.orca_course.proofs.FollowLemmas.{Follows-front, accompanies_twice, follows_gives, keys_after_gives}
-use Rattle.orca_course.proofs.WorldLemmas.{made_none, made_obey, made_stand, made_twice, made_within}
+use Rattle.orca_course.proofs.WorldLemmas.{made_none, made_obey, made_stand, made_twice, made_within, wants_longer}
 use Rattle.orca_concert.specs.Concerts.{Concert, answer_of, close_course, command_course, concert, handed_of, obeyed_course, reported, stance_of, with_kept}
 use Rattle.orca_concert.specs.Manners.{Manner}
 use Rattle.orca_concert.proofs.ChargeLemmas.{charge_most}
@@ -88,7 +88,7 @@ module _ {R : Type 0} (m : Manner R) {s t : Standing} {messages : List Message} 
       does_begun begun.done left splits begun.made
       (λ hands. Follows-front _ begun.done left
       (rw splits at (accompanies_handed m.hands s t messages plays hands)).follows)
-      begun.wants
+      (wants_longer InSend begun.left (Stand t ∷ []) x y begun.wants)
   handed_cut u Elsewhere other cut = absurd (other refl)
 
 -- ---- a report

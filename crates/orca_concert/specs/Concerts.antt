@@ -8,7 +8,7 @@ use Rattle.orca_base.specs.declared.command.Reply.{Reply}
 use Rattle.orca_base.specs.declared.command.Rule.{Rule}
 use Rattle.orca_base.specs.declared.message.Message.{Message}
 use Rattle.orca_base.specs.Ports.{Sent}
-use Rattle.orca_course.specs.Acts.{Act, gives}
+use Rattle.orca_course.specs.Acts.{gives}
 use Rattle.orca_course.specs.Acts.Act.{Obey, Stand}
 use Rattle.orca_course.specs.Courses.{Course, afterwards, course, each, ended, keeping, mapped, onward}
 use Rattle.orca_course.specs.Doing.{Stance}

@@ -173,7 +173,7 @@ fn finish<
 }
 
 /// Tells the report where the run stands at last, unless it was ended.
-#[tactic(auto, using(orca_course::proofs::DoingLemmas::does_end), unfolding(crate::specs::Concerts::final_course))]
+#[tactic(auto, using(orca_course::proofs::WorldLemmas::called_still), unfolding(crate::specs::Concerts::final_course))]
 fn tell_last<
     M: Machine + Drop,
     R: Report + Drop,
@@ -223,7 +223,7 @@ pub fn close<
 }
 
 /// Lets the report save, unless the run was ended.
-#[tactic(auto, using(orca_course::proofs::DoingLemmas::does_end), unfolding(crate::specs::Concerts::saved_course))]
+#[tactic(auto, using(orca_course::proofs::WorldLemmas::called_still), unfolding(crate::specs::Concerts::saved_course))]
 fn save<
     M: Machine + Drop,
     R: Report + Drop,

@@ -47,6 +47,7 @@ pub fn send_messages<F: Files + Drop, O: Outs + Drop, I: Inbox + Drop, L: Ledger
 }
 
 /// Sends the messages, if they are handed out.
+#[tactic(auto, using(orca_course::proofs::WorldLemmas::called_still))]
 pub(crate) fn hand_messages<F: Files + Drop, O: Outs + Drop, I: Inbox + Drop, L: Ledger>(
     desk: &mut Desk<F, O, I, L>,
     hands: bool,

@@ -1,23 +1,25 @@
 -- What is read off acts, and then off others.
 use Rattle.std.proofs.Common.{◌≡◌, List, [], ◌∷◌, ◌++◌, refl, ap, arith}
-use Rattle.std.specs.Prelude.{Bool, false, Option}
+use Rattle.std.specs.Prelude.{Bool, true, false, ◌||◌, Option, None}
 use Rattle.orca_base.specs.Ports.{Sent}
-use Rattle.orca_rig.specs.Arrived.{Log}
-use Rattle.orca_course.specs.Acts.{Act, AreDeaf, AreMute, ArePrintable, asked_in, attached_in, commands_in, ended_after, given, gives, log_after, lost_after, open_after, polls_in, stand_after}
+use Rattle.orca_rig.specs.Arrived.{is_ending}
+use Rattle.orca_course.specs.Acts.{Act, AreDeaf, AreMute, ArePrintable, calls_in, commands_in, given, gives, open_after, polls_in, stand_after}
+use Rattle.orca_course.specs.Acts.Act.{Await, Listen}
+use Rattle.orca_course.specs.Answered.{is_failure}
 use Rattle.orca_course.specs.Standings.{Standing}
 
 pub given-append : (xs ys : List Act) → given (xs ++ ys) ≡ given xs ++ given ys
 given-append [] ys = refl
 given-append (x ∷ xs) ys = grind (arith, given-append xs ys)
 
-pub attached_in-append : (xs ys : List Act)
-    → attached_in (xs ++ ys) ≡ attached_in xs ++ attached_in ys
-attached_in-append [] ys = refl
-attached_in-append (x ∷ xs) ys = grind (arith, attached_in-append xs ys)
+pub calls_in-append : (xs ys : List Act) → calls_in (xs ++ ys) ≡ calls_in xs ++ calls_in ys
+calls_in-append [] ys = refl
+calls_in-append (x ∷ xs) ys = grind (arith, calls_in-append xs ys)
 
-pub asked_in-append : (xs ys : List Act) → asked_in (xs ++ ys) ≡ asked_in xs ++ asked_in ys
-asked_in-append [] ys = refl
-asked_in-append (x ∷ xs) ys = grind (arith, asked_in-append xs ys)
+-- the sends among acts are calls
+pub given-calls : (acts : List Act) → given (calls_in acts) ≡ given acts
+given-calls [] = refl
+given-calls (x ∷ acts) = grind (arith, given-calls acts)
 
 pub polls_in-append : (xs ys : List Act) → polls_in (xs ++ ys) ≡ polls_in xs ++ polls_in ys
 polls_in-append [] ys = refl
@@ -28,20 +30,38 @@ pub commands_in-append : (xs ys : List Act)
 commands_in-append [] ys = refl
 commands_in-append (x ∷ xs) ys = grind (arith, commands_in-append xs ys)
 
-pub log_after-append : (xs ys : List Act) (log : Log)
-    → log_after (xs ++ ys) log ≡ log_after ys (log_after xs log)
-log_after-append [] ys log = refl
-log_after-append (x ∷ xs) ys log = grind (arith, log_after-append xs ys)
+-- whether the inbox has ended, after acts
+abbrev pub ended_after : List Act → Bool → Bool
+ended_after [] before = before
+ended_after (Await poll ∷ acts) before = ended_after acts (before || is_ending poll.answer)
+ended_after (_ ∷ acts) before = ended_after acts before
 
 pub ended_after-append : (xs ys : List Act) (b : Bool)
     → ended_after (xs ++ ys) b ≡ ended_after ys (ended_after xs b)
 ended_after-append [] ys b = refl
-ended_after-append (x ∷ xs) ys b = grind (arith, ended_after-append xs ys)
+ended_after-append (x ∷ xs) ys b = grind (arith, λ (c : Bool). ended_after-append xs ys c)
+
+pub ended_after-calls : (acts : List Act) (b : Bool)
+    → ended_after (calls_in acts) b ≡ ended_after acts b
+ended_after-calls [] b = refl
+ended_after-calls (x ∷ acts) b = grind (arith, λ (c : Bool). ended_after-calls acts c)
+
+-- whether the inbox has failed, after acts
+abbrev pub lost_after : List Act → Bool → Bool
+lost_after [] before = before
+lost_after (Listen name hands None ∷ acts) before = lost_after acts true
+lost_after (Await poll ∷ acts) before = lost_after acts (before || is_failure poll.answer)
+lost_after (_ ∷ acts) before = lost_after acts before
 
 pub lost_after-append : (xs ys : List Act) (b : Bool)
     → lost_after (xs ++ ys) b ≡ lost_after ys (lost_after xs b)
 lost_after-append [] ys b = refl
-lost_after-append (x ∷ xs) ys b = grind (arith, lost_after-append xs ys)
+lost_after-append (x ∷ xs) ys b = grind (arith, λ (c : Bool). lost_after-append xs ys c)
+
+pub lost_after-calls : (acts : List Act) (b : Bool)
+    → lost_after (calls_in acts) b ≡ lost_after acts b
+lost_after-calls [] b = refl
+lost_after-calls (x ∷ acts) b = grind (arith, λ (c : Bool). lost_after-calls acts c)
 
 pub stand_after-append : (s : Option Standing) (xs ys : List Act)
     → stand_after s (xs ++ ys) ≡ stand_after (stand_after s xs) ys

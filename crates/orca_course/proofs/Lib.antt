@@ -1,5 +1,7 @@
 pub mod ActLemmas
 pub mod FollowLemmas
+pub mod AnsweredLemmas
+pub mod ToldLemmas
 pub mod WorldLemmas
 pub mod CourseLemmas
 pub mod DoingLemmas

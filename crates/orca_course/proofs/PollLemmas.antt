@@ -1,15 +1,17 @@
 -- What was done for polls.
-use Rattle.std.proofs.Common.{◌≡◌, ℕ, ◌+◌, ◌<◌, ◌≤◌, length, List, [], ◌∷◌, ◌++◌, refl, arith, length-append, append-nil}
+use Rattle.std.proofs.Common.{◌≡◌, ℕ, ◌+◌, ◌<◌, ◌≤◌, length, List, [], ◌∷◌, ◌++◌, refl, sym, subst, ◌∙◌, arith, length-append, append-nil}
 use Rattle.std.specs.Prelude.{Bool, false, ◌||◌, Option, Some, None, Result, Ok, Err}
 use Rattle.std.proofs.lemmas.Bool.{le-leb}
 use Rattle.orca_base.specs.declared.limits.TheConstants.{MAX_POLLS}
-use Rattle.orca_rig.specs.Arrived.{Poll, is_ending}
+use Rattle.orca_rig.specs.Arrived.{is_ending}
+use Rattle.orca_trace.specs.Calls.{Poll}
 use Rattle.orca_rig.specs.declared.inbox.Answer.{Answer}
-use Rattle.orca_course.specs.Acts.{AreDeaf, is_failure, polls_in}
+use Rattle.orca_course.specs.Acts.{AreDeaf, polls_in}
+use Rattle.orca_course.specs.Answered.{is_failure}
 use Rattle.orca_course.specs.Courses.{Course, each, lastly, mapped, onward}
 use Rattle.orca_course.specs.Doing.{Does}
 use Rattle.orca_course.specs.Performers.{DoesPolls, IsDeaf, IsLostBy, Part, attended, begun, finished, heard, opened, performance, polled, spent}
-use Rattle.orca_course.specs.Worlds.{Polled, World, owing}
+use Rattle.orca_course.specs.Worlds.{Polled, World, has_ended, is_lost, owing}
 use Rattle.orca_course.specs.declared.ending.Ending.{Ending}
 use Rattle.orca_course.specs.declared.ending.Ending.TheVariants.{Spent}
 use Rattle.orca_course.specs.declared.ending.Stop.{Stop}
@@ -17,7 +19,7 @@ use Rattle.orca_course.specs.declared.refused.NoMemory.{NoMemory}
 use Rattle.orca_course.proofs.ActLemmas.{ended-deaf, lost-deaf, polls-deaf, polls_in-append}
 use Rattle.orca_course.proofs.CourseLemmas.{each-append, each-one, lastly_longer, onward_goes, still_onward}
 use Rattle.orca_course.proofs.DoingLemmas.{Ends, answered, does_acts, does_end, does_lastly, does_left, does_longer, does_mapped, does_still, does_then, each_more, rests_mute}
-use Rattle.orca_course.proofs.WorldLemmas.{made_owing}
+use Rattle.orca_course.proofs.WorldLemmas.{ended_made, lost_made, made_owing}
 
 -- what comes later does not ask the inbox
 
@@ -56,7 +58,7 @@ heard_lost p a bytes s was = grind arith
 abbrev pub poll_of : {until : Option ℕ} {a : Answer} {bytes : List ℕ} {x y : World}
     → Polled until a bytes x y → Poll
 poll_of {until = until} {a = a} {bytes = bytes} polled =
-    record { until = until; sent = polled.sent; answer = a; bytes = bytes }
+    record { until = until; answer = a; bytes = bytes }
 
 -- a poll, and what its answer brings
 pub poll_done : {S : Type 0} (p : Part S) {until : Option ℕ} {a : Answer} {came bytes : List ℕ}
@@ -77,15 +79,18 @@ unfolding polled onward
 polled_polls p deaf poll s waits = grind (arith, polls-deaf, heard_deaf)
 
 polled_hears : {S : Type 0} {p : Part S} (poll : Poll) {s t : S} {x y : World} → IsDeaf p
-    → Does p.stance (polled p poll s) s x (Ok None) t y → y.mail.ended ≡ false
+    → has_ended x ≡ false → Does p.stance (polled p poll s) s x (Ok None) t y → has_ended y ≡ false
 unfolding polled onward
-polled_hears poll deaf did = grind (arith, ended-deaf, heard_deaf, heard_goes)
+polled_hears poll deaf hearing did =
+    let ends = ended_made did.did.made in grind (arith, ended-deaf, heard_deaf, heard_goes, ends)
 
 polled_lost : {S : Type 0} {p : Part S} (poll : Poll) {s t : S} {x y : World} → IsDeaf p
     → (result : Result (Option Ending) NoMemory) → Does p.stance (polled p poll s) s x result t y
-    → IsLostBy result x.lost y.lost
+    → IsLostBy result (is_lost x) (is_lost y)
 unfolding polled onward
-polled_lost poll deaf result did = grind (arith, lost-deaf, heard_deaf, heard_lost)
+polled_lost poll deaf (Ok end) did =
+    let lost = lost_made did.did.made in grind (arith, lost-deaf, heard_deaf, heard_lost, lost)
+polled_lost poll deaf (Err e) did = tt
 
 -- ---- polls, one after another
 
@@ -95,11 +100,11 @@ pub record Answered {S : Type 0} (p : Part S) (n : ℕ) (s : S) (x : World) (t :
   pub polls : List Poll
   pub many : length polls ≡ n
   pub all : polls_in (each (polled p) polls s).acts ≡ polls
-  pub hearing : y.mail.ended ≡ false
-  pub steady : y.lost ≡ x.lost
+  pub hearing : has_ended y ≡ false
+  pub steady : is_lost y ≡ is_lost x
   pub did : Does p.stance (each (polled p) polls s) s x (Ok None) t y
 
-pub answered_none : {S : Type 0} (p : Part S) (s : S) (x : World) → x.mail.ended ≡ false
+pub answered_none : {S : Type 0} (p : Part S) (s : S) (x : World) → has_ended x ≡ false
     → Answered p 0 s x s x
 unfolding each
 answered_none p s x hearing = record {
@@ -136,7 +141,7 @@ module _ {S : Type 0} {p : Part S} {n : ℕ} {s t : S} {x y : World} (so_far : A
       polls = so_far.polls ++ poll ∷ [];
       many = grind (arith, length-append, so_far.many);
       all = all_more poll deaf waits;
-      hearing = polled_hears poll deaf did;
+      hearing = polled_hears poll deaf so_far.hearing did;
       steady = grind (arith, polled_lost poll deaf (Ok None) did, so_far.steady);
       did = each_more (polled p) so_far.polls poll so_far.did did;
     }
@@ -179,14 +184,17 @@ opened_deaf deaf s = deaf.opens s
 
 module _ {S : Type 0} {p : Part S} (deaf : IsDeaf p) {s t : S} {x y : World} where
   -- the inbox has not ended before the first poll
-  pub opened_hears : Does p.stance (opened p s) s x (Ok None) t y → x.mail.ended ≡ false
-      → y.mail.ended ≡ false
-  opened_hears first hearing = grind (arith, ended-deaf, opened_deaf deaf)
+  pub opened_hears : Does p.stance (opened p s) s x (Ok None) t y → has_ended x ≡ false
+      → has_ended y ≡ false
+  opened_hears first hearing =
+      let ends = ended_made first.did.made in grind (arith, ended-deaf, opened_deaf deaf, ends)
 
   opened_lost : (result : Result (Option Ending) NoMemory)
-      → Does p.stance (opened p s) s x result t y → IsLostBy result x.lost y.lost
+      → Does p.stance (opened p s) s x result t y → IsLostBy result (is_lost x) (is_lost y)
   unfolding opened mapped
-  opened_lost result first = grind (arith, lost-deaf, deaf.opens)
+  opened_lost (Ok end) first =
+      let lost = lost_made first.did.made in grind (arith, lost-deaf, deaf.opens, lost)
+  opened_lost (Err e) first = tt
 
   pub begun_then : {u : S} {z : World} {result : Result (Option Ending) NoMemory}
       → Does p.stance (opened p s) s x (Ok None) t y → Attends p t y result u z
@@ -221,6 +229,16 @@ module _ {S : Type 0} {p : Part S} (deaf : IsDeaf p) {s t : S} {x y : World} whe
 
 -- ---- the end
 
+last_lost : {S : Type 0} {p : Part S} (deaf : IsDeaf p) (e : Ending) (t u : S) (x y z : World)
+    (result : Result (Option Stop) NoMemory) → IsLostBy (Ok (Some e)) (is_lost x) (is_lost y)
+    → Does p.stance (p.finishes e t) t y result u z
+    → IsLostBy (answered (λ end. Some e) result) (is_lost x) (is_lost z)
+last_lost {p = p} deaf e t u x y z (Ok end) lost more =
+    let same = lost_made more.did.made
+    ∙ lost-deaf (p.finishes e t).acts (is_lost y) (deaf.finishes e t) in
+    subst (IsLostBy (Ok (Some e)) (is_lost x)) (sym same) lost
+last_lost deaf e t u x y z (Err refused) lost more = tt
+
 module _ {S : Type 0} {p : Part S} (deaf : IsDeaf p) {s t : S} {x y : World} where
   -- how it ended stays
   pub performance_last : {u : S} {z : World} {e : Ending} (result : Result (Option Stop) NoMemory)
@@ -228,11 +246,11 @@ module _ {S : Type 0} {p : Part S} (deaf : IsDeaf p) {s t : S} {x y : World} whe
       → Does p.stance (p.finishes e t) t y result u z
       → DoesPolls p.stance (performance p s) s x (answered (λ end. Some e) result) u z
   unfolding performance finished mapped
-  performance_last {e = e} result first more = record {
+  performance_last {z = z} {e = e} result first more = record {
     polls = first.polls;
     few = first.few;
     all = rw (polls_lastly (begun p s first.polls) (finished p) deaf.finishes) first.all;
-    lost = grind (arith, lost-deaf, deaf.finishes, first.lost);
+    lost = last_lost deaf e _ _ x y z result first.lost more;
     did = does_lastly (finished p) first.did
         (does_mapped (λ u. u) (λ end. Some e) result refl (λ u. refl) more);
   }

@@ -1,71 +1,106 @@
 -- What acts make of the world, one list of them after another.
-use Rattle.std.proofs.Common.{◌≡◌, ℕ, ◌+◌, ◌≤◌, List, [], ◌∷◌, ◌++◌, refl, ◌∙◌, append_assoc, append-nil, arith, length, ◌<◌, ◌^◌}
-use Rattle.std.proofs.lemmas.Grind.{common_steps}
-use Rattle.std.specs.Prelude.{All, Option, Some, None}
+use Rattle.std.proofs.Common.{◌≡◌, ℕ, ◌+◌, ◌≤◌, List, [], ◌∷◌, ◌++◌, refl, sym, ap, ◌∙◌, append_assoc, append-nil, arith}
+use Rattle.std.proofs.lemmas.List.Folds.{list_any-append}
+use Rattle.std.specs.Prelude.{Bool, true, false, ◌||◌, All, Option, Result, Ok, Err}
 use Rattle.orca_base.specs.declared.command.Command.{Command}
-use Rattle.orca_base.specs.Ports.{Sent}
 use Rattle.orca_term.specs.Picture.{IsPrintable}
 use Rattle.orca_term.specs.declared.cell.Cell.{Cell}
 use Rattle.orca_rig.specs.Outside.{Contents}
-use Rattle.orca_course.specs.Acts.{Act, given}
-use Rattle.orca_course.specs.Acts.Act.{Obey, Show, Stand}
+use Rattle.orca_base.specs.Ports.{Sent}
+use Rattle.orca_rig.specs.declared.fault.OutsideFault.{OutsideFault}
+use Rattle.orca_rig.specs.declared.inbox.Answer.{Answer}
+use Rattle.orca_rig.specs.declared.fault.OutsideFault.TheVariants.{Memory}
+use Rattle.orca_trace.specs.Calls.{Call}
+use Rattle.orca_trace.specs.Calls.Call.{Await as CallAwait, Give as CallGive}
+use Rattle.orca_course.specs.Acts.{Act, ArePrintable, calls_in, given}
+use Rattle.orca_course.specs.Acts.Act.{Await, Give, Obey, Show, Stand}
+use Rattle.orca_course.specs.Answered.{done_in, refused_in}
 use Rattle.orca_course.specs.Standings.{Standing}
-use Rattle.orca_course.specs.Worlds.{AreStored, CountsSends, IsCount, Made, Sated, World, added, owing}
-use Rattle.orca_course.proofs.ActLemmas.{ArePrintable-append, asked_in-append, attached_in-append, ended_after-append, given-append, log_after-append, lost_after-append}
-
--- the ports
-
-added_twice : {A : Type 0} (told : Option (List A)) (xs ys : List A)
-    → added (added told xs) ys ≡ added told (xs ++ ys)
-added_twice told xs ys = grind (arith, append_assoc)
-
-counted_twice : (handed : Option (List Sent)) (xs ys : List Act) → CountsSends handed xs
-    → CountsSends (added handed (given xs)) ys → CountsSends handed (xs ++ ys)
-counted_twice handed [] ys first second = grind (arith, append-nil)
-counted_twice handed (x ∷ xs) ys first second =
-    grind (arith, added_twice, λ (told : Option (List Sent)). counted_twice told xs ys)
-
--- so many pieces were handed out, where that is told
-pub counts_by : (handed : Option (List Sent)) (n : ℕ)
-    → ((pieces : List Sent) → handed ≡ Some pieces → length pieces < 2 ^ 64 → n ≡ length pieces)
-    → IsCount handed n
-counts_by None n is = tt
-counts_by (Some pieces) n is = is pieces refl
+use Rattle.orca_course.specs.Worlds.{AreCalled, AreCounted, AreStored, Called, Counts, IsCounted, Made, Polled, Sated, Stores, Wants, World, has_ended, is_lost, owing}
+use Rattle.orca_course.specs.declared.refused.NoMemory.{NoMemory}
+use Rattle.orca_course.specs.declared.refused.NoMemory.TheVariants.{InSend, Elsewhere}
+use Rattle.orca_course.proofs.ActLemmas.{ArePrintable-append, calls_in-append, ended_after, ended_after-calls, given-append, lost_after, lost_after-calls}
+use Rattle.orca_course.proofs.AnsweredLemmas.{done_in-append, ended_after-done, lost_after-done, refused_in-append}
 
 -- the files
 
-left_twice : (xs ys : List Act) (a b c : Option Contents) (k m n : ℕ) → AreStored xs a k b m
-    → AreStored ys b m c n → AreStored (xs ++ ys) a k c n
-left_twice [] ys a b c k m n first second = grind arith
-left_twice (x ∷ xs) ys a b c k m n first second =
-    grind (arith, λ (d : Option Contents) (j : ℕ). left_twice xs ys d b c j m n)
+stored_twice : (xs ys : List Call) (a b c : Option Contents) → AreStored xs a b → AreStored ys b c
+    → AreStored (xs ++ ys) a c
+stored_twice [] ys a b c first second = grind arith
+stored_twice (x ∷ xs) ys a b c first second =
+    (first.0, first.1, stored_twice xs ys first.0 b c first.2 second)
+
+-- the counts
+
+counted_once : (f g : Bool) (a b c : ℕ) → IsCounted f a b → IsCounted g b c → IsCounted (f || g) a c
+counted_once true true a b c first second = grind arith
+counted_once true false a b c first second = grind arith
+counted_once false g a b c first second = rw first at second
+
+counted_twice : (xs ys : List Call) (a b c : Counts) → AreCounted xs a b → AreCounted ys b c
+    → AreCounted (xs ++ ys) a c
+counted_twice xs ys a b c first second = record {
+  ports = rw list_any-append (counted_once _ _ _ _ _ first.ports second.ports);
+  files = rw list_any-append (counted_once _ _ _ _ _ first.files second.files);
+  inbox = rw list_any-append (counted_once _ _ _ _ _ first.inbox second.inbox);
+}
 
 -- acts that were done
 
+called_none : (x y : World) → y.calls ≡ x.calls → y.contents ≡ x.contents → y.faults ≡ x.faults
+    → AreCalled [] x y
+unfolding AreCalled
+called_none x y calls contents faults = (
+  [],
+  calls ∙ sym (append-nil x.calls),
+  refl,
+  contents,
+  rw faults (record { ports = refl; files = refl; inbox = refl }),
+)
+
+-- no call was made
+pub called_still : (acts : List Act) (x : World) → acts ≡ [] → AreCalled acts x x
+called_still acts x none = rw none (called_none x x refl refl refl)
+
+called_twice : (xs ys : List Act) (x y z : World) → AreCalled xs x y → AreCalled ys y z
+    → AreCalled (xs ++ ys) x z
+unfolding AreCalled
+called_twice xs ys x y z first second = (
+  first.0 ++ second.0,
+  grind (arith, append_assoc, first.1, second.1),
+  grind (arith, done_in-append, calls_in-append, first.2, second.2),
+  stored_twice first.0 second.0 _ _ _ first.3 second.3,
+  counted_twice first.0 second.0 _ _ _ first.4 second.4,
+)
+
+called_alike : (xs ys : List Act) (x y : World) → calls_in ys ≡ calls_in xs → AreCalled xs x y
+    → AreCalled ys x y
+unfolding AreCalled
+called_alike xs ys x y same made = (made.0, made.1, made.2 ∙ sym same, made.3, made.4)
+
+called_owing : (acts : List Act) (x y : World) (m n : ℕ) → AreCalled acts x y
+    → AreCalled acts (owing m x) (owing n y)
+unfolding AreCalled
+called_owing acts x y m n made = made
+
+called_clear : (acts : List Act) (x y : World) (m n : ℕ)
+    → AreCalled acts (owing m x) (owing n y) → AreCalled acts x y
+unfolding AreCalled
+called_clear acts x y m n made = made
+
 pub made_none : (x : World) → Made [] 0 x x
-made_none x = grind (arith, common_steps)
+made_none x = record { called = called_none x x refl refl refl; shows = tt; paid = omega arith }
+
+-- steps alone were taken
+pub made_paid : (bill : ℕ) (x y : World) → y.calls ≡ x.calls → y.contents ≡ x.contents
+    → y.faults ≡ x.faults → y.paid ≤ x.paid + bill → Made [] bill x y
+made_paid bill x y calls contents faults paid =
+    record { called = called_none x y calls contents faults; shows = tt; paid = paid }
 
 pub made_twice : {xs ys : List Act} {m n : ℕ} {x y z : World} → Made xs m x y → Made ys n y z
     → Made (xs ++ ys) (m + n) x z
-made_twice {xs = xs} {ys = ys} {x = x} first second = record {
-  ports = record {
-    handed = grind (arith, given-append, added_twice);
-    attached = grind (arith, attached_in-append, added_twice);
-    counted = counted_twice x.ports.handed xs ys first.ports.counted
-        (rw (← first.ports.handed) second.ports.counted);
-    recorded = grind arith;
-  };
-  shelf = record {
-    asked = grind (arith, asked_in-append, added_twice);
-    left = left_twice xs ys _ _ _ _ _ _ first.shelf.left second.shelf.left;
-    recorded = grind arith;
-  };
-  mail = record {
-    log = grind (arith, log_after-append);
-    ended = grind (arith, ended_after-append);
-    lost = grind (arith, lost_after-append);
-    recorded = grind arith;
-  };
+made_twice {xs = xs} {ys = ys} {x = x} {y = y} {z = z} first second = record {
+  called = called_twice xs ys x y z first.called second.called;
   shows = ArePrintable-append xs ys first.shows second.shows;
   paid = omega (arith, first.paid, second.paid);
 }
@@ -78,22 +113,166 @@ made_within n more made = search arith
 -- what is owed before and after alike
 pub made_owing : {xs : List Act} {m : ℕ} {x y : World} (n : ℕ) → Made xs m x y
     → Made xs m (owing n x) (owing n y)
-made_owing n made = search arith
+made_owing {xs = xs} {x = x} {y = y} n made = record {
+  called = called_owing xs x y n n made.called;
+  shows = made.shows;
+  paid = omega (arith, made.paid);
+}
+
+-- nothing is owed on either side
+pub made_clear : {xs : List Act} {bill : ℕ} {x y : World} (n : ℕ)
+    → Made xs bill (owing 0 x) (owing n y) → Made xs bill x y
+made_clear {xs = xs} {x = x} {y = y} n made = record {
+  called = called_clear xs x y 0 n made.called;
+  shows = made.shows;
+  paid = omega (arith, made.paid);
+}
+
+-- the same calls
+
+made_alike : {xs ys : List Act} {bill : ℕ} {x y : World} → calls_in ys ≡ calls_in xs
+    → ArePrintable ys → Made xs bill x y → Made ys bill x y
+made_alike {xs = xs} {ys = ys} {x = x} {y = y} same shows made =
+    record { called = called_alike xs ys x y same made.called; shows = shows; paid = made.paid }
 
 -- where the run stands, a command and a picture are no calls
 
 pub made_stand : {acts : List Act} {bill : ℕ} {x y : World} (s : Standing) → Made acts bill x y
     → Made (Stand s ∷ acts) bill x y
-made_stand s made = assumption
+made_stand s made = made_alike refl made.shows made
 
 pub made_obey : {acts : List Act} {bill : ℕ} {x y : World} (command : Command) → Made acts bill x y
     → Made (Obey command ∷ acts) bill x y
-made_obey command made = assumption
+made_obey command made = made_alike refl made.shows made
 
 pub made_show : {acts : List Act} {bill : ℕ} {x y : World} (cells : List Cell)
     → All IsPrintable cells → Made acts bill x y → Made (Show cells ∷ acts) bill x y
-made_show cells printable made = assumption
+made_show cells printable made = made_alike refl (printable, made.shows) made
+
+-- the inbox has failed exactly if it had, or failed at one of the acts
+pub lost_made : {acts : List Act} {bill : ℕ} {x y : World} → Made acts bill x y
+    → is_lost y ≡ lost_after acts (is_lost x)
+unfolding AreCalled
+lost_made {acts = acts} {x = x} made =
+    let called = made.called in
+    rw (called.1, list_any-append, ← lost_after-done, called.2)
+    (lost_after-calls acts (is_lost x))
+
+-- and so it has ended
+pub ended_made : {acts : List Act} {bill : ℕ} {x y : World} → Made acts bill x y
+    → has_ended y ≡ ended_after acts (has_ended x)
+unfolding AreCalled
+ended_made {acts = acts} {x = x} made =
+    let called = made.called in
+    rw (called.1, list_any-append, ← ended_after-done, called.2)
+    (ended_after-calls acts (has_ended x))
 
 -- no call was refused memory
 pub sated_twice : (x y z : World) → Sated x y → Sated y z → Sated x z
 sated_twice x y z first second = second ∙ first
+
+-- memory was refused, after others were done
+pub wants_later : (e : NoMemory) (left : List Act) (x y z : World) → Sated x y
+    → Wants e left y z → Wants e left x z
+wants_later InSend left x y z sated wants = record {
+  sent = wants.sent;
+  later = wants.later;
+  next = wants.next;
+  before = wants.before;
+  last = wants.last;
+  alone = wants.alone ∙ ap given sated;
+}
+wants_later Elsewhere left x y z sated wants = wants ∙ ap given sated
+
+-- whatever is owed
+pub wants_owing : (e : NoMemory) (left : List Act) (x y : World) (n : ℕ) → Wants e left x y
+    → Wants e left (owing n x) (owing n y)
+wants_owing InSend left x y n wants = wants
+wants_owing Elsewhere left x y n wants = wants
+
+-- and more was left
+pub wants_longer : (e : NoMemory) (left more : List Act) (x y : World) → Wants e left x y
+    → Wants e (left ++ more) x y
+wants_longer InSend left more x y wants = record {
+  sent = wants.sent;
+  later = wants.later ++ calls_in more;
+  next = grind (arith, calls_in-append, wants.next);
+  before = wants.before;
+  last = wants.last;
+  alone = wants.alone;
+}
+wants_longer Elsewhere left more x y wants = wants
+
+-- ---- one call more
+
+pub record IsNext (call : Call) (x y : World) : Type 0 where
+  pub calls : y.calls ≡ x.calls ++ call ∷ []
+  pub stored : Stores call x.contents y.contents
+  pub counted : AreCounted (call ∷ []) x.faults y.faults
+  pub paid : y.paid ≡ x.paid
+
+next_made : (call : Call) (acts : List Act) {x y : World} → done_in (call ∷ []) ≡ calls_in acts
+    → ArePrintable acts → IsNext call x y → Made acts 0 x y
+unfolding AreCalled
+next_made call acts done shows next = record {
+  called = (call ∷ [], next.calls, done, (_, next.stored, refl), next.counted);
+  shows = shows;
+  paid = omega (arith, next.paid);
+}
+
+next_sated : (call : Call) (x y : World) → refused_in (call ∷ []) ≡ [] → IsNext call x y
+    → Sated x y
+next_sated call x y none next = rw (next.calls, refused_in-append, none) (append-nil (refused_in x.calls))
+
+-- it was done
+pub next_done : {T : Type 0} {done : T} (call : Call) (act : Act) {x y : World}
+    → done_in (call ∷ []) ≡ calls_in (act ∷ []) → refused_in (call ∷ []) ≡ []
+    → ArePrintable (act ∷ []) → IsNext call x y → Called (Ok done) act x y
+next_done call act done none shows next = record {
+  called = (next_made call (act ∷ []) done shows next, next_sated call _ _ none next);
+}
+
+-- it was refused memory, and is no send
+pub next_refused : {T : Type 0} (call : Call) (act : Act) {x y : World} → done_in (call ∷ []) ≡ []
+    → given (refused_in (call ∷ [])) ≡ [] → IsNext call x y → Called {T = T} (Err Elsewhere) act x y
+next_refused call act {x = x} none other next = record {
+  called = (
+    next_made call [] none tt next,
+    rw (next.calls, refused_in-append, given-append, other) (append-nil (given (refused_in x.calls))),
+  );
+}
+
+-- it is a send, and was refused memory
+pub next_unsent : {T : Type 0} (sent : Sent) (answer : Result (Unit {0}) OutsideFault) {x y : World}
+    → answer ≡ Err Memory → IsNext (CallGive sent answer) x y
+    → Called {T = T} (Err InSend) (Give sent) x y
+next_unsent sent answer {x = x} memory next =
+    let refused = rw memory at next in
+    record {
+      called = (
+        next_made (CallGive sent (Err Memory)) [] refl tt refused,
+        record {
+          sent = sent;
+          later = [];
+          next = refl;
+          before = x.calls;
+          last = refused.calls;
+          alone = refl;
+        },
+      );
+    }
+
+-- a poll is done, also if it failed
+polled_done : (answer : Answer) (until : Option ℕ) (bytes : List ℕ)
+    → (done_in (CallAwait (record { until = until; answer = answer; bytes = bytes }) ∷ [])
+    ≡ Await (record { until = until; answer = answer; bytes = bytes }) ∷ [])
+    × (refused_in (CallAwait (record { until = until; answer = answer; bytes = bytes }) ∷ []) ≡ [])
+polled_done answer until bytes = grind arith
+
+pub next_polled : (answer : Answer) {until : Option ℕ} {bytes : List ℕ} {x y : World}
+    → IsNext (CallAwait (record { until = until; answer = answer; bytes = bytes })) x y
+    → Polled until answer bytes x y
+next_polled answer next = record {
+  made = next_made _ _ (polled_done answer _ _).0 tt next;
+  sated = next_sated _ _ _ (polled_done answer _ _).1 next;
+}

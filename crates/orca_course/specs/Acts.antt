@@ -1,15 +1,11 @@
 -- What a run does on the outside, in order, and what is read off it.
-use Rattle.std.specs.Prelude.{◌≡◌, ℕ, Bool, true, false, ◌||◌, List, [], ◌∷◌, map, Option, Some, None, All}
+use Rattle.std.specs.Prelude.{◌≡◌, ℕ, Bool, true, false, ◌||◌, List, [], ◌∷◌, map, Option, Some, All}
 use Rattle.orca_base.specs.declared.command.Command.{Command}
 use Rattle.orca_base.specs.declared.port.Port.{Port}
 use Rattle.orca_base.specs.declared.port.Port.TheVariants as port
 use Rattle.orca_base.specs.Ports.{Sent}
-use Rattle.orca_rig.specs.Arrived.{Log, Poll, after_poll, is_ending, with_listen}
-use Rattle.orca_rig.specs.declared.inbox.Answer.{Answer}
-use Rattle.orca_rig.specs.declared.inbox.Answer.TheVariants as answer
 use Rattle.orca_rig.specs.Handed.{Attached}
-use Rattle.orca_rig.specs.Outside.{Ask}
-use Rattle.orca_rig.specs.Outside.Ask.{Load as AskLoad, Save as AskSave}
+use Rattle.orca_trace.specs.Calls.{Poll}
 use Rattle.orca_term.specs.Picture.{IsPrintable}
 use Rattle.orca_term.specs.declared.cell.Cell.{Cell}
 use Rattle.orca_course.specs.Standings.{Standing}
@@ -38,58 +34,25 @@ pub data Act : Type 0 where
 
 -- ---- calls
 
+-- the calls among acts
+abbrev pub calls_in : List Act → List Act
+calls_in [] = []
+calls_in (Obey command ∷ acts) = calls_in acts
+calls_in (Stand s ∷ acts) = calls_in acts
+calls_in (Show cells ∷ acts) = calls_in acts
+calls_in (act ∷ acts) = act ∷ calls_in acts
+
 -- the sends among acts
 abbrev pub given : List Act → List Sent
 given [] = []
 given (Give sent ∷ acts) = sent ∷ given acts
 given (_ ∷ acts) = given acts
 
--- the attached ports among acts
-abbrev pub attached_in : List Act → List Attached
-attached_in [] = []
-attached_in (Attach attached ∷ acts) = attached ∷ attached_in acts
-attached_in (_ ∷ acts) = attached_in acts
-
--- the loads and saves among acts, as a store is asked for them
-abbrev pub asked_in : List Act → List Ask
-asked_in [] = []
-asked_in (Load name text ∷ acts) = AskLoad name ∷ asked_in acts
-asked_in (Save name bytes ∷ acts) = AskSave name bytes ∷ asked_in acts
-asked_in (_ ∷ acts) = asked_in acts
-
 -- the polls among acts
 abbrev pub polls_in : List Act → List Poll
 polls_in [] = []
 polls_in (Await poll ∷ acts) = poll ∷ polls_in acts
 polls_in (_ ∷ acts) = polls_in acts
-
--- what acts make of the log of the inbox
-abbrev pub log_after : List Act → Log → Log
-log_after [] log = log
-log_after (Listen name hands start ∷ acts) log =
-    log_after acts (with_listen name hands start log)
-log_after (Await poll ∷ acts) log = log_after acts (after_poll poll log)
-log_after (_ ∷ acts) log = log_after acts log
-
--- whether the inbox has ended, after acts
-abbrev pub ended_after : List Act → Bool → Bool
-ended_after [] before = before
-ended_after (Await poll ∷ acts) before = ended_after acts (is_ending poll.answer)
-ended_after (_ ∷ acts) before = ended_after acts before
-
--- whether an answer of the inbox is a failure
-abbrev pub is_failure : Answer → Bool
-is_failure (answer.Bytes hand count at) = false
-is_failure (answer.Due at) = false
-is_failure answer.End = false
-is_failure answer.Failed = true
-
--- whether the inbox has failed, after acts
-abbrev pub lost_after : List Act → Bool → Bool
-lost_after [] before = before
-lost_after (Listen name hands None ∷ acts) before = lost_after acts true
-lost_after (Await poll ∷ acts) before = lost_after acts (before || is_failure poll.answer)
-lost_after (_ ∷ acts) before = lost_after acts before
 
 -- ---- between calls
 

@@ -1,5 +1,7 @@
 pub mod Standings
 pub mod Acts
+pub mod Answered
+pub mod Told
 pub mod Following
 pub mod Worlds
 pub mod Courses

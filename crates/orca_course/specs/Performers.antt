@@ -2,14 +2,14 @@
 use Rattle.std.specs.Prelude.{◌≡◌, ℕ, ◌≤◌, Bool, true, if◌then◌else◌, nat_le, List, [], ◌∷◌, length, Option, Some, Result, Ok, Err}
 use Rattle.std.specs.Option.{option_map}
 use Rattle.orca_base.specs.declared.limits.TheConstants.{MAX_POLLS}
-use Rattle.orca_rig.specs.Arrived.{Poll}
+use Rattle.orca_trace.specs.Calls.{Poll}
 use Rattle.orca_rig.specs.declared.inbox.Answer.{Answer}
 use Rattle.orca_rig.specs.declared.inbox.Answer.TheVariants as answer
 use Rattle.orca_course.specs.Acts.{AreDeaf, polls_in}
 use Rattle.orca_course.specs.Acts.Act.{Await}
 use Rattle.orca_course.specs.Courses.{Course, course, each, ended, lastly, mapped, onward, still}
 use Rattle.orca_course.specs.Doing.{Does, Stance}
-use Rattle.orca_course.specs.Worlds.{World}
+use Rattle.orca_course.specs.Worlds.{World, is_lost}
 use Rattle.orca_course.specs.declared.ending.Ending.{Ending}
 use Rattle.orca_course.specs.declared.ending.Ending.TheVariants.{Lost, Spent, Stopped}
 use Rattle.orca_course.specs.declared.ending.Stop.{Stop}
@@ -84,5 +84,5 @@ pub record DoesPolls {S : Type 0} (v : Stance S) (c : List Poll → Course S End
   pub polls : List Poll
   pub few : length polls ≤ MAX_POLLS
   pub all : polls_in (c polls).acts ≡ polls
-  pub lost : IsLostBy result x.lost y.lost
+  pub lost : IsLostBy result (is_lost x) (is_lost y)
   pub did : Does v (c polls) s x result t y

@@ -1,39 +1,46 @@
 //! All that stands outside of a run, as one value.
 
-ghost use Rattle.std.specs.Prelude.{◌≡◌, ◌≢◌, ◌≤◌, [], ◌∷◌, false, Err};
+ghost use Rattle.std.specs.Prelude.{◌≡◌, ◌≢◌, ◌≤◌, [], ◌∷◌, false, Err, IfSome};
 ghost use Rattle.orca_edit.specs.Machines.{Acts, preview_of};
 ghost use Rattle.orca_edit.specs.Obeying.{piece_of};
 ghost use Rattle.orca_edit.specs.Prices.{charge, kept_after, preview_price};
 ghost use Rattle.orca_rig.specs.Arrived.{arrived};
 ghost use Rattle.orca_base.specs.declared.limits.TheConstants.{MAX_HANDS};
-ghost use Rattle.orca_course.specs.Acts.Act.{Attach, Await, Give, Listen, Load, Save};
-ghost use Rattle.orca_course.specs.Worlds.{Called, Made, Polled, Sated, owing, start_of, text_of};
+ghost use Rattle.orca_course.specs.Acts.{given};
+ghost use Rattle.orca_course.specs.Acts.Act.{Attach, Give, Listen, Load, Save};
+ghost use Rattle.orca_course.specs.Answered.{done_in};
+ghost use Rattle.orca_course.specs.Told.{IsLogOf, Records, Tells, asked_in, attached_in};
+ghost use Rattle.orca_course.specs.Worlds.{Called, Made, Polled, Sated, has_ended, has_failed, has_listened, is_unstored, owing, start_of, text_of};
 
 use crate::NoMemory;
+use crate::performer::arrived;
 use orca_base::limits::ARRIVAL_BYTES;
 use orca_base::{Command, Fault, Port, Reply, Steps};
 use orca_edit::Machine;
 use orca_notes::Messages;
 use orca_rig::{Answer, Files, Inbox, Outs, OutsideFault};
+use orca_trace::{Kind, Trace};
 use std::alloc::Global;
 use std::marker::Model;
 use std::sync::ledger::Ledger;
 
-/// The ports, the files, the inbox and the counter of steps of a run, and which of the three has
-/// failed since the run began. A contract sees what they tell as one world.
+/// The ports, the files, the inbox and the counter of steps of a run, and whether ports or files have
+/// failed. It notes each call of theirs, so a contract sees all calls, also of objects that tell
+/// none; and what the objects tell is what their calls came to.
 #[derive(Drop)]
 pub struct Desk<F: Files + Drop, O: Outs + Drop, I: Inbox + Drop, L: Ledger> {
     files: F,
     outs: O,
     inbox: I,
     steps: Steps<L>,
+    trace: Trace,
     failed: bool,
     unstored: bool,
-    lost: bool,
 }
 
 impl<F: Files + Drop, O: Outs + Drop, I: Inbox + Drop, L: Ledger> Model for Desk<F, O, I, L> {
     ghost use Rattle.std.specs.Coded.{codes};
+    ghost use Rattle.orca_course.specs.Told.{Records, Tells};
     ghost use Rattle.orca_course.specs.Worlds.{World, contents_code};
 
     ghost Value = { World };
@@ -41,54 +48,36 @@ impl<F: Files + Drop, O: Outs + Drop, I: Inbox + Drop, L: Ledger> Model for Desk
     ghost coded = { Prim.hlevel (codes, contents_code) };
 
     ghost view = { λ d. record {
-      ports = record {
-        handed = O.handed d.outs;
-        attached = O.attached d.outs;
-        faults = O.faults d.outs;
-        wants = O.wants d.outs;
+      calls = d.trace.calls;
+      contents = F.contents d.files;
+      faults = record {
+        ports = O.faults d.outs;
+        files = F.faults d.files;
+        inbox = I.faults d.inbox;
       };
-      shelf = record {
-        contents = F.contents d.files;
-        asked = F.asked d.files;
-        faults = F.faults d.files;
-      };
-      mail = record {
-        log = I.log d.inbox;
-        listened = I.listened d.inbox;
-        ended = I.ended d.inbox;
-        faults = I.faults d.inbox;
-      };
-      failed = d.failed;
-      unstored = d.unstored;
-      lost = d.lost;
       paid = d.steps;
     } };
+
+    ghost invariant = { λ d.
+        Tells (O.handed d.outs) (O.attached d.outs) (F.asked d.files) (I.log d.inbox)
+        d.trace.calls
+        × Records d.failed d.unstored (I.listened d.inbox) (I.ended d.inbox) d.trace.calls };
 }
 
 impl<F: Files + Drop, O: Outs + Drop, I: Inbox + Drop, L: Ledger> Desk<F, O, I, L> {
-    /// A desk of these, of which none has failed.
+    /// A desk of these, which nobody has called before, as far as they tell.
     pub fn new(files: F, outs: O, inbox: I, steps: Steps<L>) -> Desk<F, O, I, L>
+        requires untold { Tells (O.handed outs) (O.attached outs) (F.asked files) (I.log inbox) [] }
+        requires fresh { I.listened inbox ≡ false }
+        requires open { I.ended inbox ≡ false }
         ensures { result ≡ record {
-          ports = record {
-            handed = O.handed outs;
-            attached = O.attached outs;
-            faults = O.faults outs;
-            wants = O.wants outs;
+          calls = [];
+          contents = F.contents files;
+          faults = record {
+            ports = O.faults outs;
+            files = F.faults files;
+            inbox = I.faults inbox;
           };
-          shelf = record {
-            contents = F.contents files;
-            asked = F.asked files;
-            faults = F.faults files;
-          };
-          mail = record {
-            log = I.log inbox;
-            listened = I.listened inbox;
-            ended = I.ended inbox;
-            faults = I.faults inbox;
-          };
-          failed = false;
-          unstored = false;
-          lost = false;
           paid = steps;
         } }
     {
@@ -97,49 +86,51 @@ impl<F: Files + Drop, O: Outs + Drop, I: Inbox + Drop, L: Ledger> Desk<F, O, I, 
             outs,
             inbox,
             steps,
+            trace: Trace::new(),
             failed: false,
             unstored: false,
-            lost: false,
         }
     }
 
     /// The files.
     pub fn files(&self) -> &F
-        ensures contents { F.contents result.now ≡ self.now.shelf.contents }
-        ensures asked { F.asked result.now ≡ self.now.shelf.asked }
-        ensures faults { F.faults result.now ≡ self.now.shelf.faults }
+        ensures contents { F.contents result.now ≡ self.now.contents }
+        ensures asked { IfSome (F.asked result.now)
+            (λ told. told ≡ asked_in (done_in self.now.calls)) }
+        ensures faults { F.faults result.now ≡ self.now.faults.files }
     {
         &self.files
     }
 
     /// The ports.
     pub fn outs(&self) -> &O
-        ensures handed { O.handed result.now ≡ self.now.ports.handed }
-        ensures attached { O.attached result.now ≡ self.now.ports.attached }
-        ensures faults { O.faults result.now ≡ self.now.ports.faults }
-        ensures wants { O.wants result.now ≡ self.now.ports.wants }
+        ensures handed { IfSome (O.handed result.now)
+            (λ told. told ≡ given (done_in self.now.calls)) }
+        ensures attached { IfSome (O.attached result.now)
+            (λ told. told ≡ attached_in (done_in self.now.calls)) }
+        ensures faults { O.faults result.now ≡ self.now.faults.ports }
     {
         &self.outs
     }
 
     /// The inbox.
     pub fn inbox(&self) -> &I
-        ensures log { I.log result.now ≡ self.now.mail.log }
-        ensures faults { I.faults result.now ≡ self.now.mail.faults }
+        ensures log { IfSome (I.log result.now) (IsLogOf (done_in self.now.calls)) }
+        ensures faults { I.faults result.now ≡ self.now.faults.inbox }
     {
         &self.inbox
     }
 
-    /// Whether a port has failed since the run began.
+    /// Whether a port has failed.
     pub fn has_failed(&self) -> bool
-        ensures { result ≡ self.now.failed }
+        ensures { result ≡ has_failed self.now }
     {
         self.failed
     }
 
-    /// Whether a load or a save has failed since the run began.
+    /// Whether a load or a save has failed.
     pub fn is_unstored(&self) -> bool
-        ensures { result ≡ self.now.unstored }
+        ensures { result ≡ is_unstored self.now }
     {
         self.unstored
     }
@@ -148,15 +139,16 @@ impl<F: Files + Drop, O: Outs + Drop, I: Inbox + Drop, L: Ledger> Desk<F, O, I, 
     pub fn attach(&mut self, port: Port, name: &str) -> Result<(), NoMemory>
         ensures called { Called result (Attach (record { port = port; name = name.now }))
             self.old self.new }
-        ensures fresh { self.new.mail.listened ≡ self.old.mail.listened }
+        ensures fresh { has_listened self.new ≡ has_listened self.old }
     {
-        match self.outs.attach(port, name) {
+        let answer = self.outs.attach(port, name);
+        self.trace
+            .note(&Kind::Attach(port, answer), name.as_bytes(), &[]);
+        self.failed |= matches!(answer, Err(OutsideFault::Failed));
+        match answer {
             Ok(()) => Ok(()),
-            Err(OutsideFault::Failed) => {
-                self.failed = true;
-                Ok(())
-            }
-            Err(OutsideFault::Memory) => Err(NoMemory::InSend),
+            Err(OutsideFault::Failed) => Ok(()),
+            Err(OutsideFault::Memory) => Err(NoMemory::Elsewhere),
         }
     }
 
@@ -166,12 +158,12 @@ impl<F: Files + Drop, O: Outs + Drop, I: Inbox + Drop, L: Ledger> Desk<F, O, I, 
             self.old self.new }
         ensures in_send { result ≢ Err NoMemory.Elsewhere }
     {
-        match self.outs.send(port, bytes) {
+        let answer = self.outs.send(port, bytes);
+        self.trace.note(&Kind::Give(port, answer), &[], bytes);
+        self.failed |= matches!(answer, Err(OutsideFault::Failed));
+        match answer {
             Ok(()) => Ok(()),
-            Err(OutsideFault::Failed) => {
-                self.failed = true;
-                Ok(())
-            }
+            Err(OutsideFault::Failed) => Ok(()),
             Err(OutsideFault::Memory) => Err(NoMemory::InSend),
         }
     }
@@ -179,15 +171,15 @@ impl<F: Files + Drop, O: Outs + Drop, I: Inbox + Drop, L: Ledger> Desk<F, O, I, 
     /// The bytes of the file of that name; none if its load fails, which is recorded.
     pub fn load(&mut self, alloc: Global, name: &str) -> Result<Option<Vec<u8>>, NoMemory>
         ensures called { Called result (Load name.now (text_of result)) self.old self.new }
-        ensures fresh { self.new.mail.listened ≡ self.old.mail.listened }
+        ensures fresh { has_listened self.new ≡ has_listened self.old }
     {
         let mut text = Vec::new(alloc);
-        match self.files.load(name, &mut text) {
+        let answer = self.files.load(name, &mut text);
+        self.trace.note(&Kind::Load(answer), name.as_bytes(), &text);
+        self.unstored |= matches!(answer, Err(OutsideFault::Failed));
+        match answer {
             Ok(()) => Ok(Some(text)),
-            Err(OutsideFault::Failed) => {
-                self.unstored = true;
-                Ok(None)
-            }
+            Err(OutsideFault::Failed) => Ok(None),
             Err(OutsideFault::Memory) => Err(NoMemory::Elsewhere),
         }
     }
@@ -196,42 +188,43 @@ impl<F: Files + Drop, O: Outs + Drop, I: Inbox + Drop, L: Ledger> Desk<F, O, I, 
     pub fn save(&mut self, name: &str, bytes: &[u8]) -> Result<(), NoMemory>
         ensures { Called result (Save name.now bytes.now) self.old self.new }
     {
-        match self.files.save(name, bytes) {
+        let answer = self.files.save(name, bytes);
+        self.trace.note(&Kind::Save(answer), name.as_bytes(), bytes);
+        self.unstored |= matches!(answer, Err(OutsideFault::Failed));
+        match answer {
             Ok(()) => Ok(()),
-            Err(OutsideFault::Failed) => {
-                self.unstored = true;
-                Ok(())
-            }
+            Err(OutsideFault::Failed) => Ok(()),
             Err(OutsideFault::Memory) => Err(NoMemory::Elsewhere),
         }
     }
 
     /// Waits for so many players at a name, and answers the moment of the start, in microseconds;
-    /// none if the inbox fails, which is recorded.
+    /// none if the inbox fails.
     pub fn listen(&mut self, name: &str, hands: u8) -> Result<Option<u64>, NoMemory>
-        requires fresh { self.old.mail.listened ≡ false }
+        requires fresh { has_listened self.old ≡ false }
         requires some { 1 ≤ hands }
         requires few { hands ≤ MAX_HANDS }
         ensures { Called result (Listen name.now hands (start_of result)) self.old self.new }
     {
-        match self.inbox.listen_hands(name, hands) {
+        let answer = self.inbox.listen_hands(name, hands);
+        self.trace
+            .note(&Kind::Listen(hands, answer), name.as_bytes(), &[]);
+        match answer {
             Ok(at) => Ok(Some(at)),
-            Err(OutsideFault::Failed) => {
-                self.lost = true;
-                Ok(None)
-            }
+            Err(OutsideFault::Failed) => Ok(None),
             Err(OutsideFault::Memory) => Err(NoMemory::Elsewhere),
         }
     }
 
     /// Waits for what comes next: bytes, which it puts at the front of `bytes`, or the moment
-    /// `until`, where there is one. A failure is recorded.
+    /// `until`, where there is one.
     pub fn poll(&mut self, until: Option<u64>, bytes: &mut [u8; ARRIVAL_BYTES]) -> Answer
-        requires { self.old.mail.ended ≡ false }
+        requires { has_ended self.old ≡ false }
         ensures { Polled until result (arrived result bytes.new) self.old self.new }
     {
         let answer = self.inbox.poll(&self.outs, until, bytes);
-        self.lost |= matches!(answer, Answer::Failed);
+        self.trace
+            .note(&Kind::Await(until, answer), &[], arrived(answer, bytes));
         answer
     }
 

@@ -3,7 +3,7 @@
 ghost use Rattle.std.specs.Prelude.{◌≡◌, ◌≢◌, ℕ, List, Some, Ok, OnOk, IfOk, true, false};
 ghost use Rattle.orca_course.specs.Doing.{Does, ending_of, goes_of};
 ghost use Rattle.orca_course.specs.Performers.{DoesPolls, IsDeaf, Part, attended, begun, heard, opened, performance};
-ghost use Rattle.orca_course.specs.Worlds.{owing};
+ghost use Rattle.orca_course.specs.Worlds.{has_ended, owing};
 ghost use Rattle.orca_rig.specs.Arrived.{arrived};
 
 use crate::{Desk, Ending, NoMemory, Stop};
@@ -69,7 +69,7 @@ pub trait Performer {
 }
 
 /// The bytes that came with an answer.
-fn arrived(answer: Answer, filled: &[u8; ARRIVAL_BYTES]) -> &[u8]
+pub(crate) fn arrived(answer: Answer, filled: &[u8; ARRIVAL_BYTES]) -> &[u8]
     ensures { result.now ≡ arrived answer filled.now }
 {
     match answer {
@@ -79,7 +79,7 @@ fn arrived(answer: Answer, filled: &[u8; ARRIVAL_BYTES]) -> &[u8]
 }
 
 /// Does what an answer brings.
-#[tactic(auto, using(crate::proofs::DoingLemmas::does_end), unfolding(crate::specs::Performers::heard, crate::specs::Courses::mapped))]
+#[tactic(auto, using(crate::proofs::WorldLemmas::called_still), unfolding(crate::specs::Performers::heard, crate::specs::Courses::mapped))]
 fn heed<P: Performer, F: Files + Drop, O: Outs + Drop, I: Inbox + Drop, L: Ledger>(
     performer: &mut P,
     desk: &mut Desk<F, O, I, L>,
@@ -105,7 +105,7 @@ fn attend<P: Performer, F: Files + Drop, O: Outs + Drop, I: Inbox + Drop, L: Led
     performer: &mut P,
     desk: &mut Desk<F, O, I, L>,
 ) -> Result<Ending, NoMemory>
-    requires { desk.old.mail.ended ≡ false }
+    requires { has_ended desk.old ≡ false }
     ensures { let s = P.state performer.old in
         DoesPolls P.part.stance (λ polls. attended P.part polls s)
         s (owing (P.residue performer.old) desk.old) (ending_of result)
@@ -144,7 +144,7 @@ fn begin<P: Performer, F: Files + Drop, O: Outs + Drop, I: Inbox + Drop, L: Ledg
     performer: &mut P,
     desk: &mut Desk<F, O, I, L>,
 ) -> Result<Ending, NoMemory>
-    requires { desk.old.mail.ended ≡ false }
+    requires { has_ended desk.old ≡ false }
     ensures { let s = P.state performer.old in
         DoesPolls P.part.stance (begun P.part s)
         s (owing (P.residue performer.old) desk.old) (ending_of result)
@@ -167,7 +167,7 @@ pub fn perform<P: Performer, F: Files + Drop, O: Outs + Drop, I: Inbox + Drop, L
     desk: &mut Desk<F, O, I, L>,
 ) -> Result<Ending, NoMemory>
     // The inbox has not ended.
-    requires { desk.old.mail.ended ≡ false }
+    requires { has_ended desk.old ≡ false }
     ensures { let s = P.state performer.old in
         DoesPolls P.part.stance (performance P.part s)
         s (owing (P.residue performer.old) desk.old) (ending_of result)

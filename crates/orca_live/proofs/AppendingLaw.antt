@@ -6,7 +6,7 @@ use Rattle.orca_course.specs.Courses.{Course, each, onward, onward_by}
 use Rattle.orca_course.specs.Performers.{attended, begun, opened, polled}
 use Rattle.orca_course.specs.declared.ending.Ending.{Ending}
 use Rattle.orca_course.proofs.CourseLemmas.{each-longer}
-use Rattle.orca_rig.specs.Arrived.{Poll}
+use Rattle.orca_trace.specs.Calls.{Poll}
 use Rattle.orca_live.specs.Laws.{Extends, OnlyAppends}
 use Rattle.orca_live.specs.Performing.{live_part}
 use Rattle.orca_live.specs.States.{LiveState}

@@ -9,7 +9,7 @@ use Rattle.orca_course.specs.Performers.{attended, begun, finished, heard, opene
 use Rattle.orca_course.specs.declared.ending.Ending.{Ending}
 use Rattle.orca_course.specs.declared.ending.Ending.TheVariants.{Spent}
 use Rattle.orca_course.proofs.CourseLemmas.{each-holds}
-use Rattle.orca_rig.specs.Arrived.{Poll}
+use Rattle.orca_trace.specs.Calls.{Poll}
 use Rattle.orca_rig.specs.declared.inbox.Answer.{Answer}
 use Rattle.orca_rig.specs.declared.inbox.Answer.TheVariants as answer
 use Rattle.orca_live.specs.Carrying.{Along, Carries, Silences, finish_carried, heard_carried, looks_same, onward_carried, open_carried}

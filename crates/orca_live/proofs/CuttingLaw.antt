@@ -24,7 +24,7 @@ use Rattle.orca_edit.proofs.FoldLemmas.{fold_entries-append, silence-piece_after
 use Rattle.orca_op.specs.Scan.{places, scan}
 use Rattle.orca_op.proofs.VisitFacts.{dims_after_places}
 use Rattle.orca_op.specs.Rules.{rule}
-use Rattle.orca_rig.specs.Arrived.{Poll}
+use Rattle.orca_trace.specs.Calls.{Poll}
 use Rattle.orca_rig.specs.declared.inbox.Answer.{Answer}
 use Rattle.orca_rig.specs.declared.inbox.Answer.TheVariants as answer
 use Rattle.orca_term.specs.Editing.{editor_after, wish_of}

@@ -1,6 +1,7 @@
 -- What the reader of keys is given by polls.
 use Rattle.std.specs.Prelude.{ℕ, ◌==◌, not, if◌then◌else◌, List, [], ◌∷◌, ◌++◌, map, count_by}
-use Rattle.orca_rig.specs.Arrived.{Poll, is_ending}
+use Rattle.orca_rig.specs.Arrived.{is_ending}
+use Rattle.orca_trace.specs.Calls.{Poll}
 use Rattle.orca_rig.specs.declared.inbox.Answer.{Answer}
 use Rattle.orca_rig.specs.declared.inbox.Answer.TheVariants as answer
 use Rattle.orca_term.specs.Keys.{Byte, Due, Item}

@@ -15,7 +15,7 @@ use Rattle.orca_course.specs.Standings.{Standing}
 use Rattle.orca_course.specs.declared.ending.Ending.{Ending}
 use Rattle.orca_cues.specs.Scripts.{cues_asking}
 use Rattle.orca_edit.specs.Obeying.{MachineState, machine_closed}
-use Rattle.orca_rig.specs.Arrived.{Poll}
+use Rattle.orca_trace.specs.Calls.{Poll}
 use Rattle.orca_script.specs.Runs.{lines_behind}
 use Rattle.orca_live.specs.Items.{items_of}
 use Rattle.orca_live.specs.Performing.{live_part}

@@ -5,7 +5,7 @@ use Rattle.orca_base.specs.Ports.{Sent, is_same_port}
 use Rattle.orca_course.specs.Acts.{Act, ArePrintable}
 use Rattle.orca_course.specs.Acts.Act.{Give, Show}
 use Rattle.orca_course.specs.Performers.{performance}
-use Rattle.orca_rig.specs.Arrived.{Poll}
+use Rattle.orca_trace.specs.Calls.{Poll}
 use Rattle.orca_term.specs.Picture.{IsScreen}
 use Rattle.orca_term.specs.Viewing.{Shows}
 use Rattle.orca_term.specs.declared.cell.ScreenSize.{ScreenSize}

@@ -13,7 +13,7 @@ use Rattle.orca_course.proofs.FollowLemmas.{follows-mute, keys-mute}
 use Rattle.orca_course.proofs.WorldLemmas.{made_none, made_twice, made_within, sated_twice}
 use Rattle.orca_notes.specs.Device.{Voice}
 use Rattle.orca_notes.specs.Sound.{ends}
-use Rattle.orca_rig.specs.Arrived.{Poll}
+use Rattle.orca_trace.specs.Calls.{Poll}
 use Rattle.orca_rig.specs.Outside.{Rose}
 use Rattle.orca_term.specs.Picture.{IsScreen}
 use Rattle.orca_words.specs.Requests.{Setup}

@@ -11,7 +11,7 @@ use Rattle.orca_course.specs.declared.ending.Ending.{Ending}
 use Rattle.orca_live.specs.Performing.{close_course as live_close, finish_course, last_grid_course, last_script_course, live_part, save_course, script_course, open_course, paint_course, painted_course}
 use Rattle.orca_live.specs.States.{LiveState}
 use Rattle.orca_notes.specs.Sound.{ends}
-use Rattle.orca_rig.specs.Arrived.{Poll}
+use Rattle.orca_trace.specs.Calls.{Poll}
 use Rattle.orca_script.specs.Runs.{ScriptReadsBack}
 use Rattle.orca_term.specs.Picture.{IsScreen}
 use Rattle.orca_words.specs.Requests.{Performance, Setup}

@@ -18,7 +18,7 @@ use Rattle.orca_grid.specs.declared.refusal.GridRefusal.{GridRefusal}
 use Rattle.orca_live.specs.Laws.{ItemsDecide, ReplaysScript as LiveReplays, replayed}
 use Rattle.orca_live.specs.Performing.{live_part}
 use Rattle.orca_reports.specs.Manners.{replay_manner}
-use Rattle.orca_rig.specs.Arrived.{Poll}
+use Rattle.orca_trace.specs.Calls.{Poll}
 use Rattle.orca_script.specs.Runs.{lines_behind, printed_script}
 use Rattle.orca_words.specs.Requests.{Perform, Performance, Play, Replay, Request, Setup, Work, request_of}
 use Rattle.orca_course.specs.Acts.Act.{Attach, Listen, Load, Stand}

@@ -17,7 +17,8 @@ use Rattle.orca_live.specs.Items.{turns_of}
 use Rattle.orca_reports.specs.Manners.{events_manner, make_manner, replay_manner, run_manner}
 use Rattle.orca_reports.specs.Songs.{recording_at_start, smf_manner}
 use Rattle.orca_reports.specs.Waves.{frame_samples, wav_manner, wave_at_start}
-use Rattle.orca_rig.specs.Arrived.{Poll, is_ending}
+use Rattle.orca_rig.specs.Arrived.{is_ending}
+use Rattle.orca_trace.specs.Calls.{Poll}
 use Rattle.orca_wav.specs.declared.limits.TheConstants.{MAX_WAVE_BYTES, SAMPLE_BYTES}
 use Rattle.orca_words.specs.Requests.{Events, Performance, Play, Recording, Replay, Run, Setup, Smf, Wav, Work, request_of, Request}
 use Rattle.std.proofs.lemmas.Bool.{lt-leb}

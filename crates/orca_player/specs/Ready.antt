@@ -15,7 +15,7 @@ use Rattle.orca_live.specs.Laws.{so_far}
 use Rattle.orca_live.specs.Performing.{answered_at, item_course}
 use Rattle.orca_live.specs.States.{LiveState, is_full}
 use Rattle.orca_reports.specs.Songs.{recording_at_start, smf_manner}
-use Rattle.orca_rig.specs.Arrived.{Poll}
+use Rattle.orca_trace.specs.Calls.{Poll}
 use Rattle.orca_rig.specs.declared.inbox.Answer.TheVariants as answer
 use Rattle.orca_term.specs.Keys.{Due}
 use Rattle.orca_words.specs.Requests.{Events, Make, Migrate, Perform, Play, Recording, Replay, Request, Run, Setup, Smf, Wav, Work}

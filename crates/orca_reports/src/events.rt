@@ -41,7 +41,7 @@ impl Report for EventsReport {
         true
     }
 
-    #[tactic(auto, using(crate::proofs::DoneLemmas::printed))]
+    #[tactic(auto, using(orca_course::proofs::WorldLemmas::called_still, crate::proofs::DoneLemmas::printed))]
     fn done<F: Files + Drop, O: Outs + Drop, I: Inbox + Drop, L: Ledger>(
         &mut self,
         desk: &mut Desk<F, O, I, L>,

@@ -1,6 +1,6 @@
 //! What is printed and saved of a run: a report for each of the words whose commands are a list. No
 //! report gives a message.
-#![tactic(auto)]
+#![tactic(auto, using(orca_course::proofs::WorldLemmas::called_still))]
 
 mod events;
 mod figures;

@@ -46,7 +46,7 @@ impl Report for ReplayReport {
         true
     }
 
-    #[tactic(auto, using(crate::proofs::DoneLemmas::unsaid, crate::proofs::DoneLemmas::said))]
+    #[tactic(auto, using(orca_course::proofs::WorldLemmas::called_still, crate::proofs::DoneLemmas::unsaid, crate::proofs::DoneLemmas::said))]
     fn done<F: Files + Drop, O: Outs + Drop, I: Inbox + Drop, L: Ledger>(
         &mut self,
         desk: &mut Desk<F, O, I, L>,

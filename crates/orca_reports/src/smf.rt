@@ -73,7 +73,7 @@ impl Report for SmfReport<'_> {
         false
     }
 
-    #[tactic(auto, using(crate::proofs::DoneLemmas::unsaid))]
+    #[tactic(auto, using(orca_course::proofs::WorldLemmas::called_still, crate::proofs::DoneLemmas::unsaid))]
     fn done<F: Files + Drop, O: Outs + Drop, I: Inbox + Drop, L: Ledger>(
         &mut self,
         _: &mut Desk<F, O, I, L>,

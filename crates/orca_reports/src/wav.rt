@@ -122,7 +122,7 @@ impl Report for WavReport<'_> {
         false
     }
 
-    #[tactic(auto, using(crate::proofs::DoneLemmas::unsaid))]
+    #[tactic(auto, using(orca_course::proofs::WorldLemmas::called_still, crate::proofs::DoneLemmas::unsaid))]
     fn done<F: Files + Drop, O: Outs + Drop, I: Inbox + Drop, L: Ledger>(
         &mut self,
         _: &mut Desk<F, O, I, L>,

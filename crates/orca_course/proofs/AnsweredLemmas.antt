@@ -1,0 +1,28 @@
+-- What was done by calls, and then by others.
+use Rattle.std.proofs.Common.{◌≡◌, List, [], ◌∷◌, ◌++◌, refl, append_assoc, arith}
+use Rattle.std.specs.Prelude.{Bool, ◌||◌}
+use Rattle.std.specs.List.{list_any}
+use Rattle.orca_trace.specs.Calls.{Call}
+use Rattle.orca_course.specs.Answered.{done_in, is_inbox_fault, is_last_poll, refused_in}
+use Rattle.orca_course.proofs.ActLemmas.{ended_after, lost_after}
+
+pub done_in-append : (xs ys : List Call) → done_in (xs ++ ys) ≡ done_in xs ++ done_in ys
+done_in-append [] ys = refl
+done_in-append (x ∷ xs) ys = grind (arith, append_assoc, done_in-append xs ys)
+
+pub refused_in-append : (xs ys : List Call)
+    → refused_in (xs ++ ys) ≡ refused_in xs ++ refused_in ys
+refused_in-append [] ys = refl
+refused_in-append (x ∷ xs) ys = grind (arith, append_assoc, refused_in-append xs ys)
+
+-- the inbox has failed at a call exactly if it has by what the calls did
+pub lost_after-done : (calls : List Call) (b : Bool)
+    → lost_after (done_in calls) b ≡ b || list_any is_inbox_fault calls
+lost_after-done [] b = grind arith
+lost_after-done (call ∷ calls) b = grind (arith, λ (c : Bool). lost_after-done calls c)
+
+-- and so it has ended
+pub ended_after-done : (calls : List Call) (b : Bool)
+    → ended_after (done_in calls) b ≡ b || list_any is_last_poll calls
+ended_after-done [] b = grind arith
+ended_after-done (call ∷ calls) b = grind (arith, λ (c : Bool). ended_after-done calls c)

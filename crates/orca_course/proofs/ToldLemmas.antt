@@ -1,0 +1,23 @@
+-- What objects tell of one act more.
+use Rattle.std.proofs.Common.{◌≡◌, ℕ, ◌+◌, List, [], ◌∷◌, ◌++◌, length, refl, arith}
+use Rattle.orca_course.specs.Acts.{Act, given}
+use Rattle.orca_course.specs.Told.{Listened, asked_in, attached_in, counts_in, listened_after}
+
+pub attached_in-append : (xs ys : List Act)
+    → attached_in (xs ++ ys) ≡ attached_in xs ++ attached_in ys
+attached_in-append [] ys = refl
+attached_in-append (x ∷ xs) ys = grind (arith, attached_in-append xs ys)
+
+pub asked_in-append : (xs ys : List Act) → asked_in (xs ++ ys) ≡ asked_in xs ++ asked_in ys
+asked_in-append [] ys = refl
+asked_in-append (x ∷ xs) ys = grind (arith, asked_in-append xs ys)
+
+pub listened_after-append : (xs ys : List Act) (before : Listened)
+    → listened_after (xs ++ ys) before ≡ listened_after ys (listened_after xs before)
+listened_after-append [] ys before = refl
+listened_after-append (x ∷ xs) ys before = grind (arith, listened_after-append xs ys)
+
+pub counts_in-append : (n : ℕ) (xs ys : List Act)
+    → counts_in n (xs ++ ys) ≡ counts_in n xs ++ counts_in (n + length (given xs)) ys
+counts_in-append n [] ys = grind arith
+counts_in-append n (x ∷ xs) ys = grind (arith, λ (m : ℕ). counts_in-append m xs ys)

@@ -1,0 +1,75 @@
+-- What calls did, by what they answered.
+use Rattle.std.specs.Prelude.{Bool, true, false, List, [], ◌∷◌, ◌++◌, Option, Some, Err}
+use Rattle.std.specs.Result.{result_ok}
+use Rattle.orca_rig.specs.Arrived.{is_ending}
+use Rattle.orca_rig.specs.declared.fault.OutsideFault.{OutsideFault}
+use Rattle.orca_rig.specs.declared.fault.OutsideFault.TheVariants.{Failed, Memory}
+use Rattle.orca_rig.specs.declared.inbox.Answer.{Answer}
+use Rattle.orca_rig.specs.declared.inbox.Answer.TheVariants as answer
+use Rattle.orca_trace.specs.Calls.{Call, fault_of}
+use Rattle.orca_trace.specs.Calls.Call.{Attach as CallAttach, Await as CallAwait, Give as CallGive, Listen as CallListen, Load as CallLoad, Save as CallSave}
+use Rattle.orca_course.specs.Acts.{Act}
+use Rattle.orca_course.specs.Acts.Act.{Attach, Await, Give, Listen, Load, Save}
+
+-- a call as an act: with its answer where that decides what follows
+abbrev pub act_of : Call → Act
+act_of (CallAttach attached answer) = Attach attached
+act_of (CallGive sent answer) = Give sent
+act_of (CallLoad name answer) = Load name (result_ok answer)
+act_of (CallSave name bytes answer) = Save name bytes
+act_of (CallListen name hands answer) = Listen name hands (result_ok answer)
+act_of (CallAwait poll) = Await poll
+
+-- an act is done, also where its call failed, unless memory was refused to it
+abbrev done_by : Option OutsideFault → Act → List Act
+done_by (Some Memory) act = []
+done_by fault act = act ∷ []
+
+-- the acts that calls did
+abbrev pub done_in : List Call → List Act
+done_in [] = []
+done_in (call ∷ calls) = done_by (fault_of call) (act_of call) ++ done_in calls
+
+abbrev refused_by : Option OutsideFault → Act → List Act
+refused_by (Some Memory) act = act ∷ []
+refused_by fault act = []
+
+-- the acts to which memory was refused
+abbrev pub refused_in : List Call → List Act
+refused_in [] = []
+refused_in (call ∷ calls) = refused_by (fault_of call) (act_of call) ++ refused_in calls
+
+-- ---- single calls
+
+-- whether a port failed at a call
+abbrev pub is_port_fault : Call → Bool
+is_port_fault (CallAttach attached (Err Failed)) = true
+is_port_fault (CallGive sent (Err Failed)) = true
+is_port_fault other = false
+
+-- whether the files failed
+abbrev pub is_file_fault : Call → Bool
+is_file_fault (CallLoad name (Err Failed)) = true
+is_file_fault (CallSave name bytes (Err Failed)) = true
+is_file_fault other = false
+
+-- whether an answer of the inbox is a failure
+abbrev pub is_failure : Answer → Bool
+is_failure answer.Failed = true
+is_failure other = false
+
+-- whether the inbox failed
+abbrev pub is_inbox_fault : Call → Bool
+is_inbox_fault (CallListen name hands (Err Failed)) = true
+is_inbox_fault (CallAwait poll) = is_failure poll.answer
+is_inbox_fault other = false
+
+-- whether a call asks the inbox to listen
+abbrev pub is_listen : Call → Bool
+is_listen (CallListen name hands answer) = true
+is_listen other = false
+
+-- whether a call is a poll with a last answer
+abbrev pub is_last_poll : Call → Bool
+is_last_poll (CallAwait poll) = is_ending poll.answer
+is_last_poll other = false

@@ -1,0 +1,74 @@
+-- What the list of the calls of a desk has to do with its objects and its records.
+use Rattle.std.specs.Prelude.{◌≡◌, ℕ, ◌+◌, ◌<◌, ◌^◌, Bool, List, [], ◌∷◌, map, length, Option, Some, None, IfSome}
+use Rattle.std.specs.List.{list_any}
+use Rattle.orca_base.specs.Ports.{Sent}
+use Rattle.orca_rig.specs.Arrived.{Log}
+use Rattle.orca_rig.specs.Arrived as arrived
+use Rattle.orca_rig.specs.Handed.{Attached}
+use Rattle.orca_rig.specs.Outside.{Ask}
+use Rattle.orca_rig.specs.Outside.Ask.{Load as AskLoad, Save as AskSave}
+use Rattle.orca_trace.specs.Calls.{Call, Poll}
+use Rattle.orca_course.specs.Acts.{Act, given, polls_in}
+use Rattle.orca_course.specs.Acts.Act.{Attach, Await, Give, Listen, Load, Save}
+use Rattle.orca_course.specs.Answered.{done_in, is_file_fault, is_last_poll, is_listen, is_port_fault}
+
+-- ---- what objects that tell their calls tell
+
+-- the attached ports among acts
+abbrev pub attached_in : List Act → List Attached
+attached_in [] = []
+attached_in (Attach attached ∷ acts) = attached ∷ attached_in acts
+attached_in (_ ∷ acts) = attached_in acts
+
+-- the loads and saves among acts, as a store is asked for them
+abbrev pub asked_in : List Act → List Ask
+asked_in [] = []
+asked_in (Load name text ∷ acts) = AskLoad name ∷ asked_in acts
+asked_in (Save name bytes ∷ acts) = AskSave name bytes ∷ asked_in acts
+asked_in (_ ∷ acts) = asked_in acts
+
+-- the name and the hands that the inbox was last asked to listen for, and the start that it answered
+abbrev pub Listened : Type 0
+Listened = Option (List ℕ) × Option ℕ × Option ℕ
+
+abbrev pub listened_after : List Act → Listened → Listened
+listened_after [] before = before
+listened_after (Listen name hands start ∷ acts) before =
+    listened_after acts (Some name, Some hands, start)
+listened_after (_ ∷ acts) before = listened_after acts before
+
+-- a poll, without the number of sends before it
+abbrev pub uncounted : arrived.Poll → Poll
+uncounted p = record { until = p.until; answer = p.answer; bytes = p.bytes }
+
+-- the number of sends before each poll, after so many
+abbrev pub counts_in : ℕ → List Act → List ℕ
+counts_in n [] = []
+counts_in n (Give sent ∷ acts) = counts_in (n + 1) acts
+counts_in n (Await poll ∷ acts) = n ∷ counts_in n acts
+counts_in n (_ ∷ acts) = counts_in n acts
+
+-- the log of an inbox is that of acts
+pub record IsLogOf (acts : List Act) (log : Log) : Type 0 where
+  pub listened : (log.name, log.hands, log.start) ≡ listened_after acts (None, None, None)
+  pub polls : map uncounted log.polls ≡ polls_in acts
+
+-- where the objects tell their calls, these are the acts that the calls of the list did; and each
+-- poll was told how many sends came before it, if that fits
+pub record Tells (handed : Option (List Sent)) (attached : Option (List Attached))
+    (asked : Option (List Ask)) (log : Option Log) (calls : List Call) : Type 0 where
+  pub sends : IfSome handed (λ told. told ≡ given (done_in calls))
+  pub names : IfSome attached (λ told. told ≡ attached_in (done_in calls))
+  pub asks : IfSome asked (λ told. told ≡ asked_in (done_in calls))
+  pub heard : IfSome log (IsLogOf (done_in calls))
+  pub counts : IfSome handed (λ told. IfSome log (λ kept. length told < 2 ^ 64
+      → map (λ (p : arrived.Poll). p.sent) kept.polls ≡ counts_in 0 (done_in calls)))
+
+-- ---- what is recorded
+
+-- what a desk records of its calls, and what its inbox says of itself, is what the list says
+pub record Records (failed unstored listened ended : Bool) (calls : List Call) : Type 0 where
+  pub ports : failed ≡ list_any is_port_fault calls
+  pub files : unstored ≡ list_any is_file_fault calls
+  pub listens : listened ≡ list_any is_listen calls
+  pub ends : ended ≡ list_any is_last_poll calls
