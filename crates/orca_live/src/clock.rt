@@ -14,7 +14,7 @@ use orca_rig::{Files, Inbox, Outs};
 use std::sync::ledger::Ledger;
 
 /// Plays a frame; a full history ends the performance.
-#[tactic(auto, using(orca_course::proofs::DoingLemmas::does_cut, orca_course::proofs::DoingLemmas::does_end, orca_course::proofs::DoingLemmas::does_err), unfolding(crate::specs::Performing::frame_course))]
+#[tactic(auto, using(orca_course::proofs::WorldLemmas::called_still, orca_course::proofs::DoingLemmas::does_cut, orca_course::proofs::DoingLemmas::does_err), unfolding(crate::specs::Performing::frame_course))]
 fn do_frame<M: Machine + Drop, F: Files + Drop, O: Outs + Drop, I: Inbox + Drop, L: Ledger>(
     live: &mut Live<'_, M>,
     desk: &mut Desk<F, O, I, L>,

@@ -55,7 +55,7 @@ pub(crate) fn do_command<
 }
 
 /// Does what a key asks for, once the editor has changed.
-#[tactic(auto, using(orca_course::proofs::DoingLemmas::does_end, orca_course::proofs::DoingLemmas::does_err, orca_course::proofs::DoingLemmas::does_still, crate::proofs::DoneLemmas::does_paced), unfolding(crate::specs::Performing::wish_course))]
+#[tactic(auto, using(orca_course::proofs::WorldLemmas::called_still, orca_course::proofs::DoingLemmas::does_err, crate::proofs::DoneLemmas::does_paced), unfolding(crate::specs::Performing::wish_course))]
 fn do_wish<M: Machine + Drop, F: Files + Drop, O: Outs + Drop, I: Inbox + Drop, L: Ledger>(
     live: &mut Live<'_, M>,
     desk: &mut Desk<F, O, I, L>,
@@ -127,7 +127,7 @@ fn strike<M: Machine + Drop, F: Files + Drop, O: Outs + Drop, I: Inbox + Drop, L
 }
 
 /// Does what the key does that was ended, if any was.
-#[tactic(auto, using(orca_course::proofs::DoingLemmas::does_still, crate::proofs::DoneLemmas::press_some), unfolding(crate::specs::Performing::press_course))]
+#[tactic(auto, using(orca_course::proofs::WorldLemmas::called_still, crate::proofs::DoneLemmas::press_some), unfolding(crate::specs::Performing::press_course))]
 pub(crate) fn press<M: Machine + Drop, F: Files + Drop, O: Outs + Drop, I: Inbox + Drop, L: Ledger>(
     live: &mut Live<'_, M>,
     desk: &mut Desk<F, O, I, L>,

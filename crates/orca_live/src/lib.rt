@@ -4,7 +4,7 @@
 //! what the answers of an inbox bring. Keys go to the editor, its commands to the session, and a
 //! due moment plays a frame. Each message is sent at once, and after each answer the picture is
 //! painted. At the end every note ends, and the grid and the script of the commands are saved.
-#![tactic(auto)]
+#![tactic(auto, using(orca_course::proofs::WorldLemmas::called_still))]
 
 mod clock;
 mod keyboard;

@@ -66,7 +66,7 @@ impl<'a, M: Machine + Drop> Performer for Live<'a, M> {
 }
 
 /// Does what an answer brings. The bytes of other hands are dropped.
-#[tactic(auto, using(orca_course::proofs::DoingLemmas::does_still, crate::proofs::DoneLemmas::does_from), unfolding(crate::specs::Performing::answer_course))]
+#[tactic(auto, using(orca_course::proofs::WorldLemmas::called_still, crate::proofs::DoneLemmas::does_from), unfolding(crate::specs::Performing::answer_course))]
 fn do_answer<M: Machine + Drop, F: Files + Drop, O: Outs + Drop, I: Inbox + Drop, L: Ledger>(
     live: &mut Live<'_, M>,
     desk: &mut Desk<F, O, I, L>,

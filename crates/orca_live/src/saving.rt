@@ -39,7 +39,7 @@ pub(crate) fn save_grid<
 }
 
 /// Saves the grid at the end, if it has a name.
-#[tactic(auto, using(orca_course::proofs::DoingLemmas::does_still), unfolding(crate::specs::Performing::last_grid_course))]
+#[tactic(auto, using(orca_course::proofs::WorldLemmas::called_still), unfolding(crate::specs::Performing::last_grid_course))]
 pub(crate) fn save_last_grid<
     M: Machine + Drop,
     F: Files + Drop,
@@ -80,7 +80,7 @@ fn save_script<M: Machine + Drop, F: Files + Drop, O: Outs + Drop, I: Inbox + Dr
 }
 
 /// Saves the script of the commands at the end, if it has a name.
-#[tactic(auto, using(orca_course::proofs::DoingLemmas::does_still), unfolding(crate::specs::Performing::last_script_course))]
+#[tactic(auto, using(orca_course::proofs::WorldLemmas::called_still), unfolding(crate::specs::Performing::last_script_course))]
 pub(crate) fn save_last_script<
     M: Machine + Drop,
     F: Files + Drop,
