@@ -1,3 +1,4 @@
 mod WriteLemmas
 mod OwedLemmas
 mod EndsLemmas
+mod WorkedWaits

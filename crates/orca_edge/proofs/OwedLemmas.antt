@@ -83,7 +83,8 @@ none_there owed voice none = rw (none, bit_at-zero voice.key) refl
 -- all numbers are zero
 pub owes_none : (owed : List ℕ)
     → ((channel : ℕ) → channel < MAX_CHANNEL + 1 → slice_index owed channel ≡ 0) → OwesNone owed
-owes_none owed none voice is = none_there owed voice (none voice.channel (omega (arith, is.channel)))
+owes_none owed none voice is =
+    let here = none voice.channel (omega (arith, is.channel)) in none_there owed voice here
 
 -- the first number that is not zero has the first end
 pub first_is : (owed : List ℕ) (channel keys : ℕ) → slice_index owed channel ≡ keys → keys ≢ 0

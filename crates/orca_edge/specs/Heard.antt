@@ -1,5 +1,5 @@
 -- What the streams of an inbox gave, and what is answered of it.
-use Rattle.std.specs.Prelude.{◌≡◌, ◌≢◌, ℕ, ◌<◌, ◌≤◌, ◌==◌, if◌then◌else◌, List, [], length, take, slice_index_or, Option, Result, Ok, Err, Bool, true, false}
+use Rattle.std.specs.Prelude.{◌≡◌, ◌≢◌, ℕ, ◌+◌, ◌<◌, ◌≤◌, ◌==◌, if◌then◌else◌, List, [], length, take, slice_index_or, Option, Result, Ok, Err, Bool, true, false}
 use Rattle.std.specs.List.{list_any}
 use Rattle.std.specs.IoError.{error_kind}
 use Rattle.std.specs.Io.KnownBytes.{Consumes}
@@ -39,6 +39,16 @@ IsPiece piece.Nothing = Unit {0}
 IsPiece piece.Interrupted = Unit {0}
 IsPiece piece.End = Unit {0}
 IsPiece piece.Broken = Unit {0}
+
+-- how the stream of a hand stands after a read: an end and a failure last
+abbrev pub state_after : State → Piece → State
+state_after state.Open (piece.Bytes count) = state.Open
+state_after state.Open piece.Nothing = state.Open
+state_after state.Open piece.Interrupted = state.Open
+state_after state.Open piece.End = state.Ended
+state_after state.Open piece.Broken = state.Broken
+state_after state.Ended piece = state.Ended
+state_after state.Broken piece = state.Broken
 
 -- the bytes that a read gave: the first of those that were filled
 abbrev pub piece_bytes : Piece → List ℕ → List ℕ
@@ -94,3 +104,33 @@ last_turn hands =
     if list_any (λ hand. is_open hand.state) hands then turn.Nothing
     else (if list_any (λ hand. is_broken hand.state) hands then turn.Answered answer.Failed
     else turn.Answered answer.End)
+
+-- the turn in which a hand gave this piece: the bytes are answered, and the hands are read again
+-- only where a signal came
+abbrev pub turn_of : {S : Type 0} → Piece → ℕ → ℕ → List (Hand S) → Turn
+turn_of (piece.Bytes count) hand now hands = turn.Answered (answer.Bytes hand count now)
+turn_of piece.Nothing hand now hands = turn.Nothing
+turn_of piece.Interrupted hand now hands = turn.Again
+turn_of piece.End hand now hands = last_turn hands
+turn_of piece.Broken hand now hands = last_turn hands
+
+-- a turn tells what a read of this hand gave, and the hand stands as after that; where there is no
+-- such hand it has failed
+abbrev pub Tells : {S : Type 0} → List (Hand S) → List (Hand S) → ℕ → ℕ → Turn → Type 0
+Tells {S} old new hand now told =
+    (hand < length old → (piece : Piece) × (told ≡ turn_of piece hand now new)
+    × ((other : Hand S) → (slice_index_or new hand other).state
+    ≡ state_after (slice_index_or old hand other).state piece))
+    × (length old ≤ hand → told ≡ turn.Answered answer.Failed)
+
+-- the hand after this one, in a round of so many
+abbrev pub IsNext : ℕ → ℕ → ℕ → Type 0
+IsNext hand next count =
+    (hand + 1 < count → hand < 255 → next ≡ hand + 1) × (count ≤ hand + 1 → next ≡ 0)
+
+-- whether an answer is a moment that has come
+abbrev pub is_due : Answer → Bool
+is_due (answer.Bytes hand count at) = false
+is_due (answer.Due at) = true
+is_due answer.End = false
+is_due answer.Failed = false

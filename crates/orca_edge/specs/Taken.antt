@@ -33,8 +33,8 @@ HasInTurn contents before after bytes =
     (ends : List ℕ) × SendsEnds before.owed.ends after.owed.ends ends
     × OwesNone after.owed.ends × HasToo contents before after (ends ++ bytes)
 
--- the sink has some of the ends too that it was owed, and not this message: if that is an end, it is
--- owed now
+-- the sink has some of the ends too that it was owed, and not this message: if that is an end, it
+-- is owed now
 abbrev pub HasMissed : {W : Type 0}
     → (W → Option (List ℕ)) → Sink W → Sink W → List ℕ → Type 0
 HasMissed contents before after bytes =

@@ -1,12 +1,12 @@
 //! The streams of the hands, the turns over them, and the waits between the turns.
 
-ghost use Rattle.std.specs.Prelude.{◌≡◌, ◌≤◌, ◌<◌, ◌+◌, ◌++◌, ◌∷◌, [], nat_le, true, false, IfOk, OnOk, length};
+ghost use Rattle.std.specs.Prelude.{◌≡◌, ◌≤◌, ◌<◌, ◌+◌, ◌++◌, ◌∷◌, [], nat_le, true, false, None, if◌then◌else◌, IfOk, OnOk, length};
 ghost use Rattle.std.specs.List.{list_any};
 ghost use Rattle.std.specs.Option.{option_map_or};
 ghost use Rattle.std.specs.Io.KnownBytes.{Consumes};
 ghost use Rattle.orca_base.specs.declared.limits.TheConstants.{ARRIVAL_BYTES};
 ghost use Rattle.orca_rig.specs.Arrived.{MayAnswer};
-ghost use Rattle.orca_edge.specs.Heard.{IsPieceOf, IsPiece, piece_bytes, hand_bytes, turn_bytes, AreHeard, IsTurn, is_open, is_broken, last_turn};
+ghost use Rattle.orca_edge.specs.Heard.{IsPieceOf, IsPiece, piece_bytes, hand_bytes, turn_bytes, AreHeard, IsTurn, IsNext, Tells, state_after, turn_of, is_open, is_broken, last_turn};
 
 use crate::moments::{FOREVER, Wait, Watch, has_come, milliseconds, wait_of};
 use crate::whole::{TRIES, status_of};
@@ -109,10 +109,16 @@ fn piece_of(read: io::Result<usize>) -> Piece
     }
 }
 
+/// The moment that the first round of turns has before bytes: none where the last answer was one.
+fn first_due(was_due: bool, until: Option<u64>) -> Option<u64>
+    ensures { result ≡ if was_due then None else until }
+{
+    if was_due { None } else { until }
+}
+
 /// The hand after this one, in a round of so many.
 fn hand_after(hand: u8, count: usize) -> u8
-    ensures next { hand + 1 < count → hand < 255 → result ≡ hand + 1 }
-    ensures first { count ≤ hand + 1 → result ≡ 0 }
+    ensures { IsNext hand result count }
 {
     match hand.checked_add(1) {
         Some(next) if usize::from(next) < count => next,
@@ -124,6 +130,9 @@ impl<S: Read> Hand<S> {
     /// Reads what has come, where the stream is open. It does not wait.
     fn hear(&mut self, bytes: &mut [u8; ARRIVAL_BYTES]) -> Piece
         ensures piece { IsPiece result }
+        ensures state { self.new.state ≡ state_after self.old.state result }
+        ensures ended { self.old.state ≡ State.Ended → result ≡ Piece.End }
+        ensures broken { self.old.state ≡ State.Broken → result ≡ Piece.Broken }
         ensures heard { Consumes (S.remaining self.old.stream) (S.remaining self.new.stream)
             (piece_bytes result bytes.new) }
     {
@@ -181,6 +190,10 @@ impl<S: Read> Hands<S> {
         ensures turn { IsTurn due now result }
         ensures due { option_map_or (λ moment. nat_le moment now) due false ≡ true
             → result ≡ Turn.Answered (Answer.Due now) }
+        ensures told { option_map_or (λ moment. nat_le moment now) due false ≡ false
+            → Tells self.old.hands.items self.new.hands.items self.old.next now result }
+        ensures next { option_map_or (λ moment. nat_le moment now) due false ≡ false
+            → IsNext self.old.next self.new.next (length self.old.hands.items) }
         ensures heard { AreHeard S.remaining self.old.hands.items self.new.hands.items
             (λ hand. turn_bytes hand result bytes.new) }
     {
@@ -192,9 +205,17 @@ impl<S: Read> Hands<S> {
         let Some(hand) = self.hands.get_mut(usize::from(number)) else {
             return Turn::Answered(Answer::Failed);
         };
-        match hand.hear(bytes) {
+        let piece = hand.hear(bytes);
+        self.turn_of(piece, number, now)
+    }
+
+    /// The turn in which this hand gave the piece.
+    fn turn_of(&self, piece: Piece, hand: u8, now: u64) -> Turn
+        ensures { result ≡ turn_of piece hand now self.now.hands.items }
+    {
+        match piece {
             Piece::Bytes(count) => Turn::Answered(Answer::Bytes {
-                hand: number,
+                hand,
                 count,
                 at: now,
             }),
@@ -246,7 +267,7 @@ impl<S: Read + AsRawFd> Hands<S> {
         ensures heard { AreHeard S.remaining self.old.hands.items self.new.hands.items
             (λ hand. hand_bytes hand result bytes.new) }
     {
-        let mut due = if was_due { None } else { until };
+        let mut due = first_due(was_due, until);
         let mut unread = self.len();
         for _ in 0..TRIES {
             let Ok(now) = clock.moment() else {

@@ -1,5 +1,7 @@
-ghost use Rattle.std.specs.Prelude.{◌≡◌, ◌≤◌, ◌+◌, [], false, None, length, IfOk, OnOk, OnErr, IsErrOf, IsSomeAnd, true};
+ghost use Rattle.std.specs.Prelude.{◌≡◌, ◌≢◌, ◌≤◌, ◌+◌, [], false, None, length, IfOk, OnOk, OnErr, IsErrOf, IsSomeAnd, true};
 ghost use Rattle.orca_rig.specs.Outside.{Rose};
+ghost use Rattle.orca_rig.specs.Arrived.{moment_after, is_ending};
+ghost use Rattle.orca_edge.specs.Heard.{is_due};
 ghost use Rattle.orca_edge.specs.Names.{names_file};
 ghost use Rattle.orca_base.specs.declared.limits.TheConstants.{MAX_HANDS};
 
@@ -40,13 +42,13 @@ impl<F: AsRawFd> AsRawFd for Source<F> {
     }
 }
 
-/// An inbox over what the name of `listen_hands` says: connections to an address, one for each hand,
-/// or a file of keys, for one hand. Moments are microseconds since all of them were open, by the
-/// clock that does not go back. It tells no log.
+/// An inbox over what the name of `listen_hands` says: connections to an address, one for each
+/// hand, or a file of keys, for one hand. Moments are microseconds since all of them were open, by
+/// the clock that does not go back. It tells no log.
 ///
 /// A name with a `/`, and one without a `:`, is that of a file: a terminal, a pipe, a device or a
-/// plain file. Any other is an address, `HOST:PORT`. A file is opened anew and for reading alone, so
-/// a program that has it open already, as the shell of a terminal has, is left as it is.
+/// plain file. Any other is an address, `HOST:PORT`. A file is opened anew and for reading alone.
+/// So a program that has it open already, as the shell of a terminal has, is left as it is.
 ///
 /// | what happens | what is answered |
 /// |---|---|
@@ -65,9 +67,9 @@ impl<F: AsRawFd> AsRawFd for Source<F> {
 ///
 /// A poll waits for events of what is open until shortly before its moment, and takes no processor.
 /// From there on it looks at the streams and sleeps, in turn, since the system ends a sleep nearer
-/// to its time than a wait for events. So bytes that come shortly before the moment wait for the end
-/// of a short sleep. The last sleep ends a little before the moment, since the system ends it late,
-/// and from there on the poll looks without a rest.
+/// to its time than a wait for events. So bytes that come shortly before the moment wait for the
+/// end of a short sleep. The last sleep ends a little before the moment, since the system ends it
+/// late, and from there on the poll looks without a rest.
 ///
 /// Neither side can hold the other up: of a moment that has come and bytes that have come, a poll
 /// answers the moment, and the next poll the bytes. Hands are heard in turn. No read waits, so a
@@ -140,6 +142,25 @@ where
         self.hands = Some(opened);
         Ok(())
     }
+
+    /// Keeps what was answered.
+    fn keep(&mut self, answer: Answer)
+        ensures last { self.new.clock.last ≡ moment_after answer self.old.clock.last }
+        ensures due { self.new.was_due ≡ is_due answer }
+        ensures ended { self.new.ended ≡ is_ending answer }
+        ensures listened { self.new.listened ≡ self.old.listened }
+        ensures count { self.old.failed ≤ self.new.failed }
+        ensures failed { answer ≡ Answer.Failed → Rose self.old.failed self.new.failed }
+        ensures steady { answer ≢ Answer.Failed → self.new.failed ≡ self.old.failed }
+    {
+        self.was_due = matches!(answer, Answer::Due { .. });
+        self.ended = matches!(answer, Answer::End | Answer::Failed);
+        match answer {
+            Answer::Bytes { at, .. } | Answer::Due { at } => self.clock.last = at,
+            Answer::Failed => self.failed = self.failed.saturating_add(1),
+            Answer::End => {}
+        }
+    }
 }
 
 impl<R> Inbox for RealInbox<'_, R>
@@ -197,19 +218,7 @@ where
             Some(hands) => hands.wait(&self.clock, self.was_due, until, bytes),
             None => Answer::Failed,
         };
-        self.was_due = false;
-        match answer {
-            Answer::Bytes { at, .. } => self.clock.last = at,
-            Answer::Due { at } => {
-                self.clock.last = at;
-                self.was_due = true;
-            }
-            Answer::End => self.ended = true,
-            Answer::Failed => {
-                self.ended = true;
-                self.failed = self.failed.saturating_add(1);
-            }
-        }
+        self.keep(answer);
         answer
     }
 }

@@ -1,4 +1,4 @@
-ghost use Rattle.std.specs.Prelude.{◌≡◌, ◌≢◌, ◌≤◌, ◌↔◌, ◌+◌, min, None, IsSome, IsNone, IsOk, IfOk, OnOk, OnErr, IsErrAnd, IsErrOf, Option, Some, Ok};
+ghost use Rattle.std.specs.Prelude.{◌≡◌, ◌≢◌, ◌≤◌, ◌↔◌, ◌+◌, min, None, true, false, IsSome, IfSome, IsNone, IsOk, IfOk, OnOk, OnErr, IsErrAnd, IsErrOf, Option, Some, Ok};
 ghost use Rattle.std.specs.Option.{option_map};
 ghost use Rattle.std.specs.IoError.{error_kind};
 ghost use Rattle.std.specs.declared.io.ErrorKind.TheVariants.{Interrupted};
@@ -41,15 +41,15 @@ use std::{io, rt, str};
 /// | a text | its first pieces |
 /// | a datagram | none of it |
 ///
-/// A note whose end was given up would sound on. So its Note Off is owed, also where the port failed
-/// for another reason, as a pipe does that nobody reads. The ends that are owed go before anything
-/// that is sent next, to whatever port, as soon as Midi takes them: those of the lowest channel and
-/// key first. At the end of the run they are waited for once more, for half a second at most. They
-/// are forgotten where Midi is attached to something else.
+/// A note whose end was given up would sound on. So its Note Off is owed, also where the port
+/// failed for another reason, as a pipe does that nobody reads. The ends that are owed go before
+/// anything that is sent next, to whatever port, as soon as Midi takes them: those of the lowest
+/// channel and key first. At the end of the run they are waited for once more, for half a second at
+/// most. They are forgotten where Midi is attached to something else.
 ///
 /// A device that shows room may have it for one byte alone, and would let a longer write wait. So
-/// it may take the first bytes of a MIDI message and no more. The rest then goes before anything else
-/// there. A painting may be given up inside an escape sequence, which CAN ends.
+/// it may take the first bytes of a MIDI message and no more. The rest then goes before anything
+/// else there. A painting may be given up inside an escape sequence, which CAN ends.
 ///
 /// Some sinks can still make a write wait: a pipe into which somebody else writes in the same
 /// moment, and a terminal of hardware that stops in the middle of a piece.
@@ -157,6 +157,11 @@ where
         ensures midi_whole { port ≡ Port.Midi
             → OnErr result (TakesOrNot R.File.contents self.old.midi self.new.midi bytes.now) }
         ensures midi_dropped { port ≡ Port.Midi → IsNone self.old.midi → IsOk result }
+        ensures painted { port ≡ Port.View → OnOk result (self.new.output.is_torn ≡ false) }
+        ensures torn { port ≡ Port.View → OnErr result (self.new.output.is_torn ≡ true) }
+        ensures as_torn { port ≢ Port.View
+            → self.new.output.is_torn ≡ self.old.output.is_torn }
+        ensures waited { port ≡ Port.Fault → OnOk result (self.new.errors.is_stuck ≡ false) }
         ensures udp_dropped { port ≡ Port.Udp → IsNone self.old.udp → IsOk result }
         ensures osc_dropped { port ≡ Port.Osc → IsNone self.old.osc → IsOk result }
         ensures midi_ends { port ≢ Port.Midi
@@ -298,6 +303,7 @@ fn send_ends<W: io::Write, C: Clock>(clock: &C, sink: &mut Option<Sink<W>>)
 /// Sends one datagram; it is dropped where there is no peer, and no clock is read for it.
 fn send_to<C: Clock>(clock: &C, peer: &mut Option<Peer>, bytes: &[u8]) -> io::Result<()>
     ensures dropped { IsNone peer.old → IsOk result }
+    ensures waited { OnOk result (IfSome peer.new (λ peer. peer.gate.is_stuck ≡ false)) }
     ensures same { option_map (λ peer. peer.lane) peer.new
         ≡ option_map (λ peer. peer.lane) peer.old }
 {

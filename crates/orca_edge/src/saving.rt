@@ -1,12 +1,15 @@
 //! How a file of the system is saved.
 
-ghost use Rattle.std.specs.Prelude.{◌≡◌, ◌↔◌, true, IsOk, IsErr, IsErrOf, OnOk, OnErr};
+ghost use Rattle.std.specs.Prelude.{◌≡◌, ◌↔◌, true, IsSome, IsNone, IsOk, IsErr, IsErrOf, IfOk, OnOk, OnErr};
+ghost use Rattle.std.specs.Path.{path_buf_bytes};
 ghost use Rattle.std.specs.Io.KnownBytes.{Appends};
+ghost use Rattle.orca_edge.specs.Names.{behind, IsBeside};
 
 use crate::room::{Gate, Patience};
 use crate::sinks::write_pieces;
-use crate::whole::write_whole;
+use crate::whole::{status_of, write_whole};
 use orca_rig::OutsideFault;
+use std::alloc::AllocError;
 use std::fs::{OpenFile, OpenOptions, Permissions};
 use std::io::{ErrorKind, Write};
 use std::os::fd::{AsRawFd, IntoRawFd};
@@ -33,7 +36,13 @@ struct Fresh<F> {
     file: F,
     /// All bytes are written.
     is_whole: bool,
+    /// It has the permissions that it is to have.
+    has_rights: bool,
 }
+
+/// A file was closed, and the system told no failure.
+#[derive(Clone, Copy)]
+struct Closed;
 
 /// The name of a new file, and of the one that it is to replace.
 #[derive(Drop)]
@@ -49,18 +58,34 @@ impl<F: Write + OpenFile + IntoRawFd + Drop> Fresh<F> {
             (Appends (F.contents self.old.file) (F.contents self.new.file) bytes.now) }
         ensures whole { OnOk result (self.new.is_whole ≡ true) }
         ensures broken { OnErr result (self.new.is_whole ≡ self.old.is_whole) }
+        ensures rights { self.new.has_rights ≡ self.old.has_rights }
     {
         write_whole(&mut self.file, bytes)?;
         self.is_whole = true;
         Ok(())
     }
 
-    /// Puts the new file in the place of the other, once all of its bytes are written.
-    fn put_in_place<R: rt::Files>(self, rt: &R, names: &Names) -> io::Result<()>
-        requires { self.is_whole ≡ true }
+    /// Gives the new file these permissions, or leaves it those that the system gave.
+    fn give_rights(&mut self, permissions: Option<Permissions>) -> io::Result<()>
+        ensures given { OnOk result (self.new.has_rights ≡ true) }
+        ensures denied { OnErr result (self.new.has_rights ≡ self.old.has_rights) }
+        ensures whole { self.new.is_whole ≡ self.old.is_whole }
     {
-        close(self.file)?;
-        fs::rename(rt, &names.fresh, &names.target)
+        if let Some(permissions) = permissions {
+            self.file.set_permissions(permissions)?;
+        }
+        self.has_rights = true;
+        Ok(())
+    }
+
+    /// Puts the new file in the place of the other, once all of its bytes are written, it has its
+    /// permissions, and it is closed.
+    fn put_in_place<R: rt::Files>(self, rt: &R, names: &Names) -> io::Result<()>
+        requires whole { self.is_whole ≡ true }
+        requires rights { self.has_rights ≡ true }
+    {
+        let closed = close(self.file)?;
+        rename(rt, closed, names)
     }
 }
 
@@ -137,14 +162,20 @@ where
     R::File: IntoRawFd,
 {
     let target = target_of(rt, name)?;
-    let mode = if permissions.is_some() {
-        PRIVATE
-    } else {
-        PUBLIC
-    };
-    let (file, names) = create_beside(rt, target, mode)?;
+    let (file, names) = create_beside(rt, target, mode_of(&permissions))?;
     let done = fill_and_put(rt, file, bytes, permissions, &names);
     settle(rt, done, &names)
+}
+
+/// The mode of a new file that is to have these permissions, those of a file that it replaces.
+fn mode_of(permissions: &Option<Permissions>) -> u32
+    ensures replacing { IsSome permissions.now → result ≡ PRIVATE }
+    ensures new { IsNone permissions.now → result ≡ PUBLIC }
+{
+    match permissions {
+        Some(_) => PRIVATE,
+        None => PUBLIC,
+    }
 }
 
 /// Fills the new file, and puts it in the place of the other.
@@ -159,12 +190,13 @@ where
     R: rt::Files,
     R::File: IntoRawFd,
 {
-    let is_whole = false;
-    let mut fresh = Fresh { file, is_whole };
+    let mut fresh = Fresh {
+        file,
+        is_whole: false,
+        has_rights: false,
+    };
     fresh.fill(bytes)?;
-    if let Some(permissions) = permissions {
-        fresh.file.set_permissions(permissions)?;
-    }
+    fresh.give_rights(permissions)?;
     fresh.put_in_place(rt, names)
 }
 
@@ -188,8 +220,7 @@ fn target_of<R: rt::Files + AllocGlobal>(rt: &R, name: &str) -> Result<PathBuf, 
         match fs::symlink_metadata(rt, &path) {
             Ok(found) if found.is_symlink() => {
                 let link = fs::read_link(rt, &path)?;
-                path.pop();
-                path.push(&link)?;
+                follow(&mut path, &link)?;
             }
             Ok(_) => return Ok(path),
             Err(error) if error.kind() == ErrorKind::NotFound => return Ok(path),
@@ -199,12 +230,24 @@ fn target_of<R: rt::Files + AllocGlobal>(rt: &R, name: &str) -> Result<PathBuf, 
     Err(OutsideFault::Failed)
 }
 
+/// Goes from a symbolic link to where its text leads. After an error the path has no meaning.
+fn follow(path: &mut PathBuf, link: &PathBuf) -> Result<(), AllocError>
+    ensures { OnOk result (path_buf_bytes path.new
+        ≡ behind (path_buf_bytes path.old) (path_buf_bytes link.now)) }
+{
+    path.pop();
+    path.push(link)
+}
+
 /// Creates a file in the folder of the target, under a name that no file has.
 fn create_beside<R: rt::Files + AllocGlobal>(
     rt: &R,
     target: PathBuf,
     mode: u32,
-) -> Result<(R::File, Names), OutsideFault> {
+) -> Result<(R::File, Names), OutsideFault>
+    ensures { IfOk result (λ made. IsBeside (path_buf_bytes made.1.fresh)
+        (path_buf_bytes made.1.target) (path_buf_bytes target)) }
+{
     let mut options = OpenOptions::new();
     options.write(true).create_new(true).mode(mode);
     for number in 0..MAX_NAMES {
@@ -220,10 +263,12 @@ fn create_beside<R: rt::Files + AllocGlobal>(
 }
 
 /// Closes a file. The system may tell only here that what was written has found no room.
-fn close<F: IntoRawFd>(file: F) -> io::Result<()> {
-    if libc::close(file.into_raw_fd()) == 0 {
-        Ok(())
-    } else {
-        Err(io::Error::from(ErrorKind::Other))
-    }
+fn close<F: IntoRawFd>(file: F) -> io::Result<Closed> {
+    status_of(libc::close(file.into_raw_fd()))?;
+    Ok(Closed)
+}
+
+/// Gives the new file, which is closed, the name of the other.
+fn rename<R: rt::Files>(rt: &R, _closed: Closed, names: &Names) -> io::Result<()> {
+    fs::rename(rt, &names.fresh, &names.target)
 }

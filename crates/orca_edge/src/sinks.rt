@@ -49,8 +49,8 @@ fn write_on<W: Write, C: Clock>(
     Err(io::Error::from(ErrorKind::WriteZero))
 }
 
-/// Writes all of the bytes, in pieces, and waits for room before each. It ends, since each piece has
-/// a byte.
+/// Writes all of the bytes, in pieces, and waits for room before each. It ends, since each write
+/// takes a byte.
 pub(crate) fn write_pieces<W: Write, C: Clock>(
     patience: &Patience<'_, C>,
     gate: &mut Gate,
@@ -67,8 +67,8 @@ pub(crate) fn write_pieces<W: Write, C: Clock>(
     Ok(())
 }
 
-/// A sink of messages, each of which it takes whole or not at all. If it does not take one that ends
-/// a note, that end is owed.
+/// A sink of messages, each of which it takes whole or not at all. Where it does not take one that
+/// ends a note, that end is owed.
 #[derive(Drop)]
 pub(crate) struct Sink<W> {
     to: W,
@@ -243,7 +243,8 @@ impl Output {
         to: &mut W,
         bytes: &[u8],
     ) -> io::Result<()>
-        ensures { OnOk result (Appends (W.contents to.old) (W.contents to.new) bytes.now) }
+        ensures printed { OnOk result (Appends (W.contents to.old) (W.contents to.new) bytes.now) }
+        ensures torn { self.new.is_torn ≡ self.old.is_torn }
     {
         write_pieces(patience, &mut self.gate, to, bytes)
     }

@@ -13,7 +13,7 @@ use std::alloc::Global;
 use std::io;
 use std::io::{ErrorKind, Read, Write};
 
-/// How often a call is tried that signals interrupt, or that has to wait in pieces. It never comes to
+/// How often a call is tried that signals interrupt, or that waits in pieces. It never comes to
 /// that many: the bound is there since every loop is proved to end.
 pub(crate) const TRIES: u64 = u64::MAX;
 
@@ -53,8 +53,8 @@ pub fn write_whole<W: Write>(to: &mut W, bytes: &[u8]) -> io::Result<()>
     Ok(())
 }
 
-/// Writes the first of the bytes: as many as one write takes, and one at least. An interrupted write
-/// is tried again, and one that takes nothing is a failure.
+/// Writes the first of the bytes: as many as one write takes, and one at least. A write that was
+/// interrupted is tried again, and one that takes nothing is a failure.
 fn write_on<W: Write>(to: &mut W, bytes: &[u8]) -> io::Result<usize>
     ensures bound { WritesAtMost result bytes.now }
     ensures bytes { WriteAppends (W.contents to.old) (W.contents to.new) result bytes.now }

@@ -3,7 +3,9 @@ use Rattle.orca_edge.proofs.sinks.Sink.send_end.Goals as goal
 
 pub returns-in_err-begin-clause-sent : goal.returns-in_err-begin-clause-sent
 returns-in_err-begin-clause-sent g c =
-    no_ends g.W.Write.contents c.args.self.now c.begin.new.self c.in_err-begin.ensures.not c.begin.ensures.owed
+    let after = c.begin.new.self in
+    let none = c.in_err-begin.ensures.not in
+    no_ends g.W.Write.contents c.args.self.now after none c.begin.ensures.owed
 
 pub returns-in_err-finish-clause-sent : goal.returns-in_err-finish-clause-sent
 returns-in_err-finish-clause-sent g c =
