@@ -1,43 +1,67 @@
 //! The program `orca`: makes the real objects of the outside, and runs the words of the command line.
 #![tactic(auto)]
 
-ghost use Rattle.std.specs.Prelude.{◌≡◌, ◌<◌};
+ghost use Rattle.std.specs.Prelude.{◌≡◌, ◌<◌, false, map, string_bytes, IsErr, IfOk};
+ghost use Rattle.orca_player.specs.Doing.{Said};
+ghost use Rattle.orca_player.specs.Running.{Ran};
 
 use orca_base::{Memory, Steps};
 use orca_course::Desk;
 use orca_edge::{RealFiles, RealInbox, RealOuts, open_closed_streams, words_after_name};
 use orca_player::{Status, end, run};
-use std::env;
+use orca_rig::{Files, Inbox, Outs};
+use std::alloc::Global;
 use std::marker::Brand;
 use std::net::{Net, TcpStream};
 use std::os::fd::{AsRawFd, IntoRawFd};
 use std::process::ExitCode;
-use std::rt::{Clock, Env, Files};
+use std::rt::{Clock, Env};
 use std::sync::ledger::{Blank, Ledger};
+use std::{env, io, rt};
 
-/// Runs the words over the system's files and streams. It counts its steps in a new ledger.
-fn start<R, L: Ledger>(rt: &R, blank: Blank) -> Status
+/// Runs the words. Where memory was refused to them, the last line says so.
+fn run_or_end<F: Files + Drop, O: Outs + Drop, I: Inbox + Drop, L: Ledger>(
+    alloc: Global,
+    words: Result<Vec<String>, Memory>,
+    desk: &mut Desk<F, O, I, L>,
+) -> Status
+    requires fresh { desk.old.mail.listened ≡ false }
+    requires open { desk.old.mail.ended ≡ false }
+    requires sound { (desk.old.failed ≡ false) × (desk.old.unstored ≡ false)
+        × (desk.old.lost ≡ false) }
+    ensures ran { IfOk words (λ words.
+        Ran (map string_bytes words.items) desk.old result desk.new) }
+    ensures refused { IsErr words → Said Status.Memory result desk.old desk.new }
+{
+    match words {
+        Ok(words) => run(alloc, &words, desk),
+        Err(Memory) => end(alloc, desk, Status::Memory),
+    }
+}
+
+/// Runs the words over the system's files and streams, if none of the streams is closed any more. It
+/// counts its steps in a new ledger.
+fn start<R, L: Ledger>(rt: &R, blank: Blank, streams: io::Result<()>) -> Status
 where
-    R: AllocGlobal + Clock + Env + Files + Net<Stream = TcpStream> + Print + Eprint,
+    R: AllocGlobal + Clock + Env + rt::Files + Net<Stream = TcpStream> + Print + Eprint,
     R::File: AsRawFd + IntoRawFd,
     requires name { blank.name ≡ L.name }
     requires parts { blank.parts ≡ L.parts }
     requires some { 0 < blank.parts }
+    ensures { IsErr streams → result ≡ Status.OutFault }
 {
-    let steps = Steps::<L>::start(blank);
-    if open_closed_streams(rt).is_err() {
+    if streams.is_err() {
         return Status::OutFault;
     }
+    let words = words_after_name(rt.alloc(), env::args(rt));
     let files = RealFiles::new(rt);
     let outs = RealOuts::new(rt);
     let inbox = RealInbox::new(rt);
-    let mut desk = Desk::new(files, outs, inbox, steps);
-    match words_after_name(rt.alloc(), env::args(rt)) {
-        Ok(words) => run(rt.alloc(), &words, &mut desk),
-        Err(Memory) => end(rt.alloc(), &mut desk, Status::Memory),
-    }
+    let mut desk = Desk::new(files, outs, inbox, Steps::<L>::start(blank));
+    run_or_end(rt.alloc(), words, &mut desk)
 }
 
 fn main(rt: HostRuntime) -> ExitCode {
-    ExitCode::from(start::<HostRuntime, Brand>(&rt, Blank::new(1)).number())
+    let streams = open_closed_streams(&rt);
+    ExitCode::from(start::<HostRuntime, Brand>(&rt, Blank::new(1), streams).number())
 }
