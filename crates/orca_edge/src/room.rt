@@ -154,6 +154,7 @@ impl Gate {
     /// of a write that a signal interrupted, after a rest: both are tried again.
     pub fn error_of<C: Clock>(&mut self, patience: &Patience<'_, C>, error: io::Error) -> io::Error
         ensures again { error_kind error ≢ WouldBlock → result ≡ error }
+        ensures sticks { error_kind result ≡ WouldBlock → self.new.is_stuck ≡ true }
         ensures kinds { error_kind result ≡ error_kind error
             ⊎ error_kind result ≡ Interrupted }
     {

@@ -3,7 +3,7 @@
 ghost use Rattle.std.specs.Prelude.{◌≡◌, ◌↔◌, true, IsSome, IsNone, IsOk, IsErr, IsErrOf, IfOk, OnOk, OnErr};
 ghost use Rattle.std.specs.Path.{path_buf_bytes};
 ghost use Rattle.std.specs.Io.KnownBytes.{Appends};
-ghost use Rattle.orca_edge.specs.Names.{behind, IsBeside};
+ghost use Rattle.orca_edge.specs.Names.{behind, LeadsTo, IsBeside};
 
 use crate::room::{Gate, Patience};
 use crate::sinks::write_pieces;
@@ -214,9 +214,11 @@ fn settle<R: rt::Files>(rt: &R, done: io::Result<()>, names: &Names) -> Result<(
 }
 
 /// The file that a name stands for in the end: behind symbolic links, also where it is missing.
-fn target_of<R: rt::Files + AllocGlobal>(rt: &R, name: &str) -> Result<PathBuf, OutsideFault> {
+fn target_of<R: rt::Files + AllocGlobal>(rt: &R, name: &str) -> Result<PathBuf, OutsideFault>
+    ensures { IfOk result (λ path. LeadsTo name.now (path_buf_bytes path)) }
+{
     let mut path = PathBuf::from_str(rt.alloc(), name)?;
-    for _ in 0..MAX_LINKS {
+    for _followed in 0..MAX_LINKS {
         match fs::symlink_metadata(rt, &path) {
             Ok(found) if found.is_symlink() => {
                 let link = fs::read_link(rt, &path)?;
