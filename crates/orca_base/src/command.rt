@@ -68,7 +68,7 @@ pub enum Command {
         /// How many entries of the history stay.
         moment: u32,
     },
-    /// Brings back what was cut off last, up to its second edit.
+    /// Brings back what was cut off last, up to its next edit.
     Redo,
 }
 
