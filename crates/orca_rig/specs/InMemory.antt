@@ -5,7 +5,7 @@ use Rattle.std.specs.List.{list_any}
 use Rattle.std.specs.Ordering.{nat_cmp}
 use Rattle.std.specs.Cmp.Lexicographic.{slice_cmp}
 use Rattle.std.specs.FinMap as finite
-use Rattle.std.specs.Coded.{Coded, code_by, coded×, coded⊎, coded_list, coded_ℕ}
+use Rattle.std.specs.Coded.{Coded, code_by, coded×, coded⊎, coded_bool, coded_list, coded_ℕ}
 use Rattle.std.specs.declared.alloc.Global.{Global}
 use Rattle.orca_base.specs.declared.limits.TheConstants.{MAX_FILE_BYTES}
 use Rattle.orca_base.specs.declared.port.Port.{Port}
@@ -13,25 +13,25 @@ use Rattle.orca_base.specs.Ports.{Sent, is_same_port}
 use Rattle.orca_rig.specs.declared.mem_files.Call.{Call}
 use Rattle.orca_rig.specs.declared.mem_files.Call.TheVariants as call
 use Rattle.orca_rig.specs.Outside.{Contents, Ask}
-use Rattle.orca_rig.specs.Outside.Ask.{Load, Save}
+use Rattle.orca_rig.specs.Outside.Ask.{Append, Load, Save}
 use Rattle.orca_rig.specs.Handed.{Attached}
 
--- a store in memory: its files, the calls so far, the numbers of the calls that are to fail, and
--- the faults so far
+-- a store in memory: its files, the calls so far, the numbers of the calls that are to fail, the
+-- faults so far, and whether an append has failed
 pub record Store : Type 0 where
   pub contents : Contents
   pub asked : List Ask
   pub fail : List ℕ
   pub faults : ℕ
+  pub torn : Bool
 
 -- ports in memory: what they were given, what they were attached to, the calls that are to fail, by
--- port and number, the faults so far, and how often memory was refused
+-- port and number, and the faults so far
 pub record Ports : Type 0 where
   pub handed : List Sent
   pub attached : List Attached
   pub fail : List (Port × ℕ)
   pub faults : ℕ
-  pub wants : ℕ
 
 -- names and bytes as clauses see them
 abbrev pub named : List (String Global × Vec ℕ Global) → List (List ℕ × List ℕ)
@@ -50,6 +50,7 @@ names_differ (file ∷ files) =
 abbrev pub ask_of : Call → Ask
 ask_of (call.Load name) = Load (string_bytes name)
 ask_of (call.Save name bytes) = Save (string_bytes name) bytes.items
+ask_of (call.Append name bytes) = Append (string_bytes name) bytes.items
 
 abbrev pub asks_of : List Call → List Ask
 asks_of = map ask_of
@@ -90,29 +91,44 @@ attaches = map (λ attached. record { port = attached.0; name = string_bytes att
 -- a store is kept as the tuple of its parts
 abbrev pub store_code : Coded Store
 store_code =
-    code_by (Contents × (List Ask × (List ℕ × ℕ)))
+    code_by (Contents × (List Ask × (List ℕ × (ℕ × Bool))))
     (coded× (finite.code coded_bytes coded_bytes)
-    (coded× (coded_list ask_code) (coded× coded_bytes coded_ℕ)))
-    (λ s. (s.contents, (s.asked, (s.fail, s.faults))))
-    (λ p. record { contents = p.0; asked = p.1.0; fail = p.1.1.0; faults = p.1.1.1 })
+    (coded× (coded_list ask_code) (coded× coded_bytes (coded× coded_ℕ coded_bool))))
+    (λ s. (s.contents, (s.asked, (s.fail, (s.faults, s.torn)))))
+    (λ p. record {
+      contents = p.0;
+      asked = p.1.0;
+      fail = p.1.1.0;
+      faults = p.1.1.1.0;
+      torn = p.1.1.1.1;
+    })
     (λ _. refl)
   where
     coded_bytes : Coded (List ℕ)
     coded_bytes = coded_list coded_ℕ
 
-    parts_of : Ask → List ℕ ⊎ (List ℕ × List ℕ)
-    parts_of (Load name) = inl name
-    parts_of (Save name bytes) = inr (name, bytes)
+    Named : Type 0
+    Named = List ℕ × List ℕ
 
-    ask_from : List ℕ ⊎ (List ℕ × List ℕ) → Ask
+    parts_of : Ask → List ℕ ⊎ (Named ⊎ Named)
+    parts_of (Load name) = inl name
+    parts_of (Save name bytes) = inr (inl (name, bytes))
+    parts_of (Append name bytes) = inr (inr (name, bytes))
+
+    ask_from : List ℕ ⊎ (Named ⊎ Named) → Ask
     ask_from (inl name) = Load name
-    ask_from (inr parts) = Save parts.0 parts.1
+    ask_from (inr (inl parts)) = Save parts.0 parts.1
+    ask_from (inr (inr parts)) = Append parts.0 parts.1
 
     ask_back : (ask : Ask) → ask_from (parts_of ask) ≡ ask
     ask_back (Load name) = refl
     ask_back (Save name bytes) = refl
+    ask_back (Append name bytes) = refl
+
+    coded_named : Coded Named
+    coded_named = coded× coded_bytes coded_bytes
 
     ask_code : Coded Ask
     ask_code =
-        code_by (List ℕ ⊎ (List ℕ × List ℕ))
-        (coded⊎ coded_bytes (coded× coded_bytes coded_bytes)) parts_of ask_from ask_back
+        code_by (List ℕ ⊎ (Named ⊎ Named))
+        (coded⊎ coded_bytes (coded⊎ coded_named coded_named)) parts_of ask_from ask_back

@@ -11,10 +11,12 @@ use Rattle.orca_rig.specs.declared.fault.OutsideFault.TheVariants.{Failed, Memor
 abbrev pub Contents : Type 0
 Contents = FinMap (slice_cmp nat_cmp) (List ℕ)
 
--- a call of a store: a load of the file of this name, or a save of these bytes under this name
+-- a call of a store: a load of the file of this name, a save of these bytes under this name, or an
+-- append of these bytes to the file of this name
 pub data Ask : Type 0 where
   Load : List ℕ → Ask
   Save : List ℕ → List ℕ → Ask
+  Append : List ℕ → List ℕ → Ask
 
 -- the last value of a counter of 64 bits, where it stands still
 abbrev pub last_count : ℕ

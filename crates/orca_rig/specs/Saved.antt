@@ -1,5 +1,5 @@
--- What a save leaves.
-use Rattle.std.specs.Prelude.{◌≡◌, ◌≢◌, ℕ, List, Option, Some, None, Result, Ok, Err}
+-- What a save and an append leave.
+use Rattle.std.specs.Prelude.{◌≡◌, ◌≢◌, ℕ, List, ◌++◌, Option, Some, None, Result, Ok, Err, ◌⊎◌}
 use Rattle.std.specs.Option.{option_map}
 use Rattle.std.specs.FinMap.{get, insert}
 use Rattle.orca_rig.specs.declared.fault.OutsideFault.{OutsideFault}
@@ -20,3 +20,20 @@ abbrev pub IsSaved : {T : Type 0}
 IsSaved (Ok done) name bytes old new = new ≡ option_map (λ files. insert files name bytes) old
 IsSaved (Err Failed) name bytes old new = OthersStay name old new
 IsSaved (Err Memory) name bytes old new = new ≡ old
+
+-- bytes were added to the file of a name, which was there, and every other file is as before
+abbrev pub HasMore : List ℕ → List ℕ → Option Contents → Option Contents → Type 0
+HasMore name more (Some old) (Some new) =
+    (held : List ℕ) × (get old name ≡ Some held) × (new ≡ insert old name (held ++ more))
+HasMore name more None None = Unit {0}
+HasMore name more old new = ⊥
+
+-- after an append the file of this name has these bytes at its end; after a failure it has a
+-- beginning of them, and where there was nothing to add to all are as before; so they are where
+-- memory was refused
+abbrev pub IsAppended : {T : Type 0}
+    → Result T OutsideFault → List ℕ → List ℕ → Option Contents → Option Contents → Type 0
+IsAppended (Ok done) name bytes old new = HasMore name bytes old new
+IsAppended (Err Failed) name bytes old new =
+    (new ≡ old) ⊎ ((more rest : List ℕ) × (bytes ≡ more ++ rest) × HasMore name more old new)
+IsAppended (Err Memory) name bytes old new = new ≡ old

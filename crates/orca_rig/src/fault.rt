@@ -60,27 +60,3 @@ pub fn count_failure(failed: &mut u64, done: Result<(), OutsideFault>) -> Result
     }
     done
 }
-
-/// Counts a failure, or that memory was refused.
-pub fn count_fault(
-    failed: &mut u64,
-    refused: &mut u64,
-    done: Result<(), OutsideFault>,
-) -> Result<(), OutsideFault>
-    ensures same { result ≡ done }
-    ensures grows { failed.old ≤ failed.new }
-    ensures failed { IsErrOf done OutsideFault.Failed
-        → failed.new ≡ min (failed.old + 1) last_count }
-    ensures steady { OnOk done (failed.new ≡ failed.old) }
-    ensures steady_memory { IsErrOf done OutsideFault.Memory → failed.new ≡ failed.old }
-    ensures want_count { refused.old ≤ refused.new }
-    ensures refused { IsErrOf done OutsideFault.Memory
-        → refused.new ≡ min (refused.old + 1) last_count }
-    ensures sated { OnOk done (refused.new ≡ refused.old) }
-    ensures sated_failed { IsErrOf done OutsideFault.Failed → refused.new ≡ refused.old }
-{
-    if let Err(OutsideFault::Memory) = done {
-        *refused = refused.saturating_add(1);
-    }
-    count_failure(failed, done)
-}

@@ -1,14 +1,14 @@
-ghost use Rattle.std.specs.Prelude.{◌≡◌, ◌≤◌, ℕ, List, Option, Some, length, OnOk, OnErr, IfSome, IsErrOf};
+ghost use Rattle.std.specs.Prelude.{◌≡◌, ◌≤◌, ℕ, Bool, true, false, List, Option, Some, length, OnOk, OnErr, IfSome, IsErrOf};
 ghost use Rattle.std.specs.FinMap.{get};
 ghost use Rattle.orca_base.specs.declared.limits.TheConstants.{MAX_FILE_BYTES};
 ghost use Rattle.orca_rig.specs.Outside.{Contents, Ask, Rose, after_call};
-ghost use Rattle.orca_rig.specs.Outside.Ask.{Load, Save};
-ghost use Rattle.orca_rig.specs.Saved.{IsSaved};
+ghost use Rattle.orca_rig.specs.Outside.Ask.{Append, Load, Save};
+ghost use Rattle.orca_rig.specs.Saved.{IsAppended, IsSaved};
 
 use crate::OutsideFault;
 
 /// A store of files, by name.
-pub trait Files {
+pub trait Files: Drop {
     /// What the files hold, where it is told.
     ghost contents: { Self → Option Contents };
 
@@ -19,6 +19,9 @@ pub trait Files {
     /// How often the store has failed.
     ghost faults: { Self → ℕ };
 
+    /// Whether an [`append`](Files::append) has failed.
+    ghost torn: { Self → Bool };
+
     /// Makes `into` exactly the bytes of the file of that name, which has at most
     /// [`MAX_FILE_BYTES`](orca_base::limits::MAX_FILE_BYTES). After an error `into` is as before.
     fn load(&mut self, name: &str, into: &mut Vec<u8>) -> Result<(), OutsideFault>
@@ -27,6 +30,7 @@ pub trait Files {
         ensures short { OnOk result (length into.new.items ≤ MAX_FILE_BYTES) }
         ensures untouched { OnErr result (into.new.items ≡ into.old.items) }
         ensures contents { contents self.new ≡ contents self.old }
+        ensures torn { torn self.new ≡ torn self.old }
         ensures asked { asked self.new ≡ after_call result (Load name.now) (asked self.old) }
 
         ensures count { faults self.old ≤ faults self.new }
@@ -41,8 +45,30 @@ pub trait Files {
     /// before; after [`OutsideFault::Memory`] all are as before.
     fn save(&mut self, name: &str, bytes: &[u8]) -> Result<(), OutsideFault>
         ensures saved { IsSaved result name.now bytes.now (contents self.old) (contents self.new) }
+        ensures torn { torn self.new ≡ torn self.old }
         ensures asked { asked self.new
             ≡ after_call result (Save name.now bytes.now) (asked self.old) }
+
+        ensures count { faults self.old ≤ faults self.new }
+        ensures failed { IsErrOf result OutsideFault.Failed
+            → Rose (faults self.old) (faults self.new) }
+        ensures steady { OnOk result (faults self.new ≡ faults self.old) }
+        ensures steady_memory { IsErrOf result OutsideFault.Memory
+            → faults self.new ≡ faults self.old };
+
+    /// Adds the bytes at the end of the file of that name, which is there. After
+    /// [`OutsideFault::Failed`] a beginning of them was added. A piece that was cut off is the last:
+    /// once an append has failed, each later one fails too and adds nothing. After
+    /// [`OutsideFault::Memory`] all are as before.
+    fn append(&mut self, name: &str, bytes: &[u8]) -> Result<(), OutsideFault>
+        ensures appended { IsAppended result name.now bytes.now
+            (contents self.old) (contents self.new) }
+        ensures whole { OnOk result (torn self.new ≡ false) }
+        ensures cut { IsErrOf result OutsideFault.Failed → torn self.new ≡ true }
+        ensures stays { torn self.old ≡ true → torn self.new ≡ true }
+        ensures last { torn self.old ≡ true → contents self.new ≡ contents self.old }
+        ensures asked { asked self.new
+            ≡ after_call result (Append name.now bytes.now) (asked self.old) }
 
         ensures count { faults self.old ≤ faults self.new }
         ensures failed { IsErrOf result OutsideFault.Failed

@@ -22,7 +22,7 @@ pub enum Answer {
 }
 
 /// Where the bytes of the players come in, and the clock.
-pub trait Inbox {
+pub trait Inbox: Drop {
     /// The name and the number of hands that [`listen_hands`](Inbox::listen_hands) was given, the
     /// moment that it answered, and the polls; where they are told. A `listen_hands` that answered
     /// [`OutsideFault::Memory`] is not kept.

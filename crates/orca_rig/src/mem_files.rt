@@ -1,4 +1,4 @@
-ghost use Rattle.std.specs.Prelude.{◌≡◌, ◌+◌, min, ◌<◌, ◌≤◌, ◌^◌, [], ◌∷◌, ◌++◌, false, length, position, string_bytes, vec_len, vec_capacity, Some, IsTrue, IfSome, IfNone, IfOk, OnOk, OnErr, IsErrOf};
+ghost use Rattle.std.specs.Prelude.{◌≡◌, ◌+◌, min, ◌<◌, ◌≤◌, ◌^◌, [], ◌∷◌, ◌++◌, true, false, ◌⊎◌, IsNone, length, position, string_bytes, vec_len, vec_capacity, Some, IsTrue, IfSome, IfNone, IfOk, OnOk, OnErr, IsErrOf};
 ghost use Rattle.std.specs.Str.{bytes_eq};
 ghost use Rattle.std.specs.Option.{option_copied};
 ghost use Rattle.orca_base.specs.declared.limits.TheConstants.{MAX_FILE_BYTES};
@@ -6,8 +6,8 @@ ghost use Rattle.std.specs.Ordering.{nat_cmp};
 ghost use Rattle.std.specs.Cmp.Lexicographic.{slice_cmp};
 ghost use Rattle.std.specs.FinMap.{get, find, insert};
 ghost use Rattle.orca_rig.specs.Outside.{Rose, after_call, last_count};
-ghost use Rattle.orca_rig.specs.Outside.Ask.{Load, Save};
-ghost use Rattle.orca_rig.specs.Saved.{IsSaved};
+ghost use Rattle.orca_rig.specs.Outside.Ask.{Append, Load, Save};
+ghost use Rattle.orca_rig.specs.Saved.{IsAppended, IsSaved};
 ghost use Rattle.orca_rig.specs.InMemory.{named, files_of, asks_of, ask_of, names_differ, is_to_fail, IsUnloadable};
 
 use crate::{Files, OutsideFault};
@@ -15,11 +15,13 @@ use orca_base::Memory;
 use orca_base::limits::MAX_FILE_BYTES;
 use std::marker::Model;
 
-/// A call of a store: a load of the file of a name, or a save of bytes under a name.
+/// A call of a store: a load of the file of a name, a save of bytes under a name, or an append of
+/// bytes to the file of a name.
 #[derive(Drop)]
 enum Call {
     Load(String),
     Save(String, Vec<u8>),
+    Append(String, Vec<u8>),
 }
 
 /// A store of files in memory. It fails where it is told to, and then holds what it held.
@@ -29,6 +31,8 @@ pub struct MemFiles {
     calls: Vec<Call>,
     to_fail: Vec<u64>,
     failed: u64,
+    /// An append has failed.
+    torn: bool,
 }
 
 impl Model for MemFiles {
@@ -43,6 +47,7 @@ impl Model for MemFiles {
       asked = asks_of f.calls.items;
       fail = f.to_fail.items;
       faults = f.failed;
+      torn = f.torn;
     } };
 }
 
@@ -56,6 +61,7 @@ impl MemFiles {
         ensures asked { IfOk result (λ files. files.asked ≡ []) }
         ensures fail { IfOk result (λ files. files.fail ≡ fail.items) }
         ensures faults { IfOk result (λ files. files.faults ≡ 0) }
+        ensures torn { IfOk result (λ files. files.torn ≡ false) }
     {
         let alloc = *contents.allocator();
         Ok(MemFiles {
@@ -63,6 +69,7 @@ impl MemFiles {
             calls: Vec::new(alloc),
             to_fail: fail,
             failed: 0,
+            torn: false,
         })
     }
 
@@ -167,11 +174,14 @@ impl Files for MemFiles {
 
     ghost faults = { λ f. f.faults };
 
+    ghost torn = { λ f. f.torn };
+
     fn load(&mut self, name: &str, into: &mut Vec<u8>) -> Result<(), OutsideFault>
         ensures loaded { OnOk result (get self.old.contents name.now ≡ Some into.new.items) }
         ensures short { OnOk result (length into.new.items ≤ MAX_FILE_BYTES) }
         ensures untouched { OnErr result (into.new.items ≡ into.old.items) }
         ensures contents { self.new.contents ≡ self.old.contents }
+        ensures torn { self.new.torn ≡ self.old.torn }
         ensures asked { Some self.new.asked
             ≡ after_call result (Load name.now) (Some self.old.asked) }
 
@@ -209,6 +219,7 @@ impl Files for MemFiles {
     fn save(&mut self, name: &str, bytes: &[u8]) -> Result<(), OutsideFault>
         ensures saved { IsSaved result name.now bytes.now
             (Some self.old.contents) (Some self.new.contents) }
+        ensures torn { self.new.torn ≡ self.old.torn }
         ensures asked { Some self.new.asked
             ≡ after_call result (Save name.now bytes.now) (Some self.old.asked) }
 
@@ -238,6 +249,49 @@ impl Files for MemFiles {
         self.files.reserve(1)?;
         self.calls.push(call)?;
         put_file(&mut self.files, held, kept);
+        Ok(())
+    }
+
+    fn append(&mut self, name: &str, bytes: &[u8]) -> Result<(), OutsideFault>
+        ensures appended { IsAppended result name.now bytes.now
+            (Some self.old.contents) (Some self.new.contents) }
+        ensures whole { OnOk result (self.new.torn ≡ false) }
+        ensures cut { IsErrOf result OutsideFault.Failed → self.new.torn ≡ true }
+        ensures stays { self.old.torn ≡ true → self.new.torn ≡ true }
+        ensures last { self.old.torn ≡ true → self.new.contents ≡ self.old.contents }
+        ensures asked { Some self.new.asked
+            ≡ after_call result (Append name.now bytes.now) (Some self.old.asked) }
+
+        ensures count { self.old.faults ≤ self.new.faults }
+        ensures failed { IsErrOf result OutsideFault.Failed → Rose self.old.faults self.new.faults }
+        ensures steady { OnOk result (self.new.faults ≡ self.old.faults) }
+        ensures steady_memory { IsErrOf result OutsideFault.Memory
+            → self.new.faults ≡ self.old.faults }
+
+        ensures fail { self.new.fail ≡ self.old.fail }
+        ensures untouched { OnErr result (self.new.contents ≡ self.old.contents) }
+        ensures cause { IsErrOf result OutsideFault.Failed
+            → is_to_fail self.old.fail (length self.old.asked) ≡ false
+            → (self.old.torn ≡ true) ⊎ IsNone (get self.old.contents name.now) }
+        ensures not_listed { OnOk result (is_to_fail self.old.fail (length self.old.asked)
+            ≡ false) }
+        ensures counted { IsErrOf result OutsideFault.Failed
+            → self.new.faults ≡ min (self.old.faults + 1) last_count }
+    {
+        let alloc = *self.files.allocator();
+        let call = Call::Append(String::from_str(alloc, name)?, bytes.to_vec(alloc)?);
+        let held = bytes_of(&self.files, name);
+        let (Some(held), false) = (held, self.torn || is_to_fail(&self.to_fail, &self.calls)) else {
+            let fault = keep_failed(&mut self.calls, &mut self.failed, call);
+            self.torn |= fault == OutsideFault::Failed;
+            return Err(fault);
+        };
+        let mut kept = held.to_vec(alloc)?;
+        kept.extend_from_slice(bytes)?;
+        let name = String::from_str(alloc, name)?;
+        self.files.reserve(1)?;
+        self.calls.push(call)?;
+        put_file(&mut self.files, name, kept);
         Ok(())
     }
 }

@@ -3,7 +3,7 @@ ghost use Rattle.std.specs.Option.{option_map};
 ghost use Rattle.orca_rig.specs.Outside.{Rose, after_call, last_count};
 ghost use Rattle.orca_rig.specs.InMemory.{sents, attaches, sends_to, attaches_to, is_port_to_fail};
 
-use crate::fault::count_fault;
+use crate::fault::count_failure;
 use crate::{Outs, OutsideFault};
 use orca_base::{Memory, Port};
 use std::marker::Model;
@@ -15,7 +15,6 @@ pub struct MemOuts {
     names: Vec<(Port, String)>,
     to_fail: Vec<(Port, u64)>,
     failed: u64,
-    refused: u64,
 }
 
 impl Model for MemOuts {
@@ -28,7 +27,6 @@ impl Model for MemOuts {
       attached = attaches o.names.items;
       fail = o.to_fail.items;
       faults = o.failed;
-      wants = o.refused;
     } };
 }
 
@@ -41,14 +39,12 @@ impl MemOuts {
         ensures attached { IfOk result (λ outs. outs.attached ≡ []) }
         ensures fail { IfOk result (λ outs. outs.fail ≡ fail.items) }
         ensures faults { IfOk result (λ outs. outs.faults ≡ 0) }
-        ensures wants { IfOk result (λ outs. outs.wants ≡ 0) }
     {
         Ok(MemOuts {
             pieces: Vec::new(*fail.allocator()),
             names: Vec::new(*fail.allocator()),
             to_fail: fail,
             failed: 0,
-            refused: 0,
         })
     }
 
@@ -145,8 +141,6 @@ impl Outs for MemOuts {
 
     ghost faults = { λ o. o.faults };
 
-    ghost wants = { λ o. o.wants };
-
     fn attach(&mut self, port: Port, name: &str) -> Result<(), OutsideFault>
         ensures attached { Some self.new.attached
             ≡ after_call result (record { port = port; name = name.now }) (Some self.old.attached) }
@@ -156,11 +150,6 @@ impl Outs for MemOuts {
         ensures steady { OnOk result (self.new.faults ≡ self.old.faults) }
         ensures steady_memory { IsErrOf result OutsideFault.Memory
             → self.new.faults ≡ self.old.faults }
-        ensures want_count { self.old.wants ≤ self.new.wants }
-        ensures wanted { IsErrOf result OutsideFault.Memory → Rose self.old.wants self.new.wants }
-        ensures sated { OnOk result (self.new.wants ≡ self.old.wants) }
-        ensures sated_failed { IsErrOf result OutsideFault.Failed
-            → self.new.wants ≡ self.old.wants }
 
         ensures fail { self.new.fail ≡ self.old.fail }
         ensures listed { IsErrOf result OutsideFault.Failed
@@ -169,12 +158,10 @@ impl Outs for MemOuts {
         ensures counted { IsErrOf result OutsideFault.Failed
             → self.new.faults ≡ min (self.old.faults + 1) last_count }
         ensures quiet { self.old.fail ≡ [] → self.new.faults ≡ self.old.faults }
-        ensures refused { IsErrOf result OutsideFault.Memory
-            → self.new.wants ≡ min (self.old.wants + 1) last_count }
     {
         let fails = self.is_to_fail(port);
         let kept = keep_name(&mut self.names, port, name);
-        count_fault(&mut self.failed, &mut self.refused, answer_of(kept, fails))
+        count_failure(&mut self.failed, answer_of(kept, fails))
     }
 
     fn send(&mut self, port: Port, bytes: &[u8]) -> Result<(), OutsideFault>
@@ -186,11 +173,6 @@ impl Outs for MemOuts {
         ensures steady { OnOk result (self.new.faults ≡ self.old.faults) }
         ensures steady_memory { IsErrOf result OutsideFault.Memory
             → self.new.faults ≡ self.old.faults }
-        ensures want_count { self.old.wants ≤ self.new.wants }
-        ensures wanted { IsErrOf result OutsideFault.Memory → Rose self.old.wants self.new.wants }
-        ensures sated { OnOk result (self.new.wants ≡ self.old.wants) }
-        ensures sated_failed { IsErrOf result OutsideFault.Failed
-            → self.new.wants ≡ self.old.wants }
 
         ensures fail { self.new.fail ≡ self.old.fail }
         ensures listed { IsErrOf result OutsideFault.Failed
@@ -199,12 +181,10 @@ impl Outs for MemOuts {
         ensures counted { IsErrOf result OutsideFault.Failed
             → self.new.faults ≡ min (self.old.faults + 1) last_count }
         ensures quiet { self.old.fail ≡ [] → self.new.faults ≡ self.old.faults }
-        ensures refused { IsErrOf result OutsideFault.Memory
-            → self.new.wants ≡ min (self.old.wants + 1) last_count }
     {
         let fails = self.is_to_fail(port);
         let kept = keep_piece(&mut self.pieces, port, bytes);
-        count_fault(&mut self.failed, &mut self.refused, answer_of(kept, fails))
+        count_failure(&mut self.failed, answer_of(kept, fails))
     }
 
     fn sent(&self) -> u64

@@ -7,7 +7,7 @@ use crate::OutsideFault;
 use orca_base::Port;
 
 /// Ports that take bytes.
-pub trait Outs {
+pub trait Outs: Drop {
     /// All that was given to [`send`](Outs::send), in order, also where it answered
     /// [`OutsideFault::Failed`], and nothing that answered [`OutsideFault::Memory`]; where it is
     /// told.
@@ -24,9 +24,6 @@ pub trait Outs {
     /// How often a port has failed.
     ghost faults: { Self → ℕ };
 
-    /// How often memory was refused to [`attach`](Outs::attach) or [`send`](Outs::send).
-    ghost wants: { Self → ℕ };
-
     /// Connects a port to the file, device or address of that name.
     fn attach(&mut self, port: Port, name: &str) -> Result<(), OutsideFault>
         ensures attached { attached self.new
@@ -38,14 +35,7 @@ pub trait Outs {
             → Rose (faults self.old) (faults self.new) }
         ensures steady { OnOk result (faults self.new ≡ faults self.old) }
         ensures steady_memory { IsErrOf result OutsideFault.Memory
-            → faults self.new ≡ faults self.old }
-
-        ensures want_count { wants self.old ≤ wants self.new }
-        ensures wanted { IsErrOf result OutsideFault.Memory
-            → Rose (wants self.old) (wants self.new) }
-        ensures sated { OnOk result (wants self.new ≡ wants self.old) }
-        ensures sated_failed { IsErrOf result OutsideFault.Failed
-            → wants self.new ≡ wants self.old };
+            → faults self.new ≡ faults self.old };
 
     /// Sends the bytes to the port, as one piece.
     fn send(&mut self, port: Port, bytes: &[u8]) -> Result<(), OutsideFault>
@@ -58,14 +48,7 @@ pub trait Outs {
             → Rose (faults self.old) (faults self.new) }
         ensures steady { OnOk result (faults self.new ≡ faults self.old) }
         ensures steady_memory { IsErrOf result OutsideFault.Memory
-            → faults self.new ≡ faults self.old }
-
-        ensures want_count { wants self.old ≤ wants self.new }
-        ensures wanted { IsErrOf result OutsideFault.Memory
-            → Rose (wants self.old) (wants self.new) }
-        ensures sated { OnOk result (wants self.new ≡ wants self.old) }
-        ensures sated_failed { IsErrOf result OutsideFault.Failed
-            → wants self.new ≡ wants self.old };
+            → faults self.new ≡ faults self.old };
 
     /// How many pieces were given to [`send`](Outs::send), where that is told and fits. It is there
     /// for an inbox to write down: only [`Inbox::poll`](crate::Inbox::poll) may call it, since the
