@@ -2,6 +2,7 @@
 //! the traits of orca_rig.
 #![tactic(auto)]
 
+mod appending;
 mod hands;
 mod moments;
 mod owed;

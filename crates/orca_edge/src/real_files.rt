@@ -1,6 +1,7 @@
-ghost use Rattle.std.specs.Prelude.{◌≡◌, ◌≤◌, None, length, OnOk, OnErr};
+ghost use Rattle.std.specs.Prelude.{◌≡◌, ◌≤◌, None, false, length, OnOk, OnErr};
 ghost use Rattle.orca_base.specs.declared.limits.TheConstants.{MAX_FILE_BYTES};
 
+use crate::appending::append_file;
 use crate::saving::save_file;
 use crate::whole::read_whole;
 use orca_rig::{Files, OutsideFault, count_failure};
@@ -13,6 +14,8 @@ use std::{fs, rt};
 pub struct RealFiles<'a, R> {
     rt: &'a R,
     failed: u64,
+    /// An append has failed.
+    torn: bool,
 }
 
 impl<R: rt::Files + AllocGlobal + Clock> RealFiles<'_, R>
@@ -21,9 +24,14 @@ where
 {
     /// The files that the runtime reaches.
     pub fn new(rt: &R) -> RealFiles<'_, R>
-        ensures { ⟦<RealFiles<'static, R> as Files>⟧.faults result ≡ 0 }
+        ensures faults { ⟦<RealFiles<'static, R> as Files>⟧.faults result ≡ 0 }
+        ensures torn { ⟦<RealFiles<'static, R> as Files>⟧.torn result ≡ false }
     {
-        RealFiles { rt, failed: 0 }
+        RealFiles {
+            rt,
+            failed: 0,
+            torn: false,
+        }
     }
 }
 
@@ -36,6 +44,8 @@ where
     ghost asked = { λ _. None };
 
     ghost faults = { λ f. f.failed };
+
+    ghost torn = { λ f. f.torn };
 
     /// A missing file, a directory, one that cannot be read and one that is too long are failures.
     fn load(&mut self, name: &str, into: &mut Vec<u8>) -> Result<(), OutsideFault> {
@@ -64,6 +74,19 @@ where
     /// ones, and on some file systems a part of them.
     fn save(&mut self, name: &str, bytes: &[u8]) -> Result<(), OutsideFault> {
         let done = save_file(self.rt, name, bytes);
+        count_failure(&mut self.failed, done)
+    }
+
+    /// Only a plain file is added to; a folder, a device, a pipe and a missing file are failures.
+    /// The file is opened anew each time, so one that was replaced meanwhile is added to under its
+    /// name.
+    fn append(&mut self, name: &str, bytes: &[u8]) -> Result<(), OutsideFault> {
+        let done = if self.torn {
+            Err(OutsideFault::Failed)
+        } else {
+            append_file(self.rt, name, bytes)
+        };
+        self.torn |= done == Err(OutsideFault::Failed);
         count_failure(&mut self.failed, done)
     }
 }

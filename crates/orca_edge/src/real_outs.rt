@@ -9,7 +9,7 @@ use crate::sinks::{Output, Sink};
 use crate::whole::{TRIES, unless_interrupted};
 use libc::{STDERR_FILENO, STDOUT_FILENO};
 use orca_base::Port;
-use orca_rig::{Outs, OutsideFault, count_fault};
+use orca_rig::{Outs, OutsideFault, count_failure};
 use std::fs::OpenOptions;
 use std::io::ErrorKind;
 use std::net::{Ipv4Addr, Ipv6Addr, Net, SocketAddr, ToSocketAddrs, UdpSocket};
@@ -61,7 +61,6 @@ pub struct RealOuts<'a, R: rt::Files + Clock> {
     udp: Option<Peer>,
     osc: Option<Peer>,
     failed: u64,
-    refused: u64,
 }
 
 impl<R: rt::Files + Clock> Drop for RealOuts<'_, R> {
@@ -75,7 +74,6 @@ impl<R: rt::Files + Clock> Drop for RealOuts<'_, R> {
             udp: _,
             osc: _,
             failed: _,
-            refused: _,
         } = self;
         if let Some(mut sink) = midi {
             let _ = sink.send_last(&Patience::last(rt));
@@ -104,7 +102,6 @@ where
     /// The outputs that the runtime reaches. No port is attached.
     pub fn new(rt: &R) -> RealOuts<'_, R>
         ensures faults { ⟦<RealOuts<'static, R> as Outs>⟧.faults result ≡ 0 }
-        ensures wants { ⟦<RealOuts<'static, R> as Outs>⟧.wants result ≡ 0 }
     {
         RealOuts {
             rt,
@@ -114,14 +111,12 @@ where
             udp: None,
             osc: None,
             failed: 0,
-            refused: 0,
         }
     }
 
     /// Attaches the port, in place of what it was attached to. After a fault it is unattached.
     fn connect(&mut self, port: Port, name: &str) -> Result<(), OutsideFault>
         ensures failed { self.new.failed ≡ self.old.failed }
-        ensures refused { self.new.refused ≡ self.old.refused }
         ensures midi { port ≡ Port.Midi → (IsSome self.new.midi ↔ IsOk result) }
         ensures udp { port ≡ Port.Udp → (IsSome self.new.udp ↔ IsOk result) }
         ensures osc { port ≡ Port.Osc → (IsSome self.new.osc ↔ IsOk result) }
@@ -151,7 +146,6 @@ where
     /// notes that Midi is owed go first.
     fn write(&mut self, port: Port, bytes: &[u8]) -> Result<(), OutsideFault>
         ensures failed { self.new.failed ≡ self.old.failed }
-        ensures refused { self.new.refused ≡ self.old.refused }
         ensures midi { port ≡ Port.Midi
             → OnOk result (Takes R.File.contents self.old.midi self.new.midi bytes.now) }
         ensures midi_whole { port ≡ Port.Midi
@@ -203,8 +197,6 @@ where
 
     ghost faults = { λ o. o.failed };
 
-    ghost wants = { λ o. o.refused };
-
     /// Midi is attached to a file, a named pipe or a device file, which is opened for writing: a
     /// plain file is created or emptied. A pipe that nobody reads waits here until somebody does,
     /// as open(2) says. The name of a device that is missing becomes a plain file where its folder
@@ -218,7 +210,7 @@ where
     /// unattached, also where it was attached before.
     fn attach(&mut self, port: Port, name: &str) -> Result<(), OutsideFault> {
         let done = self.connect(port, name);
-        count_fault(&mut self.failed, &mut self.refused, done)
+        count_failure(&mut self.failed, done)
     }
 
     /// Text for the standard error that is no UTF-8 is a failure. So are a datagram that was cut or is
@@ -227,7 +219,7 @@ where
     /// system does not tell.
     fn send(&mut self, port: Port, bytes: &[u8]) -> Result<(), OutsideFault> {
         let done = self.write(port, bytes);
-        count_fault(&mut self.failed, &mut self.refused, done)
+        count_failure(&mut self.failed, done)
     }
 
     fn sent(&self) -> u64 {

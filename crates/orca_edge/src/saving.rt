@@ -125,7 +125,7 @@ fn open_at_once<R: rt::Files>(rt: &R, name: &str) -> io::Result<R::File> {
 }
 
 /// Whether a pipe has this name.
-fn is_pipe<R: rt::Files>(rt: &R, name: &str) -> bool {
+pub(crate) fn is_pipe<R: rt::Files>(rt: &R, name: &str) -> bool {
     match fs::metadata(rt, name) {
         Ok(found) => found.file_type().is_fifo(),
         Err(_) => false,
