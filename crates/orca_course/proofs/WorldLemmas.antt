@@ -1,7 +1,8 @@
 -- What acts make of the world, one list of them after another.
 use Rattle.std.proofs.Common.{◌≡◌, ℕ, ◌+◌, ◌≤◌, List, [], ◌∷◌, ◌++◌, refl, sym, ap, ◌∙◌, append_assoc, append-nil, arith}
 use Rattle.std.proofs.lemmas.List.Folds.{list_any-append}
-use Rattle.std.specs.Prelude.{Bool, true, false, ◌||◌, All, Option, Result, Ok, Err}
+use Rattle.std.specs.List.{list_any}
+use Rattle.std.specs.Prelude.{Bool, true, false, ◌||◌, All, Option, None, Result, Ok, Err}
 use Rattle.orca_base.specs.declared.command.Command.{Command}
 use Rattle.orca_term.specs.Picture.{IsPrintable}
 use Rattle.orca_term.specs.declared.cell.Cell.{Cell}
@@ -13,10 +14,10 @@ use Rattle.orca_rig.specs.declared.fault.OutsideFault.TheVariants.{Memory}
 use Rattle.orca_trace.specs.Calls.{Call}
 use Rattle.orca_trace.specs.Calls.Call.{Await as CallAwait, Give as CallGive}
 use Rattle.orca_course.specs.Acts.{Act, ArePrintable, calls_in, given}
-use Rattle.orca_course.specs.Acts.Act.{Await, Give, Obey, Show, Stand}
-use Rattle.orca_course.specs.Answered.{done_in, refused_in}
+use Rattle.orca_course.specs.Acts.Act.{Await, Give, Load, Obey, Save, Show, Stand}
+use Rattle.orca_course.specs.Answered.{done_in, is_file_fault, refused_in}
 use Rattle.orca_course.specs.Standings.{Standing}
-use Rattle.orca_course.specs.Worlds.{AreCalled, AreCounted, AreStored, Called, Counts, IsCounted, Made, Polled, Sated, Stores, Wants, World, has_ended, is_lost, owing}
+use Rattle.orca_course.specs.Worlds.{AreCalled, AreCounted, AreStored, Called, Counts, IsCounted, Made, Polled, Sated, Stores, Unsent, Wants, World, has_ended, has_failed, is_lost, is_unstored, owing}
 use Rattle.orca_course.specs.declared.refused.NoMemory.{NoMemory}
 use Rattle.orca_course.specs.declared.refused.NoMemory.TheVariants.{InSend, Elsewhere}
 use Rattle.orca_course.proofs.ActLemmas.{ArePrintable-append, calls_in-append, ended_after, ended_after-calls, given-append, lost_after, lost_after-calls}
@@ -167,21 +168,70 @@ ended_made {acts = acts} {x = x} made =
     rw (called.1, list_any-append, ← ended_after-done, called.2)
     (ended_after-calls acts (has_ended x))
 
+-- no load among acts has failed, and nothing is saved
+abbrev pub AreSafe : List Act → Type 0
+AreSafe [] = Unit {0}
+AreSafe (Load name None ∷ acts) = ⊥
+AreSafe (Save name bytes ∷ acts) = ⊥
+AreSafe (_ ∷ acts) = AreSafe acts
+
+safe_calls : (calls : List Call) → AreSafe (done_in calls) → list_any is_file_fault calls ≡ false
+safe_calls [] safe = refl
+safe_calls (call ∷ calls) safe = grind (arith, safe_calls calls)
+
+safe_acts : (acts : List Act) → AreSafe acts → AreSafe (calls_in acts)
+safe_acts [] safe = tt
+safe_acts (act ∷ acts) safe = grind (arith, safe_acts acts)
+
+-- then the files have not failed
+pub stored_made : {acts : List Act} {bill : ℕ} {x y : World} → AreSafe acts → Made acts bill x y
+    → is_unstored y ≡ is_unstored x
+unfolding AreCalled
+stored_made {acts = acts} safe made =
+    let called = made.called in
+    let none = safe_calls called.0 (rw called.2 (safe_acts acts safe)) in
+    rw (called.1, list_any-append, none) (grind arith)
+
+unloaded_calls : (calls : List Call) (name : List ℕ) → done_in calls ≡ Load name None ∷ []
+    → list_any is_file_fault calls ≡ true
+unloaded_calls [] name is = absurd cc
+unloaded_calls (call ∷ calls) name is = grind (arith, unloaded_calls calls name)
+
+-- a load has failed
+pub unstored_made : {name : List ℕ} {bill : ℕ} {x y : World} → Made (Load name None ∷ []) bill x y
+    → is_unstored y ≡ true
+unfolding AreCalled
+unstored_made {name = name} made =
+    let called = made.called in
+    rw (called.1, list_any-append, unloaded_calls called.0 name called.2) (grind arith)
+
+-- what has failed has failed for good
+pub failed_made : {acts : List Act} {bill : ℕ} {x y : World} → Made acts bill x y
+    → has_failed x ≡ true → has_failed y ≡ true
+unfolding AreCalled
+failed_made made failed = rw (made.called.1, list_any-append, failed) refl
+
 -- no call was refused memory
 pub sated_twice : (x y z : World) → Sated x y → Sated y z → Sated x z
 sated_twice x y z first second = second ∙ first
 
+-- memory was refused to a send, and before to no other
+pub unsent_after : (left : List Act) (x y z : World)
+    → given (refused_in y.calls) ≡ given (refused_in x.calls) → Unsent left y.calls z.calls
+    → Unsent left x.calls z.calls
+unsent_after left x y z none unsent = record {
+  sent = unsent.sent;
+  later = unsent.later;
+  next = unsent.next;
+  before = unsent.before;
+  last = unsent.last;
+  alone = unsent.alone ∙ none;
+}
+
 -- memory was refused, after others were done
 pub wants_later : (e : NoMemory) (left : List Act) (x y z : World) → Sated x y
     → Wants e left y z → Wants e left x z
-wants_later InSend left x y z sated wants = record {
-  sent = wants.sent;
-  later = wants.later;
-  next = wants.next;
-  before = wants.before;
-  last = wants.last;
-  alone = wants.alone ∙ ap given sated;
-}
+wants_later InSend left x y z sated wants = unsent_after left x y z (ap given sated) wants
 wants_later Elsewhere left x y z sated wants = wants ∙ ap given sated
 
 -- whatever is owed

@@ -56,6 +56,10 @@ is_unstored x = list_any is_file_fault x.calls
 abbrev pub is_lost : World → Bool
 is_lost x = list_any is_inbox_fault x.calls
 
+-- nothing has failed
+abbrev pub IsSound : World → Type 0
+IsSound x = (has_failed x ≡ false) × (is_unstored x ≡ false) × (is_lost x ≡ false)
+
 -- whether the inbox was asked to listen
 abbrev pub has_listened : World → Bool
 has_listened x = list_any is_listen x.calls
@@ -63,6 +67,11 @@ has_listened x = list_any is_listen x.calls
 -- whether a poll has given a last answer
 abbrev pub has_ended : World → Bool
 has_ended x = list_any is_last_poll x.calls
+
+-- the inbox was not called
+abbrev pub LeavesInbox : World → World → Type 0
+LeavesInbox x y =
+    (has_listened y ≡ has_listened x) × (has_ended y ≡ has_ended x) × (is_lost y ≡ is_lost x)
 
 -- ---- calls
 

@@ -1,16 +1,17 @@
 //! All that stands outside of a run, as one value.
 
-ghost use Rattle.std.specs.Prelude.{◌≡◌, ◌≢◌, ◌≤◌, [], ◌∷◌, false, Err, IfSome};
+ghost use Rattle.std.specs.Prelude.{◌≡◌, ◌≢◌, ◌≤◌, [], ◌∷◌, length, false, Err, IfSome};
 ghost use Rattle.orca_edit.specs.Machines.{Acts, preview_of};
 ghost use Rattle.orca_edit.specs.Obeying.{piece_of};
 ghost use Rattle.orca_edit.specs.Prices.{charge, kept_after, preview_price};
+ghost use Rattle.orca_base.specs.declared.limits.TheConstants.{MAX_FILE_BYTES};
 ghost use Rattle.orca_rig.specs.Arrived.{arrived};
 ghost use Rattle.orca_base.specs.declared.limits.TheConstants.{MAX_HANDS};
 ghost use Rattle.orca_course.specs.Acts.{given};
 ghost use Rattle.orca_course.specs.Acts.Act.{Attach, Give, Listen, Load, Save};
 ghost use Rattle.orca_course.specs.Answered.{done_in};
 ghost use Rattle.orca_course.specs.Told.{IsLogOf, Records, Tells, asked_in, attached_in};
-ghost use Rattle.orca_course.specs.Worlds.{Called, Made, Polled, Sated, has_ended, has_failed, has_listened, is_unstored, owing, start_of, text_of};
+ghost use Rattle.orca_course.specs.Worlds.{Called, LeavesInbox, Made, Polled, Sated, has_ended, has_failed, has_listened, is_unstored, owing, start_of, text_of};
 
 use crate::NoMemory;
 use crate::performer::arrived;
@@ -139,7 +140,7 @@ impl<F: Files + Drop, O: Outs + Drop, I: Inbox + Drop, L: Ledger> Desk<F, O, I, 
     pub fn attach(&mut self, port: Port, name: &str) -> Result<(), NoMemory>
         ensures called { Called result (Attach (record { port = port; name = name.now }))
             self.old self.new }
-        ensures fresh { has_listened self.new ≡ has_listened self.old }
+        ensures inbox { LeavesInbox self.old self.new }
     {
         let answer = self.outs.attach(port, name);
         self.trace
@@ -171,7 +172,8 @@ impl<F: Files + Drop, O: Outs + Drop, I: Inbox + Drop, L: Ledger> Desk<F, O, I, 
     /// The bytes of the file of that name; none if its load fails, which is recorded.
     pub fn load(&mut self, alloc: Global, name: &str) -> Result<Option<Vec<u8>>, NoMemory>
         ensures called { Called result (Load name.now (text_of result)) self.old self.new }
-        ensures fresh { has_listened self.new ≡ has_listened self.old }
+        ensures short { IfSome (text_of result) (λ text. length text ≤ MAX_FILE_BYTES) }
+        ensures inbox { LeavesInbox self.old self.new }
     {
         let mut text = Vec::new(alloc);
         let answer = self.files.load(name, &mut text);
@@ -204,7 +206,8 @@ impl<F: Files + Drop, O: Outs + Drop, I: Inbox + Drop, L: Ledger> Desk<F, O, I, 
         requires fresh { has_listened self.old ≡ false }
         requires some { 1 ≤ hands }
         requires few { hands ≤ MAX_HANDS }
-        ensures { Called result (Listen name.now hands (start_of result)) self.old self.new }
+        ensures called { Called result (Listen name.now hands (start_of result)) self.old self.new }
+        ensures open { has_ended self.new ≡ has_ended self.old }
     {
         let answer = self.inbox.listen_hands(name, hands);
         self.trace

@@ -305,7 +305,7 @@ last_by (Some a) (Some b) c d same ends others =
 
 pub items_decide : ItemsDecide
 unfolding performance lastly
-items_decide polls others s t few few_others items same ends others_end =
+items_decide polls others s t items same ends others_end =
     let c = begun live_part s polls in
     let d = begun live_part t others in
     let alike : core s ≡ core t = cc in

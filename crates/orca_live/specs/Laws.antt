@@ -1,10 +1,9 @@
 -- Laws of performances: more answers only add acts; how bytes were cut into answers changes no
 -- command; and the script that is saved, done again, leads to the same session.
-use Rattle.std.specs.Prelude.{◌≡◌, ◌≢◌, ◌≤◌, ℕ, List, [], ◌++◌, length, Some, None, Result}
+use Rattle.std.specs.Prelude.{◌≡◌, ◌≢◌, ℕ, List, [], ◌++◌, Some, None, Result}
 use Rattle.orca_base.specs.declared.command.Command.{Command}
 use Rattle.orca_base.specs.declared.command.Reply.{Reply}
 use Rattle.orca_base.specs.declared.command.Rule.{Rule}
-use Rattle.orca_base.specs.declared.limits.TheConstants.{MAX_POLLS}
 use Rattle.orca_base.specs.declared.message.Message.{Message}
 use Rattle.orca_concert.specs.Concerts.{concert, cues_course}
 use Rattle.orca_concert.specs.Manners.{Manner}
@@ -61,7 +60,6 @@ pub record PlayAlike (c d : Course LiveState Ending) : Type 0 where
 abbrev pub ItemsDecide : Type 0
 ItemsDecide =
     (polls others : List Poll) (s t : LiveState)
-    → length polls ≤ MAX_POLLS → length others ≤ MAX_POLLS
     → items_of polls ≡ items_of others → AreAlike s t
     → HasEnded (whole s polls) → HasEnded (whole t others)
     → PlayAlike (whole s polls) (whole t others)

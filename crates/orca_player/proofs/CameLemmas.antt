@@ -1,20 +1,21 @@
 -- What was done of an outline, and calls before it: a load, the wait for a player, the ports.
-use Rattle.std.proofs.Common.{◌≡◌, ◌≢◌, ◌⊎◌, inl, inr, ℕ, ◌+◌, Bool, false, List, [], ◌∷◌, ◌++◌, refl, sym, ◌∙◌, ap, subst, append_assoc, append-nil, arith}
+use Rattle.std.proofs.Common.{◌≡◌, ◌≢◌, ◌⊎◌, inl, inr, ℕ, ◌+◌, ◌≤◌, length, Bool, false, List, [], ◌∷◌, ◌++◌, refl, sym, ◌∙◌, ap, subst, append_assoc, append-nil, arith}
 use Rattle.std.specs.Prelude.{Option, Some, None, IfSome, Ok}
+use Rattle.orca_base.specs.declared.limits.TheConstants.{MAX_POLLS}
 use Rattle.orca_course.specs.Acts.{Act, AreMute, commands_in, given, gives, open_after, polls_in, stand_after}
 use Rattle.orca_course.specs.Acts.Act.{Attach, Listen, Load}
 use Rattle.orca_course.specs.Courses.{Course}
 use Rattle.orca_course.specs.Standings.{Standing}
 use Rattle.orca_course.specs.Following.{Follows, keys_after_acts, sounding}
-use Rattle.orca_course.specs.Worlds.{AreBegun, Called, Calls, Made, Sated, World}
+use Rattle.orca_course.specs.Answered.{refused_in}
+use Rattle.orca_course.specs.Worlds.{AreBegun, Called, Calls, Made, Sated, Unsent, World, is_lost, is_unstored}
 use Rattle.orca_course.specs.declared.refused.NoMemory.{NoMemory}
 use Rattle.orca_course.proofs.ActLemmas.{open-mute, stand-mute}
 use Rattle.orca_course.proofs.FollowLemmas.{follows-mute, keys-mute}
-use Rattle.orca_course.proofs.WorldLemmas.{made_none, made_twice, made_within, sated_twice}
+use Rattle.orca_course.proofs.WorldLemmas.{lost_made, made_none, made_twice, made_within, sated_twice, stored_made, unsent_after, unstored_made}
 use Rattle.orca_notes.specs.Device.{Voice}
 use Rattle.orca_notes.specs.Sound.{ends}
 use Rattle.orca_trace.specs.Calls.{Poll}
-use Rattle.orca_rig.specs.Outside.{Rose}
 use Rattle.orca_term.specs.Picture.{IsScreen}
 use Rattle.orca_words.specs.Requests.{Setup}
 use Rattle.orca_player.specs.Doing.{Came, CameBy, IsBlamed, IsWhole, KeepsTake, ReadsBack, WasRefused, status_at}
@@ -97,12 +98,11 @@ came_plain o came = record {
 
 -- ---- calls before it
 
--- calls were done, and the count of faults of the files, and the record of those of the inbox, are
--- as before
+-- calls were done, and whether the files and the inbox have failed is as before
 pub record Before (acts : List Act) (x y : World) : Type 0 where
   pub calls : AreCalls acts
-  pub lost : y.lost ≡ x.lost
-  pub files : y.shelf.faults ≡ x.shelf.faults
+  pub lost : is_lost y ≡ is_lost x
+  pub files : is_unstored y ≡ is_unstored x
   pub made : Made acts 0 x y
   pub sated : Sated x y
 
@@ -129,9 +129,12 @@ splits_after : (acts whole begun left : List Act) → whole ≡ begun ++ left
 splits_after acts whole begun left splits =
     ap (λ more. acts ++ more) splits ∙ sym (append_assoc acts begun left)
 
-pub unsaid_after : {A : Type 0} (x y z : World) → Sated x y
-    → A ⊎ Rose y.ports.wants z.ports.wants → A ⊎ Rose x.ports.wants z.ports.wants
-unsaid_after x y z sated all = grind arith
+-- memory was refused to none of these sends, or to the next
+pub unsaid_after : {A : Type 0} (left : List Act) (x y z : World)
+    → given (refused_in y.calls) ≡ given (refused_in x.calls) → A ⊎ Unsent left y.calls z.calls
+    → A ⊎ Unsent left x.calls z.calls
+unsaid_after left x y z none (inl all) = inl all
+unsaid_after left x y z none (inr unsent) = inr (unsent_after left x y z none unsent)
 
 refused_after : {acts : List Act} (o : Outline) {x y z : World} → Before acts x y
     → WasRefused o y z → WasRefused (after acts o) x z
@@ -143,7 +146,7 @@ refused_after {acts = acts} o {x = x} {y = y} {z = z} before refused =
         left = stops.left;
         splits = splits_after acts _ stops.begun stops.left stops.splits;
         made = made_twice before.made stops.made;
-        wanted = subst (λ n. Rose n z.ports.wants) before.sated stops.wanted;
+        wanted = unsent_after stops.left x y z (ap given before.sated) stops.wanted;
         follows = λ hands. bare.follows [] stops.begun (stops.follows hands);
       })
       | inr (inl closes) ↦
@@ -156,7 +159,7 @@ refused_after {acts = acts} o {x = x} {y = y} {z = z} before refused =
             closing = closes.closing;
             unsaid = closes.unsaid;
             closes = rw bare.stands closes.closes;
-            all = unsaid_after x y z before.sated closes.all;
+            all = unsaid_after (gives closes.unsaid) x y z (ap given before.sated) closes.all;
             made = rw all at (made_twice before.made closes.made);
             follows = λ hands. rw all at
                 (bare.follows [] (closes.begun ++ gives closes.closing) (closes.follows hands));
@@ -228,8 +231,8 @@ loaded called =
     let made = called.called.0 in
     record {
       calls = tt;
-      lost = made.mail.lost;
-      files = made.shelf.left.4.1 ∙ made.shelf.left.3.1;
+      lost = lost_made made;
+      files = stored_made tt made;
       made = made;
       sated = called.called.1;
     }
@@ -240,8 +243,8 @@ listened called =
     let made = called.called.0 in
     record {
       calls = tt;
-      lost = made.mail.lost;
-      files = made.shelf.left.1;
+      lost = lost_made made;
+      files = stored_made tt made;
       made = made;
       sated = called.called.1;
     }
@@ -252,8 +255,8 @@ attached setup {x = x} calls =
     let made = calls.called.0 in
     record {
       calls = attaches-calls setup;
-      lost = made.mail.lost ∙ grind arith;
-      files = grind (arith, made.shelf.left);
+      lost = lost_made made ∙ grind arith;
+      files = stored_made (grind arith) made;
       made = made;
       sated = calls.called.1;
     }
@@ -262,6 +265,7 @@ attached setup {x = x} calls =
 
 pub record IsKind (o : Outline) (heard : List Poll) (status : Status) : Type 0 where
   pub polls : polls_in o.course.acts ≡ heard
+  pub few : length heard ≤ MAX_POLLS
   pub sized : IfSome o.screen IsScreen
   pub reads : status ≢ Memory → IfSome o.given ReadsBack
   pub takes : status ≢ Memory → KeepsTake o
@@ -271,6 +275,7 @@ pub by : {o : Brought → Outline} (b : Brought) {x y : World} {status : Status}
 by b kind came = record {
   brought = b;
   polls = kind.polls;
+  few = kind.few;
   came = came;
   sized = kind.sized;
   reads = kind.reads;
@@ -282,6 +287,7 @@ pub kind_plain : {hands : Bool} {c : Course (Option Standing) Status} {status : 
     → polls_in c.acts ≡ [] → IsKind (plain hands c) [] status
 kind_plain polls = record {
   polls = polls;
+  few = omega arith;
   sized = tt;
   reads = λ other. tt;
   takes = λ other ends. tt;
@@ -297,6 +303,7 @@ pub by_memory : {o : Brought → Outline} {x y : World} → IsIdle (o nothing)
 by_memory idle came =
     by nothing (record {
       polls = idle.0;
+      few = omega arith;
       sized = idle.1;
       reads = λ other. absurd (other refl);
       takes = λ other. absurd (other refl);
@@ -315,11 +322,10 @@ by_failed acts planned is mute polls done blamed =
 pub by_unloaded : {T : Type 0} {done : T} {o : Brought → Outline} {name : List ℕ} {x y : World}
     → o nothing ≡ after (Load name None ∷ []) (stopped FileFault)
     → Called (Ok done) (Load name None) x y → CameBy o x FileFault y
-by_unloaded {name = name} {x = x} is called =
+by_unloaded {name = name} is called =
     let made = called.called.0 in
-    let stored = made.shelf.left in
     by_failed (Load name None ∷ []) FileFault is tt refl called.called
-    (made.mail.lost, subst (λ n. Rose x.shelf.faults n) (sym stored.4.1) stored.3.1)
+    (lost_made made, unstored_made made)
 
 -- calls by what was brought, and then the rest
 pub by_after : {acts : List Act} {o : Brought → Outline} {more : Outline} {x y z : World}
@@ -329,6 +335,7 @@ by_after {acts = acts} {more = more} b before kind came is =
     let bare = calls_bare acts before.calls in
     by b (rw is (record {
       polls = bare.polls more.course.acts ∙ kind.polls;
+      few = kind.few;
       sized = kind.sized;
       reads = kind.reads;
       takes = λ other ends. grind (arith, bare.saves more.course.acts, kind.takes other ends);

@@ -1,12 +1,13 @@
 -- What was done of an opened session, and the courses of a list of commands and of a performance.
-use Rattle.std.proofs.Common.{◌≡◌, ◌≢◌, ℕ, true, List, [], refl, ◌∙◌, ap, arith, ◌∷◌, ◌++◌, replicate, append-nil, ◌⊎◌, inl, inr, ◌+◌, Bool, length, sym, subst}
+use Rattle.std.proofs.Common.{◌≡◌, ◌≢◌, ℕ, ◌≤◌, true, List, [], refl, ◌∙◌, ap, arith, ◌∷◌, ◌++◌, replicate, append-nil, ◌⊎◌, inl, inr, ◌+◌, Bool, length, sym, subst}
 use Rattle.std.specs.Prelude.{Option, Some, None, IfSome, Ok, Result, Err}
 use Rattle.orca_concert.specs.Concerts.{Concert, close_course, command_at, command_course, concert as concert_at, concert_course, cue_course, cues_course, final_course, handed_of, last_course, order_course, saved_course}
 use Rattle.orca_course.specs.Acts.{polls_in, Act, AreDeaf, gives}
 use Rattle.orca_course.specs.Courses.{lastly, mapped, onward, Course, afterwards, each, keeping}
 use Rattle.orca_course.specs.Performers.{IsLostBy, begun, finished, performance, attended, opened, spent}
 use Rattle.orca_course.specs.Standings.{Standing, notes_of, standing_closed, standing_after}
-use Rattle.orca_course.specs.Worlds.{World, Made, Calls, owing}
+use Rattle.orca_base.specs.declared.limits.TheConstants.{MAX_POLLS}
+use Rattle.orca_course.specs.Worlds.{World, Made, Calls, Unsent, is_lost, owing}
 use Rattle.orca_course.specs.declared.ending.Ending.{Ending}
 use Rattle.orca_live.specs.Performing.{close_course as live_close, finish_course, last_grid_course, last_script_course, live_part, save_course, script_course, open_course, paint_course, painted_course}
 use Rattle.orca_live.specs.States.{LiveState}
@@ -31,11 +32,10 @@ use Rattle.orca_course.specs.Following.{Accompanies, Follows, keys_after_acts, s
 use Rattle.orca_course.specs.declared.refused.NoMemory.{NoMemory}
 use Rattle.orca_course.specs.declared.refused.NoMemory.TheVariants.{InSend, Elsewhere}
 use Rattle.orca_course.proofs.FollowLemmas.{Follows-front, follows_later}
-use Rattle.orca_course.proofs.WorldLemmas.{made_stand, made_twice, made_within}
+use Rattle.orca_course.proofs.WorldLemmas.{lost_made, made_clear, made_stand, made_twice, made_within}
 use Rattle.orca_edit.specs.Pieces.{Piece, piece_after}
 use Rattle.orca_edit.proofs.FoldLemmas.{piece_after-closed}
 use Rattle.orca_notes.specs.Device.{Voice, voices}
-use Rattle.orca_rig.specs.Outside.{Rose}
 use Rattle.orca_send.specs.Sending.{sends_of}
 use Rattle.std.proofs.lemmas.List.{map-append}
 use Rattle.orca_player.specs.Doing.{Came, CameBy, IsBlamed, status_at}
@@ -69,13 +69,7 @@ stance f hands = record { standing = λ t. Some (f t); hands = hands }
 made_opened : {acts : List Act} {bill : ℕ} {x y : World} (s : Standing) (m n : ℕ) → m ≡ 0
     → Made acts bill (owing m x) (owing n y) → Made (Stand s ∷ acts) (0 + bill) x y
 made_opened {bill = bill} s m n none made =
-    made_within {m = bill} (0 + bill) (omega arith) (made_stand s (record {
-      ports = made.ports;
-      shelf = made.shelf;
-      mail = made.mail;
-      shows = made.shows;
-      paid = omega arith;
-    }))
+    made_within {m = bill} (0 + bill) (omega arith) (made_stand s (made_clear n (rw none at made)))
 
 follows_opened : (s : Standing) (acts : List Act) → notes_of s ≡ []
     → Follows (voices (notes_of s)) acts → Follows [] (Stand s ∷ acts)
@@ -129,12 +123,12 @@ opened_in_send {f = f} g {s = s} {m = m} n none begins cut =
 -- a beginning of sends
 gives-split : (sends : List Sent) (done left : List Act) → gives sends ≡ done ++ left
     → (closing : List Sent) × (unsaid : List Sent)
-    × (done ≡ gives closing) × (sends ≡ closing ++ unsaid)
-gives-split sends [] left is = ([], sends, refl, refl)
+    × (done ≡ gives closing) × (sends ≡ closing ++ unsaid) × (left ≡ gives unsaid)
+gives-split sends [] left is = ([], sends, refl, refl, sym is)
 gives-split [] (act ∷ done) left is = absurd cc
 gives-split (sent ∷ sends) (act ∷ done) left is =
     let split = gives-split sends done left (cc) in
-    (sent ∷ split.0, split.1, cc (split.2), cc (split.3))
+    (sent ∷ split.0, split.1, cc (split.2), cc (split.3), split.4)
 
 -- what was sent of these, and whether memory was refused to one of them
 record Sends (whole : List Sent) (y z : World) : Type 0 where
@@ -142,7 +136,7 @@ record Sends (whole : List Sent) (y z : World) : Type 0 where
   pub unsaid : List Sent
   pub splits : whole ≡ closing ++ unsaid
   pub made : Made (gives closing) 0 y z
-  pub all : (unsaid ≡ []) ⊎ Rose y.ports.wants z.ports.wants
+  pub all : (unsaid ≡ []) ⊎ Unsent (gives unsaid) y.calls z.calls
 
 sends_by : {T : Type 0} (whole : List Sent) {y z : World} (result : Result T NoMemory)
     → result ≢ Err Elsewhere → Calls (gives whole) result y z → Sends whole y z
@@ -161,7 +155,7 @@ sends_by whole (Err InSend) other calls =
       unsaid = split.1;
       splits = split.3;
       made = rw split.2 at begun.made;
-      all = inr begun.wants;
+      all = inr (rw split.4 at begun.wants);
     }
 sends_by whole (Err Elsewhere) other calls = absurd (other refl)
 
@@ -186,7 +180,7 @@ opened_elsewhere {f = f} g {hands = hands} {c = c} {s = s} {t = t} {m = m} n
       closing = sends.closing;
       unsaid = sends.unsaid;
       closes = ap (λ u. handed_of hands (ends (sounding u))) (sym leads.stands) ∙ sends.splits;
-      all = unsaid_after x y z cut.did.wants sends.all;
+      all = unsaid_after (gives sends.unsaid) x y z cut.did.wants sends.all;
       made = made_within (0 + c.bill) (omega arith)
           (made_twice (made_opened (f s) m n none cut.did.made) sends.made);
       follows = λ on.
@@ -274,12 +268,12 @@ polls-concert m r cues s quiet =
 
 -- and the inbox does not fail
 pub lost-concert : {R : Type 0} (m : Manner R) (cues : List Cue) (s : Concert R) {bill : ℕ}
-    {x y : World} → IsQuiet m → Made (concert_course m cues s).acts bill x y → y.lost ≡ x.lost
+    {x y : World} → IsQuiet m → Made (concert_course m cues s).acts bill x y → is_lost y ≡ is_lost x
 lost-concert m cues s {x = x} quiet made =
-    made.mail.lost
-    ∙ lost-deaf (concert_course m cues s).acts x.lost (deaf-concert m cues s quiet)
+    lost_made made
+    ∙ lost-deaf (concert_course m cues s).acts (is_lost x) (deaf-concert m cues s quiet)
 
-pub blamed-concert : (end : Option Stop) (x y : World) → y.lost ≡ x.lost
+pub blamed-concert : (end : Option Stop) (x y : World) → is_lost y ≡ is_lost x
     → IsBlamed (status_of_end end) x y
 blamed-concert end x y lost = grind arith
 
@@ -301,19 +295,20 @@ unfolding performance lastly begun opened attended each spent onward mapped open
 polls-none s = simp append-nil (polls-deaf (open_course s).acts (live_is_deaf.opens s))
 
 -- the end of a performance, by what the loop says of the inbox
-pub lost_by : (ending : Ending) (x y : World) → IsLostBy (Ok (Some ending)) x.lost y.lost
+pub lost_by : (ending : Ending) (x y : World) → IsLostBy (Ok (Some ending)) (is_lost x) (is_lost y)
     → IsBlamed (status_of_ending ending) x y
 lost_by ending x y lost = grind arith
 
 pub played_by : (s : LiveState) (polls : List Poll) {x y : World} {status : Status}
-    → IsScreen s.screen → polls_in (performance live_part s polls).acts ≡ polls
+    → IsScreen s.screen → length polls ≤ MAX_POLLS → polls_in (performance live_part s polls).acts ≡ polls
     → (status ≢ Memory
     → IfSome (performance live_part s polls).state.given (ScriptReadsBack s.setting.seed))
     → Came (plain true (played s polls).course) x status y → CameBy (λ b. played s b.polls) x status y
 unfolding opening mapped
-played_by s polls sized all reads came =
+played_by s polls sized few all reads came =
     by (record { script = None; start = None; polls = polls }) (record {
       polls = all;
+      few = few;
       sized = sized;
       reads = λ other. grind (arith, reads other);
       takes = λ other ends. tt;
@@ -323,7 +318,7 @@ played_by s polls sized all reads came =
 pub live_none : (s : LiveState) (x : World) → IsScreen s.screen
     → CameBy (λ b. played s b.polls) x Memory x
 live_none s x sized =
-    played_by s [] sized (polls-none s) (λ other. absurd (other refl)) (came_none _ x)
+    played_by s [] sized (omega arith) (polls-none s) (λ other. absurd (other refl)) (came_none _ x)
 
 pub live_from : (setup : Setup) (play : Performance) (at : ℕ) (s : Standing) (u : LiveState)
     {x y : World} {status : Status} → u ≡ live_start setup play at s

@@ -1,22 +1,24 @@
 -- The line of the status, after what was done of an outline; and what caused the status.
-use Rattle.std.proofs.Common.{◌≡◌, ◌≢◌, ◌⊎◌, inl, inr, ℕ, Bool, List, [], ◌∷◌, ◌++◌, refl, sym, ◌∙◌, ap, subst, append-nil, arith, ◌≤◌, false}
-use Rattle.std.specs.Prelude.{Ok, IsSomeAnd, Option, Some, None}
+use Rattle.std.proofs.Common.{◌≡◌, ◌≢◌, ◌⊎◌, inl, inr, ℕ, Bool, true, List, [], ◌∷◌, ◌++◌, refl, sym, ◌∙◌, ap, subst, append-nil, arith}
+use Rattle.std.specs.Prelude.{Ok, Err, IsSomeAnd, Option, Some, None}
 use Rattle.orca_base.specs.Ascii.{line_feed}
 use Rattle.orca_base.specs.declared.port.Port.TheVariants as port
 use Rattle.orca_base.specs.Ports.{Sent}
-use Rattle.orca_course.specs.Acts.{gives, lost_after}
+use Rattle.orca_course.specs.Acts.{gives}
 use Rattle.orca_course.specs.Acts.Act.{Give}
 use Rattle.orca_course.specs.Following.{Follows}
-use Rattle.orca_course.specs.Worlds.{Called, Made, World, AreStored, RecordsFaults}
+use Rattle.orca_course.specs.Worlds.{Called, IsSound, Made, World, has_failed, is_lost, is_unstored}
+use Rattle.orca_course.specs.declared.refused.NoMemory.{NoMemory}
+use Rattle.orca_course.specs.declared.refused.NoMemory.TheVariants.{InSend, Elsewhere}
+use Rattle.orca_course.proofs.ActLemmas.{lost_after}
 use Rattle.orca_course.proofs.FollowLemmas.{ends_as_device, is_fair_to_device}
-use Rattle.orca_course.proofs.WorldLemmas.{made_none}
+use Rattle.orca_course.proofs.WorldLemmas.{AreSafe, failed_made, lost_made, made_none, stored_made}
 use Rattle.orca_notes.specs.Sound.{ends}
-use Rattle.orca_rig.specs.Outside.{Contents}
 use Rattle.orca_live.specs.Paintings.{ShowsPerformance}
 use Rattle.orca_words.specs.Requests.{Request, request_of}
 use Rattle.orca_player.specs.Doing.{Came, CameSo, ClosesEarly, IsBlamed, IsWhole, Said, SaidSo, WasRefused, status_at, CameBy}
 use Rattle.orca_player.specs.Outlines.{Outline, Heard, asked_outline, outline}
-use Rattle.orca_player.specs.Running.{EndsAs, IsDone, IsLast, Went, IsCaused, counts_of, Ran}
+use Rattle.orca_player.specs.Running.{EndsAs, IsDone, IsLast, Went, IsCaused, Ran}
 use Rattle.orca_player.specs.Statuses.{fault_sends, status_sends, status_text}
 use Rattle.orca_player.specs.declared.status.Status.{Status}
 use Rattle.orca_player.specs.declared.status.Status.TheVariants.{Done, Memory, Usage}
@@ -46,6 +48,22 @@ said_line status line some is called = record {
   );
   still = λ done. absurd (some done);
 }
+
+-- or its port refused memory
+pub said_unsent : {T : Type 0} (status : Status) (line : List ℕ) {e : NoMemory} {x y : World}
+    → status ≢ Done → line ≡ status_text status ++ line_feed ∷ []
+    → Called {T = T} (Err e) (Give (line_sent line)) x y → e ≢ Elsewhere
+    → Said status Memory x y
+said_unsent status line {e = InSend} some is called other =
+    let same = ap (λ (line : List ℕ). gives (line_sent line ∷ [])) is
+    ∙ ap gives (sym (line-sends status some)) in
+    record {
+      said = [];
+      made = called.called.0;
+      so = inr (refl, inr (refl, record { status = status; unsent = rw same at called.called.1 }));
+      still = λ done. absurd (some done);
+    }
+said_unsent status line {e = Elsewhere} some is called other = absurd (other refl)
 
 -- a success has no line
 pub said_none : (x : World) → Said Done Done x x
@@ -87,7 +105,7 @@ pub record Over (o : Outline) (x : World) (result : Status) (z : World) : Type 0
   pub over : World
   pub went : Went o x result over
   pub said : List Sent
-  pub last : IsLast result said
+  pub last : IsLast result said over z
   pub line : Made (gives said) 0 over z
 
 -- memory was refused to the line, after all was done
@@ -114,7 +132,7 @@ was_refused (inl whole) = inr (inl (closed_whole whole))
 was_refused (inr refused) = refused.1
 
 over_refused : {o : Outline} {x y z : World} {result : Status} (said : List Sent)
-    → result ≡ Memory → WasRefused o x y → IsLast Memory said → Made (gives said) 0 y z
+    → result ≡ Memory → WasRefused o x y → IsLast Memory said y z → Made (gives said) 0 y z
     → Over o x result z
 unfolding Went
 over_refused {y = y} said is refused last made =
@@ -132,25 +150,20 @@ over_by {x = x} {y = y} {status = status} result said made (inl is) (inl whole) 
       line = made;
     })
 over_by result said made (inl is) (inr refused) =
-    over_refused said (is.0 ∙ refused.0) refused.1 (inr (is.1 ∙ ap status_sends refused.0)) made
+    over_refused said (is.0 ∙ refused.0) refused.1 (inl (is.1 ∙ ap status_sends refused.0)) made
 over_by result said made (inr is) came =
     over_refused said is.0 (was_refused came)
-    (elim is.1 [ inl line ↦ inr line.0 | inr line ↦ inl line.0 ]) made
+    (elim is.1 [ inl line ↦ inl line.0 | inr line ↦ inr line ]) made
 
 pub over_came : {o : Outline} {x y z : World} {status result : Status} → Came o x status y
     → Said status result y z → Over o x result z
 over_came {result = result} came said = over_by result said.said said.made said.so came.came
 
--- nothing has failed yet
-abbrev pub IsSound : World → Type 0
-IsSound x = (x.failed ≡ false) × (x.unstored ≡ false) × (x.lost ≡ false)
-
 -- ---- sends alone touch neither the files nor the inbox
 
-stored-gives : (sends : List Sent) (old new : Option Contents) (was is : ℕ)
-    → AreStored (gives sends) old was new is → is ≡ was
-stored-gives [] old new was is stored = stored.1
-stored-gives (sent ∷ sends) old new was is stored = stored-gives sends old new was is stored
+safe-gives : (sends : List Sent) → AreSafe (gives sends)
+safe-gives [] = tt
+safe-gives (sent ∷ sends) = safe-gives sends
 
 lost-gives : (sends : List Sent) (b : Bool) → lost_after (gives sends) b ≡ b
 lost-gives [] b = refl
@@ -159,26 +172,17 @@ lost-gives (sent ∷ sends) b = lost-gives sends b
 -- ---- causes
 
 caused_at : (planned : Status) (x y z : World) → IsSound x → IsBlamed planned x y
-    → RecordsFaults x.failed y.failed x.ports.faults y.ports.faults
-    → RecordsFaults x.unstored y.unstored x.shelf.faults y.shelf.faults
-    → RecordsFaults x.lost y.lost x.mail.faults y.mail.faults
-    → y.ports.faults ≤ z.ports.faults → z.shelf.faults ≡ y.shelf.faults → z.lost ≡ y.lost
-    → RecordsFaults y.lost z.lost y.mail.faults z.mail.faults
-    → (status_at planned y ≡ Done → z ≡ y)
-    → IsCaused (status_at planned y) (counts_of x) (counts_of z)
-caused_at planned x y z sound blamed ports shelf mail more same_shelf same_lost later still =
-    grind arith
+    → is_lost z ≡ is_lost y → is_unstored z ≡ is_unstored y
+    → (has_failed y ≡ true → has_failed z ≡ true) → (status_at planned y ≡ Done → z ≡ y)
+    → IsCaused (status_at planned y) z
+caused_at planned x y z sound blamed lost unstored failed still = grind arith
 
 caused_whole : {o : Outline} {x y z : World} {status : Status} → IsSound x
-    → IsWhole o x status y → Said status status y z
-    → IsCaused status (counts_of x) (counts_of z)
+    → IsWhole o x status y → Said status status y z → IsCaused status z
 caused_whole {x = x} {y = y} {z = z} sound whole said =
-    let first = whole.made in
-    let last = said.made in
-    rw whole.settles (caused_at whole.planned x y z sound whole.blamed first.ports.recorded
-    first.shelf.recorded first.mail.recorded last.ports.recorded.grows
-    (stored-gives said.said _ _ _ _ last.shelf.left)
-    (last.mail.lost ∙ lost-gives said.said y.lost) last.mail.recorded
+    rw whole.settles (caused_at whole.planned x y z sound whole.blamed
+    (lost_made said.made ∙ lost-gives said.said (is_lost y))
+    (stored_made (safe-gives said.said) said.made) (failed_made said.made)
     (λ is. (said.still (whole.settles ∙ is)).1))
 
 pub said_result : {status result : Status} {y z : World} → Said status result y z
@@ -188,7 +192,7 @@ said_result said = elim said.so [ inl is ↦ inl is.0 | inr is ↦ inr is.0 ]
 -- out of memory is free
 pub caused_came : {o : Outline} {x y z : World} {status result : Status} → IsSound x
     → Came o x status y → Said status result y z
-    → IsCaused result (counts_of x) (counts_of z)
+    → IsCaused result z
 caused_came sound came said =
     elim (said_result said) [
       | inl is ↦ rw is (elim came.came [
@@ -243,12 +247,13 @@ ran_by shows words grid {x = x} {status = status} {result = result} sound by sai
       last = over.last;
       line = over.line;
       polls = by.polls;
+      few = by.few;
       shows = shows_outline shows words h by.sized;
       reads = λ other. by.reads (same other);
       takes = λ other. by.takes (same other);
-      complete = λ ready same low.
+      complete = λ ready none.
           let fine = outline_fine words h ready in
           let ends = ends_by (outline words h) result _ _ over.went in
           let caused = caused_came sound by.came said in
-          grind (arith, fine, ends, caused, same, low);
+          grind (arith, fine, ends, caused, none);
     }

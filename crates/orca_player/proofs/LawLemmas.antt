@@ -156,7 +156,7 @@ work_alike cutting setup (Play play) sheet script (Some a) (Some b) polls others
     let s = standing_at sheet setup.seed setup.limit in
     let u = live_start setup play a s in
     let v = live_start setup play b s in
-    let alike = cutting polls others u v cut.few cut.few_others cut.items
+    let alike = cutting polls others u v cut.items
     (record { setting = refl; standing = refl; pending = refl; editor = refl; given = refl })
     (ended_by (performance live_part u polls).ending ends)
     (ended_by (performance live_part v others).ending other_ends) in

@@ -22,7 +22,7 @@ use Rattle.orca_player.specs.Takes.{Take}
 use Rattle.orca_player.specs.declared.status.Status.{Status}
 use Rattle.orca_player.specs.declared.status.Status.TheVariants.{Done, FileFault, GridRefused, Memory}
 use Rattle.orca_player.proofs.CameLemmas.{IsIdle, IsKind, attached, by_later, attaches-calls, by, by_failed, by_memory, kind_plain, calls_bare, came_bare, came_cut, came_none, came_plain}
-use Rattle.orca_course.proofs.WorldLemmas.{made_none}
+use Rattle.orca_course.proofs.WorldLemmas.{lost_made, made_none}
 use Rattle.orca_player.proofs.CourseLemmas.{polls-concert}
 
 -- ---- lists of commands
@@ -40,6 +40,7 @@ unfolding concert
 by_recorded take m r cues s quiet keeps came =
     by nothing (record {
       polls = polls-concert m r cues s quiet;
+      few = omega arith;
       sized = tt;
       reads = λ other. tt;
       takes = λ other. keeps;
@@ -94,7 +95,7 @@ script_saved m text bytes ok printed called =
     let found = cues_in (any_script_of text) ok in
     let did = (rw (printed found.0 found.1) at called).called in
     rw (found.1) (came_bare (saved m.out (script_in m.seed text found.0)) Done refl refl tt did
-    did.0.mail.lost)
+    (lost_made did.0))
 
 -- what is saved reads back, and nothing is saved of a text with a fault
 pub script_reads : (m : Migration) (text : List ℕ) (read : Result (List Cue) ScriptFault)
@@ -111,6 +112,7 @@ pub kind_moved : {status : Status} (m : Migration) (text : List ℕ)
 unfolding migrated
 kind_moved m text read reads = record {
   polls = grind arith;
+  few = omega arith;
   sized = grind arith;
   reads = reads;
   takes = λ other ends. grind arith;

@@ -1,14 +1,14 @@
 -- What was done of an outline.
-use Rattle.std.specs.Prelude.{◌≡◌, ◌≢◌, ◌⊎◌, true, false, if◌then◌else◌, List, [], ◌++◌, Some, None, IfSome}
+use Rattle.std.specs.Prelude.{◌≡◌, ◌≢◌, ◌⊎◌, ◌≤◌, true, false, if◌then◌else◌, List, [], ◌++◌, length, Some, None, IfSome}
+use Rattle.orca_base.specs.declared.limits.TheConstants.{MAX_POLLS}
 use Rattle.orca_base.specs.Ports.{Sent}
 use Rattle.orca_concert.specs.Concerts.{handed_of}
 use Rattle.orca_course.specs.Acts.{Act, given, gives, open_after, polls_in, stand_after}
 use Rattle.orca_course.specs.Following.{Follows, keys_after_acts, sounding}
-use Rattle.orca_course.specs.Worlds.{Made, Sated, World}
+use Rattle.orca_course.specs.Worlds.{Made, Sated, Unsent, World, has_failed, is_lost, is_unstored}
 use Rattle.orca_grid.specs.declared.refusal.GridRefusal.{GridRefusal}
 use Rattle.orca_grid.specs.declared.refusal.GridRefusal.TheVariants as refused
 use Rattle.orca_notes.specs.Sound.{ends}
-use Rattle.orca_rig.specs.Outside.{Rose}
 use Rattle.orca_script.specs.Runs.{ScriptReadsBack}
 use Rattle.orca_term.specs.Picture.{IsScreen}
 use Rattle.orca_player.specs.Outlines.{Brought, Outline, Script}
@@ -29,7 +29,7 @@ KeepsTake o = o.course.ending ≡ Some Done → IfSome o.take (λ take. IsKept t
 
 -- how a run ends that would end as planned, by what has failed
 abbrev pub status_at : Status → World → Status
-status_at Done y = if y.unstored then FileFault else (if y.failed then OutFault else Done)
+status_at Done y = if is_unstored y then FileFault else (if has_failed y then OutFault else Done)
 status_at planned y = planned
 
 -- the status of a grid that is refused: out of memory is one of its own
@@ -40,16 +40,16 @@ refused_status refusal = GridRefused refusal
 -- what a planned status says of the faults of files and of the inbox. No run is planned to fail by a
 -- port or by memory
 abbrev pub IsBlamed : Status → World → World → Type 0
-IsBlamed InboxFault x y = y.lost ≡ true
-IsBlamed FileFault x y = (y.lost ≡ x.lost) × Rose x.shelf.faults y.shelf.faults
+IsBlamed InboxFault x y = is_lost y ≡ true
+IsBlamed FileFault x y = (is_lost y ≡ is_lost x) × (is_unstored y ≡ true)
 IsBlamed (GridRefused refusal) x y =
-    (y.lost ≡ x.lost) × (y.shelf.faults ≡ x.shelf.faults) × (refusal ≢ refused.Memory)
+    (is_lost y ≡ is_lost x) × (is_unstored y ≡ is_unstored x) × (refusal ≢ refused.Memory)
 IsBlamed (ScriptRefused line column) x y =
-    (y.lost ≡ x.lost) × (y.shelf.faults ≡ x.shelf.faults)
-IsBlamed Usage x y = (y.lost ≡ x.lost) × (y.shelf.faults ≡ x.shelf.faults)
+    (is_lost y ≡ is_lost x) × (is_unstored y ≡ is_unstored x)
+IsBlamed Usage x y = (is_lost y ≡ is_lost x) × (is_unstored y ≡ is_unstored x)
 IsBlamed OutFault x y = ⊥
 IsBlamed Memory x y = ⊥
-IsBlamed planned x y = y.lost ≡ x.lost
+IsBlamed planned x y = is_lost y ≡ is_lost x
 
 -- all of an outline was done, and it ends with no note that sounds
 pub record IsWhole (o : Outline) (x : World) (status : Status) (y : World) : Type 0 where
@@ -67,19 +67,19 @@ pub record IsWhole (o : Outline) (x : World) (status : Status) (y : World) : Typ
 
 -- ---- memory was refused
 
--- a port refused it to a send: a beginning was done, which a device follows. Where it refused it to
--- the line of the status, that beginning is all
+-- a port refused it to a send, the next of these acts: those before it were done, and a device follows
+-- them
 pub record StopsInSend (o : Outline) (x y : World) : Type 0 where
   pub begun : List Act
   pub left : List Act
   pub splits : o.course.acts ≡ begun ++ left
   pub made : Made begun o.course.bill x y
-  pub wanted : Rose x.ports.wants y.ports.wants
+  pub wanted : Unsent left x.calls y.calls
   pub follows : o.hands ≡ true → Follows [] begun
 
 -- it was refused elsewhere: a beginning was done, up to the end of the last command or further; and
 -- then the notes that sounded there were ended, all of them unless a port refused memory to one of
--- these sends. A device follows it
+-- these sends, which was the last. A device follows it
 pub record ClosesEarly (o : Outline) (x y : World) : Type 0 where
   pub begun : List Act
   pub left : List Act
@@ -88,7 +88,7 @@ pub record ClosesEarly (o : Outline) (x y : World) : Type 0 where
   pub closing : List Sent
   pub unsaid : List Sent
   pub closes : handed_of o.hands (ends (sounding (stand_after None begun))) ≡ closing ++ unsaid
-  pub all : (unsaid ≡ []) ⊎ Rose x.ports.wants y.ports.wants
+  pub all : (unsaid ≡ []) ⊎ Unsent (gives unsaid) x.calls y.calls
   pub made : Made (begun ++ gives closing) o.course.bill x y
   pub follows : o.hands ≡ true → Follows [] (begun ++ gives closing)
 
@@ -116,11 +116,12 @@ pub record Came (o : Outline) (x : World) (status : Status) (y : World) : Type 0
   pub came : CameSo o x status y
 
 -- an outline was done by what the outside brought: the polls that were answered are exactly those of
--- its acts; the screen is one that a view may have; the script that was saved reads back; and the
+-- its acts, and no more than may be; the screen is one that a view may have; the script that was saved reads back; and the
 -- file that was saved is that of what was recorded
 pub record CameBy (o : Brought → Outline) (x : World) (status : Status) (y : World) : Type 0 where
   pub brought : Brought
   pub polls : polls_in (o brought).course.acts ≡ brought.polls
+  pub few : length brought.polls ≤ MAX_POLLS
   pub came : Came (o brought) x status y
   pub sized : IfSome (o brought).screen IsScreen
   pub reads : status ≢ Memory → IfSome (o brought).given ReadsBack
@@ -128,12 +129,17 @@ pub record CameBy (o : Brought → Outline) (x : World) (status : Status) (y : W
 
 -- ---- the line of the status
 
+-- the line of a status was refused memory, by its port
+pub record IsUnsaid (x y : World) : Type 0 where
+  pub status : Status
+  pub unsent : Unsent (gives (status_sends status)) x.calls y.calls
+
 -- the line of a status was sent, as the last send; or memory was refused for it
 abbrev pub SaidSo : Status → Status → List Sent → World → World → Type 0
 SaidSo status result said x y =
     ((result ≡ status) × (said ≡ status_sends status) × Sated x y)
     ⊎ ((result ≡ Memory) × (((said ≡ status_sends Memory) × Sated x y)
-    ⊎ ((said ≡ []) × Rose x.ports.wants y.ports.wants)))
+    ⊎ ((said ≡ []) × IsUnsaid x y)))
 
 pub record Said (status result : Status) (x y : World) : Type 0 where
   pub said : List Sent

@@ -1,8 +1,7 @@
 -- Laws of performances, on the outlines of runs: how bytes were cut into answers changes nothing
 -- that lasts, and the script that is saved ends in the same session.
-use Rattle.std.specs.Prelude.{◌≡◌, ◌≢◌, ◌≤◌, ℕ, List, length, Some, None, is_some}
+use Rattle.std.specs.Prelude.{◌≡◌, ◌≢◌, ℕ, List, Some, None, is_some}
 use Rattle.std.specs.Option.{option_map}
-use Rattle.orca_base.specs.declared.limits.TheConstants.{MAX_POLLS}
 use Rattle.orca_course.specs.Acts.{commands_in}
 use Rattle.orca_live.specs.Items.{items_of}
 use Rattle.orca_script.specs.Runs.{printed_script}
@@ -21,8 +20,6 @@ pub record HearAlike (h k : Heard) : Type 0 where
   pub script : k.brought.script ≡ h.brought.script
   pub starts : is_some k.brought.start ≡ is_some h.brought.start
   pub items : items_of h.brought.polls ≡ items_of k.brought.polls
-  pub few : length h.brought.polls ≤ MAX_POLLS
-  pub few_others : length k.brought.polls ≤ MAX_POLLS
 
 -- the same commands, the same session at last, and the same script that is saved
 pub record EndAlike (o p : Outline) : Type 0 where

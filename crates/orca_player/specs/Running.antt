@@ -1,15 +1,15 @@
 -- What a run did of its outline, and what caused its status.
-use Rattle.std.specs.Prelude.{◌≡◌, ◌≢◌, ◌⊎◌, ◌<◌, ◌≤◌, ℕ, true, List, [], ◌++◌, IfSome, IsSomeAnd}
+use Rattle.std.specs.Prelude.{◌≡◌, ◌≢◌, ◌⊎◌, ◌≤◌, ℕ, true, false, List, [], ◌++◌, length, IfSome, IsSomeAnd}
+use Rattle.orca_base.specs.declared.limits.TheConstants.{MAX_POLLS}
 use Rattle.orca_base.specs.Ports.{Sent}
 use Rattle.orca_course.specs.Acts.{Act, ArePrintable, given, gives, polls_in}
 use Rattle.orca_course.specs.Following.{Follows, midi_sent}
-use Rattle.orca_course.specs.Worlds.{Made, Sated, World}
+use Rattle.orca_course.specs.Worlds.{IsSound, Made, Sated, World, has_failed, is_lost, is_unstored}
 use Rattle.orca_grid.specs.declared.refusal.GridRefusal.TheVariants as refused
 use Rattle.orca_live.specs.Paintings.{ShowsPictures}
 use Rattle.orca_notes.specs.Device.{IsFair, device}
-use Rattle.orca_rig.specs.Outside.{Rose, last_count}
 use Rattle.orca_words.specs.Requests.{request_of}
-use Rattle.orca_player.specs.Doing.{KeepsTake, ReadsBack, WasRefused}
+use Rattle.orca_player.specs.Doing.{IsUnsaid, KeepsTake, ReadsBack, WasRefused}
 use Rattle.orca_player.specs.Outlines.{Heard, Outline, outline}
 use Rattle.orca_player.specs.Ready.{IsReady}
 use Rattle.orca_player.specs.Statuses.{status_sends}
@@ -25,40 +25,22 @@ EndsAs planned OutFault = planned ≡ Done
 EndsAs planned FileFault = (planned ≡ Done) ⊎ (planned ≡ FileFault)
 EndsAs planned status = planned ≡ status
 
--- the counts of faults of the files, the ports and the inbox
-pub record Counts : Type 0 where
-  pub files : ℕ
-  pub outs : ℕ
-  pub inbox : ℕ
-
-abbrev pub counts_of : World → Counts
-counts_of x = record { files = x.shelf.faults; outs = x.ports.faults; inbox = x.mail.faults }
-
--- the causes of a status, by the counts of faults before and now: a fault is told only if its count
--- rose, and out of memory is never told as a refused grid
-abbrev pub IsCaused : Status → Counts → Counts → Type 0
-IsCaused Done old new = new ≡ old
-IsCaused Usage old new = (new.files ≡ old.files) × (new.inbox ≡ old.inbox)
-IsCaused (GridRefused refusal) old new =
-    (new.files ≡ old.files) × (new.inbox ≡ old.inbox) × (refusal ≢ refused.Memory)
-IsCaused OutFault old new =
-    (new.files ≡ old.files) × (new.inbox ≡ old.inbox) × (old.outs ≤ new.outs)
-    × Rose old.outs new.outs
-IsCaused FileFault old new = Rose old.files new.files × (new.inbox ≡ old.inbox)
-IsCaused (ScriptRefused line column) old new =
-    (new.files ≡ old.files) × (new.inbox ≡ old.inbox)
-IsCaused HistoryFull old new = new.inbox ≡ old.inbox
-IsCaused InboxFault old new = Rose old.inbox new.inbox
-IsCaused TurnsSpent old new = new.inbox ≡ old.inbox
-IsCaused SmfTooLong old new = new.inbox ≡ old.inbox
-IsCaused WavTooLong old new = new.inbox ≡ old.inbox
-IsCaused Memory old new = Unit {0}
-
--- no count stands at its last value
-pub record AreLow (c : Counts) : Type 0 where
-  pub files : c.files < last_count
-  pub outs : c.outs < last_count
-  pub inbox : c.inbox < last_count
+-- the causes of a status, by the calls of a run before which nothing had failed: a fault is told only
+-- if a call failed so, and out of memory is never told as a refused grid
+abbrev pub IsCaused : Status → World → Type 0
+IsCaused Done y = IsSound y
+IsCaused Usage y = (is_unstored y ≡ false) × (is_lost y ≡ false)
+IsCaused (GridRefused refusal) y =
+    (is_unstored y ≡ false) × (is_lost y ≡ false) × (refusal ≢ refused.Memory)
+IsCaused OutFault y = (has_failed y ≡ true) × (is_unstored y ≡ false) × (is_lost y ≡ false)
+IsCaused FileFault y = (is_unstored y ≡ true) × (is_lost y ≡ false)
+IsCaused (ScriptRefused line column) y = (is_unstored y ≡ false) × (is_lost y ≡ false)
+IsCaused HistoryFull y = is_lost y ≡ false
+IsCaused InboxFault y = is_lost y ≡ true
+IsCaused TurnsSpent y = is_lost y ≡ false
+IsCaused SmfTooLong y = is_lost y ≡ false
+IsCaused WavTooLong y = is_lost y ≡ false
+IsCaused Memory y = Unit {0}
 
 -- ---- what was done
 
@@ -88,24 +70,26 @@ Went o x SmfTooLong y = IsDone o x SmfTooLong y
 Went o x WavTooLong y = IsDone o x WavTooLong y
 Went o x Memory y = WasRefused o x y
 
--- the last send: the line of the status; out of memory it may be missing
-abbrev pub IsLast : Status → List Sent → Type 0
-IsLast Memory said = (said ≡ []) ⊎ (said ≡ status_sends Memory)
-IsLast status said = said ≡ status_sends status
+-- the last send: the line of the status; out of memory it is missing if its port refused memory for
+-- a line
+abbrev pub IsLast : Status → List Sent → World → World → Type 0
+IsLast Memory said x y = (said ≡ status_sends Memory) ⊎ ((said ≡ []) × IsUnsaid x y)
+IsLast status said x y = said ≡ status_sends status
 
 -- a whole run: what its words ask for, by what it heard of the outside, and the line of its status.
--- If all that the words ask for can be done, and nothing outside failed, all was done, unless memory
--- was refused
+-- If all that the words ask for can be done, and no call failed, all was done, unless memory was
+-- refused
 pub record Ran (words : List (List ℕ)) (x : World) (status : Status) (y : World) : Type 0 where
   pub heard : Heard
   -- how the outside stood before the line of the status
   pub over : World
   pub went : Went (outline words heard) x status over
   pub said : List Sent
-  pub last : IsLast status said
+  pub last : IsLast status said over y
   pub line : Made (gives said) 0 over y
-  -- the polls that were heard are exactly those among the acts
+  -- the polls that were heard are exactly those among the acts, and no more than may be
   pub polls : polls_in (outline words heard).course.acts ≡ heard.brought.polls
+  pub few : length heard.brought.polls ≤ MAX_POLLS
   -- wherever a picture is painted in a beginning that was done, the terminal that was sent all bytes
   -- so far shows it; a beginning that was done has pictures of printable cells alone
   pub shows : (begun left : List Act) → (outline words heard).course.acts ≡ begun ++ left
@@ -116,4 +100,4 @@ pub record Ran (words : List (List ℕ)) (x : World) (status : Status) (y : Worl
   -- the song or the wave that is saved is that of the messages of the run
   pub takes : status ≢ Memory → KeepsTake (outline words heard)
   pub complete : IsSomeAnd (request_of words) (λ request. IsReady request heard)
-      → counts_of y ≡ counts_of x → AreLow (counts_of x) → (status ≡ Done) ⊎ (status ≡ Memory)
+      → IsSound y → (status ≡ Done) ⊎ (status ≡ Memory)

@@ -4,6 +4,7 @@ ghost use Rattle.std.specs.Prelude.{◌≡◌, IfOk, IfSome, [], ◌∷◌, fals
 ghost use Rattle.orca_course.specs.Acts.Act.{Listen};
 ghost use Rattle.std.specs.Option.{option_map};
 ghost use Rattle.orca_course.specs.Standings.{notes_of, standing};
+ghost use Rattle.orca_course.specs.Worlds.{has_ended, has_listened, is_lost};
 ghost use Rattle.orca_live.specs.States.{setting_in, state_of};
 ghost use Rattle.orca_player.specs.Doing.{CameBy};
 ghost use Rattle.orca_player.specs.Outlines.{after, live_outline, live_start, played, setting_of, standing_at, started_outline, status_of_ending};
@@ -33,9 +34,9 @@ pub(crate) fn play<F: Files + Drop, O: Outs + Drop, I: Inbox + Drop, L: Ledger>(
     performance: &Performance<'_>,
     desk: &mut Desk<F, O, I, L>,
 ) -> Status
-    requires fresh { desk.old.mail.listened ≡ false }
-    requires open { desk.old.mail.ended ≡ false }
-    requires sound { desk.old.lost ≡ false }
+    requires fresh { has_listened desk.old ≡ false }
+    requires open { has_ended desk.old ≡ false }
+    requires sound { is_lost desk.old ≡ false }
     requires same { (opening.now.seed ≡ setup.now.seed) × (opening.now.limit ≡ setup.now.limit) }
     ensures { CameBy (λ b. let s = standing_at opening.now.grid opening.now.seed opening.now.limit in
         after (Listen performance.now.address.now 1 b.start ∷ [])
@@ -57,7 +58,7 @@ fn start<F: Files + Drop, O: Outs + Drop, I: Inbox + Drop, L: Ledger>(
     at: u64,
     desk: &mut Desk<F, O, I, L>,
 ) -> Status
-    requires open { desk.old.mail.ended ≡ false }
+    requires open { has_ended desk.old ≡ false }
     requires same { (opening.now.seed ≡ setup.now.seed) × (opening.now.limit ≡ setup.now.limit) }
     ensures { CameBy (λ b. live_outline (setup_in setup.now) (performance_in performance.now) at
         b.polls (standing_at opening.now.grid opening.now.seed opening.now.limit))
@@ -77,7 +78,7 @@ fn play_all<M: Machine + Drop, F: Files + Drop, O: Outs + Drop, I: Inbox + Drop,
     live: &mut Live<'_, M>,
     desk: &mut Desk<F, O, I, L>,
 ) -> Status
-    requires open { desk.old.mail.ended ≡ false }
+    requires open { has_ended desk.old ≡ false }
     requires begins { notes_of (standing (M.machine live.old.stage.machine)
         (M.kept live.old.stage.machine) live.old.stage.tally) ≡ [] }
     requires residue { M.residue live.old.stage.machine ≡ 0 }

@@ -2,7 +2,7 @@
 
 ghost use Rattle.std.specs.Prelude.{◌≡◌, ◌≤◌};
 ghost use Rattle.orca_base.specs.declared.limits.TheConstants.{MAX_HISTORY};
-ghost use Rattle.orca_course.specs.Worlds.{Calls};
+ghost use Rattle.orca_course.specs.Worlds.{Calls, LeavesInbox};
 ghost use Rattle.orca_player.specs.Outlines.{attaches, attaches_to};
 ghost use Rattle.orca_words.specs.RequestIn.{setup_in, text_in};
 
@@ -36,7 +36,7 @@ pub(crate) fn attach_all<F: Files + Drop, O: Outs + Drop, I: Inbox + Drop, L: Le
     setup: &Setup<'_>,
 ) -> Result<(), NoMemory>
     ensures called { Calls (attaches (setup_in setup.now)) result desk.old desk.new }
-    ensures fresh { desk.new.mail.listened ≡ desk.old.mail.listened }
+    ensures inbox { LeavesInbox desk.old desk.new }
 {
     attach(desk, Port::Midi, setup.midi)?;
     attach(desk, Port::Udp, setup.udp)?;
@@ -44,13 +44,14 @@ pub(crate) fn attach_all<F: Files + Drop, O: Outs + Drop, I: Inbox + Drop, L: Le
 }
 
 /// Attaches a port to its name, if it has one.
+#[tactic(auto, using(orca_course::proofs::WorldLemmas::called_still))]
 fn attach<F: Files + Drop, O: Outs + Drop, I: Inbox + Drop, L: Ledger>(
     desk: &mut Desk<F, O, I, L>,
     port: Port,
     name: Option<&str>,
 ) -> Result<(), NoMemory>
     ensures called { Calls (attaches_to port (text_in name.entry)) result desk.old desk.new }
-    ensures fresh { desk.new.mail.listened ≡ desk.old.mail.listened }
+    ensures inbox { LeavesInbox desk.old desk.new }
 {
     match name {
         None => Ok(()),

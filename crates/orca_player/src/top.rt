@@ -1,10 +1,11 @@
 ghost use Rattle.std.specs.Prelude.{◌≡◌, ◌⊎◌, ◌≤◌, false, length, List, map, None, Option, string_bytes, ℕ};
 ghost use Rattle.orca_base.specs.declared.limits.TheConstants.{MAX_FILE_BYTES};
+ghost use Rattle.orca_course.specs.Worlds.{IsSound, has_ended, has_listened, is_lost};
 ghost use Rattle.orca_grid.specs.GridText.{grid_text};
 ghost use Rattle.orca_player.specs.Doing.{Came, CameBy, refused_status};
 ghost use Rattle.orca_player.specs.Outlines.{Heard, grid_outline, is_too_long as is_long_work, made_outline, outline, performed, request_outline, work_outline};
 ghost use Rattle.orca_player.specs.Laws.{CutsAlike, ReplaysAlike};
-ghost use Rattle.orca_player.specs.Running.{IsCaused, Ran, counts_of};
+ghost use Rattle.orca_player.specs.Running.{IsCaused, Ran};
 ghost use Rattle.orca_words.specs.RequestIn.{request_in, setup_in, work_in, workload_in};
 ghost use Rattle.orca_words.specs.Recordings.{HasSongTempo};
 ghost use Rattle.orca_words.specs.Requests.{Perform, request_of};
@@ -57,10 +58,9 @@ pub fn run<F: Files + Drop, O: Outs + Drop, I: Inbox + Drop, L: Ledger>(
     desk: &mut Desk<F, O, I, L>,
 ) -> Status
     // Nobody has listened to the inbox, and it has not ended; and nothing has failed at the desk.
-    requires fresh { desk.old.mail.listened ≡ false }
-    requires open { desk.old.mail.ended ≡ false }
-    requires sound { (desk.old.failed ≡ false) × (desk.old.unstored ≡ false)
-        × (desk.old.lost ≡ false) }
+    requires fresh { has_listened desk.old ≡ false }
+    requires open { has_ended desk.old ≡ false }
+    requires sound { IsSound desk.old }
 
     // Invalid words, whatever the outside tells.
     ensures usage { request_of (map string_bytes words.now.items) ≡ None
@@ -75,8 +75,8 @@ pub fn run<F: Files + Drop, O: Outs + Drop, I: Inbox + Drop, L: Ledger>(
     // wherever that can be.
     ensures ran { Ran (map string_bytes words.now.items) desk.old result desk.new }
 
-    // A fault of the outside is reported only if its count rose.
-    ensures causes { IsCaused result (counts_of desk.old) (counts_of desk.new) }
+    // A fault of the outside is reported only if a call failed so.
+    ensures causes { IsCaused result desk.new }
 
     // How the bytes of a performance are cut into answers changes no command, no state at last, and
     // no saved script; and a replay of that script ends in the same session.
@@ -93,9 +93,9 @@ fn work<F: Files + Drop, O: Outs + Drop, I: Inbox + Drop, L: Ledger>(
     words: &Vec<String>,
     desk: &mut Desk<F, O, I, L>,
 ) -> Status
-    requires fresh { desk.old.mail.listened ≡ false }
-    requires open { desk.old.mail.ended ≡ false }
-    requires sound { desk.old.lost ≡ false }
+    requires fresh { has_listened desk.old ≡ false }
+    requires open { has_ended desk.old ≡ false }
+    requires sound { is_lost desk.old ≡ false }
     ensures { (grid : Option (List ℕ)) × CameBy (λ brought.
         outline (map string_bytes words.now.items) (record { grid = grid; brought = brought }))
         desk.old result desk.new }
@@ -116,9 +116,9 @@ fn perform<F: Files + Drop, O: Outs + Drop, I: Inbox + Drop, L: Ledger>(
     work: &Work<'_>,
     desk: &mut Desk<F, O, I, L>,
 ) -> Status
-    requires fresh { desk.old.mail.listened ≡ false }
-    requires open { desk.old.mail.ended ≡ false }
-    requires sound { desk.old.lost ≡ false }
+    requires fresh { has_listened desk.old ≡ false }
+    requires open { has_ended desk.old ≡ false }
+    requires sound { is_lost desk.old ≡ false }
     requires tempo { HasSongTempo (work_in work.now) }
     ensures { (grid : Option (List ℕ)) × CameBy (λ brought.
         request_outline (Perform (setup_in setup.now) (work_in work.now))
@@ -137,9 +137,9 @@ fn open<F: Files + Drop, O: Outs + Drop, I: Inbox + Drop, L: Ledger>(
     work: &Work<'_>,
     desk: &mut Desk<F, O, I, L>,
 ) -> Status
-    requires fresh { desk.old.mail.listened ≡ false }
-    requires open { desk.old.mail.ended ≡ false }
-    requires sound { desk.old.lost ≡ false }
+    requires fresh { has_listened desk.old ≡ false }
+    requires open { has_ended desk.old ≡ false }
+    requires sound { is_lost desk.old ≡ false }
     requires tempo { HasSongTempo (work_in work.now) }
     requires not_long { is_long_work (work_in work.now) ≡ false }
     ensures { (grid : Option (List ℕ)) × CameBy (λ brought.
@@ -165,9 +165,9 @@ fn read_grid<F: Files + Drop, O: Outs + Drop, I: Inbox + Drop, L: Ledger>(
     desk: &mut Desk<F, O, I, L>,
 ) -> Status
     requires short { length text.now ≤ MAX_FILE_BYTES }
-    requires fresh { desk.old.mail.listened ≡ false }
-    requires open { desk.old.mail.ended ≡ false }
-    requires sound { desk.old.lost ≡ false }
+    requires fresh { has_listened desk.old ≡ false }
+    requires open { has_ended desk.old ≡ false }
+    requires sound { is_lost desk.old ≡ false }
     requires tempo { HasSongTempo (work_in work.now) }
     requires not_long { is_long_work (work_in work.now) ≡ false }
     ensures { CameBy (λ brought. grid_outline (setup_in setup.now) (work_in work.now) brought
@@ -197,9 +197,9 @@ fn do_work<F: Files + Drop, O: Outs + Drop, I: Inbox + Drop, L: Ledger>(
     grid: Grid,
     desk: &mut Desk<F, O, I, L>,
 ) -> Status
-    requires fresh { desk.old.mail.listened ≡ false }
-    requires open { desk.old.mail.ended ≡ false }
-    requires sound { desk.old.lost ≡ false }
+    requires fresh { has_listened desk.old ≡ false }
+    requires open { has_ended desk.old ≡ false }
+    requires sound { is_lost desk.old ≡ false }
     requires tempo { HasSongTempo (work_in work.now) }
     requires not_long { is_long_work (work_in work.now) ≡ false }
     ensures { CameBy (work_outline (setup_in setup.now) (work_in work.now) grid)

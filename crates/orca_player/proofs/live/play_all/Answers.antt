@@ -10,7 +10,7 @@ returns-in-Ok g c =
     let did = c.in-Ok.ensures in
     let is = did.did.did in
     rw (c.settled.ensures, c.status_of_ending.ensures)
-    (played_by _ did.polls c.requires.sized did.all
+    (played_by _ did.polls c.requires.sized did.few did.all
     (λ other. subst (λ (s : LiveState). IfSome s.given (ScriptReadsBack c.args.live.now.setting.seed))
     (sym is.state) c.read_back.ensures)
     (opened_whole _ _ _ c.requires.residue c.requires.begins
@@ -19,12 +19,12 @@ returns-in-Ok g c =
 pub returns-in-Err-InSend : goal.returns-in-Err-InSend
 returns-in-Err-InSend g c =
     let cut = rw c.in-Err-InSend.field-0-is at c.in-Err-InSend.ensures in
-    played_by _ cut.polls c.requires.sized cut.all (λ other. absurd (other refl))
+    played_by _ cut.polls c.requires.sized cut.few cut.all (λ other. absurd (other refl))
     (opened_in_send _ _ c.requires.residue c.requires.begins cut.did)
 
 pub returns-in-Err-Elsewhere : goal.returns-in-Err-Elsewhere
 returns-in-Err-Elsewhere g c =
     let cut = rw c.in-Err-Elsewhere.field-0-is at c.in-Err-Elsewhere.ensures in
-    played_by _ cut.polls c.requires.sized cut.all (λ other. absurd (other refl))
+    played_by _ cut.polls c.requires.sized cut.few cut.all (λ other. absurd (other refl))
     (opened_elsewhere _ _ c.close_early.result c.requires.residue c.requires.begins cut.did
     c.close_early.ensures.in_send c.close_early.ensures.called c.close_early.ensures.device)

@@ -25,3 +25,8 @@ returns-clause-called g c =
     calls_last _ _
     (so_more _ _ refl (so_more _ _ refl (so_none _ refl) c.in_ok-attach.ensures.called.called)
     c.in_ok-attach-2.ensures.called.called) c.attach-3.ensures.called
+
+pub returns-in_err-attach-clause-called : goal.returns-in_err-attach-clause-called
+returns-in_err-attach-clause-called g c =
+    calls_err _ _ c.from_residual.ensures.1
+    (so_cut _ _ refl (so_none _ refl) c.in_err-attach.ensures.called)

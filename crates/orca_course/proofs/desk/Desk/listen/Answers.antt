@@ -13,8 +13,8 @@ pub invariant_of-self : goal.invariant_of-self
 invariant_of-self g c =
     grind (arith, common_steps, list_any-append, done_in-append, given-append, attached_in-append, asked_in-append, polls_in-append, listened_after-append, counts_in-append, append-nil)
 
-pub returns : goal.returns
-returns g c =
+pub returns-clause-called : goal.returns-clause-called
+returns-clause-called g c =
     rw (← c.self.view_is) (elim c.match-answer.branch [
       | in-Ok w ↦ rw w.result-is (next_done (CallListen _ _ c.listen_hands-answer.result) _ (grind arith) (grind arith) tt (record {
         calls = c.note.ensures;
