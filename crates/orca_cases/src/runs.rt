@@ -1,6 +1,7 @@
 //! A whole run, over files and ports in memory.
 
-ghost use Rattle.std.specs.Prelude.{◌≡◌, ◌<◌, false, IfOk};
+ghost use Rattle.std.specs.Prelude.{◌≡◌, ◌<◌, [], false, IfOk};
+ghost use Rattle.orca_rig.specs.Arrived.{empty_log};
 
 use crate::bytes::{tell_bytes, write_bytes};
 use crate::case::{Case, Outside};
@@ -58,7 +59,9 @@ fn tell_outside(
 }
 
 /// The files of a case, and which calls of them fail.
-fn files_of(files: Vec<(String, Vec<u8>)>, failing: Vec<u64>) -> Result<MemFiles> {
+fn files_of(files: Vec<(String, Vec<u8>)>, failing: Vec<u64>) -> Result<MemFiles>
+    ensures { IfOk result (λ files. files.asked ≡ []) }
+{
     ensure!(names_differ(&files), "two files have one name");
     let Ok(files) = MemFiles::new(files, failing) else {
         bail!("memory was refused");
@@ -67,7 +70,9 @@ fn files_of(files: Vec<(String, Vec<u8>)>, failing: Vec<u64>) -> Result<MemFiles
 }
 
 /// The ports of a case, and which sends fail.
-fn outs_of(failing: Vec<(Port, u64)>) -> Result<MemOuts> {
+fn outs_of(failing: Vec<(Port, u64)>) -> Result<MemOuts>
+    ensures { IfOk result (λ outs. (outs.handed ≡ []) × (outs.attached ≡ [])) }
+{
     let Ok(outs) = MemOuts::new(failing) else {
         bail!("memory was refused");
     };
@@ -76,7 +81,8 @@ fn outs_of(failing: Vec<(Port, u64)>) -> Result<MemOuts> {
 
 /// The inbox of a case, and which calls of it fail.
 fn inbox_of(start: u64, answers: Vec<MemAnswer>, failing: Vec<u64>) -> Result<MemInbox>
-    ensures { IfOk result (λ inbox. (inbox.listened ≡ false) × (inbox.ended ≡ false)) }
+    ensures { IfOk result (λ inbox. (inbox.log ≡ empty_log) × (inbox.listened ≡ false)
+        × (inbox.ended ≡ false)) }
 {
     ensure!(
         is_in_order(start, &answers),
@@ -100,6 +106,10 @@ fn tell_run<L: Ledger>(
     blank: Blank,
     into: &mut String,
 ) -> Result<()>
+    // Nobody has called them.
+    requires files { files.asked ≡ [] }
+    requires ports { (outs.handed ≡ []) × (outs.attached ≡ []) }
+    requires log { inbox.log ≡ empty_log }
     requires fresh { inbox.listened ≡ false }
     requires open { inbox.ended ≡ false }
     requires name { blank.name ≡ L.name }

@@ -27,17 +27,17 @@ const HANDED: [(Port, &[u8]); 3] = [
     (Port::Midi, &[0x80, 0x24, 0x00]),
 ];
 
-/// A desk with no file, these ports, and an inbox to which nothing comes.
-fn desk_with<O: Outs + Drop, L: Ledger>(
+/// A desk with no file, ports in memory, and an inbox to which nothing comes.
+fn desk_with<L: Ledger>(
     alloc: Global,
-    outs: O,
     blank: Blank,
-) -> Result<Desk<MemFiles, O, MemInbox, L>, Fail>
+) -> Result<Desk<MemFiles, MemOuts, MemInbox, L>, Fail>
     requires name { blank.name ≡ L.name }
     requires parts { blank.parts ≡ L.parts }
     requires some { 0 < blank.parts }
 {
     let files = MemFiles::new(Vec::new(alloc), Vec::new(alloc))?;
+    let outs = MemOuts::new(Vec::new(alloc))?;
     let inbox = MemInbox::new(0, Vec::new(alloc), Vec::new(alloc))?;
     Ok(Desk::new(files, outs, inbox, Steps::<L>::start(blank)))
 }
@@ -102,8 +102,7 @@ fn check_close<L: Ledger>(rt: &impl Abort, alloc: Global, blank: Blank) -> Resul
     requires parts { blank.parts ≡ L.parts }
     requires some { 0 < blank.parts }
 {
-    let outs = MemOuts::new(Vec::new(alloc))?;
-    check_ports(rt, alloc, &mut desk_with::<MemOuts, L>(alloc, outs, blank)?)
+    check_ports(rt, alloc, &mut desk_with::<L>(alloc, blank)?)
 }
 
 #[test]
