@@ -2,6 +2,7 @@
 #![tactic(auto)]
 
 ghost use Rattle.std.specs.Prelude.{◌≡◌, ◌<◌, false, map, string_bytes, IsErr, IfOk};
+ghost use Rattle.orca_course.specs.Worlds.{IsSound, has_ended, has_listened};
 ghost use Rattle.orca_player.specs.Doing.{Said};
 ghost use Rattle.orca_player.specs.Running.{Ran};
 
@@ -25,10 +26,9 @@ fn run_or_end<F: Files + Drop, O: Outs + Drop, I: Inbox + Drop, L: Ledger>(
     words: Result<Vec<String>, Memory>,
     desk: &mut Desk<F, O, I, L>,
 ) -> Status
-    requires fresh { desk.old.mail.listened ≡ false }
-    requires open { desk.old.mail.ended ≡ false }
-    requires sound { (desk.old.failed ≡ false) × (desk.old.unstored ≡ false)
-        × (desk.old.lost ≡ false) }
+    requires fresh { has_listened desk.old ≡ false }
+    requires open { has_ended desk.old ≡ false }
+    requires sound { IsSound desk.old }
     ensures ran { IfOk words (λ words.
         Ran (map string_bytes words.items) desk.old result desk.new) }
     ensures refused { IsErr words → Said Status.Memory result desk.old desk.new }

@@ -1,7 +1,6 @@
 //! Whole runs, where a port refuses memory to one of its sends.
 
-ghost use Rattle.std.specs.Prelude.{◌≡◌, ◌<◌, ◌≤◌, Some, false, length, IsErrOf, OnOk};
-ghost use Rattle.orca_rig.specs.Outside.{Rose};
+ghost use Rattle.std.specs.Prelude.{◌≡◌, ◌<◌, Some, false, length};
 
 use orca_base::{Port, Steps};
 use orca_course::Desk;
@@ -19,25 +18,6 @@ struct Tight {
     kept: MemOuts,
     tight: u64,
     sends: u64,
-    refused: u64,
-}
-
-impl Tight {
-    /// Counts that memory was refused.
-    fn count(&mut self, done: Result<(), OutsideFault>) -> Result<(), OutsideFault>
-        ensures same { result ≡ done }
-        ensures kept { self.new.kept ≡ self.old.kept }
-        ensures grows { self.old.refused ≤ self.new.refused }
-        ensures wanted { IsErrOf done OutsideFault.Memory → Rose self.old.refused self.new.refused }
-        ensures sated { OnOk done (self.new.refused ≡ self.old.refused) }
-        ensures sated_failed { IsErrOf done OutsideFault.Failed
-            → self.new.refused ≡ self.old.refused }
-    {
-        if done == Err(OutsideFault::Memory) {
-            self.refused = self.refused.saturating_add(1);
-        }
-        done
-    }
 }
 
 impl Outs for Tight {
@@ -49,20 +29,16 @@ impl Outs for Tight {
 
     ghost faults = { λ o. o.kept.faults };
 
-    ghost wants = { λ o. o.refused };
-
     fn attach(&mut self, port: Port, name: &str) -> Result<(), OutsideFault> {
-        let done = self.kept.attach(port, name);
-        self.count(done)
+        self.kept.attach(port, name)
     }
 
     fn send(&mut self, port: Port, bytes: &[u8]) -> Result<(), OutsideFault> {
         self.sends = self.sends.saturating_add(1);
         if self.sends == self.tight {
-            return self.count(Err(OutsideFault::Memory));
+            return Err(OutsideFault::Memory);
         }
-        let done = self.kept.send(port, bytes);
-        self.count(done)
+        self.kept.send(port, bytes)
     }
 
     fn sent(&self) -> u64 {
@@ -102,7 +78,6 @@ fn run<L: Ledger>(
         kept: MemOuts::new(Vec::new(alloc))?,
         tight,
         sends: 0,
-        refused: 0,
     };
     let inbox = MemInbox::new(0, Vec::new(alloc), Vec::new(alloc))?;
     let mut desk = Desk::new(files, outs, inbox, Steps::<L>::start(blank));
