@@ -1,10 +1,9 @@
 #!/usr/bin/env python3
-"""Goes back and forward over long histories: .ci/rewinds [PROGRAM]
+"""Goes back and forward over long histories: .ci/rewinds.py [PROGRAM]
 
 A replay that goes back to a moment has to end as one that never went farther, and a redo after it as one that never went
 back. The histories are so long that checkpoints are loaded and their spacing doubles; the moments are those at its edges
-and at the edge of the patches, and some at random. PROGRAM is crates/orca/out/orca if it is not given. It stands beside
-the gate, which does not run it.
+and at the edge of the patches, and some at random. PROGRAM is crates/orca/out/orca if it is not given.
 """
 import os, random, subprocess, sys, tempfile
 

@@ -9,9 +9,9 @@ A line counts unless it is blank, a comment or an import. Types and constants of
 standard library and the ported crates define does not count. A name stands for what it is imported as, or for what the
 file defines under it. So a variable that has such a name may count too many lines, and never too few.
 
-.ci/theorem            checks the page
-.ci/theorem --write    writes blocks and numbers as they are now
-.ci/theorem --list     prints each file that the contract of `run` rests on, with its lines
+.ci/theorem.py            checks the page
+.ci/theorem.py --write    writes blocks and numbers as they are now
+.ci/theorem.py --list     prints each file that the contract of `run` rests on, with its lines
 """
 import functools
 import pathlib
@@ -185,7 +185,7 @@ def main():
         PAGE.write_text(now)
     elif now != page:
         wrong = next(new for old, new in zip(page.splitlines(), now.splitlines()) if old != new)
-        sys.exit(f'docs/THEOREM.md is not as it has to be now (.ci/theorem --write mends it), from this line on: {wrong}')
+        sys.exit(f'docs/THEOREM.md is not as it has to be now (.ci/theorem.py --write mends it), from this line on: {wrong}')
 
 
 if __name__ == '__main__':

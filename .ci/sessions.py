@@ -1,23 +1,15 @@
-#!/usr/bin/env bash
-# Random sessions: the built program's `replay` does scripts of 3,000 commands each, and a model of its own, written
-# below from the rules, does the same commands. Both have to print the same refusals, the same grid, tick, moments and
-# number of notes that sound. If the program knows the options, the history is short in every third session, and the
-# MIDI bytes have to be the same too.
-#
-# The model keeps a plain list of entries, and a list of what was cut off. When a command goes back or forward again,
-# it folds the list from the opened grid. Its operators are D, E, H, N, S, W in both cases, `*` and `:`; the grids hold no others.
-#
-# It stands beside the gate, which does not run it. After `bash .ci/run`:
-#     .ci/sessions                       8 sessions by the program that the gate has built
-#     .ci/sessions PROGRAM 100 7         100 sessions by another one, the first of them drawn with seed 7
-# Without python3 it says so and does nothing.
-set -eu
-unset CDPATH
-cd "$(dirname "$0")/.."
-program=${1:-crates/orca/out/orca}
-[ -x "$program" ] || { echo "the program $program is not built: ./orca builds it"; exit 1; }
-command -v python3 >/dev/null || { echo "python3 is missing: the random sessions are skipped"; exit 0; }
-exec python3 - "$program" "${2:-8}" "${3:-1}" <<'MODEL'
+#!/usr/bin/env python3
+"""Random sessions: the built program's `replay` does scripts of 3,000 commands each, and a model of its own, written
+below from the rules, does the same commands. Both have to print the same refusals, the same grid, tick, moments and
+number of notes that sound. If the program knows the options, the history is short in every third session, and the
+MIDI bytes have to be the same too.
+
+The model keeps a plain list of entries, and a list of what was cut off. When a command goes back or forward again,
+it folds the list from the opened grid. Its operators are D, E, H, N, S, W in both cases, `*` and `:`; the grids hold no others.
+
+.ci/sessions.py                       8 sessions by the program that the gate has built
+.ci/sessions.py PROGRAM 100 7         100 sessions by another one, the first of them drawn with seed 7
+"""
 import os, random, subprocess, sys, tempfile
 
 COMMANDS = 3000
@@ -385,7 +377,9 @@ def knows_options(program, work):
 
 
 def main():
-    program, count, first = os.path.abspath(sys.argv[1]), int(sys.argv[2]), int(sys.argv[3])
+    here = os.path.dirname(os.path.abspath(__file__))
+    program, count, first = (sys.argv[1:] + [os.path.join(here, "../crates/orca/out/orca"), "8", "1"][len(sys.argv) - 1:])
+    program, count, first = os.path.abspath(program), int(count), int(first)
     work = tempfile.mkdtemp()
     options = knows_options(program, work)
     if not options:
@@ -410,4 +404,3 @@ def main():
 
 
 main()
-MODEL
