@@ -27,7 +27,7 @@ asked_in (Load name text ∷ acts) = AskLoad name ∷ asked_in acts
 asked_in (Save name bytes ∷ acts) = AskSave name bytes ∷ asked_in acts
 asked_in (_ ∷ acts) = asked_in acts
 
--- the name and the hands that the inbox was last asked to listen for, and the start that it answered
+-- the name and the hands that the inbox was last asked to listen for, and the start that came
 abbrev pub Listened : Type 0
 Listened = Option (List ℕ) × Option ℕ × Option ℕ
 

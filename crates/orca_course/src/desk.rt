@@ -25,9 +25,9 @@ use std::alloc::Global;
 use std::marker::Model;
 use std::sync::ledger::Ledger;
 
-/// The ports, the files, the inbox and the counter of steps of a run, and whether ports or files have
-/// failed. It notes each call of theirs, so a contract sees all calls, also of objects that tell
-/// none; and what the objects tell is what their calls came to.
+/// The ports, the files, the inbox and the counter of steps of a run, and whether ports or files
+/// have failed. It notes each call of theirs, so a contract sees all calls, also of objects that
+/// tell none; and what the objects tell is what their calls came to.
 #[derive(Drop)]
 pub struct Desk<F: Files + Drop, O: Outs + Drop, I: Inbox + Drop, L: Ledger> {
     files: F,

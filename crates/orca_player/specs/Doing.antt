@@ -67,8 +67,8 @@ pub record IsWhole (o : Outline) (x : World) (status : Status) (y : World) : Typ
 
 -- ---- memory was refused
 
--- a port refused it to a send, the next of these acts: those before it were done, and a device follows
--- them
+-- a port refused it to a send, the next of these acts: those before it were done, and a device
+-- follows them
 pub record StopsInSend (o : Outline) (x y : World) : Type 0 where
   pub begun : List Act
   pub left : List Act

@@ -1,4 +1,4 @@
--- An empty body, by hand, since the list stands in no place of memory. The value that is returned has no call.
+-- An empty body, by hand, since the list stands in no memory. What is returned has no call.
 use mathlib.Core.Path.{refl}
 use mathlib.Core.List.{[], ◌∷◌}
 use seplogic.Ra.Ura.{Ura}
