@@ -7,3 +7,4 @@ pub mod Worlds
 pub mod Courses
 pub mod Doing
 pub mod Performers
+pub mod Performed

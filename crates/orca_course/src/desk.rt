@@ -14,7 +14,7 @@ ghost use Rattle.orca_course.specs.Told.{IsLogOf, Records, Tells, asked_in, atta
 ghost use Rattle.orca_course.specs.Worlds.{Called, LeavesInbox, Made, Polled, Sated, has_ended, has_failed, has_listened, is_unstored, owing, start_of, text_of};
 
 use crate::NoMemory;
-use crate::performer::arrived;
+use crate::polling::arrived;
 use orca_base::limits::ARRIVAL_BYTES;
 use orca_base::{Command, Fault, Port, Reply, Steps};
 use orca_edit::Machine;
