@@ -1,2 +1,3 @@
 pub mod Manners
 pub mod Concerts
+pub mod Stages

@@ -2,13 +2,13 @@
 
 ghost use Rattle.std.specs.Prelude.{◌≡◌, ◌≢◌, Err, Some};
 ghost use Rattle.orca_course.specs.Acts.{gives};
-ghost use Rattle.orca_course.specs.Doing.{Does};
 ghost use Rattle.orca_course.specs.Following.{Accompanies};
-ghost use Rattle.orca_course.specs.Standings.{notes_of, standing, standing_closed};
-ghost use Rattle.orca_course.specs.Worlds.{Calls, owing};
+ghost use Rattle.orca_course.specs.Standings.{notes_of, standing_closed};
+ghost use Rattle.orca_course.specs.Worlds.{Calls};
 ghost use Rattle.orca_notes.specs.Sound.{ends};
 ghost use Rattle.orca_send.specs.Sending.{sends_of};
-ghost use Rattle.orca_concert.specs.Concerts.{close_course, command_at, concert, concert_course, cue_course, cues_course, final_course, handed_of, last_course, order_course, saved_course, stance_of};
+ghost use Rattle.orca_concert.specs.Concerts.{close_course, command_at, concert_course, cue_course, cues_course, final_course, handed_of, last_course, order_course, saved_course};
+ghost use Rattle.orca_concert.specs.Stages.{Plays, standing_of};
 
 use crate::halt::Halt;
 use crate::sending::hand_messages;
@@ -37,12 +37,8 @@ pub fn play<
     source: &mut S,
     desk: &mut Desk<F, O, I, L>,
 ) -> Result<Option<Stop>, NoMemory>
-    ensures { let s = concert (standing (M.machine stage.old.machine) (M.kept stage.old.machine)
-        stage.old.tally) (R.kept stage.old.report) in
-        Does (stance_of R.manner) (concert_course R.manner (S.left source.old) s) s
-        (owing (M.residue stage.old.machine) desk.old) result
-        (concert (standing (M.machine stage.new.machine) (M.kept stage.new.machine)
-        stage.new.tally) (R.kept stage.new.report)) (owing (M.residue stage.new.machine) desk.new) }
+    ensures { Plays M.Machine.own R.Report.own (concert_course R.manner (S.left source.old))
+        stage.old desk.old result stage.new desk.new }
 {
     let end = do_cues(stage, source, desk)?;
     finish(stage, desk, end)
@@ -75,12 +71,8 @@ fn do_order<
     line: u32,
     order: Order,
 ) -> Result<Option<Halt>, NoMemory>
-    ensures { let s = concert (standing (M.machine stage.old.machine) (M.kept stage.old.machine)
-        stage.old.tally) (R.kept stage.old.report) in
-        Does (stance_of R.manner) (order_course R.manner line order s) s
-        (owing (M.residue stage.old.machine) desk.old) result
-        (concert (standing (M.machine stage.new.machine) (M.kept stage.new.machine)
-        stage.new.tally) (R.kept stage.new.report)) (owing (M.residue stage.new.machine) desk.new) }
+    ensures { Plays M.Machine.own R.Report.own (order_course R.manner line order)
+        stage.old desk.old result stage.new desk.new }
 {
     let command = command_at(order, &stage.machine);
     let end = stage.do_command(desk, line, &command)?;
@@ -100,12 +92,8 @@ fn do_cue<
     I: Inbox + Drop,
     L: Ledger,
 >(stage: &mut Stage<M, R>, desk: &mut Desk<F, O, I, L>, cue: Cue) -> Result<Option<Stop>, NoMemory>
-    ensures { let s = concert (standing (M.machine stage.old.machine) (M.kept stage.old.machine)
-        stage.old.tally) (R.kept stage.old.report) in
-        Does (stance_of R.manner) (cue_course R.manner cue s) s
-        (owing (M.residue stage.old.machine) desk.old) result
-        (concert (standing (M.machine stage.new.machine) (M.kept stage.new.machine)
-        stage.new.tally) (R.kept stage.new.report)) (owing (M.residue stage.new.machine) desk.new) }
+    ensures { Plays M.Machine.own R.Report.own (cue_course R.manner cue)
+        stage.old desk.old result stage.new desk.new }
 {
     for _time in 0..cue.times {
         match do_order(stage, desk, cue.line, cue.order)? {
@@ -131,12 +119,8 @@ fn do_cues<
     source: &mut S,
     desk: &mut Desk<F, O, I, L>,
 ) -> Result<Option<Stop>, NoMemory>
-    ensures { let s = concert (standing (M.machine stage.old.machine) (M.kept stage.old.machine)
-        stage.old.tally) (R.kept stage.old.report) in
-        Does (stance_of R.manner) (cues_course R.manner (S.left source.old) s) s
-        (owing (M.residue stage.old.machine) desk.old) result
-        (concert (standing (M.machine stage.new.machine) (M.kept stage.new.machine)
-        stage.new.tally) (R.kept stage.new.report)) (owing (M.residue stage.new.machine) desk.new) }
+    ensures { Plays M.Machine.own R.Report.own (cues_course R.manner (S.left source.old))
+        stage.old desk.old result stage.new desk.new }
 {
     while let Some(cue) = source.next() {
         if let Some(stop) = do_cue(stage, desk, cue)? {
@@ -160,12 +144,8 @@ fn finish<
     desk: &mut Desk<F, O, I, L>,
     end: Option<Stop>,
 ) -> Result<Option<Stop>, NoMemory>
-    ensures { let s = concert (standing (M.machine stage.old.machine) (M.kept stage.old.machine)
-        stage.old.tally) (R.kept stage.old.report) in
-        Does (stance_of R.manner) (last_course R.manner end s) s
-        (owing (M.residue stage.old.machine) desk.old) result
-        (concert (standing (M.machine stage.new.machine) (M.kept stage.new.machine)
-        stage.new.tally) (R.kept stage.new.report)) (owing (M.residue stage.new.machine) desk.new) }
+    ensures { Plays M.Machine.own R.Report.own (last_course R.manner end)
+        stage.old desk.old result stage.new desk.new }
 {
     let end = tell_last(stage, desk, end)?;
     let closed = close(stage, desk)?;
@@ -186,12 +166,8 @@ fn tell_last<
     desk: &mut Desk<F, O, I, L>,
     end: Option<Stop>,
 ) -> Result<Option<Stop>, NoMemory>
-    ensures { let s = concert (standing (M.machine stage.old.machine) (M.kept stage.old.machine)
-        stage.old.tally) (R.kept stage.old.report) in
-        Does (stance_of R.manner) (final_course R.manner end s) s
-        (owing (M.residue stage.old.machine) desk.old) result
-        (concert (standing (M.machine stage.new.machine) (M.kept stage.new.machine)
-        stage.new.tally) (R.kept stage.new.report)) (owing (M.residue stage.new.machine) desk.new) }
+    ensures { Plays M.Machine.own R.Report.own (final_course R.manner end)
+        stage.old desk.old result stage.new desk.new }
 {
     match end {
         Some(stop) => Ok(Some(stop)),
@@ -208,12 +184,8 @@ pub fn close<
     I: Inbox + Drop,
     L: Ledger,
 >(stage: &mut Stage<M, R>, desk: &mut Desk<F, O, I, L>) -> Result<Option<Stop>, NoMemory>
-    ensures { let s = concert (standing (M.machine stage.old.machine) (M.kept stage.old.machine)
-        stage.old.tally) (R.kept stage.old.report) in
-        Does (stance_of R.manner) (close_course R.manner s) s
-        (owing (M.residue stage.old.machine) desk.old) result
-        (concert (standing (M.machine stage.new.machine) (M.kept stage.new.machine)
-        stage.new.tally) (R.kept stage.new.report)) (owing (M.residue stage.new.machine) desk.new) }
+    ensures { Plays M.Machine.own R.Report.own (close_course R.manner)
+        stage.old desk.old result stage.new desk.new }
 {
     stage.messages.clear();
     stage.machine.close(&mut stage.messages);
@@ -236,12 +208,8 @@ fn save<
     desk: &mut Desk<F, O, I, L>,
     end: Option<Stop>,
 ) -> Result<Option<Stop>, NoMemory>
-    ensures { let s = concert (standing (M.machine stage.old.machine) (M.kept stage.old.machine)
-        stage.old.tally) (R.kept stage.old.report) in
-        Does (stance_of R.manner) (saved_course R.manner end s) s
-        (owing (M.residue stage.old.machine) desk.old) result
-        (concert (standing (M.machine stage.new.machine) (M.kept stage.new.machine)
-        stage.new.tally) (R.kept stage.new.report)) (owing (M.residue stage.new.machine) desk.new) }
+    ensures { Plays M.Machine.own R.Report.own (saved_course R.manner end)
+        stage.old desk.old result stage.new desk.new }
 {
     match end {
         Some(stop) => Ok(Some(stop)),
@@ -258,13 +226,11 @@ pub fn close_early<
     I: Inbox + Drop,
     L: Ledger,
 >(stage: &mut Stage<M, R>, desk: &mut Desk<F, O, I, L>) -> Result<(), NoMemory>
-    ensures called { let s = standing (M.machine stage.old.machine) (M.kept stage.old.machine)
-        stage.old.tally in
+    ensures called { let s = standing_of M.Machine.own stage.old in
         Calls (gives (handed_of R.manner.hands (ends (notes_of s)))) result desk.old desk.new }
     ensures in_send { result ≢ Err NoMemory.Elsewhere }
     // A device that follows the run follows these sends too, and has no key at their end.
-    ensures device { let s = standing (M.machine stage.old.machine) (M.kept stage.old.machine)
-        stage.old.tally in
+    ensures device { let s = standing_of M.Machine.own stage.old in
         Accompanies (Some s) (gives (sends_of (ends (notes_of s)))) (Some (standing_closed s)) }
 {
     stage.messages.clear();

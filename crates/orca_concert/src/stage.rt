@@ -1,8 +1,7 @@
 ghost use Rattle.std.specs.Prelude.{◌≡◌, IfOk};
-ghost use Rattle.orca_course.specs.Doing.{Does};
-ghost use Rattle.orca_course.specs.Standings.{standing, tally_at_start};
-ghost use Rattle.orca_course.specs.Worlds.{owing};
-ghost use Rattle.orca_concert.specs.Concerts.{answer_of, command_course, concert, stance_of};
+ghost use Rattle.orca_course.specs.Standings.{tally_at_start};
+ghost use Rattle.orca_concert.specs.Concerts.{answer_of, command_course};
+ghost use Rattle.orca_concert.specs.Stages.{Plays};
 
 use crate::sending::hand_messages;
 use crate::{Report, Turn};
@@ -51,13 +50,8 @@ impl<M: Machine + Drop, R: Report + Drop> Stage<M, R> {
         line: u32,
         command: &Command,
     ) -> Result<Option<Stop>, NoMemory>
-        ensures { let s = concert (standing (M.machine self.old.machine) (M.kept self.old.machine)
-            self.old.tally) (R.kept self.old.report) in
-            Does (stance_of R.manner) (command_course R.manner line command.now s) s
-            (owing (M.residue self.old.machine) desk.old) result
-            (concert (standing (M.machine self.new.machine) (M.kept self.new.machine)
-            self.new.tally) (R.kept self.new.report))
-            (owing (M.residue self.new.machine) desk.new) }
+        ensures { Plays M.Machine.own R.Report.own (command_course R.manner line command.now)
+            self.old desk.old result self.new desk.new }
     {
         self.report.is_quiet();
         self.messages.clear();
