@@ -1,14 +1,19 @@
 -- Where a performance stands: its setting, the session, the keys, the editor, the pacer, what is
 -- shown, and the commands that are kept for the script.
-use Rattle.std.specs.Prelude.{ℕ, Bool, true, nat_le, if◌then◌else◌, List, length, Option, Some, None, unwrap_or}
+use Rattle.std.specs.Prelude.{ℕ, Bool, true, nat_le, if◌then◌else◌, List, length, Option, Some, None, unwrap_or, Result}
 use Rattle.std.specs.Option.{option_map}
 use Rattle.orca_base.specs.declared.command.Command.{Command}
 use Rattle.orca_base.specs.Grids.{Size}
-use Rattle.orca_course.specs.Doing.{Stance}
+use Rattle.orca_course.specs.Courses.{Course}
+use Rattle.orca_course.specs.Doing.{Does, Stance}
 use Rattle.orca_course.specs.Standings.{Standing, notes_of, standing}
+use Rattle.orca_course.specs.Worlds.{World, owing}
+use Rattle.orca_course.specs.declared.ending.Stop.{Stop}
+use Rattle.orca_course.specs.declared.refused.NoMemory.{NoMemory}
 use Rattle.orca_edit.specs.Obeying.{MachineState, piece_of}
 use Rattle.orca_edit.specs.Pieces.{Piece}
 use Rattle.orca_edit.specs.Prices.{Kept}
+use Rattle.orca_edit.specs.declared.machine.Machine.{Ghosts}
 use Rattle.orca_live.specs.declared.live.Live.{Live}
 use Rattle.orca_live.specs.declared.setting.Setting.{Setting as HeldSetting}
 use Rattle.orca_term.specs.Editing.{editor_inside}
@@ -70,9 +75,20 @@ state_of machine kept live = record {
   at = live.at;
 }
 
+-- the same, by the ghost members of its session's bound
+abbrev pub live_state : {M : Type 0} → Ghosts M → Live M → LiveState
+live_state g live = state_of (g.machine live.stage.machine) (g.kept live.stage.machine) live
+
 -- a performance stands where its session does, and hands its messages out
 abbrev pub live_stance : Stance LiveState
 live_stance = record { standing = λ s. Some s.standing; hands = true }
+
+-- this was done of a course
+abbrev pub Did : {M : Type 0} → Ghosts M → (LiveState → Course LiveState Stop) → Live M → World
+    → Result (Option Stop) NoMemory → Live M → World → Type 0
+Did g c l x result m y =
+    Does live_stance (c (live_state g l)) (live_state g l) (owing (g.residue l.stage.machine) x)
+    result (live_state g m) (owing (g.residue m.stage.machine) y)
 
 -- the piece as it stands
 abbrev pub piece_at : LiveState → Piece

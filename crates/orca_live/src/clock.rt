@@ -1,9 +1,7 @@
 //! What a due moment does.
 
-ghost use Rattle.orca_course.specs.Doing.{Does, goes_of};
-ghost use Rattle.orca_course.specs.Worlds.{owing};
 ghost use Rattle.orca_live.specs.Performing.{due_course, frame_course};
-ghost use Rattle.orca_live.specs.States.{live_stance, state_of};
+ghost use Rattle.orca_live.specs.States.{Did};
 
 use crate::Live;
 use crate::keyboard::{do_command, press};
@@ -19,12 +17,7 @@ fn do_frame<M: Machine + Drop, F: Files + Drop, O: Outs + Drop, I: Inbox + Drop,
     live: &mut Live<'_, M>,
     desk: &mut Desk<F, O, I, L>,
 ) -> Result<Option<Stop>, NoMemory>
-    ensures { let s = state_of (M.machine live.old.stage.machine) (M.kept live.old.stage.machine)
-        live.old in
-        Does live_stance (frame_course s) s
-        (owing (M.residue live.old.stage.machine) desk.old) result
-        (state_of (M.machine live.new.stage.machine) (M.kept live.new.stage.machine) live.new)
-        (owing (M.residue live.new.stage.machine) desk.new) }
+    ensures { Did M.Machine.own frame_course live.old desk.old result live.new desk.new }
 {
     if live.is_full() {
         return Ok(Some(Stop::Full));
@@ -42,12 +35,7 @@ pub(crate) fn do_due<
     I: Inbox + Drop,
     L: Ledger,
 >(live: &mut Live<'_, M>, desk: &mut Desk<F, O, I, L>) -> Result<Option<Stop>, NoMemory>
-    ensures { let s = state_of (M.machine live.old.stage.machine) (M.kept live.old.stage.machine)
-        live.old in
-        Does live_stance (due_course s) s
-        (owing (M.residue live.old.stage.machine) desk.old) result
-        (state_of (M.machine live.new.stage.machine) (M.kept live.new.stage.machine) live.new)
-        (owing (M.residue live.new.stage.machine) desk.new) }
+    ensures { Did M.Machine.own due_course live.old desk.old result live.new desk.new }
 {
     let key = live.keys.due();
     if let Some(stop) = press(live, desk, key)? {

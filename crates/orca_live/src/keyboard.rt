@@ -4,12 +4,10 @@ ghost use Rattle.std.specs.Prelude.{◌≡◌, [], ◌∷◌, ◌++◌, IfErr, O
 ghost use Rattle.std.specs.Option.{option_map};
 ghost use Rattle.orca_base.specs.Areas.{IsArea};
 ghost use Rattle.orca_course.specs.Courses.{each};
-ghost use Rattle.orca_live.specs.States.{dims_at, fitted};
 ghost use Rattle.orca_term.specs.Editing.{area_of};
-ghost use Rattle.orca_course.specs.Doing.{Does, goes_of};
-ghost use Rattle.orca_course.specs.Worlds.{owing};
+ghost use Rattle.orca_course.specs.Doing.{goes_of};
 ghost use Rattle.orca_live.specs.Performing.{byte_course, command_course, key_course, press_course, struck_course, wish_course};
-ghost use Rattle.orca_live.specs.States.{live_stance, state_of};
+ghost use Rattle.orca_live.specs.States.{Did, dims_at, fitted, live_state};
 
 use crate::Live;
 use crate::saving::save_grid;
@@ -42,12 +40,8 @@ pub(crate) fn do_command<
     I: Inbox + Drop,
     L: Ledger,
 >(live: &mut Live<'_, M>, desk: &mut Desk<F, O, I, L>, command: &Command) -> Result<(), NoMemory>
-    ensures { let s = state_of (M.machine live.old.stage.machine) (M.kept live.old.stage.machine)
-        live.old in
-        Does live_stance (command_course command.now s) s
-        (owing (M.residue live.old.stage.machine) desk.old) (goes_of result)
-        (state_of (M.machine live.new.stage.machine) (M.kept live.new.stage.machine) live.new)
-        (owing (M.residue live.new.stage.machine) desk.new) }
+    ensures { Did M.Machine.own (command_course command.now)
+        live.old desk.old (goes_of result) live.new desk.new }
 {
     keep(&mut live.given, command)?;
     live.stage.do_command(desk, 0, command)?;
@@ -61,12 +55,7 @@ fn do_wish<M: Machine + Drop, F: Files + Drop, O: Outs + Drop, I: Inbox + Drop, 
     desk: &mut Desk<F, O, I, L>,
     wish: &Wish,
 ) -> Result<Option<Stop>, NoMemory>
-    ensures { let s = state_of (M.machine live.old.stage.machine) (M.kept live.old.stage.machine)
-        live.old in
-        Does live_stance (wish_course wish.now s) s
-        (owing (M.residue live.old.stage.machine) desk.old) result
-        (state_of (M.machine live.new.stage.machine) (M.kept live.new.stage.machine) live.new)
-        (owing (M.residue live.new.stage.machine) desk.new) }
+    ensures { Did M.Machine.own (wish_course wish.now) live.old desk.old result live.new desk.new }
 {
     match wish {
         Wish::Nothing => Ok(None),
@@ -91,12 +80,11 @@ fn do_wish<M: Machine + Drop, F: Files + Drop, O: Outs + Drop, I: Inbox + Drop, 
 
 /// Fits the editor to the grid.
 pub(crate) fn fit<M: Machine + Drop>(live: &mut Live<'_, M>)
-    ensures fitted { state_of (M.machine live.new.stage.machine) (M.kept live.new.stage.machine)
-        live.new ≡ fitted (state_of (M.machine live.old.stage.machine)
-        (M.kept live.old.stage.machine) live.old) }
+    ensures fitted { live_state M.Machine.own live.new
+        ≡ fitted (live_state M.Machine.own live.old) }
     ensures machine { live.new.stage.machine ≡ live.old.stage.machine }
-    ensures inside { let t = state_of (M.machine live.new.stage.machine)
-        (M.kept live.new.stage.machine) live.new in IsArea (dims_at t) (area_of t.editor) }
+    ensures inside { let t = live_state M.Machine.own live.new in
+        IsArea (dims_at t) (area_of t.editor) }
 {
     live.stage.machine.is_shown();
     let dims = Look::dims(&live.stage.machine);
@@ -110,14 +98,9 @@ fn strike<M: Machine + Drop, F: Files + Drop, O: Outs + Drop, I: Inbox + Drop, L
     desk: &mut Desk<F, O, I, L>,
     key: Key,
 ) -> Result<Option<Stop>, NoMemory>
-    requires inside { let s = state_of (M.machine live.old.stage.machine)
-        (M.kept live.old.stage.machine) live.old in IsArea (dims_at s) (area_of s.editor) }
-    ensures { let s = state_of (M.machine live.old.stage.machine) (M.kept live.old.stage.machine)
-        live.old in
-        Does live_stance (struck_course key s) s
-        (owing (M.residue live.old.stage.machine) desk.old) result
-        (state_of (M.machine live.new.stage.machine) (M.kept live.new.stage.machine) live.new)
-        (owing (M.residue live.new.stage.machine) desk.new) }
+    requires inside { let s = live_state M.Machine.own live.old in
+        IsArea (dims_at s) (area_of s.editor) }
+    ensures { Did M.Machine.own (struck_course key) live.old desk.old result live.new desk.new }
 {
     live.stage.machine.is_shown();
     let dims = Look::dims(&live.stage.machine);
@@ -133,12 +116,7 @@ pub(crate) fn press<M: Machine + Drop, F: Files + Drop, O: Outs + Drop, I: Inbox
     desk: &mut Desk<F, O, I, L>,
     key: Option<Key>,
 ) -> Result<Option<Stop>, NoMemory>
-    ensures { let s = state_of (M.machine live.old.stage.machine) (M.kept live.old.stage.machine)
-        live.old in
-        Does live_stance (press_course key s) s
-        (owing (M.residue live.old.stage.machine) desk.old) result
-        (state_of (M.machine live.new.stage.machine) (M.kept live.new.stage.machine) live.new)
-        (owing (M.residue live.new.stage.machine) desk.new) }
+    ensures { Did M.Machine.own (press_course key) live.old desk.old result live.new desk.new }
 {
     match key {
         None => Ok(None),
@@ -156,12 +134,7 @@ fn do_byte<M: Machine + Drop, F: Files + Drop, O: Outs + Drop, I: Inbox + Drop, 
     desk: &mut Desk<F, O, I, L>,
     byte: u8,
 ) -> Result<Option<Stop>, NoMemory>
-    ensures { let s = state_of (M.machine live.old.stage.machine) (M.kept live.old.stage.machine)
-        live.old in
-        Does live_stance (byte_course byte s) s
-        (owing (M.residue live.old.stage.machine) desk.old) result
-        (state_of (M.machine live.new.stage.machine) (M.kept live.new.stage.machine) live.new)
-        (owing (M.residue live.new.stage.machine) desk.new) }
+    ensures { Did M.Machine.own (byte_course byte) live.old desk.old result live.new desk.new }
 {
     let key = live.keys.feed(byte);
     press(live, desk, key)
@@ -180,12 +153,8 @@ pub(crate) fn do_bytes<
     desk: &mut Desk<F, O, I, L>,
     bytes: &[u8],
 ) -> Result<Option<Stop>, NoMemory>
-    ensures { let s = state_of (M.machine live.old.stage.machine) (M.kept live.old.stage.machine)
-        live.old in
-        Does live_stance (each byte_course bytes.now s) s
-        (owing (M.residue live.old.stage.machine) desk.old) result
-        (state_of (M.machine live.new.stage.machine) (M.kept live.new.stage.machine) live.new)
-        (owing (M.residue live.new.stage.machine) desk.new) }
+    ensures { Did M.Machine.own (each byte_course bytes.now)
+        live.old desk.old result live.new desk.new }
 {
     for byte in bytes {
         if let Some(stop) = do_byte(live, desk, *byte)? {

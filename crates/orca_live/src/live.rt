@@ -1,8 +1,8 @@
 ghost use Rattle.std.specs.Prelude.{◌≡◌, ◌≤◌, IfOk};
 ghost use Rattle.orca_base.specs.declared.limits.TheConstants.{MAX_SCREEN_COLUMNS, MAX_SCREEN_ROWS, MIN_SCREEN_COLUMNS, MIN_SCREEN_ROWS};
-ghost use Rattle.orca_course.specs.Standings.{standing};
+ghost use Rattle.orca_concert.specs.Stages.{standing_of};
 ghost use Rattle.orca_live.specs.Starting.{live_at_start};
-ghost use Rattle.orca_live.specs.States.{is_full, line_at, setting_in, state_of, until_at};
+ghost use Rattle.orca_live.specs.States.{is_full, line_at, live_state, setting_in, until_at};
 
 use crate::{Setting, Silent};
 use orca_base::{Command, Memory};
@@ -48,9 +48,8 @@ impl<'a, M: Machine + Drop> Live<'a, M> {
         requires columns { (MIN_SCREEN_COLUMNS ≤ screen.columns)
             × (screen.columns ≤ MAX_SCREEN_COLUMNS) }
         ensures state { IfOk result (λ live.
-            state_of (M.machine live.stage.machine) (M.kept live.stage.machine) live
-            ≡ live_at_start (setting_in setting.entry) screen at
-            (standing (M.machine stage.machine) (M.kept stage.machine) stage.tally)) }
+            live_state M.Machine.own live ≡ live_at_start (setting_in setting.entry) screen at
+            (standing_of M.Machine.own stage)) }
         ensures machine { IfOk result (λ live. live.stage.machine ≡ stage.machine) }
     {
         let view = View::start(alloc, screen.rows, screen.columns)?;
@@ -69,8 +68,7 @@ impl<'a, M: Machine + Drop> Live<'a, M> {
 
     /// What the status line tells besides the editor.
     pub(crate) fn line(&self) -> StatusLine
-        ensures { result ≡ line_at (state_of (M.machine self.now.stage.machine)
-            (M.kept self.now.stage.machine) self.now) }
+        ensures { result ≡ line_at (live_state M.Machine.own self.now) }
     {
         StatusLine {
             tick: self.stage.machine.tick(),
@@ -82,8 +80,7 @@ impl<'a, M: Machine + Drop> Live<'a, M> {
 
     /// The moment that a poll waits for.
     pub(crate) fn until_moment(&self) -> Option<u64>
-        ensures { result ≡ until_at (state_of (M.machine self.now.stage.machine)
-            (M.kept self.now.stage.machine) self.now) }
+        ensures { result ≡ until_at (live_state M.Machine.own self.now) }
     {
         if self.editor.paused {
             return None;
@@ -93,8 +90,7 @@ impl<'a, M: Machine + Drop> Live<'a, M> {
 
     /// Whether the history has as many entries as it may have.
     pub(crate) fn is_full(&self) -> bool
-        ensures { result ≡ is_full (state_of (M.machine self.now.stage.machine)
-            (M.kept self.now.stage.machine) self.now) }
+        ensures { result ≡ is_full (live_state M.Machine.own self.now) }
     {
         self.stage.machine.limit() <= self.stage.machine.moments()
     }

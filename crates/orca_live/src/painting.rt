@@ -1,10 +1,10 @@
 //! What is shown.
 
 ghost use Rattle.std.specs.Prelude.{[]};
-ghost use Rattle.orca_course.specs.Doing.{Does, goes_of};
-ghost use Rattle.orca_course.specs.Worlds.{Calls, owing};
+ghost use Rattle.orca_course.specs.Doing.{goes_of};
+ghost use Rattle.orca_course.specs.Worlds.{Calls};
 ghost use Rattle.orca_live.specs.Performing.{open_course, paint_course, painted_course, show_course, view_sends};
-ghost use Rattle.orca_live.specs.States.{live_stance, state_of};
+ghost use Rattle.orca_live.specs.States.{Did};
 
 use crate::Live;
 use crate::keyboard::fit;
@@ -37,12 +37,7 @@ pub(crate) fn paint_first<
     I: Inbox + Drop,
     L: Ledger,
 >(live: &mut Live<'_, M>, desk: &mut Desk<F, O, I, L>) -> Result<(), NoMemory>
-    ensures { let s = state_of (M.machine live.old.stage.machine) (M.kept live.old.stage.machine)
-        live.old in
-        Does live_stance (open_course s) s
-        (owing (M.residue live.old.stage.machine) desk.old) (goes_of result)
-        (state_of (M.machine live.new.stage.machine) (M.kept live.new.stage.machine) live.new)
-        (owing (M.residue live.new.stage.machine) desk.new) }
+    ensures { Did M.Machine.own open_course live.old desk.old (goes_of result) live.new desk.new }
 {
     fit(live);
     let line = live.line();
@@ -65,12 +60,8 @@ fn paint<M: Machine + Drop, F: Files + Drop, O: Outs + Drop, I: Inbox + Drop, L:
     live: &mut Live<'_, M>,
     desk: &mut Desk<F, O, I, L>,
 ) -> Result<(), NoMemory>
-    ensures { let s = state_of (M.machine live.old.stage.machine) (M.kept live.old.stage.machine)
-        live.old in
-        Does live_stance (paint_course (M.marks live.old.stage.machine) s) s
-        (owing (M.residue live.old.stage.machine) desk.old) (goes_of result)
-        (state_of (M.machine live.new.stage.machine) (M.kept live.new.stage.machine) live.new)
-        (owing (M.residue live.new.stage.machine) desk.new) }
+    ensures { Did M.Machine.own (paint_course (M.marks live.old.stage.machine))
+        live.old desk.old (goes_of result) live.new desk.new }
 {
     fit(live);
     let line = live.line();
@@ -91,12 +82,7 @@ pub(crate) fn show<M: Machine + Drop, F: Files + Drop, O: Outs + Drop, I: Inbox 
     live: &mut Live<'_, M>,
     desk: &mut Desk<F, O, I, L>,
 ) -> Result<(), NoMemory>
-    ensures { let s = state_of (M.machine live.old.stage.machine) (M.kept live.old.stage.machine)
-        live.old in
-        Does live_stance (show_course s) s
-        (owing (M.residue live.old.stage.machine) desk.old) (goes_of result)
-        (state_of (M.machine live.new.stage.machine) (M.kept live.new.stage.machine) live.new)
-        (owing (M.residue live.new.stage.machine) desk.new) }
+    ensures { Did M.Machine.own show_course live.old desk.old (goes_of result) live.new desk.new }
 {
     desk.preview(&mut live.stage.machine);
     paint(live, desk)

@@ -1,9 +1,8 @@
 //! What a player does with the answers of an inbox.
 
-ghost use Rattle.orca_course.specs.Doing.{Does, goes_of};
-ghost use Rattle.orca_course.specs.Worlds.{owing};
+ghost use Rattle.orca_course.specs.Doing.{goes_of};
 ghost use Rattle.orca_live.specs.Performing.{answer_course, close_course, finish_course, heard_course};
-ghost use Rattle.orca_live.specs.States.{live_stance, state_of};
+ghost use Rattle.orca_live.specs.States.{Did};
 
 use crate::Live;
 use crate::clock::do_due;
@@ -22,12 +21,11 @@ const PLAYER: u8 = 0;
 impl<'a, M: Machine + Drop> Performer for Live<'a, M> {
     ghost use Rattle.orca_live.specs.Deaf.{live_is_deaf};
     ghost use Rattle.orca_live.specs.Performing.{live_part};
-    ghost use Rattle.orca_live.specs.States.{LiveState, state_of};
+    ghost use Rattle.orca_live.specs.States.{LiveState, live_state};
 
     ghost State = { LiveState };
 
-    ghost state = { λ live. state_of (M.machine live.stage.machine) (M.kept live.stage.machine)
-        live };
+    ghost state = { λ live. live_state M.Machine.own live };
 
     ghost residue = { λ live. M.residue live.stage.machine };
 
@@ -73,12 +71,8 @@ fn do_answer<M: Machine + Drop, F: Files + Drop, O: Outs + Drop, I: Inbox + Drop
     answer: Answer,
     bytes: &[u8],
 ) -> Result<Option<Stop>, NoMemory>
-    ensures { let s = state_of (M.machine live.old.stage.machine) (M.kept live.old.stage.machine)
-        live.old in
-        Does live_stance (answer_course answer bytes.now s) s
-        (owing (M.residue live.old.stage.machine) desk.old) result
-        (state_of (M.machine live.new.stage.machine) (M.kept live.new.stage.machine) live.new)
-        (owing (M.residue live.new.stage.machine) desk.new) }
+    ensures { Did M.Machine.own (answer_course answer bytes.now)
+        live.old desk.old result live.new desk.new }
 {
     match answer {
         Answer::Bytes { hand, at, .. } => {
@@ -104,12 +98,8 @@ fn hear<M: Machine + Drop, F: Files + Drop, O: Outs + Drop, I: Inbox + Drop, L: 
     answer: Answer,
     bytes: &[u8],
 ) -> Result<Option<Stop>, NoMemory>
-    ensures { let s = state_of (M.machine live.old.stage.machine) (M.kept live.old.stage.machine)
-        live.old in
-        Does live_stance (heard_course answer bytes.now s) s
-        (owing (M.residue live.old.stage.machine) desk.old) result
-        (state_of (M.machine live.new.stage.machine) (M.kept live.new.stage.machine) live.new)
-        (owing (M.residue live.new.stage.machine) desk.new) }
+    ensures { Did M.Machine.own (heard_course answer bytes.now)
+        live.old desk.old result live.new desk.new }
 {
     if let Some(stop) = do_answer(live, desk, answer, bytes)? {
         return Ok(Some(stop));
@@ -123,12 +113,7 @@ fn do_close<M: Machine + Drop, F: Files + Drop, O: Outs + Drop, I: Inbox + Drop,
     live: &mut Live<'_, M>,
     desk: &mut Desk<F, O, I, L>,
 ) -> Result<(), NoMemory>
-    ensures { let s = state_of (M.machine live.old.stage.machine) (M.kept live.old.stage.machine)
-        live.old in
-        Does live_stance (close_course s) s
-        (owing (M.residue live.old.stage.machine) desk.old) (goes_of result)
-        (state_of (M.machine live.new.stage.machine) (M.kept live.new.stage.machine) live.new)
-        (owing (M.residue live.new.stage.machine) desk.new) }
+    ensures { Did M.Machine.own close_course live.old desk.old (goes_of result) live.new desk.new }
 {
     close(&mut live.stage, desk)?;
     Ok(())
@@ -140,12 +125,7 @@ fn finish<M: Machine + Drop, F: Files + Drop, O: Outs + Drop, I: Inbox + Drop, L
     live: &mut Live<'_, M>,
     desk: &mut Desk<F, O, I, L>,
 ) -> Result<(), NoMemory>
-    ensures { let s = state_of (M.machine live.old.stage.machine) (M.kept live.old.stage.machine)
-        live.old in
-        Does live_stance (finish_course s) s
-        (owing (M.residue live.old.stage.machine) desk.old) (goes_of result)
-        (state_of (M.machine live.new.stage.machine) (M.kept live.new.stage.machine) live.new)
-        (owing (M.residue live.new.stage.machine) desk.new) }
+    ensures { Did M.Machine.own finish_course live.old desk.old (goes_of result) live.new desk.new }
 {
     do_close(live, desk)?;
     save_last_grid(live, desk)?;

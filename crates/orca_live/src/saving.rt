@@ -2,10 +2,9 @@
 
 ghost use Rattle.std.specs.Prelude.{◌≡◌, [], OnOk};
 ghost use Rattle.std.specs.Option.{option_map};
-ghost use Rattle.orca_course.specs.Doing.{Does, goes_of};
-ghost use Rattle.orca_course.specs.Worlds.{owing};
+ghost use Rattle.orca_course.specs.Doing.{goes_of};
 ghost use Rattle.orca_live.specs.Performing.{last_grid_course, last_script_course, save_course, script_course, script_text};
-ghost use Rattle.orca_live.specs.States.{live_stance, state_of};
+ghost use Rattle.orca_live.specs.States.{Did};
 
 use crate::Live;
 use orca_base::{Command, Memory};
@@ -25,12 +24,8 @@ pub(crate) fn save_grid<
     I: Inbox + Drop,
     L: Ledger,
 >(live: &mut Live<'_, M>, desk: &mut Desk<F, O, I, L>, name: &str) -> Result<(), NoMemory>
-    ensures { let s = state_of (M.machine live.old.stage.machine) (M.kept live.old.stage.machine)
-        live.old in
-        Does live_stance (save_course name.now s) s
-        (owing (M.residue live.old.stage.machine) desk.old) (goes_of result)
-        (state_of (M.machine live.new.stage.machine) (M.kept live.new.stage.machine) live.new)
-        (owing (M.residue live.new.stage.machine) desk.new) }
+    ensures { Did M.Machine.own (save_course name.now)
+        live.old desk.old (goes_of result) live.new desk.new }
 {
     live.stage.machine.is_shown();
     live.text.clear();
@@ -47,12 +42,8 @@ pub(crate) fn save_last_grid<
     I: Inbox + Drop,
     L: Ledger,
 >(live: &mut Live<'_, M>, desk: &mut Desk<F, O, I, L>) -> Result<(), NoMemory>
-    ensures { let s = state_of (M.machine live.old.stage.machine) (M.kept live.old.stage.machine)
-        live.old in
-        Does live_stance (last_grid_course s) s
-        (owing (M.residue live.old.stage.machine) desk.old) (goes_of result)
-        (state_of (M.machine live.new.stage.machine) (M.kept live.new.stage.machine) live.new)
-        (owing (M.residue live.new.stage.machine) desk.new) }
+    ensures { Did M.Machine.own last_grid_course
+        live.old desk.old (goes_of result) live.new desk.new }
 {
     match live.setting.save {
         Some(name) => save_grid(live, desk, name),
@@ -67,12 +58,8 @@ fn save_script<M: Machine + Drop, F: Files + Drop, O: Outs + Drop, I: Inbox + Dr
     desk: &mut Desk<F, O, I, L>,
     name: &str,
 ) -> Result<(), NoMemory>
-    ensures { let s = state_of (M.machine live.old.stage.machine) (M.kept live.old.stage.machine)
-        live.old in
-        Does live_stance (script_course name.now s) s
-        (owing (M.residue live.old.stage.machine) desk.old) (goes_of result)
-        (state_of (M.machine live.new.stage.machine) (M.kept live.new.stage.machine) live.new)
-        (owing (M.residue live.new.stage.machine) desk.new) }
+    ensures { Did M.Machine.own (script_course name.now)
+        live.old desk.old (goes_of result) live.new desk.new }
 {
     live.text.clear();
     print_script(live.setting.seed, &live.given, &mut live.text)?;
@@ -88,12 +75,8 @@ pub(crate) fn save_last_script<
     I: Inbox + Drop,
     L: Ledger,
 >(live: &mut Live<'_, M>, desk: &mut Desk<F, O, I, L>) -> Result<(), NoMemory>
-    ensures { let s = state_of (M.machine live.old.stage.machine) (M.kept live.old.stage.machine)
-        live.old in
-        Does live_stance (last_script_course s) s
-        (owing (M.residue live.old.stage.machine) desk.old) (goes_of result)
-        (state_of (M.machine live.new.stage.machine) (M.kept live.new.stage.machine) live.new)
-        (owing (M.residue live.new.stage.machine) desk.new) }
+    ensures { Did M.Machine.own last_script_course
+        live.old desk.old (goes_of result) live.new desk.new }
 {
     match live.setting.script {
         Some(name) => save_script(live, desk, name),
