@@ -7,10 +7,10 @@ ghost use Rattle.orca_player.specs.Doing.{Said};
 ghost use Rattle.orca_player.specs.Running.{Ran};
 
 use orca_base::{Memory, Steps};
-use orca_course::Desk;
+use orca_course::{Desk, desk_of};
 use orca_edge::{RealFiles, RealInbox, RealOuts, open_closed_streams, words_after_name};
 use orca_player::{Status, end, run};
-use orca_rig::{Files, Inbox, Outs};
+use orca_rig::House;
 use std::alloc::Global;
 use std::marker::Brand;
 use std::net::{Net, TcpStream};
@@ -21,10 +21,10 @@ use std::sync::ledger::{Blank, Ledger};
 use std::{env, io, rt};
 
 /// Runs the words. Where memory was refused to them, the last line says so.
-fn run_or_end<F: Files + Drop, O: Outs + Drop, I: Inbox + Drop, L: Ledger>(
+fn run_or_end<H: House>(
     alloc: Global,
     words: Result<Vec<String>, Memory>,
-    desk: &mut Desk<F, O, I, L>,
+    desk: &mut Desk<H>,
 ) -> Status
     requires fresh { has_listened desk.old ≡ false }
     requires open { has_ended desk.old ≡ false }
@@ -57,7 +57,7 @@ where
     let files = RealFiles::new(rt);
     let outs = RealOuts::new(rt);
     let inbox = RealInbox::new(rt);
-    let mut desk = Desk::new(files, outs, inbox, Steps::<L>::start(blank));
+    let mut desk = desk_of(files, outs, inbox, Steps::<L>::start(blank));
     run_or_end(rt.alloc(), words, &mut desk)
 }
 

@@ -7,7 +7,7 @@ use crate::bytes::{tell_bytes, write_bytes};
 use crate::case::{Case, Outside};
 use anyhow::{Result, bail, ensure};
 use orca_base::{Port, Steps};
-use orca_course::Desk;
+use orca_course::{Desk, Rooms, desk_of};
 use orca_player::{Status, run};
 use orca_rig::{MemAnswer, MemFiles, MemInbox, MemOuts, are_arrivals, is_in_order, names_differ};
 use std::alloc::Global;
@@ -116,7 +116,7 @@ fn tell_run<L: Ledger>(
     requires parts { blank.parts ≡ L.parts }
     requires some { 0 < blank.parts }
 {
-    let mut desk = Desk::new(files, outs, inbox, Steps::<L>::start(blank));
+    let mut desk = desk_of(files, outs, inbox, Steps::<L>::start(blank));
     let status = run(alloc, words, &mut desk);
     tell_end(alloc, wanted, &desk, status, into)
 }
@@ -125,7 +125,7 @@ fn tell_run<L: Ledger>(
 fn tell_end<L: Ledger>(
     alloc: Global,
     wanted: &Vec<String>,
-    desk: &Desk<MemFiles, MemOuts, MemInbox, L>,
+    desk: &Desk<Rooms<MemFiles, MemOuts, MemInbox, L>>,
     status: Status,
     into: &mut String,
 ) -> Result<()> {

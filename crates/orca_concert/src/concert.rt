@@ -17,25 +17,16 @@ use orca_base::Command;
 use orca_course::{Desk, NoMemory, Stop};
 use orca_cues::{Cue, Order, Source};
 use orca_edit::Machine;
-use orca_rig::{Files, Inbox, Outs};
-use std::sync::ledger::Ledger;
+use orca_rig::House;
 
 /// Does all that the source gives, and ends the run: the report is told where the run stands, every
 /// note ends, and the report saves. What has ended the run early is answered; then nothing is told
 /// of where it stands, and nothing is saved.
 #[tactic(auto, using(orca_course::proofs::DoingLemmas::does_afterwards_cut), unfolding(crate::specs::Concerts::concert_course))]
-pub fn play<
-    M: Machine + Drop,
-    S: Source,
-    R: Report + Drop,
-    F: Files + Drop,
-    O: Outs + Drop,
-    I: Inbox + Drop,
-    L: Ledger,
->(
+pub fn play<M: Machine, S: Source, R: Report, H: House>(
     stage: &mut Stage<M, R>,
     source: &mut S,
-    desk: &mut Desk<F, O, I, L>,
+    desk: &mut Desk<H>,
 ) -> Result<Option<Stop>, NoMemory>
     ensures { Plays M.Machine.own R.Report.own (concert_course R.manner (S.left source.old))
         stage.old desk.old result stage.new desk.new }
@@ -58,16 +49,9 @@ fn command_at<M: Machine>(order: Order, machine: &M) -> Command
 
 /// Does an order once, and tells whether its cue goes on.
 #[tactic(auto, unfolding(crate::specs::Concerts::order_course, orca_course::specs::Courses::mapped))]
-fn do_order<
-    M: Machine + Drop,
-    R: Report + Drop,
-    F: Files + Drop,
-    O: Outs + Drop,
-    I: Inbox + Drop,
-    L: Ledger,
->(
+fn do_order<M: Machine, R: Report, H: House>(
     stage: &mut Stage<M, R>,
-    desk: &mut Desk<F, O, I, L>,
+    desk: &mut Desk<H>,
     line: u32,
     order: Order,
 ) -> Result<Option<Halt>, NoMemory>
@@ -84,14 +68,11 @@ fn do_order<
 }
 
 /// Does an order as often as its cue says. A refusal drops the rest.
-fn do_cue<
-    M: Machine + Drop,
-    R: Report + Drop,
-    F: Files + Drop,
-    O: Outs + Drop,
-    I: Inbox + Drop,
-    L: Ledger,
->(stage: &mut Stage<M, R>, desk: &mut Desk<F, O, I, L>, cue: Cue) -> Result<Option<Stop>, NoMemory>
+fn do_cue<M: Machine, R: Report, H: House>(
+    stage: &mut Stage<M, R>,
+    desk: &mut Desk<H>,
+    cue: Cue,
+) -> Result<Option<Stop>, NoMemory>
     ensures { Plays M.Machine.own R.Report.own (cue_course R.manner cue)
         stage.old desk.old result stage.new desk.new }
 {
@@ -106,18 +87,10 @@ fn do_cue<
 }
 
 /// Does all that the source gives.
-fn do_cues<
-    M: Machine + Drop,
-    S: Source,
-    R: Report + Drop,
-    F: Files + Drop,
-    O: Outs + Drop,
-    I: Inbox + Drop,
-    L: Ledger,
->(
+fn do_cues<M: Machine, S: Source, R: Report, H: House>(
     stage: &mut Stage<M, R>,
     source: &mut S,
-    desk: &mut Desk<F, O, I, L>,
+    desk: &mut Desk<H>,
 ) -> Result<Option<Stop>, NoMemory>
     ensures { Plays M.Machine.own R.Report.own (cues_course R.manner (S.left source.old))
         stage.old desk.old result stage.new desk.new }
@@ -132,16 +105,9 @@ fn do_cues<
 
 /// Ends a run, by what has ended it early, if anything has.
 #[tactic(auto, using(orca_course::proofs::DoingLemmas::does_afterwards_cut), unfolding(crate::specs::Concerts::last_course))]
-fn finish<
-    M: Machine + Drop,
-    R: Report + Drop,
-    F: Files + Drop,
-    O: Outs + Drop,
-    I: Inbox + Drop,
-    L: Ledger,
->(
+fn finish<M: Machine, R: Report, H: House>(
     stage: &mut Stage<M, R>,
-    desk: &mut Desk<F, O, I, L>,
+    desk: &mut Desk<H>,
     end: Option<Stop>,
 ) -> Result<Option<Stop>, NoMemory>
     ensures { Plays M.Machine.own R.Report.own (last_course R.manner end)
@@ -154,16 +120,9 @@ fn finish<
 
 /// Tells the report where the run stands at last, unless it was ended.
 #[tactic(auto, using(orca_course::proofs::WorldLemmas::called_still), unfolding(crate::specs::Concerts::final_course))]
-fn tell_last<
-    M: Machine + Drop,
-    R: Report + Drop,
-    F: Files + Drop,
-    O: Outs + Drop,
-    I: Inbox + Drop,
-    L: Ledger,
->(
+fn tell_last<M: Machine, R: Report, H: House>(
     stage: &mut Stage<M, R>,
-    desk: &mut Desk<F, O, I, L>,
+    desk: &mut Desk<H>,
     end: Option<Stop>,
 ) -> Result<Option<Stop>, NoMemory>
     ensures { Plays M.Machine.own R.Report.own (final_course R.manner end)
@@ -176,14 +135,10 @@ fn tell_last<
 }
 
 /// Ends all notes that sound, and tells the report.
-pub fn close<
-    M: Machine + Drop,
-    R: Report + Drop,
-    F: Files + Drop,
-    O: Outs + Drop,
-    I: Inbox + Drop,
-    L: Ledger,
->(stage: &mut Stage<M, R>, desk: &mut Desk<F, O, I, L>) -> Result<Option<Stop>, NoMemory>
+pub fn close<M: Machine, R: Report, H: House>(
+    stage: &mut Stage<M, R>,
+    desk: &mut Desk<H>,
+) -> Result<Option<Stop>, NoMemory>
     ensures { Plays M.Machine.own R.Report.own (close_course R.manner)
         stage.old desk.old result stage.new desk.new }
 {
@@ -196,16 +151,9 @@ pub fn close<
 
 /// Lets the report save, unless the run was ended.
 #[tactic(auto, using(orca_course::proofs::WorldLemmas::called_still), unfolding(crate::specs::Concerts::saved_course))]
-fn save<
-    M: Machine + Drop,
-    R: Report + Drop,
-    F: Files + Drop,
-    O: Outs + Drop,
-    I: Inbox + Drop,
-    L: Ledger,
->(
+fn save<M: Machine, R: Report, H: House>(
     stage: &mut Stage<M, R>,
-    desk: &mut Desk<F, O, I, L>,
+    desk: &mut Desk<H>,
     end: Option<Stop>,
 ) -> Result<Option<Stop>, NoMemory>
     ensures { Plays M.Machine.own R.Report.own (saved_course R.manner end)
@@ -218,14 +166,10 @@ fn save<
 }
 
 /// Ends all notes that sound, if memory was refused; the report is not told.
-pub fn close_early<
-    M: Machine + Drop,
-    R: Report + Drop,
-    F: Files + Drop,
-    O: Outs + Drop,
-    I: Inbox + Drop,
-    L: Ledger,
->(stage: &mut Stage<M, R>, desk: &mut Desk<F, O, I, L>) -> Result<(), NoMemory>
+pub fn close_early<M: Machine, R: Report, H: House>(
+    stage: &mut Stage<M, R>,
+    desk: &mut Desk<H>,
+) -> Result<(), NoMemory>
     ensures called { let s = standing_of M.Machine.own stage.old in
         Calls (gives (handed_of R.manner.hands (ends (notes_of s)))) result desk.old desk.new }
     ensures in_send { result ≢ Err NoMemory.Elsewhere }

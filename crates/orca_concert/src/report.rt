@@ -7,8 +7,7 @@ ghost use Rattle.orca_concert.specs.Manners.{IsQuiet, Manner};
 use orca_base::{Message, Reply, Rule};
 use orca_course::{Desk, NoMemory, Stop, Tally};
 use orca_edit::Machine;
-use orca_rig::{Files, Inbox, Outs};
-use std::sync::ledger::Ledger;
+use orca_rig::House;
 
 /// A command that was done, with all that may be printed of it.
 #[derive(Drop)]
@@ -22,7 +21,7 @@ pub struct Turn<'a> {
 }
 
 /// What is printed, kept and saved of a run, which may end it.
-pub trait Report {
+pub trait Report: Drop {
     /// What it keeps, to those that define it.
     ghost Kept: { Type 0 };
 
@@ -37,9 +36,9 @@ pub trait Report {
         ensures { result ≡ manner.hands };
 
     /// A command was done.
-    fn done<F: Files + Drop, O: Outs + Drop, I: Inbox + Drop, L: Ledger>(
+    fn done<H: House>(
         &mut self,
-        desk: &mut Desk<F, O, I, L>,
+        desk: &mut Desk<H>,
         turn: &Turn<'_>,
     ) -> Result<Option<Stop>, NoMemory>
         requires in_range { All HasDataInRange turn.now.messages.now }
@@ -49,9 +48,9 @@ pub trait Report {
             (kept self.old) desk.old result (kept self.new) desk.new };
 
     /// All commands were done, and the run stands so.
-    fn finish<M: Machine, F: Files + Drop, O: Outs + Drop, I: Inbox + Drop, L: Ledger>(
+    fn finish<M: Machine, H: House>(
         &mut self,
-        desk: &mut Desk<F, O, I, L>,
+        desk: &mut Desk<H>,
         machine: &M,
         tally: Tally,
     ) -> Result<Option<Stop>, NoMemory>
@@ -60,9 +59,9 @@ pub trait Report {
             (kept self.old)) (kept self.old) desk.old result (kept self.new) desk.new };
 
     /// The notes that sounded at the end were ended by these messages.
-    fn close<F: Files + Drop, O: Outs + Drop, I: Inbox + Drop, L: Ledger>(
+    fn close<H: House>(
         &mut self,
-        desk: &mut Desk<F, O, I, L>,
+        desk: &mut Desk<H>,
         messages: &[Message],
     ) -> Result<Option<Stop>, NoMemory>
         requires in_range { All HasDataInRange messages.now }
@@ -72,10 +71,7 @@ pub trait Report {
             (kept self.new) desk.new };
 
     /// Nothing more comes, and nothing has ended the run early.
-    fn save<F: Files + Drop, O: Outs + Drop, I: Inbox + Drop, L: Ledger>(
-        &mut self,
-        desk: &mut Desk<F, O, I, L>,
-    ) -> Result<Option<Stop>, NoMemory>
+    fn save<H: House>(&mut self, desk: &mut Desk<H>) -> Result<Option<Stop>, NoMemory>
         ensures { (at : Option Standing) (hands : Bool) → Does (nowhere at hands)
             (manner.saves (kept self.old)) (kept self.old) desk.old result (kept self.new)
             desk.new };

@@ -11,15 +11,11 @@ ghost use Rattle.orca_concert.specs.Concerts.{handed_of};
 
 use orca_base::{Message, Port, Wire};
 use orca_course::{Desk, NoMemory};
-use orca_rig::{Files, Inbox, Outs};
+use orca_rig::House;
 use orca_send::{Label, wire, write_line};
-use std::sync::ledger::Ledger;
 
 /// Sends a message to its port.
-fn send_message<F: Files + Drop, O: Outs + Drop, I: Inbox + Drop, L: Ledger>(
-    desk: &mut Desk<F, O, I, L>,
-    message: &Message,
-) -> Result<(), NoMemory>
+fn send_message<H: House>(desk: &mut Desk<H>, message: &Message) -> Result<(), NoMemory>
     requires in_range { HasDataInRange message.now }
     requires few_values { CarriesFewValues message.now }
     ensures called { Called result (Give (sent_of message.now)) desk.old desk.new }
@@ -31,10 +27,7 @@ fn send_message<F: Files + Drop, O: Outs + Drop, I: Inbox + Drop, L: Ledger>(
 }
 
 /// Sends the messages, each as a piece of its own, in order.
-pub fn send_messages<F: Files + Drop, O: Outs + Drop, I: Inbox + Drop, L: Ledger>(
-    desk: &mut Desk<F, O, I, L>,
-    messages: &[Message],
-) -> Result<(), NoMemory>
+pub fn send_messages<H: House>(desk: &mut Desk<H>, messages: &[Message]) -> Result<(), NoMemory>
     requires in_range { All HasDataInRange messages.now }
     requires few_values { All CarriesFewValues messages.now }
     ensures called { Calls (gives (sends_of messages.now)) result desk.old desk.new }
@@ -48,8 +41,8 @@ pub fn send_messages<F: Files + Drop, O: Outs + Drop, I: Inbox + Drop, L: Ledger
 
 /// Sends the messages, if they are handed out.
 #[tactic(auto, using(orca_course::proofs::WorldLemmas::called_still))]
-pub(crate) fn hand_messages<F: Files + Drop, O: Outs + Drop, I: Inbox + Drop, L: Ledger>(
-    desk: &mut Desk<F, O, I, L>,
+pub(crate) fn hand_messages<H: House>(
+    desk: &mut Desk<H>,
     hands: bool,
     messages: &[Message],
 ) -> Result<(), NoMemory>
@@ -65,18 +58,15 @@ pub(crate) fn hand_messages<F: Files + Drop, O: Outs + Drop, I: Inbox + Drop, L:
 }
 
 /// Sends a text on the text port, as one piece.
-pub fn say<F: Files + Drop, O: Outs + Drop, I: Inbox + Drop, L: Ledger>(
-    desk: &mut Desk<F, O, I, L>,
-    text: &[u8],
-) -> Result<(), NoMemory>
+pub fn say<H: House>(desk: &mut Desk<H>, text: &[u8]) -> Result<(), NoMemory>
     ensures { Calls (gives (text_sent text.now ∷ [])) result desk.old desk.new }
 {
     desk.send(Port::Text, text)
 }
 
 /// Prints the line of a message on the text port. `line` is room for it.
-fn print_message<F: Files + Drop, O: Outs + Drop, I: Inbox + Drop, L: Ledger>(
-    desk: &mut Desk<F, O, I, L>,
+fn print_message<H: House>(
+    desk: &mut Desk<H>,
     line: &mut Vec<u8>,
     label: Label,
     message: &Message,
@@ -92,8 +82,8 @@ fn print_message<F: Files + Drop, O: Outs + Drop, I: Inbox + Drop, L: Ledger>(
 }
 
 /// Prints a line for each message on the text port, in order. `line` is room for them.
-pub fn print_messages<F: Files + Drop, O: Outs + Drop, I: Inbox + Drop, L: Ledger>(
-    desk: &mut Desk<F, O, I, L>,
+pub fn print_messages<H: House>(
+    desk: &mut Desk<H>,
     line: &mut Vec<u8>,
     label: Label,
     messages: &[Message],

@@ -9,9 +9,8 @@ use orca_base::{Command, Fault, Memory, Reply, Rule};
 use orca_course::{Desk, NoMemory, Stop, Tally};
 use orca_edit::Machine;
 use orca_notes::Messages;
-use orca_rig::{Files, Inbox, Outs};
+use orca_rig::House;
 use std::alloc::Global;
-use std::sync::ledger::Ledger;
 
 /// A session, the messages of its last command, what is counted of a run, and its report.
 #[derive(Drop)]
@@ -26,7 +25,7 @@ pub struct Stage<M, R> {
     pub report: R,
 }
 
-impl<M: Machine + Drop, R: Report + Drop> Stage<M, R> {
+impl<M: Machine, R: Report> Stage<M, R> {
     /// A run of this session, before its first command. [`Memory`] if the room for the messages of
     /// a command is refused.
     pub fn start(alloc: Global, machine: M, report: R) -> Result<Stage<M, R>, Memory>
@@ -44,9 +43,9 @@ impl<M: Machine + Drop, R: Report + Drop> Stage<M, R> {
 
     /// Does a command: the session acts, its messages are handed out, and the report is told. The
     /// command stands on this line of a script; 0 where there is none.
-    pub fn do_command<F: Files + Drop, O: Outs + Drop, I: Inbox + Drop, L: Ledger>(
+    pub fn do_command<H: House>(
         &mut self,
-        desk: &mut Desk<F, O, I, L>,
+        desk: &mut Desk<H>,
         line: u32,
         command: &Command,
     ) -> Result<Option<Stop>, NoMemory>

@@ -19,27 +19,27 @@ use orca_base::limits::ARRIVAL_BYTES;
 use orca_base::{Command, Fault, Port, Reply, Steps};
 use orca_edit::Machine;
 use orca_notes::Messages;
-use orca_rig::{Answer, Files, Inbox, Outs, OutsideFault};
+use orca_rig::{Answer, Files, House, Inbox, Outs, OutsideFault};
 use orca_trace::{Kind, Trace};
 use std::alloc::Global;
-use std::marker::Model;
+use std::marker::{Model, PhantomData};
 use std::sync::ledger::Ledger;
 
 /// The ports, the files, the inbox and the counter of steps of a run, and whether ports or files
 /// have failed. It notes each call of theirs, so a contract sees all calls, also of objects that
 /// tell none; and what the objects tell is what their calls came to.
 #[derive(Drop)]
-pub struct Desk<F: Files + Drop, O: Outs + Drop, I: Inbox + Drop, L: Ledger> {
-    files: F,
-    outs: O,
-    inbox: I,
-    steps: Steps<L>,
+pub struct Desk<H: House> {
+    files: H::Files,
+    outs: H::Outs,
+    inbox: H::Inbox,
+    steps: Steps<H::Ledger>,
     trace: Trace,
     failed: bool,
     unstored: bool,
 }
 
-impl<F: Files + Drop, O: Outs + Drop, I: Inbox + Drop, L: Ledger> Model for Desk<F, O, I, L> {
+impl<H: House> Model for Desk<H> {
     ghost use Rattle.std.specs.Coded.{codes};
     ghost use Rattle.orca_course.specs.Told.{Records, Tells};
     ghost use Rattle.orca_course.specs.Worlds.{World, contents_code};
@@ -50,74 +50,95 @@ impl<F: Files + Drop, O: Outs + Drop, I: Inbox + Drop, L: Ledger> Model for Desk
 
     ghost view = { λ d. record {
       calls = d.trace.calls;
-      contents = F.contents d.files;
+      contents = H.Files.contents d.files;
       faults = record {
-        ports = O.faults d.outs;
-        files = F.faults d.files;
-        inbox = I.faults d.inbox;
+        ports = H.Outs.faults d.outs;
+        files = H.Files.faults d.files;
+        inbox = H.Inbox.faults d.inbox;
       };
       paid = d.steps;
     } };
 
     ghost invariant = { λ d.
-        Tells (O.handed d.outs) (O.attached d.outs) (F.asked d.files) (I.log d.inbox)
-        d.trace.calls
-        × Records d.failed d.unstored (I.listened d.inbox) (I.ended d.inbox) d.trace.calls };
+        Tells (H.Outs.handed d.outs) (H.Outs.attached d.outs) (H.Files.asked d.files)
+        (H.Inbox.log d.inbox) d.trace.calls
+        × Records d.failed d.unstored (H.Inbox.listened d.inbox) (H.Inbox.ended d.inbox)
+        d.trace.calls };
 }
 
-impl<F: Files + Drop, O: Outs + Drop, I: Inbox + Drop, L: Ledger> Desk<F, O, I, L> {
-    /// A desk of these, which nobody has called before, as far as they tell.
-    pub fn new(files: F, outs: O, inbox: I, steps: Steps<L>) -> Desk<F, O, I, L>
-        requires untold { Tells (O.handed outs) (O.attached outs) (F.asked files) (I.log inbox) [] }
-        requires fresh { I.listened inbox ≡ false }
-        requires open { I.ended inbox ≡ false }
-        ensures { result ≡ record {
-          calls = [];
-          contents = F.contents files;
-          faults = record {
-            ports = O.faults outs;
-            files = F.faults files;
-            inbox = I.faults inbox;
-          };
-          paid = steps;
-        } }
-    {
-        Desk {
-            files,
-            outs,
-            inbox,
-            steps,
-            trace: Trace::new(),
-            failed: false,
-            unstored: false,
-        }
-    }
+/// A house of any types that fit.
+pub struct Rooms<F, O, I, L> {
+    of: PhantomData<(F, O, I, L)>,
+}
 
+impl<F: Files, O: Outs, I: Inbox, L: Ledger> House for Rooms<F, O, I, L> {
+    type Files = F;
+
+    type Outs = O;
+
+    type Inbox = I;
+
+    type Ledger = L;
+}
+
+/// A desk of these, which nobody has called before, as far as they tell.
+pub fn desk_of<F: Files, O: Outs, I: Inbox, L: Ledger>(
+    files: F,
+    outs: O,
+    inbox: I,
+    steps: Steps<L>,
+) -> Desk<Rooms<F, O, I, L>>
+    requires untold { Tells (O.handed outs) (O.attached outs) (F.asked files) (I.log inbox) [] }
+    requires fresh { I.listened inbox ≡ false }
+    requires open { I.ended inbox ≡ false }
+    ensures { result ≡ record {
+      calls = [];
+      contents = F.contents files;
+      faults = record {
+        ports = O.faults outs;
+        files = F.faults files;
+        inbox = I.faults inbox;
+      };
+      paid = steps;
+    } }
+{
+    Desk {
+        files,
+        outs,
+        inbox,
+        steps,
+        trace: Trace::new(),
+        failed: false,
+        unstored: false,
+    }
+}
+
+impl<H: House> Desk<H> {
     /// The files.
-    pub fn files(&self) -> &F
-        ensures contents { F.contents result.now ≡ self.now.contents }
-        ensures asked { IfSome (F.asked result.now)
+    pub fn files(&self) -> &H::Files
+        ensures contents { H.Files.contents result.now ≡ self.now.contents }
+        ensures asked { IfSome (H.Files.asked result.now)
             (λ told. told ≡ asked_in (done_in self.now.calls)) }
-        ensures faults { F.faults result.now ≡ self.now.faults.files }
+        ensures faults { H.Files.faults result.now ≡ self.now.faults.files }
     {
         &self.files
     }
 
     /// The ports.
-    pub fn outs(&self) -> &O
-        ensures handed { IfSome (O.handed result.now)
+    pub fn outs(&self) -> &H::Outs
+        ensures handed { IfSome (H.Outs.handed result.now)
             (λ told. told ≡ given (done_in self.now.calls)) }
-        ensures attached { IfSome (O.attached result.now)
+        ensures attached { IfSome (H.Outs.attached result.now)
             (λ told. told ≡ attached_in (done_in self.now.calls)) }
-        ensures faults { O.faults result.now ≡ self.now.faults.ports }
+        ensures faults { H.Outs.faults result.now ≡ self.now.faults.ports }
     {
         &self.outs
     }
 
     /// The inbox.
-    pub fn inbox(&self) -> &I
-        ensures log { IfSome (I.log result.now) (IsLogOf (done_in self.now.calls)) }
-        ensures faults { I.faults result.now ≡ self.now.faults.inbox }
+    pub fn inbox(&self) -> &H::Inbox
+        ensures log { IfSome (H.Inbox.log result.now) (IsLogOf (done_in self.now.calls)) }
+        ensures faults { H.Inbox.faults result.now ≡ self.now.faults.inbox }
     {
         &self.inbox
     }

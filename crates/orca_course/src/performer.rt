@@ -4,11 +4,10 @@ ghost use Rattle.orca_course.specs.Performers.{IsDeaf, Part};
 ghost use Rattle.orca_course.specs.Worlds.{owing};
 
 use crate::{Desk, Ending, NoMemory, Stop};
-use orca_rig::{Answer, Files, Inbox, Outs};
-use std::sync::ledger::Ledger;
+use orca_rig::{Answer, House};
 
 /// What is done with the answers of an inbox.
-pub trait Performer {
+pub trait Performer: Drop {
     /// What it is to those that define it.
     ghost State: { Type 0 };
 
@@ -22,10 +21,7 @@ pub trait Performer {
     ghost part: { Part Self.State };
 
     /// Does what comes before the first poll.
-    fn open<F: Files + Drop, O: Outs + Drop, I: Inbox + Drop, L: Ledger>(
-        &mut self,
-        desk: &mut Desk<F, O, I, L>,
-    ) -> Result<Option<Stop>, NoMemory>
+    fn open<H: House>(&mut self, desk: &mut Desk<H>) -> Result<Option<Stop>, NoMemory>
         ensures { Does part.stance (part.opens (state self.old))
             (state self.old) (owing (residue self.old) desk.old) result
             (state self.new) (owing (residue self.new) desk.new) };
@@ -35,9 +31,9 @@ pub trait Performer {
         ensures { result ≡ part.until (state self.now) };
 
     /// Does what bytes or a due moment bring.
-    fn hear<F: Files + Drop, O: Outs + Drop, I: Inbox + Drop, L: Ledger>(
+    fn hear<H: House>(
         &mut self,
-        desk: &mut Desk<F, O, I, L>,
+        desk: &mut Desk<H>,
         answer: Answer,
         bytes: &[u8],
     ) -> Result<Option<Stop>, NoMemory>
@@ -46,11 +42,7 @@ pub trait Performer {
             (state self.new) (owing (residue self.new) desk.new) };
 
     /// Does what comes last.
-    fn finish<F: Files + Drop, O: Outs + Drop, I: Inbox + Drop, L: Ledger>(
-        &mut self,
-        desk: &mut Desk<F, O, I, L>,
-        ending: Ending,
-    ) -> Result<(), NoMemory>
+    fn finish<H: House>(&mut self, desk: &mut Desk<H>, ending: Ending) -> Result<(), NoMemory>
         ensures { Does part.stance (part.finishes ending (state self.old))
             (state self.old) (owing (residue self.old) desk.old) (goes_of result)
             (state self.new) (owing (residue self.new) desk.new) };

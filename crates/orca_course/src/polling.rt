@@ -8,8 +8,7 @@ ghost use Rattle.orca_rig.specs.Arrived.{arrived};
 
 use crate::{Desk, Ending, NoMemory, Performer, Stop};
 use orca_base::limits::{ARRIVAL_BYTES, MAX_POLLS};
-use orca_rig::{Answer, Files, Inbox, Outs};
-use std::sync::ledger::Ledger;
+use orca_rig::{Answer, House};
 
 /// The bytes that came with an answer.
 pub(crate) fn arrived(answer: Answer, filled: &[u8; ARRIVAL_BYTES]) -> &[u8]
@@ -23,9 +22,9 @@ pub(crate) fn arrived(answer: Answer, filled: &[u8; ARRIVAL_BYTES]) -> &[u8]
 
 /// Does what an answer brings.
 #[tactic(auto, using(crate::proofs::WorldLemmas::called_still), unfolding(crate::specs::Performers::heard, crate::specs::Courses::mapped))]
-fn heed<P: Performer, F: Files + Drop, O: Outs + Drop, I: Inbox + Drop, L: Ledger>(
+fn heed<P: Performer, H: House>(
     performer: &mut P,
-    desk: &mut Desk<F, O, I, L>,
+    desk: &mut Desk<H>,
     answer: Answer,
     bytes: &[u8],
 ) -> Result<Option<Ending>, NoMemory>
@@ -43,10 +42,7 @@ fn heed<P: Performer, F: Files + Drop, O: Outs + Drop, I: Inbox + Drop, L: Ledge
 }
 
 /// Polls the inbox, and does what each answer brings, until the performance ends.
-fn attend<P: Performer, F: Files + Drop, O: Outs + Drop, I: Inbox + Drop, L: Ledger>(
-    performer: &mut P,
-    desk: &mut Desk<F, O, I, L>,
-) -> Result<Ending, NoMemory>
+fn attend<P: Performer, H: House>(performer: &mut P, desk: &mut Desk<H>) -> Result<Ending, NoMemory>
     requires { has_ended desk.old ≡ false }
     ensures { PerformsPolls P.Performer.own (λ s polls. attended P.part polls s)
         performer.old desk.old result performer.new desk.new }
@@ -64,9 +60,9 @@ fn attend<P: Performer, F: Files + Drop, O: Outs + Drop, I: Inbox + Drop, L: Led
 
 /// Does what comes first.
 #[tactic(auto, unfolding(crate::specs::Performers::opened, crate::specs::Courses::mapped))]
-fn open<P: Performer, F: Files + Drop, O: Outs + Drop, I: Inbox + Drop, L: Ledger>(
+fn open<P: Performer, H: House>(
     performer: &mut P,
-    desk: &mut Desk<F, O, I, L>,
+    desk: &mut Desk<H>,
 ) -> Result<Option<Ending>, NoMemory>
     ensures { Performs P.Performer.own (opened P.part)
         performer.old desk.old result performer.new desk.new }
@@ -79,10 +75,7 @@ fn open<P: Performer, F: Files + Drop, O: Outs + Drop, I: Inbox + Drop, L: Ledge
 
 /// Does what comes first, and then polls until the performance ends.
 #[tactic(auto, using(crate::proofs::PollLemmas::begun_left))]
-fn begin<P: Performer, F: Files + Drop, O: Outs + Drop, I: Inbox + Drop, L: Ledger>(
-    performer: &mut P,
-    desk: &mut Desk<F, O, I, L>,
-) -> Result<Ending, NoMemory>
+fn begin<P: Performer, H: House>(performer: &mut P, desk: &mut Desk<H>) -> Result<Ending, NoMemory>
     requires { has_ended desk.old ≡ false }
     ensures { PerformsPolls P.Performer.own (begun P.part)
         performer.old desk.old result performer.new desk.new }
@@ -99,9 +92,9 @@ fn begin<P: Performer, F: Files + Drop, O: Outs + Drop, I: Inbox + Drop, L: Ledg
 /// If memory is refused by a send, nothing follows it. If it is refused elsewhere, the notes still
 /// sound: the caller ends them.
 #[tactic(auto, using(crate::proofs::PollLemmas::performance_err))]
-pub fn perform<P: Performer, F: Files + Drop, O: Outs + Drop, I: Inbox + Drop, L: Ledger>(
+pub fn perform<P: Performer, H: House>(
     performer: &mut P,
-    desk: &mut Desk<F, O, I, L>,
+    desk: &mut Desk<H>,
 ) -> Result<Ending, NoMemory>
     // The inbox has not ended.
     requires { has_ended desk.old ≡ false }

@@ -8,14 +8,13 @@ use crate::keyboard::{do_command, press};
 use orca_base::Command;
 use orca_course::{Desk, NoMemory, Stop};
 use orca_edit::Machine;
-use orca_rig::{Files, Inbox, Outs};
-use std::sync::ledger::Ledger;
+use orca_rig::House;
 
 /// Plays a frame; a full history ends the performance.
 #[tactic(auto, using(orca_course::proofs::WorldLemmas::called_still, orca_course::proofs::DoingLemmas::does_cut, orca_course::proofs::DoingLemmas::does_err), unfolding(crate::specs::Performing::frame_course))]
-fn do_frame<M: Machine + Drop, F: Files + Drop, O: Outs + Drop, I: Inbox + Drop, L: Ledger>(
+fn do_frame<M: Machine, H: House>(
     live: &mut Live<'_, M>,
-    desk: &mut Desk<F, O, I, L>,
+    desk: &mut Desk<H>,
 ) -> Result<Option<Stop>, NoMemory>
     ensures { Did M.Machine.own frame_course live.old desk.old result live.new desk.new }
 {
@@ -28,13 +27,10 @@ fn do_frame<M: Machine + Drop, F: Files + Drop, O: Outs + Drop, I: Inbox + Drop,
 }
 
 /// A frame is due: an ESC that stands alone is a key, and then the frame is played.
-pub(crate) fn do_due<
-    M: Machine + Drop,
-    F: Files + Drop,
-    O: Outs + Drop,
-    I: Inbox + Drop,
-    L: Ledger,
->(live: &mut Live<'_, M>, desk: &mut Desk<F, O, I, L>) -> Result<Option<Stop>, NoMemory>
+pub(crate) fn do_due<M: Machine, H: House>(
+    live: &mut Live<'_, M>,
+    desk: &mut Desk<H>,
+) -> Result<Option<Stop>, NoMemory>
     ensures { Did M.Machine.own due_course live.old desk.old result live.new desk.new }
 {
     let key = live.keys.due();

@@ -14,9 +14,8 @@ use crate::saving::save_grid;
 use orca_base::{Command, Look};
 use orca_course::{Desk, NoMemory, Stop};
 use orca_edit::Machine;
-use orca_rig::{Files, Inbox, Outs};
+use orca_rig::House;
 use orca_term::{Key, Pacer, Wish};
-use std::sync::ledger::Ledger;
 
 /// Keeps a command for the script, if one is saved at the end.
 fn keep(given: &mut Option<Vec<Command>>, command: &Command) -> Result<(), NoMemory>
@@ -33,13 +32,11 @@ fn keep(given: &mut Option<Vec<Command>>, command: &Command) -> Result<(), NoMem
 
 /// Does a command, and keeps it for the script.
 #[tactic(auto, using(orca_course::proofs::DoingLemmas::goes_err, orca_course::proofs::DoingLemmas::does_nothing))]
-pub(crate) fn do_command<
-    M: Machine + Drop,
-    F: Files + Drop,
-    O: Outs + Drop,
-    I: Inbox + Drop,
-    L: Ledger,
->(live: &mut Live<'_, M>, desk: &mut Desk<F, O, I, L>, command: &Command) -> Result<(), NoMemory>
+pub(crate) fn do_command<M: Machine, H: House>(
+    live: &mut Live<'_, M>,
+    desk: &mut Desk<H>,
+    command: &Command,
+) -> Result<(), NoMemory>
     ensures { Did M.Machine.own (command_course command.now)
         live.old desk.old (goes_of result) live.new desk.new }
 {
@@ -50,9 +47,9 @@ pub(crate) fn do_command<
 
 /// Does what a key asks for, once the editor has changed.
 #[tactic(auto, using(orca_course::proofs::WorldLemmas::called_still, orca_course::proofs::DoingLemmas::does_err, crate::proofs::DoneLemmas::does_paced), unfolding(crate::specs::Performing::wish_course))]
-fn do_wish<M: Machine + Drop, F: Files + Drop, O: Outs + Drop, I: Inbox + Drop, L: Ledger>(
+fn do_wish<M: Machine, H: House>(
     live: &mut Live<'_, M>,
-    desk: &mut Desk<F, O, I, L>,
+    desk: &mut Desk<H>,
     wish: &Wish,
 ) -> Result<Option<Stop>, NoMemory>
     ensures { Did M.Machine.own (wish_course wish.now) live.old desk.old result live.new desk.new }
@@ -79,7 +76,7 @@ fn do_wish<M: Machine + Drop, F: Files + Drop, O: Outs + Drop, I: Inbox + Drop, 
 }
 
 /// Fits the editor to the grid.
-pub(crate) fn fit<M: Machine + Drop>(live: &mut Live<'_, M>)
+pub(crate) fn fit<M: Machine>(live: &mut Live<'_, M>)
     ensures fitted { live_state M.Machine.own live.new
         ≡ fitted (live_state M.Machine.own live.old) }
     ensures machine { live.new.stage.machine ≡ live.old.stage.machine }
@@ -93,9 +90,9 @@ pub(crate) fn fit<M: Machine + Drop>(live: &mut Live<'_, M>)
 
 /// Does what a key does, where the editor is fitted to the grid.
 #[tactic(auto, using(crate::proofs::DoneLemmas::struck_did))]
-fn strike<M: Machine + Drop, F: Files + Drop, O: Outs + Drop, I: Inbox + Drop, L: Ledger>(
+fn strike<M: Machine, H: House>(
     live: &mut Live<'_, M>,
-    desk: &mut Desk<F, O, I, L>,
+    desk: &mut Desk<H>,
     key: Key,
 ) -> Result<Option<Stop>, NoMemory>
     requires inside { let s = live_state M.Machine.own live.old in
@@ -111,9 +108,9 @@ fn strike<M: Machine + Drop, F: Files + Drop, O: Outs + Drop, I: Inbox + Drop, L
 
 /// Does what the key does that was ended, if any was.
 #[tactic(auto, using(orca_course::proofs::WorldLemmas::called_still, crate::proofs::DoneLemmas::press_some), unfolding(crate::specs::Performing::press_course))]
-pub(crate) fn press<M: Machine + Drop, F: Files + Drop, O: Outs + Drop, I: Inbox + Drop, L: Ledger>(
+pub(crate) fn press<M: Machine, H: House>(
     live: &mut Live<'_, M>,
-    desk: &mut Desk<F, O, I, L>,
+    desk: &mut Desk<H>,
     key: Option<Key>,
 ) -> Result<Option<Stop>, NoMemory>
     ensures { Did M.Machine.own (press_course key) live.old desk.old result live.new desk.new }
@@ -129,9 +126,9 @@ pub(crate) fn press<M: Machine + Drop, F: Files + Drop, O: Outs + Drop, I: Inbox
 
 /// Reads a byte.
 #[tactic(auto, using(crate::proofs::DoneLemmas::item_did), unfolding(crate::specs::Performing::byte_course))]
-fn do_byte<M: Machine + Drop, F: Files + Drop, O: Outs + Drop, I: Inbox + Drop, L: Ledger>(
+fn do_byte<M: Machine, H: House>(
     live: &mut Live<'_, M>,
-    desk: &mut Desk<F, O, I, L>,
+    desk: &mut Desk<H>,
     byte: u8,
 ) -> Result<Option<Stop>, NoMemory>
     ensures { Did M.Machine.own (byte_course byte) live.old desk.old result live.new desk.new }
@@ -142,15 +139,9 @@ fn do_byte<M: Machine + Drop, F: Files + Drop, O: Outs + Drop, I: Inbox + Drop, 
 
 /// Reads bytes, one by one. Those after the end of the performance are dropped.
 #[tactic(auto, using(orca_course::proofs::DoingLemmas::far_more, orca_course::proofs::DoingLemmas::far_none, orca_course::proofs::DoingLemmas::far_over, std::proofs::lemmas::List::drop_all, std::proofs::lemmas::List::drop_more))]
-pub(crate) fn do_bytes<
-    M: Machine + Drop,
-    F: Files + Drop,
-    O: Outs + Drop,
-    I: Inbox + Drop,
-    L: Ledger,
->(
+pub(crate) fn do_bytes<M: Machine, H: House>(
     live: &mut Live<'_, M>,
-    desk: &mut Desk<F, O, I, L>,
+    desk: &mut Desk<H>,
     bytes: &[u8],
 ) -> Result<Option<Stop>, NoMemory>
     ensures { Did M.Machine.own (each byte_course bytes.now)

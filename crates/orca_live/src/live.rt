@@ -34,7 +34,7 @@ pub struct Live<'a, M> {
     pub text: Vec<u8>,
 }
 
-impl<'a, M: Machine + Drop> Live<'a, M> {
+impl<'a, M: Machine> Live<'a, M> {
     /// A performance on a screen of this size, before its first picture, that starts at a moment in
     /// microseconds. [`Memory`] if the room for the pictures is refused.
     pub fn start(

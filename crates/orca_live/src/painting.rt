@@ -12,15 +12,11 @@ use crate::unmarked::Unmarked;
 use orca_base::Port;
 use orca_course::{Desk, NoMemory};
 use orca_edit::Machine;
-use orca_rig::{Files, Inbox, Outs};
-use std::sync::ledger::Ledger;
+use orca_rig::House;
 
 /// Sends a painting, unless it is empty.
 #[tactic(auto, using(crate::proofs::DoneLemmas::sent_none, crate::proofs::DoneLemmas::sent_some))]
-fn send_view<F: Files + Drop, O: Outs + Drop, I: Inbox + Drop, L: Ledger>(
-    desk: &mut Desk<F, O, I, L>,
-    bytes: &[u8],
-) -> Result<(), NoMemory>
+fn send_view<H: House>(desk: &mut Desk<H>, bytes: &[u8]) -> Result<(), NoMemory>
     ensures { Calls (view_sends bytes.now) result desk.old desk.new }
 {
     if bytes.is_empty() {
@@ -30,13 +26,10 @@ fn send_view<F: Files + Drop, O: Outs + Drop, I: Inbox + Drop, L: Ledger>(
 }
 
 /// Paints the first picture, which has no marks.
-pub(crate) fn paint_first<
-    M: Machine + Drop,
-    F: Files + Drop,
-    O: Outs + Drop,
-    I: Inbox + Drop,
-    L: Ledger,
->(live: &mut Live<'_, M>, desk: &mut Desk<F, O, I, L>) -> Result<(), NoMemory>
+pub(crate) fn paint_first<M: Machine, H: House>(
+    live: &mut Live<'_, M>,
+    desk: &mut Desk<H>,
+) -> Result<(), NoMemory>
     ensures { Did M.Machine.own open_course live.old desk.old (goes_of result) live.new desk.new }
 {
     fit(live);
@@ -56,10 +49,7 @@ pub(crate) fn paint_first<
 }
 
 /// Paints the picture, with the marks that the session shows.
-fn paint<M: Machine + Drop, F: Files + Drop, O: Outs + Drop, I: Inbox + Drop, L: Ledger>(
-    live: &mut Live<'_, M>,
-    desk: &mut Desk<F, O, I, L>,
-) -> Result<(), NoMemory>
+fn paint<M: Machine, H: House>(live: &mut Live<'_, M>, desk: &mut Desk<H>) -> Result<(), NoMemory>
     ensures { Did M.Machine.own (paint_course (M.marks live.old.stage.machine))
         live.old desk.old (goes_of result) live.new desk.new }
 {
@@ -78,9 +68,9 @@ fn paint<M: Machine + Drop, F: Files + Drop, O: Outs + Drop, I: Inbox + Drop, L:
 
 /// Paints the picture, with the marks of a scan of the piece as it stands.
 #[tactic(auto, using(crate::proofs::DoneLemmas::show_did))]
-pub(crate) fn show<M: Machine + Drop, F: Files + Drop, O: Outs + Drop, I: Inbox + Drop, L: Ledger>(
+pub(crate) fn show<M: Machine, H: House>(
     live: &mut Live<'_, M>,
-    desk: &mut Desk<F, O, I, L>,
+    desk: &mut Desk<H>,
 ) -> Result<(), NoMemory>
     ensures { Did M.Machine.own show_course live.old desk.old (goes_of result) live.new desk.new }
 {

@@ -12,13 +12,12 @@ use crate::saving::{save_last_grid, save_last_script};
 use orca_concert::close;
 use orca_course::{Desk, Ending, NoMemory, Performer, Stop};
 use orca_edit::Machine;
-use orca_rig::{Answer, Files, Inbox, Outs};
-use std::sync::ledger::Ledger;
+use orca_rig::{Answer, House};
 
 /// The hand whose bytes are keys.
 const PLAYER: u8 = 0;
 
-impl<'a, M: Machine + Drop> Performer for Live<'a, M> {
+impl<'a, M: Machine> Performer for Live<'a, M> {
     ghost use Rattle.orca_live.specs.Deaf.{live_is_deaf};
     ghost use Rattle.orca_live.specs.Performing.{live_part};
     ghost use Rattle.orca_live.specs.States.{LiveState, live_state};
@@ -31,10 +30,7 @@ impl<'a, M: Machine + Drop> Performer for Live<'a, M> {
 
     ghost part = { live_part };
 
-    fn open<F: Files + Drop, O: Outs + Drop, I: Inbox + Drop, L: Ledger>(
-        &mut self,
-        desk: &mut Desk<F, O, I, L>,
-    ) -> Result<Option<Stop>, NoMemory> {
+    fn open<H: House>(&mut self, desk: &mut Desk<H>) -> Result<Option<Stop>, NoMemory> {
         paint_first(self, desk)?;
         Ok(None)
     }
@@ -43,20 +39,16 @@ impl<'a, M: Machine + Drop> Performer for Live<'a, M> {
         self.until_moment()
     }
 
-    fn hear<F: Files + Drop, O: Outs + Drop, I: Inbox + Drop, L: Ledger>(
+    fn hear<H: House>(
         &mut self,
-        desk: &mut Desk<F, O, I, L>,
+        desk: &mut Desk<H>,
         answer: Answer,
         bytes: &[u8],
     ) -> Result<Option<Stop>, NoMemory> {
         hear(self, desk, answer, bytes)
     }
 
-    fn finish<F: Files + Drop, O: Outs + Drop, I: Inbox + Drop, L: Ledger>(
-        &mut self,
-        desk: &mut Desk<F, O, I, L>,
-        _: Ending,
-    ) -> Result<(), NoMemory> {
+    fn finish<H: House>(&mut self, desk: &mut Desk<H>, _: Ending) -> Result<(), NoMemory> {
         finish(self, desk)
     }
 
@@ -65,9 +57,9 @@ impl<'a, M: Machine + Drop> Performer for Live<'a, M> {
 
 /// Does what an answer brings. The bytes of other hands are dropped.
 #[tactic(auto, using(orca_course::proofs::WorldLemmas::called_still, crate::proofs::DoneLemmas::does_from), unfolding(crate::specs::Performing::answer_course))]
-fn do_answer<M: Machine + Drop, F: Files + Drop, O: Outs + Drop, I: Inbox + Drop, L: Ledger>(
+fn do_answer<M: Machine, H: House>(
     live: &mut Live<'_, M>,
-    desk: &mut Desk<F, O, I, L>,
+    desk: &mut Desk<H>,
     answer: Answer,
     bytes: &[u8],
 ) -> Result<Option<Stop>, NoMemory>
@@ -92,9 +84,9 @@ fn do_answer<M: Machine + Drop, F: Files + Drop, O: Outs + Drop, I: Inbox + Drop
 
 /// Does what an answer brings, and paints the picture, unless the performance ended.
 #[tactic(auto, using(orca_course::proofs::DoingLemmas::does_cut, orca_course::proofs::DoingLemmas::does_err), unfolding(crate::specs::Performing::heard_course))]
-fn hear<M: Machine + Drop, F: Files + Drop, O: Outs + Drop, I: Inbox + Drop, L: Ledger>(
+fn hear<M: Machine, H: House>(
     live: &mut Live<'_, M>,
-    desk: &mut Desk<F, O, I, L>,
+    desk: &mut Desk<H>,
     answer: Answer,
     bytes: &[u8],
 ) -> Result<Option<Stop>, NoMemory>
@@ -109,9 +101,9 @@ fn hear<M: Machine + Drop, F: Files + Drop, O: Outs + Drop, I: Inbox + Drop, L: 
 }
 
 /// Ends every note.
-fn do_close<M: Machine + Drop, F: Files + Drop, O: Outs + Drop, I: Inbox + Drop, L: Ledger>(
+fn do_close<M: Machine, H: House>(
     live: &mut Live<'_, M>,
-    desk: &mut Desk<F, O, I, L>,
+    desk: &mut Desk<H>,
 ) -> Result<(), NoMemory>
     ensures { Did M.Machine.own close_course live.old desk.old (goes_of result) live.new desk.new }
 {
@@ -121,10 +113,7 @@ fn do_close<M: Machine + Drop, F: Files + Drop, O: Outs + Drop, I: Inbox + Drop,
 
 /// Ends every note, and then saves the grid and the script.
 #[tactic(auto, using(orca_course::proofs::DoingLemmas::does_cut, orca_course::proofs::DoingLemmas::goes_err), unfolding(crate::specs::Performing::finish_course))]
-fn finish<M: Machine + Drop, F: Files + Drop, O: Outs + Drop, I: Inbox + Drop, L: Ledger>(
-    live: &mut Live<'_, M>,
-    desk: &mut Desk<F, O, I, L>,
-) -> Result<(), NoMemory>
+fn finish<M: Machine, H: House>(live: &mut Live<'_, M>, desk: &mut Desk<H>) -> Result<(), NoMemory>
     ensures { Did M.Machine.own finish_course live.old desk.old (goes_of result) live.new desk.new }
 {
     do_close(live, desk)?;

@@ -11,19 +11,16 @@ use orca_base::{Command, Memory};
 use orca_course::{Desk, NoMemory};
 use orca_edit::Machine;
 use orca_grid::Grid;
-use orca_rig::{Files, Inbox, Outs};
+use orca_rig::House;
 use orca_script::print2;
-use std::sync::ledger::Ledger;
 
 /// Saves the grid under a name. A save that fails is recorded, and the performance goes on.
 #[tactic(auto, using(orca_course::proofs::DoingLemmas::does_nothing, orca_course::proofs::DoingLemmas::goes_err, crate::proofs::DoneLemmas::save_did), unfolding(crate::specs::Performing::save_course))]
-pub(crate) fn save_grid<
-    M: Machine + Drop,
-    F: Files + Drop,
-    O: Outs + Drop,
-    I: Inbox + Drop,
-    L: Ledger,
->(live: &mut Live<'_, M>, desk: &mut Desk<F, O, I, L>, name: &str) -> Result<(), NoMemory>
+pub(crate) fn save_grid<M: Machine, H: House>(
+    live: &mut Live<'_, M>,
+    desk: &mut Desk<H>,
+    name: &str,
+) -> Result<(), NoMemory>
     ensures { Did M.Machine.own (save_course name.now)
         live.old desk.old (goes_of result) live.new desk.new }
 {
@@ -35,13 +32,10 @@ pub(crate) fn save_grid<
 
 /// Saves the grid at the end, if it has a name.
 #[tactic(auto, using(orca_course::proofs::WorldLemmas::called_still), unfolding(crate::specs::Performing::last_grid_course))]
-pub(crate) fn save_last_grid<
-    M: Machine + Drop,
-    F: Files + Drop,
-    O: Outs + Drop,
-    I: Inbox + Drop,
-    L: Ledger,
->(live: &mut Live<'_, M>, desk: &mut Desk<F, O, I, L>) -> Result<(), NoMemory>
+pub(crate) fn save_last_grid<M: Machine, H: House>(
+    live: &mut Live<'_, M>,
+    desk: &mut Desk<H>,
+) -> Result<(), NoMemory>
     ensures { Did M.Machine.own last_grid_course
         live.old desk.old (goes_of result) live.new desk.new }
 {
@@ -53,9 +47,9 @@ pub(crate) fn save_last_grid<
 
 /// Saves the script of the commands under a name. A save that fails is recorded.
 #[tactic(auto, using(orca_course::proofs::DoingLemmas::does_nothing, orca_course::proofs::DoingLemmas::goes_err, crate::proofs::DoneLemmas::save_did), unfolding(crate::specs::Performing::script_course))]
-fn save_script<M: Machine + Drop, F: Files + Drop, O: Outs + Drop, I: Inbox + Drop, L: Ledger>(
+fn save_script<M: Machine, H: House>(
     live: &mut Live<'_, M>,
-    desk: &mut Desk<F, O, I, L>,
+    desk: &mut Desk<H>,
     name: &str,
 ) -> Result<(), NoMemory>
     ensures { Did M.Machine.own (script_course name.now)
@@ -68,13 +62,10 @@ fn save_script<M: Machine + Drop, F: Files + Drop, O: Outs + Drop, I: Inbox + Dr
 
 /// Saves the script of the commands at the end, if it has a name.
 #[tactic(auto, using(orca_course::proofs::WorldLemmas::called_still), unfolding(crate::specs::Performing::last_script_course))]
-pub(crate) fn save_last_script<
-    M: Machine + Drop,
-    F: Files + Drop,
-    O: Outs + Drop,
-    I: Inbox + Drop,
-    L: Ledger,
->(live: &mut Live<'_, M>, desk: &mut Desk<F, O, I, L>) -> Result<(), NoMemory>
+pub(crate) fn save_last_script<M: Machine, H: House>(
+    live: &mut Live<'_, M>,
+    desk: &mut Desk<H>,
+) -> Result<(), NoMemory>
     ensures { Did M.Machine.own last_script_course
         live.old desk.old (goes_of result) live.new desk.new }
 {

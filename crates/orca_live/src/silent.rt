@@ -4,8 +4,7 @@ use orca_base::Message;
 use orca_concert::{Report, Turn};
 use orca_course::{Desk, NoMemory, Stop, Tally};
 use orca_edit::Machine;
-use orca_rig::{Files, Inbox, Outs};
-use std::sync::ledger::Ledger;
+use orca_rig::House;
 
 /// A report that prints, keeps and saves nothing: what a performance shows is painted.
 #[derive(Drop)]
@@ -22,35 +21,28 @@ impl Report for Silent {
         true
     }
 
-    fn done<F: Files + Drop, O: Outs + Drop, I: Inbox + Drop, L: Ledger>(
-        &mut self,
-        _: &mut Desk<F, O, I, L>,
-        _: &Turn<'_>,
-    ) -> Result<Option<Stop>, NoMemory> {
+    fn done<H: House>(&mut self, _: &mut Desk<H>, _: &Turn<'_>) -> Result<Option<Stop>, NoMemory> {
         Ok(None)
     }
 
-    fn finish<M: Machine, F: Files + Drop, O: Outs + Drop, I: Inbox + Drop, L: Ledger>(
+    fn finish<M: Machine, H: House>(
         &mut self,
-        _: &mut Desk<F, O, I, L>,
+        _: &mut Desk<H>,
         _: &M,
         _: Tally,
     ) -> Result<Option<Stop>, NoMemory> {
         Ok(None)
     }
 
-    fn close<F: Files + Drop, O: Outs + Drop, I: Inbox + Drop, L: Ledger>(
+    fn close<H: House>(
         &mut self,
-        _: &mut Desk<F, O, I, L>,
+        _: &mut Desk<H>,
         _: &[Message],
     ) -> Result<Option<Stop>, NoMemory> {
         Ok(None)
     }
 
-    fn save<F: Files + Drop, O: Outs + Drop, I: Inbox + Drop, L: Ledger>(
-        &mut self,
-        _: &mut Desk<F, O, I, L>,
-    ) -> Result<Option<Stop>, NoMemory> {
+    fn save<H: House>(&mut self, _: &mut Desk<H>) -> Result<Option<Stop>, NoMemory> {
         Ok(None)
     }
 

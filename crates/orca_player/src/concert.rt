@@ -2,6 +2,7 @@
 
 ghost use Rattle.std.specs.Prelude.{◌≡◌, [], IfOk};
 ghost use Rattle.orca_course.specs.Standings.{notes_of, standing};
+ghost use Rattle.orca_concert.specs.Stages.{standing_of};
 ghost use Rattle.orca_player.specs.Doing.{Came, status_at};
 ghost use Rattle.orca_player.specs.Outlines.{concert, standing_at, status_of_end, status_of_stop};
 
@@ -12,20 +13,17 @@ use orca_concert::{Report, Stage, close_early, play};
 use orca_course::{Desk, NoMemory, Stop};
 use orca_cues::Source;
 use orca_edit::Machine;
-use orca_rig::{Files, Inbox, Outs};
+use orca_rig::House;
 use orca_session::Session;
-use std::sync::ledger::Ledger;
 
 /// Opens a session, does all that the source gives, and ends the run.
 #[tactic(auto, using(crate::proofs::CameLemmas::came_none))]
-pub(crate) fn concert<
-    S: Source,
-    R: Report + Drop,
-    F: Files + Drop,
-    O: Outs + Drop,
-    I: Inbox + Drop,
-    L: Ledger,
->(opening: &Opening, source: &mut S, report: R, desk: &mut Desk<F, O, I, L>) -> Status
+pub(crate) fn concert<S: Source, R: Report, H: House>(
+    opening: &Opening,
+    source: &mut S,
+    report: R,
+    desk: &mut Desk<H>,
+) -> Status
     ensures { Came (concert R.manner (R.kept report) (S.left source.old)
         (standing_at opening.now.grid opening.now.seed opening.now.limit))
         desk.old result desk.new }
@@ -40,21 +38,15 @@ pub(crate) fn concert<
 /// notes that sound are ended.
 ///
 /// It knows no session but as a machine, so that what a session holds is not looked at here.
-fn do_all<
-    M: Machine + Drop,
-    S: Source,
-    R: Report + Drop,
-    F: Files + Drop,
-    O: Outs + Drop,
-    I: Inbox + Drop,
-    L: Ledger,
->(stage: &mut Stage<M, R>, source: &mut S, desk: &mut Desk<F, O, I, L>) -> Status
-    requires begins { notes_of (standing (M.machine stage.old.machine) (M.kept stage.old.machine)
-        stage.old.tally) ≡ [] }
+fn do_all<M: Machine, S: Source, R: Report, H: House>(
+    stage: &mut Stage<M, R>,
+    source: &mut S,
+    desk: &mut Desk<H>,
+) -> Status
+    requires begins { notes_of (standing_of M.Machine.own stage.old) ≡ [] }
     requires residue { M.residue stage.old.machine ≡ 0 }
     ensures { Came (concert R.manner (R.kept stage.old.report) (S.left source.old)
-        (standing (M.machine stage.old.machine) (M.kept stage.old.machine) stage.old.tally))
-        desk.old result desk.new }
+        (standing_of M.Machine.own stage.old)) desk.old result desk.new }
 {
     stage.report.is_quiet();
     match play(stage, source, desk) {
@@ -69,7 +61,7 @@ fn do_all<
 }
 
 /// A session on the opened grid, before its first command.
-pub(crate) fn open_stage<R: Report + Drop>(
+pub(crate) fn open_stage<R: Report>(
     opening: &Opening,
     report: R,
 ) -> Result<Stage<Session, R>, Memory>
@@ -85,10 +77,7 @@ pub(crate) fn open_stage<R: Report + Drop>(
 
 /// The status of a run that would end as planned: if all was done, a file that failed or a port that
 /// failed decides.
-pub(crate) fn settled<F: Files + Drop, O: Outs + Drop, I: Inbox + Drop, L: Ledger>(
-    planned: Status,
-    desk: &Desk<F, O, I, L>,
-) -> Status
+pub(crate) fn settled<H: House>(planned: Status, desk: &Desk<H>) -> Status
     ensures { result ≡ status_at planned desk.now }
 {
     match planned {

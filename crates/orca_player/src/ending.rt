@@ -9,19 +9,14 @@ use crate::Status;
 use orca_base::{Memory, Port};
 use orca_course::Desk;
 use orca_grid::GridRefusal;
-use orca_rig::{Files, Inbox, Outs};
+use orca_rig::House;
 use orca_send::push_decimal;
 use std::alloc::Global;
-use std::sync::ledger::Ledger;
 
 /// Sends the line of a status that is no success, and answers the status; or
 /// [`Status::Memory`] if memory is refused for it.
 #[tactic(auto, using(crate::proofs::EndLemmas::said_none), unfolding(crate::specs::Statuses::status_text))]
-pub fn end<F: Files + Drop, O: Outs + Drop, I: Inbox + Drop, L: Ledger>(
-    alloc: Global,
-    desk: &mut Desk<F, O, I, L>,
-    status: Status,
-) -> Status
+pub fn end<H: House>(alloc: Global, desk: &mut Desk<H>, status: Status) -> Status
     ensures { Said status result desk.old desk.new }
 {
     match status {
@@ -47,11 +42,7 @@ pub fn end<F: Files + Drop, O: Outs + Drop, I: Inbox + Drop, L: Ledger>(
 }
 
 /// Sends the last line of a run. A failed send of it changes nothing: the status is decided.
-fn say<F: Files + Drop, O: Outs + Drop, I: Inbox + Drop, L: Ledger>(
-    desk: &mut Desk<F, O, I, L>,
-    status: Status,
-    line: &[u8],
-) -> Status
+fn say<H: House>(desk: &mut Desk<H>, status: Status, line: &[u8]) -> Status
     requires line { line.now ≡ status_text status ++ line_feed ∷ [] }
     requires some { status ≢ Status.Done }
     ensures { Said status result desk.old desk.new }
@@ -64,11 +55,7 @@ fn say<F: Files + Drop, O: Outs + Drop, I: Inbox + Drop, L: Ledger>(
 
 /// Sends the last line of a run, unless memory was refused for it.
 #[tactic(auto, unfolding(crate::specs::Statuses::status_text))]
-fn say_line<F: Files + Drop, O: Outs + Drop, I: Inbox + Drop, L: Ledger>(
-    desk: &mut Desk<F, O, I, L>,
-    status: Status,
-    line: Result<Vec<u8>, Memory>,
-) -> Status
+fn say_line<H: House>(desk: &mut Desk<H>, status: Status, line: Result<Vec<u8>, Memory>) -> Status
     requires line { IfOk line (λ line. line.items ≡ status_text status ++ line_feed ∷ []) }
     requires some { status ≢ Status.Done }
     ensures { Said status result desk.old desk.new }

@@ -3,9 +3,10 @@
 ghost use Rattle.std.specs.Prelude.{◌≡◌, IfOk, IfSome, [], ◌∷◌, false};
 ghost use Rattle.orca_course.specs.Acts.Act.{Listen};
 ghost use Rattle.std.specs.Option.{option_map};
-ghost use Rattle.orca_course.specs.Standings.{notes_of, standing};
+ghost use Rattle.orca_concert.specs.Stages.{standing_of};
+ghost use Rattle.orca_course.specs.Standings.{notes_of};
 ghost use Rattle.orca_course.specs.Worlds.{has_ended, has_listened, is_lost};
-ghost use Rattle.orca_live.specs.States.{setting_in, state_of};
+ghost use Rattle.orca_live.specs.States.{live_state, setting_in, state_of};
 ghost use Rattle.orca_player.specs.Doing.{CameBy};
 ghost use Rattle.orca_player.specs.Outlines.{after, live_outline, live_start, played, setting_of, standing_at, started_outline, status_of_ending};
 ghost use Rattle.orca_script.specs.Runs.{ScriptReadsBack};
@@ -21,18 +22,17 @@ use orca_concert::close_early;
 use orca_course::{Desk, Ending, NoMemory, perform};
 use orca_edit::Machine;
 use orca_live::{Live, Setting, Silent};
-use orca_rig::{Files, Inbox, Outs};
+use orca_rig::House;
 use orca_session::Session;
 use orca_term::ScreenSize;
 use orca_words::{Performance, Setup};
-use std::sync::ledger::Ledger;
 
 /// Waits for a player at the address, and plays the grid until the performance ends.
-pub(crate) fn play<F: Files + Drop, O: Outs + Drop, I: Inbox + Drop, L: Ledger>(
+pub(crate) fn play<H: House>(
     opening: &Opening,
     setup: &Setup<'_>,
     performance: &Performance<'_>,
-    desk: &mut Desk<F, O, I, L>,
+    desk: &mut Desk<H>,
 ) -> Status
     requires fresh { has_listened desk.old ≡ false }
     requires open { has_ended desk.old ≡ false }
@@ -51,12 +51,12 @@ pub(crate) fn play<F: Files + Drop, O: Outs + Drop, I: Inbox + Drop, L: Ledger>(
 }
 
 /// Opens a session, and plays the grid from a moment on.
-fn start<F: Files + Drop, O: Outs + Drop, I: Inbox + Drop, L: Ledger>(
+fn start<H: House>(
     opening: &Opening,
     setup: &Setup<'_>,
     performance: &Performance<'_>,
     at: u64,
-    desk: &mut Desk<F, O, I, L>,
+    desk: &mut Desk<H>,
 ) -> Status
     requires open { has_ended desk.old ≡ false }
     requires same { (opening.now.seed ≡ setup.now.seed) × (opening.now.limit ≡ setup.now.limit) }
@@ -74,17 +74,13 @@ fn start<F: Files + Drop, O: Outs + Drop, I: Inbox + Drop, L: Ledger>(
 /// are ended.
 ///
 /// It knows no session but as a machine, so that what a session holds is not looked at here.
-fn play_all<M: Machine + Drop, F: Files + Drop, O: Outs + Drop, I: Inbox + Drop, L: Ledger>(
-    live: &mut Live<'_, M>,
-    desk: &mut Desk<F, O, I, L>,
-) -> Status
+fn play_all<M: Machine, H: House>(live: &mut Live<'_, M>, desk: &mut Desk<H>) -> Status
     requires open { has_ended desk.old ≡ false }
-    requires begins { notes_of (standing (M.machine live.old.stage.machine)
-        (M.kept live.old.stage.machine) live.old.stage.tally) ≡ [] }
+    requires begins { notes_of (standing_of M.Machine.own live.old.stage) ≡ [] }
     requires residue { M.residue live.old.stage.machine ≡ 0 }
     requires sized { IsScreen live.old.view.size }
-    ensures { CameBy (λ b. played (state_of (M.machine live.old.stage.machine)
-        (M.kept live.old.stage.machine) live.old) b.polls) desk.old result desk.new }
+    ensures { CameBy (λ b. played (live_state M.Machine.own live.old) b.polls)
+        desk.old result desk.new }
 {
     let seed = live.setting.seed;
     match perform(live, desk) {

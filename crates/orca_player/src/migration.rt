@@ -12,17 +12,16 @@ use crate::Status;
 use crate::concert::settled;
 use orca_course::Desk;
 use orca_cues::{check_any_script, print_script};
-use orca_rig::{Files, Inbox, Outs};
+use orca_rig::House;
 use orca_words::Migration;
 use std::alloc::Global;
-use std::sync::ledger::Ledger;
 
 /// Loads and reads a script of either format, and saves it in format 2. No grid is loaded, and
 /// nothing is sent.
-pub(crate) fn migrate<F: Files + Drop, O: Outs + Drop, I: Inbox + Drop, L: Ledger>(
+pub(crate) fn migrate<H: House>(
     alloc: Global,
     migration: &Migration<'_>,
-    desk: &mut Desk<F, O, I, L>,
+    desk: &mut Desk<H>,
 ) -> Status
     ensures { CameBy (λ brought. after (Load migration.now.script.now brought.script ∷ [])
         (loaded_migration (migration_in migration.now) brought.script)) desk.old result desk.new }
@@ -35,11 +34,11 @@ pub(crate) fn migrate<F: Files + Drop, O: Outs + Drop, I: Inbox + Drop, L: Ledge
 }
 
 /// Reads all lines of a script, and then saves it.
-fn check_and_save<F: Files + Drop, O: Outs + Drop, I: Inbox + Drop, L: Ledger>(
+fn check_and_save<H: House>(
     alloc: Global,
     migration: &Migration<'_>,
     text: &[u8],
-    desk: &mut Desk<F, O, I, L>,
+    desk: &mut Desk<H>,
 ) -> Status
     requires { length text.now ≤ MAX_FILE_BYTES }
     ensures came { Came (migrated (migration_in migration.now) text.now (any_script_of text.now))
@@ -58,11 +57,11 @@ fn check_and_save<F: Files + Drop, O: Outs + Drop, I: Inbox + Drop, L: Ledger>(
 
 /// Saves a script in which no line is refused.
 #[tactic(auto, using(crate::proofs::CameLemmas::came_none))]
-fn print_and_save<F: Files + Drop, O: Outs + Drop, I: Inbox + Drop, L: Ledger>(
+fn print_and_save<H: House>(
     alloc: Global,
     migration: &Migration<'_>,
     text: &[u8],
-    desk: &mut Desk<F, O, I, L>,
+    desk: &mut Desk<H>,
 ) -> Status
     requires short { length text.now ≤ MAX_FILE_BYTES }
     requires checked { IsOk (any_script_of text.now) }

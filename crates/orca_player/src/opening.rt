@@ -9,10 +9,9 @@ ghost use Rattle.orca_words.specs.RequestIn.{setup_in, text_in};
 use orca_base::Port;
 use orca_course::{Desk, NoMemory};
 use orca_grid::Grid;
-use orca_rig::{Files, Inbox, Outs};
+use orca_rig::House;
 use orca_words::Setup;
 use std::alloc::Global;
-use std::sync::ledger::Ledger;
 
 /// An opened grid, before the first command.
 #[derive(Drop)]
@@ -31,10 +30,7 @@ pub(crate) struct Opening {
 
 /// Attaches the ports that have a name, in order: MIDI, UDP, OSC. An attach that fails is recorded,
 /// and the run goes on.
-pub(crate) fn attach_all<F: Files + Drop, O: Outs + Drop, I: Inbox + Drop, L: Ledger>(
-    desk: &mut Desk<F, O, I, L>,
-    setup: &Setup<'_>,
-) -> Result<(), NoMemory>
+pub(crate) fn attach_all<H: House>(desk: &mut Desk<H>, setup: &Setup<'_>) -> Result<(), NoMemory>
     ensures called { Calls (attaches (setup_in setup.now)) result desk.old desk.new }
     ensures inbox { LeavesInbox desk.old desk.new }
 {
@@ -45,11 +41,7 @@ pub(crate) fn attach_all<F: Files + Drop, O: Outs + Drop, I: Inbox + Drop, L: Le
 
 /// Attaches a port to its name, if it has one.
 #[tactic(auto, using(orca_course::proofs::WorldLemmas::called_still))]
-fn attach<F: Files + Drop, O: Outs + Drop, I: Inbox + Drop, L: Ledger>(
-    desk: &mut Desk<F, O, I, L>,
-    port: Port,
-    name: Option<&str>,
-) -> Result<(), NoMemory>
+fn attach<H: House>(desk: &mut Desk<H>, port: Port, name: Option<&str>) -> Result<(), NoMemory>
     ensures called { Calls (attaches_to port (text_in name.entry)) result desk.old desk.new }
     ensures inbox { LeavesInbox desk.old desk.new }
 {

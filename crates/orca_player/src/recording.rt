@@ -17,17 +17,16 @@ use orca_base::Memory;
 use orca_course::Desk;
 use orca_cues::Frames;
 use orca_reports::{SmfReport, WavReport, wave_bytes};
-use orca_rig::{Files, Inbox, Outs};
+use orca_rig::House;
 use orca_wav::limits::MAX_WAVE_BYTES;
 use orca_words::{Recording, Work};
-use std::sync::ledger::Ledger;
 
 /// Plays frames on an opened grid, and saves their MIDI messages as a song.
 #[tactic(auto, using(crate::proofs::CameLemmas::came_none))]
-pub(crate) fn record_song<F: Files + Drop, O: Outs + Drop, I: Inbox + Drop, L: Ledger>(
+pub(crate) fn record_song<H: House>(
     opening: &Opening,
     song: &Recording<'_>,
-    desk: &mut Desk<F, O, I, L>,
+    desk: &mut Desk<H>,
 ) -> Status
     requires { MIN_SONG_BPM ≤ song.now.bpm }
     ensures { Came (concert smf_manner
@@ -47,10 +46,10 @@ pub(crate) fn record_song<F: Files + Drop, O: Outs + Drop, I: Inbox + Drop, L: L
 
 /// Plays frames on an opened grid, and saves their sound as a wave.
 #[tactic(auto, using(crate::proofs::CameLemmas::came_none))]
-pub(crate) fn record_wave<F: Files + Drop, O: Outs + Drop, I: Inbox + Drop, L: Ledger>(
+pub(crate) fn record_wave<H: House>(
     opening: &Opening,
     wave: &Recording<'_>,
-    desk: &mut Desk<F, O, I, L>,
+    desk: &mut Desk<H>,
 ) -> Status
     requires { is_long_work (Wav (recording_in wave.now)) ≡ false }
     ensures { Came (concert wav_manner (wave_at_start wave.now.out.now wave.now.bpm)

@@ -13,15 +13,10 @@ use crate::opening::Opening;
 use orca_course::Desk;
 use orca_cues::{Script, check_any_script, script_seed};
 use orca_reports::ReplayReport;
-use orca_rig::{Files, Inbox, Outs};
-use std::sync::ledger::Ledger;
+use orca_rig::House;
 
 /// Loads and reads a script, and does its commands. A script that has a seed gives it to the session.
-pub(crate) fn replay<F: Files + Drop, O: Outs + Drop, I: Inbox + Drop, L: Ledger>(
-    opening: &mut Opening,
-    name: &str,
-    desk: &mut Desk<F, O, I, L>,
-) -> Status
+pub(crate) fn replay<H: House>(opening: &mut Opening, name: &str, desk: &mut Desk<H>) -> Status
     ensures { CameBy (λ brought. after (Load name.now brought.script ∷ [])
         (loaded_script opening.old.grid opening.old.seed opening.old.limit brought.script))
         desk.old result desk.new }
@@ -39,11 +34,7 @@ pub(crate) fn replay<F: Files + Drop, O: Outs + Drop, I: Inbox + Drop, L: Ledger
 
 /// Reads all lines of a script, and then does its commands.
 #[tactic(auto, unfolding(crate::specs::Outlines::script_outline))]
-fn follow<F: Files + Drop, O: Outs + Drop, I: Inbox + Drop, L: Ledger>(
-    opening: &Opening,
-    text: &[u8],
-    desk: &mut Desk<F, O, I, L>,
-) -> Status
+fn follow<H: House>(opening: &Opening, text: &[u8], desk: &mut Desk<H>) -> Status
     requires short { length text.now ≤ MAX_FILE_BYTES }
     ensures { Came (script_outline (any_script_of text.now)
         (standing_at opening.now.grid opening.now.seed opening.now.limit))

@@ -25,10 +25,9 @@ use orca_cues::{Frames, Maker, Turns};
 use orca_frame::table_laws;
 use orca_grid::{Grid, GridRefusal};
 use orca_reports::{EventsReport, MakeReport, RunReport, saving_law};
-use orca_rig::{Files, Inbox, Outs};
+use orca_rig::House;
 use orca_words::{Request, Setup, WordsFault, Work, Workload, read_words};
 use std::alloc::Global;
-use std::sync::ledger::Ledger;
 
 /// Does what the words ask for, and answers how it ended. They are the words after the program's own
 /// name: `run` and `events` play frames, `replay` does the commands of a script, `make` those of a
@@ -52,11 +51,7 @@ use std::sync::ledger::Ledger;
 /// ends with a command, and every note that sounded ends, unless a port refuses memory to one of
 /// these sends. Or it was refused before, as a port was attached or elsewhere: then nothing is sent
 /// but that line.
-pub fn run<F: Files + Drop, O: Outs + Drop, I: Inbox + Drop, L: Ledger>(
-    alloc: Global,
-    words: &Vec<String>,
-    desk: &mut Desk<F, O, I, L>,
-) -> Status
+pub fn run<H: House>(alloc: Global, words: &Vec<String>, desk: &mut Desk<H>) -> Status
     // Nobody has listened to the inbox, and it has not ended; and nothing has failed at the desk.
     requires fresh { has_listened desk.old ≡ false }
     requires open { has_ended desk.old ≡ false }
@@ -88,11 +83,7 @@ pub fn run<F: Files + Drop, O: Outs + Drop, I: Inbox + Drop, L: Ledger>(
 }
 
 /// Does what the words ask for, but for the line of the status.
-fn work<F: Files + Drop, O: Outs + Drop, I: Inbox + Drop, L: Ledger>(
-    alloc: Global,
-    words: &Vec<String>,
-    desk: &mut Desk<F, O, I, L>,
-) -> Status
+fn work<H: House>(alloc: Global, words: &Vec<String>, desk: &mut Desk<H>) -> Status
     requires fresh { has_listened desk.old ≡ false }
     requires open { has_ended desk.old ≡ false }
     requires sound { is_lost desk.old ≡ false }
@@ -110,11 +101,11 @@ fn work<F: Files + Drop, O: Outs + Drop, I: Inbox + Drop, L: Ledger>(
 }
 
 /// Does the work, unless it is a wave that would be too long.
-fn perform<F: Files + Drop, O: Outs + Drop, I: Inbox + Drop, L: Ledger>(
+fn perform<H: House>(
     alloc: Global,
     setup: &Setup<'_>,
     work: &Work<'_>,
-    desk: &mut Desk<F, O, I, L>,
+    desk: &mut Desk<H>,
 ) -> Status
     requires fresh { has_listened desk.old ≡ false }
     requires open { has_ended desk.old ≡ false }
@@ -131,12 +122,7 @@ fn perform<F: Files + Drop, O: Outs + Drop, I: Inbox + Drop, L: Ledger>(
 }
 
 /// Attaches the ports, loads the grid, and does the work.
-fn open<F: Files + Drop, O: Outs + Drop, I: Inbox + Drop, L: Ledger>(
-    alloc: Global,
-    setup: &Setup<'_>,
-    work: &Work<'_>,
-    desk: &mut Desk<F, O, I, L>,
-) -> Status
+fn open<H: House>(alloc: Global, setup: &Setup<'_>, work: &Work<'_>, desk: &mut Desk<H>) -> Status
     requires fresh { has_listened desk.old ≡ false }
     requires open { has_ended desk.old ≡ false }
     requires sound { is_lost desk.old ≡ false }
@@ -157,12 +143,12 @@ fn open<F: Files + Drop, O: Outs + Drop, I: Inbox + Drop, L: Ledger>(
 }
 
 /// Reads the text of the grid, and does the work.
-fn read_grid<F: Files + Drop, O: Outs + Drop, I: Inbox + Drop, L: Ledger>(
+fn read_grid<H: House>(
     alloc: Global,
     setup: &Setup<'_>,
     work: &Work<'_>,
     text: &[u8],
-    desk: &mut Desk<F, O, I, L>,
+    desk: &mut Desk<H>,
 ) -> Status
     requires short { length text.now ≤ MAX_FILE_BYTES }
     requires fresh { has_listened desk.old ≡ false }
@@ -190,12 +176,12 @@ fn refused_status(refusal: GridRefusal) -> Status
 }
 
 /// Does the work on the opened grid.
-fn do_work<F: Files + Drop, O: Outs + Drop, I: Inbox + Drop, L: Ledger>(
+fn do_work<H: House>(
     alloc: Global,
     setup: &Setup<'_>,
     work: &Work<'_>,
     grid: Grid,
-    desk: &mut Desk<F, O, I, L>,
+    desk: &mut Desk<H>,
 ) -> Status
     requires fresh { has_listened desk.old ≡ false }
     requires open { has_ended desk.old ≡ false }
@@ -232,11 +218,7 @@ fn do_work<F: Files + Drop, O: Outs + Drop, I: Inbox + Drop, L: Ledger>(
 
 /// Makes a grid and its commands, does them, and prints a summary.
 #[tactic(auto, using(crate::proofs::CameLemmas::came_none), unfolding(crate::specs::Outlines::made_outline))]
-fn make<F: Files + Drop, O: Outs + Drop, I: Inbox + Drop, L: Ledger>(
-    alloc: Global,
-    load: Workload,
-    desk: &mut Desk<F, O, I, L>,
-) -> Status
+fn make<H: House>(alloc: Global, load: Workload, desk: &mut Desk<H>) -> Status
     ensures { Came (made_outline (workload_in load)) desk.old result desk.new }
 {
     let dims = Dims {

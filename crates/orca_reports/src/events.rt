@@ -3,10 +3,9 @@ use orca_base::{Message, Reply, Rule};
 use orca_concert::{Report, Turn, print_messages};
 use orca_course::{Desk, NoMemory, Stop, Tally};
 use orca_edit::Machine;
-use orca_rig::{Files, Inbox, Outs};
+use orca_rig::House;
 use orca_send::Label;
 use std::alloc::Global;
-use std::sync::ledger::Ledger;
 
 /// The report of `events`: a line for each message of a frame, and for each message of the close. A
 /// full history ends the run.
@@ -42,9 +41,9 @@ impl Report for EventsReport {
     }
 
     #[tactic(auto, using(orca_course::proofs::WorldLemmas::called_still, crate::proofs::DoneLemmas::printed))]
-    fn done<F: Files + Drop, O: Outs + Drop, I: Inbox + Drop, L: Ledger>(
+    fn done<H: House>(
         &mut self,
-        desk: &mut Desk<F, O, I, L>,
+        desk: &mut Desk<H>,
         turn: &Turn<'_>,
     ) -> Result<Option<Stop>, NoMemory> {
         match turn.answer {
@@ -56,9 +55,9 @@ impl Report for EventsReport {
         }
     }
 
-    fn finish<M: Machine, F: Files + Drop, O: Outs + Drop, I: Inbox + Drop, L: Ledger>(
+    fn finish<M: Machine, H: House>(
         &mut self,
-        _: &mut Desk<F, O, I, L>,
+        _: &mut Desk<H>,
         _: &M,
         _: Tally,
     ) -> Result<Option<Stop>, NoMemory> {
@@ -66,18 +65,15 @@ impl Report for EventsReport {
     }
 
     #[tactic(auto, using(crate::proofs::DoneLemmas::printed))]
-    fn close<F: Files + Drop, O: Outs + Drop, I: Inbox + Drop, L: Ledger>(
+    fn close<H: House>(
         &mut self,
-        desk: &mut Desk<F, O, I, L>,
+        desk: &mut Desk<H>,
         messages: &[Message],
     ) -> Result<Option<Stop>, NoMemory> {
         goes(print_messages(desk, &mut self.line, Label::End, messages))
     }
 
-    fn save<F: Files + Drop, O: Outs + Drop, I: Inbox + Drop, L: Ledger>(
-        &mut self,
-        _: &mut Desk<F, O, I, L>,
-    ) -> Result<Option<Stop>, NoMemory> {
+    fn save<H: House>(&mut self, _: &mut Desk<H>) -> Result<Option<Stop>, NoMemory> {
         Ok(None)
     }
 }

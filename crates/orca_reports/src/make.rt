@@ -10,10 +10,9 @@ use orca_base::{Dims, Glyph, Look, Memory, Message};
 use orca_concert::{Report, Turn, say};
 use orca_course::{Desk, NoMemory, Stop, Tally};
 use orca_edit::Machine;
-use orca_rig::{Files, Inbox, Outs};
+use orca_rig::House;
 use orca_send::push_decimal;
 use std::alloc::Global;
-use std::sync::ledger::Ledger;
 
 /// The report of `make`: five lines at last. A full history does not end the run.
 #[derive(Drop)]
@@ -47,18 +46,14 @@ impl Report for MakeReport {
         true
     }
 
-    fn done<F: Files + Drop, O: Outs + Drop, I: Inbox + Drop, L: Ledger>(
-        &mut self,
-        _: &mut Desk<F, O, I, L>,
-        _: &Turn<'_>,
-    ) -> Result<Option<Stop>, NoMemory> {
+    fn done<H: House>(&mut self, _: &mut Desk<H>, _: &Turn<'_>) -> Result<Option<Stop>, NoMemory> {
         Ok(None)
     }
 
     #[tactic(auto, using(crate::proofs::DoneLemmas::unsaid, crate::proofs::DoneLemmas::said))]
-    fn finish<M: Machine, F: Files + Drop, O: Outs + Drop, I: Inbox + Drop, L: Ledger>(
+    fn finish<M: Machine, H: House>(
         &mut self,
-        desk: &mut Desk<F, O, I, L>,
+        desk: &mut Desk<H>,
         machine: &M,
         tally: Tally,
     ) -> Result<Option<Stop>, NoMemory> {
@@ -66,18 +61,15 @@ impl Report for MakeReport {
         goes(say(desk, self.line.as_slice()))
     }
 
-    fn close<F: Files + Drop, O: Outs + Drop, I: Inbox + Drop, L: Ledger>(
+    fn close<H: House>(
         &mut self,
-        _: &mut Desk<F, O, I, L>,
+        _: &mut Desk<H>,
         _: &[Message],
     ) -> Result<Option<Stop>, NoMemory> {
         Ok(None)
     }
 
-    fn save<F: Files + Drop, O: Outs + Drop, I: Inbox + Drop, L: Ledger>(
-        &mut self,
-        _: &mut Desk<F, O, I, L>,
-    ) -> Result<Option<Stop>, NoMemory> {
+    fn save<H: House>(&mut self, _: &mut Desk<H>) -> Result<Option<Stop>, NoMemory> {
         Ok(None)
     }
 }

@@ -7,9 +7,8 @@ use orca_concert::{Report, Turn, say};
 use orca_course::{Desk, NoMemory, Stop, Tally};
 use orca_edit::Machine;
 use orca_grid::Grid;
-use orca_rig::{Files, Inbox, Outs};
+use orca_rig::House;
 use std::alloc::Global;
-use std::sync::ledger::Ledger;
 
 /// The report of `run`: the grid at last. A full history ends the run.
 #[derive(Drop)]
@@ -43,9 +42,9 @@ impl Report for RunReport {
         true
     }
 
-    fn done<F: Files + Drop, O: Outs + Drop, I: Inbox + Drop, L: Ledger>(
+    fn done<H: House>(
         &mut self,
-        _: &mut Desk<F, O, I, L>,
+        _: &mut Desk<H>,
         turn: &Turn<'_>,
     ) -> Result<Option<Stop>, NoMemory> {
         match turn.answer {
@@ -55,9 +54,9 @@ impl Report for RunReport {
     }
 
     #[tactic(auto, using(crate::proofs::DoneLemmas::unsaid, crate::proofs::DoneLemmas::said))]
-    fn finish<M: Machine, F: Files + Drop, O: Outs + Drop, I: Inbox + Drop, L: Ledger>(
+    fn finish<M: Machine, H: House>(
         &mut self,
-        desk: &mut Desk<F, O, I, L>,
+        desk: &mut Desk<H>,
         machine: &M,
         _: Tally,
     ) -> Result<Option<Stop>, NoMemory> {
@@ -66,18 +65,15 @@ impl Report for RunReport {
         goes(say(desk, self.line.as_slice()))
     }
 
-    fn close<F: Files + Drop, O: Outs + Drop, I: Inbox + Drop, L: Ledger>(
+    fn close<H: House>(
         &mut self,
-        _: &mut Desk<F, O, I, L>,
+        _: &mut Desk<H>,
         _: &[Message],
     ) -> Result<Option<Stop>, NoMemory> {
         Ok(None)
     }
 
-    fn save<F: Files + Drop, O: Outs + Drop, I: Inbox + Drop, L: Ledger>(
-        &mut self,
-        _: &mut Desk<F, O, I, L>,
-    ) -> Result<Option<Stop>, NoMemory> {
+    fn save<H: House>(&mut self, _: &mut Desk<H>) -> Result<Option<Stop>, NoMemory> {
         Ok(None)
     }
 }

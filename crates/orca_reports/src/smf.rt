@@ -10,11 +10,10 @@ use orca_base::{Memory, Message, Reply, Rule};
 use orca_concert::{Report, Turn};
 use orca_course::{Desk, NoMemory, Stop, Tally};
 use orca_edit::Machine;
-use orca_rig::{Files, Inbox, Outs};
+use orca_rig::House;
 use orca_smf::SmfFault;
 use std::alloc::Global;
 use std::marker::Model;
-use std::sync::ledger::Ledger;
 
 /// The report of `smf`: the MIDI messages are recorded as a song, and saved at the end. Nothing is
 /// printed or handed out. A full history ends the run, and so does a track that is too long.
@@ -74,9 +73,9 @@ impl Report for SmfReport<'_> {
     }
 
     #[tactic(auto, using(orca_course::proofs::WorldLemmas::called_still, crate::proofs::DoneLemmas::unsaid))]
-    fn done<F: Files + Drop, O: Outs + Drop, I: Inbox + Drop, L: Ledger>(
+    fn done<H: House>(
         &mut self,
-        _: &mut Desk<F, O, I, L>,
+        _: &mut Desk<H>,
         turn: &Turn<'_>,
     ) -> Result<Option<Stop>, NoMemory> {
         match turn.answer {
@@ -89,9 +88,9 @@ impl Report for SmfReport<'_> {
         }
     }
 
-    fn finish<M: Machine, F: Files + Drop, O: Outs + Drop, I: Inbox + Drop, L: Ledger>(
+    fn finish<M: Machine, H: House>(
         &mut self,
-        _: &mut Desk<F, O, I, L>,
+        _: &mut Desk<H>,
         _: &M,
         _: Tally,
     ) -> Result<Option<Stop>, NoMemory> {
@@ -99,18 +98,15 @@ impl Report for SmfReport<'_> {
     }
 
     #[tactic(auto, using(crate::proofs::DoneLemmas::unsaid))]
-    fn close<F: Files + Drop, O: Outs + Drop, I: Inbox + Drop, L: Ledger>(
+    fn close<H: House>(
         &mut self,
-        _: &mut Desk<F, O, I, L>,
+        _: &mut Desk<H>,
         messages: &[Message],
     ) -> Result<Option<Stop>, NoMemory> {
         Ok(record(&mut self.song, self.end, messages)?)
     }
 
-    fn save<F: Files + Drop, O: Outs + Drop, I: Inbox + Drop, L: Ledger>(
-        &mut self,
-        desk: &mut Desk<F, O, I, L>,
-    ) -> Result<Option<Stop>, NoMemory> {
+    fn save<H: House>(&mut self, desk: &mut Desk<H>) -> Result<Option<Stop>, NoMemory> {
         let Some(song) = self.song.take() else {
             return Ok(None);
         };

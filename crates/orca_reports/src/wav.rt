@@ -9,12 +9,11 @@ use orca_base::{Memory, Message, Reply, Rule};
 use orca_concert::{Report, Turn};
 use orca_course::{Desk, NoMemory, Stop, Tally};
 use orca_edit::Machine;
-use orca_rig::{Files, Inbox, Outs};
+use orca_rig::House;
 use orca_wav::header;
 use orca_wav::limits::{HEADER_BYTES, MAX_WAVE_BYTES, SAMPLE_BYTES, SLOWEST_FRAME_SAMPLES};
 use std::alloc::Global;
 use std::marker::Model;
-use std::sync::ledger::Ledger;
 
 /// The most samples of a file.
 const MAX_SAMPLES: u32 = MAX_WAVE_BYTES / SAMPLE_BYTES as u32;
@@ -123,9 +122,9 @@ impl Report for WavReport<'_> {
     }
 
     #[tactic(auto, using(orca_course::proofs::WorldLemmas::called_still, crate::proofs::DoneLemmas::unsaid))]
-    fn done<F: Files + Drop, O: Outs + Drop, I: Inbox + Drop, L: Ledger>(
+    fn done<H: House>(
         &mut self,
-        _: &mut Desk<F, O, I, L>,
+        _: &mut Desk<H>,
         turn: &Turn<'_>,
     ) -> Result<Option<Stop>, NoMemory> {
         match turn.answer {
@@ -135,27 +134,24 @@ impl Report for WavReport<'_> {
         }
     }
 
-    fn finish<M: Machine, F: Files + Drop, O: Outs + Drop, I: Inbox + Drop, L: Ledger>(
+    fn finish<M: Machine, H: House>(
         &mut self,
-        _: &mut Desk<F, O, I, L>,
+        _: &mut Desk<H>,
         _: &M,
         _: Tally,
     ) -> Result<Option<Stop>, NoMemory> {
         Ok(None)
     }
 
-    fn close<F: Files + Drop, O: Outs + Drop, I: Inbox + Drop, L: Ledger>(
+    fn close<H: House>(
         &mut self,
-        _: &mut Desk<F, O, I, L>,
+        _: &mut Desk<H>,
         _: &[Message],
     ) -> Result<Option<Stop>, NoMemory> {
         Ok(None)
     }
 
-    fn save<F: Files + Drop, O: Outs + Drop, I: Inbox + Drop, L: Ledger>(
-        &mut self,
-        desk: &mut Desk<F, O, I, L>,
-    ) -> Result<Option<Stop>, NoMemory> {
+    fn save<H: House>(&mut self, desk: &mut Desk<H>) -> Result<Option<Stop>, NoMemory> {
         put_header(self.listener.samples(), &mut self.file);
         desk.save(self.out, self.file.as_slice())?;
         Ok(None)

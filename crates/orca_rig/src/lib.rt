@@ -5,6 +5,7 @@
 
 mod fault;
 mod files;
+mod house;
 mod inbox;
 mod mem_answer;
 mod mem_files;
@@ -14,6 +15,7 @@ mod outs;
 
 pub use fault::{OutsideFault, count_failure};
 pub use files::Files;
+pub use house::House;
 pub use inbox::{Answer, Inbox};
 pub use mem_answer::{MemAnswer, are_arrivals, is_in_order};
 pub use mem_files::{MemFiles, names_differ};

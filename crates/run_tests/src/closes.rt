@@ -5,11 +5,11 @@ ghost use Rattle.std.specs.Prelude.{◌≡◌, ◌<◌};
 use orca_base::limits::MAX_FILE_BYTES;
 use orca_base::{Command, Port, Steps};
 use orca_concert::{Report, Stage, close_early};
-use orca_course::{Desk, NoMemory, Stop};
+use orca_course::{Desk, NoMemory, Rooms, Stop, desk_of};
 use orca_edit::Machine;
 use orca_grid::Grid;
 use orca_reports::EventsReport;
-use orca_rig::{Files, Inbox, MemFiles, MemInbox, MemOuts, Outs};
+use orca_rig::{House, MemFiles, MemInbox, MemOuts};
 use orca_session::Session;
 use std::alloc::Global;
 use std::marker::Brand;
@@ -27,11 +27,11 @@ const HANDED: [(Port, &[u8]); 3] = [
     (Port::Midi, &[0x80, 0x24, 0x00]),
 ];
 
-/// A desk with no file, ports in memory, and an inbox to which nothing comes.
-fn desk_with<L: Ledger>(
-    alloc: Global,
-    blank: Blank,
-) -> Result<Desk<MemFiles, MemOuts, MemInbox, L>, Fail>
+/// A desk over objects in memory.
+type MemDesk<L> = Desk<Rooms<MemFiles, MemOuts, MemInbox, L>>;
+
+/// A desk with no file, and an inbox to which nothing comes.
+fn desk_with<L: Ledger>(alloc: Global, blank: Blank) -> Result<MemDesk<L>, Fail>
     requires name { blank.name ≡ L.name }
     requires parts { blank.parts ≡ L.parts }
     requires some { 0 < blank.parts }
@@ -39,29 +39,25 @@ fn desk_with<L: Ledger>(
     let files = MemFiles::new(Vec::new(alloc), Vec::new(alloc))?;
     let outs = MemOuts::new(Vec::new(alloc))?;
     let inbox = MemInbox::new(0, Vec::new(alloc), Vec::new(alloc))?;
-    Ok(Desk::new(files, outs, inbox, Steps::<L>::start(blank)))
+    Ok(desk_of(files, outs, inbox, Steps::<L>::start(blank)))
 }
 
 /// Plays a frame, and closes early.
-fn end_early<
-    M: Machine + Drop,
-    R: Report + Drop,
-    F: Files + Drop,
-    O: Outs + Drop,
-    I: Inbox + Drop,
-    L: Ledger,
->(stage: &mut Stage<M, R>, desk: &mut Desk<F, O, I, L>) -> Result<Option<Stop>, NoMemory> {
+fn end_early<M: Machine, R: Report, H: House>(
+    stage: &mut Stage<M, R>,
+    desk: &mut Desk<H>,
+) -> Result<Option<Stop>, NoMemory> {
     let end = stage.do_command(desk, 1, &Command::Frame)?;
     close_early(stage, desk)?;
     Ok(end)
 }
 
 /// Does so with this session.
-fn check_machine<M: Machine + Drop, F: Files + Drop, O: Outs + Drop, I: Inbox + Drop, L: Ledger>(
+fn check_machine<M: Machine, H: House>(
     rt: &impl Abort,
     alloc: Global,
     machine: M,
-    desk: &mut Desk<F, O, I, L>,
+    desk: &mut Desk<H>,
 ) -> Result<(), Fail> {
     let mut stage = Stage::start(alloc, machine, EventsReport::new(alloc))?;
     assert_eq!(rt; end_early(&mut stage, desk), Ok(None));
@@ -69,22 +65,18 @@ fn check_machine<M: Machine + Drop, F: Files + Drop, O: Outs + Drop, I: Inbox + 
 }
 
 /// Does so with a session of the clock.
-fn check_clock<F: Files + Drop, O: Outs + Drop, I: Inbox + Drop, L: Ledger>(
-    rt: &impl Abort,
-    alloc: Global,
-    desk: &mut Desk<F, O, I, L>,
-) -> Result<(), Fail> {
+fn check_clock<H: House>(rt: &impl Abort, alloc: Global, desk: &mut Desk<H>) -> Result<(), Fail> {
     assert!(rt; CLOCK.len() <= MAX_FILE_BYTES);
     let grid = Grid::read(alloc, CLOCK)?;
     let session = Session::start(alloc, &grid, 1, 10)?;
     check_machine(rt, alloc, session, desk)
 }
 
-/// Does so at ports in memory, and looks at what was handed out.
-fn check_ports<F: Files + Drop, I: Inbox + Drop, L: Ledger>(
+/// Does so, and looks at what was handed out.
+fn check_ports<L: Ledger>(
     rt: &impl Abort,
     alloc: Global,
-    desk: &mut Desk<F, MemOuts, I, L>,
+    desk: &mut MemDesk<L>,
 ) -> Result<(), Fail> {
     check_clock(rt, alloc, desk)?;
     let mut index = 0u64;

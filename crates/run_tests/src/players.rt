@@ -3,7 +3,7 @@
 ghost use Rattle.std.specs.Prelude.{◌≡◌, ◌<◌, Some, false, length};
 
 use orca_base::{Port, Steps};
-use orca_course::Desk;
+use orca_course::{Desk, Rooms, desk_of};
 use orca_player::Status;
 use orca_rig::{MemFiles, MemInbox, MemOuts, Outs, OutsideFault, names_differ};
 use std::alloc::Global;
@@ -48,7 +48,7 @@ impl Outs for Tight {
     ghost sent_is_length = { λ outs pieces told fits. Prim.cc };
 }
 
-type TightDesk<L> = Desk<MemFiles, Tight, MemInbox, L>;
+type TightDesk<L> = Desk<Rooms<MemFiles, Tight, MemInbox, L>>;
 
 /// Does the words over a store of one file, a banged text operator whose message is sent at the first
 /// frame. The send of this number is refused memory.
@@ -80,7 +80,7 @@ fn run<L: Ledger>(
         sends: 0,
     };
     let inbox = MemInbox::new(0, Vec::new(alloc), Vec::new(alloc))?;
-    let mut desk = Desk::new(files, outs, inbox, Steps::<L>::start(blank));
+    let mut desk = desk_of(files, outs, inbox, Steps::<L>::start(blank));
     let status = orca_player::run(alloc, &words, &mut desk);
     Ok((desk, status))
 }

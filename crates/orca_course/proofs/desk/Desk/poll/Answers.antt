@@ -9,7 +9,7 @@ use Rattle.orca_course.proofs.desk.Desk.poll.Goals as goal
 
 pub invariant_of-self : goal.invariant_of-self
 invariant_of-self g c =
-    let counts = g.met.O.Outs.sent_is_length c.self.inside.outs in
+    let counts = g.met.H.Outs.Outs.sent_is_length c.self.inside.outs in
     grind (counts, arith, common_steps, list_any-append, done_in-append, given-append, attached_in-append, asked_in-append, polls_in-append, listened_after-append, counts_in-append, append-nil)
 
 pub returns : goal.returns
