@@ -1,4 +1,4 @@
-ghost use Rattle.std.specs.Prelude.{◌≡◌, ◌<◌, ◌++◌, [], ◌∷◌, OnOk};
+ghost use Rattle.std.specs.Prelude.{◌≡◌, ◌<◌, ◌++◌, [], ◌∷◌, OnOk, OnErr};
 ghost use Rattle.std.specs.Fmt.{decimal};
 ghost use Rattle.std.specs.List.{flat_map};
 ghost use Rattle.orca_send.specs.Lines.{hex_digit, hex_byte, label_of, line_of};
@@ -15,13 +15,29 @@ pub enum Label {
     End,
 }
 
-/// Makes `line` the line of a message's port and bytes. After [`Memory`] it may hold a part of it.
-#[tactic(auto, unfolding(crate::specs::Lines::line_of))]
+/// Makes `line` the line of a message's port and bytes. Where memory is refused, `line` is empty.
 pub fn write_line(line: &mut Vec<u8>, label: Label, port: Port, bytes: &[u8]) -> Result<(), Memory>
-    ensures { OnOk result (line.new.items
+    ensures ok { OnOk result (line.new.items
         ≡ line_of label (record { port = port; bytes = bytes.now })) }
+    ensures err { OnErr result (line.new.items ≡ []) }
 {
     line.clear();
+    match push_line(line, label, port, bytes) {
+        Ok(()) => Ok(()),
+        Err(memory) => {
+            line.clear();
+            Err(memory)
+        }
+    }
+}
+
+/// Appends the line of a message's port and bytes. Where memory is refused, a part may stand after
+/// what was there.
+#[tactic(auto, unfolding(crate::specs::Lines::line_of))]
+fn push_line(line: &mut Vec<u8>, label: Label, port: Port, bytes: &[u8]) -> Result<(), Memory>
+    ensures { OnOk result (line.new.items
+        ≡ line.old.items ++ line_of label (record { port = port; bytes = bytes.now })) }
+{
     push_label(line, label)?;
     line.push(b' ')?;
     line.extend_from_slice(port.name().as_bytes())?;
@@ -43,9 +59,10 @@ fn push_label(line: &mut Vec<u8>, label: Label) -> Result<(), Memory>
     }
 }
 
-/// Appends a number in decimal digits.
+/// Appends a number in decimal digits. Where memory is refused, `line` is as before.
 pub fn push_decimal(line: &mut Vec<u8>, n: u64) -> Result<(), Memory>
-    ensures { OnOk result (line.new.items ≡ line.old.items ++ decimal n) }
+    ensures ok { OnOk result (line.new.items ≡ line.old.items ++ decimal n) }
+    ensures err { OnErr result (line.new.items ≡ line.old.items) }
 {
     line.extend_from_slice(Buffer::new().format(n).as_bytes())?;
     Ok(())
