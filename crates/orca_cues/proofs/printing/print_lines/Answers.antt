@@ -1,5 +1,6 @@
 use Rattle.std.proofs.Common.{[], ◌∷◌, sym, ◌∙◌, ap, arith}
 use Rattle.std.specs.Prelude.{Ok}
+use Rattle.orca_script.proofs.Appending.{extends_more}
 use Rattle.orca_script.proofs.RunsReadBack.{script_reads_back}
 use Rattle.orca_cues.proofs.PrintedLines.{Prints, prints_all, prints_more, prints_same, prints_start, reads_nothing, values_all}
 use Rattle.orca_cues.proofs.printing.print_lines.Goals as goal
@@ -16,6 +17,7 @@ loop-line-init c =
         c.of-line-items.ensures,
         c.none-runs.ensures,
       ) start,
+      c.in_ok-print_header.ensures.grown,
     )
 
 -- before a line
@@ -32,19 +34,28 @@ loop-line-preserved-in-Continue-branch-2 c =
       tt,
       prints_more _ _ _ _ _ _ _ _ _ prints c.in-Ok-Some.asked _ _ read
           c.in_ok-add-in-Ok-Some.ensures.values c.in_ok-add-in-Ok-Some.ensures.ok,
+      extends_more _ _ _ c.loop-line.invariant.3 c.in_ok-add-in-Ok-Some.ensures.grown,
     )
 
 pub loop-line-preserved-in-Ok-None : goal.loop-line-preserved-in-Ok-None
 loop-line-preserved-in-Ok-None c =
     let prints = before (goal.at.loop-line-preserved-in-Ok-None c).In-Some in
-    let read = sym c.read_as.ensures.reading ∙ (c.in-Ok-None.is ∙ ap Ok c.in-Ok-None.field-0-is) in
-    (tt, tt, prints_same _ _ _ _ _ _ _ _ _ prints (reads_nothing _ _ read tt))
+    let read = sym c.read_as.ensures.reading ∙ (c.in-Ok-None.is ∙ ap Ok c.in-Ok-None.field-0-is) in (
+      tt,
+      tt,
+      prints_same _ _ _ _ _ _ _ _ _ prints (reads_nothing _ _ read tt),
+      c.loop-line.invariant.3,
+    )
 
 pub loop-line-preserved : goal.loop-line-preserved
 loop-line-preserved c =
     let prints = before (goal.at.loop-line-preserved c).In-Some in
-    let read = sym c.read_as.ensures.reading ∙ c.in-Err.is in
-    (tt, tt, prints_same _ _ _ _ _ _ _ _ _ prints (reads_nothing _ _ read tt))
+    let read = sym c.read_as.ensures.reading ∙ c.in-Err.is in (
+      tt,
+      tt,
+      prints_same _ _ _ _ _ _ _ _ _ prints (reads_nothing _ _ read tt),
+      c.loop-line.invariant.3,
+    )
 
 -- after the last line
 over : (c : In-None)
