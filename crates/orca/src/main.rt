@@ -39,6 +39,17 @@ fn run_or_end<H: House>(
     }
 }
 
+/// Runs the words, and lets the desk go.
+///
+/// It knows no objects but as those of a house, so that what they hold is not looked at here.
+fn run_at<H: House>(alloc: Global, words: Result<Vec<String>, Memory>, mut desk: Desk<H>) -> Status
+    requires fresh { has_listened desk ≡ false }
+    requires open { has_ended desk ≡ false }
+    requires sound { IsSound desk }
+{
+    run_or_end(alloc, words, &mut desk)
+}
+
 /// Runs the words over the system's files and streams, if none of the streams is closed any more. It
 /// counts its steps in a new ledger.
 fn start<R, L: Ledger>(rt: &R, blank: Blank, streams: io::Result<()>) -> Status
@@ -57,8 +68,11 @@ where
     let files = RealFiles::new(rt);
     let outs = RealOuts::new(rt);
     let inbox = RealInbox::new(rt);
-    let mut desk = desk_of(files, outs, inbox, Steps::<L>::start(blank));
-    run_or_end(rt.alloc(), words, &mut desk)
+    run_at(
+        rt.alloc(),
+        words,
+        desk_of(files, outs, inbox, Steps::<L>::start(blank)),
+    )
 }
 
 fn main(rt: HostRuntime) -> ExitCode {

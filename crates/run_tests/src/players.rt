@@ -1,6 +1,6 @@
 //! Whole runs, where a port refuses memory to one of its sends.
 
-ghost use Rattle.std.specs.Prelude.{◌≡◌, ◌<◌, Some, false, length};
+ghost use Rattle.std.specs.Prelude.{◌≡◌, ◌<◌, Some, length};
 
 use orca_base::{Port, Steps};
 use orca_course::{Desk, Rooms, desk_of};
