@@ -18,6 +18,20 @@ struct Tight {
     kept: MemOuts,
     tight: u64,
     sends: u64,
+    refused: u64,
+}
+
+impl Tight {
+    /// Counts that memory was refused.
+    fn count(&mut self, done: Result<(), OutsideFault>) -> Result<(), OutsideFault>
+        ensures same { result ≡ done }
+        ensures kept { self.new.kept ≡ self.old.kept }
+    {
+        if done == Err(OutsideFault::Memory) {
+            self.refused = self.refused.saturating_add(1);
+        }
+        done
+    }
 }
 
 impl Outs for Tight {
@@ -30,15 +44,17 @@ impl Outs for Tight {
     ghost faults = { λ o. o.kept.faults };
 
     fn attach(&mut self, port: Port, name: &str) -> Result<(), OutsideFault> {
-        self.kept.attach(port, name)
+        let done = self.kept.attach(port, name);
+        self.count(done)
     }
 
     fn send(&mut self, port: Port, bytes: &[u8]) -> Result<(), OutsideFault> {
         self.sends = self.sends.saturating_add(1);
         if self.sends == self.tight {
-            return Err(OutsideFault::Memory);
+            return self.count(Err(OutsideFault::Memory));
         }
-        self.kept.send(port, bytes)
+        let done = self.kept.send(port, bytes);
+        self.count(done)
     }
 
     fn sent(&self) -> u64 {
@@ -78,6 +94,7 @@ fn run<L: Ledger>(
         kept: MemOuts::new(Vec::new(alloc))?,
         tight,
         sends: 0,
+        refused: 0,
     };
     let inbox = MemInbox::new(0, Vec::new(alloc), Vec::new(alloc))?;
     let mut desk = desk_of(files, outs, inbox, Steps::<L>::start(blank));
