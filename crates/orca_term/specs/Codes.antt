@@ -10,6 +10,10 @@ bracket = 91
 abbrev pub semicolon : ℕ
 semicolon = 59
 
+-- `+`, which the ruler shows
+abbrev pub plus : ℕ
+plus = 43
+
 -- `H`, the end of a cursor position
 abbrev pub letter_h : ℕ
 letter_h = 72
@@ -17,6 +21,14 @@ letter_h = 72
 -- `m`, the end of a graphic rendition
 abbrev pub letter_m : ℕ
 letter_m = 109
+
+-- `t`, the end of a report of the size of a terminal
+abbrev pub letter_t : ℕ
+letter_t = 116
+
+-- `~`, the end of a key that has a number
+abbrev pub tilde : ℕ
+tilde = 126
 
 -- ESC [, which begins a sequence
 abbrev pub introducer : List ℕ

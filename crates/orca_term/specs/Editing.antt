@@ -1,5 +1,5 @@
 -- The editor: a cursor, and a selection that reaches from it downwards and to the right.
-use Rattle.std.specs.Prelude.{ℕ, ◌+◌, ◌-◌, false, not, ◌&&◌, max, min, nat_le, if◌then◌else◌}
+use Rattle.std.specs.Prelude.{ℕ, ◌+◌, ◌-◌, Bool, false, not, ◌&&◌, ◌==◌, max, min, if◌then◌else◌, Option, Some, None}
 use Rattle.orca_base.specs.declared.area.Area.{Area}
 use Rattle.orca_base.specs.declared.area.Rect.{Rect}
 use Rattle.orca_base.specs.declared.command.Command.TheVariants as command
@@ -8,12 +8,23 @@ use Rattle.orca_base.specs.Grids.{Size}
 use Rattle.orca_term.specs.declared.editor.Wish.{Wish}
 use Rattle.orca_term.specs.declared.editor.Wish.TheVariants as wish
 use Rattle.orca_term.specs.declared.editor.Editor.{Editor}
+use Rattle.orca_term.specs.declared.keys.Deed.TheVariants.{Move, Stretch, Slide, Grow}
 use Rattle.orca_term.specs.declared.keys.Key.{Key}
 use Rattle.orca_term.specs.declared.keys.Key.TheVariants as key
+use Rattle.orca_term.specs.declared.keys.Side.{Side}
+use Rattle.orca_term.specs.declared.keys.Side.TheVariants.{Up, Down, Left, Right}
 
--- the first place, a selection of that place alone, and no pause
-abbrev pub new_editor : Editor
-new_editor = record { y = 0; x = 0; h = 1; w = 1; paused = false }
+-- the first place, a selection of that place alone, and no pause. With full keys the guide shows
+abbrev pub new_editor : Bool → Editor
+new_editor full = record {
+  y = 0;
+  x = 0;
+  h = 1;
+  w = 1;
+  paused = false;
+  append = false;
+  guide = full;
+}
 
 -- the selection
 abbrev pub area_of : Editor → Area
@@ -39,38 +50,72 @@ cut_to_grid d e = with_selection e (max 1 (min e.h (d.h - e.y))) (max 1 (min e.w
 abbrev pub editor_inside : Size → Editor → Editor
 editor_inside d e = cut_to_grid d (with_cursor e (min e.y (d.h - 1)) (min e.x (d.w - 1)))
 
--- the selection of this size where that stays in the grid, and the same one otherwise
-abbrev pub with_selection_inside : Size → Editor → ℕ → ℕ → Editor
-with_selection_inside d e h w =
-    if nat_le (e.y + h) d.h && nat_le (e.x + w) d.w then with_selection e h w else e
+-- a pair of numbers, one of them less or more by n: up and down step the first, left and right the
+-- second
+abbrev pub stepped : Side → ℕ → ℕ × ℕ → ℕ × ℕ
+stepped Up n p = (p.0 - n, p.1)
+stepped Down n p = (p.0 + n, p.1)
+stepped Left n p = (p.0, p.1 - n)
+stepped Right n p = (p.0, p.1 + n)
 
--- what a key makes of the editor in a grid of this size. The cursor moves by one inside the grid
+-- the cursor goes there, as far as the grid reaches
+abbrev pub moved : Size → Editor → ℕ × ℕ → Editor
+moved d e at = cut_to_grid d (with_cursor e (min at.0 (d.h - 1)) (min at.1 (d.w - 1)))
+
+-- where the selection's block slides, as far as all of it stays in the grid
+abbrev pub slid : Side → ℕ → Size → Editor → ℕ × ℕ
+slid side by d e =
+    let at = stepped side by (e.y, e.x) in (min at.0 (d.h - e.h), min at.1 (d.w - e.w))
+
+-- a glyph was typed
+abbrev pub typed : Size → Editor → Editor
+typed d e = if e.append then moved d e (stepped Right 1 (e.y, e.x)) else e
+
+-- what Rub erases: while typing goes on, the one place before the cursor
+abbrev pub rubbed : Editor → Editor
+rubbed e = if e.append && e.h == 1 && e.w == 1 then with_cursor e e.y (e.x - 1) else e
+
+-- what a key makes of the editor in a grid of this size
 abbrev pub editor_after : Key → Size → Editor → Editor
-editor_after key.Up d e = cut_to_grid d (with_cursor e (e.y - 1) e.x)
-editor_after key.Down d e = cut_to_grid d (with_cursor e (min (e.y + 1) (d.h - 1)) e.x)
-editor_after key.Left d e = cut_to_grid d (with_cursor e e.y (e.x - 1))
-editor_after key.Right d e = cut_to_grid d (with_cursor e e.y (min (e.x + 1) (d.w - 1)))
-editor_after key.Taller d e = with_selection_inside d e (e.h + 1) e.w
-editor_after key.Shorter d e = with_selection e (max 1 (e.h - 1)) e.w
-editor_after key.Wider d e = with_selection_inside d e e.h (e.w + 1)
-editor_after key.Narrower d e = with_selection e e.h (max 1 (e.w - 1))
-editor_after key.Escape d e = with_selection e 1 1
+editor_after (key.Arrow Move side by) d e = moved d e (stepped side by (e.y, e.x))
+editor_after (key.Arrow Stretch side by) d e =
+    let size = stepped side by (e.h, e.w) in cut_to_grid d (with_selection e size.0 size.1)
+editor_after (key.Arrow Slide side by) d e =
+    let at = slid side by d e in with_cursor e at.0 at.1
+editor_after (key.Glyph glyph) d e = typed d e
+editor_after key.Rub d e = rubbed e
+editor_after key.All d e = record e { y = 0; x = 0; h = d.h; w = d.w }
+editor_after key.Escape d e = record e { h = 1; w = 1; append = false }
+editor_after key.Append d e = record e { append = not e.append }
+editor_after key.Guide d e = record e { guide = not e.guide }
 editor_after key.Pause d e = record e { paused = not e.paused }
 editor_after _ d e = e
 
--- what a key asks for in a session of so many moments
-abbrev pub wish_of : Key → ℕ → Editor → Wish
-wish_of (key.Glyph glyph) moments e = wish.Do (command.Write e.y e.x glyph)
-wish_of key.Rub moments e = wish.Do (command.Erase (rect_of e))
-wish_of key.Copy moments e = wish.Do (command.Copy (rect_of e))
-wish_of key.Cut moments e = wish.Do (command.Cut (rect_of e))
-wish_of key.Paste moments e = wish.Do (command.Paste e.y e.x)
-wish_of key.Undo moments e = wish.Do command.Undo
-wish_of key.Redo moments e = wish.Do command.Redo
-wish_of key.Reset moments e = wish.Do command.Reset
-wish_of key.Step moments e = wish.Do command.Frame
-wish_of key.Back moments e = wish.Do (command.Rewind (moments - BACK_MOMENTS))
-wish_of key.Pause moments e = wish.Toggle
-wish_of key.Save moments e = wish.Save
-wish_of key.Quit moments e = wish.Quit
-wish_of _ moments e = wish.Nothing
+-- what a key asks for in a grid of this size and a session of so many moments
+abbrev pub wish_of : Key → Size → ℕ → Editor → Wish
+wish_of (key.Arrow Slide side by) d moments e =
+    let at = slid side by d e in
+    if at.0 == e.y && at.1 == e.x then wish.Nothing
+    else wish.Do (command.Move (rect_of e) at.0 at.1)
+wish_of (key.Arrow Grow side by) d moments e =
+    let size = stepped side by (d.h, d.w) in wish.Do (command.Resize size.0 size.1)
+wish_of (key.Glyph glyph) d moments e = wish.Do (command.Write e.y e.x glyph)
+wish_of key.Rub d moments e = wish.Do (command.Erase (rect_of (rubbed e)))
+wish_of key.Erase d moments e = wish.Do (command.Erase (rect_of e))
+wish_of key.Copy d moments e = wish.Do (command.Copy (rect_of e))
+wish_of key.Cut d moments e = wish.Do (command.Cut (rect_of e))
+wish_of key.Paste d moments e = wish.Do (command.Paste e.y e.x)
+wish_of key.Undo d moments e = wish.Do command.Undo
+wish_of key.Redo d moments e = wish.Do command.Redo
+wish_of key.Reset d moments e = wish.Do command.Reset
+wish_of key.Step d moments e = wish.Do command.Frame
+wish_of key.Back d moments e = wish.Do (command.Rewind (moments - BACK_MOMENTS))
+wish_of key.Pause d moments e = wish.Toggle
+wish_of key.Save d moments e = wish.Save
+wish_of key.Quit d moments e = wish.Quit
+wish_of (key.Slower beats) d moments e = wish.Slower beats
+wish_of (key.Faster beats) d moments e = wish.Faster beats
+wish_of key.Redraw d moments e = wish.Redraw None
+wish_of (key.Screen rows columns) d moments e =
+    wish.Redraw (Some (record { rows = rows; columns = columns }))
+wish_of _ d moments e = wish.Nothing

@@ -1,26 +1,35 @@
 -- Keys: what the bytes of a terminal mean. Control characters are those of ASCII, and sequences
--- those of ECMA-48.
-use Rattle.std.specs.Prelude.{ℕ, Bool, ◌&&◌, ◌==◌, nat_le, nat_lt, if◌then◌else◌, Option, Some, None, List, [], ◌∷◌, ◌++◌, length}
-use Rattle.std.specs.Option.{option_to_list}
+-- those of ECMA-48. There are plain keys and full ones: whatever is a plain key is the same full key.
+use Rattle.std.specs.Prelude.{ℕ, ◌≡◌, ◌-◌, ◌%◌, Bool, ◌&&◌, ◌==◌, max, nat_le, nat_lt, if◌then◌else◌, Option, Some, None, IfSome, option_map, option_and_then, List, [], ◌∷◌, ◌++◌, length}
+use Rattle.std.specs.Option.{option_or, option_to_list}
 use Rattle.orca_base.specs.Ascii.{escape}
 use Rattle.orca_base.specs.Glyphs.{is_glyph}
-use Rattle.orca_base.specs.declared.limits.TheConstants.{SEQUENCE_BYTES}
-use Rattle.orca_term.specs.Codes.{bracket, semicolon}
+use Rattle.orca_base.specs.declared.limits.TheConstants.{MAX_COLUMNS, SEQUENCE_BYTES}
+use Rattle.orca_term.specs.Codes.{bracket, semicolon, tilde, letter_t}
+use Rattle.orca_term.specs.Forms.{no_digits, more, continues}
+use Rattle.orca_term.specs.declared.forms.Number.{Number}
+use Rattle.orca_term.specs.declared.keys.Deed.{Deed}
+use Rattle.orca_term.specs.declared.keys.Deed.TheVariants.{Move, Stretch, Slide, Grow}
 use Rattle.orca_term.specs.declared.keys.Key.{Key}
 use Rattle.orca_term.specs.declared.keys.Key.TheVariants as key
 use Rattle.orca_term.specs.declared.keys.Pending.{Pending}
 use Rattle.orca_term.specs.declared.keys.Pending.TheVariants.{Nothing, Lone, Sequence, Overlong}
+use Rattle.orca_term.specs.declared.keys.Side.{Side}
+use Rattle.orca_term.specs.declared.keys.Side.TheVariants.{Up, Down, Left, Right}
 use Rattle.orca_term.specs.declared.keys.Turn.{Turn}
+use Rattle.orca_term.specs.declared.limits.TheConstants.{RULER_PLACES, FAR_BEATS}
 
 -- what the reader of keys is given: a byte, or that nothing came for a while
 pub data Item : Type 0 where
   Byte : (byte : ℕ) → Item
   Due : Item
 
--- the key that stands beside a byte in a table
-abbrev pub key_in : List (ℕ × Key) → ℕ → Option Key
-key_in [] byte = None
-key_in (row ∷ rows) byte = if byte == row.0 then Some row.1 else key_in rows byte
+-- what stands beside a number in a table
+abbrev pub found_in : {A : Type 0} → List (ℕ × A) → ℕ → Option A
+found_in [] n = None
+found_in (row ∷ rows) n = if n == row.0 then Some row.1 else found_in rows n
+
+-- ---- single bytes
 
 -- the bytes that are a key by themselves, beside the glyphs
 abbrev pub lone_keys : List (ℕ × Key)
@@ -29,29 +38,128 @@ lone_keys =
     ∷ (6, key.Step) ∷ (17, key.Quit) ∷ (18, key.Reset) ∷ (19, key.Save) ∷ (22, key.Paste)
     ∷ (24, key.Cut) ∷ (25, key.Redo) ∷ (26, key.Undo) ∷ []
 
+-- the plain key of a byte that belongs to no sequence
+unfoldable pub plain_key : ℕ → Option Key
+plain_key byte = if is_glyph byte then Some (key.Glyph byte) else found_in lone_keys byte
+
+-- the keys of single bytes that full keys add
+abbrev pub further_keys : List (ℕ × Key)
+further_keys =
+    (1, key.All) ∷ (7, key.Guide) ∷ (9, key.Append) ∷ (12, key.Redraw) ∷ (21, key.Undo) ∷ []
+
+-- the key of a byte that belongs to no sequence
+unfoldable pub key_of : Bool → ℕ → Option Key
+key_of full byte = option_or (plain_key byte) (if full then found_in further_keys byte else None)
+
+-- ---- plain sequences
+
 -- the keys of the sequences ESC [ A to ESC [ D
 abbrev pub arrow_keys : List (ℕ × Key)
-arrow_keys = (65, key.Up) ∷ (66, key.Down) ∷ (67, key.Right) ∷ (68, key.Left) ∷ []
+arrow_keys =
+    (65, key.Arrow Move Up 1) ∷ (66, key.Arrow Move Down 1) ∷ (67, key.Arrow Move Right 1)
+    ∷ (68, key.Arrow Move Left 1) ∷ []
 
 -- the keys of the sequences ESC [ 1 ; 2 A to ESC [ 1 ; 2 D
 abbrev pub shifted_keys : List (ℕ × Key)
-shifted_keys = (65, key.Shorter) ∷ (66, key.Taller) ∷ (67, key.Wider) ∷ (68, key.Narrower) ∷ []
+shifted_keys =
+    (65, key.Arrow Stretch Up 1) ∷ (66, key.Arrow Stretch Down 1) ∷ (67, key.Arrow Stretch Right 1)
+    ∷ (68, key.Arrow Stretch Left 1) ∷ []
 
--- the key of a byte that belongs to no sequence
-unfoldable pub key_of : ℕ → Option Key
-key_of byte = if is_glyph byte then Some (key.Glyph byte) else key_in lone_keys byte
+-- the plain key of a sequence, by the bytes between ESC [ and its last byte, and by that
+unfoldable pub plain_sequence : List ℕ → ℕ → Option Key
+plain_sequence [] last = found_in arrow_keys last
+plain_sequence (a ∷ b ∷ c ∷ []) last =
+    if a == 49 && b == semicolon && c == 50 then found_in shifted_keys last else None
+plain_sequence _ last = None
 
--- the key of a sequence, by the bytes between ESC [ and its last byte, and by that
-unfoldable pub key_of_sequence : List ℕ → ℕ → Option Key
-key_of_sequence [] last = key_in arrow_keys last
-key_of_sequence (a ∷ b ∷ c ∷ []) last =
-    if a == 49 && b == semicolon && c == 50 then key_in shifted_keys last else None
-key_of_sequence _ last = None
+-- ---- arrows
+
+-- the arrows by their last bytes
+abbrev pub sides : List (ℕ × Side)
+sides = (65, Up) ∷ (66, Down) ∷ (67, Right) ∷ (68, Left) ∷ []
+
+-- Home and End, by their last bytes and by their numbers
+abbrev pub edges : List (ℕ × Side)
+edges = (72, Left) ∷ (70, Right) ∷ []
+
+abbrev pub numbered_edges : List (ℕ × Side)
+numbered_edges = (1, Left) ∷ (7, Left) ∷ (4, Right) ∷ (8, Right) ∷ []
+
+-- PageUp and PageDown, by their numbers
+abbrev pub pages : List (ℕ × Side)
+pages = (5, Up) ∷ (6, Down) ∷ []
+
+-- what an arrow does, by the sum of Shift (1) and Alt (2)
+abbrev pub deed_of : ℕ → Deed
+deed_of n =
+    if n == 0 then Move else (if n == 1 then Stretch else (if n == 2 then Slide else Grow))
+
+-- an arrow with modifiers: one more than the sum of Shift (1), Alt (2) and Control (4)
+abbrev pub arrow_key : ℕ → ℕ → Side → Option Key
+arrow_key m by side =
+    if nat_le 1 m && nat_le m 8
+    then Some (key.Arrow (deed_of ((m - 1) % 4)) side
+    (if nat_le 5 m then max by RULER_PLACES else by))
+    else None
+
+-- the arrow whose side stands beside a number in a table
+abbrev pub arrow_in : List (ℕ × Side) → ℕ → ℕ → ℕ → Option Key
+arrow_in table n m by = option_and_then (arrow_key m by) (found_in table n)
+
+-- ---- sequences
+
+-- the numbers of a sequence, where one has begun before these bytes: 1 to 3 digits each, and a
+-- semicolon between two
+unfoldable pub numbers_from : Number → List ℕ → Option (List ℕ)
+numbers_from n [] = if nat_le 1 n.digits then Some (n.value ∷ []) else None
+numbers_from n (byte ∷ bytes) =
+    if continues n byte then numbers_from (more n byte) bytes
+    else (if byte == semicolon && nat_le 1 n.digits
+    then option_map (λ others. n.value ∷ others) (numbers_from no_digits bytes)
+    else None)
+
+abbrev pub numbers_in : List ℕ → Option (List ℕ)
+numbers_in [] = Some []
+numbers_in bytes = numbers_from no_digits bytes
+
+-- the keys that have a number before `~`
+abbrev pub numbered_keys : List (ℕ × Key)
+numbered_keys =
+    (2, key.Append) ∷ (3, key.Erase) ∷ (17, key.Slower FAR_BEATS) ∷ (18, key.Slower 1)
+    ∷ (19, key.Faster 1) ∷ (20, key.Faster FAR_BEATS) ∷ []
+
+-- the arrow of a last byte, and of a number before `~`
+abbrev pub ended_key : ℕ → ℕ → Option Key
+ended_key last m = option_or (arrow_in sides last m 1) (arrow_in edges last m MAX_COLUMNS)
+
+abbrev pub paged_key : ℕ → ℕ → Option Key
+paged_key n m =
+    option_or (arrow_in pages n m RULER_PLACES) (arrow_in numbered_edges n m MAX_COLUMNS)
+
+-- the key of a sequence by its numbers and its last byte
+unfoldable pub key_of_numbers : List ℕ → ℕ → Option Key
+key_of_numbers [] last = ended_key last 1
+key_of_numbers (n ∷ []) last =
+    if last == tilde then option_or (found_in numbered_keys n) (paged_key n 1) else None
+key_of_numbers (n ∷ m ∷ []) last =
+    if last == tilde then paged_key n m else (if n == 1 then ended_key last m else None)
+key_of_numbers (n ∷ rows ∷ columns ∷ []) last =
+    if n == 8 && last == letter_t then Some (key.Screen rows columns) else None
+key_of_numbers _ last = None
+
+-- the key of a sequence
+unfoldable pub key_of_sequence : Bool → List ℕ → ℕ → Option Key
+key_of_sequence full bytes last =
+    option_or (plain_sequence bytes last)
+    (if full then option_and_then (λ numbers. key_of_numbers numbers last) (numbers_in bytes)
+    else None)
 
 -- the key of what is pending where it ends in such a byte: a sequence with too many bytes has none
-abbrev pub key_at_end : Pending → ℕ → Option Key
-key_at_end (Sequence bytes) last = key_of_sequence bytes last
-key_at_end _ last = None
+abbrev pub key_at_end : Bool → Pending → ℕ → Option Key
+key_at_end full (Sequence bytes) last = key_of_sequence full bytes last
+key_at_end full _ last = None
+
+-- ---- the reader
 
 -- a sequence collects no more bytes than these
 abbrev pub pending_with : Pending → ℕ → Pending
@@ -76,34 +184,39 @@ abbrev pub ends_as : Option Key → Turn
 ends_as k = record { key = k; pending = Nothing }
 
 -- a byte where nothing is pending
-abbrev pub turn_outside : ℕ → Turn
-turn_outside byte = if byte == escape then awaits Lone else ends_as (key_of byte)
+abbrev pub turn_outside : Bool → ℕ → Turn
+turn_outside full byte = if byte == escape then awaits Lone else ends_as (key_of full byte)
 
 -- a byte after a lone ESC: a bracket begins a sequence, a second ESC makes the first one a key, and
 -- any other byte is read as if the ESC hadn't come
-abbrev pub turn_after_escape : ℕ → Turn
-turn_after_escape byte =
+abbrev pub turn_after_escape : Bool → ℕ → Turn
+turn_after_escape full byte =
     if byte == bracket then awaits (Sequence [])
     else (if byte == escape then record { key = Some key.Escape; pending = Lone }
-    else turn_outside byte)
+    else turn_outside full byte)
 
 -- a byte of a sequence: it is collected, or ends the sequence, or drops it and is read anew
-abbrev pub turn_inside : Pending → ℕ → Turn
-turn_inside p byte =
+abbrev pub turn_inside : Bool → Pending → ℕ → Turn
+turn_inside full p byte =
     if is_collected byte then awaits (pending_with p byte)
-    else (if is_last byte then ends_as (key_at_end p byte) else turn_outside byte)
+    else (if is_last byte then ends_as (key_at_end full p byte) else turn_outside full byte)
 
--- what an item gives, and what is pending after it
-unfoldable pub turn : Pending → Item → Turn
-turn Nothing (Byte byte) = turn_outside byte
-turn Lone (Byte byte) = turn_after_escape byte
-turn (Sequence bytes) (Byte byte) = turn_inside (Sequence bytes) byte
-turn Overlong (Byte byte) = turn_inside Overlong byte
-turn Lone Due = ends_as (Some key.Escape)
-turn p Due = awaits p
+-- what an item gives, with full keys or with plain ones, and what is pending after it
+unfoldable pub turn : Bool → Pending → Item → Turn
+turn full Nothing (Byte byte) = turn_outside full byte
+turn full Lone (Byte byte) = turn_after_escape full byte
+turn full (Sequence bytes) (Byte byte) = turn_inside full (Sequence bytes) byte
+turn full Overlong (Byte byte) = turn_inside full Overlong byte
+turn full Lone Due = ends_as (Some key.Escape)
+turn full p Due = awaits p
 
 -- the keys of these items, where something is pending before them
-unfoldable pub keys_from : Pending → List Item → List Key
-keys_from p [] = []
-keys_from p (item ∷ items) =
-    option_to_list (turn p item).key ++ keys_from (turn p item).pending items
+unfoldable pub keys_from : Bool → Pending → List Item → List Key
+keys_from full p [] = []
+keys_from full p (item ∷ items) =
+    option_to_list (turn full p item).key ++ keys_from full (turn full p item).pending items
+
+-- the second turn leaves pending what the first one does, and has its key where that has one
+pub record Extends (plain full : Turn) : Type 0 where
+  pub pending : full.pending ≡ plain.pending
+  pub key : IfSome plain.key (λ k. full.key ≡ Some k)

@@ -3,15 +3,14 @@
 ghost use Rattle.std.specs.Prelude.{◌≡◌, ◌≤◌, ◌&&◌, ℕ, false, nat_le, nat_lt};
 ghost use Rattle.orca_base.specs.Areas.{IsArea};
 ghost use Rattle.orca_base.specs.Edits.{is_in_area};
-ghost use Rattle.orca_term.specs.Editing.{area_of, rect_of, new_editor, cut_to_grid, editor_inside, wish_of, editor_after};
+ghost use Rattle.orca_term.specs.Editing.{area_of, rect_of, new_editor, cut_to_grid, editor_inside, stepped, moved, slid, typed, rubbed, wish_of, editor_after};
 
-use crate::Key;
+use crate::{Deed, Key, ScreenSize, Side};
 use orca_base::limits::BACK_MOMENTS;
 use orca_base::{Command, Dims, Rect};
 use std::ops::Range;
 
-/// A cursor, a selection that reaches from it downwards and to the right, and whether the performance is
-/// paused.
+/// A cursor, a selection that reaches from it downwards and to the right, and what the user has switched on.
 #[derive(Clone, Copy, Debug, PartialEq, Eq)]
 pub struct Editor {
     /// The row of the cursor, counted from 0.
@@ -24,6 +23,10 @@ pub struct Editor {
     pub w: u16,
     /// Whether the performance is paused.
     pub paused: bool,
+    /// Whether the cursor goes on after a glyph that is typed.
+    pub append: bool,
+    /// Whether the picture shows the guide: the tempo, the beat and the ruler.
+    pub guide: bool,
 }
 
 /// What a key asks for, beside what it makes of the editor.
@@ -39,12 +42,18 @@ pub enum Wish {
     Save,
     /// To end the performance.
     Quit,
+    /// So many beats a minute less.
+    Slower(u16),
+    /// So many beats a minute more.
+    Faster(u16),
+    /// To paint all rows, on a screen of this size, if it has another one.
+    Redraw(Option<ScreenSize>),
 }
 
 impl Editor {
-    /// The cursor on the first place, the selection of that place alone, and no pause.
+    /// The cursor on the first place, the selection of that place alone, no pause and nothing switched on.
     pub fn start() -> Editor
-        ensures { result ≡ new_editor }
+        ensures { result ≡ new_editor false }
     {
         Editor {
             y: 0,
@@ -52,6 +61,8 @@ impl Editor {
             h: 1,
             w: 1,
             paused: false,
+            append: false,
+            guide: false,
         }
     }
 
@@ -89,24 +100,29 @@ impl Editor {
     /// selection isn't empty and lies in the grid, before and afterwards.
     pub fn key(&mut self, key: Key, dims: Dims, moments: u32) -> Wish
         requires inside { IsArea dims (area_of self.old) }
-        ensures wish { result ≡ wish_of key moments self.old }
+        ensures wish { result ≡ wish_of key dims moments self.old }
         ensures editor { self.new ≡ editor_after key dims self.old }
         ensures inside { IsArea dims (area_of self.new) }
     {
-        let wish = self.wish(&key, moments);
+        let wish = self.wish(&key, dims, moments);
         self.change(key, dims);
         wish
     }
 
     /// What a key asks for.
-    fn wish(&self, key: &Key, moments: u32) -> Wish
-        ensures { result ≡ wish_of key.now moments self.now }
+    fn wish(&self, key: &Key, dims: Dims, moments: u32) -> Wish
+        requires inside { IsArea dims (area_of self.now) }
+        ensures { result ≡ wish_of key.now dims moments self.now }
     {
         let (y, x) = (u32::from(self.y), u32::from(self.x));
         let rect = self.rect();
         match *key {
+            Key::Arrow { deed, side, by } => self.arrow_wish(deed, side, by, dims),
             Key::Glyph(glyph) => Wish::Do(Command::Write { y, x, glyph }),
-            Key::Rub => Wish::Do(Command::Erase { rect }),
+            Key::Rub => Wish::Do(Command::Erase {
+                rect: self.rubbed().rect(),
+            }),
+            Key::Erase => Wish::Do(Command::Erase { rect }),
             Key::Copy => Wish::Do(Command::Copy { rect }),
             Key::Cut => Wish::Do(Command::Cut { rect }),
             Key::Paste => Wish::Do(Command::Paste { y, x }),
@@ -120,6 +136,37 @@ impl Editor {
             Key::Pause => Wish::Toggle,
             Key::Save => Wish::Save,
             Key::Quit => Wish::Quit,
+            Key::Slower(beats) => Wish::Slower(beats),
+            Key::Faster(beats) => Wish::Faster(beats),
+            Key::Redraw => Wish::Redraw(None),
+            Key::Screen { rows, columns } => Wish::Redraw(Some(ScreenSize { rows, columns })),
+            _ => Wish::Nothing,
+        }
+    }
+
+    /// What an arrow asks for: a move of the block that slides, unless it stays where it is, or another size
+    /// of the grid.
+    fn arrow_wish(&self, deed: Deed, side: Side, by: u16, dims: Dims) -> Wish
+        requires inside { IsArea dims (area_of self.now) }
+        ensures { (moments : ℕ) → result
+            ≡ wish_of (Key.Arrow deed side by) dims moments self.now }
+    {
+        match deed {
+            Deed::Slide => {
+                let (y, x) = self.slid(side, by, dims);
+                if y == self.y && x == self.x {
+                    return Wish::Nothing;
+                }
+                Wish::Do(Command::Move {
+                    rect: self.rect(),
+                    to_y: u32::from(y),
+                    to_x: u32::from(x),
+                })
+            }
+            Deed::Grow => {
+                let (h, w) = stepped(side, by, (dims.h, dims.w));
+                Wish::Do(Command::Resize { h, w })
+            }
             _ => Wish::Nothing,
         }
     }
@@ -143,18 +190,98 @@ impl Editor {
         ensures inside { IsArea dims (area_of self.new) }
     {
         match key {
-            Key::Up => self.y = self.y.saturating_sub(1),
-            Key::Down => self.y = (self.y + 1).min(dims.h - 1),
-            Key::Left => self.x = self.x.saturating_sub(1),
-            Key::Right => self.x = (self.x + 1).min(dims.w - 1),
-            Key::Taller => self.h = (self.h + 1).min(dims.h - self.y),
-            Key::Wider => self.w = (self.w + 1).min(dims.w - self.x),
-            Key::Shorter => self.h = (self.h - 1).max(1),
-            Key::Narrower => self.w = (self.w - 1).max(1),
-            Key::Escape => (self.h, self.w) = (1, 1),
+            Key::Arrow { deed, side, by } => self.follow(deed, side, by, dims),
+            Key::Glyph(_) => self.advance(dims),
+            Key::Rub => *self = self.rubbed(),
+            Key::All => {
+                (self.y, self.x) = (0, 0);
+                (self.h, self.w) = (dims.h, dims.w);
+            }
+            Key::Escape => {
+                (self.h, self.w) = (1, 1);
+                self.append = false;
+            }
+            Key::Append => self.append = !self.append,
+            Key::Guide => self.guide = !self.guide,
             Key::Pause => self.paused = !self.paused,
             _ => {}
         }
+    }
+
+    /// Does what an arrow makes of the editor.
+    fn follow(&mut self, deed: Deed, side: Side, by: u16, dims: Dims)
+        requires inside { IsArea dims (area_of self.old) }
+        ensures editor { self.new ≡ editor_after (Key.Arrow deed side by) dims self.old }
+        ensures inside { IsArea dims (area_of self.new) }
+    {
+        match deed {
+            Deed::Move => self.go(stepped(side, by, (self.y, self.x)), dims),
+            Deed::Stretch => {
+                let (h, w) = stepped(side, by, (self.h, self.w));
+                self.h = h.min(u32::from(dims.h)) as u16;
+                self.w = w.min(u32::from(dims.w)) as u16;
+                self.cut(dims);
+            }
+            Deed::Slide => (self.y, self.x) = self.slid(side, by, dims),
+            Deed::Grow => {}
+        }
+    }
+
+    /// Moves the cursor, as far as the grid reaches.
+    fn go(&mut self, at: (u32, u32), dims: Dims)
+        ensures moved { self.new ≡ moved dims self.old at }
+        ensures inside { IsArea dims (area_of self.new) }
+    {
+        self.y = at.0.min(u32::from(dims.h) - 1) as u16;
+        self.x = at.1.min(u32::from(dims.w) - 1) as u16;
         self.cut(dims);
+    }
+
+    /// Goes on after a glyph that was typed.
+    fn advance(&mut self, dims: Dims)
+        requires inside { IsArea dims (area_of self.old) }
+        ensures typed { self.new ≡ typed dims self.old }
+        ensures inside { IsArea dims (area_of self.new) }
+    {
+        if self.append {
+            self.go(stepped(Side::Right, 1, (self.y, self.x)), dims);
+        }
+    }
+
+    /// The editor on what Rub erases.
+    fn rubbed(&self) -> Editor
+        ensures { result ≡ rubbed self.now }
+    {
+        let mut editor = *self;
+        if self.append && self.h == 1 && self.w == 1 {
+            editor.x = self.x.saturating_sub(1);
+        }
+        editor
+    }
+
+    /// Where the selected block slides, as far as all of it stays in the grid.
+    fn slid(&self, side: Side, by: u16, dims: Dims) -> (u16, u16)
+        requires inside { IsArea dims (area_of self.now) }
+        ensures { result ≡ slid side by dims self.now }
+    {
+        let (y, x) = stepped(side, by, (self.y, self.x));
+        let y = y.min(u32::from(dims.h - self.h)) as u16;
+        let x = x.min(u32::from(dims.w - self.w)) as u16;
+        (y, x)
+    }
+}
+
+/// A pair of numbers, one of them less or more by `by`: up and down step the first, left and right the
+/// second.
+fn stepped(side: Side, by: u16, pair: (u16, u16)) -> (u32, u32)
+    ensures { result ≡ stepped side by pair }
+{
+    let (first, second) = (u32::from(pair.0), u32::from(pair.1));
+    let by = u32::from(by);
+    match side {
+        Side::Up => (first.saturating_sub(by), second),
+        Side::Down => (first + by, second),
+        Side::Left => (first, second.saturating_sub(by)),
+        Side::Right => (first, second + by),
     }
 }

@@ -56,7 +56,7 @@ pub(crate) enum Step {
 }
 
 /// No digits.
-const NONE: Number = Number {
+pub(crate) const NO_DIGITS: Number = Number {
     digits: 0,
     value: 0,
 };
@@ -75,7 +75,7 @@ pub(crate) fn read(reading: Reading, byte: u8) -> Step
             _ => Step::Breaks,
         },
         Reading::Escaped => match byte {
-            b'[' => Step::Goes(Reading::First(NONE)),
+            b'[' => Step::Goes(Reading::First(NO_DIGITS)),
             _ => Step::Breaks,
         },
         Reading::First(number) => read_first(number, byte),
@@ -93,7 +93,7 @@ fn read_first(number: Number, byte: u8) -> Step
         return Step::Goes(Reading::First(more(number, byte)));
     }
     match byte {
-        b';' if number.value >= 1 => Step::Goes(Reading::Second(number.value, NONE)),
+        b';' if number.value >= 1 => Step::Goes(Reading::Second(number.value, NO_DIGITS)),
         b'm' if number.digits >= 1 && number.value <= u16::from(MAX_STYLE) => {
             Step::Gives(Form::Style(number.value as u8))
         }
@@ -120,7 +120,7 @@ fn read_second(row: u16, number: Number, byte: u8) -> Step
 }
 
 /// A digit more.
-fn more(number: Number, digit: u8) -> Number
+pub(crate) fn more(number: Number, digit: u8) -> Number
     requires number { IsNumber number }
     requires room { number.digits < FORM_DIGITS }
     requires digit { IsTrue (is_digit digit) }

@@ -1,9 +1,10 @@
 //! The keys of a terminal, by the bytes that it sends.
 
-ghost use Rattle.std.specs.Prelude.{◌≡◌, ◌∷◌, ◌++◌, List};
+ghost use Rattle.std.specs.Prelude.{◌≡◌, ◌≤◌, ◌∷◌, ◌++◌, false, true, Bool, List, length};
 ghost use Rattle.std.specs.Option.{option_to_list};
-ghost use Rattle.orca_term.specs.Keys.{key_of, key_of_sequence, key_at_end as key_of_end, pending_with, awaits, key_in, arrow_keys, shifted_keys, turn, turn_outside, turn_after_escape, turn_inside, keys_from, Item, Byte, Due};
+ghost use Rattle.orca_term.specs.Keys.{Extends, Item, Byte, Due, turn, turn_outside, turn_after_escape, turn_inside, pending_with, awaits, key_at_end as key_of_end, keys_from};
 
+use crate::tables::{key_of, key_of_sequence};
 use orca_base::limits::SEQUENCE_BYTES;
 use orca_base::{Glyph, Inline};
 use std::marker::Model;
@@ -14,28 +15,48 @@ const ESCAPE: u8 = 0x1B;
 /// The most bytes that are collected of a sequence.
 const ROOM: usize = SEQUENCE_BYTES as usize;
 
+/// What an arrow does.
+#[derive(Clone, Copy, Debug, PartialEq, Eq)]
+pub enum Deed {
+    /// Moves the cursor.
+    Move,
+    /// Stretches the selection.
+    Stretch,
+    /// Slides the selected block.
+    Slide,
+    /// Makes the grid larger or smaller.
+    Grow,
+}
+
+/// The side to which an arrow points.
+#[derive(Clone, Copy, Debug, PartialEq, Eq)]
+pub enum Side {
+    /// To the first row.
+    Up,
+    /// To the last row.
+    Down,
+    /// To the first column.
+    Left,
+    /// To the last column.
+    Right,
+}
+
 /// A key of the terminal.
 #[derive(Clone, Copy, Debug, PartialEq, Eq)]
 pub enum Key {
     /// A glyph.
     Glyph(Glyph),
-    /// The arrow up.
-    Up,
-    /// The arrow down.
-    Down,
-    /// The arrow to the left.
-    Left,
-    /// The arrow to the right.
-    Right,
-    /// Shift and the arrow down.
-    Taller,
-    /// Shift and the arrow up.
-    Shorter,
-    /// Shift and the arrow to the right.
-    Wider,
-    /// Shift and the arrow to the left.
-    Narrower,
-    /// Backspace or Delete.
+    /// An arrow, by itself or with Shift, Alt and Control; and Home, End, PageUp and PageDown, which are
+    /// arrows that reach further.
+    Arrow {
+        /// What it does.
+        deed: Deed,
+        /// The side to which it points.
+        side: Side,
+        /// How far it reaches, in places.
+        by: u16,
+    },
+    /// Backspace, and the byte that Delete was once.
     Rub,
     /// The space bar.
     Pause,
@@ -45,7 +66,7 @@ pub enum Key {
     Cut,
     /// Control and V.
     Paste,
-    /// Control and Z.
+    /// Control and Z; Control and U.
     Undo,
     /// Control and Y.
     Redo,
@@ -61,6 +82,27 @@ pub enum Key {
     Quit,
     /// The escape key.
     Escape,
+    /// Control and A: selects the whole grid.
+    All,
+    /// Control and G: what the picture shows beyond the grid and the status line.
+    Guide,
+    /// Tab and Insert: whether the cursor goes on after a glyph that is typed.
+    Append,
+    /// Delete.
+    Erase,
+    /// Control and L: paints all rows.
+    Redraw,
+    /// So many beats a minute less.
+    Slower(u16),
+    /// So many beats a minute more.
+    Faster(u16),
+    /// The terminal tells its size.
+    Screen {
+        /// The number of its rows.
+        rows: u16,
+        /// The number of its columns.
+        columns: u16,
+    },
 }
 
 /// What the bytes so far have begun.
@@ -111,31 +153,42 @@ impl Keys {
         }
     }
 
-    /// Reads a byte, and gives the key that it ends, if any.
-    #[tactic(auto, unfolding(crate::specs::Keys::turn, crate::specs::Keys::keys_from))]
+    /// Reads a byte, and gives the plain key that it ends, if any.
+    #[tactic(auto, unfolding(crate::specs::Keys::keys_from))]
     pub fn feed(&mut self, byte: u8) -> Option<Key>
-        ensures key { result ≡ (turn self.old (Byte byte)).key }
-        ensures pending { self.new ≡ (turn self.old (Byte byte)).pending }
-        ensures keys { (items : List Item) → keys_from self.old (Byte byte ∷ items)
-            ≡ option_to_list result ++ keys_from self.new items }
+        ensures key { result ≡ (turn false self.old (Byte byte)).key }
+        ensures pending { self.new ≡ (turn false self.old (Byte byte)).pending }
+        ensures keys { (items : List Item) → keys_from false self.old (Byte byte ∷ items)
+            ≡ option_to_list result ++ keys_from false self.new items }
     {
-        let turn = match self.pending {
-            Pending::Nothing => read_outside(byte),
-            Pending::Lone => read_after_escape(byte),
-            pending => read_inside(pending, byte),
-        };
-        self.pending = turn.pending;
-        turn.key
+        let full = false;
+        self.follow(full, byte)
+    }
+
+    /// Reads a byte, and gives the full key that it ends, if any. Where it ends a plain key, that is the
+    /// key, and what is pending is the same.
+    #[tactic(auto, unfolding(crate::specs::Keys::keys_from), using(crate::proofs::Extension::turn_extends))]
+    pub fn feed_full(&mut self, byte: u8) -> Option<Key>
+        ensures key { result ≡ (turn true self.old (Byte byte)).key }
+        ensures pending { self.new ≡ (turn true self.old (Byte byte)).pending }
+        ensures extends { Extends (turn false self.old (Byte byte))
+            (record { key = result; pending = self.new }) }
+
+        ensures keys { (items : List Item) → keys_from true self.old (Byte byte ∷ items)
+            ≡ option_to_list result ++ keys_from true self.new items }
+    {
+        let full = true;
+        self.follow(full, byte)
     }
 
     /// Nothing came for a while: an ESC that stands alone is the escape key. A sequence that has begun
-    /// stays.
+    /// stays. Plain keys and full ones are the same here.
     #[tactic(auto, unfolding(crate::specs::Keys::turn, crate::specs::Keys::keys_from))]
     pub fn due(&mut self) -> Option<Key>
-        ensures key { result ≡ (turn self.old Due).key }
-        ensures pending { self.new ≡ (turn self.old Due).pending }
-        ensures keys { (items : List Item) → keys_from self.old (Due ∷ items)
-            ≡ option_to_list result ++ keys_from self.new items }
+        ensures key { (full : Bool) → result ≡ (turn full self.old Due).key }
+        ensures pending { (full : Bool) → self.new ≡ (turn full self.old Due).pending }
+        ensures keys { (full : Bool) (items : List Item) → keys_from full self.old (Due ∷ items)
+            ≡ option_to_list result ++ keys_from full self.new items }
     {
         match self.pending {
             Pending::Lone => {
@@ -145,24 +198,39 @@ impl Keys {
             _ => None,
         }
     }
+
+    /// Reads a byte, with full keys or with plain ones.
+    #[tactic(auto, unfolding(crate::specs::Keys::turn))]
+    fn follow(&mut self, full: bool, byte: u8) -> Option<Key>
+        ensures key { result ≡ (turn full self.old (Byte byte)).key }
+        ensures pending { self.new ≡ (turn full self.old (Byte byte)).pending }
+    {
+        let turn = match self.pending {
+            Pending::Nothing => read_outside(full, byte),
+            Pending::Lone => read_after_escape(full, byte),
+            pending => read_inside(full, pending, byte),
+        };
+        self.pending = turn.pending;
+        turn.key
+    }
 }
 
 /// A byte where nothing is pending.
-fn read_outside(byte: u8) -> Turn
-    ensures { result ≡ turn_outside byte }
+fn read_outside(full: bool, byte: u8) -> Turn
+    ensures { result ≡ turn_outside full byte }
 {
     if byte == ESCAPE {
         return awaits(Pending::Lone);
     }
     Turn {
-        key: key_of(byte),
+        key: key_of(full, byte),
         pending: Pending::Nothing,
     }
 }
 
 /// A byte after a lone ESC.
-fn read_after_escape(byte: u8) -> Turn
-    ensures { result ≡ turn_after_escape byte }
+fn read_after_escape(full: bool, byte: u8) -> Turn
+    ensures { result ≡ turn_after_escape full byte }
 {
     match byte {
         b'[' => awaits(Pending::Sequence(Inline::empty())),
@@ -170,21 +238,21 @@ fn read_after_escape(byte: u8) -> Turn
             key: Some(Key::Escape),
             pending: Pending::Lone,
         },
-        _ => read_outside(byte),
+        _ => read_outside(full, byte),
     }
 }
 
 /// A byte of a sequence.
-fn read_inside(pending: Pending, byte: u8) -> Turn
-    ensures { result ≡ turn_inside pending byte }
+fn read_inside(full: bool, pending: Pending, byte: u8) -> Turn
+    ensures { result ≡ turn_inside full pending byte }
 {
     match byte {
         0x20..=0x3F => awaits(collect(pending, byte)),
         0x40..=0x7E => Turn {
-            key: key_at_end(pending, byte),
+            key: key_at_end(full, pending, byte),
             pending: Pending::Nothing,
         },
-        _ => read_outside(byte),
+        _ => read_outside(full, byte),
     }
 }
 
@@ -212,74 +280,11 @@ fn collect(pending: Pending, byte: u8) -> Pending
 }
 
 /// The key of a sequence that ends in this byte.
-fn key_at_end(pending: Pending, last: u8) -> Option<Key>
-    ensures { result ≡ key_of_end pending last }
+fn key_at_end(full: bool, pending: Pending, last: u8) -> Option<Key>
+    ensures { result ≡ key_of_end full pending last }
 {
     match pending {
-        Pending::Sequence(bytes) => key_of_sequence(bytes.as_slice(), last),
-        _ => None,
-    }
-}
-
-/// The key of a sequence, by the bytes that it collected and the last one.
-#[tactic(auto, unfolding(crate::specs::Keys::key_of_sequence))]
-fn key_of_sequence(bytes: &[u8], last: u8) -> Option<Key>
-    ensures { result ≡ key_of_sequence bytes.now last }
-{
-    match bytes {
-        [] => arrow_key(last),
-        [b'1', b';', b'2'] => shifted_key(last),
-        _ => None,
-    }
-}
-
-/// The key of an arrow.
-fn arrow_key(last: u8) -> Option<Key>
-    ensures { result ≡ key_in arrow_keys last }
-{
-    match last {
-        b'A' => Some(Key::Up),
-        b'B' => Some(Key::Down),
-        b'C' => Some(Key::Right),
-        b'D' => Some(Key::Left),
-        _ => None,
-    }
-}
-
-/// The key of an arrow that is pressed with Shift.
-fn shifted_key(last: u8) -> Option<Key>
-    ensures { result ≡ key_in shifted_keys last }
-{
-    match last {
-        b'A' => Some(Key::Shorter),
-        b'B' => Some(Key::Taller),
-        b'C' => Some(Key::Wider),
-        b'D' => Some(Key::Narrower),
-        _ => None,
-    }
-}
-
-/// The key of a byte that belongs to no sequence.
-#[tactic(auto, unfolding(crate::specs::Keys::key_of))]
-fn key_of(byte: u8) -> Option<Key>
-    ensures { result ≡ key_of byte }
-{
-    if let Some(glyph) = Glyph::of(byte) {
-        return Some(Key::Glyph(glyph));
-    }
-    match byte {
-        b' ' => Some(Key::Pause),
-        0x08 | 0x7F => Some(Key::Rub),
-        0x02 => Some(Key::Back),
-        0x03 => Some(Key::Copy),
-        0x06 => Some(Key::Step),
-        0x11 => Some(Key::Quit),
-        0x12 => Some(Key::Reset),
-        0x13 => Some(Key::Save),
-        0x16 => Some(Key::Paste),
-        0x18 => Some(Key::Cut),
-        0x19 => Some(Key::Redo),
-        0x1A => Some(Key::Undo),
+        Pending::Sequence(bytes) => key_of_sequence(full, bytes.as_slice(), last),
         _ => None,
     }
 }

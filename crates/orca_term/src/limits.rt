@@ -1,4 +1,4 @@
-//! The limits of a screen's bytes.
+//! The limits of a screen's bytes, and how far some keys reach.
 
 use orca_base::limits::{MAX_DIGITS, RULE_NAME_BYTES};
 
@@ -17,3 +17,9 @@ pub const CELL_BYTES: usize = 4 + 3 + FORM_DIGITS + 1;
 
 /// The greatest style of a form that a terminal reads.
 pub const MAX_STYLE: u8 = u8::MAX;
+
+/// How many places lie between two marks of the ruler. Keys that leap go as far.
+pub const RULER_PLACES: u16 = 8;
+
+/// By how many beats a minute the keys of a great change of tempo change it.
+pub const FAR_BEATS: u16 = 10;

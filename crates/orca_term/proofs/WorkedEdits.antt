@@ -1,0 +1,112 @@
+-- What full keys make of the editor, and ask for, in a grid of 25 x 57, computed by the definitions.
+use Rattle.std.specs.Prelude.{◌≡◌, ℕ, Bool, false, true, Option, Some, None, refl}
+use Rattle.orca_base.specs.Grids.{Size}
+use Rattle.orca_base.specs.declared.area.Rect.{Rect}
+use Rattle.orca_base.specs.declared.command.Command.TheVariants as command
+use Rattle.orca_term.specs.Editing.{editor_after, wish_of}
+use Rattle.orca_term.specs.declared.editor.Editor.{Editor}
+use Rattle.orca_term.specs.declared.editor.Wish.{Wish}
+use Rattle.orca_term.specs.declared.editor.Wish.TheVariants as wish
+use Rattle.orca_term.specs.declared.keys.Deed.TheVariants.{Move, Stretch, Slide, Grow}
+use Rattle.orca_term.specs.declared.keys.Key.{Key}
+use Rattle.orca_term.specs.declared.keys.Key.TheVariants as key
+use Rattle.orca_term.specs.declared.keys.Side.TheVariants.{Up, Down, Left, Right}
+
+abbrev grid : Size
+grid = record { h = 25; w = 57 }
+
+-- the editor at a place, with a selection of this size
+abbrev at : ℕ → ℕ → ℕ → ℕ → Editor
+at y x h w = record {
+  y = y;
+  x = x;
+  h = h;
+  w = w;
+  paused = false;
+  append = false;
+  guide = true;
+}
+
+-- the same while typing goes on
+abbrev going : Editor → Editor
+going e = record e { append = true }
+
+abbrev rect : ℕ → ℕ → ℕ → ℕ → Rect
+rect y x h w = record { y = y; x = x; h = h; w = w }
+
+-- what a key gives in an editor: a wish, and the editor after it
+abbrev pressed : Key → Editor → Wish × Editor
+pressed k e = (wish_of k grid 9 e, editor_after k grid e)
+
+leap_down : pressed (key.Arrow Move Down 8) (at 20 3 1 1) ≡ (wish.Nothing, at 24 3 1 1)
+leap_down = refl
+
+-- the selection is cut
+end_key : pressed (key.Arrow Move Right 1024) (at 5 3 2 4) ≡ (wish.Nothing, at 5 56 2 1)
+end_key = refl
+
+stretch_down : pressed (key.Arrow Stretch Down 8) (at 20 50 1 1) ≡ (wish.Nothing, at 20 50 5 1)
+stretch_down = refl
+
+-- a selection never gets empty
+stretch_to_none : pressed (key.Arrow Stretch Left 1024) (at 20 50 1 5)
+    ≡ (wish.Nothing, at 20 50 1 1)
+stretch_to_none = refl
+
+-- a block slides as far as all of it stays in the grid
+slide_down : pressed (key.Arrow Slide Down 8) (at 16 3 2 4)
+    ≡ (wish.Do (command.Move (rect 16 3 2 4) 23 3), at 23 3 2 4)
+slide_down = refl
+
+no_room : pressed (key.Arrow Slide Up 1) (at 0 3 2 4) ≡ (wish.Nothing, at 0 3 2 4)
+no_room = refl
+
+fewer_columns : pressed (key.Arrow Grow Left 8) (at 0 0 1 1)
+    ≡ (wish.Do (command.Resize 25 49), at 0 0 1 1)
+fewer_columns = refl
+
+-- not clamped: the session refuses it
+no_columns : wish_of (key.Arrow Grow Left 8) (record { h = 25; w = 6 }) 9 (at 0 0 1 1)
+    ≡ wish.Do (command.Resize 25 0)
+no_columns = refl
+
+rub_back : pressed key.Rub (going (at 4 4 1 1))
+    ≡ (wish.Do (command.Erase (rect 4 3 1 1)), going (at 4 3 1 1))
+rub_back = refl
+
+rub_block : pressed key.Rub (going (at 4 4 2 2))
+    ≡ (wish.Do (command.Erase (rect 4 4 2 2)), going (at 4 4 2 2))
+rub_block = refl
+
+-- in the first column the place at the cursor is erased
+rub_first : pressed key.Rub (going (at 4 0 1 1))
+    ≡ (wish.Do (command.Erase (rect 4 0 1 1)), going (at 4 0 1 1))
+rub_first = refl
+
+-- Delete leaves the cursor, also while typing goes on
+delete : pressed key.Erase (going (at 4 4 1 1))
+    ≡ (wish.Do (command.Erase (rect 4 4 1 1)), going (at 4 4 1 1))
+delete = refl
+
+last_column : pressed (key.Glyph 68) (going (at 4 56 2 1))
+    ≡ (wish.Do (command.Write 4 56 68), going (at 4 56 2 1))
+last_column = refl
+
+-- a glyph that is typed takes the cursor on, and the selection is cut
+typed_on : pressed (key.Glyph 68) (going (at 4 54 2 3))
+    ≡ (wish.Do (command.Write 4 54 68), going (at 4 55 2 2))
+typed_on = refl
+
+typed_in_place : pressed (key.Glyph 68) (at 4 54 2 3)
+    ≡ (wish.Do (command.Write 4 54 68), at 4 54 2 3)
+typed_in_place = refl
+
+escape : pressed key.Escape (going (at 4 4 2 2)) ≡ (wish.Nothing, at 4 4 1 1)
+escape = refl
+
+all : pressed key.All (going (at 4 4 2 2)) ≡ (wish.Nothing, going (at 0 0 25 57))
+all = refl
+
+size : wish_of (key.Screen 3 10) grid 9 (at 4 4 1 1)
+    ≡ wish.Redraw (Some (record { rows = 3; columns = 10 }))
+size = refl

@@ -1,0 +1,134 @@
+-- Keys by their bytes, computed by the definitions: first what plain keys give, then full ones.
+use Rattle.std.specs.Prelude.{⊤, ◌≡◌, ℕ, Bool, false, true, List, [], ◌∷◌, ◌++◌, map, codes, refl}
+use Rattle.orca_base.specs.Ascii.{escape}
+use Rattle.orca_term.specs.Codes.{introducer}
+use Rattle.orca_term.specs.Keys.{Item, Byte, Due, key_of, key_of_numbers, key_of_sequence, keys_from, numbers_from, plain_key, plain_sequence, turn}
+use Rattle.orca_term.specs.declared.keys.Deed.TheVariants.{Move, Stretch, Slide, Grow}
+use Rattle.orca_term.specs.declared.keys.Key.{Key}
+use Rattle.orca_term.specs.declared.keys.Key.TheVariants as key
+use Rattle.orca_term.specs.declared.keys.Pending.TheVariants.{Nothing}
+use Rattle.orca_term.specs.declared.keys.Side.TheVariants.{Up, Down, Left, Right}
+
+unfoldable worked : ⊤
+unfolding keys_from turn key_of plain_key key_of_sequence plain_sequence key_of_numbers numbers_from
+worked = tt
+
+-- the keys of items, from nothing on
+abbrev keys_of : List Item → List Key × List Key
+keys_of items = (keys_from false Nothing items, keys_from true Nothing items)
+
+-- bytes, and a sequence of ESC, a bracket and these bytes
+abbrev bytes : List ℕ → List Item
+bytes text = map Byte text
+
+abbrev sequence : List ℕ → List Item
+sequence text = bytes (introducer ++ text)
+
+-- a key of both readers, and a key of the full one alone
+abbrev Both : List Item → Key → Type 0
+Both items k = keys_of items ≡ (k ∷ [], k ∷ [])
+
+abbrev FullAlone : List Item → Key → Type 0
+FullAlone items k = keys_of items ≡ ([], k ∷ [])
+
+abbrev NoKey : List Item → Type 0
+NoKey items = keys_of items ≡ ([], [])
+
+-- ---- arrows
+
+shift_down : Both (sequence (codes "1;2B")) (key.Arrow Stretch Down 1)
+unfolding worked
+shift_down = refl
+
+alt_right : FullAlone (sequence (codes "1;3C")) (key.Arrow Slide Right 1)
+unfolding worked
+alt_right = refl
+
+alt_shift_down : FullAlone (sequence (codes "1;4B")) (key.Arrow Grow Down 1)
+unfolding worked
+alt_shift_down = refl
+
+control_shift_up : FullAlone (sequence (codes "1;6A")) (key.Arrow Stretch Up 8)
+unfolding worked
+control_shift_up = refl
+
+all_three_right : FullAlone (sequence (codes "1;8C")) (key.Arrow Grow Right 8)
+unfolding worked
+all_three_right = refl
+
+no_such_modifier : NoKey (sequence (codes "1;9C"))
+unfolding worked
+no_such_modifier = refl
+
+home : FullAlone (sequence (codes "H")) (key.Arrow Move Left 1024)
+unfolding worked
+home = refl
+
+end_by_number : FullAlone (sequence (codes "4~")) (key.Arrow Move Right 1024)
+unfolding worked
+end_by_number = refl
+
+shift_page_down : FullAlone (sequence (codes "6;2~")) (key.Arrow Stretch Down 8)
+unfolding worked
+shift_page_down = refl
+
+-- ---- numbers
+
+one_slower : FullAlone (sequence (codes "18~")) (key.Slower 1)
+unfolding worked
+one_slower = refl
+
+ten_faster : FullAlone (sequence (codes "20~")) (key.Faster 10)
+unfolding worked
+ten_faster = refl
+
+no_tempo_with_control : NoKey (sequence (codes "19;5~"))
+unfolding worked
+no_tempo_with_control = refl
+
+size : FullAlone (sequence (codes "8;100;256t")) (key.Screen 100 256)
+unfolding worked
+size = refl
+
+half_a_size : NoKey (sequence (codes "8;50t"))
+unfolding worked
+half_a_size = refl
+
+-- eleven bytes between the bracket and the end
+long_size : FullAlone (sequence (codes "008;100;256t")) (key.Screen 100 256)
+unfolding worked
+long_size = refl
+
+leading_zeros : FullAlone (sequence (codes "001;002A")) (key.Arrow Stretch Up 1)
+unfolding worked
+leading_zeros = refl
+
+four_digits : NoKey (sequence (codes "1;2000A"))
+unfolding worked
+four_digits = refl
+
+one_number_and_a_letter : NoKey (sequence (codes "1A"))
+unfolding worked
+one_number_and_a_letter = refl
+
+-- ---- what stays
+
+letter_after_escape : keys_of (bytes (escape ∷ codes "x")) ≡ (key.Glyph 120 ∷ [], key.Glyph 120 ∷ [])
+unfolding worked
+letter_after_escape = refl
+
+first_function_key : keys_of (bytes (escape ∷ codes "OP"))
+    ≡ (key.Glyph 79 ∷ key.Glyph 80 ∷ [], key.Glyph 79 ∷ key.Glyph 80 ∷ [])
+unfolding worked
+first_function_key = refl
+
+-- thirteen bytes are too many, and end in an arrow that is none
+overlong : Both (sequence (codes "1;1;1;1;1;1;1A7")) (key.Glyph 55)
+unfolding worked
+overlong = refl
+
+-- a due moment leaves a sequence that has begun, and a second ESC drops it
+dropped : Both (sequence (codes "8") ++ Due ∷ bytes (codes ";24") ++ sequence (codes "A"))
+    (key.Arrow Move Up 1)
+unfolding worked
+dropped = refl
