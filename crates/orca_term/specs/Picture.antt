@@ -1,6 +1,6 @@
 -- The picture: of each cell of the screen its byte and its style. The last row is the status line,
 -- and the others are a window on the grid. Styles are those of ECMA-48, select graphic rendition.
-use Rattle.std.specs.Prelude.{ℕ, ◌+◌, ◌-◌, ◌*◌, ◌/◌, ◌%◌, ◌≤◌, ◌==◌, Bool, true, false, ◌||◌, if◌then◌else◌, Option, Some, None, List, ◌++◌, map, codes, slice_index_or}
+use Rattle.std.specs.Prelude.{ℕ, ◌+◌, ◌-◌, ◌*◌, ◌/◌, ◌%◌, ◌≤◌, ◌==◌, Bool, true, false, ◌&&◌, ◌||◌, if◌then◌else◌, Option, Some, None, List, [], ◌++◌, map, codes, slice_index_or}
 use Rattle.std.specs.Fmt.{decimal}
 use Rattle.std.specs.List.{range_with_len}
 use Rattle.orca_base.specs.Ascii.{space}
@@ -9,14 +9,15 @@ use Rattle.orca_base.specs.Glyphs.{empty}
 use Rattle.orca_base.specs.Grids.{Sheet, is_inside, index_of, glyph_at}
 use Rattle.orca_base.specs.MarkSet.{MarkSet, no_marks}
 use Rattle.orca_base.specs.declared.command.Rule.{Rule}
-use Rattle.orca_base.specs.declared.limits.TheConstants.{MIN_SCREEN_ROWS, MAX_SCREEN_ROWS, MIN_SCREEN_COLUMNS, MAX_SCREEN_COLUMNS}
+use Rattle.orca_base.specs.declared.limits.TheConstants.{BEAT_FRAMES, MIN_SCREEN_ROWS, MAX_SCREEN_ROWS, MIN_SCREEN_COLUMNS, MAX_SCREEN_COLUMNS}
 use Rattle.orca_base.specs.declared.place.Place.{Place}
+use Rattle.orca_term.specs.Codes.{plus}
 use Rattle.orca_term.specs.Editing.{area_of}
 use Rattle.orca_base.specs.RuleNames.{rule_name}
 use Rattle.orca_term.specs.declared.cell.Cell.{Cell}
 use Rattle.orca_term.specs.declared.cell.ScreenSize.{ScreenSize}
 use Rattle.orca_term.specs.declared.editor.Editor.{Editor}
-use Rattle.orca_term.specs.declared.limits.TheConstants.{MAX_STYLE}
+use Rattle.orca_term.specs.declared.limits.TheConstants.{MAX_STYLE, RULER_PLACES}
 use Rattle.orca_term.specs.declared.status.StatusLine.{StatusLine}
 
 -- the sizes that a screen may have
@@ -85,12 +86,22 @@ abbrev pub style_at : Scene → Place → ℕ
 style_at scene at =
     style_by (is_in_area (area_of scene.editor) at) (marks_at scene at) (glyph_at scene.sheet at)
 
+-- the places of the ruler
+abbrev pub is_ruled : Place → Bool
+is_ruled at = at.y % RULER_PLACES == 0 && at.x % RULER_PLACES == 0
+
+-- what a place shows: its glyph, or the ruler where it is empty and faint
+abbrev pub byte_at : Scene → Place → ℕ
+byte_at scene at =
+    if scene.editor.guide && is_ruled at && glyph_at scene.sheet at == empty
+    && style_at scene at == faint
+    then plus else glyph_at scene.sheet at
+
 -- the cell of a place; outside the grid it is blank
 unfoldable pub grid_cell : Scene → Place → Cell
 grid_cell scene at =
     if is_inside scene.sheet.dims at
-    then record { byte = glyph_at scene.sheet at; style = style_at scene at }
-    else blank
+    then record { byte = byte_at scene at; style = style_at scene at } else blank
 
 -- the start of the page of so many that a number lies on
 abbrev pub page_of : ℕ → ℕ → ℕ
@@ -111,13 +122,21 @@ abbrev pub note_word : Option Rule → List ℕ
 note_word None = codes "ok"
 note_word (Some rule) = rule_name rule
 
--- the text of the status line
+-- the tempo, and whether the frame that was played last begins a beat
+abbrev pub tempo_word : StatusLine → List ℕ
+tempo_word line =
+    decimal line.tempo ++ codes " "
+    ++ (if line.tick % BEAT_FRAMES == 1 then codes "*" else codes ".")
+
+-- the text of the status line: the guide adds the tempo, and typing that goes on adds a word
 unfoldable pub status_text : Editor → StatusLine → List ℕ
 status_text e line =
     decimal line.tick ++ codes " " ++ decimal line.moments ++ codes " " ++ decimal line.sounding
     ++ codes " " ++ decimal e.y ++ codes "," ++ decimal e.x
     ++ codes " " ++ decimal e.h ++ codes "x" ++ decimal e.w
-    ++ codes " " ++ state_word e.paused ++ codes " " ++ note_word line.note
+    ++ codes " " ++ state_word e.paused
+    ++ (if e.guide then codes " " ++ tempo_word line else [])
+    ++ (if e.append then codes " append" else []) ++ codes " " ++ note_word line.note
 
 -- the cell of a column of the status line: the text is cut at the last column, or filled with
 -- spaces

@@ -2,9 +2,9 @@
 
 use orca_base::limits::{MAX_DIGITS, RULE_NAME_BYTES};
 
-/// The most bytes of the status line: seven numbers, the five letters of a pause, the name of a rule, and
-/// the eight bytes between them.
-pub const STATUS_BYTES: usize = 7 * MAX_DIGITS + 5 + RULE_NAME_BYTES + 8;
+/// The most bytes of the status line: eight numbers, the five letters of a pause, the beat, the six letters
+/// of typing that goes on, the name of a rule, and the eleven bytes between them.
+pub const STATUS_BYTES: usize = 8 * MAX_DIGITS + 5 + 1 + 6 + RULE_NAME_BYTES + 11;
 
 /// The most digits of a number in a form that a terminal reads.
 pub const FORM_DIGITS: usize = 3;

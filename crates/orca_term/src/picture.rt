@@ -1,14 +1,17 @@
 //! The picture of a grid, its marks, the editor and the status line.
 
-ghost use Rattle.std.specs.Prelude.{◌≡◌, ◌+◌, ◌-◌, ◌^◌, ◌<◌, ◌≤◌, ◌++◌, false, length, map, slice_index_or, vec_len, All};
+ghost use Rattle.std.specs.Prelude.{◌≡◌, ◌==◌, ◌+◌, ◌-◌, ◌%◌, ◌^◌, ◌<◌, ◌≤◌, ◌&&◌, ◌++◌, false, if◌then◌else◌, length, map, slice_index_or, vec_len, All};
 ghost use Rattle.std.specs.List.{range_with_len};
 ghost use Rattle.std.specs.Vec.{vec_capacity};
 ghost use Rattle.orca_base.specs.Edits.{is_in_area};
+ghost use Rattle.orca_base.specs.Glyphs.{empty};
 ghost use Rattle.orca_base.specs.Grids.{IsInside};
 ghost use Rattle.orca_base.specs.MarkSet.{no_marks};
+ghost use Rattle.orca_term.specs.Codes.{plus};
 ghost use Rattle.orca_term.specs.Editing.{area_of};
-ghost use Rattle.orca_term.specs.Picture.{IsPrintable, IsPrintableByte, IsScreen, screen_cells, scene_of, style_by, blank, grid_cell, page_of, status_cell, picture};
+ghost use Rattle.orca_term.specs.Picture.{IsPrintable, IsPrintableByte, IsScreen, faint, screen_cells, scene_of, style_by, blank, grid_cell, page_of, status_cell, picture};
 
+use crate::limits::RULER_PLACES;
 use crate::status::status_text;
 use crate::{Cell, Editor, ScreenSize, StatusLine};
 use orca_base::{Glyph, Look, Mark, Marks, Place};
@@ -123,11 +126,19 @@ fn push_places<T: Look>(cells: &mut Vec<Cell>, look: &T, editor: &Editor, at: Pl
     ensures room { vec_capacity cells.new ≡ vec_capacity cells.old }
 {
     let selected = editor.columns_at(at.y);
+    let guided = is_guided(editor, at.y);
     for x in at.x..end {
         let here = Place { y: at.y, x };
         let is_selected = selected.contains(&u32::from(x));
-        cells.push_reserved(place_cell(look, is_selected, here));
+        cells.push_reserved(place_cell(look, is_selected, guided, here));
     }
+}
+
+/// Whether the ruler shows in a row.
+fn is_guided(editor: &Editor, y: u16) -> bool
+    ensures { result ≡ (editor.now.guide && y % RULER_PLACES == 0) }
+{
+    editor.guide && y % RULER_PLACES == 0
 }
 
 /// Appends blanks.
@@ -181,19 +192,34 @@ fn status_cell(text: &[u8], x: u32) -> Cell
     }
 }
 
-/// The cell of a place of the grid.
+/// The cell of a place of the grid, in a row where the ruler shows or where it doesn't.
 #[tactic(auto, unfolding(crate::specs::Picture::grid_cell))]
-fn place_cell<T: Look>(look: &T, selected: bool, at: Place) -> Cell
+fn place_cell<T: Look>(look: &T, selected: bool, guided: bool, at: Place) -> Cell
     requires inside { IsInside (T.sheet look.now).dims at }
     ensures cell { (editor : Editor) → is_in_area (area_of editor) at ≡ selected
+        → (editor.guide && at.y % RULER_PLACES == 0) ≡ guided
         → result ≡ grid_cell (scene_of (T.sheet look.now) (T.marks look.now) editor) at }
     ensures printable { IsPrintable result }
 {
     let glyph = look.glyph_at(at);
+    let style = style_of(selected, look.marks_at(at), glyph);
     Cell {
-        byte: glyph.byte(),
-        style: style_of(selected, look.marks_at(at), glyph),
+        byte: byte_of(guided, at.x, glyph, style),
+        style,
     }
+}
+
+/// What a place shows: its glyph, or the ruler where it is empty and faint.
+fn byte_of(guided: bool, x: u16, glyph: Glyph, style: u8) -> u8
+    ensures byte { result ≡ (if guided && x % RULER_PLACES == 0 && glyph == empty && style == faint
+        then plus else glyph) }
+    ensures printable { IsPrintableByte result }
+{
+    // Without the guide one test is enough.
+    if guided && x % RULER_PLACES == 0 && glyph == Glyph::EMPTY && style == FAINT {
+        return b'+';
+    }
+    glyph.byte()
 }
 
 /// The style of a place.

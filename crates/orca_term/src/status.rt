@@ -1,13 +1,13 @@
 //! The status line.
 
-ghost use Rattle.std.specs.Prelude.{◌≡◌, ◌+◌, ◌≤◌, [], ◌∷◌, ◌++◌, length, All};
+ghost use Rattle.std.specs.Prelude.{◌≡◌, ◌==◌, ◌+◌, ◌%◌, ◌≤◌, [], ◌∷◌, ◌++◌, codes, if◌then◌else◌, length, All};
 ghost use Rattle.std.specs.Fmt.{decimal};
-ghost use Rattle.orca_term.specs.Picture.{IsPrintableByte, state_word, note_word, status_text};
+ghost use Rattle.orca_term.specs.Picture.{IsPrintableByte, state_word, tempo_word, note_word, status_text};
 
 use crate::Editor;
 use crate::limits::STATUS_BYTES;
 use itoa::Buffer;
-use orca_base::limits::{MAX_DIGITS, RULE_NAME_BYTES};
+use orca_base::limits::{BEAT_FRAMES, MAX_DIGITS, RULE_NAME_BYTES};
 use orca_base::{Inline, Rule};
 
 /// The text of a status line.
@@ -22,6 +22,8 @@ pub struct StatusLine {
     pub moments: u32,
     /// How many notes sound.
     pub sounding: u32,
+    /// The tempo, in beats a minute.
+    pub tempo: u16,
     /// The rule that refused the last command, if one did.
     pub note: Option<Rule>,
 }
@@ -41,9 +43,51 @@ pub(crate) fn status_text(editor: &Editor, line: &StatusLine) -> StatusText
     push_number(&mut text, u32::from(editor.h), b'x');
     push_number(&mut text, u32::from(editor.w), b' ');
     push_word(&mut text, state_word(editor.paused));
+    push_tempo(&mut text, editor, line);
+    push_word(&mut text, append_word(editor.append));
     push_word(&mut text, b" ");
     push_word(&mut text, note_word(&line.note));
     text
+}
+
+/// Appends the tempo and the beat, where the guide shows.
+fn push_tempo(text: &mut StatusText, editor: &Editor, line: &StatusLine)
+    requires room { length text.old + MAX_DIGITS + 3 ≤ STATUS_BYTES }
+    requires printable { All IsPrintableByte text.old }
+    ensures text { text.new
+        ≡ text.old ++ (if editor.now.guide then codes " " ++ tempo_word line.now else []) }
+    ensures short { length text.new ≤ length text.old + MAX_DIGITS + 3 }
+    ensures printable { All IsPrintableByte text.new }
+{
+    if !editor.guide {
+        return;
+    }
+    push_word(text, b" ");
+    push_number(text, u32::from(line.tempo), b' ');
+    push_word(text, beat_word(line.tick));
+}
+
+/// Whether the frame before this one begins a beat.
+fn beat_word(tick: u32) -> &'static [u8]
+    ensures word { result.now
+        ≡ (if tick % BEAT_FRAMES == 1 then codes "*" else codes ".") }
+    ensures printable { All IsPrintableByte result.now }
+    ensures short { length result.now ≡ 1 }
+{
+    if u64::from(tick) % BEAT_FRAMES == 1 {
+        b"*"
+    } else {
+        b"."
+    }
+}
+
+/// Whether the cursor goes on after a glyph.
+fn append_word(append: bool) -> &'static [u8]
+    ensures word { result.now ≡ (if append then codes " append" else []) }
+    ensures printable { All IsPrintableByte result.now }
+    ensures short { length result.now ≤ 7 }
+{
+    if append { b" append" } else { b"" }
 }
 
 /// Appends a number and the byte after it.

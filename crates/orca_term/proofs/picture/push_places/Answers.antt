@@ -22,6 +22,7 @@ loop-x-preserved g c =
     let cell : c.place_cell.result ≡ f done =
     c.place_cell.ensures.cell c.args.editor.now
     (c.columns_at-selected.ensures c.loop-x.x ∙ selected)
+    (sym c.is_guided-guided.ensures)
     ∙ ap (λ x. grid_cell scene (record { y = c.args.at.y; x = x })) (sym column) in
     record {
       cells =

@@ -1,0 +1,69 @@
+-- The tempo in the status line, and the ruler, computed by the definitions.
+use Rattle.std.specs.Prelude.{◌≡◌, ℕ, Bool, false, true, None, List, [], ◌∷◌, ◌++◌, codes, replicate, refl}
+use Rattle.std.specs.Fmt.{decimal}
+use Rattle.orca_base.specs.Glyphs.{empty}
+use Rattle.orca_base.specs.MarkSet.{MarkSet, no_marks}
+use Rattle.orca_base.specs.declared.place.Place.{Place}
+use Rattle.orca_term.specs.Picture.{Scene, byte_at, tempo_word}
+use Rattle.orca_term.specs.declared.editor.Editor.{Editor}
+use Rattle.orca_term.specs.declared.status.StatusLine.{StatusLine}
+
+-- an editor in the fourth row and column, with the guide or without it
+abbrev editor : Bool → Bool → Editor
+editor append guide = record {
+  y = 3;
+  x = 3;
+  h = 1;
+  w = 1;
+  paused = false;
+  append = append;
+  guide = guide;
+}
+
+abbrev line : ℕ → StatusLine
+line tick = record { tick = tick; moments = 5; sounding = 0; tempo = 120; note = None }
+
+-- the frame that was played last is the first of its beat
+on_the_beat : tempo_word (line 1) ≡ decimal 120 ++ codes " " ++ codes "*"
+on_the_beat = refl
+
+beat_later : tempo_word (line 5) ≡ decimal 120 ++ codes " " ++ codes "*"
+beat_later = refl
+
+between_beats : tempo_word (line 2) ≡ decimal 120 ++ codes " " ++ codes "."
+between_beats = refl
+
+before_the_first : tempo_word (line 0) ≡ decimal 120 ++ codes " " ++ codes "."
+before_the_first = refl
+
+-- ---- the ruler
+
+abbrev output : MarkSet
+output = record no_marks { output = true }
+
+-- two rows of 17 places: a glyph at row 0, column 8, and an output at row 0, column 16
+abbrev scene : Bool → Scene
+scene guide = record {
+  sheet = record {
+    dims = record { h = 9; w = 17 };
+    cells = replicate 8 empty ++ 65 ∷ replicate 144 empty;
+  };
+  marks = replicate 16 no_marks ++ output ∷ replicate 136 no_marks;
+  editor = editor false guide;
+}
+
+abbrev shown : Bool → ℕ → ℕ → ℕ
+shown guide y x = byte_at (scene guide) (record { y = y; x = x })
+
+on_the_ruler : shown true 8 16 ∷ shown true 0 0 ∷ shown true 8 0 ∷ [] ≡ codes "+++"
+on_the_ruler = refl
+
+beside_the_ruler : shown true 8 1 ∷ shown true 1 8 ∷ shown true 4 4 ∷ [] ≡ codes "..."
+beside_the_ruler = refl
+
+-- a glyph and an output stay what they are
+under_others : shown true 0 8 ∷ shown true 0 16 ∷ [] ≡ codes "A."
+under_others = refl
+
+without_guide : shown false 8 16 ∷ shown false 0 0 ∷ [] ≡ codes ".."
+without_guide = refl
