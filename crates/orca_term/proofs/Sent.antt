@@ -1,16 +1,16 @@
 -- Paintings that are sent one after another.
-use Rattle.std.proofs.Common.{◌≡◌, ℕ, Bool, true, false, cond, Option, Some, None, List, [], ◌∷◌, ◌++◌, length, replicate, refl, sym, ap, ◌∙◌}
+use Rattle.std.proofs.Common.{◌≡◌, ℕ, Bool, true, false, cond, Option, Some, None, List, [], ◌∷◌, ◌++◌, length, refl, sym, ap, ◌∙◌}
 use Rattle.std.specs.Bool.{Decides}
 use Rattle.std.specs.Cmp.Lexicographic.{pointwise}
 use Rattle.std.specs.Option.{option_map, unwrap_or, is_some}
 use Rattle.std.proofs.lemmas.Bool.{false≢true, and_parts, and_from, eqb-true, eq-eqb, not-false}
-use Rattle.std.proofs.lemmas.List.{length-replicate, length-set}
+use Rattle.std.proofs.lemmas.List.{length-set}
 use Rattle.std.proofs.lemmas.Slice.Eq.{slice_eq-Decides}
 use Rattle.orca_term.specs.Forms.{read, forms_after, forms_from, forms_of}
 use Rattle.orca_term.specs.Painting.{painting, is_painted, is_same_cell, row_of}
-use Rattle.orca_term.specs.Picture.{blank, screen_cells}
-use Rattle.orca_term.specs.Terminal.{Terminal, fresh, is_on_cell, with_byte, after_form, after_forms, after_bytes}
-use Rattle.orca_term.specs.Viewing.{painting_bytes, Shows}
+use Rattle.orca_term.specs.Picture.{screen_cells}
+use Rattle.orca_term.specs.Terminal.{Terminal, is_on_cell, with_byte, after_form, after_forms, after_bytes}
+use Rattle.orca_term.specs.Viewing.{IsOf, painting_bytes, Shows}
 use Rattle.orca_term.specs.declared.cell.Cell.{Cell}
 use Rattle.orca_term.specs.declared.cell.ScreenSize.{ScreenSize}
 use Rattle.orca_term.specs.declared.forms.Form.{Form}
@@ -109,43 +109,57 @@ pub unpainted : (d : ScreenSize) (old cells : List Cell) (y : ℕ)
     → is_painted d (Some old) cells y ≡ false → row_of d old y ≡ row_of d cells y
 unpainted d old cells y kept = (rows_same (row_of d old y) (row_of d cells y)).0 (not-false _ kept)
 
--- after these forms the fresh terminal holds what has to be covered
+-- after these forms a terminal holds what has to be covered
 record Ready_for (d : ScreenSize) (last : Option (List Cell)) (cells : List Cell)
-    (sent : List ℕ) : Type 0 where
-  forms : List Form
+    (t : Terminal) (forms : List Form) : Type 0 where
   old : List Cell
-  whole : forms_of sent ≡ Some forms
   len : length old ≡ screen_cells d
-  holds : Holds (after_forms (fresh d) forms) d old
+  holds : Holds (after_forms t forms) d old
   covers : Covers d last old cells
 
+-- the forms of what was sent, after which each terminal of this size is ready
+record Ready_after (d : ScreenSize) (last : Option (List Cell)) (cells : List Cell)
+    (sent : List ℕ) : Type 0 where
+  forms : List Form
+  whole : forms_of sent ≡ Some forms
+  ready : (t : Terminal) → IsOf d t → Ready_for d last cells t forms
+
 ready : (d : ScreenSize) (last : Option (List Cell)) (cells : List Cell) (sent : List ℕ)
-    → Shows d sent last → Ready_for d last cells sent
+    → Shows d sent last → Ready_after d last cells sent
 unfolding after_forms forms_from
 ready d None cells sent nothing = record {
   forms = [];
-  old = replicate (screen_cells d) blank;
   whole = ap forms_of nothing;
-  len = length-replicate (screen_cells d) blank;
-  holds = record { size = refl; cells = refl };
-  covers = λ y row e. absurd (false≢true (sym e));
+  ready = λ t is_of. record {
+    old = t.cells;
+    len = is_of.whole;
+    holds = record { size = is_of.size; cells = refl };
+    covers = λ y row e. absurd (false≢true (sym e));
+  };
 }
 ready d (Some old) cells sent shows =
     let some = some_of (forms_of sent) shows.0 in
-    let size = size-after (fresh d) some.0 in
-    let cells_are : (after_forms (fresh d) some.0).cells ≡ old =
-    ap (λ (o : Option (List Form)). (after_forms (fresh d) (unwrap_or o [])).cells) (sym some.1)
-    ∙ shows.1 in
     record {
       forms = some.0;
-      old = old;
       whole = some.1;
-      len = sym (ap length cells_are) ∙ (size.1 ∙ length-replicate (screen_cells d) blank);
-      holds = record { size = size.0; cells = cells_are };
-      covers = λ y row kept. unpainted d old cells y kept;
+      ready = λ t is_of. shown t is_of (some.0) (some.1);
     }
+  where
+    shown : (t : Terminal) → IsOf d t → (forms : List Form) → forms_of sent ≡ Some forms
+        → Ready_for d (Some old) cells t forms
+    shown t is_of forms are =
+        let size = size-after t forms in
+        let cells_are : (after_forms t forms).cells ≡ old =
+        ap (λ (o : Option (List Form)). (after_forms t (unwrap_or o [])).cells) (sym are)
+        ∙ shows.1 t is_of in
+        record {
+          old = old;
+          len = sym (ap length cells_are) ∙ (size.1 ∙ is_of.whole);
+          holds = record { size = size.0 ∙ is_of.size; cells = cells_are };
+          covers = λ y row kept. unpainted d old cells y kept;
+        }
 
--- after one more painting the terminal shows its picture
+-- after one more painting each terminal shows its picture
 pub sent-more : (d : ScreenSize) (last : Option (List Cell)) (cells : List Cell) (sent : List ℕ)
     → length cells ≡ screen_cells d
     → forms_of (painting_bytes d last cells) ≡ Some (painting d last cells) → Shows d sent last
@@ -156,11 +170,16 @@ sent-more d last cells sent whole read shows =
     (before.forms ++ painting d last cells) =
     forms-append sent (painting_bytes d last cells) Ready before.forms before.whole
     ∙ ap (option_map (λ rest. before.forms ++ rest)) read in
-    let after =
-    after-painting d last before.old cells (after_forms (fresh d) before.forms) before.len whole
-    before.covers before.holds in (
-      ap is_some forms,
-      ap (λ (o : Option (List Form)). (after_forms (fresh d) (unwrap_or o [])).cells) forms
-          ∙ (ap (λ (t : Terminal). t.cells)
-          (after-append (fresh d) before.forms (painting d last cells)) ∙ after.cells),
-    )
+    (ap is_some forms, λ t is_of. shown before.forms t (before.ready t is_of) forms)
+  where
+    shown : (sent_forms : List Form) (t : Terminal) → Ready_for d last cells t sent_forms
+        → forms_of (sent ++ painting_bytes d last cells)
+        ≡ Some (sent_forms ++ painting d last cells)
+        → (after_bytes t (sent ++ painting_bytes d last cells)).cells ≡ cells
+    shown sent_forms t before forms =
+        let after =
+        after-painting d last before.old cells (after_forms t sent_forms) before.len whole
+        before.covers before.holds in
+        ap (λ (o : Option (List Form)). (after_forms t (unwrap_or o [])).cells) forms
+        ∙ (ap (λ (u : Terminal). u.cells)
+        (after-append t sent_forms (painting d last cells)) ∙ after.cells)

@@ -1,5 +1,5 @@
 -- A view after one more painting.
-use Rattle.std.proofs.Common.{◌≡◌, ◌↔◌, ℕ, Bool, true, false, cond, Option, Some, None, List, [], ◌++◌, length, sym, ap, ◌∙◌, subst, arith}
+use Rattle.std.proofs.Common.{◌≡◌, ◌↔◌, ℕ, Bool, true, false, cond, Option, Some, None, List, [], ◌++◌, length, refl, sym, ap, ◌∙◌, subst, arith}
 use Rattle.std.specs.List.{All}
 use Rattle.std.specs.Option.{IfSome, is_some}
 use Rattle.orca_term.specs.Picture.{IsPrintable, IsScreen, screen_cells}
@@ -20,16 +20,18 @@ pub record Paints (d : ScreenSize) (last : Option (List Cell)) (cells : List Cel
   pub printable : All IsPrintable cells
   pub bytes_are : bytes ≡ painting_bytes d last cells
 
-old_whole : (d : ScreenSize) (painted : Bool) (old : List Cell) → length old ≡ screen_cells d
+old_whole : (d : ScreenSize) (painted : Bool) (old : List Cell)
+    → (painted ≡ true → length old ≡ screen_cells d)
     → IfSome (cond painted (Some old) None) (λ old. length old ≡ screen_cells d)
-old_whole d true old len = len
+old_whole d true old len = len refl
 old_whole d false old len = tt
 
 -- the same for a view, by its fields
 pub paints-view : (d : ScreenSize) (painted : Bool) (old : List Cell) (old_bytes bytes : List ℕ)
     (now : Seen) (drawn cells : List Cell)
     → record { size = d; last = cond painted (Some old) None; bytes = old_bytes } ≡ now → IsScreen d
-    → length old ≡ screen_cells d → length drawn ≡ screen_cells d → All IsPrintable drawn
+    → (painted ≡ true → length old ≡ screen_cells d) → length drawn ≡ screen_cells d
+    → All IsPrintable drawn
     → drawn ≡ cells → bytes ≡ painting_bytes now.size now.last cells
     → Paints now.size now.last cells bytes
 paints-view d painted old old_bytes bytes now drawn cells view screen old_len len printable same

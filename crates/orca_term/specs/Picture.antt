@@ -1,6 +1,6 @@
 -- The picture: of each cell of the screen its byte and its style. The last row is the status line,
 -- and the others are a window on the grid. Styles are those of ECMA-48, select graphic rendition.
-use Rattle.std.specs.Prelude.{ℕ, ◌+◌, ◌-◌, ◌*◌, ◌/◌, ◌%◌, ◌≤◌, ◌==◌, Bool, true, false, ◌&&◌, ◌||◌, if◌then◌else◌, Option, Some, None, List, [], ◌++◌, map, codes, slice_index_or}
+use Rattle.std.specs.Prelude.{ℕ, ◌+◌, ◌-◌, ◌*◌, ◌/◌, ◌%◌, ◌≤◌, ◌==◌, Bool, true, false, ◌&&◌, ◌||◌, if◌then◌else◌, Option, Some, None, List, [], ◌++◌, map, codes, max, min, slice_index_or}
 use Rattle.std.specs.Fmt.{decimal}
 use Rattle.std.specs.List.{range_with_len}
 use Rattle.orca_base.specs.Ascii.{space}
@@ -26,6 +26,17 @@ pub record IsScreen (d : ScreenSize) : Type 0 where
   pub few_rows : d.rows ≤ MAX_SCREEN_ROWS
   pub columns : MIN_SCREEN_COLUMNS ≤ d.columns
   pub few_columns : d.columns ≤ MAX_SCREEN_COLUMNS
+
+-- the largest of them
+abbrev pub largest_screen : ScreenSize
+largest_screen = record { rows = MAX_SCREEN_ROWS; columns = MAX_SCREEN_COLUMNS }
+
+-- a size brought into those that a screen may have
+abbrev pub screen_inside : ScreenSize → ScreenSize
+screen_inside d = record {
+  rows = max MIN_SCREEN_ROWS (min d.rows MAX_SCREEN_ROWS);
+  columns = max MIN_SCREEN_COLUMNS (min d.columns MAX_SCREEN_COLUMNS);
+}
 
 -- the number of cells
 abbrev pub screen_cells : ScreenSize → ℕ

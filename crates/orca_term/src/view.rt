@@ -2,13 +2,20 @@
 
 use crate::limits::{CELL_BYTES, ROW_BYTES};
 use crate::painting::paint_rows;
-use crate::picture::{BLANK, draw};
+use crate::picture::draw;
 use crate::{Cell, Editor, ScreenSize, StatusLine};
 use orca_base::limits::{MAX_SCREEN_COLUMNS, MAX_SCREEN_ROWS, MIN_SCREEN_COLUMNS, MIN_SCREEN_ROWS};
 use orca_base::{Look, Memory};
 use std::alloc::Global;
 use std::marker::Model;
 use std::mem;
+
+/// The cells of the largest screen.
+const MOST_CELLS: usize = MAX_SCREEN_ROWS as usize * MAX_SCREEN_COLUMNS as usize;
+
+/// The most bytes of a painting.
+const MOST_BYTES: usize = MAX_SCREEN_ROWS as usize
+    * (ROW_BYTES + CELL_BYTES * MAX_SCREEN_COLUMNS as usize);
 
 /// The view of a performance. A contract sees the size of the screen, the last picture that was painted,
 /// if any, and the bytes of that painting.
@@ -17,7 +24,7 @@ pub struct View {
     size: ScreenSize,
     /// Whether a picture was painted.
     painted: bool,
-    /// The last picture, or blanks.
+    /// The last picture, if one was painted.
     last: Vec<Cell>,
     /// Room for the next picture.
     next: Vec<Cell>,
@@ -25,10 +32,10 @@ pub struct View {
 }
 
 impl Model for View {
-    ghost use Rattle.std.specs.Prelude.{◌≡◌, ◌≤◌, Some, None, length, if◌then◌else◌};
+    ghost use Rattle.std.specs.Prelude.{◌≡◌, ◌≤◌, Some, None, true, length, if◌then◌else◌};
     ghost use Rattle.std.specs.Vec.{vec_capacity};
     ghost use Rattle.orca_term.specs.Painting.{painting_room};
-    ghost use Rattle.orca_term.specs.Picture.{IsScreen, screen_cells};
+    ghost use Rattle.orca_term.specs.Picture.{IsScreen, screen_cells, largest_screen};
     ghost use Rattle.orca_term.specs.Viewing.{Seen};
 
     ghost Value = { Seen };
@@ -40,10 +47,10 @@ impl Model for View {
     } };
 
     ghost invariant = { λ v. IsScreen v.size
-        × (length v.last.items ≡ screen_cells v.size)
-        × (screen_cells v.size ≤ vec_capacity v.last)
-        × (screen_cells v.size ≤ vec_capacity v.next)
-        × (painting_room v.size ≤ vec_capacity v.bytes) };
+        × (v.painted ≡ true → length v.last.items ≡ screen_cells v.size)
+        × (screen_cells largest_screen ≤ vec_capacity v.last)
+        × (screen_cells largest_screen ≤ vec_capacity v.next)
+        × (painting_room largest_screen ≤ vec_capacity v.bytes) };
 }
 
 impl View {
@@ -51,12 +58,12 @@ impl View {
     ghost use Rattle.std.specs.Borrow.{sem};
     ghost use Rattle.orca_base.specs.declared.limits.TheConstants.{MIN_SCREEN_ROWS, MAX_SCREEN_ROWS, MIN_SCREEN_COLUMNS, MAX_SCREEN_COLUMNS};
     ghost use Rattle.orca_term.specs.Lending.{Rests};
-    ghost use Rattle.orca_term.specs.Picture.{IsPrintable, scene_of, picture};
+    ghost use Rattle.orca_term.specs.Picture.{IsPrintable, scene_of, picture, screen_inside};
     ghost use Rattle.orca_term.specs.Terminal.{IsWhole};
     ghost use Rattle.orca_term.specs.Viewing.{painting_bytes, Shows};
 
-    /// A view of a screen of this size, on which nothing was painted. It takes the room for the picture
-    /// and for a whole painting; [`Memory`] if that is refused.
+    /// A view of a screen of this size, on which nothing was painted. It takes the room for the pictures
+    /// and the paintings of the largest screen; [`Memory`] if that is refused.
     pub fn start(alloc: Global, rows: u16, columns: u16) -> Result<View, Memory>
         requires rows { (MIN_SCREEN_ROWS ≤ rows) × (rows ≤ MAX_SCREEN_ROWS) }
         requires columns { (MIN_SCREEN_COLUMNS ≤ columns) × (columns ≤ MAX_SCREEN_COLUMNS) }
@@ -67,12 +74,9 @@ impl View {
               bytes = [];
             }) }
     {
-        let cells = usize::from(rows) * usize::from(columns);
-        let room = usize::from(rows) * (ROW_BYTES + CELL_BYTES * usize::from(columns));
-        let mut last = Vec::with_capacity(alloc, cells)?;
-        last.resize(cells, BLANK)?;
-        let next = Vec::with_capacity(alloc, cells)?;
-        let bytes = Vec::with_capacity(alloc, room)?;
+        let last = Vec::with_capacity(alloc, MOST_CELLS)?;
+        let next = Vec::with_capacity(alloc, MOST_CELLS)?;
+        let bytes = Vec::with_capacity(alloc, MOST_BYTES)?;
         let size = ScreenSize { rows, columns };
         Ok(View {
             size,
@@ -83,9 +87,25 @@ impl View {
         })
     }
 
+    /// From here on the terminal has this size, as far as a screen may have it, and shows whatever it shows:
+    /// the next painting has all rows. This takes no memory.
+    pub fn begin_anew(&mut self, size: ScreenSize)
+        ensures { self.new ≡ record {
+          size = screen_inside size;
+          last = None;
+          bytes = self.old.bytes;
+        } }
+    {
+        self.size = ScreenSize {
+            rows: size.rows.min(MAX_SCREEN_ROWS).max(MIN_SCREEN_ROWS),
+            columns: size.columns.min(MAX_SCREEN_COLUMNS).max(MIN_SCREEN_COLUMNS),
+        };
+        self.painted = false;
+    }
+
     /// The bytes of the painting of what is shown: those rows of the picture that differ from the last
-    /// one, from the first row down, and all rows at the first call. They are whole forms that the small
-    /// terminal reads.
+    /// one, from the first row down, and all rows at the first call and at the first after
+    /// [`View::begin_anew`]. They are whole forms that the small terminal reads.
     pub fn paint<T: Look>(&mut self, look: &T, editor: &Editor, line: &StatusLine) -> &[u8]
         ensures painting { let scene = scene_of (T.sheet look.now) (T.marks look.now) editor.now in
             let cells = picture self.old.size scene line.now in
@@ -101,7 +121,8 @@ impl View {
         ensures printable { let scene = scene_of (T.sheet look.now) (T.marks look.now) editor.now in
             All IsPrintable (picture self.old.size scene line.now) }
 
-        // A small terminal that was sent all paintings so far shows the new picture after this one.
+        // A terminal of the size of the screen that was sent all paintings so far shows the new picture after
+        // this one, whatever it showed before them.
         ensures shows { let scene = scene_of (T.sheet look.now) (T.marks look.now) editor.now in
             let cells = picture self.old.size scene line.now in
             (sent : List ℕ) → Shows self.old.size sent self.old.last
