@@ -1,20 +1,20 @@
 -- Command lines, computed by the definitions: all options of each first word, in one spelling or
 -- the other, and the corners. Single spaces stand between the words of a line.
-use Rattle.std.specs.Prelude.{⊤, ◌≡◌, ◌==◌, true, not, [], ◌∷◌, ◌++◌, Option, Some, None, is_some, codes, refl}
+use Rattle.std.specs.Prelude.{⊤, ◌≡◌, ◌==◌, false, true, not, [], ◌∷◌, ◌++◌, Option, Some, None, is_some, codes, refl}
 use Rattle.std.specs.List.{list_all, slice_split}
 use Rattle.clap.specs.Words.{Text}
 use Rattle.clap.proofs.OnLiterals.{clap_on_literals}
 use Rattle.orca_base.specs.Ascii.{space}
 use Rattle.orca_base.specs.Numbers.{number_of}
 use Rattle.orca_words.specs.Forms.{command_of, forms}
-use Rattle.orca_words.specs.Requests.{Request, Setup, Perform, Make, Migrate, Run, Events, Replay, Play, Smf, Wav, migration_of, number_in, option_text, performance_of, portless_setup_of, recording_of, request_by, request_in_form, request_of, setup_of, workload_of}
+use Rattle.orca_words.specs.Requests.{Request, Setup, Perform, Make, Migrate, Run, Events, Replay, Play, Smf, Wav, migration_of, number_in, option_full, option_text, performance_of, portless_setup_of, recording_of, request_by, request_in_form, request_of, setup_of, workload_of}
 
 -- what a line asks for
 unfoldable asked : Text → Option Request
 asked line = request_of (slice_split (λ byte. byte == space) line)
 
 unfoldable values : ⊤
-unfolding option_text number_in number_of
+unfolding option_text option_full number_in number_of
 values = tt
 
 unfoldable parts : ⊤
@@ -72,12 +72,13 @@ unfolding worked all_set
 replay_all = refl
 
 play_all : asked (codes "play --midi=m --rows 9 g --udp u --osc=o --bpm=90 --save w --limit 9"
-    ++ codes " a --cols=8 --script=s --seed 7")
+    ++ codes " a --cols=8 --keys=full --script=s --seed 7")
     ≡ Some (Perform all_set (Play (record {
       address = codes "a";
       bpm = 90;
       rows = 9;
       cols = 8;
+      full = true;
       save = Some (codes "w");
       script = Some (codes "s");
     })))
@@ -89,11 +90,16 @@ play_none : asked (codes "play g a") ≡ Some (Perform none_set (Play (record {
   bpm = 120;
   rows = 24;
   cols = 80;
+  full = false;
   save = None;
   script = None;
 })))
 unfolding worked none_set
 play_none = refl
+
+play_plain : asked (codes "play g a --keys plain") ≡ asked (codes "play g a")
+unfolding worked
+play_plain = refl
 
 make_some : asked (codes "make 5 64 1024 200")
     ≡ Some (Make (record { seed = 5; height = 64; width = 1024; frames = 200 }))
@@ -174,6 +180,12 @@ refused : list_all (λ line. not (is_some (asked line))) (codes ""
     ∷ codes "play g a --bpm 1000"
     ∷ codes "play g a --rows 1"
     ∷ codes "play g a --cols 257"
+    ∷ codes "play g a --keys all"
+    ∷ codes "play g a --keys="
+    ∷ codes "play g a --keys Full"
+    ∷ codes "play g a --keys"
+    ∷ codes "play g a --keys full --keys full"
+    ∷ codes "run g 3 --keys full"
     ∷ codes "make 1 0 3 4"
     ∷ codes "make 1 1025 3 4"
     ∷ codes "make 1 2 1025 4"

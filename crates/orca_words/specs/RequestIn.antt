@@ -38,6 +38,7 @@ performance_in play = record {
   bpm = play.bpm;
   rows = play.rows;
   cols = play.cols;
+  full = play.full;
   save = text_in play.save;
   script = text_in play.script;
 }

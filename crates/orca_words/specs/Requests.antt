@@ -1,6 +1,7 @@
 -- What the words of the command line ask for.
-use Rattle.std.specs.Prelude.{ℕ, ◌-◌, ◌^◌, ◌&&◌, nat_le, if◌then◌else◌, Option, Some, None, option_map, option_and_then, unwrap_or, List, [], ◌∷◌, codes}
+use Rattle.std.specs.Prelude.{ℕ, ◌-◌, ◌^◌, Bool, true, false, ◌&&◌, nat_le, if◌then◌else◌, Option, Some, None, option_map, option_and_then, unwrap_or, List, [], ◌∷◌, codes}
 use Rattle.std.specs.Option.{option_map_or}
+use Rattle.std.specs.Str.{bytes_eq}
 use Rattle.clap.specs.Walk.{is_empty}
 use Rattle.clap.specs.Words.{Row, Text, fault_of, first_of, matches_of}
 use Rattle.orca_base.specs.Numbers.{number_of}
@@ -19,12 +20,14 @@ pub record Setup : Type 0 where
   pub udp : Option Text
   pub osc : Option Text
 
--- where keys come from and pictures go to, how fast frames are played, and what is saved at the end
+-- where keys come from and which they are, where pictures go to, how fast frames are played, and
+-- what is saved at the end
 pub record Performance : Type 0 where
   pub address : Text
   pub bpm : ℕ
   pub rows : ℕ
   pub cols : ℕ
+  pub full : Bool
   pub save : Option Text
   pub script : Option Text
 
@@ -92,6 +95,18 @@ abbrev pub option_number : List Row → Text → ℕ → ℕ → ℕ → Option 
 option_number found name default least most =
     option_map_or (number_in least most) (option_text found name) (Some default)
 
+-- ---- keys
+
+-- whether these are the full keys or the plain ones, by their name
+abbrev pub keys_named : Text → Option Bool
+keys_named text =
+    if bytes_eq text (codes "full") then Some true
+    else (if bytes_eq text (codes "plain") then Some false else None)
+
+-- whether the words ask for the full keys: plain ones where they don't say
+unfoldable pub option_full : List Row → Option Bool
+option_full found = option_map_or keys_named (option_text found (codes "keys")) (Some false)
+
 -- ---- requests
 
 -- what is made of a number, where there is one
@@ -124,7 +139,7 @@ with_ports found setup = record setup {
 unfoldable pub setup_of : List Row → Option Setup
 setup_of found = option_map (with_ports found) (portless_setup_of found)
 
--- the address, the tempo, the screen and the names of `play`
+-- the address, the tempo, the screen, the keys and the names of `play`
 unfoldable pub performance_of : List Row → Option Performance
 performance_of found =
     with_number (option_number found (codes "bpm") DEFAULT_BPM 1 MAX_BPM) (λ bpm.
@@ -132,14 +147,16 @@ performance_of found =
     MAX_SCREEN_ROWS) (λ rows.
     with_number (option_number found (codes "cols") DEFAULT_SCREEN_COLUMNS MIN_SCREEN_COLUMNS
     MAX_SCREEN_COLUMNS) (λ cols.
+    option_and_then (λ full.
     Some (record {
       address = positional_text found (codes "ADDRESS");
       bpm = bpm;
       rows = rows;
       cols = cols;
+      full = full;
       save = option_text found (codes "save");
       script = option_text found (codes "script");
-    }))))
+    })) (option_full found))))
 
 -- the four numbers of `make`
 unfoldable pub workload_of : List Row → Option Workload

@@ -10,7 +10,9 @@ ghost use Rattle.orca_words.specs.Recordings.{HasSongTempo, IfPerform, RecordsWi
 use crate::command::parse;
 use crate::forms::{FORMS, Form, Verb};
 use crate::limits::{DEFAULT_SCREEN_COLUMNS, DEFAULT_SCREEN_ROWS, MAX_MADE_FRAMES, MIN_SONG_BPM};
-use crate::values::{option_number, option_text, positional_number, positional_text, small_option};
+use crate::values::{
+    option_full, option_number, option_text, positional_number, positional_text, small_option,
+};
 use crate::{Migration, Performance, Recording, Request, Setup, WordsFault, Work, Workload};
 use clap::ArgMatches;
 use orca_base::limits::{
@@ -194,7 +196,7 @@ fn migration<'a>(found: &ArgMatches<'a>) -> Option<Migration<'a>>
     Some(Migration { script, out, seed })
 }
 
-/// The address, the tempo, the screen and the names of `play`.
+/// The address, the tempo, the screen, the keys and the names of `play`.
 #[tactic(auto, unfolding(crate::specs::Requests::performance_of))]
 fn performance<'a>(found: &ArgMatches<'a>) -> Option<Performance<'a>>
     ensures { option_map performance_in result ≡ performance_of (rows_in found.now) }
@@ -214,11 +216,13 @@ fn performance<'a>(found: &ArgMatches<'a>) -> Option<Performance<'a>>
         MIN_SCREEN_COLUMNS,
         MAX_SCREEN_COLUMNS,
     )?;
+    let full = option_full(found)?;
     Some(Performance {
         address: positional_text(found, "ADDRESS"),
         bpm,
         rows,
         cols,
+        full,
         save: option_text(found, "save"),
         script: option_text(found, "script"),
     })

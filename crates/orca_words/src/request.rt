@@ -51,8 +51,8 @@ pub enum Work<'a> {
     Wav(Recording<'a>),
 }
 
-/// Where keys come from and pictures go to, how fast frames are played, and what is saved at the
-/// end.
+/// Where keys come from and which they are, where pictures go to, how fast frames are played, and what is
+/// saved at the end.
 #[derive(Debug, PartialEq, Eq, Drop)]
 pub struct Performance<'a> {
     /// The address at which the keys arrive.
@@ -65,6 +65,8 @@ pub struct Performance<'a> {
     /// The columns of the screen: [`MIN_SCREEN_COLUMNS`](orca_base::limits::MIN_SCREEN_COLUMNS) to
     /// [`MAX_SCREEN_COLUMNS`](orca_base::limits::MAX_SCREEN_COLUMNS).
     pub cols: u16,
+    /// Whether the keys are the full ones, or else the plain ones.
+    pub full: bool,
     /// The file that the grid is saved to.
     pub save: Option<&'a str>,
     /// The file that the commands are saved to.

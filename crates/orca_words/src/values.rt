@@ -1,7 +1,7 @@
 //! The texts and the numbers that a parse found.
 
 ghost use Rattle.std.specs.Prelude.{◌≡◌, ◌≤◌, option_map, IfSome};
-ghost use Rattle.orca_words.specs.Requests.{number_in, option_number, option_text, positional_number, positional_text};
+ghost use Rattle.orca_words.specs.Requests.{keys_named, number_in, option_full, option_number, option_text, positional_number, positional_text};
 ghost use Rattle.orca_words.specs.RequestIn.{rows_in, text_in};
 
 use clap::ArgMatches;
@@ -56,6 +56,29 @@ pub(crate) fn small_option(
 {
     let number = option_number(found, name, default.into(), least.into(), most.into())?;
     Some(number as u16)
+}
+
+/// Whether the words ask for the full keys: plain ones where they do not say. None stands for a text that
+/// names no keys.
+#[tactic(auto, unfolding(crate::specs::Requests::option_full))]
+pub(crate) fn option_full(found: &ArgMatches) -> Option<bool>
+    ensures { result ≡ option_full (rows_in found.now) }
+{
+    match option_text(found, "keys") {
+        Some(text) => keys_named(text),
+        None => Some(false),
+    }
+}
+
+/// Whether these are the full keys or the plain ones, by their name.
+fn keys_named(text: &str) -> Option<bool>
+    ensures { result ≡ keys_named text.now }
+{
+    match text {
+        "full" => Some(true),
+        "plain" => Some(false),
+        _ => None,
+    }
 }
 
 /// The number of a positional, where it lies in this range.
