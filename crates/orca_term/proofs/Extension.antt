@@ -1,5 +1,5 @@
 -- Full keys extend the plain ones.
-use Rattle.std.proofs.Common.{◌≡◌, ◌==◌, ℕ, Bool, true, false, cond, Option, Some, None, List, [], refl}
+use Rattle.std.proofs.Common.{◌≡◌, ◌==◌, ℕ, Bool, true, false, cond, Option, Some, None, [], refl}
 use Rattle.std.specs.Option.{IfSome, option_or}
 use Rattle.orca_base.specs.Ascii.{escape}
 use Rattle.orca_term.specs.Codes.{bracket}

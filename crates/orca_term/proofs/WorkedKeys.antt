@@ -1,5 +1,5 @@
 -- Keys by their bytes, computed by the definitions: first what plain keys give, then full ones.
-use Rattle.std.specs.Prelude.{⊤, ◌≡◌, ℕ, Bool, false, true, List, [], ◌∷◌, ◌++◌, map, codes, refl}
+use Rattle.std.specs.Prelude.{⊤, ◌≡◌, ℕ, false, true, List, [], ◌∷◌, ◌++◌, map, codes, refl}
 use Rattle.orca_base.specs.Ascii.{escape}
 use Rattle.orca_term.specs.Codes.{introducer}
 use Rattle.orca_term.specs.Keys.{Item, Byte, Due, key_of, key_of_numbers, key_of_sequence, keys_from, numbers_from, plain_key, plain_sequence, turn}

@@ -1,6 +1,6 @@
 -- Worked examples of the pacer, in microseconds.
 use Rattle.std.specs.Prelude.{◌≡◌, refl}
-use Rattle.orca_term.specs.Pacing.{Pace, interval, pace_from, parts_from, faster, slower, retimed, due_after}
+use Rattle.orca_term.specs.Pacing.{interval, pace_from, parts_from, faster, slower, retimed, due_after}
 
 -- ten beats more, 50,000 after the start: the frame is due a new interval after the start
 sooner : retimed (faster 10 120) (pace_from 120 0) ≡ record { bpm = 130; parts = 4; due = 115384 }

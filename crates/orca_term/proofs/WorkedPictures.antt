@@ -1,9 +1,8 @@
 -- The tempo in the status line, and the ruler, computed by the definitions.
-use Rattle.std.specs.Prelude.{◌≡◌, ℕ, Bool, false, true, None, List, [], ◌∷◌, ◌++◌, codes, replicate, refl}
+use Rattle.std.specs.Prelude.{◌≡◌, ℕ, Bool, false, true, None, [], ◌∷◌, ◌++◌, codes, replicate, refl}
 use Rattle.std.specs.Fmt.{decimal}
 use Rattle.orca_base.specs.Glyphs.{empty}
 use Rattle.orca_base.specs.MarkSet.{MarkSet, no_marks}
-use Rattle.orca_base.specs.declared.place.Place.{Place}
 use Rattle.orca_term.specs.Picture.{Scene, byte_at, tempo_word}
 use Rattle.orca_term.specs.declared.editor.Editor.{Editor}
 use Rattle.orca_term.specs.declared.status.StatusLine.{StatusLine}

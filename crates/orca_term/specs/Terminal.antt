@@ -51,10 +51,6 @@ IsWhole bytes = IsSome (forms_of bytes)
 abbrev pub after_bytes : Terminal → List ℕ → Terminal
 after_bytes t bytes = after_forms t (unwrap_or (forms_of bytes) [])
 
--- the small terminal after it read these bytes
-abbrev pub terminal_after : ScreenSize → List ℕ → Terminal
-terminal_after d bytes = after_bytes (fresh d) bytes
-
 -- the cell of a row and a column
 abbrev pub terminal_cell : Terminal → ℕ → ℕ → Cell
 terminal_cell t y x = slice_index_or t.cells (y * t.size.columns + x) blank

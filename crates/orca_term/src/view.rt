@@ -87,6 +87,13 @@ impl View {
         })
     }
 
+    /// The size of the screen.
+    pub fn size(&self) -> ScreenSize
+        ensures { result ≡ self.now.size }
+    {
+        self.size
+    }
+
     /// From here on the terminal has this size, as far as a screen may have it, and shows whatever it shows:
     /// the next painting has all rows. This takes no memory.
     pub fn begin_anew(&mut self, size: ScreenSize)

@@ -1,4 +1,4 @@
-use Rattle.std.proofs.Common.{◌≡◌, ◌+◌, ◌<◌, ◌≤◌, Some, None, [], ◌++◌, length, sym, ap, ◌∙◌, arith}
+use Rattle.std.proofs.Common.{sym, ◌∙◌, arith}
 use Rattle.std.proofs.lemmas.List.{length_push}
 use Rattle.orca_term.proofs.NumberLists.{digit_more, number_more, breaks, ends, ends_early}
 use Rattle.orca_term.proofs.numbers.numbers_in.Goals as goal
