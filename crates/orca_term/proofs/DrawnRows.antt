@@ -1,14 +1,19 @@
 -- The picture a row at a time.
-use Rattle.std.proofs.Common.{◌≡◌, ℕ, zero, suc, ◌+◌, ◌-◌, ◌*◌, ◌/◌, ◌%◌, ◌<◌, ◌≤◌, ◌==◌, true, false, map, List, [], ◌∷◌, ◌++◌, append_assoc, refl, ap, sym, ◌∙◌, rules, arith, add-one}
+use Rattle.std.proofs.Common.{◌≡◌, ℕ, zero, suc, ◌+◌, ◌-◌, ◌*◌, ◌/◌, ◌%◌, ◌<◌, ◌≤◌, ◌==◌, Bool, true, false, ◌&&◌, map, List, [], ◌∷◌, ◌++◌, append_assoc, refl, ap, sym, ◌∙◌, rules, arith, add-one}
 use Rattle.std.specs.List.{range_with_len}
 use Rattle.std.proofs.lemmas.Bool.{cond-true, cond-false}
 use Rattle.std.proofs.lemmas.List.{append-nil}
 use Rattle.std.proofs.lemmas.List.FromFn.{map-range_with_len_more}
 use Rattle.std.proofs.lemmas.Nat.{div-mul-add, mod-mul-add}
-use Rattle.orca_base.specs.Grids.{Size, is_inside}
-use Rattle.orca_term.specs.Picture.{Scene, blank, grid_cell, page_of, window_place, status_cell, cell_of, cell_at}
+use Rattle.std.specs.Prelude.{if◌then◌else◌}
+use Rattle.orca_base.specs.Glyphs.{empty}
+use Rattle.orca_base.specs.Grids.{Size, glyph_at, is_inside}
+use Rattle.orca_base.specs.declared.place.Place.{Place}
+use Rattle.orca_term.specs.Codes.{plus}
+use Rattle.orca_term.specs.Picture.{Scene, blank, faint, grid_cell, style_at, page_of, window_place, status_cell, cell_of, cell_at}
 use Rattle.orca_term.specs.declared.cell.Cell.{Cell}
 use Rattle.orca_term.specs.declared.cell.ScreenSize.{ScreenSize}
+use Rattle.orca_term.specs.declared.limits.TheConstants.{RULER_PLACES}
 
 -- a cell more
 pub cell_more : (f : ℕ → Cell) (n : ℕ) (start before after : List Cell) (cell : Cell)
@@ -102,6 +107,50 @@ row_cut scene y left inside columns fits outside =
     ap (λ j. map f (range_with_len 0 j)) whole
     ∙ one_from f blank inside (columns - inside)
     (λ x from to. cond-false _ _ _ (outside x from (omega arith)))
+
+-- the ruler's test, where its row is known
+off_by : (guide row column empty faint : Bool) → (guide && row) ≡ false
+    → (guide && (row && column) && empty && faint) ≡ false
+off_by false row column empty faint off = refl
+off_by true false column empty faint off = refl
+off_by true true column empty faint off = cc
+
+on_by : (guide row column empty faint : Bool) → (guide && row) ≡ true
+    → (guide && (row && column) && empty && faint) ≡ (column && empty && faint)
+on_by false row column empty faint on = cc
+on_by true false column empty faint on = cc
+on_by true true column empty faint on = refl
+
+-- a place of the grid in a row without the ruler, and in one with it
+abbrev pub bare_cell : Scene → Place → Cell
+bare_cell scene at = record { byte = glyph_at scene.sheet at; style = style_at scene at }
+
+pub plain_place : (scene : Scene) (at : Place) → is_inside scene.sheet.dims at ≡ true
+    → (scene.editor.guide && at.y % RULER_PLACES == 0) ≡ false
+    → bare_cell scene at ≡ grid_cell scene at
+unfolding grid_cell
+plain_place scene at inside off =
+    sym (cond-true _ _ _ inside
+    ∙ ap (λ (byte : ℕ). let c : Cell = record { byte = byte; style = style_at scene at } in c)
+    (cond-false _ _ _ (off_by scene.editor.guide (at.y % RULER_PLACES == 0)
+    (at.x % RULER_PLACES == 0) (glyph_at scene.sheet at == empty) (style_at scene at == faint)
+    off)))
+
+pub ruled_place : (scene : Scene) (at : Place) → is_inside scene.sheet.dims at ≡ true
+    → (scene.editor.guide && at.y % RULER_PLACES == 0) ≡ true
+    → record (bare_cell scene at) {
+      byte = if at.x % RULER_PLACES == 0 && glyph_at scene.sheet at == empty
+          && style_at scene at == faint then plus else glyph_at scene.sheet at;
+    } ≡ grid_cell scene at
+unfolding grid_cell
+ruled_place scene at inside on =
+    sym (cond-true _ _ _ inside
+    ∙ ap (λ (b : Bool). let c : Cell = record {
+      byte = if b then plus else glyph_at scene.sheet at;
+      style = style_at scene at;
+    } in c)
+    (on_by scene.editor.guide (at.y % RULER_PLACES == 0) (at.x % RULER_PLACES == 0)
+    (glyph_at scene.sheet at == empty) (style_at scene at == faint) on))
 
 -- the first rows of the screen
 abbrev pub rows_before : ScreenSize → Scene → List ℕ → ℕ → List Cell

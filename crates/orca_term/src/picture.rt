@@ -1,15 +1,15 @@
 //! The picture of a grid, its marks, the editor and the status line.
 
-ghost use Rattle.std.specs.Prelude.{◌≡◌, ◌==◌, ◌+◌, ◌-◌, ◌%◌, ◌^◌, ◌<◌, ◌≤◌, ◌&&◌, ◌++◌, false, if◌then◌else◌, length, map, slice_index_or, vec_len, All};
+ghost use Rattle.std.specs.Prelude.{◌≡◌, ◌==◌, ◌+◌, ◌-◌, ◌%◌, ◌^◌, ◌<◌, ◌≤◌, ◌&&◌, ◌++◌, false, true, if◌then◌else◌, length, map, slice_index_or, vec_len, All};
 ghost use Rattle.std.specs.List.{range_with_len};
 ghost use Rattle.std.specs.Vec.{vec_capacity};
 ghost use Rattle.orca_base.specs.Edits.{is_in_area};
 ghost use Rattle.orca_base.specs.Glyphs.{empty};
-ghost use Rattle.orca_base.specs.Grids.{IsInside};
+ghost use Rattle.orca_base.specs.Grids.{IsInside, glyph_at};
 ghost use Rattle.orca_base.specs.MarkSet.{no_marks};
 ghost use Rattle.orca_term.specs.Codes.{plus};
 ghost use Rattle.orca_term.specs.Editing.{area_of};
-ghost use Rattle.orca_term.specs.Picture.{IsPrintable, IsPrintableByte, IsScreen, faint, screen_cells, scene_of, style_by, blank, grid_cell, page_of, status_cell, picture};
+ghost use Rattle.orca_term.specs.Picture.{IsPrintable, IsPrintableByte, IsScreen, faint, screen_cells, scene_of, style_at, style_by, blank, grid_cell, page_of, status_cell, picture};
 
 use crate::limits::RULER_PLACES;
 use crate::status::status_text;
@@ -109,8 +109,7 @@ fn push_grid_row<T: Look>(
     push_blanks(cells, columns - inside);
 }
 
-/// Appends the cells of a row of the grid, from a place on and up to a column. What is the same for all of
-/// them is worked out before.
+/// Appends the cells of a row of the grid, from a place on and up to a column.
 fn push_places<T: Look>(cells: &mut Vec<Cell>, look: &T, editor: &Editor, at: Place, end: u16)
     requires room { vec_len cells.old + (end - at.x) ≤ vec_capacity cells.old }
     requires inside { IsInside (T.sheet look.now).dims at }
@@ -125,12 +124,58 @@ fn push_places<T: Look>(cells: &mut Vec<Cell>, look: &T, editor: &Editor, at: Pl
     ensures printable { All IsPrintable cells.new.items }
     ensures room { vec_capacity cells.new ≡ vec_capacity cells.old }
 {
+    if is_guided(editor, at.y) {
+        push_ruled_places(cells, look, editor, at, end);
+    } else {
+        push_plain_places(cells, look, editor, at, end);
+    }
+}
+
+/// The same in a row where no ruler shows. What is the same for all cells is worked out before.
+fn push_plain_places<T: Look>(cells: &mut Vec<Cell>, look: &T, editor: &Editor, at: Place, end: u16)
+    requires room { vec_len cells.old + (end - at.x) ≤ vec_capacity cells.old }
+    requires inside { IsInside (T.sheet look.now).dims at }
+    requires order { at.x ≤ end }
+    requires fits { end ≤ (T.sheet look.now).dims.w }
+    requires printable { All IsPrintable cells.old.items }
+    requires plain { (editor.now.guide && at.y % RULER_PLACES == 0) ≡ false }
+    ensures places { let scene = scene_of (T.sheet look.now) (T.marks look.now) editor.now in
+        cells.new.items ≡ cells.old.items ++ map
+        (λ x. grid_cell scene (record { y = at.y; x = at.x + x }))
+        (range_with_len 0 (end - at.x)) }
+    ensures len { vec_len cells.new ≡ vec_len cells.old + (end - at.x) }
+    ensures printable { All IsPrintable cells.new.items }
+    ensures room { vec_capacity cells.new ≡ vec_capacity cells.old }
+{
     let selected = editor.columns_at(at.y);
-    let guided = is_guided(editor, at.y);
     for x in at.x..end {
         let here = Place { y: at.y, x };
         let is_selected = selected.contains(&u32::from(x));
-        cells.push_reserved(place_cell(look, is_selected, guided, here));
+        cells.push_reserved(place_cell(look, is_selected, here));
+    }
+}
+
+/// The same in a row where the ruler shows.
+fn push_ruled_places<T: Look>(cells: &mut Vec<Cell>, look: &T, editor: &Editor, at: Place, end: u16)
+    requires room { vec_len cells.old + (end - at.x) ≤ vec_capacity cells.old }
+    requires inside { IsInside (T.sheet look.now).dims at }
+    requires order { at.x ≤ end }
+    requires fits { end ≤ (T.sheet look.now).dims.w }
+    requires printable { All IsPrintable cells.old.items }
+    requires guided { (editor.now.guide && at.y % RULER_PLACES == 0) ≡ true }
+    ensures places { let scene = scene_of (T.sheet look.now) (T.marks look.now) editor.now in
+        cells.new.items ≡ cells.old.items ++ map
+        (λ x. grid_cell scene (record { y = at.y; x = at.x + x }))
+        (range_with_len 0 (end - at.x)) }
+    ensures len { vec_len cells.new ≡ vec_len cells.old + (end - at.x) }
+    ensures printable { All IsPrintable cells.new.items }
+    ensures room { vec_capacity cells.new ≡ vec_capacity cells.old }
+{
+    let selected = editor.columns_at(at.y);
+    for x in at.x..end {
+        let here = Place { y: at.y, x };
+        let is_selected = selected.contains(&u32::from(x));
+        cells.push_reserved(ruled(place_cell(look, is_selected, here), x));
     }
 }
 
@@ -192,34 +237,36 @@ fn status_cell(text: &[u8], x: u32) -> Cell
     }
 }
 
-/// The cell of a place of the grid, in a row where the ruler shows or where it doesn't.
-#[tactic(auto, unfolding(crate::specs::Picture::grid_cell))]
-fn place_cell<T: Look>(look: &T, selected: bool, guided: bool, at: Place) -> Cell
+/// The glyph and the style of a place of the grid.
+fn place_cell<T: Look>(look: &T, selected: bool, at: Place) -> Cell
     requires inside { IsInside (T.sheet look.now).dims at }
     ensures cell { (editor : Editor) → is_in_area (area_of editor) at ≡ selected
-        → (editor.guide && at.y % RULER_PLACES == 0) ≡ guided
-        → result ≡ grid_cell (scene_of (T.sheet look.now) (T.marks look.now) editor) at }
+        → result ≡ record {
+          byte = glyph_at (T.sheet look.now) at;
+          style = style_at (scene_of (T.sheet look.now) (T.marks look.now) editor) at;
+        } }
     ensures printable { IsPrintable result }
 {
     let glyph = look.glyph_at(at);
-    let style = style_of(selected, look.marks_at(at), glyph);
     Cell {
-        byte: byte_of(guided, at.x, glyph, style),
-        style,
+        byte: glyph.byte(),
+        style: style_of(selected, look.marks_at(at), glyph),
     }
 }
 
-/// What a place shows: its glyph, or the ruler where it is empty and faint.
-fn byte_of(guided: bool, x: u16, glyph: Glyph, style: u8) -> u8
-    ensures byte { result ≡ (if guided && x % RULER_PLACES == 0 && glyph == empty && style == faint
-        then plus else glyph) }
-    ensures printable { IsPrintableByte result }
+/// What a column of the ruler shows in place of a cell: the ruler where the place is empty and faint.
+fn ruled(cell: Cell, x: u16) -> Cell
+    requires { IsPrintable cell }
+    ensures cell { result ≡ record cell {
+      byte = if x % RULER_PLACES == 0 && cell.byte == empty && cell.style == faint
+          then plus else cell.byte;
+    } }
+    ensures printable { IsPrintable result }
 {
-    // Without the guide one test is enough.
-    if guided && x % RULER_PLACES == 0 && glyph == Glyph::EMPTY && style == FAINT {
-        return b'+';
+    if x % RULER_PLACES == 0 && cell.byte == Glyph::EMPTY.byte() && cell.style == FAINT {
+        return Cell { byte: b'+', ..cell };
     }
-    glyph.byte()
+    cell
 }
 
 /// The style of a place.
