@@ -1,4 +1,5 @@
--- What full keys make of the editor, and ask for, in a grid of 25 x 57, computed by the definitions.
+-- What full keys make of the editor, and ask for, in a grid of 25 x 57, computed by the
+-- definitions.
 use Rattle.std.specs.Prelude.{◌≡◌, ℕ, false, true, Some, refl}
 use Rattle.orca_base.specs.Grids.{Size}
 use Rattle.orca_base.specs.declared.area.Rect.{Rect}

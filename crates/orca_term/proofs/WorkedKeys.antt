@@ -113,7 +113,7 @@ one_number_and_a_letter = refl
 
 -- ---- what stays
 
-letter_after_escape : keys_of (bytes (escape ∷ codes "x")) ≡ (key.Glyph 120 ∷ [], key.Glyph 120 ∷ [])
+letter_after_escape : Both (bytes (escape ∷ codes "x")) (key.Glyph 120)
 unfolding worked
 letter_after_escape = refl
 

@@ -40,29 +40,38 @@ before_the_first = refl
 abbrev output : MarkSet
 output = record no_marks { output = true }
 
--- two rows of 17 places: a glyph at row 0, column 8, and an output at row 0, column 16
+abbrev input : MarkSet
+input = record no_marks { input = true }
+
+abbrev locked : MarkSet
+locked = record no_marks { lock = true }
+
+-- nine rows of 17 places: in the first one an input in column 0, a glyph in column 8, and an output
+-- in column 16; and in the last one a locked glyph in column 8, and a locked place in column 16
 abbrev scene : Bool → Scene
 scene guide = record {
   sheet = record {
     dims = record { h = 9; w = 17 };
-    cells = replicate 8 empty ++ 65 ∷ replicate 144 empty;
+    cells = replicate 8 empty ++ 65 ∷ replicate 135 empty ++ 66 ∷ replicate 8 empty;
   };
-  marks = replicate 16 no_marks ++ output ∷ replicate 136 no_marks;
+  marks = input ∷ replicate 15 no_marks ++ output ∷ replicate 127 no_marks ++ locked
+      ∷ replicate 7 no_marks ++ locked ∷ [];
   editor = editor false guide;
 }
 
 abbrev shown : Bool → ℕ → ℕ → ℕ
 shown guide y x = byte_at (scene guide) (record { y = y; x = x })
 
-on_the_ruler : shown true 8 16 ∷ shown true 0 0 ∷ shown true 8 0 ∷ [] ≡ codes "+++"
+on_the_ruler : shown true 8 0 ∷ shown true 8 16 ∷ [] ≡ codes "++"
 on_the_ruler = refl
 
 beside_the_ruler : shown true 8 1 ∷ shown true 1 8 ∷ shown true 4 4 ∷ [] ≡ codes "..."
 beside_the_ruler = refl
 
--- a glyph and an output stay what they are
-under_others : shown true 0 8 ∷ shown true 0 16 ∷ [] ≡ codes "A."
+-- an input, an output and glyphs stay what they are, also a faint glyph
+under_others : shown true 0 0 ∷ shown true 0 16 ∷ shown true 0 8 ∷ shown true 8 8 ∷ []
+    ≡ codes "..AB"
 under_others = refl
 
-without_guide : shown false 8 16 ∷ shown false 0 0 ∷ [] ≡ codes ".."
+without_guide : shown false 8 16 ∷ shown false 8 0 ∷ [] ≡ codes ".."
 without_guide = refl

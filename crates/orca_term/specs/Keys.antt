@@ -1,5 +1,6 @@
 -- Keys: what the bytes of a terminal mean. Control characters are those of ASCII, and sequences
--- those of ECMA-48. There are plain keys and full ones: whatever is a plain key is the same full key.
+-- those of ECMA-48. There are plain keys and full ones: whatever is a plain key is the same full
+-- key.
 use Rattle.std.specs.Prelude.{ℕ, ◌≡◌, ◌-◌, ◌%◌, Bool, ◌&&◌, ◌==◌, max, nat_le, nat_lt, if◌then◌else◌, Option, Some, None, IfSome, option_map, option_and_then, List, [], ◌∷◌, ◌++◌, length}
 use Rattle.std.specs.Option.{option_or, option_to_list}
 use Rattle.orca_base.specs.Ascii.{escape}

@@ -1,5 +1,5 @@
--- The pacer: when the next part of a beat is due, in microseconds. A frame is such a part, and so is
--- a clock.
+-- The pacer: when the next part of a beat is due, in microseconds. A frame is such a part, and so
+-- is a clock.
 use Rattle.std.specs.Prelude.{ℕ, ◌+◌, ◌-◌, ◌*◌, ◌^◌, ◌/◌, max, min, nat_lt, if◌then◌else◌}
 use Rattle.orca_base.specs.declared.limits.TheConstants.{BEAT_FRAMES, MAX_BPM, MINUTE_MICROSECONDS}
 

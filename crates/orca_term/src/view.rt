@@ -128,7 +128,7 @@ impl View {
         ensures printable { let scene = scene_of (T.sheet look.now) (T.marks look.now) editor.now in
             All IsPrintable (picture self.old.size scene line.now) }
 
-        // A terminal of the size of the screen that was sent all paintings so far shows the new picture after
+        // A terminal of this size that was sent all paintings so far shows the new picture after
         // this one, whatever it showed before them.
         ensures shows { let scene = scene_of (T.sheet look.now) (T.marks look.now) editor.now in
             let cells = picture self.old.size scene line.now in
