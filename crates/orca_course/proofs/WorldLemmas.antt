@@ -6,6 +6,7 @@ use Rattle.std.specs.Prelude.{Bool, true, false, ◌||◌, All, Option, None, Re
 use Rattle.orca_base.specs.declared.command.Command.{Command}
 use Rattle.orca_term.specs.Picture.{IsPrintable}
 use Rattle.orca_term.specs.declared.cell.Cell.{Cell}
+use Rattle.orca_term.specs.declared.cell.ScreenSize.{ScreenSize}
 use Rattle.orca_rig.specs.Outside.{Contents}
 use Rattle.orca_base.specs.Ports.{Sent}
 use Rattle.orca_rig.specs.declared.fault.OutsideFault.{OutsideFault}
@@ -14,7 +15,7 @@ use Rattle.orca_rig.specs.declared.fault.OutsideFault.TheVariants.{Memory}
 use Rattle.orca_trace.specs.Calls.{Call}
 use Rattle.orca_trace.specs.Calls.Call.{Await as CallAwait, Give as CallGive}
 use Rattle.orca_course.specs.Acts.{Act, ArePrintable, calls_in, given}
-use Rattle.orca_course.specs.Acts.Act.{Await, Give, Load, Obey, Save, Show, Stand}
+use Rattle.orca_course.specs.Acts.Act.{Await, Give, Load, Obey, Save, Screen, Show, Stand}
 use Rattle.orca_course.specs.Answered.{done_in, is_file_fault, refused_in}
 use Rattle.orca_course.specs.Standings.{Standing}
 use Rattle.orca_course.specs.Worlds.{AreCalled, AreCounted, AreStored, Called, Counts, IsCounted, Made, Polled, Sated, Stores, Unsent, Wants, World, has_ended, has_failed, is_lost, is_unstored, owing}
@@ -136,7 +137,7 @@ made_alike : {xs ys : List Act} {bill : ℕ} {x y : World} → calls_in ys ≡ c
 made_alike {xs = xs} {ys = ys} {x = x} {y = y} same shows made =
     record { called = called_alike xs ys x y same made.called; shows = shows; paid = made.paid }
 
--- where the run stands, a command and a picture are no calls
+-- where the run stands, a command, a picture and a size are no calls
 
 pub made_stand : {acts : List Act} {bill : ℕ} {x y : World} (s : Standing) → Made acts bill x y
     → Made (Stand s ∷ acts) bill x y
@@ -149,6 +150,10 @@ made_obey command made = made_alike refl made.shows made
 pub made_show : {acts : List Act} {bill : ℕ} {x y : World} (cells : List Cell)
     → All IsPrintable cells → Made acts bill x y → Made (Show cells ∷ acts) bill x y
 made_show cells printable made = made_alike refl (printable, made.shows) made
+
+pub made_screen : {acts : List Act} {bill : ℕ} {x y : World} (d : ScreenSize)
+    → Made acts bill x y → Made (Screen d ∷ acts) bill x y
+made_screen d made = made_alike refl made.shows made
 
 -- the inbox has failed exactly if it had, or failed at one of the acts
 pub lost_made : {acts : List Act} {bill : ℕ} {x y : World} → Made acts bill x y

@@ -8,10 +8,12 @@ use Rattle.orca_rig.specs.Handed.{Attached}
 use Rattle.orca_trace.specs.Calls.{Poll}
 use Rattle.orca_term.specs.Picture.{IsPrintable}
 use Rattle.orca_term.specs.declared.cell.Cell.{Cell}
+use Rattle.orca_term.specs.declared.cell.ScreenSize.{ScreenSize}
 use Rattle.orca_course.specs.Standings.{Standing}
 
 -- one call on the outside, with its answer where that decides what follows; and, between calls, the
--- commands, where they leave the run, and the pictures that were painted
+-- commands, where they leave the run, the pictures that were painted, and the sizes of the terminal
+-- that were told
 pub data Act : Type 0 where
   -- a port is attached to a name
   Attach : Attached → Act
@@ -31,6 +33,8 @@ pub data Act : Type 0 where
   Stand : Standing → Act
   -- the picture is painted; no call
   Show : List Cell → Act
+  -- from here on the terminal has this size, and shows whatever it shows; no call
+  Screen : ScreenSize → Act
 
 -- ---- calls
 
@@ -40,6 +44,7 @@ calls_in [] = []
 calls_in (Obey command ∷ acts) = calls_in acts
 calls_in (Stand s ∷ acts) = calls_in acts
 calls_in (Show cells ∷ acts) = calls_in acts
+calls_in (Screen d ∷ acts) = calls_in acts
 calls_in (act ∷ acts) = act ∷ calls_in acts
 
 -- the sends among acts
