@@ -4,7 +4,7 @@ use Rattle.orca_base.specs.Grids.{Sheet}
 use Rattle.orca_concert.specs.Concerts.{Concert, concert, concert_course}
 use Rattle.orca_concert.specs.Manners.{Manner}
 use Rattle.orca_course.specs.Acts.{Act}
-use Rattle.orca_course.specs.Acts.Act.{Obey, Show, Stand}
+use Rattle.orca_course.specs.Acts.Act.{Obey, Screen, Show, Stand}
 use Rattle.orca_course.specs.Courses.{Course}
 use Rattle.orca_course.specs.Standings.{standing}
 use Rattle.orca_course.specs.declared.ending.Stop.{Stop}
@@ -35,4 +35,5 @@ calls_in [] = []
 calls_in (Obey command ∷ acts) = calls_in acts
 calls_in (Stand s ∷ acts) = calls_in acts
 calls_in (Show cells ∷ acts) = calls_in acts
+calls_in (Screen d ∷ acts) = calls_in acts
 calls_in (act ∷ acts) = act ∷ calls_in acts
