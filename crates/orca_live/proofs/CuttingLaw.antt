@@ -44,7 +44,7 @@ use Rattle.orca_live.proofs.GivenLemmas.{commands_before, finish_closes, paint_c
 -- no moments, no pace and no screen
 abbrev plain : LiveState → LiveState
 plain s = record s {
-  pace = record { interval = 0; due = 0 };
+  pace = record { bpm = 0; parts = 0; due = 0 };
   screen = record { rows = 0; columns = 0 };
   shown = None;
   at = 0;
@@ -138,21 +138,24 @@ wish_plain wish.Toggle s =
     (either_core s.editor.paused s _ refl ∙ sym (either_core s.editor.paused (plain s) _ refl))
 wish_plain wish.Save s = refl
 wish_plain wish.Quit s = refl
+wish_plain (wish.Slower beats) s = refl
+wish_plain (wish.Faster beats) s = refl
+wish_plain (wish.Redraw size) s = refl
 
 press_steady : (key : Option Key) → Steady (press_course key)
 unfolding press_course key_course struck_course
 press_steady None s = ap (quiet false) (sym (core_fitted s))
 press_steady (Some key) s =
     let t = fitted s in
-    wish_plain (wish_of key (moments_at t) t.editor)
+    wish_plain (wish_of key (dims_at t) (moments_at t) t.editor)
     (record t { editor = editor_after key (dims_at t) t.editor })
     ∙ ap (λ u. told (struck_course key u)) (sym (core_fitted s))
 
 item_steady : (item : Item) → Steady (item_course item)
 unfolding item_course
 item_steady item s =
-    press_steady (turn s.pending item).key
-    (record s { pending = (turn s.pending item).pending })
+    press_steady (turn s.setting.full s.pending item).key
+    (record s { pending = (turn s.setting.full s.pending item).pending })
 
 -- ---- frames
 

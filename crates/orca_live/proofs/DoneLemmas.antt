@@ -14,10 +14,10 @@ use Rattle.orca_course.specs.declared.ending.Stop.{Stop}
 use Rattle.orca_course.specs.declared.refused.NoMemory.{NoMemory}
 use Rattle.orca_course.proofs.CourseLemmas.{still_onward}
 use Rattle.orca_course.proofs.DoingLemmas.{does_mapped, does_still, does_then, does_owing, does_acts, does_cut, does_joined, rests_mute, rests_none}
-use Rattle.orca_course.specs.Acts.Act.{Save, Give, Show}
+use Rattle.orca_course.specs.Acts.Act.{Save, Screen, Give, Show}
 use Rattle.orca_course.proofs.CallLemmas.{calls_one, does_calls}
 use Rattle.orca_course.specs.Acts.{AreMute}
-use Rattle.orca_course.proofs.WorldLemmas.{made_none, made_show}
+use Rattle.orca_course.proofs.WorldLemmas.{made_none, made_screen, made_show}
 use Rattle.orca_edit.specs.Machines.{preview_of}
 use Rattle.orca_edit.specs.Prices.{preview_price}
 use Rattle.orca_term.specs.Pacing.{Pace}
@@ -30,7 +30,8 @@ use Rattle.orca_term.specs.declared.keys.Pending.{Pending}
 use Rattle.orca_term.specs.Picture.{IsPrintable}
 use Rattle.orca_term.specs.Viewing.{Seen, painting_bytes}
 use Rattle.orca_term.specs.declared.cell.Cell.{Cell}
-use Rattle.orca_live.specs.Performing.{close_course, command_course, keeping_command, of_session, item_course, key_course, press_course, struck_course, wish_course, paint_course, painted_course, picture_at, preview_course, show_course, view_sends}
+use Rattle.orca_term.specs.declared.cell.ScreenSize.{ScreenSize}
+use Rattle.orca_live.specs.Performing.{close_course, command_course, keeping_command, of_session, item_course, key_course, press_course, struck_course, wish_course, paint_course, painted_course, picture_at, preview_course, redrawn, show_course, view_sends}
 use Rattle.orca_live.specs.Quiet.{silent_manner}
 use Rattle.orca_live.specs.States.{LiveState, live_stance, dims_at, fitted, moments_at, piece_at}
 
@@ -43,14 +44,18 @@ does_from {v = v} {c = c} r {s = s} {t = t} {x = x} {y = y} {result = result} sa
     (does_then (λ u. c) (does_still x same) did)
 
 -- a pace alone has changed
-pub does_paced : (s : LiveState) (p q : Pace) (x : World) → q.interval ≡ p.interval
-    → q.due ≡ p.due
+pub does_paced : (s : LiveState) (p q : Pace) (x : World) → q ≡ p
     → Does {E = Stop} live_stance (still (record s { pace = p })) s x (Ok None)
     (record s { pace = q }) x
-does_paced s p q x steps falls =
-    let same : q ≡ p =
-    ap (λ n. record q { interval = n }) steps ∙ ap (λ due. record p { due = due }) falls in
-    rw same (does_still x refl)
+does_paced s p q x same = rw same (does_still x refl)
+
+-- the terminal begins anew
+pub redrawn_did : (d size : ScreenSize) (s : LiveState) (last : Option (List Cell)) (x : World)
+    → size ≡ d → last ≡ None
+    → Does live_stance (redrawn d s) s x (Ok None) (record s { screen = size; shown = last }) x
+redrawn_did d size s last x same none =
+    rw (same, none) (does_acts (made_screen d (made_none x)) refl
+    (rests_mute live_stance s (record s { screen = d; shown = None }) (Screen d ∷ []) tt refl))
 
 -- ---- the session alone
 
@@ -96,7 +101,7 @@ close_did s t result did = session_did (silence_course silent_manner) s t result
 
 -- the editor has changed, and then what the key asks for was done
 pub struck_did : (key : Key) (s : LiveState) (w : Wish) (e : Editor) {t : LiveState} {x y : World}
-    {result : Result (Option Stop) NoMemory} → w ≡ wish_of key (moments_at s) s.editor
+    {result : Result (Option Stop) NoMemory} → w ≡ wish_of key (dims_at s) (moments_at s) s.editor
     → e ≡ editor_after key (dims_at s) s.editor
     → Does live_stance (wish_course w (record s { editor = e })) (record s { editor = e }) x result
     t y
@@ -114,8 +119,8 @@ press_some key some s u is fits did = rw is (does_from s refl (rw fits at did))
 
 -- an item, whose key was pressed
 pub item_did : (item : Item) (s : LiveState) (key : Option Key) (p : Pending) {t : LiveState}
-    {x y : World} {result : Result (Option Stop) NoMemory} → key ≡ (turn s.pending item).key
-    → p ≡ (turn s.pending item).pending
+    {x y : World} {result : Result (Option Stop) NoMemory} → key ≡ (turn s.setting.full s.pending item).key
+    → p ≡ (turn s.setting.full s.pending item).pending
     → Does live_stance (press_course key (record s { pending = p })) (record s { pending = p }) x
     result t y
     → Does live_stance (item_course item s) s x result t y

@@ -1,4 +1,4 @@
--- A terminal that is sent all paintings shows each picture.
+-- A terminal that is sent all paintings since its size was told shows each picture.
 use Rattle.std.proofs.Common.{◌≡◌, ℕ, true, length, List, [], ◌∷◌, ◌++◌, refl, sym, ◌∙◌, ap, append-nil}
 use Rattle.std.specs.Prelude.{All, IfSome, Option, Some}
 use Rattle.std.proofs.lemmas.List.FromFn.{length-map-range_with_len}
@@ -8,7 +8,7 @@ use Rattle.orca_base.specs.declared.message.Message.TheVariants as message
 use Rattle.orca_base.specs.MarkSet.{MarkSet}
 use Rattle.orca_concert.specs.Concerts.{close_course as silence_course, command_course as obey_course, handed_of}
 use Rattle.orca_course.specs.Acts.{Act, ArePrintable, gives}
-use Rattle.orca_course.specs.Acts.Act.{Give, Show, Stand}
+use Rattle.orca_course.specs.Acts.Act.{Give, Screen, Show, Stand}
 use Rattle.orca_course.specs.Courses.{mapped, onward}
 use Rattle.orca_course.specs.Performers.{performance}
 use Rattle.orca_course.specs.Standings.{Standing, notes_of, standing_after, standing_closed}
@@ -27,36 +27,43 @@ use Rattle.orca_live.specs.States.{LiveState}
 
 -- ---- acts after acts
 
--- up to the first picture with a cell that a terminal can't show, the terminal that was sent all
--- bytes so far shows each picture; and then this holds of all bytes that were sent
-abbrev ShownThen : ScreenSize → (List ℕ → Type 0) → List ℕ → List Act → Type 0
-ShownThen d after sent [] = after sent
+-- up to the first picture with a cell that a terminal can't show, a terminal of the size that was
+-- told last, that was sent all bytes since then, shows each picture; and then this holds of the last
+-- size, and of the bytes since then
+abbrev ShownThen : ScreenSize → (ScreenSize → List ℕ → Type 0) → List ℕ → List Act → Type 0
+ShownThen d after sent [] = after d sent
 ShownThen d after sent (Give piece ∷ acts) = ShownThen d after (sent ++ viewed piece) acts
 ShownThen d after sent (Show cells ∷ acts) =
     All IsPrintable cells → Shows d sent (Some cells) × ShownThen d after sent acts
+ShownThen d after sent (Screen e ∷ acts) = ShownThen e after [] acts
 ShownThen d after sent (_ ∷ acts) = ShownThen d after sent acts
 
-shown_twice : (d : ScreenSize) (some all : List ℕ → Type 0) (sent : List ℕ) (xs ys : List Act)
-    → ShownThen d some sent xs → ((sent : List ℕ) → some sent → ShownThen d all sent ys)
+shown_twice : (d : ScreenSize) (some all : ScreenSize → List ℕ → Type 0) (sent : List ℕ)
+    (xs ys : List Act) → ShownThen d some sent xs
+    → ((e : ScreenSize) (sent : List ℕ) → some e sent → ShownThen e all sent ys)
     → ShownThen d all sent (xs ++ ys)
-shown_twice d some all sent [] ys first second = second sent first
+shown_twice d some all sent [] ys first second = second d sent first
 shown_twice d some all sent (Give piece ∷ xs) ys first second =
     shown_twice d some all (sent ++ viewed piece) xs ys first second
 shown_twice d some all sent (Show cells ∷ xs) ys first second = λ printable.
     let shows = first printable in
     (shows.0, shown_twice d some all sent xs ys shows.1 second)
+shown_twice d some all sent (Screen e ∷ xs) ys first second =
+    shown_twice e some all [] xs ys first second
 shown_twice d some all sent (_ ∷ xs) ys first second =
     shown_twice d some all sent xs ys first second
 
 -- a beginning
-shows_front : (d : ScreenSize) (after : List ℕ → Type 0) (sent : List ℕ) (xs ys : List Act)
-    → ShownThen d after sent (xs ++ ys) → ArePrintable xs → ShowsPictures d sent xs
+shows_front : (d : ScreenSize) (after : ScreenSize → List ℕ → Type 0) (sent : List ℕ)
+    (xs ys : List Act) → ShownThen d after sent (xs ++ ys) → ArePrintable xs → ShowsPictures d sent xs
 shows_front d after sent [] ys shows printable = tt
 shows_front d after sent (Give piece ∷ xs) ys shows printable =
     shows_front d after (sent ++ viewed piece) xs ys shows printable
 shows_front d after sent (Show cells ∷ xs) ys shows printable =
     let here = shows printable.0 in
     (here.0, shows_front d after sent xs ys here.1 printable.1)
+shows_front d after sent (Screen e ∷ xs) ys shows printable =
+    shows_front e after [] xs ys shows printable
 shows_front d after sent (_ ∷ xs) ys shows printable =
     shows_front d after sent xs ys shows printable
 
@@ -73,7 +80,7 @@ record IsSeen (d own : ScreenSize) (last : Option (List Cell)) (sent : List ℕ)
 abbrev Displays : LiveState → List Act → LiveState → Type 0
 Displays s acts t =
     (d : ScreenSize) (sent : List ℕ) → IsSeen d s.screen s.shown sent
-    → ShownThen d (IsSeen d t.screen t.shown) sent acts
+    → ShownThen d (λ e sent. IsSeen e t.screen t.shown sent) sent acts
 
 -- ---- messages
 
@@ -87,8 +94,8 @@ no_views (message.Udp text) = refl
 no_views (message.Osc path values) = refl
 
 -- messages are handed out, and then the run stands so
-handed_shows : (d : ScreenSize) (after : List ℕ → Type 0) (t : Standing) (messages : List Message)
-    (sent : List ℕ) → after sent
+handed_shows : (d : ScreenSize) (after : ScreenSize → List ℕ → Type 0) (t : Standing)
+    (messages : List Message) (sent : List ℕ) → after d sent
     → ShownThen d after sent ((gives (handed_of true messages) ++ Stand t ∷ []) ++ [])
 handed_shows d after t [] sent seen = seen
 handed_shows d after t (message ∷ messages) sent seen =
@@ -100,19 +107,19 @@ displays_command : (command : Command) (s : LiveState)
 unfolding command_course obey_course onward mapped
 displays_command command s d sent seen =
     let o = obey s.standing.machine command in
-    handed_shows d (IsSeen d s.screen s.shown) (standing_after s.standing o) o.messages sent seen
+    handed_shows d (λ e sent. IsSeen e s.screen s.shown sent) (standing_after s.standing o) o.messages sent seen
 
 displays_close : (s : LiveState) → Displays s (close_course s).acts (close_course s).state
 unfolding close_course silence_course onward mapped
 displays_close s d sent seen =
-    handed_shows d (IsSeen d s.screen s.shown) (standing_closed s.standing)
+    handed_shows d (λ e sent. IsSeen e s.screen s.shown sent) (standing_closed s.standing)
     (ends (notes_of s.standing)) sent seen
 
 -- ---- paintings
 
-painting_shows : (d : ScreenSize) (after : List ℕ → Type 0) (sent bytes : List ℕ)
+painting_shows : (d : ScreenSize) (after : ScreenSize → List ℕ → Type 0) (sent bytes : List ℕ)
     (cells : List Cell)
-    → (All IsPrintable cells → Shows d (sent ++ bytes) (Some cells) × after (sent ++ bytes))
+    → (All IsPrintable cells → Shows d (sent ++ bytes) (Some cells) × after d (sent ++ bytes))
     → ShownThen d after sent (view_sends bytes ++ Show cells ∷ [])
 painting_shows d after sent [] cells shows = rw append-nil at shows
 painting_shows d after sent (byte ∷ bytes) cells shows = shows
@@ -125,7 +132,7 @@ displays_paint marks s d sent seen =
     let cells = picture_at marks s in
     let bytes = painting_bytes s.screen s.shown cells in
     let whole = length-map-range_with_len _ 0 (screen_cells s.screen) ∙ ap screen_cells seen.size in
-    painting_shows d (IsSeen d s.screen (Some cells)) sent bytes cells (λ printable.
+    painting_shows d (λ e sent. IsSeen e s.screen (Some cells) sent) sent bytes cells (λ printable.
     let shows = shown_bytes d s.shown cells bytes (record {
       screen = seen.screen;
       old = seen.whole;
@@ -141,11 +148,13 @@ displays_carries : Carries Displays
 displays_carries = record {
   none = λ s t alike d sent seen. rw (alike.screen, alike.shown) seen;
   both = λ r s t xs ys first second d sent seen.
-      shown_twice d (IsSeen d s.screen s.shown) (IsSeen d t.screen t.shown) sent xs ys
-      (first d sent seen) (second d);
+      shown_twice d (λ e sent. IsSeen e s.screen s.shown sent)
+      (λ e sent. IsSeen e t.screen t.shown sent) sent xs ys (first d sent seen) second;
   command = displays_command;
   save = λ name bytes s d sent seen. seen;
   paint = displays_paint;
+  screen = λ e s is d sent seen.
+      record { size = refl; screen = is; whole = tt; shows = refl };
 }
 
 pub shows_performance : ShowsPerformance
@@ -155,5 +164,5 @@ shows_performance s polls begun left screen nothing splits printable =
     performance_carried displays_carries (λ poll t d sent seen. seen) displays_close s polls
     s.screen []
     (rw nothing (record { size = refl; screen = screen; whole = tt; shows = refl })) in
-    shows_front s.screen (IsSeen s.screen last.screen last.shown) [] begun left
+    shows_front s.screen (λ e sent. IsSeen e last.screen last.shown sent) [] begun left
     (rw splits at shows) printable

@@ -94,6 +94,7 @@ keeps_carries = record {
   command = keeps_command;
   save = λ name bytes s. keeps_none s;
   paint = keeps_paint;
+  screen = λ d s is. keeps_none s;
 }
 
 -- ---- cues

@@ -1,12 +1,12 @@
 -- What holds of each step of a performance, and of two in turn, holds of each of its parts. It is
 -- proved here, since that a player is deaf is said of it as a performer, and follows from this.
-use Rattle.std.proofs.Common.{◌≡◌, ◌==◌, ℕ, Bool, true, false, List, [], ◌∷◌, ◌++◌, refl}
-use Rattle.std.specs.Prelude.{if◌then◌else◌, Option, Some, None}
+use Rattle.std.proofs.Common.{◌≡◌, ◌==◌, ℕ, arith, Bool, true, false, List, [], ◌∷◌, ◌++◌, refl}
+use Rattle.std.specs.Prelude.{if◌then◌else◌, Option, Some, None, unwrap_or}
 use Rattle.orca_base.specs.declared.command.Command.{Command}
 use Rattle.orca_base.specs.declared.command.Command.TheVariants.{Frame}
 use Rattle.orca_base.specs.MarkSet.{MarkSet}
 use Rattle.orca_course.specs.Acts.{Act}
-use Rattle.orca_course.specs.Acts.Act.{Save}
+use Rattle.orca_course.specs.Acts.Act.{Save, Screen}
 use Rattle.orca_course.specs.Courses.{Course, each, ended, onward, onward_by, still}
 use Rattle.orca_course.specs.declared.ending.Stop.{Stop}
 use Rattle.orca_course.specs.declared.ending.Stop.TheVariants.{Full}
@@ -16,10 +16,13 @@ use Rattle.orca_rig.specs.declared.inbox.Answer.{Answer}
 use Rattle.orca_rig.specs.declared.inbox.Answer.TheVariants as answer
 use Rattle.orca_term.specs.Editing.{editor_after, wish_of}
 use Rattle.orca_term.specs.Keys.{Byte, Due, Item, turn}
+use Rattle.orca_term.specs.Pacing.{faster, pace_from, slower}
+use Rattle.orca_term.specs.Picture.{IsScreen, screen_inside}
+use Rattle.orca_term.specs.declared.cell.ScreenSize.{ScreenSize}
 use Rattle.orca_term.specs.declared.editor.Wish.{Wish}
 use Rattle.orca_term.specs.declared.editor.Wish.TheVariants as wish
 use Rattle.orca_term.specs.declared.keys.Key.{Key}
-use Rattle.orca_live.specs.Performing.{answer_course, answered_at, byte_course, close_course, command_course, due_course, finish_course, fired, frame_course, heard_course, if_named, item_course, key_course, last_grid_course, last_script_course, open_course, pace_from, paint_course, painted_course, press_course, preview_course, save_course, script_course, show_course, struck_course, toggled, wish_course}
+use Rattle.orca_live.specs.Performing.{answer_course, answered_at, byte_course, close_course, command_course, due_course, finish_course, fired, frame_course, heard_course, if_named, item_course, key_course, last_grid_course, last_script_course, open_course, paced, paint_course, painted_course, press_course, preview_course, save_course, script_course, show_course, struck_course, toggled, wish_course}
 use Rattle.orca_live.specs.States.{LiveState, dims_at, fitted, is_full, moments_at, piece_at}
 
 -- two states are the same to the session, to the terminal and to the script
@@ -49,6 +52,8 @@ pub record Carries (holds : LiveState → List Act → LiveState → Type 0) : T
   pub save : (name bytes : List ℕ) (s : LiveState) → holds s (Save name bytes ∷ []) s
   pub paint : (marks : List MarkSet) (s : LiveState)
       → holds s (painted_course marks s).acts (painted_course marks s).state
+  pub screen : (d : ScreenSize) (s : LiveState) → IsScreen d
+      → holds s (Screen d ∷ []) (record s { screen = d; shown = None })
 
 -- it holds of a course
 abbrev pub Along : {E : Type 0} → (LiveState → List Act → LiveState → Type 0)
@@ -86,13 +91,26 @@ toggled_by false s t alike = alike
 
 toggled_alike : (s : LiveState) → LooksAlike s (toggled s)
 toggled_alike s =
-    toggled_by s.editor.paused s (record s { pace = pace_from s.setting.bpm s.at }) (record {
+    toggled_by s.editor.paused s (record s { pace = pace_from s.pace.bpm s.at }) (record {
       setting = refl;
       standing = refl;
       screen = refl;
       shown = refl;
       given = refl;
     })
+
+paced_alike : (bpm : ℕ) (s : LiveState) → LooksAlike s (paced bpm s)
+paced_alike bpm s =
+    record { setting = refl; standing = refl; screen = refl; shown = refl; given = refl }
+
+-- a size that is brought into those that a screen may have is one of them
+inside_is_screen : (d : ScreenSize) → IsScreen (screen_inside d)
+inside_is_screen d = record {
+  rows = omega arith;
+  few_rows = omega arith;
+  columns = omega arith;
+  few_columns = omega arith;
+}
 
 wish_carried : {holds : LiveState → List Act → LiveState → Type 0} → Carries holds → (w : Wish)
     (s : LiveState) → Along holds (wish_course w s) s
@@ -102,13 +120,19 @@ wish_carried carry (wish.Do command) s = carry.command command s
 wish_carried carry wish.Toggle s = carry.none s (toggled s) (toggled_alike s)
 wish_carried carry wish.Save s = carry.save _ _ s
 wish_carried carry wish.Quit s = carry.none s s (looks_same s)
+wish_carried carry (wish.Slower beats) s =
+    carry.none s (paced (slower beats s.pace.bpm) s) (paced_alike (slower beats s.pace.bpm) s)
+wish_carried carry (wish.Faster beats) s =
+    carry.none s (paced (faster beats s.pace.bpm) s) (paced_alike (faster beats s.pace.bpm) s)
+wish_carried carry (wish.Redraw size) s =
+    let d = unwrap_or size s.screen in carry.screen (screen_inside d) s (inside_is_screen d)
 
 struck_carried : {holds : LiveState → List Act → LiveState → Type 0} → Carries holds → (key : Key)
     (s : LiveState) → Along holds (struck_course key s) s
 unfolding struck_course
 struck_carried carry key s =
     let t : LiveState = record s { editor = editor_after key (dims_at s) s.editor } in
-    let w = wish_of key (moments_at s) s.editor in
+    let w = wish_of key (dims_at s) (moments_at s) s.editor in
     from_alike carry s t (wish_course w t)
     (record { setting = refl; standing = refl; screen = refl; shown = refl; given = refl })
     (wish_carried carry w t)
@@ -126,8 +150,8 @@ item_carried : {holds : LiveState → List Act → LiveState → Type 0} → Car
     → (item : Item) (s : LiveState) → Along holds (item_course item s) s
 unfolding item_course
 item_carried carry item s =
-    let t : LiveState = record s { pending = (turn s.pending item).pending } in
-    let key = (turn s.pending item).key in
+    let t : LiveState = record s { pending = (turn s.setting.full s.pending item).pending } in
+    let key = (turn s.setting.full s.pending item).key in
     from_alike carry s t (press_course key t)
     (record { setting = refl; standing = refl; screen = refl; shown = refl; given = refl })
     (press_carried carry key t)

@@ -53,6 +53,7 @@ deaf_carries = record {
   command = command_deaf;
   save = λ name bytes s. tt;
   paint = paint_deaf;
+  screen = λ d s is. tt;
 }
 
 pub live_is_deaf : IsDeaf live_part

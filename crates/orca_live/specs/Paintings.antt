@@ -1,9 +1,10 @@
--- What a small terminal shows that is sent all paintings.
+-- What a terminal of the size that was told last shows, whatever it showed before, once it was sent
+-- all paintings since then.
 use Rattle.std.specs.Prelude.{◌≡◌, ℕ, if◌then◌else◌, List, [], ◌∷◌, ◌++◌, None, Some}
 use Rattle.orca_base.specs.declared.port.Port.TheVariants as port
 use Rattle.orca_base.specs.Ports.{Sent, is_same_port}
 use Rattle.orca_course.specs.Acts.{Act, ArePrintable}
-use Rattle.orca_course.specs.Acts.Act.{Give, Show}
+use Rattle.orca_course.specs.Acts.Act.{Give, Screen, Show}
 use Rattle.orca_course.specs.Performers.{performance}
 use Rattle.orca_trace.specs.Calls.{Poll}
 use Rattle.orca_term.specs.Picture.{IsScreen}
@@ -22,15 +23,17 @@ views_in [] = []
 views_in (Give sent ∷ acts) = viewed sent ++ views_in acts
 views_in (_ ∷ acts) = views_in acts
 
--- wherever a picture is painted among acts, the terminal that was sent all bytes so far shows it
+-- wherever a picture is painted among acts, each terminal of the size that was told last, whatever it
+-- showed, that was sent all bytes since then shows it
 abbrev pub ShowsPictures : ScreenSize → List ℕ → List Act → Type 0
 ShowsPictures d sent [] = Unit {0}
 ShowsPictures d sent (Give piece ∷ acts) = ShowsPictures d (sent ++ viewed piece) acts
 ShowsPictures d sent (Show cells ∷ acts) = Shows d sent (Some cells) × ShowsPictures d sent acts
+ShowsPictures d sent (Screen e ∷ acts) = ShowsPictures e [] acts
 ShowsPictures d sent (_ ∷ acts) = ShowsPictures d sent acts
 
--- a terminal to which nothing was sent shows each picture of a whole performance, and of each
--- beginning of one, if it can show their cells
+-- a terminal of the size of the start or of the last one that was told, whatever it showed, shows
+-- each picture of a whole performance, and of each beginning of one, if it can show their cells
 abbrev pub ShowsPerformance : Type 0
 ShowsPerformance =
     (s : LiveState) (polls : List Poll) (begun left : List Act)

@@ -1,6 +1,6 @@
 -- The definition of a performance: what is done for a key, a byte, a due frame, an answer of the
 -- inbox, and at the end.
-use Rattle.std.specs.Prelude.{ℕ, ◌==◌, if◌then◌else◌, List, [], ◌∷◌, ◌++◌, Option, Some, None}
+use Rattle.std.specs.Prelude.{ℕ, ◌==◌, if◌then◌else◌, List, [], ◌∷◌, ◌++◌, Option, Some, None, unwrap_or}
 use Rattle.std.specs.Option.{option_map}
 use Rattle.orca_base.specs.declared.command.Command.{Command}
 use Rattle.orca_base.specs.declared.command.Command.TheVariants.{Frame}
@@ -8,7 +8,7 @@ use Rattle.orca_base.specs.declared.port.Port.TheVariants as port
 use Rattle.orca_base.specs.MarkSet.{MarkSet}
 use Rattle.orca_concert.specs.Concerts.{Concert, concert, close_course as silence_course, command_course as obey_course}
 use Rattle.orca_course.specs.Acts.{Act}
-use Rattle.orca_course.specs.Acts.Act.{Give, Save, Show}
+use Rattle.orca_course.specs.Acts.Act.{Give, Save, Screen, Show}
 use Rattle.orca_course.specs.Courses.{Course, course, each, ended, joined, mapped, onward, still}
 use Rattle.orca_course.specs.Performers.{Part}
 use Rattle.orca_course.specs.declared.ending.Stop.{Stop}
@@ -21,10 +21,11 @@ use Rattle.orca_rig.specs.declared.inbox.Answer.TheVariants as answer
 use Rattle.orca_script.specs.Runs.{printed_script}
 use Rattle.orca_term.specs.Editing.{editor_after, wish_of}
 use Rattle.orca_term.specs.Keys.{Byte, Due, Item, turn}
-use Rattle.orca_term.specs.Pacing.{Pace, due_after, due_from, interval}
-use Rattle.orca_term.specs.Picture.{picture, scene_of}
+use Rattle.orca_term.specs.Pacing.{due_after, faster, pace_from, retimed, slower}
+use Rattle.orca_term.specs.Picture.{picture, scene_of, screen_inside}
 use Rattle.orca_term.specs.Viewing.{painting_bytes}
 use Rattle.orca_term.specs.declared.cell.Cell.{Cell}
+use Rattle.orca_term.specs.declared.cell.ScreenSize.{ScreenSize}
 use Rattle.orca_term.specs.declared.editor.Wish.{Wish}
 use Rattle.orca_term.specs.declared.editor.Wish.TheVariants as wish
 use Rattle.orca_term.specs.declared.keys.Key.{Key}
@@ -65,13 +66,17 @@ script_course name s = course (Save name (script_text s.setting.seed s.given) �
 
 -- ---- keys
 
--- a pacer of a tempo that starts at a moment
-abbrev pub pace_from : ℕ → ℕ → Pace
-pace_from bpm at = record { interval = interval bpm; due = due_from (interval bpm) at }
-
--- the pause has changed: a pacer starts where the performance goes on
+-- the pause has changed: a pacer starts where the performance goes on, at the tempo that it has
 abbrev pub toggled : LiveState → LiveState
-toggled s = if s.editor.paused then s else record s { pace = pace_from s.setting.bpm s.at }
+toggled s = if s.editor.paused then s else record s { pace = pace_from s.pace.bpm s.at }
+
+-- the pacer takes another tempo
+abbrev pub paced : ℕ → LiveState → LiveState
+paced bpm s = record s { pace = retimed bpm s.pace }
+
+-- from here on the terminal has this size, and shows whatever it shows
+abbrev pub redrawn : ScreenSize → LiveState → Course LiveState Stop
+redrawn d s = course (Screen d ∷ []) 0 (record s { screen = d; shown = None })
 
 -- what a key asks for, once the editor has changed
 unfoldable pub wish_course : Wish → LiveState → Course LiveState Stop
@@ -80,11 +85,14 @@ wish_course (wish.Do command) s = command_course command s
 wish_course wish.Toggle s = still (toggled s)
 wish_course wish.Save s = save_course (key_name s.setting) s
 wish_course wish.Quit s = ended Left s
+wish_course (wish.Slower beats) s = still (paced (slower beats s.pace.bpm) s)
+wish_course (wish.Faster beats) s = still (paced (faster beats s.pace.bpm) s)
+wish_course (wish.Redraw size) s = redrawn (screen_inside (unwrap_or size s.screen)) s
 
 -- a key, where the editor is fitted to the grid
 unfoldable pub struck_course : Key → LiveState → Course LiveState Stop
 struck_course key s =
-    wish_course (wish_of key (moments_at s) s.editor)
+    wish_course (wish_of key (dims_at s) (moments_at s) s.editor)
     (record s { editor = editor_after key (dims_at s) s.editor })
 
 -- a key
@@ -99,8 +107,8 @@ press_course (Some key) s = key_course key s
 -- the reader of keys is given an item: a byte, or that nothing came for a while
 unfoldable pub item_course : Item → LiveState → Course LiveState Stop
 item_course item s =
-    press_course (turn s.pending item).key
-    (record s { pending = (turn s.pending item).pending })
+    press_course (turn s.setting.full s.pending item).key
+    (record s { pending = (turn s.setting.full s.pending item).pending })
 
 -- a byte
 unfoldable pub byte_course : ℕ → LiveState → Course LiveState Stop

@@ -2,20 +2,20 @@
 use Rattle.std.specs.Prelude.{ℕ, [], None}
 use Rattle.std.specs.Option.{option_map}
 use Rattle.orca_course.specs.Standings.{Standing}
-use Rattle.orca_live.specs.Performing.{pace_from}
 use Rattle.orca_live.specs.States.{LiveState, Setting}
 use Rattle.orca_term.specs.Editing.{new_editor}
+use Rattle.orca_term.specs.Pacing.{pace_from}
 use Rattle.orca_term.specs.declared.cell.ScreenSize.{ScreenSize}
 use Rattle.orca_term.specs.declared.keys.Pending.TheVariants.{Nothing}
 
--- no key was read, the cursor stands on the first place, a pacer starts at this moment, nothing was
--- painted, and no command was given
+-- no key was read, the cursor stands on the first place, the guide shows if the full keys are read, a
+-- pacer starts at this moment, nothing was painted, and no command was given
 abbrev pub live_at_start : Setting → ScreenSize → ℕ → Standing → LiveState
 live_at_start set screen at standing = record {
   setting = set;
   standing = standing;
   pending = Nothing;
-  editor = new_editor;
+  editor = new_editor set.full;
   pace = pace_from set.bpm at;
   screen = screen;
   shown = None;

@@ -24,14 +24,16 @@ use Rattle.orca_term.specs.declared.editor.Editor.{Editor}
 use Rattle.orca_term.specs.declared.keys.Pending.{Pending}
 use Rattle.orca_term.specs.declared.status.StatusLine.{StatusLine}
 
--- the tempo in beats a minute, the seed of the random operator, the name of the grid's file, and
--- the names under which the grid and the script are saved at the end
+-- the tempo in beats a minute at the start, the seed of the random operator, the name of the grid's
+-- file, the names under which the grid and the script are saved at the end, and whether the full
+-- keys are read
 pub record Setting : Type 0 where
   pub bpm : ℕ
   pub seed : ℕ
   pub grid : List ℕ
   pub save : Option (List ℕ)
   pub script : Option (List ℕ)
+  pub full : Bool
 
 -- the same as the code holds it
 abbrev pub setting_in : HeldSetting → Setting
@@ -41,6 +43,7 @@ setting_in set = record {
   grid = set.grid.now;
   save = option_map (λ name. name.now) set.save;
   script = option_map (λ name. name.now) set.script;
+  full = set.full;
 }
 
 -- the name under which the key saves the grid
@@ -117,6 +120,7 @@ line_at s = record {
   moments = moments_at s;
   sounding = length (notes_of s.standing);
   note = s.standing.tally.note;
+  tempo = s.pace.bpm;
 }
 
 -- the moment that a poll waits for: that of the next frame, and none while paused

@@ -1,21 +1,26 @@
 //! What keys and the commands that they ask for do.
 
-ghost use Rattle.std.specs.Prelude.{◌≡◌, [], ◌∷◌, ◌++◌, IfErr, OnOk};
+ghost use Rattle.std.specs.Prelude.{◌≡◌, ◌≤◌, [], ◌∷◌, ◌++◌, IfErr, None, OnOk, unwrap_or};
 ghost use Rattle.std.specs.Option.{option_map};
 ghost use Rattle.orca_base.specs.Areas.{IsArea};
+ghost use Rattle.orca_base.specs.declared.limits.TheConstants.{MAX_BPM};
 ghost use Rattle.orca_course.specs.Courses.{each};
 ghost use Rattle.orca_term.specs.Editing.{area_of};
+ghost use Rattle.orca_term.specs.Keys.{Byte, turn};
+ghost use Rattle.orca_term.specs.Pacing.{faster, retimed, slower};
+ghost use Rattle.orca_term.specs.Picture.{screen_inside};
 ghost use Rattle.orca_course.specs.Doing.{goes_of};
 ghost use Rattle.orca_live.specs.Performing.{byte_course, command_course, key_course, press_course, struck_course, wish_course};
 ghost use Rattle.orca_live.specs.States.{Did, dims_at, fitted, live_state};
 
 use crate::Live;
 use crate::saving::save_grid;
+use orca_base::limits::MAX_BPM;
 use orca_base::{Command, Look};
 use orca_course::{Desk, NoMemory, Stop};
 use orca_edit::Machine;
 use orca_rig::House;
-use orca_term::{Key, Pacer, Wish};
+use orca_term::{Key, Keys, Pacer, ScreenSize, View, Wish};
 
 /// Keeps a command for the script, if one is saved at the end.
 fn keep(given: &mut Option<Vec<Command>>, command: &Command) -> Result<(), NoMemory>
@@ -45,6 +50,31 @@ pub(crate) fn do_command<M: Machine, H: House>(
     Ok(())
 }
 
+/// The pacer takes a tempo of so many beats a minute less, and of at least 1.
+fn slow_down(pacer: &mut Pacer, beats: u16)
+    ensures { pacer.new ≡ retimed (slower beats pacer.old.bpm) pacer.old }
+{
+    let bpm = pacer.tempo().saturating_sub(beats).max(1);
+    pacer.retime(bpm);
+}
+
+/// The pacer takes a tempo of so many beats a minute more, and of at most [`MAX_BPM`].
+fn speed_up(pacer: &mut Pacer, beats: u16)
+    ensures { pacer.new ≡ retimed (faster beats pacer.old.bpm) pacer.old }
+{
+    let bpm = pacer.tempo().saturating_add(beats).min(MAX_BPM);
+    pacer.retime(bpm);
+}
+
+/// From here on the terminal has this size, or the one that it had, and shows whatever it shows.
+fn redraw(view: &mut View, size: Option<ScreenSize>)
+    ensures size { view.new.size ≡ screen_inside (unwrap_or size view.old.size) }
+    ensures anew { view.new.last ≡ None }
+{
+    let size = size.unwrap_or(view.size());
+    view.begin_anew(size);
+}
+
 /// Does what a key asks for, once the editor has changed.
 #[tactic(auto, using(orca_course::proofs::WorldLemmas::called_still, orca_course::proofs::DoingLemmas::does_err, crate::proofs::DoneLemmas::does_paced), unfolding(crate::specs::Performing::wish_course))]
 fn do_wish<M: Machine, H: House>(
@@ -62,7 +92,7 @@ fn do_wish<M: Machine, H: House>(
         }
         Wish::Toggle => {
             if !live.editor.paused {
-                live.pacer = Pacer::start(live.at, live.setting.bpm);
+                live.pacer = Pacer::start(live.at, live.pacer.tempo());
             }
             Ok(None)
         }
@@ -72,6 +102,18 @@ fn do_wish<M: Machine, H: House>(
             Ok(None)
         }
         Wish::Quit => Ok(Some(Stop::Left)),
+        Wish::Slower(beats) => {
+            slow_down(&mut live.pacer, *beats);
+            Ok(None)
+        }
+        Wish::Faster(beats) => {
+            speed_up(&mut live.pacer, *beats);
+            Ok(None)
+        }
+        Wish::Redraw(size) => {
+            redraw(&mut live.view, *size);
+            Ok(None)
+        }
     }
 }
 
@@ -124,6 +166,18 @@ pub(crate) fn press<M: Machine, H: House>(
     }
 }
 
+/// The key that a byte ends, if any: of the full keys, or of the plain ones.
+fn feed(keys: &mut Keys, full: bool, byte: u8) -> Option<Key>
+    ensures key { result ≡ (turn full keys.old (Byte byte)).key }
+    ensures pending { keys.new ≡ (turn full keys.old (Byte byte)).pending }
+{
+    if full {
+        keys.feed_full(byte)
+    } else {
+        keys.feed(byte)
+    }
+}
+
 /// Reads a byte.
 #[tactic(auto, using(crate::proofs::DoneLemmas::item_did), unfolding(crate::specs::Performing::byte_course))]
 fn do_byte<M: Machine, H: House>(
@@ -133,7 +187,7 @@ fn do_byte<M: Machine, H: House>(
 ) -> Result<Option<Stop>, NoMemory>
     ensures { Did M.Machine.own (byte_course byte) live.old desk.old result live.new desk.new }
 {
-    let key = live.keys.feed(byte);
+    let key = feed(&mut live.keys, live.setting.full, byte);
     press(live, desk, key)
 }
 

@@ -57,7 +57,10 @@ impl<'a, M: Machine> Live<'a, M> {
             setting,
             stage,
             keys: Keys::start(),
-            editor: Editor::start(),
+            editor: Editor {
+                guide: setting.full,
+                ..Editor::start()
+            },
             pacer: Pacer::start(at, setting.bpm),
             view,
             given: setting.script.map(|_| Vec::new(alloc)),
@@ -75,6 +78,7 @@ impl<'a, M: Machine> Live<'a, M> {
             moments: self.stage.machine.moments(),
             sounding: self.stage.machine.notes().len() as u32,
             note: self.stage.tally.note,
+            tempo: self.pacer.tempo(),
         }
     }
 

@@ -4,7 +4,7 @@ ghost use Rattle.orca_base.specs.declared.limits.TheConstants.{MAX_BPM};
 /// How a performance plays, and the files that it is saved to.
 #[derive(Clone, Copy, Debug, PartialEq, Eq)]
 pub struct Setting<'a> {
-    /// The tempo in beats a minute: 1 to [`MAX_BPM`](orca_base::limits::MAX_BPM).
+    /// The tempo in beats a minute at the start: 1 to [`MAX_BPM`](orca_base::limits::MAX_BPM).
     pub bpm: u16,
     /// The seed of the random operator, which the saved script carries.
     pub seed: u32,
@@ -14,6 +14,8 @@ pub struct Setting<'a> {
     pub save: Option<&'a str>,
     /// The file that the script of the commands is saved to at the end.
     pub script: Option<&'a str>,
+    /// Whether the full keys are read, and not the plain ones.
+    pub full: bool,
     ghost some_bpm: { 1 ≤ bpm },
     ghost few_bpm: { bpm ≤ MAX_BPM },
 }

@@ -8,19 +8,19 @@ unfolding due_course
 returns-in_err-stop g c =
     does_err _ _ c.from_residual.ensures.1
     (does_cut _
-    (item_did _ _ _ _ c.due-key.ensures.key c.due-key.ensures.pending c.in_err-stop.ensures))
+    (item_did _ _ _ _ (c.due-key.ensures.key _) (c.due-key.ensures.pending _) c.in_err-stop.ensures))
 
 pub returns-in-Some : goal.returns-in-Some
 unfolding due_course
 returns-in-Some g c =
     does_stop _
-    (item_did _ _ _ _ c.due-key.ensures.key c.due-key.ensures.pending
+    (item_did _ _ _ _ (c.due-key.ensures.key _) (c.due-key.ensures.pending _)
     (rw c.in-Some.is at c.in_ok-stop.ensures))
 
 pub returns : goal.returns
 unfolding due_course
 returns g c =
     does_then _
-    (item_did _ _ _ _ c.due-key.ensures.key c.due-key.ensures.pending
+    (item_did _ _ _ _ (c.due-key.ensures.key _) (c.due-key.ensures.pending _)
     (rw c.in_default.is at c.in_ok-stop.ensures))
     c.do_frame.ensures

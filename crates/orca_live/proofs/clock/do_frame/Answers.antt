@@ -9,4 +9,4 @@ unfolding frame_course
 returns g c =
     rw (sym c.is_full.ensures ∙ c.if-is_full.false)
     (does_then _ c.in_ok-do_command.ensures
-    (does_paced _ _ _ _ c.fired.ensures.interval c.fired.ensures.due))
+    (does_paced _ _ _ _ c.fired.ensures))
