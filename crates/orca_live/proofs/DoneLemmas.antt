@@ -119,7 +119,8 @@ press_some key some s u is fits did = rw is (does_from s refl (rw fits at did))
 
 -- an item, whose key was pressed
 pub item_did : (item : Item) (s : LiveState) (key : Option Key) (p : Pending) {t : LiveState}
-    {x y : World} {result : Result (Option Stop) NoMemory} → key ≡ (turn s.setting.full s.pending item).key
+    {x y : World} {result : Result (Option Stop) NoMemory}
+    → key ≡ (turn s.setting.full s.pending item).key
     → p ≡ (turn s.setting.full s.pending item).pending
     → Does live_stance (press_course key (record s { pending = p })) (record s { pending = p }) x
     result t y

@@ -28,8 +28,8 @@ use Rattle.orca_live.specs.States.{LiveState}
 -- ---- acts after acts
 
 -- up to the first picture with a cell that a terminal can't show, a terminal of the size that was
--- told last, that was sent all bytes since then, shows each picture; and then this holds of the last
--- size, and of the bytes since then
+-- told last, that was sent all bytes since then, shows each picture; and then this holds of the
+-- last size, and of the bytes since then
 abbrev ShownThen : ScreenSize → (ScreenSize → List ℕ → Type 0) → List ℕ → List Act → Type 0
 ShownThen d after sent [] = after d sent
 ShownThen d after sent (Give piece ∷ acts) = ShownThen d after (sent ++ viewed piece) acts
@@ -55,7 +55,8 @@ shown_twice d some all sent (_ ∷ xs) ys first second =
 
 -- a beginning
 shows_front : (d : ScreenSize) (after : ScreenSize → List ℕ → Type 0) (sent : List ℕ)
-    (xs ys : List Act) → ShownThen d after sent (xs ++ ys) → ArePrintable xs → ShowsPictures d sent xs
+    (xs ys : List Act) → ShownThen d after sent (xs ++ ys) → ArePrintable xs
+    → ShowsPictures d sent xs
 shows_front d after sent [] ys shows printable = tt
 shows_front d after sent (Give piece ∷ xs) ys shows printable =
     shows_front d after (sent ++ viewed piece) xs ys shows printable
@@ -107,7 +108,8 @@ displays_command : (command : Command) (s : LiveState)
 unfolding command_course obey_course onward mapped
 displays_command command s d sent seen =
     let o = obey s.standing.machine command in
-    handed_shows d (λ e sent. IsSeen e s.screen s.shown sent) (standing_after s.standing o) o.messages sent seen
+    handed_shows d (λ e sent. IsSeen e s.screen s.shown sent) (standing_after s.standing o)
+    o.messages sent seen
 
 displays_close : (s : LiveState) → Displays s (close_course s).acts (close_course s).state
 unfolding close_course silence_course onward mapped

@@ -23,8 +23,8 @@ views_in [] = []
 views_in (Give sent ∷ acts) = viewed sent ++ views_in acts
 views_in (_ ∷ acts) = views_in acts
 
--- wherever a picture is painted among acts, each terminal of the size that was told last, whatever it
--- showed, that was sent all bytes since then shows it
+-- wherever a picture is painted among acts, each terminal of the size that was told last, whatever
+-- it showed, that was sent all bytes since then shows it
 abbrev pub ShowsPictures : ScreenSize → List ℕ → List Act → Type 0
 ShowsPictures d sent [] = Unit {0}
 ShowsPictures d sent (Give piece ∷ acts) = ShowsPictures d (sent ++ viewed piece) acts

@@ -8,8 +8,8 @@ use Rattle.orca_term.specs.Pacing.{pace_from}
 use Rattle.orca_term.specs.declared.cell.ScreenSize.{ScreenSize}
 use Rattle.orca_term.specs.declared.keys.Pending.TheVariants.{Nothing}
 
--- no key was read, the cursor stands on the first place, the guide shows if the full keys are read, a
--- pacer starts at this moment, nothing was painted, and no command was given
+-- no key was read, the cursor stands on the first place, the guide shows if the full keys are read,
+-- a pacer starts at this moment, nothing was painted, and no command was given
 abbrev pub live_at_start : Setting → ScreenSize → ℕ → Standing → LiveState
 live_at_start set screen at standing = record {
   setting = set;
