@@ -178,6 +178,7 @@ setting_of setup performance = record {
   grid = setup.grid;
   save = performance.save;
   script = performance.script;
+  full = performance.full;
 }
 
 -- the screen that is painted on

@@ -116,6 +116,7 @@ fn setting_of<'a>(setup: &Setup<'a>, performance: &Performance<'a>) -> Setting<'
         grid: setup.grid,
         save: performance.save,
         script: performance.script,
+        full: performance.full,
     }
 }
 
