@@ -50,6 +50,7 @@ fn a_painting_is_shown(rt: HostRuntime) -> Result<(), Fail> {
         moments: 0,
         sounding: 0,
         note: None,
+        tempo: 120,
     };
     screen.show(view.paint(&grid, &Editor::start(), &line));
     assert!(rt; screen.cell(0, 0) == (b'.', 7) && screen.cell(0, 1) == (b'.', 2));
