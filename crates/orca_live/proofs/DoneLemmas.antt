@@ -1,6 +1,6 @@
 -- What was done of a course: from another state, of the session alone, for keys, of what is saved,
 -- and of what is shown.
-use Rattle.std.proofs.Common.{◌≡◌, ℕ, List, [], ◌∷◌, ◌++◌, refl, sym, ◌∙◌, ap, subst, ◌==◌, Bool, true, false, length, arith}
+use Rattle.std.proofs.Common.{◌≡◌, ℕ, List, [], ◌∷◌, ◌++◌, refl, sym, ◌∙◌, subst, ◌==◌, Bool, true, false, length, arith}
 use Rattle.std.specs.Prelude.{Option, None, Result, Ok, Err, Some, All}
 use Rattle.std.specs.Option.{option_map}
 use Rattle.orca_base.specs.declared.command.Command.{Command}

@@ -1,9 +1,8 @@
 //! What keys and the commands that they ask for do.
 
-ghost use Rattle.std.specs.Prelude.{◌≡◌, ◌≤◌, [], ◌∷◌, ◌++◌, IfErr, None, OnOk, unwrap_or};
+ghost use Rattle.std.specs.Prelude.{◌≡◌, [], ◌∷◌, ◌++◌, IfErr, None, OnOk, unwrap_or};
 ghost use Rattle.std.specs.Option.{option_map};
 ghost use Rattle.orca_base.specs.Areas.{IsArea};
-ghost use Rattle.orca_base.specs.declared.limits.TheConstants.{MAX_BPM};
 ghost use Rattle.orca_course.specs.Courses.{each};
 ghost use Rattle.orca_term.specs.Editing.{area_of};
 ghost use Rattle.orca_term.specs.Keys.{Byte, turn};
