@@ -90,8 +90,9 @@ pub record Ran (words : List (List ℕ)) (x : World) (status : Status) (y : Worl
   -- the polls that were heard are exactly those among the acts, and no more than may be
   pub polls : polls_in (outline words heard).course.acts ≡ heard.brought.polls
   pub few : length heard.brought.polls ≤ MAX_POLLS
-  -- wherever a picture is painted in a beginning that was done, the terminal that was sent all bytes
-  -- so far shows it; a beginning that was done has pictures of printable cells alone
+  -- wherever a picture is painted in a beginning that was done, each terminal of the size that was
+  -- told last, whatever it showed, that was sent all bytes since then shows it; a beginning that was
+  -- done has pictures of printable cells alone
   pub shows : (begun left : List Act) → (outline words heard).course.acts ≡ begun ++ left
       → ArePrintable begun
       → IfSome (outline words heard).screen (λ screen. ShowsPictures screen [] begun)
