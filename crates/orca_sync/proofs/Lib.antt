@@ -1,0 +1,3 @@
+mod ClockLaws
+mod WorkedClocks
+mod WorkedLimits
