@@ -1,5 +1,8 @@
 -- What the bytes of a clock ask for, however many come.
-use Rattle.std.specs.Prelude.{ℕ, ◌≡◌, ◌+◌, ◌-◌, ◌/◌, true, List, ◌∷◌, ◌++◌, filter, replicate}
+use Rattle.std.specs.Prelude.{ℕ, ◌≡◌, ◌+◌, ◌-◌, ◌/◌, true, List, [], ◌∷◌, ◌++◌, IfSome, filter, replicate}
+use Rattle.orca_base.specs.MidiBytes.{midi_bytes_of}
+use Rattle.orca_base.specs.Ranges.{HasDataInRange}
+use Rattle.orca_base.specs.declared.message.Message.{Message}
 use Rattle.orca_sync.specs.Clocks.{Pulse, running, beats_from}
 use Rattle.orca_sync.specs.RealTime.{timing_clock, continue, stop, is_clock}
 use Rattle.orca_sync.specs.declared.follower.Beat.TheVariants.{Frame}
@@ -26,3 +29,9 @@ abbrev pub PausesKeepCount : Type 0
 PausesKeepCount =
     (p : Pulse) (clocks : ℕ) (bytes : List ℕ) → p.runs ≡ true
     → beats_from p (stop ∷ replicate clocks timing_clock ++ continue ∷ bytes) ≡ beats_from p bytes
+
+-- no byte of a message of a frame is a clock: a status byte is at most EF, and data at most 7F
+abbrev pub VoicesAreNoClock : Type 0
+VoicesAreNoClock =
+    (m : Message) → HasDataInRange m
+    → IfSome (midi_bytes_of m) (λ bytes. filter is_clock bytes ≡ [])

@@ -1,3 +1,4 @@
 pub mod Clocks
 pub mod Laws
+pub mod Leading
 pub mod RealTime
