@@ -1,3 +1,4 @@
 mod ClockLaws
+mod LeadLaws
 mod WorkedClocks
 mod WorkedLimits

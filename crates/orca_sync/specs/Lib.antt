@@ -2,3 +2,4 @@ pub mod Clocks
 pub mod Laws
 pub mod Leading
 pub mod RealTime
+pub mod Together

@@ -5,6 +5,7 @@ ghost use Rattle.orca_sync.specs.Clocks.{Pulse, heed, heeded};
 ghost use Rattle.orca_sync.specs.Laws.{VoicesAreNoClock};
 ghost use Rattle.orca_sync.specs.Leading.{lead_from, due_of, plays, clocked_at, toggle_byte, toggled_at};
 ghost use Rattle.orca_sync.specs.RealTime.{timing_clock, start};
+ghost use Rattle.orca_sync.specs.Together.{LeadsFollower};
 ghost use Rattle.orca_sync.specs.declared.follower.Beat.TheVariants.{Nothing, Frame, Restart};
 
 use crate::counting::counted;
@@ -48,12 +49,15 @@ impl Model for Leader {
 impl Leader {
     /// A leader of so many beats a minute, 1 to [`MAX_BPM`], that starts at a moment. The first clock is due
     /// an interval later.
-    #[tactic(auto, unfolding(crate::specs::Clocks::heed))]
+    #[tactic(auto, unfolding(crate::specs::Clocks::heed), using(crate::proofs::LeadLaws::leads_follower))]
     pub fn start(at: u64, bpm: u16) -> Leader
         requires some { 1 ≤ bpm }
         requires few { bpm ≤ MAX_BPM }
         ensures lead { result ≡ lead_from bpm at }
         ensures heard { (p : Pulse) → heed p start ≡ heeded Restart result.pulse }
+
+        // What a follower plays that heeds all that is given.
+        ensures followed { LeadsFollower }
     {
         Leader {
             pacer: Pacer::every(at, bpm, BEAT_CLOCKS),
