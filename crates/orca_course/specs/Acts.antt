@@ -21,6 +21,8 @@ pub data Act : Type 0 where
   Load : List ℕ → Option (List ℕ) → Act
   -- these bytes are saved under a name
   Save : List ℕ → List ℕ → Act
+  -- these bytes are added to the file of a name
+  Append : List ℕ → List ℕ → Act
   -- the inbox listens at a name for so many hands; and the moment that it answers, unless it fails
   Listen : List ℕ → ℕ → Option ℕ → Act
   -- a poll of the inbox, with its answer

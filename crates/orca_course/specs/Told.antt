@@ -6,10 +6,10 @@ use Rattle.orca_rig.specs.Arrived.{Log}
 use Rattle.orca_rig.specs.Arrived as arrived
 use Rattle.orca_rig.specs.Handed.{Attached}
 use Rattle.orca_rig.specs.Outside.{Ask}
-use Rattle.orca_rig.specs.Outside.Ask.{Load as AskLoad, Save as AskSave}
+use Rattle.orca_rig.specs.Outside.Ask.{Append as AskAppend, Load as AskLoad, Save as AskSave}
 use Rattle.orca_trace.specs.Calls.{Call, Poll}
 use Rattle.orca_course.specs.Acts.{Act, given, polls_in}
-use Rattle.orca_course.specs.Acts.Act.{Attach, Await, Give, Listen, Load, Save}
+use Rattle.orca_course.specs.Acts.Act.{Append, Attach, Await, Give, Listen, Load, Save}
 use Rattle.orca_course.specs.Answered.{done_in, is_file_fault, is_last_poll, is_listen, is_port_fault}
 
 -- ---- what objects that tell their calls tell
@@ -20,11 +20,12 @@ attached_in [] = []
 attached_in (Attach attached ∷ acts) = attached ∷ attached_in acts
 attached_in (_ ∷ acts) = attached_in acts
 
--- the loads and saves among acts, as a store is asked for them
+-- the loads, saves and appends among acts, as a store is asked for them
 abbrev pub asked_in : List Act → List Ask
 asked_in [] = []
 asked_in (Load name text ∷ acts) = AskLoad name ∷ asked_in acts
 asked_in (Save name bytes ∷ acts) = AskSave name bytes ∷ asked_in acts
+asked_in (Append name bytes ∷ acts) = AskAppend name bytes ∷ asked_in acts
 asked_in (_ ∷ acts) = asked_in acts
 
 -- the name and the hands that the inbox was last asked to listen for, and the start that came

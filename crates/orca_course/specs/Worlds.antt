@@ -10,10 +10,10 @@ use Rattle.orca_base.specs.declared.limits.TheConstants.{MAX_FILE_BYTES}
 use Rattle.orca_base.specs.Ports.{Sent}
 use Rattle.orca_rig.specs.declared.fault.OutsideFault.TheVariants.{Memory}
 use Rattle.orca_rig.specs.declared.inbox.Answer.{Answer}
-use Rattle.orca_rig.specs.Saved.{IsSaved}
+use Rattle.orca_rig.specs.Saved.{IsAppended, IsSaved}
 use Rattle.orca_rig.specs.Outside.{Contents, Rose}
 use Rattle.orca_trace.specs.Calls.{Call}
-use Rattle.orca_trace.specs.Calls.Call.{Give as CallGive, Load as CallLoad, Save as CallSave}
+use Rattle.orca_trace.specs.Calls.Call.{Append as CallAppend, Give as CallGive, Load as CallLoad, Save as CallSave}
 use Rattle.orca_course.specs.Acts.{Act, ArePrintable, calls_in, given}
 use Rattle.orca_course.specs.Acts.Act.{Await, Give}
 use Rattle.orca_course.specs.Answered.{done_in, is_file_fault, is_inbox_fault, is_last_poll, is_listen, is_port_fault, refused_in}
@@ -80,10 +80,11 @@ abbrev pub IsTextOf : Option Contents → List ℕ → List ℕ → Type 0
 IsTextOf contents name text =
     (length text ≤ MAX_FILE_BYTES) × IfSome contents (λ files. get files name ≡ Some text)
 
--- a load gives the text of its file; and a save alone changes what the files hold
+-- a load gives the text of its file; and saves and appends alone change what the files hold
 abbrev pub Stores : Call → Option Contents → Option Contents → Type 0
 Stores (CallLoad name (Ok text)) old new = IsTextOf old name text × (new ≡ old)
 Stores (CallSave name bytes answer) old new = IsSaved answer name bytes old new
+Stores (CallAppend name bytes answer) old new = IsAppended answer name bytes old new
 Stores other old new = new ≡ old
 
 -- calls lead from these contents to those, one after another

@@ -8,7 +8,7 @@ ghost use Rattle.orca_base.specs.declared.limits.TheConstants.{MAX_FILE_BYTES};
 ghost use Rattle.orca_rig.specs.Arrived.{arrived};
 ghost use Rattle.orca_base.specs.declared.limits.TheConstants.{MAX_HANDS};
 ghost use Rattle.orca_course.specs.Acts.{given};
-ghost use Rattle.orca_course.specs.Acts.Act.{Attach, Give, Listen, Load, Save};
+ghost use Rattle.orca_course.specs.Acts.Act.{Append, Attach, Give, Listen, Load, Save};
 ghost use Rattle.orca_course.specs.Answered.{done_in};
 ghost use Rattle.orca_course.specs.Told.{IsLogOf, Records, Tells, asked_in, attached_in};
 ghost use Rattle.orca_course.specs.Worlds.{Called, LeavesInbox, Made, Polled, Sated, has_ended, has_failed, has_listened, is_unstored, owing, start_of, text_of};
@@ -213,6 +213,21 @@ impl<H: House> Desk<H> {
     {
         let answer = self.files.save(name, bytes);
         self.trace.note(&Kind::Save(answer), name.as_bytes(), bytes);
+        self.unstored |= matches!(answer, Err(OutsideFault::Failed));
+        match answer {
+            Ok(()) => Ok(()),
+            Err(OutsideFault::Failed) => Ok(()),
+            Err(OutsideFault::Memory) => Err(NoMemory::Elsewhere),
+        }
+    }
+
+    /// Adds the bytes to the file of a name. A failure is recorded, and the run goes on.
+    pub fn append(&mut self, name: &str, bytes: &[u8]) -> Result<(), NoMemory>
+        ensures { Called result (Append name.now bytes.now) self.old self.new }
+    {
+        let answer = self.files.append(name, bytes);
+        self.trace
+            .note(&Kind::Append(answer), name.as_bytes(), bytes);
         self.unstored |= matches!(answer, Err(OutsideFault::Failed));
         match answer {
             Ok(()) => Ok(()),
