@@ -2,11 +2,12 @@
 # the option and the name.
 
 # The options of `orca play` that have a text, and the least and the most of those that have a number.
-texts='--midi --udp --osc --save --script'
+texts='--midi --udp --osc --save --script --keys'
 numbers='--seed --limit --bpm --rows --cols'
 declare -A least=([--seed]=0 [--limit]=1 [--bpm]=1 [--rows]=2 [--cols]=8)
 declare -A most=([--seed]=4294967295 [--limit]=4000000 [--bpm]=999 [--rows]=100 [--cols]=256)
-# The options that were given, the piece, the one it begins as if it is new, and what is to be done: play, recover or discard.
+# The options that were given, the piece, the one it begins as if it is new, and what is to be done: play, recover, discard
+# or ports.
 declare -A given=()
 piece=
 model=
@@ -28,7 +29,7 @@ read_words() {
         shift
         case $word in
             --) names+=("$@") && break ;;
-            --recover | --discard) task=${word#--} ;;
+            --recover | --discard | --ports) task=${word#--} ;;
             -?*=*) give "${word%%=*}" "${word#*=}" ;;
             -?*)
                 [[ ${1-} != -?* ]] && [ $# != 0 ] || set -- '' "$@"
@@ -40,7 +41,8 @@ read_words() {
     done
     [ "${#names[@]}" -le 1 ] || fails "${names[1]}: one piece is played, and ${names[0]} is another name"
     piece=${names[0]-}
-    [ -n "$piece" ] || fails "usage: perform [--recover|--discard] PIECE [options of orca play]"
+    [[ $task${piece:+ piece} =~ ^(ports|(play|recover|discard) piece)$ ]] ||
+        fails "usage: perform [--recover|--discard] PIECE [options of orca play], or perform --ports"
     # A name that is no file may be that of a piece that came with this.
     [[ $piece == */* ]] || [ -e "$piece" ] || [ ! -f "$top/pieces/${piece%.orca}.orca" ] ||
         piece=${piece%.orca}.orca model=$top/pieces/$piece
@@ -93,7 +95,7 @@ look_at_piece() {
 look_at_midi() {
     local what="--midi $1" name
     printf -v name %q "$1"
-    [ -e "$1" ] || [[ $1 != /dev/snd/* ]] || fails "$what: there is no such device; ls /dev/snd/midi* shows those that are there"
+    [ -e "$1" ] || [[ $1 != /dev/snd/* ]] || fails "$what: there is no such device; ${0##*/} --ports shows those that are there"
     [ -e "$1" ] || fails "$what: there is no such name: mkfifo $name makes a pipe for a synthesizer, and touch $name a file of bytes"
     [ ! -d "$1" ] || fails "$what: this is a folder"
     [ ! -S "$1" ] || fails "$what: this is a socket, and a file, a pipe or a device is wanted"
@@ -123,6 +125,8 @@ look() {
     local option
     read_words "$@"
     [ "$task" = play ] || return 0
+    given[--keys]=${given[--keys]-full}
+    [[ ${given[--keys]} =~ ^(plain|full)$ ]] || fails "--keys ${given[--keys]}: plain or full is wanted"
     look_at_numbers
     look_at_addresses
     look_at_piece
@@ -131,4 +135,17 @@ look() {
         [ -z "${given[$option]+given}" ] || look_at_save "$option ${given[$option]}" "${given[$option]}"
     done
     [ -z "${given[--midi]+given}" ] || look_at_midi "${given[--midi]}"
+}
+
+# list_ports: the MIDI devices of this machine, each with the word that sends there and the name that it gives itself
+list_ports() {
+    local device card name found=
+    for device in /dev/snd/midiC*D*; do
+        [ -c "$device" ] || continue
+        card=${device#*C}
+        read -r name 2>/dev/null <"/proc/asound/card${card%D*}/midi${card#*D}" || name="card ${card%D*}"
+        echo "--midi $device   $name"
+        found=yes
+    done
+    [ -n "$found" ] || say 'there is no MIDI device here; a synthesizer can read a pipe, which mkfifo makes'
 }
