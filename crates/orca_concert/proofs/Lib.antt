@@ -2,3 +2,5 @@ pub mod ChargeLemmas
 pub mod SendLemmas
 pub mod CommandLemmas
 pub mod ConcertLemmas
+pub mod DeafLemmas
+pub mod EndingLemmas

@@ -7,3 +7,4 @@ pub mod CourseLemmas
 pub mod DoingLemmas
 pub mod CallLemmas
 pub mod PollLemmas
+pub mod PerformanceLemmas

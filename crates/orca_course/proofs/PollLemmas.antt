@@ -41,7 +41,7 @@ unfolding heard mapped
 heard_deaf p deaf a bytes s = grind (arith, deaf.hears)
 
 -- only an answer that is no last one goes on
-heard_goes : {S : Type 0} (p : Part S) (a : Answer) (bytes : List ℕ) (s : S)
+pub heard_goes : {S : Type 0} (p : Part S) (a : Answer) (bytes : List ℕ) (s : S)
     → (heard p a bytes s).ending ≡ None → is_ending a ≡ false
 unfolding heard
 heard_goes p a bytes s goes = grind arith
@@ -265,3 +265,12 @@ module _ {S : Type 0} {p : Part S} (deaf : IsDeaf p) {s t : S} {x y : World} whe
     lost = tt;
     did = does_longer (lastly_longer _ _) cut.did;
   }
+
+-- a performance without answers polls nothing
+pub polls_none : {S : Type 0} (p : Part S) → IsDeaf p → (s : S)
+    → polls_in (performance p s []).acts ≡ []
+unfolding performance begun attended each finished mapped
+polls_none p deaf s =
+    polls_lastly _ (finished p) deaf.finishes
+    ∙ (polls_onward (opened p s) _ (λ u. rw still_onward (spent_deaf [] u))
+    ∙ polls-deaf (opened p s).acts (opened_deaf deaf s))
