@@ -1,38 +1,19 @@
 -- What holds of each step of a performance, and of two in turn, holds of all of it.
-use Rattle.std.proofs.Common.{◌≡◌, Bool, true, false, List, [], ◌∷◌, ℕ, refl, sym, subst, length, append-nil}
-use Rattle.std.specs.Prelude.{if◌then◌else◌, nat_le, Option, Some, None}
-use Rattle.orca_base.specs.declared.limits.TheConstants.{MAX_POLLS}
+use Rattle.std.proofs.Common.{List, [], ◌∷◌, ℕ, sym, subst}
+use Rattle.std.specs.Prelude.{Option, Some, None}
 use Rattle.orca_course.specs.Acts.{Act}
 use Rattle.orca_course.specs.Acts.Act.{Await}
-use Rattle.orca_course.specs.Courses.{Course, each, ended, lastly, lastly_by, mapped, onward, onward_by, still}
-use Rattle.orca_course.specs.Performers.{attended, begun, finished, heard, opened, performance, polled, spent}
+use Rattle.orca_course.specs.Courses.{Course, each, lastly, lastly_by, mapped, onward}
+use Rattle.orca_course.specs.Performers.{attended, begun, finished, heard, opened, performance, polled}
 use Rattle.orca_course.specs.declared.ending.Ending.{Ending}
-use Rattle.orca_course.specs.declared.ending.Ending.TheVariants.{Spent}
 use Rattle.orca_course.proofs.CourseLemmas.{each-holds}
+use Rattle.orca_course.proofs.PerformanceLemmas.{attended_done}
 use Rattle.orca_trace.specs.Calls.{Poll}
 use Rattle.orca_rig.specs.declared.inbox.Answer.{Answer}
 use Rattle.orca_rig.specs.declared.inbox.Answer.TheVariants as answer
 use Rattle.orca_live.specs.Carrying.{Along, Carries, Silences, finish_carried, heard_carried, looks_same, onward_carried, open_carried}
 use Rattle.orca_live.specs.Performing.{live_part}
 use Rattle.orca_live.specs.States.{LiveState}
-
--- what was done, and where it led
-abbrev pub done_of : Course LiveState Ending → List Act × LiveState
-done_of c = (c.acts, c.state)
-
-spent_by : (last : Bool) (end : Option Ending) (c : Course LiveState Ending)
-    → done_of (onward_by end c (λ s. if last then ended Spent s else still s)) ≡ done_of c
-spent_by true None c = cc (append-nil c.acts)
-spent_by false None c = cc (append-nil c.acts)
-spent_by last (Some e) c = refl
-
--- that the polls are spent adds nothing
-pub attended_done : (polls : List Poll) (s : LiveState)
-    → done_of (attended live_part polls s) ≡ done_of (each (polled live_part) polls s)
-unfolding attended onward spent
-attended_done polls s =
-    let c = each (polled live_part) polls s in
-    spent_by (nat_le MAX_POLLS (length polls)) c.ending c
 
 -- it holds of a poll too
 abbrev pub Awaits : (LiveState → List Act → LiveState → Type 0) → Type 0
@@ -58,7 +39,8 @@ module _ {holds : LiveState → List Act → LiveState → Type 0} (carry : Carr
   attended_carried : (polls : List Poll) (s : LiveState)
       → Along holds (attended live_part polls s) s
   attended_carried polls s =
-      subst (λ (done : List Act × LiveState). holds s done.0 done.1) (sym (attended_done polls s))
+      subst (λ (done : List Act × LiveState). holds s done.0 done.1)
+      (sym (attended_done live_part polls s))
       (each-holds holds (polled live_part) (λ t. carry.none t t (looks_same t)) carry.both
       polled_carried polls s)
 

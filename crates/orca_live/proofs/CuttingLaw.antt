@@ -17,6 +17,7 @@ use Rattle.orca_course.specs.declared.ending.Ending.TheVariants.{Stopped}
 use Rattle.orca_course.specs.declared.ending.Stop.{Stop}
 use Rattle.orca_course.specs.declared.ending.Stop.TheVariants.{Full}
 use Rattle.orca_course.proofs.ActLemmas.{commands_in-append}
+use Rattle.orca_course.proofs.PerformanceLemmas.{attended_done}
 use Rattle.orca_edit.specs.Machines.{preview_of}
 use Rattle.orca_edit.specs.Obeying.{MachineState, accept, entry_of, obey, piece_of, refuse, rule_against}
 use Rattle.orca_edit.specs.Pieces.{Piece, apply, fold_entries, next_frame, opened_piece, piece_after}
@@ -36,7 +37,6 @@ use Rattle.orca_live.specs.Items.{items_by, items_of}
 use Rattle.orca_live.specs.Laws.{ItemsDecide, PlayAlike}
 use Rattle.orca_live.specs.Performing.{answer_course, answered_at, byte_course, command_course, due_course, fired, frame_course, heard_course, item_course, key_course, live_part, open_course, paint_course, painted_course, press_course, preview_course, save_course, show_course, struck_course, wish_course}
 use Rattle.orca_live.specs.States.{LiveState, dims_at, fitted, is_full, moments_at, piece_at}
-use Rattle.orca_live.proofs.Carried.{attended_done}
 use Rattle.orca_live.proofs.GivenLemmas.{commands_before, finish_closes, paint_commands}
 
 -- ---- what matters of a state, and of a course
@@ -281,7 +281,7 @@ begun_items polls s =
     ∙ ap (λ before. before ++ commands_in (attended live_part polls t).acts)
     (paint_commands [] (fitted s)))
     ∙ (ap (λ (done : List Act × LiveState).
-    record (quiet false (core done.1)) { commands = commands_in done.0 }) (attended_done polls t)
+    record (quiet false (core done.1)) { commands = commands_in done.0 }) (attended_done live_part polls t)
     ∙ (next_nothing (is_some c.ending) (told c)
     ∙ (polls_items polls t ∙ ap (items_told (items_of polls)) (core_fitted s))))
 

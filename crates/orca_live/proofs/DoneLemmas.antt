@@ -1,6 +1,6 @@
--- What was done of a course: from another state, of the session alone, for keys, of what is saved,
--- and of what is shown.
-use Rattle.std.proofs.Common.{◌≡◌, ℕ, List, [], ◌∷◌, ◌++◌, refl, sym, ◌∙◌, subst, ◌==◌, Bool, true, false, length, arith}
+-- What was done of a course: of the session alone, for keys, of what is saved, and of what is
+-- shown.
+use Rattle.std.proofs.Common.{◌≡◌, ℕ, List, [], ◌∷◌, ◌++◌, refl, sym, ◌∙◌, ◌==◌, Bool, true, false, length, arith}
 use Rattle.std.specs.Prelude.{Option, None, Result, Ok, Err, Some, All}
 use Rattle.std.specs.Option.{option_map}
 use Rattle.orca_base.specs.declared.command.Command.{Command}
@@ -8,12 +8,11 @@ use Rattle.orca_base.specs.declared.port.Port.TheVariants as port
 use Rattle.orca_base.specs.MarkSet.{MarkSet}
 use Rattle.orca_concert.specs.Concerts.{Concert, concert, close_course as silence_course, command_course as obey_course, stance_of}
 use Rattle.orca_course.specs.Courses.{Course, mapped, onward, still, course}
-use Rattle.orca_course.specs.Doing.{Does, Stance, goes_of}
+use Rattle.orca_course.specs.Doing.{Does, goes_of}
 use Rattle.orca_course.specs.Worlds.{World, Called, owing, Calls, Made, Sated}
 use Rattle.orca_course.specs.declared.ending.Stop.{Stop}
 use Rattle.orca_course.specs.declared.refused.NoMemory.{NoMemory}
-use Rattle.orca_course.proofs.CourseLemmas.{still_onward}
-use Rattle.orca_course.proofs.DoingLemmas.{does_mapped, does_still, does_then, does_owing, does_acts, does_cut, does_joined, rests_mute, rests_none}
+use Rattle.orca_course.proofs.DoingLemmas.{does_from, does_mapped, does_still, does_then, does_owing, does_acts, does_cut, does_joined, rests_mute, rests_none}
 use Rattle.orca_course.specs.Acts.Act.{Save, Screen, Give, Show}
 use Rattle.orca_course.proofs.CallLemmas.{calls_one, does_calls}
 use Rattle.orca_course.specs.Acts.{AreMute}
@@ -34,14 +33,6 @@ use Rattle.orca_term.specs.declared.cell.ScreenSize.{ScreenSize}
 use Rattle.orca_live.specs.Performing.{close_course, command_course, keeping_command, of_session, item_course, key_course, press_course, struck_course, wish_course, paint_course, painted_course, picture_at, preview_course, redrawn, show_course, view_sends}
 use Rattle.orca_live.specs.Quiet.{silent_manner}
 use Rattle.orca_live.specs.States.{LiveState, live_stance, dims_at, fitted, moments_at, piece_at}
-
--- from a state in which the run stands alike
-pub does_from : {S E : Type 0} {v : Stance S} {c : Course S E} (r : S) {s t : S} {x y : World}
-    {result : Result (Option E) NoMemory} → v.standing s ≡ v.standing r
-    → Does v c s x result t y → Does v c r x result t y
-does_from {v = v} {c = c} r {s = s} {t = t} {x = x} {y = y} {result = result} same did =
-    subst (λ c. Does v c r x result t y) (still_onward s (λ u. c))
-    (does_then (λ u. c) (does_still x same) did)
 
 -- a pace alone has changed
 pub does_paced : (s : LiveState) (p q : Pace) (x : World) → q ≡ p

@@ -5,3 +5,4 @@ pub mod PaintingLaw
 pub mod GivenLemmas
 pub mod ScriptLaw
 pub mod CuttingLaw
+pub mod LeavingLemmas

@@ -56,7 +56,7 @@ impl<'a, M: Machine> Performer for Live<'a, M> {
 }
 
 /// Does what an answer brings. The bytes of other hands are dropped.
-#[tactic(auto, using(orca_course::proofs::WorldLemmas::called_still, crate::proofs::DoneLemmas::does_from), unfolding(crate::specs::Performing::answer_course))]
+#[tactic(auto, using(orca_course::proofs::WorldLemmas::called_still, orca_course::proofs::DoingLemmas::does_from), unfolding(crate::specs::Performing::answer_course))]
 fn do_answer<M: Machine, H: House>(
     live: &mut Live<'_, M>,
     desk: &mut Desk<H>,
