@@ -2,3 +2,4 @@ pub mod DoneLemmas
 pub mod FrameLemmas
 pub mod SongLaw
 pub mod WaveLaw
+pub mod EndingLemmas
