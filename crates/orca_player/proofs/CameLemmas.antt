@@ -1,6 +1,6 @@
 -- What was done of an outline, and calls before it: a load, the wait for a player, the ports.
 use Rattle.std.proofs.Common.{◌≡◌, ◌≢◌, ◌⊎◌, inl, inr, ℕ, ◌+◌, ◌≤◌, length, Bool, false, List, [], ◌∷◌, ◌++◌, refl, sym, ◌∙◌, ap, subst, append_assoc, append-nil, arith}
-use Rattle.std.specs.Prelude.{Option, Some, None, IfSome, Ok}
+use Rattle.std.specs.Prelude.{Option, Some, None, IfSome, Ok, Err}
 use Rattle.orca_base.specs.declared.limits.TheConstants.{MAX_POLLS}
 use Rattle.orca_course.specs.Acts.{Act, AreMute, commands_in, given, gives, open_after, polls_in, stand_after}
 use Rattle.orca_course.specs.Acts.Act.{Attach, Listen, Load}
@@ -19,7 +19,7 @@ use Rattle.orca_trace.specs.Calls.{Poll}
 use Rattle.orca_term.specs.Picture.{IsScreen}
 use Rattle.orca_words.specs.Requests.{Setup}
 use Rattle.orca_player.specs.Doing.{Came, CameBy, IsBlamed, IsWhole, KeepsTake, ReadsBack, WasRefused, status_at}
-use Rattle.orca_player.specs.Outlines.{Brought, Outline, after, attaches, nothing, plain, stopped}
+use Rattle.orca_player.specs.Outlines.{Brought, Outline, after, attaches, loading, nothing, plain, stopped}
 use Rattle.orca_player.specs.Takes.{saves_in}
 use Rattle.orca_player.specs.declared.status.Status.{Status}
 use Rattle.orca_player.specs.declared.status.Status.TheVariants.{FileFault, Memory}
@@ -237,17 +237,16 @@ loaded called =
       sated = called.called.1;
     }
 
-pub listened : {T : Type 0} {done : T} {name : List ℕ} {at : ℕ} {x y : World}
-    → Called (Ok done) (Listen name 1 (Some at)) x y → Before (Listen name 1 (Some at) ∷ []) x y
-listened called =
-    let made = called.called.0 in
-    record {
-      calls = tt;
-      lost = lost_made made;
-      files = stored_made tt made;
-      made = made;
-      sated = called.called.1;
-    }
+pub listened : {name : List ℕ} {hands at : ℕ} {x y : World}
+    → Made (Listen name hands (Some at) ∷ []) 0 x y × Sated x y
+    → Before (Listen name hands (Some at) ∷ []) x y
+listened did = record {
+  calls = tt;
+  lost = lost_made did.0;
+  files = stored_made tt did.0;
+  made = did.0;
+  sated = did.1;
+}
 
 pub attached : {T : Type 0} {done : T} (setup : Setup) {x y : World}
     → Calls (attaches setup) (Ok done) x y → Before (attaches setup) x y
@@ -319,13 +318,21 @@ by_failed acts planned is mute polls done blamed =
     (rw is (came_bare (after acts (stopped planned)) planned refl refl mute done blamed))
 
 -- the load of a file failed
-pub by_unloaded : {T : Type 0} {done : T} {o : Brought → Outline} {name : List ℕ} {x y : World}
-    → o nothing ≡ after (Load name None ∷ []) (stopped FileFault)
+pub by_unloaded : {T : Type 0} {done : T} {o : Brought → Outline} {name : List ℕ}
+    (next : List ℕ → Outline) {x y : World} → o nothing ≡ loading name None next
     → Called (Ok done) (Load name None) x y → CameBy o x FileFault y
-by_unloaded {name = name} is called =
+unfolding loading
+by_unloaded {name = name} next is called =
     let made = called.called.0 in
     by_failed (Load name None ∷ []) FileFault is tt refl called.called
     (lost_made made, unstored_made made)
+
+-- it was refused memory
+pub by_unread : {T : Type 0} {o : Brought → Outline} {name : List ℕ} (next : List ℕ → Outline)
+    {e : NoMemory} {x y : World} → o nothing ≡ loading name None next
+    → Called {T = T} (Err e) (Load name None) x y → CameBy o x Memory y
+unfolding loading
+by_unread next is called = by_memory (rw is (refl, tt)) (came_still _ called.called.0)
 
 -- calls by what was brought, and then the rest
 pub by_after : {acts : List Act} {o : Brought → Outline} {more : Outline} {x y z : World}

@@ -1,7 +1,7 @@
 -- The laws of performances, on the outlines of runs.
 use Rattle.std.proofs.Common.{◌≡◌, ◌≢◌, ℕ, List, [], ◌++◌, refl, sym, ◌∙◌, ap, arith, ◌∷◌}
 use Rattle.std.specs.Prelude.{Option, Some, None, unwrap_or, Result, Ok, Err, IfSome}
-use Rattle.std.specs.Option.{option_map}
+use Rattle.std.specs.Option.{option_map, option_map_or}
 use Rattle.orca_base.specs.declared.command.Command.{Command}
 use Rattle.orca_base.specs.Grids.{Sheet}
 use Rattle.orca_concert.specs.Concerts.{concert as concert_at}
@@ -27,9 +27,10 @@ use Rattle.orca_term.specs.Picture.{IsScreen}
 use Rattle.orca_term.specs.declared.cell.ScreenSize.{ScreenSize}
 use Rattle.orca_player.specs.Doing.{ReadsBack}
 use Rattle.orca_player.specs.Laws.{CutsAlike, EndAlike, HasEnd, HearAlike, IsReplayed, ReplaysAlike}
-use Rattle.orca_player.specs.Outlines.{Brought, Heard, Outline, Script, asked_outline, attaches, concert, grid_outline, live_outline, live_start, loaded_grid, loaded_script, opening, outline, performed, request_outline, script_kept, script_outline, standing_at, started_outline, status_of_ending, work_outline, after, loaded_migration, made_outline, migrated}
+use Rattle.orca_player.specs.Outlines.{Brought, Heard, Outline, Script, after, asked_outline, attaches, concert, grid_outline, listening, live_outline, live_start, loading, made_outline, migrated, opening, outline, performed, reading, request_outline, script_kept, script_outline, standing_at, start_of, status_of_ending, stopped, work_outline}
+use Rattle.orca_player.specs.declared.status.Status.TheVariants.{FileFault}
 use Rattle.orca_player.proofs.CameLemmas.{attaches-calls, calls_bare, AreCalls}
-use Rattle.orca_player.proofs.CourseLemmas.{concert-standing}
+use Rattle.orca_concert.proofs.EndingLemmas.{concert-standing}
 
 -- each beginning of acts shows its pictures
 record AllShow (d : ScreenSize) (acts : List Act) : Type 0 where
@@ -73,22 +74,31 @@ Shown o = IfSome o.screen (λ d. AllShow d o.course.acts)
 abbrev Sized : Outline → Type 0
 Sized o = IfSome o.screen IsScreen
 
-shown_listened : ShowsPerformance → (setup : Setup) (play : Performance) (at : ℕ)
-    (polls : List Poll) (s : Standing) → Sized (live_outline setup play at polls s)
-    → Shown (after (Listen play.address 1 (Some at) ∷ []) (live_outline setup play at polls s))
+shown_listened : ShowsPerformance → (address : List ℕ) (hands : ℕ) (setup : Setup)
+    (play : Performance) (at : ℕ) (polls : List Poll) (s : Standing)
+    → Sized (live_outline setup play polls s at)
+    → Shown (after (Listen address hands (Some at) ∷ []) (live_outline setup play polls s at))
 unfolding live_outline opening mapped
-shown_listened law setup play at polls s sized =
-    show_calls (Listen play.address 1 (Some at) ∷ []) _ tt
+shown_listened law address hands setup play at polls s sized =
+    show_calls (Listen address hands (Some at) ∷ []) _ tt
     (show_before (Stand s) (λ bs prints. prints) (λ bs shows. shows) (record {
       show = λ begun left is printable.
           law (live_start setup play at s) polls begun left sized refl is printable;
     }))
 
+shown_grid : ShowsPerformance → (setup : Setup) (work : Work) (b : Brought)
+    (read : Result Sheet GridRefusal) → Sized (grid_outline setup work b read)
+    → Shown (grid_outline setup work b read)
+unfolding grid_outline work_outline listening loading script_outline reading concert opening
+shown_grid law setup work b read sized = grind (arith, shown_listened law)
+
 shown_loaded : ShowsPerformance → (setup : Setup) (work : Work) (b : Brought)
-    (grid : Option (List ℕ)) → Sized (loaded_grid setup work b grid)
-    → Shown (loaded_grid setup work b grid)
-unfolding loaded_grid grid_outline work_outline started_outline loaded_script script_outline concert
-shown_loaded law setup work b grid sized = grind (arith, shown_listened law)
+    (grid : Option (List ℕ))
+    → let o = option_map_or (λ text. grid_outline setup work b (grid_text text)) grid
+    (stopped FileFault) in
+    Sized o → Shown o
+shown_loaded law setup work b None = λ sized. tt
+shown_loaded law setup work b (Some text) = shown_grid law setup work b (grid_text text)
 
 shown_by : (screen : Option ScreenSize) (xs acts : List Act) → AreCalls xs
     → IfSome screen (λ d. AllShow d acts) → IfSome screen (λ d. AllShow d (xs ++ acts))
@@ -97,7 +107,7 @@ shown_by (Some d) xs acts calls all = show_calls xs acts calls all
 
 shown_performed : ShowsPerformance → (setup : Setup) (work : Work) (h : Heard)
     → Sized (performed setup work h) → Shown (performed setup work h)
-unfolding performed
+unfolding performed loading
 shown_performed law setup work h sized =
     shown_by _ (attaches setup) _ (attaches-calls setup)
     (shown_by _ (Load setup.grid h.grid ∷ []) _ tt
@@ -105,7 +115,7 @@ shown_performed law setup work h sized =
 
 shown_outline : ShowsPerformance → (words : List (List ℕ)) (h : Heard) → Sized (outline words h)
     → Shown (outline words h)
-unfolding outline request_outline loaded_migration migrated made_outline concert
+unfolding outline request_outline loading migrated reading made_outline concert opening
 shown_outline law words h sized = grind (arith, shown_performed law)
 
 shown_some : (screen : Option ScreenSize) (acts begun left : List Act)
@@ -149,11 +159,11 @@ work_alike : ItemsDecide → (setup : Setup) (work : Work) (sheet : Sheet) (scri
     (a b : Option ℕ) (polls others : List Poll) → AreCut a b polls others
     → Alike (work_outline setup work sheet (brings script a polls))
     (work_outline setup work sheet (brings script b others))
-unfolding work_outline started_outline live_outline opening mapped
+unfolding work_outline listening live_outline opening mapped
 work_alike cutting setup (Play play) sheet script None None polls others cut = alike_none _
 work_alike cutting setup (Play play) sheet script (Some a) (Some b) polls others cut =
     λ ends other_ends.
-    let s = standing_at sheet setup.seed setup.limit in
+    let s = start_of setup sheet in
     let u = live_start setup play a s in
     let v = live_start setup play b s in
     let alike = cutting polls others u v cut.items
@@ -176,7 +186,7 @@ asked_alike : ItemsDecide → (request : Option Request) (grid script : Option (
     (a b : Option ℕ) (polls others : List Poll) → AreCut a b polls others
     → Alike (asked_outline request (hears grid script a polls))
     (asked_outline request (hears grid script b others))
-unfolding request_outline performed loaded_grid grid_outline
+unfolding request_outline performed loading grid_outline
 asked_alike cutting request grid script a b polls others cut = λ ends other_ends.
     let same : (setup : Setup) (work : Work) (sheet : Sheet)
     → Alike (work_outline setup work sheet (brings script a polls))
@@ -206,11 +216,10 @@ replay_state : (script : Script) (sheet : Sheet) (seed limit : ℕ)
     → any_script_of (printed_script script.seed script.commands)
     ≡ Ok (cues_asking 2 (lines_behind 0 script.commands))
     → seed_in (printed_script script.seed script.commands) ≡ Some script.seed
-    → machine_of (loaded_script sheet seed limit
-    (Some (printed_script script.seed script.commands)))
+    → machine_of (script_outline sheet seed limit (printed_script script.seed script.commands))
     ≡ Some (machine_closed
     (replayed replay_manner script.commands (standing_at sheet script.seed limit)))
-unfolding loaded_script script_outline concert opening mapped
+unfolding script_outline reading concert opening mapped
 replay_state script sheet seed limit reads gives =
     rw (gives, reads) (ap (λ (s : Standing). Some s.machine)
     (concert-standing replay_manner (cues_asking 2 (lines_behind 0 script.commands))
@@ -233,16 +242,13 @@ kept_script name seed given script is = grind arith
 
 live_again : LiveReplays → (setup : Setup) (play : Performance) (at : ℕ)
     (polls : List Poll) (sheet : Sheet) (script : Script)
-    → HasEnd (live_outline setup play at polls (standing_at sheet setup.seed setup.limit))
-    → (live_outline setup play at polls (standing_at sheet setup.seed setup.limit)).given
-    ≡ Some script → ReadsBack script
-    → IsPlayed setup script
-    (live_outline setup play at polls (standing_at sheet setup.seed setup.limit))
-    (λ other. loaded_script sheet other.seed other.limit
-    (Some (printed_script script.seed script.commands)))
+    → let o = live_outline setup play polls (start_of setup sheet) at in
+    HasEnd o → o.given ≡ Some script → ReadsBack script → IsPlayed setup script o
+    (λ other. script_outline sheet other.seed other.limit
+    (printed_script script.seed script.commands))
 unfolding live_outline opening mapped
-live_again replays setup play at polls sheet script ends given reads =
-    let s = standing_at sheet setup.seed setup.limit in
+live_again replays setup play at polls sheet script = λ ends given reads.
+    let s = start_of setup sheet in
     let u = live_start setup play at s in
     let c = performance live_part u polls in
     let kept = kept_script play.script setup.seed c.state.given script given in
@@ -267,7 +273,7 @@ grid_again : LiveReplays → (setup : Setup) (play : Performance) (old : Option 
     → IsPlayed setup script (grid_outline setup (Play play) (brings old start polls) read)
     (λ other. grid_outline other (Replay name)
     (brings (Some (printed_script script.seed script.commands)) start polls) read)
-unfolding grid_outline work_outline started_outline
+unfolding grid_outline work_outline listening loading
 grid_again replays setup play old start polls (Err refusal) script name ends given reads = absurd cc
 grid_again replays setup play old None polls (Ok sheet) script name ends given reads = absurd cc
 grid_again replays setup play old (Some at) polls (Ok sheet) script name ends given reads =
@@ -278,7 +284,7 @@ request_again : LiveReplays → (setup : Setup) (play : Performance) (grid : Opt
     → let h : Heard = record { grid = grid; brought = b } in
     let o = request_outline (Perform setup (Play play)) h in
     HasEnd o → o.given ≡ Some script → ReadsBack script → IsReplayed setup h script o
-unfolding request_outline performed loaded_grid
+unfolding request_outline performed loading
 request_again replays setup play None b script = λ ends given reads. absurd cc
 request_again replays setup play (Some text) b script = λ ends given reads.
     let played = λ (name : List ℕ).

@@ -10,6 +10,7 @@ use Rattle.orca_course.specs.declared.refused.NoMemory.{NoMemory}
 use Rattle.orca_cues.specs.Scripts.{any_script_of, commands_of_cues, seed_in}
 use Rattle.orca_cues.specs.declared.fault.ScriptFault.{ScriptFault}
 use Rattle.orca_cues.specs.declared.source.Cue.{Cue}
+use Rattle.orca_grid.specs.GridText.{grid_text}
 use Rattle.orca_grid.specs.declared.refusal.GridRefusal.{GridRefusal}
 use Rattle.orca_grid.specs.declared.refusal.GridRefusal.TheVariants as refused
 use Rattle.orca_reports.specs.Manners.{replay_manner}
@@ -17,7 +18,7 @@ use Rattle.orca_reports.specs.Quiet.{quiet-events, quiet-make, quiet-replay, qui
 use Rattle.orca_script.specs.Runs.{ScriptReadsBack, printed_script}
 use Rattle.orca_words.specs.Requests.{Migration, Request, Setup, Work}
 use Rattle.orca_player.specs.Doing.{Came, CameBy, KeepsTake, ReadsBack, refused_status, status_at}
-use Rattle.orca_player.specs.Outlines.{after, asked_outline, attaches, concert, grid_outline, loaded_grid, loaded_migration, loaded_script, made_outline, migrated, nothing, performed, recorded, request_outline, saved, script_in, script_outline, started_outline, stopped, work_outline}
+use Rattle.orca_player.specs.Outlines.{after, asked_outline, attaches, concert, grid_outline, listening, loading, made_outline, migrated, nothing, opening, performed, reading, recorded, request_outline, saved, script_in, stopped, work_outline}
 use Rattle.orca_player.specs.Takes.{Take}
 use Rattle.orca_player.specs.declared.status.Status.{Status}
 use Rattle.orca_player.specs.declared.status.Status.TheVariants.{Done, FileFault, GridRefused, Memory}
@@ -29,14 +30,14 @@ use Rattle.orca_player.proofs.CourseLemmas.{polls-concert}
 
 pub kind_concert : {R : Type 0} {status : Status} (m : Manner R) (r : R) (cues : List Cue)
     (s : Standing) → IsQuiet m → IsKind (concert m r cues s) [] status
-unfolding concert
+unfolding concert opening
 kind_concert m r cues s quiet = kind_plain (polls-concert m r cues s quiet)
 
 pub by_recorded : {R : Type 0} (take : Take) (m : Manner R) (r : R) (cues : List Cue)
     (s : Standing) {x y : World} {status : Status} → IsQuiet m
     → KeepsTake (recorded take (concert m r cues s)) → Came (concert m r cues s) x status y
     → CameBy (λ b. recorded take (concert m r cues s)) x status y
-unfolding concert
+unfolding concert opening
 by_recorded take m r cues s quiet keeps came =
     by nothing (record {
       polls = polls-concert m r cues s quiet;
@@ -47,8 +48,8 @@ by_recorded take m r cues s quiet keeps came =
     }) (came_plain (recorded take (concert m r cues s)) came)
 
 pub kind_read : {status : Status} (read : Result (List Cue) ScriptFault) (s : Standing)
-    → IsKind (script_outline read s) [] status
-unfolding script_outline
+    → IsKind (reading (λ cues. concert replay_manner tt cues s) read) [] status
+unfolding reading
 kind_read (Err fault) s = kind_plain refl
 kind_read (Ok cues) s = kind_concert replay_manner tt cues s quiet-replay
 
@@ -57,7 +58,7 @@ kind_read (Ok cues) s = kind_concert replay_manner tt cues s quiet-replay
 -- it asks nothing and paints nothing while nothing comes from the outside
 idle-grid : (setup : Setup) (work : Work) (read : Result Sheet GridRefusal)
     → IsIdle (grid_outline setup work nothing read)
-unfolding grid_outline work_outline loaded_script started_outline concert
+unfolding grid_outline work_outline loading listening concert opening
 idle-grid setup work read =
     grind (arith, polls-concert, quiet-run, quiet-events, quiet-smf, quiet-wav)
 
@@ -89,8 +90,8 @@ cues_in read ok = grind arith
 pub script_saved : {T : Type 0} {done : T} (m : Migration) (text bytes : List ℕ) {x y : World}
     → IsOk (any_script_of text) → IsPrinted m text bytes
     → Called (Ok done) (Save m.out bytes) x y
-    → Came (migrated m text (any_script_of text)) x (status_at Done y) y
-unfolding migrated
+    → Came (migrated m text) x (status_at Done y) y
+unfolding migrated reading
 script_saved m text bytes ok printed called =
     let found = cues_in (any_script_of text) ok in
     let did = (rw (printed found.0 found.1) at called).called in
@@ -98,19 +99,18 @@ script_saved m text bytes ok printed called =
     (lost_made did.0))
 
 -- what is saved reads back, and nothing is saved of a text with a fault
-pub script_reads : (m : Migration) (text : List ℕ) (read : Result (List Cue) ScriptFault)
-    → ((cues : List Cue) → read ≡ Ok cues
+pub script_reads : (m : Migration) (text : List ℕ)
+    → ((cues : List Cue) → any_script_of text ≡ Ok cues
     → ScriptReadsBack (unwrap_or (seed_in text) m.seed) (commands_of_cues cues))
-    → IfSome (migrated m text read).given ReadsBack
-unfolding migrated
-script_reads m text read back = grind arith
+    → IfSome (migrated m text).given ReadsBack
+unfolding migrated reading
+script_reads m text back = grind arith
 
 pub kind_moved : {status : Status} (m : Migration) (text : List ℕ)
-    (read : Result (List Cue) ScriptFault)
-    → (status ≢ Memory → IfSome (migrated m text read).given ReadsBack)
-    → IsKind (migrated m text read) [] status
-unfolding migrated
-kind_moved m text read reads = record {
+    → (status ≢ Memory → IfSome (migrated m text).given ReadsBack)
+    → IsKind (migrated m text) [] status
+unfolding migrated reading
+kind_moved m text reads = record {
   polls = grind arith;
   few = omega arith;
   sized = grind arith;
@@ -124,22 +124,23 @@ kind_moved m text read reads = record {
 pub attach_cut : (setup : Setup) (work : Work) {e : NoMemory} {x y : World}
     → AreBegun (attaches setup) e x y
     → CameBy (λ b. performed setup work (record { grid = None; brought = b })) x Memory y
-unfolding performed loaded_grid
+unfolding performed loading
 attach_cut setup work cut =
     let calls = attaches-calls setup in
     by_memory ((calls_bare (attaches setup) calls).polls _, tt)
     (came_cut (attaches setup) (after (Load setup.grid None ∷ []) (stopped FileFault)) calls cut)
 
 -- the ports were attached
-pub by_grid : {T : Type 0} {done : T} (setup : Setup) (work : Work) {grid : Option (List ℕ)}
+pub by_grid : {T : Type 0} {done : T} (setup : Setup) (work : Work) (grid : Option (List ℕ))
     {x y z : World} {status : Status} → Calls (attaches setup) (Ok done) x y
-    → CameBy (λ b. after (Load setup.grid grid ∷ []) (loaded_grid setup work b grid)) y status z
+    → CameBy (λ b. loading setup.grid grid (λ text. grid_outline setup work b (grid_text text))) y
+    status z
     → (grid : Option (List ℕ))
     × CameBy (λ b. performed setup work (record { grid = grid; brought = b })) x status z
 unfolding performed
-by_grid setup work {grid = grid} calls did = (grid, by_later (attached setup calls) did)
+by_grid setup work grid calls did = (grid, by_later (attached setup calls) did)
 
 pub idle-asked : (request : Option Request)
     → IsIdle (asked_outline request (record { grid = None; brought = nothing }))
-unfolding request_outline performed loaded_grid loaded_migration made_outline concert
+unfolding request_outline performed loading made_outline concert opening
 idle-asked request = grind (arith, polls-concert, quiet-make)

@@ -1,18 +1,19 @@
 -- The definition of a run: all that it does on the outside, in order, what it may cost, and how it
 -- ends, by its words and by what the outside gives to it.
 use Rattle.std.specs.Prelude.{ℕ, ◌*◌, nat_lt, Bool, true, false, if◌then◌else◌, List, [], ◌∷◌, ◌++◌, Option, Some, None, Result, Ok, Err, unwrap_or}
-use Rattle.std.specs.Option.{option_map}
+use Rattle.std.specs.Option.{option_map, option_map_or}
 use Rattle.orca_base.specs.declared.limits.TheConstants.{DEFAULT_HISTORY}
 use Rattle.orca_base.specs.declared.port.Port.{Port}
 use Rattle.orca_base.specs.declared.port.Port.TheVariants as port
 use Rattle.orca_base.specs.declared.command.Command.{Command}
 use Rattle.orca_base.specs.Grids.{Sheet, Size}
-use Rattle.orca_concert.specs.Concerts.{concert as concert_at, concert_course}
+use Rattle.orca_concert.specs.Concerts.{concert as concert_at, concert_course, stance_of}
 use Rattle.orca_concert.specs.Manners.{Manner}
 use Rattle.orca_course.specs.Acts.{Act}
 use Rattle.orca_course.specs.Acts.Act.{Attach, Listen, Load, Save, Stand}
 use Rattle.orca_course.specs.Courses.{Course, course, ended, joined, mapped}
-use Rattle.orca_course.specs.Performers.{performance}
+use Rattle.orca_course.specs.Doing.{Stance}
+use Rattle.orca_course.specs.Performers.{Part, performance}
 use Rattle.orca_course.specs.Standings.{Standing, standing, tally_at_start}
 use Rattle.orca_course.specs.declared.ending.Ending.{Ending}
 use Rattle.orca_course.specs.declared.ending.Ending.TheVariants.{Stopped, Lost, Spent}
@@ -41,6 +42,7 @@ use Rattle.orca_term.specs.declared.cell.ScreenSize.{ScreenSize}
 use Rattle.orca_wav.specs.declared.limits.TheConstants.{MAX_WAVE_BYTES, SAMPLE_BYTES}
 use Rattle.orca_words.specs.Requests.{Events, Make, Migrate, Migration, Perform, Performance, Play, Recording, Replay, Request, Run, Setup, Smf, Wav, Work, Workload, request_of}
 use Rattle.orca_player.specs.Takes.{Take, Song, Wave}
+use Rattle.orca_player.specs.declared.live.TheConstants.{ALONE}
 use Rattle.orca_player.specs.declared.status.Status.{Status}
 use Rattle.orca_player.specs.declared.status.Status.TheVariants.{Done, Usage, GridRefused, FileFault, ScriptRefused, HistoryFull, InboxFault, TurnsSpent, SmfTooLong, WavTooLong}
 
@@ -99,10 +101,10 @@ abbrev pub standing_at : Sheet → ℕ → ℕ → Standing
 standing_at sheet seed limit = standing (machine_at_start sheet seed limit) kept_at_start tally_at_start
 
 -- the session is opened, and then a course of what stands on it
-unfoldable pub opening : {S E : Type 0} → (S → Standing) → (Option E → Option Status) → Standing
-    → Course S E → Course (Option Standing) Status
-opening f g s c =
-    joined (course {S = Option Standing} {E = Status} (Stand s ∷ []) 0 (Some s)) (mapped (λ t. Some (f t)) g c)
+unfoldable pub opening : {S E : Type 0} → Stance S → (Option E → Option Status) → Standing
+    → Course S E → Outline
+opening v g s c =
+    plain v.hands (joined (course {E = Status} (Stand s ∷ []) 0 (Some s)) (mapped v.standing g c))
 
 abbrev pub status_of_stop : Stop → Status
 status_of_stop Left = Done
@@ -118,57 +120,63 @@ status_of_end (Some stop) = status_of_stop stop
 -- the session is opened, all cues are done, and the run closes
 unfoldable pub concert : {R : Type 0} → Manner R → R → List Cue → Standing → Outline
 concert m r cues s =
-    plain m.hands (opening (λ t. t.standing) (λ end. Some (status_of_end end)) s
-    (concert_course m cues (concert_at s r)))
+    opening (stance_of m) (λ end. Some (status_of_end end)) s
+    (concert_course m cues (concert_at s r))
 
--- ---- a script
+-- ---- files
 
--- every line is read before the first command is done
-unfoldable pub script_outline : Result (List Cue) ScriptFault → Standing → Outline
-script_outline (Err fault) s = stopped (ScriptRefused fault.line fault.column)
-script_outline (Ok cues) s = concert replay_manner tt cues s
+-- a file is loaded, and its text decides what comes next; one that can't be loaded ends the run
+unfoldable pub loading : List ℕ → Option (List ℕ) → (List ℕ → Outline) → Outline
+loading name text next =
+    after (Load name text ∷ []) (option_map_or next text (stopped FileFault))
 
--- a script may give the seed; one that can't be loaded ends the run
-unfoldable pub loaded_script : Sheet → ℕ → ℕ → Option (List ℕ) → Outline
-loaded_script sheet seed limit None = stopped FileFault
-loaded_script sheet seed limit (Some text) =
-    script_outline (any_script_of text) (standing_at sheet (unwrap_or (seed_in text) seed) limit)
+-- every line of a script is read before anything is done by it
+unfoldable pub reading : (List Cue → Outline) → Result (List Cue) ScriptFault → Outline
+reading next (Err fault) = stopped (ScriptRefused fault.line fault.column)
+reading next (Ok cues) = next cues
+
+-- a script may give the seed
+unfoldable pub script_outline : Sheet → ℕ → ℕ → List ℕ → Outline
+script_outline sheet seed limit text =
+    reading (λ cues. concert replay_manner tt cues
+    (standing_at sheet (unwrap_or (seed_in text) seed) limit)) (any_script_of text)
 
 -- ---- a script in format 2
 
 -- the seed that a text of a script gives, or else this one, and the commands of its cues
 abbrev pub script_in : ℕ → List ℕ → List Cue → Script
-script_in seed text cues = record {
-  seed = unwrap_or (seed_in text) seed;
-  commands = commands_of_cues cues;
-}
+script_in seed text cues =
+    record { seed = unwrap_or (seed_in text) seed; commands = commands_of_cues cues }
 
 -- a script is saved in format 2
 abbrev pub saved : List ℕ → Script → Outline
-saved out script = record {
-  hands = true;
-  course = record {
-    acts = Save out (printed_script script.seed script.commands) ∷ [];
-    bill = 0;
-    state = None;
-    ending = Some Done;
-  };
-  screen = None;
-  given = Some script;
-  take = None;
-}
+saved out script =
+    let text = printed_script script.seed script.commands in
+    record (after (Save out text ∷ []) (stopped Done)) { given = Some script }
 
--- every line is read before it is saved
-unfoldable pub migrated : Migration → List ℕ → Result (List Cue) ScriptFault → Outline
-migrated m text (Err fault) = stopped (ScriptRefused fault.line fault.column)
-migrated m text (Ok cues) = saved m.out (script_in m.seed text cues)
-
--- one that can't be loaded ends the run
-unfoldable pub loaded_migration : Migration → Option (List ℕ) → Outline
-loaded_migration m None = stopped FileFault
-loaded_migration m (Some text) = migrated m text (any_script_of text)
+unfoldable pub migrated : Migration → List ℕ → Outline
+migrated m text =
+    reading (λ cues. saved m.out (script_in m.seed text cues)) (any_script_of text)
 
 -- ---- a performance
+
+abbrev pub status_of_ending : Ending → Status
+status_of_ending (Stopped stop) = status_of_stop stop
+status_of_ending Lost = InboxFault
+status_of_ending Spent = TurnsSpent
+
+-- the session is opened, and a performance by any performer, which stands there in this state
+abbrev pub performed_outline : {S : Type 0} → Part S → Standing → S → List Poll → Outline
+performed_outline p s u polls =
+    opening p.stance (option_map status_of_ending) s (performance p u polls)
+
+-- the inbox listens at an address for so many hands, and answers the moment at which a performance
+-- starts; one that can't listen ends the run
+unfoldable pub listening : List ℕ → ℕ → Option ℕ → (ℕ → Outline) → Outline
+listening address hands start next =
+    after (Listen address hands start ∷ []) (option_map_or next start (stopped InboxFault))
+
+-- ---- a player
 
 -- how a grid is played, and the files that it is saved to
 abbrev pub setting_of : Setup → Performance → Setting
@@ -185,11 +193,6 @@ setting_of setup performance = record {
 abbrev pub screen_of : Performance → ScreenSize
 screen_of performance = record { rows = performance.rows; columns = performance.cols }
 
-abbrev pub status_of_ending : Ending → Status
-status_of_ending (Stopped stop) = status_of_stop stop
-status_of_ending Lost = InboxFault
-status_of_ending Spent = TurnsSpent
-
 -- a performance that starts at a moment
 abbrev pub live_start : Setup → Performance → ℕ → Standing → LiveState
 live_start setup play at s = live_at_start (setting_of setup play) (screen_of play) at s
@@ -200,63 +203,48 @@ script_kept None seed given = None
 script_kept (Some name) seed given =
     option_map (λ commands. record { seed = seed; commands = commands }) given
 
--- the outline of the course of a performance
-abbrev pub outline_of : LiveState → Course LiveState Ending → Outline
-outline_of s c = record {
-  hands = true;
-  course = opening (λ t. t.standing) (option_map status_of_ending) s.standing c;
+-- the session is opened, and a player plays from there
+abbrev pub played : LiveState → List Poll → Outline
+played s polls = record (performed_outline live_part s.standing s polls) {
   screen = Some s.screen;
-  given = script_kept s.setting.script s.setting.seed c.state.given;
-  take = None;
+  given = script_kept s.setting.script s.setting.seed (performance live_part s polls).state.given;
 }
 
--- the session is opened, and a performance plays from where it stands
-abbrev pub played : LiveState → List Poll → Outline
-played s polls = outline_of s (performance live_part s polls)
-
 -- the same from its start
-unfoldable pub live_outline : Setup → Performance → ℕ → List Poll → Standing → Outline
-live_outline setup play at polls s = played (live_start setup play at s) polls
-
--- an inbox that can't listen ends the run
-unfoldable pub started_outline : Setup → Performance → Option ℕ → List Poll → Standing → Outline
-started_outline setup play None polls s = stopped InboxFault
-started_outline setup play (Some at) polls s = live_outline setup play at polls s
+unfoldable pub live_outline : Setup → Performance → List Poll → Standing → ℕ → Outline
+live_outline setup play polls s at = played (live_start setup play at s) polls
 
 -- ---- a grid
 
--- what is done on an opened grid. The inbox listens at its address for one hand before a performance
--- starts
+-- where a session stands that was opened on a grid
+abbrev pub start_of : Setup → Sheet → Standing
+start_of setup sheet = standing_at sheet setup.seed setup.limit
+
+-- what is done on an opened grid
 unfoldable pub work_outline : Setup → Work → Sheet → Brought → Outline
 work_outline setup (Run frames) sheet b =
-    concert run_manner tt (frames_cue frames) (standing_at sheet setup.seed setup.limit)
+    concert run_manner tt (frames_cue frames) (start_of setup sheet)
 work_outline setup (Events frames) sheet b =
-    concert events_manner tt (frames_cue frames) (standing_at sheet setup.seed setup.limit)
+    concert events_manner tt (frames_cue frames) (start_of setup sheet)
 work_outline setup (Smf song) sheet b =
-    recorded (Song song.out
-    (song_of song.bpm song.frames (machine_at_start sheet setup.seed setup.limit)))
-    (concert smf_manner (recording_at_start song.out song.bpm song.frames)
-    (frames_cue song.frames) (standing_at sheet setup.seed setup.limit))
+    let s = start_of setup sheet in
+    recorded (Song song.out (song_of song.bpm song.frames s.machine))
+    (concert smf_manner (recording_at_start song.out song.bpm song.frames) (frames_cue song.frames)
+    s)
 work_outline setup (Wav wave) sheet b =
-    recorded (Wave wave.out
-    (wave_of wave.bpm wave.frames (machine_at_start sheet setup.seed setup.limit)))
-    (concert wav_manner (wave_at_start wave.out wave.bpm) (frames_cue wave.frames)
-    (standing_at sheet setup.seed setup.limit))
+    let s = start_of setup sheet in
+    recorded (Wave wave.out (wave_of wave.bpm wave.frames s.machine))
+    (concert wav_manner (wave_at_start wave.out wave.bpm) (frames_cue wave.frames) s)
 work_outline setup (Replay name) sheet b =
-    after (Load name b.script ∷ []) (loaded_script sheet setup.seed setup.limit b.script)
+    loading name b.script (script_outline sheet setup.seed setup.limit)
 work_outline setup (Play play) sheet b =
-    after (Listen play.address 1 b.start ∷ [])
-    (started_outline setup play b.start b.polls (standing_at sheet setup.seed setup.limit))
+    listening play.address ALONE b.start
+    (live_outline setup play b.polls (start_of setup sheet))
 
 -- a text that is no grid ends the run
 unfoldable pub grid_outline : Setup → Work → Brought → Result Sheet GridRefusal → Outline
 grid_outline setup work b (Err refusal) = stopped (GridRefused refusal)
 grid_outline setup work b (Ok sheet) = work_outline setup work sheet b
-
--- a grid that can't be loaded ends the run
-unfoldable pub loaded_grid : Setup → Work → Brought → Option (List ℕ) → Outline
-loaded_grid setup work b None = stopped FileFault
-loaded_grid setup work b (Some text) = grid_outline setup work b (grid_text text)
 
 -- a port is attached to its name, if it has one
 abbrev pub attaches_to : Port → Option (List ℕ) → List Act
@@ -285,7 +273,7 @@ made_outline load =
 unfoldable pub performed : Setup → Work → Heard → Outline
 performed setup work h =
     after (attaches setup)
-    (after (Load setup.grid h.grid ∷ []) (loaded_grid setup work h.brought h.grid))
+    (loading setup.grid h.grid (λ text. grid_outline setup work h.brought (grid_text text)))
 
 -- the bytes of the samples of a wave
 abbrev pub wave_bytes : Recording → ℕ
@@ -299,8 +287,7 @@ is_too_long work = false
 -- what a request asks for. A script that is moved needs no grid
 unfoldable pub request_outline : Request → Heard → Outline
 request_outline (Make load) h = made_outline load
-request_outline (Migrate m) h =
-    after (Load m.script h.brought.script ∷ []) (loaded_migration m h.brought.script)
+request_outline (Migrate m) h = loading m.script h.brought.script (migrated m)
 request_outline (Perform setup work) h =
     if is_too_long work then stopped WavTooLong else performed setup work h
 

@@ -1,6 +1,6 @@
 -- What a run needs so that all of it can be done: a grid, a script, and a history with room for
 -- each frame.
-use Rattle.std.specs.Prelude.{◌≡◌, ◌≢◌, ◌<◌, ◌≤◌, ℕ, false, List, ◌∷◌, ◌++◌, Some, None, IfSome, Result, Ok, Err}
+use Rattle.std.specs.Prelude.{◌≡◌, ◌≢◌, ◌<◌, ◌≤◌, ℕ, false, List, ◌∷◌, ◌++◌, Some, None, IfSome, IsOkAnd, Ok}
 use Rattle.orca_base.specs.declared.limits.TheConstants.{MAX_POLLS}
 use Rattle.orca_base.specs.Grids.{Sheet}
 use Rattle.orca_concert.specs.Concerts.{concert as concert_at, concert_course}
@@ -9,7 +9,6 @@ use Rattle.orca_cues.specs.Cues.{frames_cue}
 use Rattle.orca_cues.specs.Scripts.{any_script_of}
 use Rattle.orca_cues.specs.declared.source.Cue.{Cue}
 use Rattle.orca_grid.specs.GridText.{grid_text}
-use Rattle.orca_grid.specs.declared.refusal.GridRefusal.{GridRefusal}
 use Rattle.orca_live.specs.Items.{turns_of}
 use Rattle.orca_live.specs.Laws.{so_far}
 use Rattle.orca_live.specs.Performing.{answered_at, item_course}
@@ -19,7 +18,7 @@ use Rattle.orca_trace.specs.Calls.{Poll}
 use Rattle.orca_rig.specs.declared.inbox.Answer.TheVariants as answer
 use Rattle.orca_term.specs.Keys.{Due}
 use Rattle.orca_words.specs.Requests.{Events, Make, Migrate, Perform, Play, Recording, Replay, Request, Run, Setup, Smf, Wav, Work}
-use Rattle.orca_player.specs.Outlines.{Brought, Heard, is_too_long, live_start, standing_at}
+use Rattle.orca_player.specs.Outlines.{Brought, Heard, is_too_long, live_start, start_of}
 
 -- each line of a text asks for commands, or for none
 abbrev pub IsScript : List ℕ → Type 0
@@ -40,8 +39,7 @@ HasRoom s polls =
 -- a song of these frames does not end the run since it is too long
 abbrev pub SongFits : Setup → Recording → Sheet → Type 0
 SongFits setup song sheet =
-    (concert_course smf_manner (frames_cue song.frames)
-    (concert_at (standing_at sheet setup.seed setup.limit)
+    (concert_course smf_manner (frames_cue song.frames) (concert_at (start_of setup sheet)
     (recording_at_start song.out song.bpm song.frames))).ending ≢ Some SongTooLong
 
 -- what the work needs on an opened grid. The frames of a run, of its events, of a song and of a wave
@@ -55,17 +53,12 @@ CanDo setup (Wav wave) sheet b = wave.frames ≤ setup.limit
 CanDo setup (Replay name) sheet b = IfSome b.script IsScript
 CanDo setup (Play play) sheet b =
     (turns_of b.polls < MAX_POLLS)
-    × IfSome b.start (λ at.
-    HasRoom (live_start setup play at (standing_at sheet setup.seed setup.limit)) b.polls)
-
--- the text is a grid, on which the work can be done
-abbrev pub CanOpen : Setup → Work → Brought → Result Sheet GridRefusal → Type 0
-CanOpen setup work b (Err refusal) = ⊥
-CanOpen setup work b (Ok sheet) = CanDo setup work sheet b
+    × IfSome b.start (λ at. HasRoom (live_start setup play at (start_of setup sheet)) b.polls)
 
 -- all that a request asks for can be done, unless something outside fails
 abbrev pub IsReady : Request → Heard → Type 0
 IsReady (Make load) h = Unit {0}
 IsReady (Migrate m) h = IfSome h.brought.script IsScript
 IsReady (Perform setup work) h =
-    (is_too_long work ≡ false) × IfSome h.grid (λ text. CanOpen setup work h.brought (grid_text text))
+    (is_too_long work ≡ false)
+    × IfSome h.grid (λ text. IsOkAnd (grid_text text) (λ sheet. CanDo setup work sheet h.brought))

@@ -14,7 +14,7 @@ use Rattle.orca_player.specs.Outlines.{Heard, Outline, outline}
 use Rattle.orca_player.specs.Ready.{IsReady}
 use Rattle.orca_player.specs.Statuses.{status_sends}
 use Rattle.orca_player.specs.declared.status.Status.{Status}
-use Rattle.orca_player.specs.declared.status.Status.TheVariants.{Done, Usage, GridRefused, OutFault, FileFault, ScriptRefused, HistoryFull, InboxFault, TurnsSpent, SmfTooLong, WavTooLong, Memory}
+use Rattle.orca_player.specs.declared.status.Status.TheVariants.{Done, Usage, GridRefused, OutFault, FileFault, ScriptRefused, InboxFault, Memory}
 
 -- ---- how it ended
 
@@ -29,18 +29,15 @@ EndsAs planned status = planned ≡ status
 -- if a call failed so, and out of memory is never told as a refused grid
 abbrev pub IsCaused : Status → World → Type 0
 IsCaused Done y = IsSound y
+IsCaused Memory y = Unit {0}
+IsCaused InboxFault y = is_lost y ≡ true
+IsCaused FileFault y = (is_unstored y ≡ true) × (is_lost y ≡ false)
+IsCaused OutFault y = (has_failed y ≡ true) × (is_unstored y ≡ false) × (is_lost y ≡ false)
 IsCaused Usage y = (is_unstored y ≡ false) × (is_lost y ≡ false)
 IsCaused (GridRefused refusal) y =
     (is_unstored y ≡ false) × (is_lost y ≡ false) × (refusal ≢ refused.Memory)
-IsCaused OutFault y = (has_failed y ≡ true) × (is_unstored y ≡ false) × (is_lost y ≡ false)
-IsCaused FileFault y = (is_unstored y ≡ true) × (is_lost y ≡ false)
 IsCaused (ScriptRefused line column) y = (is_unstored y ≡ false) × (is_lost y ≡ false)
-IsCaused HistoryFull y = is_lost y ≡ false
-IsCaused InboxFault y = is_lost y ≡ true
-IsCaused TurnsSpent y = is_lost y ≡ false
-IsCaused SmfTooLong y = is_lost y ≡ false
-IsCaused WavTooLong y = is_lost y ≡ false
-IsCaused Memory y = Unit {0}
+IsCaused ended y = is_lost y ≡ false
 
 -- ---- what was done
 
@@ -57,18 +54,8 @@ pub record IsDone (o : Outline) (x : World) (status : Status) (y : World) : Type
 
 -- what was done of an outline, by the status
 unfoldable pub Went : Outline → World → Status → World → Type 0
-Went o x Done y = IsDone o x Done y
-Went o x Usage y = IsDone o x Usage y
-Went o x (GridRefused refusal) y = IsDone o x (GridRefused refusal) y
-Went o x OutFault y = IsDone o x OutFault y
-Went o x FileFault y = IsDone o x FileFault y
-Went o x (ScriptRefused line column) y = IsDone o x (ScriptRefused line column) y
-Went o x HistoryFull y = IsDone o x HistoryFull y
-Went o x InboxFault y = IsDone o x InboxFault y
-Went o x TurnsSpent y = IsDone o x TurnsSpent y
-Went o x SmfTooLong y = IsDone o x SmfTooLong y
-Went o x WavTooLong y = IsDone o x WavTooLong y
 Went o x Memory y = WasRefused o x y
+Went o x status y = IsDone o x status y
 
 -- the last send: the line of the status; out of memory it is missing if its port refused memory for
 -- a line

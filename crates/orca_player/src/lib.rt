@@ -6,6 +6,7 @@ mod ending;
 mod live;
 mod migration;
 mod opening;
+mod performing;
 mod reading;
 mod recording;
 mod replay;

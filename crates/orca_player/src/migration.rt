@@ -1,11 +1,10 @@
 //! A script that is moved to format 2.
 
-ghost use Rattle.std.specs.Prelude.{◌≢◌, ◌≤◌, [], ◌∷◌, IfSome, IsOk, length};
+ghost use Rattle.std.specs.Prelude.{◌≢◌, ◌≤◌, IfSome, IsOk, length};
 ghost use Rattle.orca_base.specs.declared.limits.TheConstants.{MAX_FILE_BYTES};
-ghost use Rattle.orca_course.specs.Acts.Act.{Load};
 ghost use Rattle.orca_cues.specs.Scripts.{any_script_of};
 ghost use Rattle.orca_player.specs.Doing.{Came, CameBy, ReadsBack};
-ghost use Rattle.orca_player.specs.Outlines.{after, loaded_migration, migrated};
+ghost use Rattle.orca_player.specs.Outlines.{loading, migrated};
 ghost use Rattle.orca_words.specs.RequestIn.{migration_in};
 
 use crate::Status;
@@ -23,8 +22,8 @@ pub(crate) fn migrate<H: House>(
     migration: &Migration<'_>,
     desk: &mut Desk<H>,
 ) -> Status
-    ensures { CameBy (λ brought. after (Load migration.now.script.now brought.script ∷ [])
-        (loaded_migration (migration_in migration.now) brought.script)) desk.old result desk.new }
+    ensures { CameBy (λ brought. loading migration.now.script.now brought.script
+        (migrated (migration_in migration.now))) desk.old result desk.new }
 {
     match desk.load(alloc, migration.script) {
         Ok(Some(text)) => check_and_save(alloc, migration, text.as_slice(), desk),
@@ -41,10 +40,9 @@ fn check_and_save<H: House>(
     desk: &mut Desk<H>,
 ) -> Status
     requires { length text.now ≤ MAX_FILE_BYTES }
-    ensures came { Came (migrated (migration_in migration.now) text.now (any_script_of text.now))
-        desk.old result desk.new }
-    ensures reads { result ≢ Status.Memory → IfSome (migrated (migration_in migration.now) text.now
-        (any_script_of text.now)).given ReadsBack }
+    ensures came { Came (migrated (migration_in migration.now) text.now) desk.old result desk.new }
+    ensures reads { result ≢ Status.Memory
+        → IfSome (migrated (migration_in migration.now) text.now).given ReadsBack }
 {
     match check_any_script(text) {
         Ok(()) => print_and_save(alloc, migration, text, desk),
@@ -65,10 +63,9 @@ fn print_and_save<H: House>(
 ) -> Status
     requires short { length text.now ≤ MAX_FILE_BYTES }
     requires checked { IsOk (any_script_of text.now) }
-    ensures came { Came (migrated (migration_in migration.now) text.now (any_script_of text.now))
-        desk.old result desk.new }
-    ensures reads { result ≢ Status.Memory → IfSome (migrated (migration_in migration.now) text.now
-        (any_script_of text.now)).given ReadsBack }
+    ensures came { Came (migrated (migration_in migration.now) text.now) desk.old result desk.new }
+    ensures reads { result ≢ Status.Memory
+        → IfSome (migrated (migration_in migration.now) text.now).given ReadsBack }
 {
     let mut script = Vec::new(alloc);
     let Ok(()) = print_script(text, migration.seed, &mut script) else {

@@ -1,11 +1,11 @@
 //! The commands of a script on an opened grid.
 
-ghost use Rattle.std.specs.Prelude.{◌≤◌, [], ◌∷◌, length};
+ghost use Rattle.std.specs.Prelude.{◌≤◌, length};
 ghost use Rattle.orca_base.specs.declared.limits.TheConstants.{MAX_FILE_BYTES};
-ghost use Rattle.orca_course.specs.Acts.Act.{Load};
 ghost use Rattle.orca_cues.specs.Scripts.{any_script_of};
 ghost use Rattle.orca_player.specs.Doing.{Came, CameBy};
-ghost use Rattle.orca_player.specs.Outlines.{after, loaded_script, script_outline, standing_at};
+ghost use Rattle.orca_player.specs.Outlines.{concert, loading, reading, script_outline, standing_at};
+ghost use Rattle.orca_reports.specs.Manners.{replay_manner};
 
 use crate::Status;
 use crate::concert::concert;
@@ -17,8 +17,8 @@ use orca_rig::House;
 
 /// Loads and reads a script, and does its commands. A script that has a seed gives it to the session.
 pub(crate) fn replay<H: House>(opening: &mut Opening, name: &str, desk: &mut Desk<H>) -> Status
-    ensures { CameBy (λ brought. after (Load name.now brought.script ∷ [])
-        (loaded_script opening.old.grid opening.old.seed opening.old.limit brought.script))
+    ensures { CameBy (λ brought. loading name.now brought.script
+        (script_outline opening.old.grid opening.old.seed opening.old.limit))
         desk.old result desk.new }
 {
     match desk.load(opening.alloc, name) {
@@ -33,11 +33,11 @@ pub(crate) fn replay<H: House>(opening: &mut Opening, name: &str, desk: &mut Des
 }
 
 /// Reads all lines of a script, and then does its commands.
-#[tactic(auto, unfolding(crate::specs::Outlines::script_outline))]
+#[tactic(auto, unfolding(crate::specs::Outlines::reading))]
 fn follow<H: House>(opening: &Opening, text: &[u8], desk: &mut Desk<H>) -> Status
     requires short { length text.now ≤ MAX_FILE_BYTES }
-    ensures { Came (script_outline (any_script_of text.now)
-        (standing_at opening.now.grid opening.now.seed opening.now.limit))
+    ensures { Came (reading (λ cues. concert replay_manner tt cues
+        (standing_at opening.now.grid opening.now.seed opening.now.limit)) (any_script_of text.now))
         desk.old result desk.new }
 {
     match check_any_script(text) {

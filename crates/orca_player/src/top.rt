@@ -1,6 +1,6 @@
 ghost use Rattle.std.specs.Prelude.{◌≡◌, ◌⊎◌, ◌≤◌, false, length, List, map, None, Option, string_bytes, ℕ};
 ghost use Rattle.orca_base.specs.declared.limits.TheConstants.{MAX_FILE_BYTES};
-ghost use Rattle.orca_course.specs.Worlds.{IsSound, has_ended, has_listened, is_lost};
+ghost use Rattle.orca_course.specs.Worlds.{IsSound, has_ended, has_listened};
 ghost use Rattle.orca_grid.specs.GridText.{grid_text};
 ghost use Rattle.orca_player.specs.Doing.{Came, CameBy, refused_status};
 ghost use Rattle.orca_player.specs.Outlines.{Heard, grid_outline, is_too_long as is_long_work, made_outline, outline, performed, request_outline, work_outline};
@@ -86,7 +86,6 @@ pub fn run<H: House>(alloc: Global, words: &Vec<String>, desk: &mut Desk<H>) -> 
 fn work<H: House>(alloc: Global, words: &Vec<String>, desk: &mut Desk<H>) -> Status
     requires fresh { has_listened desk.old ≡ false }
     requires open { has_ended desk.old ≡ false }
-    requires sound { is_lost desk.old ≡ false }
     ensures { (grid : Option (List ℕ)) × CameBy (λ brought.
         outline (map string_bytes words.now.items) (record { grid = grid; brought = brought }))
         desk.old result desk.new }
@@ -109,7 +108,6 @@ fn perform<H: House>(
 ) -> Status
     requires fresh { has_listened desk.old ≡ false }
     requires open { has_ended desk.old ≡ false }
-    requires sound { is_lost desk.old ≡ false }
     requires tempo { HasSongTempo (work_in work.now) }
     ensures { (grid : Option (List ℕ)) × CameBy (λ brought.
         request_outline (Perform (setup_in setup.now) (work_in work.now))
@@ -125,7 +123,6 @@ fn perform<H: House>(
 fn open<H: House>(alloc: Global, setup: &Setup<'_>, work: &Work<'_>, desk: &mut Desk<H>) -> Status
     requires fresh { has_listened desk.old ≡ false }
     requires open { has_ended desk.old ≡ false }
-    requires sound { is_lost desk.old ≡ false }
     requires tempo { HasSongTempo (work_in work.now) }
     requires not_long { is_long_work (work_in work.now) ≡ false }
     ensures { (grid : Option (List ℕ)) × CameBy (λ brought.
@@ -153,7 +150,6 @@ fn read_grid<H: House>(
     requires short { length text.now ≤ MAX_FILE_BYTES }
     requires fresh { has_listened desk.old ≡ false }
     requires open { has_ended desk.old ≡ false }
-    requires sound { is_lost desk.old ≡ false }
     requires tempo { HasSongTempo (work_in work.now) }
     requires not_long { is_long_work (work_in work.now) ≡ false }
     ensures { CameBy (λ brought. grid_outline (setup_in setup.now) (work_in work.now) brought
@@ -185,7 +181,6 @@ fn do_work<H: House>(
 ) -> Status
     requires fresh { has_listened desk.old ≡ false }
     requires open { has_ended desk.old ≡ false }
-    requires sound { is_lost desk.old ≡ false }
     requires tempo { HasSongTempo (work_in work.now) }
     requires not_long { is_long_work (work_in work.now) ≡ false }
     ensures { CameBy (work_outline (setup_in setup.now) (work_in work.now) grid)

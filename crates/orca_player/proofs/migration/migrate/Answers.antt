@@ -1,23 +1,21 @@
 use Rattle.std.proofs.Common.{[], refl}
 use Rattle.std.specs.Prelude.{None, Some}
-use Rattle.orca_player.specs.Outlines.{loaded_migration}
-use Rattle.orca_player.proofs.CameLemmas.{by_after, by_memory, by_unloaded, came_still, loaded}
+use Rattle.orca_player.specs.Outlines.{loading}
+use Rattle.orca_player.proofs.CameLemmas.{by_after, by_unloaded, by_unread, loaded}
 use Rattle.orca_player.proofs.TopLemmas.{kind_moved}
 use Rattle.orca_player.proofs.migration.migrate.Goals as goal
 
 pub returns-in-Ok-Some : goal.returns-in-Ok-Some
-unfolding loaded_migration
+unfolding loading
 returns-in-Ok-Some g c =
     by_after (record { script = Some _; start = None; polls = [] })
     (loaded (rw c.in-Ok-Some.field-0-is at c.in-Ok-Some.ensures.called))
-    (kind_moved _ _ _ (rw c.as_slice.ensures.value at c.check_and_save.ensures.reads))
+    (kind_moved _ _ (rw c.as_slice.ensures.value at c.check_and_save.ensures.reads))
     (rw c.as_slice.ensures.value at c.check_and_save.ensures.came) refl
 
 pub returns-in-Ok-None : goal.returns-in-Ok-None
-unfolding loaded_migration
 returns-in-Ok-None g c =
-    by_unloaded refl (rw c.in-Ok-None.field-0-is at c.in-Ok-None.ensures.called)
+    by_unloaded _ refl (rw c.in-Ok-None.field-0-is at c.in-Ok-None.ensures.called)
 
 pub returns-in-Err : goal.returns-in-Err
-unfolding loaded_migration
-returns-in-Err g c = by_memory (refl, tt) (came_still _ c.in-Err.ensures.called.called.0)
+returns-in-Err g c = by_unread _ refl c.in-Err.ensures.called

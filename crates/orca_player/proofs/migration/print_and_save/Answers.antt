@@ -9,4 +9,4 @@ returns-in-Ok-save-clause-came g c =
     (rw c.as_slice.ensures.value at c.in-Ok-save.ensures))
 
 pub returns-in-Ok-save-clause-reads : goal.returns-in-Ok-save-clause-reads
-returns-in-Ok-save-clause-reads g c = λ other. script_reads _ _ _ c.in-Ok.ensures.reads_back
+returns-in-Ok-save-clause-reads g c = λ other. script_reads _ _ c.in-Ok.ensures.reads_back

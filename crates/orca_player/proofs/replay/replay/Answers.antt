@@ -1,12 +1,12 @@
 use Rattle.std.proofs.Common.{[], refl}
 use Rattle.std.specs.Prelude.{None, Some}
-use Rattle.orca_player.specs.Outlines.{loaded_script}
-use Rattle.orca_player.proofs.CameLemmas.{by_after, by_memory, by_unloaded, came_still, loaded}
+use Rattle.orca_player.specs.Outlines.{loading, script_outline}
+use Rattle.orca_player.proofs.CameLemmas.{by_after, by_unloaded, by_unread, loaded}
 use Rattle.orca_player.proofs.TopLemmas.{kind_read}
 use Rattle.orca_player.proofs.replay.replay.Goals as goal
 
 pub returns-in-Ok-Some : goal.returns-in-Ok-Some
-unfolding loaded_script
+unfolding loading script_outline
 returns-in-Ok-Some g c =
     let seed = rw (c.script_seed.ensures, c.as_slice-script.ensures.value) at c.unwrap_or-opening.ensures in
     let came = rw (c.as_slice-script.ensures.value, seed) at c.follow.ensures in
@@ -15,10 +15,8 @@ returns-in-Ok-Some g c =
     (kind_read _ _) came refl
 
 pub returns-in-Ok-None : goal.returns-in-Ok-None
-unfolding loaded_script
 returns-in-Ok-None g c =
-    by_unloaded refl (rw c.in-Ok-None.field-0-is at c.in-Ok-None.ensures.called)
+    by_unloaded _ refl (rw c.in-Ok-None.field-0-is at c.in-Ok-None.ensures.called)
 
 pub returns-in-Err : goal.returns-in-Err
-unfolding loaded_script
-returns-in-Err g c = by_memory (refl, tt) (came_still _ c.in-Err.ensures.called.called.0)
+returns-in-Err g c = by_unread _ refl c.in-Err.ensures.called

@@ -1,0 +1,85 @@
+//! A performance by any performer, from the wait for its players to the end of the run.
+
+ghost use Rattle.std.specs.Prelude.{◌≡◌, ◌≤◌, [], ◌∷◌, IfErr, IfOk, Some, ℕ, false};
+ghost use Rattle.orca_base.specs.declared.limits.TheConstants.{MAX_HANDS};
+ghost use Rattle.orca_course.specs.Acts.Act.{Listen};
+ghost use Rattle.orca_course.specs.Following.{sounding};
+ghost use Rattle.orca_course.specs.Worlds.{Made, Sated, has_ended, has_listened};
+ghost use Rattle.orca_player.specs.Doing.{CameBy};
+ghost use Rattle.orca_player.specs.Outlines.{Brought, Outline, listening, status_of_ending};
+ghost use Rattle.orca_player.specs.Performances.{EndsSilent, IsSilenced, Performed};
+
+use crate::Status;
+use crate::concert::{settled, status_of_stop};
+use orca_concert::close_early;
+use orca_course::{Desk, Ending, NoMemory, Performer, perform};
+use orca_edit::Machine;
+use orca_live::Live;
+use orca_rig::House;
+
+/// A performer whose notes can be ended early.
+pub(crate) trait Closes: Performer {
+    /// Ends all notes that sound, where memory was refused.
+    fn close_early<H: House>(&mut self, desk: &mut Desk<H>) -> Result<(), NoMemory>
+        ensures { IsSilenced Self.part.stance.hands (Self.part.stance.standing (Self.state self.old))
+            result desk.old desk.new };
+}
+
+impl<'a, M: Machine> Closes for Live<'a, M> {
+    fn close_early<H: House>(&mut self, desk: &mut Desk<H>) -> Result<(), NoMemory> {
+        close_early(&mut self.stage, desk)
+    }
+}
+
+/// Waits for so many players at an address, and answers the moment of the start; or how the run
+/// ends, if the inbox can't listen.
+pub(crate) fn listen<H: House>(desk: &mut Desk<H>, address: &str, hands: u8) -> Result<u64, Status>
+    requires fresh { has_listened desk.old ≡ false }
+    requires some { 1 ≤ hands }
+    requires few { hands ≤ MAX_HANDS }
+    ensures open { has_ended desk.new ≡ has_ended desk.old }
+    ensures listened { IfOk result (λ at. Made (Listen address.now hands (Some at) ∷ []) 0
+        desk.old desk.new × Sated desk.old desk.new) }
+    ensures ends { IfErr result (λ status. (next : Brought → ℕ → Outline)
+        → CameBy (λ b. listening address.now hands b.start (next b)) desk.old status desk.new) }
+{
+    match desk.listen(address, hands) {
+        Ok(Some(at)) => Ok(at),
+        Ok(None) => Err(Status::InboxFault),
+        Err(_) => Err(Status::Memory),
+    }
+}
+
+/// Performs until the performance ends, and answers how the run ends. If memory is refused, and not
+/// by a send, the notes that sound are ended.
+///
+/// It knows no session but as a performer, so that what a session holds is not looked at here.
+pub(crate) fn perform_all<P: Closes, H: House>(performer: &mut P, desk: &mut Desk<H>) -> Status
+    requires open { has_ended desk.old ≡ false }
+    requires begins { sounding (P.part.stance.standing (P.state performer.old)) ≡ [] }
+    requires residue { P.residue performer.old ≡ 0 }
+    requires silent { EndsSilent P.part }
+    ensures { Performed P.part (P.state performer.old) desk.old result (P.state performer.new)
+        desk.new }
+{
+    match perform(performer, desk) {
+        Ok(ending) => settled(status_of_ending(ending), desk),
+        Err(NoMemory::InSend) => Status::Memory,
+        Err(NoMemory::Elsewhere) => {
+            // The status is decided already, so a second refusal changes nothing.
+            let _ = performer.close_early(desk);
+            Status::Memory
+        }
+    }
+}
+
+/// How a performance would end that ended so.
+fn status_of_ending(ending: Ending) -> Status
+    ensures { result ≡ status_of_ending ending }
+{
+    match ending {
+        Ending::Stopped(stop) => status_of_stop(stop),
+        Ending::Lost => Status::InboxFault,
+        Ending::Spent => Status::TurnsSpent,
+    }
+}
