@@ -1,10 +1,12 @@
 -- What holds of what is asked for, by what clap found: the tempo of a song is one that its file can
--- hold, and no port is attached to a run that is saved as a song or as sound.
-use Rattle.std.proofs.Common.{◌≡◌, List, ℕ, ◌≤◌, Option, None, Some, Result, arith, codes, refl, subst, sym}
-use Rattle.std.specs.Prelude.{◌&&◌, if◌then◌else◌, nat_le, ok_or, option_map, IfSome, IfOk}
+-- hold, no port is attached to a run that is saved as a song or as sound, and a journal is no other
+-- file of its performance.
+use Rattle.std.proofs.Common.{◌≡◌, ◌≢◌, false, List, ℕ, ◌≤◌, Option, None, Some, Result, arith, codes, refl, subst, sym, ◌∙◌}
+use Rattle.std.specs.Prelude.{◌&&◌, ◌||◌, option_and_then, if◌then◌else◌, nat_le, ok_or, option_map, IfSome, IfOk}
 use Rattle.std.specs.Option.{option_map_or}
 use Rattle.std.proofs.lemmas.Bool.Decides.{nat_tests}
 use Rattle.std.proofs.lemmas.Option.{option_and_then_some, IfSome_then}
+use Rattle.std.proofs.lemmas.Slice.Eq.{bytes_eq-Decides}
 use Rattle.clap.specs.Words.{Row, Text}
 use Rattle.orca_base.specs.Numbers.{number_of}
 use Rattle.orca_base.specs.declared.limits.TheConstants.{DEFAULT_SEED, DEFAULT_HISTORY, MAX_HISTORY, DEFAULT_BPM, MAX_BPM}
@@ -13,9 +15,9 @@ use Rattle.orca_words.specs.declared.forms.Verb.TheVariants as verb
 use Rattle.orca_words.specs.declared.fault.WordsFault.{WordsFault}
 use Rattle.orca_words.specs.declared.limits.TheConstants.{MIN_SONG_BPM}
 use Rattle.orca_words.specs.declared.request.Request.{Request as Held}
-use Rattle.orca_words.specs.Recordings.{HasSongTempo, IfPerform, IsPortless, RecordsWithoutPorts}
+use Rattle.orca_words.specs.Recordings.{HasOwnJournal, HasSongTempo, IfPerform, IsPortless, RecordsWithoutPorts}
 use Rattle.orca_words.specs.RequestIn.{request_in}
-use Rattle.orca_words.specs.Requests.{Events, Make, Migrate, Perform, Play, Recording, Replay, Request, Run, Setup, Smf, Wav, Work, frames_of, greatest, migration_of, number_in, option_number, performance_of, performed, portless_setup_of, positional_text, recording_of, request_by, setup_of, workload_of}
+use Rattle.orca_words.specs.Requests.{Events, Make, Migrate, Perform, Performance, Play, Recording, Replay, Request, Run, Setup, Smf, Wav, Work, frames_of, greatest, is_same_name, migration_of, number_in, option_number, performance_of, performed, portless_setup_of, positional_text, recording_of, request_by, setup_of, with_own_journal, with_ports, workload_of}
 
 -- ---- numbers
 
@@ -58,11 +60,56 @@ no_ports found setup is =
     option_and_then_some _ (option_number found (codes "limit") DEFAULT_HISTORY 1 MAX_HISTORY)
     setup made (λ limit given same. (cc, cc, cc)))
 
+-- ---- the journal of a performance
+
+-- the grid of a run without ports is the one that the words name
+portless_grid : (found : List Row) (setup : Setup) → portless_setup_of found ≡ Some setup
+    → setup.grid ≡ positional_text found (codes "GRID")
+unfolding portless_setup_of
+portless_grid found setup is =
+    option_and_then_some _ (option_number found (codes "seed") DEFAULT_SEED 0 greatest) setup is
+    (λ seed set made.
+    option_and_then_some _ (option_number found (codes "limit") DEFAULT_HISTORY 1 MAX_HISTORY)
+    setup made (λ limit given same. cc))
+
+-- and so is that of a run with ports
+ported_grid : (found : List Row) (portless : Option Setup) (setup : Setup)
+    → ((s : Setup) → portless ≡ Some s → s.grid ≡ positional_text found (codes "GRID"))
+    → option_map (with_ports found) portless ≡ Some setup
+    → setup.grid ≡ positional_text found (codes "GRID")
+ported_grid found None setup named is = absurd cc
+ported_grid found (Some s) setup named is =
+    let same : setup.grid ≡ s.grid = cc in same ∙ named s refl
+
+grid_named : (found : List Row) (setup : Setup) → setup_of found ≡ Some setup
+    → setup.grid ≡ positional_text found (codes "GRID")
+unfolding setup_of
+grid_named found setup is =
+    ported_grid found (portless_setup_of found) setup (portless_grid found) is
+
+-- names that are not the same text
+apart_by : (grid : Text) (journal save script : Option Text)
+    → (is_same_name journal (Some grid) || is_same_name journal save
+    || is_same_name journal script) ≡ false
+    → IfSome journal (λ name. (name ≢ grid) × IfSome save (λ other. name ≢ other)
+    × IfSome script (λ other. name ≢ other))
+apart_by grid journal save script is = grind (arith, bytes_eq-Decides)
+
+own_journal : (found : List Row) (setup : Setup) (before play : Performance)
+    → setup_of found ≡ Some setup → with_own_journal found before ≡ Some play
+    → HasOwnJournal setup (Play play)
+unfolding with_own_journal
+own_journal found setup before play is made =
+    let apart = apart_by (positional_text found (codes "GRID")) before.journal before.save
+    before.script in
+    rw (grid_named found setup is) (grind (arith, apart, made))
+
 -- ---- what is asked for
 
--- both facts of a setup and a work
+-- the three facts of a setup and a work
 abbrev pub IsRecordable : Setup → Work → Type 0
-IsRecordable setup work = HasSongTempo work × RecordsWithoutPorts setup work
+IsRecordable setup work =
+    HasSongTempo work × RecordsWithoutPorts setup work × HasOwnJournal setup work
 
 -- what holds of each setup and each work that are found holds of the request
 performed_holds : {A : Type 0} (make : A → Work) (setup : Option Setup) (found : Option A)
@@ -83,23 +130,26 @@ recordable : (v : Verb) (found : List Row)
     → IfSome (request_by v found) (λ request. IfPerform request IsRecordable)
 unfolding request_by
 recordable verb.Run found =
-    performed_holds Run (setup_of found) (frames_of found) (λ s _ frames _. (tt, tt))
+    performed_holds Run (setup_of found) (frames_of found) (λ s _ frames _. (tt, tt, tt))
 recordable verb.Events found =
-    performed_holds Events (setup_of found) (frames_of found) (λ s _ frames _. (tt, tt))
+    performed_holds Events (setup_of found) (frames_of found) (λ s _ frames _. (tt, tt, tt))
 recordable verb.Replay found =
     performed_holds Replay (setup_of found) (Some (positional_text found (codes "SCRIPT")))
-    (λ s _ script _. (tt, tt))
+    (λ s _ script _. (tt, tt, tt))
 recordable verb.Play found =
-    performed_holds Play (setup_of found) (performance_of found) (λ s _ play _. (tt, tt))
+    performed_holds Play (setup_of found)
+    (option_and_then (with_own_journal found) (performance_of found)) (λ s setup play read.
+    option_and_then_some (with_own_journal found) (performance_of found) play read
+    (λ before made same. (tt, tt, own_journal found s before play setup same)))
 recordable verb.Make found = other_holds Make (workload_of found) (λ load. tt)
 recordable verb.Migrate found = other_holds Migrate (migration_of found) (λ migration. tt)
 recordable verb.Smf found =
     performed_holds Smf (portless_setup_of found) (recording_of found MIN_SONG_BPM)
     (λ s setup song read.
-    (tempo_not_below found MIN_SONG_BPM song (omega arith) read, no_ports found s setup))
+    (tempo_not_below found MIN_SONG_BPM song (omega arith) read, no_ports found s setup, tt))
 recordable verb.Wav found =
     performed_holds Wav (portless_setup_of found) (recording_of found 1)
-    (λ s setup wave read. (tt, no_ports found s setup))
+    (λ s setup wave read. (tt, no_ports found s setup, tt))
 
 -- ---- what is answered
 

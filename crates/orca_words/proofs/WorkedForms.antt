@@ -17,7 +17,8 @@ options = codes "seed" ∷ codes "limit" ∷ codes "midi" ∷ codes "udp" ∷ co
 -- those that a performance has beside them
 abbrev more_options : List Text
 more_options =
-    codes "bpm" ∷ codes "rows" ∷ codes "cols" ∷ codes "keys" ∷ codes "save" ∷ codes "script" ∷ []
+    codes "bpm" ∷ codes "rows" ∷ codes "cols" ∷ codes "keys" ∷ codes "save" ∷ codes "script"
+    ∷ codes "journal" ∷ []
 
 -- those of a run on a grid that is saved as a song or as sound
 abbrev recording_options : List Text

@@ -7,7 +7,7 @@ use Rattle.clap.proofs.OnLiterals.{clap_on_literals}
 use Rattle.orca_base.specs.Ascii.{space}
 use Rattle.orca_base.specs.Numbers.{number_of}
 use Rattle.orca_words.specs.Forms.{command_of, forms}
-use Rattle.orca_words.specs.Requests.{Request, Setup, Perform, Make, Migrate, Run, Events, Replay, Play, Smf, Wav, migration_of, number_in, option_full, option_text, performance_of, portless_setup_of, recording_of, request_by, request_in_form, request_of, setup_of, workload_of}
+use Rattle.orca_words.specs.Requests.{Request, Setup, Perform, Make, Migrate, Run, Events, Replay, Play, Smf, Wav, migration_of, number_in, option_full, option_text, performance_of, portless_setup_of, recording_of, request_by, with_own_journal, request_in_form, request_of, setup_of, workload_of}
 
 -- what a line asks for
 unfoldable asked : Text → Option Request
@@ -18,7 +18,7 @@ unfolding option_text option_full number_in number_of
 values = tt
 
 unfoldable parts : ⊤
-unfolding setup_of portless_setup_of performance_of workload_of migration_of recording_of
+unfolding setup_of portless_setup_of performance_of with_own_journal workload_of migration_of recording_of
 parts = tt
 
 unfoldable worked : ⊤
@@ -72,7 +72,7 @@ unfolding worked all_set
 replay_all = refl
 
 play_all : asked (codes "play --midi=m --rows 9 g --udp u --osc=o --bpm=90 --save w --limit 9"
-    ++ codes " a --cols=8 --keys=full --script=s --seed 7")
+    ++ codes " a --cols=8 --keys=full --script=s --journal j --seed 7")
     ≡ Some (Perform all_set (Play (record {
       address = codes "a";
       bpm = 90;
@@ -81,6 +81,7 @@ play_all : asked (codes "play --midi=m --rows 9 g --udp u --osc=o --bpm=90 --sav
       full = true;
       save = Some (codes "w");
       script = Some (codes "s");
+      journal = Some (codes "j");
     })))
 unfolding worked all_set
 play_all = refl
@@ -93,6 +94,7 @@ play_none : asked (codes "play g a") ≡ Some (Perform none_set (Play (record {
   full = false;
   save = None;
   script = None;
+  journal = None;
 })))
 unfolding worked none_set
 play_none = refl
@@ -186,6 +188,12 @@ refused : list_all (λ line. not (is_some (asked line))) (codes ""
     ∷ codes "play g a --keys"
     ∷ codes "play g a --keys full --keys full"
     ∷ codes "run g 3 --keys full"
+    ∷ codes "run g 3 --journal j"
+    ∷ codes "play g a --journal"
+    ∷ codes "play g a --journal j --journal j"
+    ∷ codes "play g a --journal g"
+    ∷ codes "play g a --save w --journal=w"
+    ∷ codes "play g a --journal s --script s"
     ∷ codes "make 1 0 3 4"
     ∷ codes "make 1 1025 3 4"
     ∷ codes "make 1 2 1025 4"

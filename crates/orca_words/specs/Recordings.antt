@@ -1,7 +1,7 @@
--- What holds of the work that is saved as a song or as sound.
-use Rattle.std.specs.Prelude.{◌≡◌, ◌≤◌, None}
+-- What holds of the work that is saved as a song or as sound, and of a performance with a journal.
+use Rattle.std.specs.Prelude.{◌≡◌, ◌≢◌, ◌≤◌, None, IfSome}
 use Rattle.orca_words.specs.declared.limits.TheConstants.{MIN_SONG_BPM}
-use Rattle.orca_words.specs.Requests.{Request, Perform, Setup, Work, Smf, Wav}
+use Rattle.orca_words.specs.Requests.{Request, Perform, Setup, Work, Play, Smf, Wav}
 
 -- this holds of the work that is performed, and of its grid and options
 abbrev pub IfPerform : Request → (Setup → Work → Type 0) → Type 0
@@ -22,3 +22,11 @@ abbrev pub RecordsWithoutPorts : Setup → Work → Type 0
 RecordsWithoutPorts setup (Smf song) = IsPortless setup
 RecordsWithoutPorts setup (Wav wave) = IsPortless setup
 RecordsWithoutPorts setup _ = Unit {0}
+
+-- the journal of a performance is no other file of it: neither that of the grid, nor one that is saved
+-- at the end
+abbrev pub HasOwnJournal : Setup → Work → Type 0
+HasOwnJournal setup (Play play) = IfSome play.journal (λ name.
+    (name ≢ setup.grid) × IfSome play.save (λ other. name ≢ other)
+    × IfSome play.script (λ other. name ≢ other))
+HasOwnJournal setup _ = Unit {0}

@@ -41,6 +41,7 @@ performance_in play = record {
   full = play.full;
   save = text_in play.save;
   script = text_in play.script;
+  journal = text_in play.journal;
 }
 
 abbrev pub workload_in : HeldWorkload → Workload

@@ -1,5 +1,5 @@
 -- What the words of the command line ask for.
-use Rattle.std.specs.Prelude.{ℕ, ◌-◌, ◌^◌, Bool, true, false, ◌&&◌, nat_le, if◌then◌else◌, Option, Some, None, option_map, option_and_then, unwrap_or, List, [], ◌∷◌, codes}
+use Rattle.std.specs.Prelude.{ℕ, ◌-◌, ◌^◌, Bool, true, false, ◌&&◌, ◌||◌, nat_le, if◌then◌else◌, Option, Some, None, option_map, option_and_then, unwrap_or, List, [], ◌∷◌, codes}
 use Rattle.std.specs.Option.{option_map_or}
 use Rattle.std.specs.Str.{bytes_eq}
 use Rattle.clap.specs.Walk.{is_empty}
@@ -21,7 +21,7 @@ pub record Setup : Type 0 where
   pub osc : Option Text
 
 -- where keys come from and which they are, where pictures go to, how fast frames are played, and
--- what is saved at the end
+-- what is saved, at the end and while it plays
 pub record Performance : Type 0 where
   pub address : Text
   pub bpm : ℕ
@@ -30,6 +30,7 @@ pub record Performance : Type 0 where
   pub full : Bool
   pub save : Option Text
   pub script : Option Text
+  pub journal : Option Text
 
 -- how many frames are played, how fast, and what they are saved to
 pub record Recording : Type 0 where
@@ -156,7 +157,22 @@ performance_of found =
       full = full;
       save = option_text found (codes "save");
       script = option_text found (codes "script");
+      journal = option_text found (codes "journal");
     })) (option_full found))))
+
+-- whether both names are there, and are the same text
+abbrev pub is_same_name : Option Text → Option Text → Bool
+is_same_name None other = false
+is_same_name (Some one) None = false
+is_same_name (Some one) (Some other) = bytes_eq one other
+
+-- a performance, unless its journal is another of its files: that of the grid, or one that is saved
+-- at the end
+unfoldable pub with_own_journal : List Row → Performance → Option Performance
+with_own_journal found play =
+    if is_same_name play.journal (Some (positional_text found (codes "GRID")))
+    || is_same_name play.journal play.save || is_same_name play.journal play.script
+    then None else Some play
 
 -- the four numbers of `make`
 unfoldable pub workload_of : List Row → Option Workload
@@ -198,7 +214,9 @@ request_by verb.Run found = performed (setup_of found) (option_map Run (frames_o
 request_by verb.Events found = performed (setup_of found) (option_map Events (frames_of found))
 request_by verb.Replay found =
     performed (setup_of found) (Some (Replay (positional_text found (codes "SCRIPT"))))
-request_by verb.Play found = performed (setup_of found) (option_map Play (performance_of found))
+request_by verb.Play found =
+    performed (setup_of found)
+    (option_map Play (option_and_then (with_own_journal found) (performance_of found)))
 request_by verb.Make found = option_map Make (workload_of found)
 request_by verb.Migrate found = option_map Migrate (migration_of found)
 request_by verb.Smf found =

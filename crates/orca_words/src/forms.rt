@@ -28,6 +28,7 @@ const OPTIONS: &[&str] = &["seed", "limit", "midi", "udp", "osc"];
 /// The options of a run on a grid that is edited while it plays.
 const PLAY_OPTIONS: &[&str] = &[
     "seed", "limit", "midi", "udp", "osc", "bpm", "rows", "cols", "keys", "save", "script",
+    "journal",
 ];
 
 /// The options of a run on a grid that is saved as a song or as sound.

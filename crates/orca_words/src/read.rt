@@ -2,10 +2,10 @@
 
 ghost use Rattle.std.specs.Prelude.{◌≡◌, ◌≤◌, None, Some, find, map, option_map, string_bytes, IfOk, IsErrOf, MatchOption};
 ghost use Rattle.std.specs.Str.{bytes_eq};
-ghost use Rattle.orca_words.specs.Requests.{frames_of, migration_of, performance_of, performed, portless_setup_of, recording_of, request_by, request_in_form, request_of, setup_of, workload_of};
+ghost use Rattle.orca_words.specs.Requests.{frames_of, migration_of, performance_of, performed, portless_setup_of, recording_of, request_by, request_in_form, request_of, setup_of, is_same_name, with_own_journal, workload_of};
 ghost use Rattle.orca_words.specs.Forms.{form_by, form_in};
-ghost use Rattle.orca_words.specs.RequestIn.{migration_in, performance_in, recording_in, request_in, rows_in, setup_in, work_in, workload_in};
-ghost use Rattle.orca_words.specs.Recordings.{HasSongTempo, IfPerform, RecordsWithoutPorts};
+ghost use Rattle.orca_words.specs.RequestIn.{migration_in, performance_in, recording_in, request_in, rows_in, setup_in, text_in, work_in, workload_in};
+ghost use Rattle.orca_words.specs.Recordings.{HasOwnJournal, HasSongTempo, IfPerform, RecordsWithoutPorts};
 
 use crate::command::parse;
 use crate::forms::{FORMS, Form, Verb};
@@ -32,12 +32,14 @@ pub fn read_words<'a>(alloc: Global, words: &'a Vec<String>) -> Result<Request<'
     ensures refused { IsErrOf result WordsFault.Usage
         → request_of (map string_bytes words.now.items) ≡ None }
 
-    // A song has a tempo that its file can hold, and what is saved as a song or as sound is played
-    // without ports.
+    // A song has a tempo that its file can hold, what is saved as a song or as sound is played
+    // without ports, and a journal is no other file of its performance.
     ensures tempo { IfOk result (λ request.
         IfPerform (request_in request) (λ setup work. HasSongTempo work)) }
     ensures portless { IfOk result (λ request.
         IfPerform (request_in request) RecordsWithoutPorts) }
+    ensures journal { IfOk result (λ request.
+        IfPerform (request_in request) HasOwnJournal) }
 {
     let [first, others @ ..] = words.as_slice() else {
         return Err(WordsFault::Usage);
@@ -64,6 +66,8 @@ fn read_in_form<'a>(
         IfPerform (request_in request) (λ setup work. HasSongTempo work)) }
     ensures portless { IfOk result (λ request.
         IfPerform (request_in request) RecordsWithoutPorts) }
+    ensures journal { IfOk result (λ request.
+        IfPerform (request_in request) HasOwnJournal) }
 {
     let &(_, _, _, verb) = form;
     let found = parse(alloc, form, words)?;
@@ -110,7 +114,10 @@ fn request_by<'a>(verb: Verb, found: &ArgMatches<'a>) -> Option<Request<'a>>
             let script = positional_text(found, "SCRIPT");
             perform(setup(found), Work::Replay { script })
         }
-        Verb::Play => perform(setup(found), Work::Play(performance(found)?)),
+        Verb::Play => {
+            let play = with_own_journal(found, performance(found)?)?;
+            perform(setup(found), Work::Play(play))
+        }
         Verb::Make => Some(Request::Make(workload(found)?)),
         Verb::Migrate => Some(Request::Migrate(migration(found)?)),
         Verb::Smf => {
@@ -225,7 +232,38 @@ fn performance<'a>(found: &ArgMatches<'a>) -> Option<Performance<'a>>
         full,
         save: option_text(found, "save"),
         script: option_text(found, "script"),
+        journal: option_text(found, "journal"),
     })
+}
+
+/// The performance, unless its journal is another of its files: that of the grid, or one that is
+/// saved at the end. A save there would drop what was added.
+#[tactic(auto, unfolding(crate::specs::Requests::with_own_journal))]
+fn with_own_journal<'a>(found: &ArgMatches<'a>, play: Performance<'a>) -> Option<Performance<'a>>
+    ensures { option_map performance_in result
+        ≡ with_own_journal (rows_in found.now) (performance_in play.entry) }
+{
+    let grid = Some(positional_text(found, "GRID"));
+    if is_same_name(play.journal, grid)
+        || is_same_name(play.journal, play.save)
+        || is_same_name(play.journal, play.script)
+    {
+        return None;
+    }
+    Some(play)
+}
+
+/// Whether both names are there, and are the same text.
+fn is_same_name(one: Option<&str>, other: Option<&str>) -> bool
+    ensures { result ≡ is_same_name (text_in one.entry) (text_in other.entry) }
+{
+    match one {
+        None => false,
+        Some(one) => match other {
+            None => false,
+            Some(other) => one == other,
+        },
+    }
 }
 
 /// The four numbers of `make`.

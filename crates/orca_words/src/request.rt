@@ -52,7 +52,7 @@ pub enum Work<'a> {
 }
 
 /// Where keys come from and which they are, where pictures go to, how fast frames are played, and what is
-/// saved at the end.
+/// saved, at the end and while it plays.
 #[derive(Debug, PartialEq, Eq, Drop)]
 pub struct Performance<'a> {
     /// The address at which the keys arrive.
@@ -71,6 +71,8 @@ pub struct Performance<'a> {
     pub save: Option<&'a str>,
     /// The file that the commands are saved to.
     pub script: Option<&'a str>,
+    /// The file that the commands are added to while it plays.
+    pub journal: Option<&'a str>,
     ghost bpm_in_range: { (1 ≤ bpm) × (bpm ≤ MAX_BPM) },
     ghost rows_in_range: { (MIN_SCREEN_ROWS ≤ rows) × (rows ≤ MAX_SCREEN_ROWS) },
     ghost cols_in_range: { (MIN_SCREEN_COLUMNS ≤ cols) × (cols ≤ MAX_SCREEN_COLUMNS) },

@@ -8,3 +8,7 @@ returns-clause-tempo c =
 pub returns-clause-portless : goal.returns-clause-portless
 returns-clause-portless c =
     answered _ _ _ _ _ _ (λ setup work holds. holds.1) c.request_by.ensures c.ok_or.ensures.value
+
+pub returns-clause-journal : goal.returns-clause-journal
+returns-clause-journal c =
+    answered _ _ _ _ _ _ (λ setup work holds. holds.2) c.request_by.ensures c.ok_or.ensures.value
