@@ -35,24 +35,11 @@ use Rattle.orca_term.specs.declared.editor.Wish.TheVariants as wish
 use Rattle.orca_term.specs.declared.keys.Key.{Key}
 use Rattle.orca_live.specs.Items.{items_by, items_of}
 use Rattle.orca_live.specs.Laws.{ItemsDecide, PlayAlike}
-use Rattle.orca_live.specs.Performing.{answer_course, answered_at, byte_course, command_course, due_course, fired, frame_course, heard_course, item_course, key_course, live_part, open_course, paint_course, painted_course, press_course, preview_course, save_course, show_course, struck_course, wish_course}
+use Rattle.orca_live.specs.Performing.{answer_course, answered_at, byte_course, command_course, due_course, fired, frame_course, heard_course, item_course, key_course, live_part, open_course, press_course, save_course, struck_course, told_course, wish_course}
 use Rattle.orca_live.specs.States.{LiveState, dims_at, fitted, is_full, moments_at, piece_at}
-use Rattle.orca_live.proofs.GivenLemmas.{commands_before, finish_closes, paint_commands}
+use Rattle.orca_live.proofs.GivenLemmas.{commands_before, core, core_fitted, finish_closes, min_twice, open_aside, plain, side_twice, told_aside}
 
 -- ---- what matters of a state, and of a course
-
--- no moments, no pace and no screen
-abbrev plain : LiveState → LiveState
-plain s = record s {
-  pace = record { bpm = 0; parts = 0; due = 0 };
-  screen = record { rows = 0; columns = 0 };
-  shown = None;
-  at = 0;
-}
-
--- and the editor as it fits the grid
-abbrev core : LiveState → LiveState
-core s = plain (fitted s)
 
 -- where a course leads, its commands, and whether it ended
 record Told : Type 0 where
@@ -109,17 +96,6 @@ next_onward : {E : Type 0} (c : Course LiveState E) (x : Told)
 unfolding onward
 next_onward c x f g h is more =
     next_by c.ending c f g h refl more ∙ ap (λ (x : Told). next x h) is
-
--- ---- an editor is fitted once
-
-min_twice : (a b : ℕ) → min (min a b) b ≡ min a b
-min_twice a b = omega arith
-
-side_twice : (a b : ℕ) → max 1 (min (max 1 (min a b)) b) ≡ max 1 (min a b)
-side_twice a b = omega arith
-
-core_fitted : (s : LiveState) → core (fitted s) ≡ core s
-core_fitted s = simp (min_twice, side_twice)
 
 -- ---- keys
 
@@ -223,15 +199,18 @@ due_items rest s =
 
 -- ---- answers
 
--- a picture changes nothing that matters, and what ends a player ends the performance
+-- the journal and a picture change nothing that matters, and what ends a player ends the
+-- performance
 heard_by : (end : Option Stop) (c : Course LiveState Stop) → c.ending ≡ end
-    → told (mapped {F = Ending} (λ t. t) (option_map Stopped) (onward_by end c show_course)) ≡ told c
-unfolding mapped show_course preview_course paint_course painted_course
+    → told (mapped {F = Ending} (λ t. t) (option_map Stopped) (onward_by end c told_course)) ≡ told c
+unfolding mapped
 heard_by None c is =
-    let d = show_course c.state in
-    rw is (ap (λ u. record (told (joined c d)) { state = u }) (core_fitted c.state)
+    let d = told_course c.state in
+    let aside = told_aside c.state in
+    rw (is, aside.goes)
+    (ap (λ u. record (quiet false u) { commands = commands_in (c.acts ++ d.acts) }) aside.same
     ∙ ap (λ xs. record (quiet false (core c.state)) { commands = xs })
-    (commands_before c.acts d.acts (paint_commands (preview_of (piece_at c.state)) (fitted c.state))))
+    (commands_before c.acts d.acts aside.commands))
 heard_by (Some stop) c is = rw is refl
 
 mine_items : (mine : Bool) (bytes : List ℕ) (rest : List Item) (s : LiveState)
@@ -272,18 +251,19 @@ ran c = record (told c) { over = false }
 
 begun_items : (polls : List Poll) (s : LiveState)
     → ran (begun live_part s polls) ≡ items_told (items_of polls) (core s)
-unfolding begun opened onward mapped open_course paint_course painted_course
+unfolding begun opened onward mapped
 begun_items polls s =
+    let first = open_aside s in
     let t = (open_course s).state in
     let c = each (polled live_part) polls t in
-    ap (λ xs. record (ran (attended live_part polls t)) { commands = xs })
+    rw first.goes (ap (λ xs. record (ran (attended live_part polls t)) { commands = xs })
     (commands_in-append (open_course s).acts (attended live_part polls t).acts
     ∙ ap (λ before. before ++ commands_in (attended live_part polls t).acts)
-    (paint_commands [] (fitted s)))
+    first.commands)
     ∙ (ap (λ (done : List Act × LiveState).
     record (quiet false (core done.1)) { commands = commands_in done.0 }) (attended_done live_part polls t)
     ∙ (next_nothing (is_some c.ending) (told c)
-    ∙ (polls_items polls t ∙ ap (items_told (items_of polls)) (core_fitted s))))
+    ∙ (polls_items polls t ∙ ap (items_told (items_of polls)) first.same))))
 
 -- ---- the end
 

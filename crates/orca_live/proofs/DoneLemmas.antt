@@ -12,8 +12,9 @@ use Rattle.orca_course.specs.Doing.{Does, goes_of}
 use Rattle.orca_course.specs.Worlds.{World, Called, owing, Calls, Made, Sated}
 use Rattle.orca_course.specs.declared.ending.Stop.{Stop}
 use Rattle.orca_course.specs.declared.refused.NoMemory.{NoMemory}
+use Rattle.orca_course.proofs.CourseLemmas.{still_onward}
 use Rattle.orca_course.proofs.DoingLemmas.{does_from, does_mapped, does_still, does_then, does_owing, does_acts, does_cut, does_joined, rests_mute, rests_none}
-use Rattle.orca_course.specs.Acts.Act.{Save, Screen, Give, Show}
+use Rattle.orca_course.specs.Acts.Act.{Append, Save, Screen, Give, Show}
 use Rattle.orca_course.proofs.CallLemmas.{calls_one, does_calls}
 use Rattle.orca_course.specs.Acts.{AreMute}
 use Rattle.orca_course.proofs.WorldLemmas.{made_none, made_screen, made_show}
@@ -30,7 +31,7 @@ use Rattle.orca_term.specs.Picture.{IsPrintable}
 use Rattle.orca_term.specs.Viewing.{Seen, painting_bytes}
 use Rattle.orca_term.specs.declared.cell.Cell.{Cell}
 use Rattle.orca_term.specs.declared.cell.ScreenSize.{ScreenSize}
-use Rattle.orca_live.specs.Performing.{close_course, command_course, keeping_command, of_session, item_course, key_course, press_course, struck_course, wish_course, paint_course, painted_course, picture_at, preview_course, redrawn, show_course, view_sends}
+use Rattle.orca_live.specs.Performing.{additions, close_course, command_course, keeping_command, lines_course, noted, of_session, item_course, key_course, press_course, struck_course, wish_course, paint_course, painted_course, picture_at, preview_course, redrawn, show_course, view_sends}
 use Rattle.orca_live.specs.Quiet.{silent_manner}
 use Rattle.orca_live.specs.States.{LiveState, live_stance, dims_at, fitted, moments_at, piece_at}
 
@@ -66,16 +67,18 @@ session_did c s t (Err e) goes did =
 
 -- a command was done, and kept
 pub command_did : (command : Command) (s : LiveState) (t : Concert (Unit {0}))
-    (given : Option (List Command)) {x y : World} (result : Result (Option Stop) NoMemory)
+    (given : Option (List Command)) (lines : List ℕ) {x y : World}
+    (result : Result (Option Stop) NoMemory)
     → given ≡ option_map (λ commands. commands ++ command ∷ []) s.given
+    → lines ≡ noted s.setting.journal command s.unwritten
     → Does (stance_of silent_manner)
     (obey_course silent_manner 0 command (concert s.standing tt)) (concert s.standing tt) x result
     t y
     → Does live_stance (command_course command s) s x (goes_of result)
-    (record s { standing = t.standing; given = given }) y
+    (record s { standing = t.standing; given = given; unwritten = lines }) y
 unfolding command_course obey_course onward mapped
-command_did command s t given result kept did =
-    rw kept (does_from s refl
+command_did command s t given lines result kept waits did =
+    rw (kept, waits) (does_from s refl
     (session_did (obey_course silent_manner 0 command) (keeping_command command s) t result refl
     did))
 
@@ -129,6 +132,35 @@ pub save_did : (name bytes text : List ℕ) (s : LiveState) {x y : World} (n : �
 save_did name bytes text s n result is called =
     does_owing n (goes_of result)
     (does_calls (Save name text ∷ []) result tt refl (calls_one result (rw is at called)))
+
+-- ---- lines are added to the journal, unless there are none
+
+pub added_none : (name bytes : List ℕ) (none : Bool) (x : World) → none ≡ (length bytes == 0)
+    → none ≡ true → Calls {T = Unit {0}} (additions name bytes) (Ok tt) x x
+added_none name [] none x is on = record { called = (made_none x, refl) }
+added_none name (byte ∷ bytes) none x is on = absurd (grind arith)
+
+pub added_some : (name bytes : List ℕ) (none : Bool) {x y : World}
+    (result : Result (Unit {0}) NoMemory) → none ≡ (length bytes == 0) → none ≡ false
+    → Called result (Append name bytes) x y → Calls (additions name bytes) result x y
+added_some name [] none result is off called = absurd (grind arith)
+added_some name (byte ∷ bytes) none result is off called = calls_one result called
+
+added_mute : (name bytes : List ℕ) → AreMute (additions name bytes)
+added_mute name [] = tt
+added_mute name (byte ∷ bytes) = tt
+
+-- the lines that waited were added, and none waits
+pub lines_did : (name bytes none : List ℕ) (s : LiveState) {x y : World} (n : ℕ)
+    (result : Result (Unit {0}) NoMemory) → bytes ≡ s.unwritten → none ≡ []
+    → Calls (additions name bytes) result x y
+    → Does {E = Stop} live_stance (lines_course name s) s (owing n x) (goes_of result)
+    (record s { unwritten = none }) (owing n y)
+unfolding lines_course
+lines_did name bytes none s n result waited empty calls =
+    rw empty (does_owing n (goes_of result)
+    (does_calls (additions name s.unwritten) result (added_mute name s.unwritten) refl
+    (rw waited at calls)))
 
 -- ---- a painting is sent, unless it is empty
 

@@ -1,18 +1,22 @@
--- Which acts give commands, and what the end of a performance leaves.
-use Rattle.std.proofs.Common.{◌≡◌, ℕ, List, [], ◌∷◌, ◌++◌, refl, ◌∙◌, append-nil}
-use Rattle.std.specs.Prelude.{Option, Some, None}
+-- Which acts give commands, what changes nothing that matters to the session, and what the end of a
+-- performance leaves.
+use Rattle.std.proofs.Common.{◌≡◌, ℕ, arith, List, [], ◌∷◌, ◌++◌, refl, ◌∙◌, ap, append-nil}
+use Rattle.std.specs.Prelude.{max, min, Option, Some, None}
 use Rattle.orca_base.specs.declared.command.Command.{Command}
 use Rattle.orca_base.specs.MarkSet.{MarkSet}
 use Rattle.orca_base.specs.Ports.{Sent}
 use Rattle.orca_concert.specs.Concerts.{close_course as silence_course, command_course as obey_course}
 use Rattle.orca_course.specs.Acts.{commands_in, gives, Act}
-use Rattle.orca_course.specs.Acts.Act.{Save, Show, Stand}
-use Rattle.orca_course.specs.Courses.{mapped, onward}
+use Rattle.orca_course.specs.Acts.Act.{Show, Stand}
+use Rattle.orca_course.specs.Courses.{Course, mapped, onward}
+use Rattle.orca_course.specs.declared.ending.Stop.{Stop}
+use Rattle.orca_course.proofs.CourseLemmas.{onward_goes}
 use Rattle.orca_course.specs.Standings.{Standing, standing_closed}
 use Rattle.orca_course.proofs.ActLemmas.{commands_in-append}
+use Rattle.orca_edit.specs.Machines.{preview_of}
 use Rattle.orca_term.specs.declared.cell.Cell.{Cell}
-use Rattle.orca_live.specs.Performing.{close_course, command_course, finish_course, last_grid_course, last_script_course, painted_course, save_course, script_course, view_sends}
-use Rattle.orca_live.specs.States.{LiveState}
+use Rattle.orca_live.specs.Performing.{additions, close_course, command_course, finish_course, header_course, if_named, journal_course, last_course, last_grid_course, last_script_course, lines_course, open_course, paint_course, painted_course, preview_course, save_course, script_course, show_course, told_course, view_sends, write_course}
+use Rattle.orca_live.specs.States.{LiveState, fitted, piece_at}
 
 -- ---- the commands of acts
 
@@ -43,6 +47,99 @@ pub paint_commands : (marks : List MarkSet) (s : LiveState)
 unfolding painted_course
 paint_commands marks s = simp views_commands
 
+-- ---- what matters to the session
+
+-- no moments, no pace, no screen, and no line that waits for the journal
+abbrev pub plain : LiveState → LiveState
+plain s = record s {
+  pace = record { bpm = 0; parts = 0; due = 0 };
+  screen = record { rows = 0; columns = 0 };
+  shown = None;
+  unwritten = [];
+  at = 0;
+}
+
+-- and the editor as it fits the grid
+abbrev pub core : LiveState → LiveState
+core s = plain (fitted s)
+
+pub min_twice : (a b : ℕ) → min (min a b) b ≡ min a b
+min_twice a b = omega arith
+
+pub side_twice : (a b : ℕ) → max 1 (min (max 1 (min a b)) b) ≡ max 1 (min a b)
+side_twice a b = omega arith
+
+-- an editor is fitted once
+pub core_fitted : (s : LiveState) → core (fitted s) ≡ core s
+core_fitted s = simp (min_twice, side_twice)
+
+-- a course that gives no command and changes nothing that matters, and after which it goes on
+pub record IsAside (s : LiveState) (c : Course LiveState Stop) : Type 0 where
+  pub commands : commands_in c.acts ≡ []
+  pub same : core c.state ≡ core s
+  pub goes : c.ending ≡ None
+
+aside_named : (name : Option (List ℕ)) (next : List ℕ → LiveState → Course LiveState Stop)
+    (s : LiveState) → ((name : List ℕ) → IsAside s (next name s)) → IsAside s (if_named name next s)
+aside_named None next s aside = record { commands = refl; same = refl; goes = refl }
+aside_named (Some name) next s aside = aside name
+
+aside_then : (s : LiveState) (c : Course LiveState Stop) (next : LiveState → Course LiveState Stop)
+    → IsAside s c → ((t : LiveState) → IsAside t (next t)) → IsAside s (onward c next)
+aside_then s c next first more =
+    let then = more c.state in
+    rw (onward_goes c next first.goes) (record {
+      commands = commands_before c.acts (next c.state).acts then.commands ∙ first.commands;
+      same = then.same ∙ first.same;
+      goes = then.goes;
+    })
+
+added_commands : (name bytes : List ℕ) → commands_in (additions name bytes) ≡ []
+added_commands name [] = refl
+added_commands name (byte ∷ bytes) = refl
+
+write_aside : (s : LiveState) → IsAside s (write_course s)
+unfolding write_course lines_course
+write_aside s =
+    aside_named s.setting.journal lines_course s
+    (λ name. record { commands = added_commands name s.unwritten; same = refl; goes = refl })
+
+journal_aside : (s : LiveState) → IsAside s (journal_course s)
+unfolding journal_course header_course
+journal_aside s =
+    aside_named s.setting.journal header_course s
+    (λ name. record { commands = refl; same = refl; goes = refl })
+
+paint_aside : (marks : List MarkSet) (s : LiveState) → IsAside s (paint_course marks s)
+unfolding paint_course painted_course
+paint_aside marks s =
+    record { commands = views_commands _ _; same = core_fitted s; goes = refl }
+
+show_aside : (s : LiveState) → IsAside s (show_course s)
+unfolding show_course preview_course
+show_aside s =
+    let paint = paint_aside (preview_of (piece_at s)) s in
+    record { commands = paint.commands; same = paint.same; goes = paint.goes }
+
+-- what follows an answer, and what comes first
+pub told_aside : (s : LiveState) → IsAside s (told_course s)
+unfolding told_course
+told_aside s = aside_then s (write_course s) show_course (write_aside s) show_aside
+
+pub open_aside : (s : LiveState) → IsAside s (open_course s)
+unfolding open_course
+open_aside s = aside_then s (journal_course s) (paint_course []) (journal_aside s) (paint_aside [])
+
+last_aside : (s : LiveState) → IsAside s (last_course s)
+unfolding last_course last_grid_course last_script_course save_course script_course
+last_aside s =
+    aside_then s (if_named s.setting.save save_course s)
+    (λ t. if_named t.setting.script script_course t)
+    (aside_named s.setting.save save_course s
+    (λ name. record { commands = refl; same = refl; goes = refl }))
+    (λ t. aside_named t.setting.script script_course t
+    (λ name. record { commands = refl; same = refl; goes = refl }))
+
 -- ---- the end
 
 -- acts that give no command, keep those that were given, and close the session
@@ -50,6 +147,11 @@ pub record Closes (s : LiveState) (acts : List Act) (t : LiveState) : Type 0 whe
   pub commands : (before : List Act) → commands_in (before ++ acts) ≡ commands_in before
   pub given : t.given ≡ s.given
   pub standing : t.standing ≡ standing_closed s.standing
+
+-- it goes on after the close
+close_goes : (s : LiveState) → (close_course s).ending ≡ None
+unfolding close_course silence_course onward mapped
+close_goes s = refl
 
 -- those of a close, and then others without a command
 closes_with : (s : LiveState) (acts : List Act) → commands_in acts ≡ []
@@ -63,18 +165,15 @@ closes_with s acts none = record {
   standing = refl;
 }
 
--- a state with these names
-abbrev naming : LiveState → Option (List ℕ) → Option (List ℕ) → LiveState
-naming s save script = record s { setting = record s.setting { save = save; script = script } }
-
-named_closes : (save script : Option (List ℕ)) (s : LiveState)
-    → Closes (naming s save script) (finish_course (naming s save script)).acts
-    (finish_course (naming s save script)).state
-unfolding finish_course close_course silence_course last_grid_course last_script_course save_course script_course onward mapped
-named_closes None None s = closes_with _ [] refl
-named_closes (Some name) None s = closes_with _ (Save name _ ∷ []) refl
-named_closes None (Some name) s = closes_with _ (Save name _ ∷ []) refl
-named_closes (Some save) (Some script) s = closes_with _ (Save save _ ∷ Save script _ ∷ []) refl
-
 pub finish_closes : (s : LiveState) → Closes s (finish_course s).acts (finish_course s).state
-finish_closes s = named_closes s.setting.save s.setting.script s
+unfolding finish_course
+finish_closes s =
+    let c = close_course s in
+    let t = c.state in
+    let after = aside_then t (write_course t) last_course (write_aside t) last_aside in
+    let closes = closes_with s _ after.commands in
+    rw (onward_goes c (λ t. onward (write_course t) last_course) (close_goes s)) (record {
+      commands = closes.commands;
+      given = ap (λ (u : LiveState). u.given) after.same ∙ closes.given;
+      standing = ap (λ (u : LiveState). u.standing) after.same ∙ closes.standing;
+    })

@@ -6,3 +6,4 @@ pub mod GivenLemmas
 pub mod ScriptLaw
 pub mod CuttingLaw
 pub mod LeavingLemmas
+pub mod JournalLaw

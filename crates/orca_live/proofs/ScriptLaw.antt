@@ -27,7 +27,7 @@ use Rattle.orca_script.proofs.RunsReadBack.{behind_same}
 use Rattle.orca_live.specs.Carrying.{Carries}
 use Rattle.orca_live.proofs.Carried.{begun_carried}
 use Rattle.orca_live.specs.Laws.{GoesOn, Replays, ReplaysScript, replayed}
-use Rattle.orca_live.specs.Performing.{command_course, live_part, painted_course}
+use Rattle.orca_live.specs.Performing.{additions, command_course, header_course, if_named, journal_course, lines_course, live_part, painted_course, write_course}
 use Rattle.orca_live.specs.States.{LiveState}
 use Rattle.orca_live.proofs.GivenLemmas.{command_once, finish_closes, paint_commands}
 
@@ -87,12 +87,33 @@ unfolding painted_course
 keeps_paint marks s =
     keeps_none s ∙ ap (λ commands. after commands s) (sym (paint_commands marks s))
 
+keeps_named : (name : Option (List ℕ)) (next : List ℕ → LiveState → Course LiveState Stop)
+    (s : LiveState) → ((name : List ℕ) → Keeps s (next name s).acts (next name s).state)
+    → Keeps s (if_named name next s).acts (if_named name next s).state
+keeps_named None next s keeps = keeps_none s
+keeps_named (Some name) next s keeps = keeps name
+
+keeps_added : (name bytes : List ℕ) (s : LiveState)
+    → Keeps s (additions name bytes) (record s { unwritten = [] })
+keeps_added name [] s = keeps_none s
+keeps_added name (byte ∷ bytes) s = keeps_none s
+
+keeps_write : (s : LiveState) → Keeps s (write_course s).acts (write_course s).state
+unfolding write_course lines_course
+keeps_write s =
+    keeps_named s.setting.journal lines_course s (λ name. keeps_added name s.unwritten s)
+
+keeps_journal : (s : LiveState) → Keeps s (journal_course s).acts (journal_course s).state
+unfolding journal_course header_course
+keeps_journal s = keeps_named s.setting.journal header_course s (λ name. keeps_none s)
+
 keeps_carries : Carries Keeps
 keeps_carries = record {
   none = λ s t alike. rw (alike.given, alike.standing) (keeps_none s);
   both = keeps_twice;
   command = keeps_command;
-  save = λ name bytes s. keeps_none s;
+  save = λ name bytes s saved. keeps_none s;
+  write = keeps_write;
   paint = keeps_paint;
   screen = λ d s is. keeps_none s;
 }
@@ -211,5 +232,5 @@ pub replays_script : ReplaysScript
 unfolding performance lastly
 replays_script polls s empty ends =
     let c = begun live_part s polls in
-    replays_by c.ending c s empty (begun_carried keeps_carries (λ poll t. keeps_none t) s polls)
-    ends
+    replays_by c.ending c s empty
+    (begun_carried keeps_carries (λ poll t. keeps_none t) keeps_journal s polls) ends

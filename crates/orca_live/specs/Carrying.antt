@@ -1,6 +1,6 @@
 -- What holds of each step of a performance, and of two in turn, holds of each of its parts. It is
 -- proved here, since that a player is deaf is said of it as a performer, and follows from this.
-use Rattle.std.proofs.Common.{◌≡◌, ◌==◌, ℕ, arith, Bool, true, false, List, [], ◌∷◌, ◌++◌, refl}
+use Rattle.std.proofs.Common.{◌≡◌, ◌⊎◌, inl, inr, ◌==◌, ℕ, arith, Bool, true, false, List, [], ◌∷◌, ◌++◌, refl}
 use Rattle.std.specs.Prelude.{if◌then◌else◌, Option, Some, None, unwrap_or}
 use Rattle.orca_base.specs.declared.command.Command.{Command}
 use Rattle.orca_base.specs.declared.command.Command.TheVariants.{Frame}
@@ -16,31 +16,44 @@ use Rattle.orca_rig.specs.declared.inbox.Answer.{Answer}
 use Rattle.orca_rig.specs.declared.inbox.Answer.TheVariants as answer
 use Rattle.orca_term.specs.Editing.{editor_after, wish_of}
 use Rattle.orca_term.specs.Keys.{Byte, Due, Item, turn}
-use Rattle.orca_term.specs.Pacing.{faster, pace_from, slower}
+use Rattle.orca_term.specs.Pacing.{Pace, faster, pace_from, retimed, slower}
 use Rattle.orca_term.specs.Picture.{IsScreen, screen_inside}
 use Rattle.orca_term.specs.declared.cell.ScreenSize.{ScreenSize}
+use Rattle.orca_term.specs.declared.editor.Editor.{Editor}
 use Rattle.orca_term.specs.declared.editor.Wish.{Wish}
 use Rattle.orca_term.specs.declared.editor.Wish.TheVariants as wish
 use Rattle.orca_term.specs.declared.keys.Key.{Key}
-use Rattle.orca_live.specs.Performing.{answer_course, answered_at, byte_course, close_course, command_course, due_course, finish_course, fired, frame_course, heard_course, if_named, item_course, key_course, last_grid_course, last_script_course, open_course, paced, paint_course, painted_course, press_course, preview_course, save_course, script_course, show_course, struck_course, toggled, wish_course}
-use Rattle.orca_live.specs.States.{LiveState, dims_at, fitted, is_full, moments_at, piece_at}
+use Rattle.orca_term.specs.declared.keys.Pending.{Pending}
+use Rattle.orca_live.specs.Performing.{answer_course, answered_at, byte_course, close_course, command_course, due_course, finish_course, fired, frame_course, heard_course, if_named, item_course, journal_course, key_course, last_course, last_grid_course, last_script_course, open_course, paced, paint_course, painted_course, press_course, preview_course, save_course, script_course, show_course, struck_course, told_course, toggled, wish_course, write_course}
+use Rattle.orca_live.specs.States.{LiveState, Setting, dims_at, fitted, is_full, key_name, moments_at, piece_at}
 
--- two states are the same to the session, to the terminal and to the script
+-- two states are the same to the session, to the terminal, to the script and to the journal
 pub record LooksAlike (s t : LiveState) : Type 0 where
   pub setting : t.setting ≡ s.setting
   pub standing : t.standing ≡ s.standing
   pub screen : t.screen ≡ s.screen
   pub shown : t.shown ≡ s.shown
   pub given : t.given ≡ s.given
+  pub unwritten : t.unwritten ≡ s.unwritten
 
-pub looks_same : (s : LiveState) → LooksAlike s s
-looks_same s = record {
+-- the keys, the editor, the pace and the moment are nothing to these
+looks_so : (s : LiveState) (pending : Pending) (editor : Editor) (pace : Pace) (at : ℕ)
+    → LooksAlike s (record s { pending = pending; editor = editor; pace = pace; at = at })
+looks_so s pending editor pace at = record {
   setting = refl;
   standing = refl;
   screen = refl;
   shown = refl;
   given = refl;
+  unwritten = refl;
 }
+
+pub looks_same : (s : LiveState) → LooksAlike s s
+looks_same s = looks_so s s.pending s.editor s.pace s.at
+
+-- a name that the grid or the script is saved under: by the key, or at the end
+abbrev pub IsSaved : List ℕ → Setting → Type 0
+IsSaved name set = (name ≡ key_name set) ⊎ (set.save ≡ Some name) ⊎ (set.script ≡ Some name)
 
 -- what holds of each step, and of two in turn
 pub record Carries (holds : LiveState → List Act → LiveState → Type 0) : Type 0 where
@@ -49,7 +62,9 @@ pub record Carries (holds : LiveState → List Act → LiveState → Type 0) : T
       → holds r (xs ++ ys) t
   pub command : (command : Command) (s : LiveState)
       → holds s (command_course command s).acts (command_course command s).state
-  pub save : (name bytes : List ℕ) (s : LiveState) → holds s (Save name bytes ∷ []) s
+  pub save : (name bytes : List ℕ) (s : LiveState) → IsSaved name s.setting
+      → holds s (Save name bytes ∷ []) s
+  pub write : (s : LiveState) → holds s (write_course s).acts (write_course s).state
   pub paint : (marks : List MarkSet) (s : LiveState)
       → holds s (painted_course marks s).acts (painted_course marks s).state
   pub screen : (d : ScreenSize) (s : LiveState) → IsScreen d
@@ -68,8 +83,8 @@ from_alike : {holds : LiveState → List Act → LiveState → Type 0} {E : Type
     → Along holds c r
 from_alike carry r s c alike more = carry.both r s c.state [] c.acts (carry.none r s alike) more
 
-pub onward_carried : {holds : LiveState → List Act → LiveState → Type 0} {E : Type 0} → Carries holds
-    → (s : LiveState) (end : Option E) (c : Course LiveState E)
+pub onward_carried : {holds : LiveState → List Act → LiveState → Type 0} {E : Type 0}
+    → Carries holds → (s : LiveState) (end : Option E) (c : Course LiveState E)
     (next : LiveState → Course LiveState E) → Along holds c s
     → ((t : LiveState) → Along holds (next t) t) → Along holds (onward_by end c next) s
 onward_carried carry s None c next first more =
@@ -91,17 +106,12 @@ toggled_by false s t alike = alike
 
 toggled_alike : (s : LiveState) → LooksAlike s (toggled s)
 toggled_alike s =
-    toggled_by s.editor.paused s (record s { pace = pace_from s.pace.bpm s.at }) (record {
-      setting = refl;
-      standing = refl;
-      screen = refl;
-      shown = refl;
-      given = refl;
-    })
+    let pace = pace_from s.pace.bpm s.at in
+    toggled_by s.editor.paused s (record s { pace = pace })
+    (looks_so s s.pending s.editor pace s.at)
 
 paced_alike : (bpm : ℕ) (s : LiveState) → LooksAlike s (paced bpm s)
-paced_alike bpm s =
-    record { setting = refl; standing = refl; screen = refl; shown = refl; given = refl }
+paced_alike bpm s = looks_so s s.pending s.editor (retimed bpm s.pace) s.at
 
 -- a size that is brought into those that a screen may have is one of them
 inside_is_screen : (d : ScreenSize) → IsScreen (screen_inside d)
@@ -118,7 +128,7 @@ unfolding wish_course save_course
 wish_carried carry wish.Nothing s = carry.none s s (looks_same s)
 wish_carried carry (wish.Do command) s = carry.command command s
 wish_carried carry wish.Toggle s = carry.none s (toggled s) (toggled_alike s)
-wish_carried carry wish.Save s = carry.save _ _ s
+wish_carried carry wish.Save s = carry.save _ _ s (inl refl)
 wish_carried carry wish.Quit s = carry.none s s (looks_same s)
 wish_carried carry (wish.Slower beats) s =
     carry.none s (paced (slower beats s.pace.bpm) s) (paced_alike (slower beats s.pace.bpm) s)
@@ -133,8 +143,7 @@ unfolding struck_course
 struck_carried carry key s =
     let t : LiveState = record s { editor = editor_after key (dims_at s) s.editor } in
     let w = wish_of key (dims_at s) (moments_at s) s.editor in
-    from_alike carry s t (wish_course w t)
-    (record { setting = refl; standing = refl; screen = refl; shown = refl; given = refl })
+    from_alike carry s t (wish_course w t) (looks_so s s.pending t.editor s.pace s.at)
     (wish_carried carry w t)
 
 press_carried : {holds : LiveState → List Act → LiveState → Type 0} → Carries holds
@@ -143,7 +152,7 @@ unfolding press_course key_course
 press_carried carry None s = carry.none s s (looks_same s)
 press_carried carry (Some key) s =
     from_alike carry s (fitted s) (struck_course key (fitted s))
-    (record { setting = refl; standing = refl; screen = refl; shown = refl; given = refl })
+    (looks_so s s.pending (fitted s).editor s.pace s.at)
     (struck_carried carry key (fitted s))
 
 item_carried : {holds : LiveState → List Act → LiveState → Type 0} → Carries holds
@@ -152,8 +161,7 @@ unfolding item_course
 item_carried carry item s =
     let t : LiveState = record s { pending = (turn s.setting.full s.pending item).pending } in
     let key = (turn s.setting.full s.pending item).key in
-    from_alike carry s t (press_course key t)
-    (record { setting = refl; standing = refl; screen = refl; shown = refl; given = refl })
+    from_alike carry s t (press_course key t) (looks_so s t.pending s.editor s.pace s.at)
     (press_carried carry key t)
 
 bytes_carried : {holds : LiveState → List Act → LiveState → Type 0} → Carries holds
@@ -173,13 +181,7 @@ frame_carried {holds = holds} carry s =
     let c = command_course Frame s in
     if_carried holds s (is_full s) (ended Full s) (onward c next) (carry.none s s (looks_same s))
     (onward_carried carry s c.ending c next (carry.command Frame s)
-    (λ t. carry.none t (fired t) (record {
-      setting = refl;
-      standing = refl;
-      screen = refl;
-      shown = refl;
-      given = refl;
-    })))
+    (λ t. carry.none t (fired t) (looks_so t t.pending t.editor (fired t).pace t.at)))
 
 due_carried : {holds : LiveState → List Act → LiveState → Type 0} → Carries holds
     → (s : LiveState) → Along holds (due_course s) s
@@ -196,7 +198,7 @@ paint_carried : {holds : LiveState → List Act → LiveState → Type 0} → Ca
 unfolding paint_course
 paint_carried carry marks s =
     from_alike carry s (fitted s) (painted_course marks (fitted s))
-    (record { setting = refl; standing = refl; screen = refl; shown = refl; given = refl })
+    (looks_so s s.pending (fitted s).editor s.pace s.at)
     (carry.paint marks (fitted s))
 
 show_carried : {holds : LiveState → List Act → LiveState → Type 0} → Carries holds
@@ -206,45 +208,60 @@ show_carried carry s = paint_carried carry (preview_of (piece_at s)) s
 
 -- ---- answers
 
-answer_carried : {holds : LiveState → List Act → LiveState → Type 0} → Carries holds
+pub answer_carried : {holds : LiveState → List Act → LiveState → Type 0} → Carries holds
     → (a : Answer) (bytes : List ℕ) (s : LiveState) → Along holds (answer_course a bytes s) s
 unfolding answer_course
 answer_carried {holds = holds} carry (answer.Bytes hand count at) bytes s =
     let t = answered_at at s in
-    let alike : LooksAlike s t =
-    record { setting = refl; standing = refl; screen = refl; shown = refl; given = refl } in
+    let alike : LooksAlike s t = looks_so s s.pending s.editor s.pace at in
     if_carried holds s (hand == 0) (each byte_course bytes t) (still t)
     (from_alike carry s t (each byte_course bytes t) alike (bytes_carried carry bytes t))
     (carry.none s t alike)
 answer_carried carry (answer.Due at) bytes s =
     let t = answered_at at s in
-    from_alike carry s t (due_course t)
-    (record { setting = refl; standing = refl; screen = refl; shown = refl; given = refl })
+    from_alike carry s t (due_course t) (looks_so s s.pending s.editor s.pace at)
     (due_carried carry t)
 answer_carried carry answer.End bytes s = carry.none s s (looks_same s)
 answer_carried carry answer.Failed bytes s = carry.none s s (looks_same s)
+
+told_carried : {holds : LiveState → List Act → LiveState → Type 0} → Carries holds
+    → (s : LiveState) → Along holds (told_course s) s
+unfolding told_course onward
+told_carried carry s =
+    let c = write_course s in
+    onward_carried carry s c.ending c show_course (carry.write s) (show_carried carry)
 
 pub heard_carried : {holds : LiveState → List Act → LiveState → Type 0} → Carries holds
     → (a : Answer) (bytes : List ℕ) (s : LiveState) → Along holds (heard_course a bytes s) s
 unfolding heard_course onward
 heard_carried carry a bytes s =
     let c = answer_course a bytes s in
-    onward_carried carry s c.ending c show_course (answer_carried carry a bytes s)
-    (show_carried carry)
+    onward_carried carry s c.ending c told_course (answer_carried carry a bytes s)
+    (told_carried carry)
 
 -- ---- the end
 
 grid_carried : {holds : LiveState → List Act → LiveState → Type 0} → Carries holds
-    → (name : Option (List ℕ)) (s : LiveState) → Along holds (if_named name save_course s) s
+    → (name : Option (List ℕ)) (s : LiveState) → s.setting.save ≡ name
+    → Along holds (if_named name save_course s) s
 unfolding save_course
-grid_carried carry None s = carry.none s s (looks_same s)
-grid_carried carry (Some name) s = carry.save name _ s
+grid_carried carry None s is = carry.none s s (looks_same s)
+grid_carried carry (Some name) s is = carry.save name _ s (inr (inl is))
 
 script_carried : {holds : LiveState → List Act → LiveState → Type 0} → Carries holds
-    → (name : Option (List ℕ)) (s : LiveState) → Along holds (if_named name script_course s) s
+    → (name : Option (List ℕ)) (s : LiveState) → s.setting.script ≡ name
+    → Along holds (if_named name script_course s) s
 unfolding script_course
-script_carried carry None s = carry.none s s (looks_same s)
-script_carried carry (Some name) s = carry.save name _ s
+script_carried carry None s is = carry.none s s (looks_same s)
+script_carried carry (Some name) s is = carry.save name _ s (inr (inr is))
+
+last_carried : {holds : LiveState → List Act → LiveState → Type 0} → Carries holds
+    → (s : LiveState) → Along holds (last_course s) s
+unfolding last_course last_grid_course last_script_course onward
+last_carried carry s =
+    let c = last_grid_course s in
+    onward_carried carry s c.ending c last_script_course (grid_carried carry s.setting.save s refl)
+    (λ t. script_carried carry t.setting.script t refl)
 
 -- it holds of a close too
 abbrev pub Silences : (LiveState → List Act → LiveState → Type 0) → Type 0
@@ -252,16 +269,28 @@ Silences holds = (s : LiveState) → Along holds (close_course s) s
 
 pub finish_carried : {holds : LiveState → List Act → LiveState → Type 0} → Carries holds
     → Silences holds → (s : LiveState) → Along holds (finish_course s) s
-unfolding finish_course last_grid_course last_script_course onward
+unfolding finish_course onward
 finish_carried carry silences s =
-    let last : LiveState → Course LiveState Stop =
-    λ (t : LiveState). onward (last_grid_course t) last_script_course in
-    onward_carried carry s (close_course s).ending (close_course s) last (silences s)
-    (λ t. onward_carried carry t (last_grid_course t).ending (last_grid_course t)
-    last_script_course (grid_carried carry t.setting.save t)
-    (λ u. script_carried carry u.setting.script u))
+    let c = close_course s in
+    let next : LiveState → Course LiveState Stop =
+    λ (t : LiveState). onward_by (write_course t).ending (write_course t) last_course in
+    onward_carried carry s c.ending c next (silences s)
+    (λ t. onward_carried carry t (write_course t).ending (write_course t) last_course
+    (carry.write t) (last_carried carry))
+
+-- ---- the start
+
+-- it holds of the start of a journal too
+abbrev pub Begins : (LiveState → List Act → LiveState → Type 0) → Type 0
+Begins holds = (s : LiveState) → Along holds (journal_course s) s
+
+pub first_carried : {holds : LiveState → List Act → LiveState → Type 0} → Carries holds
+    → (s : LiveState) → Along holds (paint_course [] s) s
+first_carried carry s = paint_carried carry [] s
 
 pub open_carried : {holds : LiveState → List Act → LiveState → Type 0} → Carries holds
-    → (s : LiveState) → Along holds (open_course s) s
-unfolding open_course
-open_carried carry s = paint_carried carry [] s
+    → Begins holds → (s : LiveState) → Along holds (open_course s) s
+unfolding open_course onward
+open_carried carry begins s =
+    let c = journal_course s in
+    onward_carried carry s c.ending c (paint_course []) (begins s) (first_carried carry)

@@ -1,19 +1,21 @@
 -- A player does not ask the inbox: the loop alone does.
 use Rattle.std.proofs.Common.{ℕ, true, List, [], ◌∷◌, ◌++◌}
+use Rattle.std.specs.Prelude.{Option, Some, None}
 use Rattle.orca_base.specs.declared.command.Command.{Command}
 use Rattle.orca_base.specs.MarkSet.{MarkSet}
 use Rattle.orca_base.specs.Ports.{Sent}
 use Rattle.orca_concert.specs.Concerts.{close_course as silence_course, command_course as obey_course, handed_of}
 use Rattle.orca_course.specs.Acts.{Act, AreDeaf, gives}
 use Rattle.orca_course.specs.Acts.Act.{Show, Stand}
-use Rattle.orca_course.specs.Courses.{mapped, onward}
+use Rattle.orca_course.specs.Courses.{Course, mapped, onward}
 use Rattle.orca_course.specs.Performers.{IsDeaf}
 use Rattle.orca_course.proofs.ActLemmas.{AreDeaf-append, AreDeaf-gives}
 use Rattle.orca_course.specs.Standings.{notes_of, standing_after, standing_closed}
+use Rattle.orca_course.specs.declared.ending.Stop.{Stop}
 use Rattle.orca_edit.specs.Obeying.{obey}
 use Rattle.orca_notes.specs.Sound.{ends}
 use Rattle.orca_term.specs.Viewing.{painting_bytes}
-use Rattle.orca_live.specs.Performing.{close_course, command_course, live_part, painted_course, picture_at, view_sends}
+use Rattle.orca_live.specs.Performing.{additions, close_course, command_course, header_course, if_named, journal_course, lines_course, live_part, painted_course, picture_at, view_sends, write_course}
 use Rattle.orca_live.specs.States.{LiveState}
 use Rattle.orca_live.specs.Carrying.{Carries, finish_carried, heard_carried, open_carried}
 
@@ -46,19 +48,40 @@ paint_deaf marks s =
     let cells = picture_at marks s in
     deaf_views (painting_bytes s.screen s.shown cells) (Show cells ∷ []) tt
 
+-- what is done under a name, if there is one
+deaf_named : (name : Option (List ℕ)) (next : List ℕ → LiveState → Course LiveState Stop)
+    (s : LiveState) → ((name : List ℕ) → AreDeaf (next name s).acts)
+    → AreDeaf (if_named name next s).acts
+deaf_named None next s deaf = tt
+deaf_named (Some name) next s deaf = deaf name
+
+added_deaf : (name bytes : List ℕ) → AreDeaf (additions name bytes)
+added_deaf name [] = tt
+added_deaf name (byte ∷ bytes) = tt
+
+write_deaf : (s : LiveState) → AreDeaf (write_course s).acts
+unfolding write_course lines_course
+write_deaf s =
+    deaf_named s.setting.journal lines_course s (λ name. added_deaf name s.unwritten)
+
+journal_deaf : (s : LiveState) → AreDeaf (journal_course s).acts
+unfolding journal_course header_course
+journal_deaf s = deaf_named s.setting.journal header_course s (λ name. tt)
+
 deaf_carries : Carries (λ r xs t. AreDeaf xs)
 deaf_carries = record {
   none = λ s t alike. tt;
   both = λ r s t xs ys first second. AreDeaf-append xs ys first second;
   command = command_deaf;
-  save = λ name bytes s. tt;
+  save = λ name bytes s saved. tt;
+  write = write_deaf;
   paint = paint_deaf;
   screen = λ d s is. tt;
 }
 
 pub live_is_deaf : IsDeaf live_part
 live_is_deaf = record {
-  opens = open_carried deaf_carries;
+  opens = open_carried deaf_carries journal_deaf;
   hears = heard_carried deaf_carries;
   finishes = λ ending s. finish_carried deaf_carries close_deaf s;
 }

@@ -1,6 +1,7 @@
 pub mod Carrying
 pub mod Deaf
 pub mod Items
+pub mod Journals
 pub mod Laws
 pub mod Paintings
 pub mod Performing

@@ -8,7 +8,7 @@ use Rattle.orca_base.specs.declared.port.Port.TheVariants as port
 use Rattle.orca_base.specs.MarkSet.{MarkSet}
 use Rattle.orca_concert.specs.Concerts.{Concert, concert, close_course as silence_course, command_course as obey_course}
 use Rattle.orca_course.specs.Acts.{Act}
-use Rattle.orca_course.specs.Acts.Act.{Give, Save, Screen, Show}
+use Rattle.orca_course.specs.Acts.Act.{Append, Give, Save, Screen, Show}
 use Rattle.orca_course.specs.Courses.{Course, course, each, ended, joined, mapped, onward, still}
 use Rattle.orca_course.specs.Performers.{Part}
 use Rattle.orca_course.specs.declared.ending.Stop.{Stop}
@@ -18,7 +18,8 @@ use Rattle.orca_edit.specs.Prices.{preview_price}
 use Rattle.orca_grid.specs.GridText.{text_of}
 use Rattle.orca_rig.specs.declared.inbox.Answer.{Answer}
 use Rattle.orca_rig.specs.declared.inbox.Answer.TheVariants as answer
-use Rattle.orca_script.specs.Runs.{printed_script}
+use Rattle.orca_script.specs.Canonical.{printed}
+use Rattle.orca_script.specs.Runs.{printed_header, printed_script}
 use Rattle.orca_term.specs.Editing.{editor_after, wish_of}
 use Rattle.orca_term.specs.Keys.{Byte, Due, Item, turn}
 use Rattle.orca_term.specs.Pacing.{due_after, faster, pace_from, retimed, slower}
@@ -32,6 +33,12 @@ use Rattle.orca_term.specs.declared.keys.Key.{Key}
 use Rattle.orca_live.specs.Quiet.{silent_manner}
 use Rattle.orca_live.specs.States.{LiveState, dims_at, fitted, is_full, key_name, line_at, live_stance, moments_at, piece_at, until_at}
 
+-- what is done under a name, if there is one
+abbrev pub if_named : Option (List ℕ) → (List ℕ → LiveState → Course LiveState Stop) → LiveState
+    → Course LiveState Stop
+if_named None next s = still s
+if_named (Some name) next s = next name s
+
 -- ---- commands
 
 -- a course of the session alone, whose report keeps nothing
@@ -40,10 +47,16 @@ abbrev pub of_session : (Concert (Unit {0}) → Course (Concert (Unit {0})) Stop
 of_session c s =
     mapped (λ t. record s { standing = t.standing }) (λ end. end) (c (concert s.standing tt))
 
--- a command is kept for the script, if one is saved
+-- the lines that wait for the journal after a command, if one is kept: its canonical line is last
+abbrev pub noted : Option (List ℕ) → Command → List ℕ → List ℕ
+noted None command lines = lines
+noted (Some name) command lines = lines ++ printed command
+
+-- a command is kept for the script, if one is saved, and its line waits for the journal
 abbrev pub keeping_command : Command → LiveState → LiveState
 keeping_command command s = record s {
   given = option_map (λ commands. commands ++ command ∷ []) s.given;
+  unwritten = noted s.setting.journal command s.unwritten;
 }
 
 -- a command is done
@@ -63,6 +76,29 @@ script_text seed (Some commands) = printed_script seed commands
 -- it is saved under this name
 unfoldable pub script_course : List ℕ → LiveState → Course LiveState Stop
 script_course name s = course (Save name (script_text s.setting.seed s.given) ∷ []) 0 s
+
+-- ---- the journal
+
+-- it begins as a script does, with the line of the seed
+unfoldable pub header_course : List ℕ → LiveState → Course LiveState Stop
+header_course name s = course (Save name (printed_header s.setting.seed) ∷ []) 0 s
+
+-- it begins, if one is kept
+unfoldable pub journal_course : LiveState → Course LiveState Stop
+journal_course s = if_named s.setting.journal header_course s
+
+-- bytes are added to the file of a name as one piece, unless there are none
+abbrev pub additions : List ℕ → List ℕ → List Act
+additions name [] = []
+additions name bytes = Append name bytes ∷ []
+
+-- the lines that wait are added under this name, and none waits then
+unfoldable pub lines_course : List ℕ → LiveState → Course LiveState Stop
+lines_course name s = course (additions name s.unwritten) 0 (record s { unwritten = [] })
+
+-- they are added to the journal, if one is kept
+unfoldable pub write_course : LiveState → Course LiveState Stop
+write_course s = if_named s.setting.journal lines_course s
 
 -- ---- keys
 
@@ -175,21 +211,19 @@ answer_course (answer.Due at) bytes s = due_course (answered_at at s)
 answer_course answer.End bytes s = still s
 answer_course answer.Failed bytes s = still s
 
--- an answer, and then the picture, unless the performance ended
+-- the commands of an answer are written, and then the picture is shown
+unfoldable pub told_course : LiveState → Course LiveState Stop
+told_course s = onward (write_course s) show_course
+
+-- an answer, and then the journal and the picture, unless the performance ended
 unfoldable pub heard_course : Answer → List ℕ → LiveState → Course LiveState Stop
-heard_course answer bytes s = onward (answer_course answer bytes s) show_course
+heard_course answer bytes s = onward (answer_course answer bytes s) told_course
 
 -- ---- the end
 
 -- every note ends
 unfoldable pub close_course : LiveState → Course LiveState Stop
 close_course s = of_session (silence_course silent_manner) s
-
--- what is done under a name, if there is one
-abbrev pub if_named : Option (List ℕ) → (List ℕ → LiveState → Course LiveState Stop) → LiveState
-    → Course LiveState Stop
-if_named None next s = still s
-if_named (Some name) next s = next name s
 
 -- the grid is saved at the end, if it has a name
 unfoldable pub last_grid_course : LiveState → Course LiveState Stop
@@ -199,16 +233,20 @@ last_grid_course s = if_named s.setting.save save_course s
 unfoldable pub last_script_course : LiveState → Course LiveState Stop
 last_script_course s = if_named s.setting.script script_course s
 
--- the end: every note ends, and then the grid and the script are saved, however it came
+-- what is saved at the end
+unfoldable pub last_course : LiveState → Course LiveState Stop
+last_course s = onward (last_grid_course s) last_script_course
+
+-- the end, however it came: every note ends, then the commands of the last answer are written, and
+-- then the grid and the script are saved
 unfoldable pub finish_course : LiveState → Course LiveState Stop
-finish_course s =
-    onward (close_course s) (λ t. onward (last_grid_course t) last_script_course)
+finish_course s = onward (close_course s) (λ t. onward (write_course t) last_course)
 
 -- ---- a performance
 
--- the first picture has no marks
+-- the journal begins, and then comes the first picture, which has no marks
 unfoldable pub open_course : LiveState → Course LiveState Stop
-open_course s = paint_course [] s
+open_course s = onward (journal_course s) (paint_course [])
 
 -- what a player does
 abbrev pub live_part : Part LiveState

@@ -9,7 +9,8 @@ use Rattle.orca_term.specs.declared.cell.ScreenSize.{ScreenSize}
 use Rattle.orca_term.specs.declared.keys.Pending.TheVariants.{Nothing}
 
 -- no key was read, the cursor stands on the first place, the guide shows if the full keys are read,
--- a pacer starts at this moment, nothing was painted, and no command was given
+-- a pacer starts at this moment, nothing was painted, and no command was given, so none waits for
+-- the journal
 abbrev pub live_at_start : Setting → ScreenSize → ℕ → Standing → LiveState
 live_at_start set screen at standing = record {
   setting = set;
@@ -20,5 +21,6 @@ live_at_start set screen at standing = record {
   screen = screen;
   shown = None;
   given = option_map (λ name. []) set.script;
+  unwritten = [];
   at = at;
 }

@@ -1,5 +1,5 @@
 -- Where a performance stands: its setting, the session, the keys, the editor, the pacer, what is
--- shown, and the commands that are kept for the script.
+-- shown, the commands that are kept for the script, and the lines that wait for the journal.
 use Rattle.std.specs.Prelude.{ℕ, Bool, true, nat_le, if◌then◌else◌, List, length, Option, Some, None, unwrap_or, Result}
 use Rattle.std.specs.Option.{option_map}
 use Rattle.orca_base.specs.declared.command.Command.{Command}
@@ -25,14 +25,15 @@ use Rattle.orca_term.specs.declared.keys.Pending.{Pending}
 use Rattle.orca_term.specs.declared.status.StatusLine.{StatusLine}
 
 -- the tempo in beats a minute at the start, the seed of the random operator, the name of the grid's
--- file, the names under which the grid and the script are saved at the end, and whether the full
--- keys are read
+-- file, the names under which the grid and the script are saved at the end, the name of the
+-- journal, which commands are added to while it plays, and whether the full keys are read
 pub record Setting : Type 0 where
   pub bpm : ℕ
   pub seed : ℕ
   pub grid : List ℕ
   pub save : Option (List ℕ)
   pub script : Option (List ℕ)
+  pub journal : Option (List ℕ)
   pub full : Bool
 
 -- the same as the code holds it
@@ -43,6 +44,7 @@ setting_in set = record {
   grid = set.grid.now;
   save = option_map (λ name. name.now) set.save;
   script = option_map (λ name. name.now) set.script;
+  journal = option_map (λ name. name.now) set.journal;
   full = set.full;
 }
 
@@ -61,6 +63,8 @@ pub record LiveState : Type 0 where
   pub shown : Option (List Cell)
   -- the commands so far, if a script is saved at the end
   pub given : Option (List Command)
+  -- the lines of commands that are not yet added to the journal, if one is kept
+  pub unwritten : List ℕ
   -- the moment of the last answer of the inbox
   pub at : ℕ
 
@@ -75,6 +79,7 @@ state_of machine kept live = record {
   screen = live.view.size;
   shown = live.view.last;
   given = option_map (λ commands. commands.items) live.given;
+  unwritten = live.unwritten.items;
   at = live.at;
 }
 

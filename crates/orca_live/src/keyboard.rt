@@ -13,6 +13,7 @@ ghost use Rattle.orca_live.specs.Performing.{byte_course, command_course, key_co
 ghost use Rattle.orca_live.specs.States.{Did, dims_at, fitted, live_state};
 
 use crate::Live;
+use crate::journal::note;
 use crate::saving::save_grid;
 use orca_base::limits::MAX_BPM;
 use orca_base::{Command, Look};
@@ -34,7 +35,7 @@ fn keep(given: &mut Option<Vec<Command>>, command: &Command) -> Result<(), NoMem
     Ok(())
 }
 
-/// Does a command, and keeps it for the script.
+/// Does a command, and keeps it for the script and the journal.
 #[tactic(auto, using(orca_course::proofs::DoingLemmas::goes_err, orca_course::proofs::DoingLemmas::does_nothing))]
 pub(crate) fn do_command<M: Machine, H: House>(
     live: &mut Live<'_, M>,
@@ -45,6 +46,7 @@ pub(crate) fn do_command<M: Machine, H: House>(
         live.old desk.old (goes_of result) live.new desk.new }
 {
     keep(&mut live.given, command)?;
+    note(live.setting.journal, command, &mut live.unwritten)?;
     live.stage.do_command(desk, 0, command)?;
     Ok(())
 }

@@ -1,3 +1,4 @@
+ghost use Rattle.orca_live.specs.Journals.{JournalsPerformance};
 ghost use Rattle.orca_live.specs.Laws.{ItemsDecide, OnlyAppends, ReplaysScript};
 ghost use Rattle.orca_live.specs.Paintings.{ShowsPerformance};
 
@@ -27,4 +28,12 @@ pub fn script_law()
 #[tactic(auto, using(crate::proofs::PaintingLaw::shows_performance))]
 pub fn painting_law()
     ensures { ShowsPerformance }
+{}
+
+/// Whenever the inbox is asked, the journal tells the seed and exactly the commands so far; wherever
+/// a performance stops, it has a beginning of that; and at the end it tells all of them. It does
+/// nothing.
+#[tactic(auto, using(crate::proofs::JournalLaw::journals_performance))]
+pub fn journal_law()
+    ensures { JournalsPerformance }
 {}

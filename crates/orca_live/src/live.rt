@@ -28,6 +28,8 @@ pub struct Live<'a, M> {
     pub view: View,
     /// The commands so far, if a script is saved at the end.
     pub given: Option<Vec<Command>>,
+    /// The lines of commands that are not yet added to the journal, if one is kept.
+    pub unwritten: Vec<u8>,
     /// The moment of the last answer of the inbox, in microseconds.
     pub at: u64,
     /// Room for what is saved.
@@ -64,6 +66,7 @@ impl<'a, M: Machine> Live<'a, M> {
             pacer: Pacer::start(at, setting.bpm),
             view,
             given: setting.script.map(|_| Vec::new(alloc)),
+            unwritten: Vec::new(alloc),
             at,
             text: Vec::new(alloc),
         })

@@ -3,7 +3,7 @@
 ghost use Rattle.std.specs.Prelude.{[]};
 ghost use Rattle.orca_course.specs.Doing.{goes_of};
 ghost use Rattle.orca_course.specs.Worlds.{Calls};
-ghost use Rattle.orca_live.specs.Performing.{open_course, paint_course, painted_course, show_course, view_sends};
+ghost use Rattle.orca_live.specs.Performing.{paint_course, painted_course, show_course, view_sends};
 ghost use Rattle.orca_live.specs.States.{Did};
 
 use crate::Live;
@@ -30,7 +30,8 @@ pub(crate) fn paint_first<M: Machine, H: House>(
     live: &mut Live<'_, M>,
     desk: &mut Desk<H>,
 ) -> Result<(), NoMemory>
-    ensures { Did M.Machine.own open_course live.old desk.old (goes_of result) live.new desk.new }
+    ensures { Did M.Machine.own (paint_course [])
+        live.old desk.old (goes_of result) live.new desk.new }
 {
     fit(live);
     let line = live.line();

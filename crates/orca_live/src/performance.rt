@@ -1,11 +1,12 @@
 //! What a player does with the answers of an inbox.
 
 ghost use Rattle.orca_course.specs.Doing.{goes_of};
-ghost use Rattle.orca_live.specs.Performing.{answer_course, close_course, finish_course, heard_course};
+ghost use Rattle.orca_live.specs.Performing.{answer_course, close_course, finish_course, heard_course, last_course, open_course, told_course};
 ghost use Rattle.orca_live.specs.States.{Did};
 
 use crate::Live;
 use crate::clock::do_due;
+use crate::journal::{begin_journal, write_journal};
 use crate::keyboard::do_bytes;
 use crate::painting::{paint_first, show};
 use crate::saving::{save_last_grid, save_last_script};
@@ -31,7 +32,7 @@ impl<'a, M: Machine> Performer for Live<'a, M> {
     ghost part = { live_part };
 
     fn open<H: House>(&mut self, desk: &mut Desk<H>) -> Result<Option<Stop>, NoMemory> {
-        paint_first(self, desk)?;
+        open(self, desk)?;
         Ok(None)
     }
 
@@ -53,6 +54,15 @@ impl<'a, M: Machine> Performer for Live<'a, M> {
     }
 
     ghost deaf = { live_is_deaf };
+}
+
+/// Begins the journal, and paints the first picture.
+#[tactic(auto, using(orca_course::proofs::DoingLemmas::does_cut, orca_course::proofs::DoingLemmas::goes_err), unfolding(crate::specs::Performing::open_course))]
+fn open<M: Machine, H: House>(live: &mut Live<'_, M>, desk: &mut Desk<H>) -> Result<(), NoMemory>
+    ensures { Did M.Machine.own open_course live.old desk.old (goes_of result) live.new desk.new }
+{
+    begin_journal(live, desk)?;
+    paint_first(live, desk)
 }
 
 /// Does what an answer brings. The bytes of other hands are dropped.
@@ -82,7 +92,17 @@ fn do_answer<M: Machine, H: House>(
     }
 }
 
-/// Does what an answer brings, and paints the picture, unless the performance ended.
+/// Writes the commands of an answer to the journal, and paints the picture.
+#[tactic(auto, using(orca_course::proofs::DoingLemmas::does_cut, orca_course::proofs::DoingLemmas::goes_err), unfolding(crate::specs::Performing::told_course))]
+fn tell<M: Machine, H: House>(live: &mut Live<'_, M>, desk: &mut Desk<H>) -> Result<(), NoMemory>
+    ensures { Did M.Machine.own told_course live.old desk.old (goes_of result) live.new desk.new }
+{
+    write_journal(live, desk)?;
+    show(live, desk)
+}
+
+/// Does what an answer brings, and then tells it, unless the performance ended: to the journal and
+/// by the picture.
 #[tactic(auto, using(orca_course::proofs::DoingLemmas::does_cut, orca_course::proofs::DoingLemmas::does_err), unfolding(crate::specs::Performing::heard_course))]
 fn hear<M: Machine, H: House>(
     live: &mut Live<'_, M>,
@@ -96,7 +116,7 @@ fn hear<M: Machine, H: House>(
     if let Some(stop) = do_answer(live, desk, answer, bytes)? {
         return Ok(Some(stop));
     }
-    show(live, desk)?;
+    tell(live, desk)?;
     Ok(None)
 }
 
@@ -111,12 +131,24 @@ fn do_close<M: Machine, H: House>(
     Ok(())
 }
 
-/// Ends every note, and then saves the grid and the script.
+/// Saves the grid and the script.
+#[tactic(auto, using(orca_course::proofs::DoingLemmas::does_cut, orca_course::proofs::DoingLemmas::goes_err), unfolding(crate::specs::Performing::last_course))]
+fn save_last<M: Machine, H: House>(
+    live: &mut Live<'_, M>,
+    desk: &mut Desk<H>,
+) -> Result<(), NoMemory>
+    ensures { Did M.Machine.own last_course live.old desk.old (goes_of result) live.new desk.new }
+{
+    save_last_grid(live, desk)?;
+    save_last_script(live, desk)
+}
+
+/// Ends every note, writes what still waits to the journal, and then saves the grid and the script.
 #[tactic(auto, using(orca_course::proofs::DoingLemmas::does_cut, orca_course::proofs::DoingLemmas::goes_err), unfolding(crate::specs::Performing::finish_course))]
 fn finish<M: Machine, H: House>(live: &mut Live<'_, M>, desk: &mut Desk<H>) -> Result<(), NoMemory>
     ensures { Did M.Machine.own finish_course live.old desk.old (goes_of result) live.new desk.new }
 {
     do_close(live, desk)?;
-    save_last_grid(live, desk)?;
-    save_last_script(live, desk)
+    write_journal(live, desk)?;
+    save_last(live, desk)
 }

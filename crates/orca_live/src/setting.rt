@@ -14,6 +14,8 @@ pub struct Setting<'a> {
     pub save: Option<&'a str>,
     /// The file that the script of the commands is saved to at the end.
     pub script: Option<&'a str>,
+    /// The file that each command is added to while the performance plays.
+    pub journal: Option<&'a str>,
     /// Whether the full keys are read, and not the plain ones.
     pub full: bool,
     ghost some_bpm: { 1 ≤ bpm },

@@ -1,10 +1,8 @@
 use Rattle.std.proofs.Common.{ap, refl}
-use Rattle.orca_live.specs.Performing.{open_course}
 use Rattle.orca_live.proofs.DoneLemmas.{paint_did, painted_did}
 use Rattle.orca_live.proofs.painting.paint_first.Goals as goal
 
 pub returns : goal.returns
-unfolding open_course
 returns g c =
     paint_did _ _ _ _ _ _ _ refl (ap g.M.Machine.residue c.fit.ensures.machine)
     c.fit.ensures.fitted

@@ -6,12 +6,12 @@ pub returns-in-Some : goal.returns-in-Some
 unfolding heard_course
 returns-in-Some g c = does_stop _ (rw c.in-Some.is at c.in_ok-stop.ensures)
 
-pub returns-in_err-show : goal.returns-in_err-show
+pub returns-in_err-tell : goal.returns-in_err-tell
 unfolding heard_course
-returns-in_err-show g c =
-    does_err _ _ c.from_residual-in_err-show.ensures.1
-    (does_then _ (rw c.in_default.is at c.in_ok-stop.ensures) c.in_err-show.ensures)
+returns-in_err-tell g c =
+    does_err _ _ c.from_residual-in_err-tell.ensures.1
+    (does_then _ (rw c.in_default.is at c.in_ok-stop.ensures) c.in_err-tell.ensures)
 
 pub returns : goal.returns
 unfolding heard_course
-returns g c = does_then _ (rw c.in_default.is at c.in_ok-stop.ensures) c.in_ok-show.ensures
+returns g c = does_then _ (rw c.in_default.is at c.in_ok-stop.ensures) c.in_ok-tell.ensures

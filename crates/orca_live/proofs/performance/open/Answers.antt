@@ -1,0 +1,7 @@
+use Rattle.orca_course.proofs.DoingLemmas.{does_then}
+use Rattle.orca_live.specs.Performing.{open_course}
+use Rattle.orca_live.proofs.performance.open.Goals as goal
+
+pub returns : goal.returns
+unfolding open_course
+returns g c = does_then _ c.in_ok-begin_journal.ensures c.paint_first.ensures

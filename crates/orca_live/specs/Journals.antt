@@ -1,0 +1,59 @@
+-- The journal of a performance: a file that tells its commands while it plays.
+use Rattle.std.specs.Prelude.{◌≡◌, ◌≢◌, ℕ, if◌then◌else◌, List, [], ◌∷◌, ◌++◌, Option, Some, None, IfSome}
+use Rattle.std.specs.List.{flat_map}
+use Rattle.std.specs.Option.{option_map}
+use Rattle.std.specs.Str.{bytes_eq}
+use Rattle.orca_base.specs.declared.command.Command.{Command}
+use Rattle.orca_course.specs.Acts.{Act, commands_in}
+use Rattle.orca_course.specs.Acts.Act.{Append, Await, Save}
+use Rattle.orca_course.specs.Courses.{Course}
+use Rattle.orca_course.specs.Performers.{performance}
+use Rattle.orca_script.specs.Canonical.{Extends, printed}
+use Rattle.orca_script.specs.Runs.{printed_header}
+use Rattle.orca_trace.specs.Calls.{Poll}
+use Rattle.orca_live.specs.Performing.{live_part}
+use Rattle.orca_live.specs.States.{LiveState, Setting}
+
+-- the text that tells commands: the first line of a script with the seed, and then the canonical
+-- line of each command, also of each of several frames in a row
+abbrev pub journal_text : ℕ → List Command → List ℕ
+journal_text seed commands = printed_header seed ++ flat_map printed commands
+
+-- what acts leave under a name, after this: a save leaves its bytes, and an append adds its own
+abbrev pub held_after : List ℕ → Option (List ℕ) → List Act → Option (List ℕ)
+held_after name held [] = held
+held_after name held (Save other bytes ∷ acts) =
+    held_after name (if bytes_eq other name then Some bytes else held) acts
+held_after name held (Append other bytes ∷ acts) =
+    held_after name
+    (if bytes_eq other name then option_map (λ before. before ++ bytes) held else held) acts
+held_after name held (_ ∷ acts) = held_after name held acts
+
+-- the same, where nothing was saved before
+abbrev pub held_in : List ℕ → List Act → Option (List ℕ)
+held_in name acts = held_after name None acts
+
+-- a course keeps a journal under this name
+pub record KeepsJournal {S E : Type 0} (name : List ℕ) (seed : ℕ) (c : Course S E) : Type 0 where
+  -- wherever the inbox is asked, the file tells exactly the commands so far
+  pub asked : (xs ys : List Act) (poll : Poll) → c.acts ≡ xs ++ Await poll ∷ ys
+      → held_in name xs ≡ Some (journal_text seed (commands_in xs))
+  -- wherever acts stop, it has a beginning of that: the other lines wait
+  pub begun : (xs ys : List Act) → c.acts ≡ xs ++ ys
+      → IfSome (held_in name xs) (λ text. Extends text (journal_text seed (commands_in xs)))
+  -- and at the end it tells all of them
+  pub ended : c.ending ≢ None
+      → held_in name c.acts ≡ Some (journal_text seed (commands_in c.acts))
+
+-- a name is not that of the grid, nor one that is saved under at the end
+pub record IsApart (name : List ℕ) (set : Setting) : Type 0 where
+  pub grid : name ≢ set.grid
+  pub save : IfSome set.save (λ other. name ≢ other)
+  pub script : IfSome set.script (λ other. name ≢ other)
+
+-- a performance keeps its journal, if no other file of it has that name
+abbrev pub JournalsPerformance : Type 0
+JournalsPerformance =
+    (s : LiveState) (polls : List Poll) (name : List ℕ) → s.setting.journal ≡ Some name
+    → IsApart name s.setting → s.unwritten ≡ []
+    → KeepsJournal name s.setting.seed (performance live_part s polls)
