@@ -1,23 +1,25 @@
 -- What holds of what is asked for, by what clap found: the tempo of a song is one that its file can
 -- hold, no port is attached to a run that is saved as a song or as sound, and a journal is no other
 -- file of its performance.
-use Rattle.std.proofs.Common.{◌≡◌, ◌≢◌, false, List, ℕ, ◌≤◌, Option, None, Some, Result, arith, codes, refl, subst, sym, ◌∙◌}
+use Rattle.std.proofs.Common.{◌≡◌, ◌≢◌, false, List, [], ◌∷◌, Bool, true, ℕ, ◌≤◌, Option, None, Some, Result, arith, codes, refl, subst, sym, ◌∙◌}
 use Rattle.std.specs.Prelude.{◌&&◌, ◌||◌, option_and_then, if◌then◌else◌, nat_le, ok_or, option_map, IfSome, IfOk}
 use Rattle.std.specs.Option.{option_map_or}
 use Rattle.std.proofs.lemmas.Bool.Decides.{nat_tests}
 use Rattle.std.proofs.lemmas.Option.{option_and_then_some, IfSome_then}
 use Rattle.std.proofs.lemmas.Slice.Eq.{bytes_eq-Decides}
-use Rattle.clap.specs.Words.{Row, Text}
+use Rattle.clap.specs.Walk.{is_empty}
+use Rattle.clap.specs.Words.{Row, Text, fault_of, matches_of}
 use Rattle.orca_base.specs.Numbers.{number_of}
 use Rattle.orca_base.specs.declared.limits.TheConstants.{DEFAULT_SEED, DEFAULT_HISTORY, MAX_HISTORY, DEFAULT_BPM, MAX_BPM}
+use Rattle.orca_words.specs.Forms.{Form, command_of, form_by}
 use Rattle.orca_words.specs.declared.forms.Verb.{Verb}
 use Rattle.orca_words.specs.declared.forms.Verb.TheVariants as verb
 use Rattle.orca_words.specs.declared.fault.WordsFault.{WordsFault}
 use Rattle.orca_words.specs.declared.limits.TheConstants.{MIN_SONG_BPM}
 use Rattle.orca_words.specs.declared.request.Request.{Request as Held}
-use Rattle.orca_words.specs.Recordings.{HasOwnJournal, HasSongTempo, IfPerform, IsPortless, RecordsWithoutPorts}
+use Rattle.orca_words.specs.Recordings.{HasOwnJournal, HasSongTempo, IfPerform, IsPortless, OwnsJournals, RecordsWithoutPorts}
 use Rattle.orca_words.specs.RequestIn.{request_in}
-use Rattle.orca_words.specs.Requests.{Events, Make, Migrate, Perform, Performance, Play, Recording, Replay, Request, Run, Setup, Smf, Wav, Work, frames_of, greatest, is_same_name, migration_of, number_in, option_number, performance_of, performed, portless_setup_of, positional_text, recording_of, request_by, setup_of, with_own_journal, with_ports, workload_of}
+use Rattle.orca_words.specs.Requests.{Events, Make, Migrate, Perform, Performance, Play, Recording, Replay, Request, Run, Setup, Smf, Wav, Work, frames_of, greatest, is_same_name, migration_of, number_in, option_number, performance_of, performed, portless_setup_of, positional_text, recording_of, request_by, request_in_form, request_of, setup_of, with_own_journal, with_ports, workload_of}
 
 -- ---- numbers
 
@@ -176,3 +178,30 @@ answered Q v rows found fault result implies is made =
     rw made (answered_by (λ request. IfPerform request Q) found (request_by v rows) fault is
     (IfSome_then (request_by v rows) (recordable v rows)
     (λ request holds. weaker IsRecordable Q request implies holds)))
+
+-- ---- what words ask for
+
+asked_if : (fits : Bool) (v : Verb) (found : List Row)
+    → IfSome (if fits then request_by v found else None) (λ request. IfPerform request IsRecordable)
+asked_if false v found = tt
+asked_if true v found = recordable v found
+
+asked_form : (form : Option Form) (words : List Text)
+    → IfSome (option_and_then (λ f. request_in_form f words) form)
+    (λ request. IfPerform request IsRecordable)
+unfolding request_in_form
+asked_form None words = tt
+asked_form (Some form) words =
+    asked_if (is_empty (fault_of (command_of form) words)) form.verb
+    (matches_of (command_of form) words)
+
+asked_words : (words : List Text)
+    → IfSome (request_of words) (λ request. IfPerform request IsRecordable)
+unfolding request_of
+asked_words [] = tt
+asked_words (first ∷ words) = asked_form (form_by first) words
+
+pub owns_journals : OwnsJournals
+owns_journals words setup work is =
+    (subst (λ (o : Option Request). IfSome o (λ request. IfPerform request IsRecordable)) is
+    (asked_words words)).2

@@ -1,7 +1,8 @@
 -- What holds of the work that is saved as a song or as sound, and of a performance with a journal.
-use Rattle.std.specs.Prelude.{◌≡◌, ◌≢◌, ◌≤◌, None, IfSome}
+use Rattle.std.specs.Prelude.{◌≡◌, ◌≢◌, ◌≤◌, List, None, Some, IfSome}
+use Rattle.clap.specs.Words.{Text}
 use Rattle.orca_words.specs.declared.limits.TheConstants.{MIN_SONG_BPM}
-use Rattle.orca_words.specs.Requests.{Request, Perform, Setup, Work, Play, Smf, Wav}
+use Rattle.orca_words.specs.Requests.{Request, Perform, Setup, Work, Play, Smf, Wav, request_of}
 
 -- this holds of the work that is performed, and of its grid and options
 abbrev pub IfPerform : Request → (Setup → Work → Type 0) → Type 0
@@ -30,3 +31,9 @@ HasOwnJournal setup (Play play) = IfSome play.journal (λ name.
     (name ≢ setup.grid) × IfSome play.save (λ other. name ≢ other)
     × IfSome play.script (λ other. name ≢ other))
 HasOwnJournal setup _ = Unit {0}
+
+-- so it is, whatever the words are
+abbrev pub OwnsJournals : Type 0
+OwnsJournals =
+    (words : List Text) (setup : Setup) (work : Work)
+    → request_of words ≡ Some (Perform setup work) → HasOwnJournal setup work

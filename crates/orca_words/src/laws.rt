@@ -3,6 +3,7 @@
 ghost use Rattle.std.specs.Prelude.{codes};
 ghost use Rattle.orca_words.specs.Requests.{Run, Events};
 ghost use Rattle.orca_words.specs.PlainWords.{AsksPlainly, AsksToReplay};
+ghost use Rattle.orca_words.specs.Recordings.{OwnsJournals};
 
 /// The words that were read before there were options still ask for the same: `run` or `events`, a
 /// name that is not empty and does not begin with a dash, and a number below 2^32; and `replay` and
@@ -11,4 +12,11 @@ pub fn plain_words_law()
     ensures run { AsksPlainly (codes "run") Run }
     ensures events { AsksPlainly (codes "events") Events }
     ensures replay { AsksToReplay (codes "replay") }
+{}
+
+/// The journal of a performance is no other file of it: neither that of the grid, nor one that is
+/// saved at the end.
+#[tactic(auto, using(crate::proofs::RecordedWork::owns_journals))]
+pub fn own_journal_law()
+    ensures { OwnsJournals }
 {}

@@ -14,6 +14,6 @@ mod request;
 mod values;
 
 pub use fault::WordsFault;
-pub use laws::plain_words_law;
+pub use laws::{own_journal_law, plain_words_law};
 pub use read::read_words;
 pub use request::{Migration, Performance, Recording, Request, Setup, Work, Workload};
