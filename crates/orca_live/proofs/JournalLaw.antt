@@ -18,6 +18,7 @@ use Rattle.orca_course.specs.Standings.{Standing, notes_of, standing_after, stan
 use Rattle.orca_course.specs.declared.ending.Ending.{Ending}
 use Rattle.orca_course.specs.declared.ending.Ending.TheVariants.{Stopped}
 use Rattle.orca_course.specs.declared.ending.Stop.{Stop}
+use Rattle.orca_course.proofs.PerformanceLemmas.{attended_done}
 use Rattle.orca_edit.specs.Obeying.{obey}
 use Rattle.orca_notes.specs.Sound.{ends}
 use Rattle.orca_rig.specs.declared.inbox.Answer.{Answer}
@@ -31,7 +32,6 @@ use Rattle.orca_live.specs.Carrying.{Along, Carries, IsSaved, answer_carried, fi
 use Rattle.orca_live.specs.Journals.{IsApart, JournalsPerformance, KeepsJournal, held_after, journal_text}
 use Rattle.orca_live.specs.Performing.{additions, answer_course, close_course, command_course, finish_course, header_course, heard_course, if_named, journal_course, last_course, last_grid_course, last_script_course, lines_course, live_part, noted, open_course, paint_course, painted_course, picture_at, preview_course, save_course, script_course, show_course, told_course, view_sends, write_course}
 use Rattle.orca_live.specs.States.{LiveState, Setting}
-use Rattle.orca_live.proofs.Carried.{attended_done}
 
 -- ---- acts after acts
 
@@ -402,7 +402,7 @@ module _ (name : List ℕ) (set : Setting) (kept : set.journal ≡ Some name)
       → Writes name set s (attended live_part polls s).acts (attended live_part polls s).state
   writes_attended polls s none =
       subst (λ (done : List Act × LiveState). Writes name set s done.0 done.1)
-      (sym (attended_done polls s)) (writes_polls polls s none)
+      (sym (attended_done live_part polls s)) (writes_polls polls s none)
 
   -- ---- a performance
 

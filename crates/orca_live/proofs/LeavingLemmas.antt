@@ -13,9 +13,9 @@ use Rattle.orca_rig.specs.declared.inbox.Answer.TheVariants as answer
 use Rattle.orca_term.specs.Keys.{Byte, Due, Item}
 use Rattle.orca_term.specs.declared.editor.Wish.{Wish}
 use Rattle.orca_term.specs.declared.editor.Wish.TheVariants as wish
-use Rattle.orca_live.specs.Performing.{answer_course, answered_at, byte_course, command_course, due_course, frame_course, heard_course, item_course, key_course, live_part, open_course, paint_course, painted_course, press_course, save_course, show_course, struck_course, wish_course}
+use Rattle.orca_live.specs.Performing.{answer_course, answered_at, byte_course, command_course, due_course, frame_course, heard_course, item_course, key_course, live_part, press_course, save_course, struck_course, told_course, wish_course}
 use Rattle.orca_live.specs.States.{LiveState, is_full}
-use Rattle.orca_live.proofs.GivenLemmas.{finish_closes}
+use Rattle.orca_live.proofs.GivenLemmas.{finish_closes, open_aside, told_aside}
 
 -- what a full history at the frame of an answer would need
 abbrev pub AtFull : Type 0 → Answer → LiveState → Type 0
@@ -60,19 +60,19 @@ module _ (P : Stop → Type 0) (left : P Left) where
 
   pub heard_ends : (a : Answer) (bytes : List ℕ) (s : LiveState) → AtFull (P Full) a s
       → IfSome (heard_course a bytes s).ending P
-  unfolding heard_course show_course paint_course painted_course
+  unfolding heard_course
   heard_ends a bytes s full =
-      onward-kind (λ end. IfSome end P) (answer_course a bytes s) show_course
-      (answer_ends a bytes s full) (λ on. tt)
+      onward-kind (λ end. IfSome end P) (answer_course a bytes s) told_course
+      (answer_ends a bytes s full)
+      (λ on. rw ((told_aside (answer_course a bytes s).state).goes) tt)
 
 anywhere : (Q : Type 0) (a : Answer) (s : LiveState) → Q → AtFull Q a s
 anywhere Q (answer.Due at) s q = λ full. q
 anywhere Q _ s q = tt
 
 pub live_ends_well : EndsWell live_part
-unfolding open_course paint_course painted_course
 live_ends_well = record {
-  opens = λ s. refl;
+  opens = λ s. (open_aside s).goes;
   hears = λ a bytes s.
       heard_ends _ (inl refl) a bytes s (anywhere _ a s (inr refl));
   silent = λ ending s.
