@@ -133,7 +133,7 @@ shows_outline law words h sized begun left is printable =
     shown_some _ _ begun left (shown_outline law words h sized) is printable
 
 -- how a course ended, if the outline has an end
-ended_by : (end : Option Ending) → option_map status_of_ending end ≢ None → end ≢ None
+pub ended_by : (end : Option Ending) → option_map status_of_ending end ≢ None → end ≢ None
 ended_by end is none = grind arith
 
 -- ---- any cutting

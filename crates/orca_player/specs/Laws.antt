@@ -1,9 +1,10 @@
 -- Laws of performances, on the outlines of runs: how bytes were cut into answers changes nothing
--- that lasts, and the script that is saved ends in the same session.
-use Rattle.std.specs.Prelude.{◌≡◌, ◌≢◌, ℕ, List, Some, None, is_some}
+-- that lasts, the script that is saved ends in the same session, and a journal is kept.
+use Rattle.std.specs.Prelude.{◌≡◌, ◌≢◌, ℕ, List, Some, None, IfSome, is_some}
 use Rattle.std.specs.Option.{option_map}
 use Rattle.orca_course.specs.Acts.{commands_in}
 use Rattle.orca_live.specs.Items.{items_of}
+use Rattle.orca_live.specs.Journals.{KeepsJournal}
 use Rattle.orca_script.specs.Runs.{printed_script}
 use Rattle.orca_words.specs.Requests.{Perform, Performance, Play, Replay, Setup, request_of}
 use Rattle.orca_player.specs.Outlines.{Heard, Outline, Script, outline, request_outline}
@@ -56,3 +57,13 @@ ReplaysAlike words =
     → request_of words ≡ Some (Perform setup (Play performance))
     → HasEnd (outline words h) → (outline words h).given ≡ Some script
     → ReadsBack script → IsReplayed setup h script (outline words h)
+
+-- where words ask for a performance with a journal, it is kept from the first picture on. A run that
+-- ends before paints on no screen, and has none
+abbrev pub KeepsJournals : List (List ℕ) → Type 0
+KeepsJournals words =
+    (setup : Setup) (performance : Performance) (h : Heard) (name : List ℕ)
+    → request_of words ≡ Some (Perform setup (Play performance))
+    → performance.journal ≡ Some name
+    → IfSome (outline words h).screen (λ screen.
+    KeepsJournal name setup.seed (outline words h).course)

@@ -186,6 +186,7 @@ setting_of setup performance = record {
   grid = setup.grid;
   save = performance.save;
   script = performance.script;
+  journal = performance.journal;
   full = performance.full;
 }
 

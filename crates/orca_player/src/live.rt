@@ -104,6 +104,7 @@ fn setting_of<'a>(setup: &Setup<'a>, performance: &Performance<'a>) -> Setting<'
         grid: setup.grid,
         save: performance.save,
         script: performance.script,
+        journal: performance.journal,
         full: performance.full,
     }
 }

@@ -4,7 +4,7 @@ ghost use Rattle.orca_course.specs.Worlds.{IsSound, has_ended, has_listened};
 ghost use Rattle.orca_grid.specs.GridText.{grid_text};
 ghost use Rattle.orca_player.specs.Doing.{Came, CameBy, refused_status};
 ghost use Rattle.orca_player.specs.Outlines.{Heard, grid_outline, is_too_long as is_long_work, made_outline, outline, performed, request_outline, work_outline};
-ghost use Rattle.orca_player.specs.Laws.{CutsAlike, ReplaysAlike};
+ghost use Rattle.orca_player.specs.Laws.{CutsAlike, KeepsJournals, ReplaysAlike};
 ghost use Rattle.orca_player.specs.Running.{IsCaused, Ran};
 ghost use Rattle.orca_words.specs.RequestIn.{request_in, setup_in, work_in, workload_in};
 ghost use Rattle.orca_words.specs.Recordings.{HasSongTempo};
@@ -38,7 +38,7 @@ use std::alloc::Global;
 /// The named ports are attached in the order MIDI, UDP, OSC, then the grid is loaded and read, and
 /// then the script of `replay`, whose lines are all read before the first command is done. The
 /// messages of each command are sent at once, one by one. At the end the text of the word is
-/// printed, every note ends, and `play` saves. `smf` and `wav` hand no message out, and save last.
+/// printed, every note ends, and `play` saves; while it plays, it adds its commands to its journal. `smf` and `wav` hand no message out, and save last.
 /// `migrate` loads a script, reads all its lines, and saves it.
 ///
 /// A port that fails does not end the run: if all else was done, the status is
@@ -77,6 +77,10 @@ pub fn run<H: House>(alloc: Global, words: &Vec<String>, desk: &mut Desk<H>) -> 
     // no saved script; and a replay of that script ends in the same session.
     ensures cutting { CutsAlike (map string_bytes words.now.items) }
     ensures replays { ReplaysAlike (map string_bytes words.now.items) }
+
+    // Whenever the inbox of a performance is asked, its journal tells the seed and exactly the
+    // commands so far, each by its canonical line. Wherever the run stops, it has a beginning of that.
+    ensures journals { KeepsJournals (map string_bytes words.now.items) }
 {
     let status = work(alloc, words, desk);
     end(alloc, desk, status)

@@ -1,7 +1,10 @@
 use Rattle.orca_live.proofs.CuttingLaw.{items_decide}
+use Rattle.orca_live.proofs.JournalLaw.{journals_performance}
 use Rattle.orca_live.proofs.PaintingLaw.{shows_performance}
 use Rattle.orca_live.proofs.ScriptLaw.{replays_script}
+use Rattle.orca_words.proofs.RecordedWork.{owns_journals}
 use Rattle.orca_player.proofs.EndLemmas.{caused_came, ran_by, ran_usage, ran_usage_only}
+use Rattle.orca_player.proofs.JournalLemmas.{keeps_journals}
 use Rattle.orca_player.proofs.LawLemmas.{cuts_alike, replays_alike}
 use Rattle.orca_player.proofs.top.run.Goals as goal
 
@@ -10,6 +13,9 @@ returns-clause-cutting g c = cuts_alike items_decide _
 
 pub returns-clause-replays : goal.returns-clause-replays
 returns-clause-replays g c = replays_alike replays_script _
+
+pub returns-clause-journals : goal.returns-clause-journals
+returns-clause-journals g c = keeps_journals journals_performance owns_journals _
 
 pub returns-clause-ran : goal.returns-clause-ran
 returns-clause-ran g c =
