@@ -1,6 +1,7 @@
 -- A run with a journal keeps it.
 use Rattle.std.proofs.Common.{◌≡◌, ◌≢◌, ℕ, List, [], ◌∷◌, ◌++◌, refl, sym, subst, arith}
 use Rattle.std.specs.Prelude.{Option, Some, None, IfSome, Result, Ok, Err}
+use Rattle.std.specs.Option.{option_map_or}
 use Rattle.std.proofs.lemmas.Option.{IfSome_then}
 use Rattle.orca_base.specs.declared.command.Command.{Command}
 use Rattle.orca_base.specs.Grids.{Sheet}
@@ -20,7 +21,10 @@ use Rattle.orca_trace.specs.Calls.{Poll}
 use Rattle.orca_words.specs.Recordings.{HasOwnJournal, OwnsJournals}
 use Rattle.orca_words.specs.Requests.{Perform, Performance, Play, Setup, request_of}
 use Rattle.orca_player.specs.Laws.{KeepsJournals}
-use Rattle.orca_player.specs.Outlines.{Brought, Heard, Outline, after, attaches, grid_outline, live_outline, live_start, loaded_grid, opening, outline, performed, request_outline, setting_of, standing_at, started_outline, status_of_ending, work_outline}
+use Rattle.orca_player.specs.Outlines.{Brought, Heard, Outline, after, attaches, grid_outline, listening, live_outline, live_start, loading, opening, outline, performed, request_outline, setting_of, start_of, status_of_ending, stopped, work_outline}
+use Rattle.orca_player.specs.declared.live.TheConstants.{ALONE}
+use Rattle.orca_player.specs.declared.status.Status.{Status}
+use Rattle.orca_player.specs.declared.status.Status.TheVariants.{FileFault, InboxFault}
 use Rattle.orca_player.proofs.CameLemmas.{AreCalls, attaches-calls}
 use Rattle.orca_player.proofs.LawLemmas.{ended_by}
 
@@ -112,12 +116,11 @@ journal_apart setup play name journal own =
     × IfSome play.script (λ other. name ≢ other))) journal own in
     record { grid = apart.0; save = apart.1; script = apart.2 }
 
-kept_live : JournalsPerformance → (setup : Setup) (play : Performance) (at : ℕ)
-    (polls : List Poll) (s : Standing) (name : List ℕ) → play.journal ≡ Some name
-    → HasOwnJournal setup (Play play)
-    → Kept name setup.seed (live_outline setup play at polls s)
+kept_live : JournalsPerformance → (setup : Setup) (play : Performance) (polls : List Poll)
+    (s : Standing) (name : List ℕ) → play.journal ≡ Some name → HasOwnJournal setup (Play play)
+    → (at : ℕ) → Kept name setup.seed (live_outline setup play polls s at)
 unfolding live_outline opening mapped
-kept_live law setup play at polls s name journal own =
+kept_live law setup play polls s name journal own at =
     let u = live_start setup play at s in
     let keeps = law u polls name journal (journal_apart setup play name journal own) refl in
     tells_before (Stand s)
@@ -128,43 +131,33 @@ kept_live law setup play at polls s name journal own =
       last = λ ends. keeps.ended (ended_by (performance live_part u polls).ending ends);
     })
 
-kept_started : JournalsPerformance → (setup : Setup) (play : Performance) (start : Option ℕ)
-    (polls : List Poll) (s : Standing) (name : List ℕ) → play.journal ≡ Some name
-    → HasOwnJournal setup (Play play)
-    → Kept name setup.seed (started_outline setup play start polls s)
-unfolding started_outline
-kept_started law setup play None polls s name journal own = tt
-kept_started law setup play (Some at) polls s name journal own =
-    kept_live law setup play at polls s name journal own
+-- what is not there ends the run, and the rest keeps the journal
+kept_or : {A : Type 0} (name : List ℕ) (seed : ℕ) (status : Status) (found : Option A)
+    (next : A → Outline) → ((a : A) → Kept name seed (next a))
+    → Kept name seed (option_map_or next found (stopped status))
+kept_or name seed status None next kept = tt
+kept_or name seed status (Some a) next kept = kept a
 
 kept_grid : JournalsPerformance → (setup : Setup) (play : Performance) (b : Brought)
     (read : Result Sheet GridRefusal) (name : List ℕ) → play.journal ≡ Some name
     → HasOwnJournal setup (Play play)
     → Kept name setup.seed (grid_outline setup (Play play) b read)
-unfolding grid_outline work_outline
+unfolding grid_outline work_outline listening
 kept_grid law setup play b (Err refusal) name journal own = tt
 kept_grid law setup play b (Ok sheet) name journal own =
-    kept_by name setup.seed _ _ (Listen play.address 1 b.start ∷ []) _ tt
-    (kept_started law setup play b.start b.polls (standing_at sheet setup.seed setup.limit) name
-    journal own)
-
-kept_loaded : JournalsPerformance → (setup : Setup) (play : Performance) (b : Brought)
-    (grid : Option (List ℕ)) (name : List ℕ) → play.journal ≡ Some name
-    → HasOwnJournal setup (Play play)
-    → Kept name setup.seed (loaded_grid setup (Play play) b grid)
-unfolding loaded_grid
-kept_loaded law setup play b None name journal own = tt
-kept_loaded law setup play b (Some text) name journal own =
-    kept_grid law setup play b (grid_text text) name journal own
+    kept_by name setup.seed _ _ (Listen play.address ALONE b.start ∷ []) _ tt
+    (kept_or name setup.seed InboxFault b.start _
+    (kept_live law setup play b.polls (start_of setup sheet) name journal own))
 
 kept_request : JournalsPerformance → (setup : Setup) (play : Performance) (h : Heard)
     (name : List ℕ) → play.journal ≡ Some name → HasOwnJournal setup (Play play)
     → Kept name setup.seed (request_outline (Perform setup (Play play)) h)
-unfolding request_outline performed
+unfolding request_outline performed loading
 kept_request law setup play h name journal own =
     kept_by name setup.seed _ _ (attaches setup) _ (attaches-calls setup)
     (kept_by name setup.seed _ _ (Load setup.grid h.grid ∷ []) _ tt
-    (kept_loaded law setup play h.brought h.grid name journal own))
+    (kept_or name setup.seed FileFault h.grid _
+    (λ text. kept_grid law setup play h.brought (grid_text text) name journal own)))
 
 keeps_by : (name : List ℕ) (seed : ℕ) (o : Outline) → Kept name seed o
     → IfSome o.screen (λ screen. KeepsJournal name seed o.course)
