@@ -7,3 +7,4 @@ pub mod ScriptLaw
 pub mod CuttingLaw
 pub mod LeavingLemmas
 pub mod JournalLaw
+pub mod JournalReads

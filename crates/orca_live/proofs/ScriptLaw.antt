@@ -1,6 +1,6 @@
 -- The commands of a performance are kept, and their script leads to the same session.
 use Rattle.std.proofs.Common.{◌≡◌, ℕ, zero, suc, ◌+◌, List, [], ◌∷◌, ◌++◌, refl, sym, ◌∙◌, ap, append_assoc, append-nil}
-use Rattle.std.specs.Prelude.{replicate, Option, Some, None, Result, Ok, Err}
+use Rattle.std.specs.Prelude.{map, replicate, Option, Some, None, Result, Ok, Err}
 use Rattle.std.specs.List.{flat_map}
 use Rattle.std.specs.Option.{option_map, option_map_or}
 use Rattle.orca_base.specs.declared.command.Command.{Command}
@@ -26,7 +26,8 @@ use Rattle.orca_script.specs.declared.format_2.Line.TheVariants as asks
 use Rattle.orca_script.proofs.RunsReadBack.{behind_same}
 use Rattle.orca_live.specs.Carrying.{Carries}
 use Rattle.orca_live.proofs.Carried.{begun_carried}
-use Rattle.orca_live.specs.Laws.{GoesOn, Replays, ReplaysScript, replayed}
+use Rattle.orca_live.specs.Journals.{LeadsBack}
+use Rattle.orca_live.specs.Laws.{GoesOn, Replays, ReplaysScript, replayed, so_far}
 use Rattle.orca_live.specs.Performing.{additions, command_course, header_course, if_named, journal_course, lines_course, live_part, painted_course, write_course}
 use Rattle.orca_live.specs.States.{LiveState}
 use Rattle.orca_live.proofs.GivenLemmas.{command_once, finish_closes, paint_commands}
@@ -234,3 +235,18 @@ replays_script polls s empty ends =
     let c = begun live_part s polls in
     replays_by c.ending c s empty
     (begun_carried keeps_carries (λ poll t. keeps_none t) keeps_journal s polls) ends
+
+-- ---- one command on each line
+
+lines_same : (commands : List Command) → flat_map commands_of (map asks.Do commands) ≡ commands
+lines_same [] = refl
+lines_same (command ∷ commands) = ap (λ rest. command ∷ rest) (lines_same commands)
+
+pub leads_back : LeadsBack
+leads_back polls s m goes =
+    let commands = commands_in (so_far s polls).acts in
+    ap (λ (x : MachineState × Option Stop). x.0)
+    (cues_replay m goes (map asks.Do commands) 2 (concert s.standing tt))
+    ∙ (ap (λ list. machine_after list s.standing.machine) (lines_same commands)
+    ∙ sym (ap (λ (x : Option (List Command) × MachineState). x.1)
+    (begun_carried keeps_carries (λ poll t. keeps_none t) keeps_journal s polls)))

@@ -1,16 +1,23 @@
 -- The journal of a performance: a file that tells its commands while it plays.
-use Rattle.std.specs.Prelude.{◌≡◌, ◌≢◌, ℕ, if◌then◌else◌, List, [], ◌∷◌, ◌++◌, Option, Some, None, IfSome}
+use Rattle.std.specs.Prelude.{◌≡◌, ◌≢◌, ◌<◌, ◌^◌, ℕ, if◌then◌else◌, List, [], ◌∷◌, ◌++◌, All, map, Ok, Option, Some, None, IfSome}
 use Rattle.std.specs.List.{flat_map}
 use Rattle.std.specs.Option.{option_map}
 use Rattle.std.specs.Str.{bytes_eq}
 use Rattle.orca_base.specs.declared.command.Command.{Command}
+use Rattle.orca_concert.specs.Concerts.{concert, cues_course}
+use Rattle.orca_concert.specs.Manners.{Manner}
 use Rattle.orca_course.specs.Acts.{Act, commands_in}
 use Rattle.orca_course.specs.Acts.Act.{Append, Await, Save}
 use Rattle.orca_course.specs.Courses.{Course}
 use Rattle.orca_course.specs.Performers.{performance}
-use Rattle.orca_script.specs.Canonical.{Extends, printed}
+use Rattle.orca_course.specs.Standings.{Standing}
+use Rattle.orca_cues.specs.Scripts.{any_script_of, cues_asking, seed_in}
+use Rattle.orca_edit.specs.Obeying.{MachineState}
+use Rattle.orca_script.specs.Canonical.{Extends, HasValues, line_of, printed}
 use Rattle.orca_script.specs.Runs.{printed_header}
+use Rattle.orca_script.specs.declared.format_2.Line.TheVariants.{Do}
 use Rattle.orca_trace.specs.Calls.{Poll}
+use Rattle.orca_live.specs.Laws.{GoesOn, so_far}
 use Rattle.orca_live.specs.Performing.{live_part}
 use Rattle.orca_live.specs.States.{LiveState, Setting}
 
@@ -57,3 +64,28 @@ JournalsPerformance =
     (s : LiveState) (polls : List Poll) (name : List ℕ) → s.setting.journal ≡ Some name
     → IsApart name s.setting → s.unwritten ≡ []
     → KeepsJournal name s.setting.seed (performance live_part s polls)
+
+-- ---- what a journal tells
+
+-- it is read as a script of this seed, with these commands, one on each line after the first
+pub record IsScriptOf (seed : ℕ) (commands : List Command) (text : List ℕ) : Type 0 where
+  pub seeds : seed_in text ≡ Some seed
+  pub cues : any_script_of text ≡ Ok (cues_asking 2 (map Do commands))
+
+-- so is what tells commands whose numbers have 32 bits
+abbrev pub JournalsAreScripts : Type 0
+JournalsAreScripts =
+    (seed : ℕ) (commands : List Command) → seed < 2 ^ 32
+    → All (λ command. HasValues (line_of command)) commands
+    → IsScriptOf seed commands (journal_text seed commands)
+
+-- the session to which a script of these commands leads, one on each line, before its close
+abbrev pub redone : Manner (Unit {0}) → List Command → Standing → MachineState
+redone m commands s =
+    (cues_course m (cues_asking 2 (map Do commands)) (concert s tt)).state.standing.machine
+
+-- done again, the commands of a performance so far lead to its session as it stands
+abbrev pub LeadsBack : Type 0
+LeadsBack =
+    (polls : List Poll) (s : LiveState) (m : Manner (Unit {0})) → GoesOn m
+    → redone m (commands_in (so_far s polls).acts) s.standing ≡ (so_far s polls).state.standing.machine

@@ -1,4 +1,4 @@
-ghost use Rattle.orca_live.specs.Journals.{JournalsPerformance};
+ghost use Rattle.orca_live.specs.Journals.{JournalsAreScripts, JournalsPerformance, LeadsBack};
 ghost use Rattle.orca_live.specs.Laws.{ItemsDecide, OnlyAppends, ReplaysScript};
 ghost use Rattle.orca_live.specs.Paintings.{ShowsPerformance};
 
@@ -33,7 +33,10 @@ pub fn painting_law()
 /// Whenever the inbox is asked, the journal tells the seed and exactly the commands so far; wherever
 /// a performance stops, it has a beginning of that; and at the end it tells all of them. It does
 /// nothing.
-#[tactic(auto, using(crate::proofs::JournalLaw::journals_performance))]
+#[tactic(auto, using(crate::proofs::JournalLaw::journals_performance, crate::proofs::ScriptLaw::leads_back))]
 pub fn journal_law()
-    ensures { JournalsPerformance }
+    ensures keeps { JournalsPerformance }
+    // What is told is a script, and done again it leads to the session as it stood when it was told.
+    ensures reads { JournalsAreScripts }
+    ensures leads_back { LeadsBack }
 {}

@@ -1,7 +1,7 @@
 //! The laws of devices and of performances, which stand with the program.
 
 use orca_course::device_law;
-use orca_live::{appending_law, cutting_law, painting_law, script_law};
+use orca_live::{appending_law, cutting_law, journal_law, painting_law, script_law};
 
 #[test]
 fn the_laws_can_be_called(rt: HostRuntime) {
@@ -10,4 +10,5 @@ fn the_laws_can_be_called(rt: HostRuntime) {
     cutting_law();
     script_law();
     painting_law();
+    journal_law();
 }
