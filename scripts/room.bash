@@ -1,7 +1,7 @@
 # For ./perform, which sources this: what was typed reaches the disk. While a piece is played there is a room beside it, a
-# folder that nobody else can enter. It has the piece as it was and the pipe of the keys. The script of all commands, whose
-# replay gives the grid of the end, comes at the end, in a second room: in memory, which is never full of other files. A
-# performance that is saved removes its rooms; another one leaves one of them.
+# folder that nobody else can enter. It has the piece as it was, the pipe of the keys, and the journal, a script of all
+# commands so far, whose replay gives the grid. At the end the script comes once more, in a second room: in memory, which is
+# never full of other files. A performance that is saved removes its rooms; another one leaves one of them.
 
 # The room that stays.
 kept=
@@ -33,8 +33,8 @@ begin_room() {
     # A room without the name of its piece was never begun.
     [ ! -O "$1" ] || [ -e "$1/of" ] || rm -rf -- "$1"
     mkdir -m 700 -- "$1" || return 1
-    { [ -z "$is_new" ] && cat -- "$piece" || new_piece; } >"$1/piece" &&
-        printf %s "${given[--limit]-}" >"$1/limit" && printf %s "$full" >"$1/of" || { rm -rf -- "$1" && return 1; }
+    { [ -z "$is_new" ] && cat -- "$piece" || new_piece; } >"$1/piece" && printf %s "${given[--limit]-}" >"$1/limit" &&
+        printf %s "$port" >"$1/midi" && printf %s "$full" >"$1/of" || { rm -rf -- "$1" && return 1; }
 } 2>/dev/null
 
 # The two rooms of this performance, and a lock on the first, for as long as it or its program lives.
@@ -42,6 +42,9 @@ make_room() {
     is_new=
     [ -e "$piece" ] || is_new=new
     [ -z "$is_new" ] || given[--save]=${given[--save]-$piece}
+    full_name "${given[--midi]-/dev/null}"
+    port=$full
+    full_name "$piece"
     for room in "${rooms[@]}" ''; do
         [ -n "$room" ] || fails "there is no room for a copy of the piece, neither beside it nor in ${TMPDIR:-/tmp}"
         ! begin_room "$room" || break
@@ -64,6 +67,19 @@ end_room() {
     for room in "${rooms[@]}"; do
         [ "$room" = "$kept" ] || ! is_room "$room" || rm -rf -- "$room"
     done
+}
+
+# whole_lines FILE: without a last line that was cut off
+whole_lines() {
+    head -n "$(wc -l <"$1")" "$1"
+}
+
+# end_notes: the port of --midi gets All Notes Off on each channel, since a program that was killed ends no note
+end_notes() {
+    local port digit
+    IFS= read -rd '' port <"$room/midi" || true
+    [ ! -e "$port" ] || for digit in {0..9} {A..F}; do printf '%b' "\\xB$digit\\x7B\\x00"; done |
+        timeout 0.5 bash -c 'cat >>"$1"' bash "$port" 2>/dev/null || true
 }
 
 # count_edits SCRIPT: then $edits tells how many commands it has that are no frames
@@ -177,8 +193,10 @@ save_script() {
 # finish: after the program has ended, lines say what is saved where, and what is not saved stays in a room. Then $status
 # is that of this script.
 finish() {
+    # A program that was killed has saved no script, but a journal.
+    [ -s "$script" ] || whole_lines "$room/journal" >"$script" 2>/dev/null
     if [ ! -s "$script" ]; then
-        say "the program has saved no script, so what was not saved is lost"
+        say "the program has kept no commands, so what was not saved is lost"
         return
     fi
     tell_grid || kept=$room
@@ -186,13 +204,15 @@ finish() {
     [ -z "$kept" ] || cat "$script" >"$room/script" 2>/dev/null || kept=$quick
 }
 
-# find_room: whether a performance of this piece has left a room, which no other one has; then it is $room
+# find_room: whether a performance of this piece has left a room, which no other one has; then it is $room, with $script
 find_room() {
     for room in "${rooms[@]}"; do
         is_room "$room" || continue
         exec {lock}<"$room"
         flock -n "$lock" || fails "$piece is being performed now"
-        [ ! -s "$room/script" ] || return 0
+        for script in "$room"/{script,journal}; do
+            [ ! -s "$script" ] || return 0
+        done
     done
     return 1
 }
@@ -200,20 +220,20 @@ find_room() {
 # look_for_room: a performance that was cut off is not played over
 look_for_room() {
     local edits
-    find_room || { end_room && return; }
-    count_edits "$room/script"
-    fails "a performance of $piece was cut off on $(date -r "$room/script" '+%F at %R'), with $edits not saved:" \
+    find_room && count_edits "$script" && [ "$edits" != '0 edits' ] || { end_room && return; }
+    fails "a performance of $piece was cut off on $(date -r "$script" '+%F at %R'), with $edits not saved:" \
         "${0##*/} --recover saves them beside it, and ${0##*/} --discard drops them"
 }
 
-# recover: what was played goes to files beside the piece, and the rooms go. A last line that was cut off is left out.
+# recover: what was played goes to files beside the piece, and the rooms go
 recover() {
     local name=$piece.recovered file
     find_room || fails "$piece: there is nothing to recover"
     for file in "$name.orca" "$name.script"; do
         [ ! -e "$file" ] && [ ! -L "$file" ] || fails "$file: this file is there already: give it another name first"
     done
-    head -n "$(wc -l <"$room/script")" "$room/script" >"$name.script" && replayed <"$name.script" >"$name.orca" &&
+    end_notes
+    whole_lines "$script" >"$name.script" && replayed <"$name.script" >"$name.orca" &&
         [ -s "$name.orca" ] || fails "$piece: it can't be played again; what is left is in $room"
     say "the grid is in $name.orca, and the script in $name.script"
     tell_replay "$name.script"
