@@ -403,4 +403,5 @@ def main():
     print("%d sessions of %d commands agree" % (count, COMMANDS))
 
 
-main()
+if __name__ == "__main__":
+    main()

@@ -1,0 +1,182 @@
+#!/usr/bin/env python3
+"""Kills performances at random, for a long time: bench/kills.py [--minutes M] [--seed S]
+
+For M minutes (30) one performance after the other is played by ./perform at 999 beats a minute, in a terminal of its own,
+with random keys. After some seconds its program, its keeper or all of its processes are killed, or the key Quit ends it. Then
+--recover has to give each glyph that was typed 0.3 seconds before, in order; its grid has to be what the model of
+.ci/sessions.py makes of its script; and no note may be on at its port. It ends with 1 if something of that does not hold.
+"""
+import importlib.util, os, pty, random, signal, subprocess, sys, tempfile, threading, time
+
+from live import option
+
+HERE = os.path.dirname(os.path.abspath(__file__))
+PERFORM = os.path.join(HERE, '../perform')
+# Keys without a glyph: moves, selections and slides, and those that erase, copy, cut, paste, fill, undo, redo, go back, step
+# and reset.
+KEYS = ([b'\x1b[A', b'\x1b[B', b'\x1b[C', b'\x1b[D', b'\x1b[1;2B', b'\x1b[1;2C', b'\x1b[1;3C', b'\x1b[1;5B', b'\x1b[H'] * 4 +
+        [b'\x7f', b'\x03', b'\x18', b'\x16', b'\x1a', b'\x19', b'\x02', b'\x06', b'\x12', b'\x0b'])
+# How long before a kill a key was surely taken, in seconds.
+SURE = 0.3
+
+
+def model():
+    spec = importlib.util.spec_from_file_location('sessions', os.path.join(HERE, '../.ci/sessions.py'))
+    sessions = importlib.util.module_from_spec(spec)
+    spec.loader.exec_module(sessions)
+    return sessions
+
+
+SESSIONS = model()
+
+
+def grid_of(script, opened):
+    """The grid after a script, by the model; and the glyphs that it writes."""
+    session, glyphs = SESSIONS.Session(opened, 1000000), []
+    for line in script.splitlines():
+        kind, *rest = line.split()
+        if kind.startswith('!'):
+            continue
+        rest = [word if kind in SESSIONS.GLYPH and i + 1 == SESSIONS.GLYPH[kind] else int(word) for i, word in enumerate(rest)]
+        if kind == 'write':
+            glyphs.append(rest[2])
+        count = (rest or [1])[0] if kind in ('frame', 'frames') else 1
+        for _ in range(count):
+            session.obey(('frame',) if kind == 'frames' else (kind, *rest))
+    return ''.join(row + '\n' for row in session.piece[0]), glyphs
+
+
+def notes_on(data):
+    on = set()
+    for i in range(0, len(data), 3):
+        kind, channel, key = data[i] >> 4, data[i] & 15, data[i + 1]
+        if kind == 9:
+            on.add((channel, key))
+        elif kind == 8:
+            on.discard((channel, key))
+        elif kind == 11 and key == 123:
+            on = {note for note in on if note[0] != channel}
+    return on
+
+
+def children(pid):
+    found = subprocess.run(['pgrep', '-P', str(pid)], stdout=subprocess.PIPE).stdout.split()
+    return [int(child) for child in found]
+
+
+def program_of(pid):
+    """The process that plays, somewhere below this one."""
+    for child in children(pid):
+        with open('/proc/%d/cmdline' % child, 'rb') as file:
+            if b'\0play\0' in file.read():
+                return child
+        found = program_of(child)
+        if found:
+            return found
+
+
+def show(terminal, seen):
+    """Reads what is shown, until the terminal is closed."""
+    try:
+        while True:
+            seen.append(os.read(terminal, 1 << 16))
+    except OSError:
+        pass
+
+
+def start(draw):
+    """A performance in a terminal of its own: its process, its keyboard, and what it shows."""
+    pid, terminal = pty.fork()
+    if pid == 0:
+        os.execv(PERFORM, [PERFORM, '--bpm', '999', '--midi', 'midi', '--rows', '20', '--cols', '70', 'piece'])
+    seen = []
+    threading.Thread(target=show, args=(terminal, seen), daemon=True).start()
+    end = time.time() + 60
+    while b' play 999' not in b''.join(seen[-3:]):
+        if time.time() > end:
+            sys.exit('there is no picture: %r' % b''.join(seen)[-300:])
+        time.sleep(0.02)
+    return pid, terminal
+
+
+def type_keys(draw, terminal, seconds):
+    """Types for so long: the glyphs, each with its moment."""
+    typed, end = [], time.time() + seconds
+    while time.time() < end:
+        key = draw.choice(KEYS) if draw.random() < 0.5 else draw.choice(SESSIONS.GLYPHS).encode()
+        os.write(terminal, key)
+        if len(key) == 1 and 32 < key[0] < 127:
+            typed.append((time.time(), key.decode()))
+        time.sleep(draw.expovariate(60))
+    return typed
+
+
+def end_by(kind, pid, terminal):
+    if kind == 'quit':
+        os.write(terminal, b'\x11')
+    elif kind == 'program':
+        os.kill(program_of(pid), signal.SIGKILL)
+    elif kind == 'keeper':
+        os.kill(children(pid)[0], signal.SIGKILL)
+    else:
+        os.killpg(pid, signal.SIGKILL)
+    moment = time.time()
+    os.waitpid(pid, 0)
+    os.close(terminal)
+    return moment
+
+
+def recover():
+    """What --recover gives: the grid and the script; none if there was nothing that was not saved."""
+    end = time.time() + 20
+    while True:
+        done = subprocess.run([PERFORM, '--recover', 'piece'], stderr=subprocess.PIPE)
+        if done.returncode == 0:
+            with open('piece.recovered.orca') as grid, open('piece.recovered.script') as script:
+                return grid.read(), script.read()
+        if b'nothing to recover' in done.stderr:
+            return None
+        if time.time() > end:
+            sys.exit('it is not recovered: %s' % done.stderr.decode())
+        time.sleep(0.1)
+
+
+def one_round(draw, kind):
+    for name in os.listdir('.'):
+        if not os.path.isdir(name):
+            os.remove(name)
+    opened = SESSIONS.drawn(draw.randint(2, 19), draw.randint(2, 70), lambda y, x: draw.choice(SESSIONS.GLYPHS))
+    with open('piece', 'w') as file:
+        file.write(''.join(row + '\n' for row in opened))
+    open('midi', 'w').close()
+    pid, terminal = start(draw)
+    typed = type_keys(draw, terminal, draw.uniform(0.5, 8))
+    moment = end_by(kind, pid, terminal)
+    given = recover()
+    sure = [glyph for at, glyph in typed if at < moment - SURE]
+    if given is None:
+        return 'is lost, though %d glyphs were typed' % len(sure) if sure else None
+    grid, glyphs = grid_of(given[1], opened)
+    if given[0] != grid:
+        return 'is recovered as another grid than the model makes of its script'
+    if glyphs != [glyph for at, glyph in typed][:len(glyphs)] or len(glyphs) < len(sure):
+        return 'has %d of the %d glyphs that were typed in time, of %d' % (len(glyphs), len(sure), len(typed))
+    with open('midi', 'rb') as file:
+        on = notes_on(file.read())
+    return 'leaves notes on: %r' % on if on else None
+
+
+def main():
+    minutes, seed = option('--minutes', 30), option('--seed', 1)
+    draw, end, rounds = random.Random(seed), time.time() + 60 * minutes, 0
+    os.chdir(tempfile.mkdtemp())
+    while time.time() < end:
+        kind = draw.choice(['quit', 'program', 'keeper', 'group'])
+        fault = one_round(draw, kind)
+        if fault:
+            sys.exit('round %d, which ended by %s, %s; its files are in %s' % (rounds + 1, kind, fault, os.getcwd()))
+        rounds += 1
+    print('%d performances: all that was typed is recovered' % rounds)
+
+
+main()
