@@ -3,7 +3,7 @@
 
 For M minutes (30) one performance after the other is played by ./perform at 999 beats a minute, in a terminal of its own,
 with random keys. After some seconds its program, its keeper or all of its processes are killed, or the key Quit ends it. Then
---recover has to give each glyph that was typed 0.3 seconds before, in order; its grid has to be what the model of
+--recover has to give each glyph that was typed half a second before, in order; its grid has to be what the model of
 .ci/sessions.py makes of its script; and no note may be on at its port. It ends with 1 if something of that does not hold.
 """
 import importlib.util, os, pty, random, signal, subprocess, sys, tempfile, threading, time
@@ -17,7 +17,7 @@ PERFORM = os.path.join(HERE, '../perform')
 KEYS = ([b'\x1b[A', b'\x1b[B', b'\x1b[C', b'\x1b[D', b'\x1b[1;2B', b'\x1b[1;2C', b'\x1b[1;3C', b'\x1b[1;5B', b'\x1b[H'] * 4 +
         [b'\x7f', b'\x03', b'\x18', b'\x16', b'\x1a', b'\x19', b'\x02', b'\x06', b'\x12', b'\x0b'])
 # How long before a kill a key was surely taken, in seconds.
-SURE = 0.3
+SURE = 0.5
 
 
 def model():
