@@ -1,10 +1,10 @@
 -- What full keys make of the editor, and ask for, in a grid of 25 x 57, computed by the
 -- definitions.
 use Rattle.std.specs.Prelude.{◌≡◌, ℕ, false, true, Some, refl}
-use Rattle.orca_base.specs.Grids.{Size}
 use Rattle.orca_base.specs.declared.area.Rect.{Rect}
 use Rattle.orca_base.specs.declared.command.Command.TheVariants as command
 use Rattle.orca_term.specs.Editing.{editor_after, wish_of}
+use Rattle.orca_term.specs.declared.around.Around.{Around}
 use Rattle.orca_term.specs.declared.editor.Editor.{Editor}
 use Rattle.orca_term.specs.declared.editor.Wish.{Wish}
 use Rattle.orca_term.specs.declared.editor.Wish.TheVariants as wish
@@ -13,8 +13,17 @@ use Rattle.orca_term.specs.declared.keys.Key.{Key}
 use Rattle.orca_term.specs.declared.keys.Key.TheVariants as key
 use Rattle.orca_term.specs.declared.keys.Side.TheVariants.{Up, Down, Left, Right}
 
-abbrev grid : Size
-grid = record { h = 25; w = 57 }
+-- a grid of this size on a screen of this size, with `D` at the cursor
+abbrev around : ℕ → ℕ → ℕ → ℕ → Around
+around h w rows columns = record {
+  dims = record { h = h; w = w };
+  moments = 9;
+  glyph = 68;
+  screen = record { rows = rows; columns = columns };
+}
+
+abbrev plain : Around
+plain = around 25 57 24 80
 
 -- the editor at a place, with a selection of this size
 abbrev at : ℕ → ℕ → ℕ → ℕ → Editor
@@ -36,8 +45,11 @@ abbrev rect : ℕ → ℕ → ℕ → ℕ → Rect
 rect y x h w = record { y = y; x = x; h = h; w = w }
 
 -- what a key gives in an editor: a wish, and the editor after it
+abbrev given : Key → Around → Editor → Wish × Editor
+given k a e = (wish_of k a e, editor_after k a e)
+
 abbrev pressed : Key → Editor → Wish × Editor
-pressed k e = (wish_of k grid 9 e, editor_after k grid e)
+pressed k e = given k plain e
 
 leap_down : pressed (key.Arrow Move Down 8) (at 20 3 1 1) ≡ (wish.Nothing, at 24 3 1 1)
 leap_down = refl
@@ -67,7 +79,7 @@ fewer_columns : pressed (key.Arrow Grow Left 8) (at 0 0 1 1)
 fewer_columns = refl
 
 -- not clamped: the session refuses it
-no_columns : wish_of (key.Arrow Grow Left 8) (record { h = 25; w = 6 }) 9 (at 0 0 1 1)
+no_columns : wish_of (key.Arrow Grow Left 8) (around 25 6 24 80) (at 0 0 1 1)
     ≡ wish.Do (command.Resize 25 0)
 no_columns = refl
 
@@ -108,6 +120,10 @@ escape = refl
 all : pressed key.All (going (at 4 4 2 2)) ≡ (wish.Nothing, going (at 0 0 25 57))
 all = refl
 
-size : wish_of (key.Screen 3 10) grid 9 (at 4 4 1 1)
+size : wish_of (key.Screen 3 10) plain (at 4 4 1 1)
     ≡ wish.Redraw (Some (record { rows = 3; columns = 10 }))
 size = refl
+
+-- the whole selection, with the glyph at the cursor
+fill : pressed key.Fill (at 2 3 2 4) ≡ (wish.Do (command.Fill (rect 2 3 2 4) 68), at 2 3 2 4)
+fill = refl

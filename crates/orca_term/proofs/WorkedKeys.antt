@@ -34,6 +34,17 @@ FullAlone items k = keys_of items ≡ ([], k ∷ [])
 abbrev NoKey : List Item → Type 0
 NoKey items = keys_of items ≡ ([], [])
 
+-- ---- single bytes
+
+fill : FullAlone (bytes (11 ∷ [])) key.Fill
+unfolding worked
+fill = refl
+
+-- the ends of lines
+no_ends : NoKey (bytes (10 ∷ 13 ∷ []))
+unfolding worked
+no_ends = refl
+
 -- ---- arrows
 
 shift_down : Both (sequence (codes "1;2B")) (key.Arrow Stretch Down 1)
@@ -110,6 +121,15 @@ four_digits = refl
 one_number_and_a_letter : NoKey (sequence (codes "1A"))
 unfolding worked
 one_number_and_a_letter = refl
+
+-- what stands around a pasted text
+no_paste : NoKey (sequence (codes "200~") ++ sequence (codes "201~"))
+unfolding worked
+no_paste = refl
+
+no_paste_with_shift : NoKey (sequence (codes "200;2~"))
+unfolding worked
+no_paste_with_shift = refl
 
 -- ---- what stays
 

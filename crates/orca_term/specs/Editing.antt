@@ -5,6 +5,7 @@ use Rattle.orca_base.specs.declared.area.Rect.{Rect}
 use Rattle.orca_base.specs.declared.command.Command.TheVariants as command
 use Rattle.orca_base.specs.declared.limits.TheConstants.{BACK_MOMENTS}
 use Rattle.orca_base.specs.Grids.{Size}
+use Rattle.orca_term.specs.declared.around.Around.{Around}
 use Rattle.orca_term.specs.declared.editor.Wish.{Wish}
 use Rattle.orca_term.specs.declared.editor.Wish.TheVariants as wish
 use Rattle.orca_term.specs.declared.editor.Editor.{Editor}
@@ -75,47 +76,48 @@ typed d e = if e.append then moved d e (stepped Right 1 (e.y, e.x)) else e
 abbrev pub rubbed : Editor → Editor
 rubbed e = if e.append && e.h == 1 && e.w == 1 then with_cursor e e.y (e.x - 1) else e
 
--- what a key makes of the editor in a grid of this size
-abbrev pub editor_after : Key → Size → Editor → Editor
-editor_after (key.Arrow Move side by) d e = moved d e (stepped side by (e.y, e.x))
-editor_after (key.Arrow Stretch side by) d e =
-    let size = stepped side by (e.h, e.w) in cut_to_grid d (with_selection e size.0 size.1)
-editor_after (key.Arrow Slide side by) d e =
-    let at = slid side by d e in with_cursor e at.0 at.1
-editor_after (key.Glyph glyph) d e = typed d e
-editor_after key.Rub d e = rubbed e
-editor_after key.All d e = record e { y = 0; x = 0; h = d.h; w = d.w }
-editor_after key.Escape d e = record e { h = 1; w = 1; append = false }
-editor_after key.Append d e = record e { append = not e.append }
-editor_after key.Guide d e = record e { guide = not e.guide }
-editor_after key.Pause d e = record e { paused = not e.paused }
-editor_after _ d e = e
+-- what a key makes of the editor
+abbrev pub editor_after : Key → Around → Editor → Editor
+editor_after (key.Arrow Move side by) a e = moved a.dims e (stepped side by (e.y, e.x))
+editor_after (key.Arrow Stretch side by) a e =
+    let size = stepped side by (e.h, e.w) in cut_to_grid a.dims (with_selection e size.0 size.1)
+editor_after (key.Arrow Slide side by) a e =
+    let at = slid side by a.dims e in with_cursor e at.0 at.1
+editor_after (key.Glyph glyph) a e = typed a.dims e
+editor_after key.Rub a e = rubbed e
+editor_after key.All a e = record e { y = 0; x = 0; h = a.dims.h; w = a.dims.w }
+editor_after key.Escape a e = record e { h = 1; w = 1; append = false }
+editor_after key.Append a e = record e { append = not e.append }
+editor_after key.Guide a e = record e { guide = not e.guide }
+editor_after key.Pause a e = record e { paused = not e.paused }
+editor_after _ a e = e
 
--- what a key asks for in a grid of this size and a session of so many moments
-abbrev pub wish_of : Key → Size → ℕ → Editor → Wish
-wish_of (key.Arrow Slide side by) d moments e =
-    let at = slid side by d e in
+-- what a key asks for
+abbrev pub wish_of : Key → Around → Editor → Wish
+wish_of (key.Arrow Slide side by) a e =
+    let at = slid side by a.dims e in
     if at.0 == e.y && at.1 == e.x then wish.Nothing
     else wish.Do (command.Move (rect_of e) at.0 at.1)
-wish_of (key.Arrow Grow side by) d moments e =
-    let size = stepped side by (d.h, d.w) in wish.Do (command.Resize size.0 size.1)
-wish_of (key.Glyph glyph) d moments e = wish.Do (command.Write e.y e.x glyph)
-wish_of key.Rub d moments e = wish.Do (command.Erase (rect_of (rubbed e)))
-wish_of key.Erase d moments e = wish.Do (command.Erase (rect_of e))
-wish_of key.Copy d moments e = wish.Do (command.Copy (rect_of e))
-wish_of key.Cut d moments e = wish.Do (command.Cut (rect_of e))
-wish_of key.Paste d moments e = wish.Do (command.Paste e.y e.x)
-wish_of key.Undo d moments e = wish.Do command.Undo
-wish_of key.Redo d moments e = wish.Do command.Redo
-wish_of key.Reset d moments e = wish.Do command.Reset
-wish_of key.Step d moments e = wish.Do command.Frame
-wish_of key.Back d moments e = wish.Do (command.Rewind (moments - BACK_MOMENTS))
-wish_of key.Pause d moments e = wish.Toggle
-wish_of key.Save d moments e = wish.Save
-wish_of key.Quit d moments e = wish.Quit
-wish_of (key.Slower beats) d moments e = wish.Slower beats
-wish_of (key.Faster beats) d moments e = wish.Faster beats
-wish_of key.Redraw d moments e = wish.Redraw None
-wish_of (key.Screen rows columns) d moments e =
+wish_of (key.Arrow Grow side by) a e =
+    let size = stepped side by (a.dims.h, a.dims.w) in wish.Do (command.Resize size.0 size.1)
+wish_of (key.Glyph glyph) a e = wish.Do (command.Write e.y e.x glyph)
+wish_of key.Fill a e = wish.Do (command.Fill (rect_of e) a.glyph)
+wish_of key.Rub a e = wish.Do (command.Erase (rect_of (rubbed e)))
+wish_of key.Erase a e = wish.Do (command.Erase (rect_of e))
+wish_of key.Copy a e = wish.Do (command.Copy (rect_of e))
+wish_of key.Cut a e = wish.Do (command.Cut (rect_of e))
+wish_of key.Paste a e = wish.Do (command.Paste e.y e.x)
+wish_of key.Undo a e = wish.Do command.Undo
+wish_of key.Redo a e = wish.Do command.Redo
+wish_of key.Reset a e = wish.Do command.Reset
+wish_of key.Step a e = wish.Do command.Frame
+wish_of key.Back a e = wish.Do (command.Rewind (a.moments - BACK_MOMENTS))
+wish_of key.Pause a e = wish.Toggle
+wish_of key.Save a e = wish.Save
+wish_of key.Quit a e = wish.Quit
+wish_of (key.Slower beats) a e = wish.Slower beats
+wish_of (key.Faster beats) a e = wish.Faster beats
+wish_of key.Redraw a e = wish.Redraw None
+wish_of (key.Screen rows columns) a e =
     wish.Redraw (Some (record { rows = rows; columns = columns }))
-wish_of _ d moments e = wish.Nothing
+wish_of _ a e = wish.Nothing

@@ -46,7 +46,8 @@ plain_key byte = if is_glyph byte then Some (key.Glyph byte) else found_in lone_
 -- the keys of single bytes that full keys add
 abbrev pub further_keys : List (ℕ × Key)
 further_keys =
-    (1, key.All) ∷ (7, key.Guide) ∷ (9, key.Append) ∷ (12, key.Redraw) ∷ (21, key.Undo) ∷ []
+    (1, key.All) ∷ (7, key.Guide) ∷ (9, key.Append) ∷ (11, key.Fill) ∷ (12, key.Redraw)
+    ∷ (21, key.Undo) ∷ []
 
 -- the key of a byte that belongs to no sequence
 unfoldable pub key_of : Bool → ℕ → Option Key

@@ -5,7 +5,7 @@ ghost use Rattle.orca_base.specs.Areas.{IsArea};
 ghost use Rattle.orca_base.specs.Edits.{is_in_area};
 ghost use Rattle.orca_term.specs.Editing.{area_of, rect_of, new_editor, cut_to_grid, editor_inside, stepped, moved, slid, typed, rubbed, wish_of, editor_after};
 
-use crate::{Deed, Key, ScreenSize, Side};
+use crate::{Around, Deed, Key, ScreenSize, Side};
 use orca_base::limits::BACK_MOMENTS;
 use orca_base::{Command, Dims, Rect};
 use std::ops::Range;
@@ -96,29 +96,33 @@ impl Editor {
         self.w = self.w.min(dims.w.saturating_sub(self.x)).max(1);
     }
 
-    /// What a key asks for in a session of so many moments, with what it makes of the editor. The
-    /// selection isn't empty and lies in the grid, before and afterwards.
-    pub fn key(&mut self, key: Key, dims: Dims, moments: u32) -> Wish
-        requires inside { IsArea dims (area_of self.old) }
-        ensures wish { result ≡ wish_of key dims moments self.old }
-        ensures editor { self.new ≡ editor_after key dims self.old }
-        ensures inside { IsArea dims (area_of self.new) }
+    /// What a key asks for, with what it makes of the editor. The selection isn't empty and lies in the
+    /// grid, before and afterwards.
+    pub fn key(&mut self, key: Key, around: &Around) -> Wish
+        requires inside { IsArea around.now.dims (area_of self.old) }
+        ensures wish { result ≡ wish_of key around.now self.old }
+        ensures editor { self.new ≡ editor_after key around.now self.old }
+        ensures inside { IsArea around.now.dims (area_of self.new) }
     {
-        let wish = self.wish(&key, dims, moments);
-        self.change(key, dims);
+        let wish = self.wish(&key, around);
+        self.change(key, around);
         wish
     }
 
     /// What a key asks for.
-    fn wish(&self, key: &Key, dims: Dims, moments: u32) -> Wish
-        requires inside { IsArea dims (area_of self.now) }
-        ensures { result ≡ wish_of key.now dims moments self.now }
+    fn wish(&self, key: &Key, around: &Around) -> Wish
+        requires inside { IsArea around.now.dims (area_of self.now) }
+        ensures { result ≡ wish_of key.now around.now self.now }
     {
         let (y, x) = (u32::from(self.y), u32::from(self.x));
         let rect = self.rect();
         match *key {
-            Key::Arrow { deed, side, by } => self.arrow_wish(deed, side, by, dims),
+            Key::Arrow { deed, side, by } => self.arrow_wish(deed, side, by, around),
             Key::Glyph(glyph) => Wish::Do(Command::Write { y, x, glyph }),
+            Key::Fill => Wish::Do(Command::Fill {
+                rect,
+                glyph: around.glyph,
+            }),
             Key::Rub => Wish::Do(Command::Erase {
                 rect: self.rubbed().rect(),
             }),
@@ -131,7 +135,7 @@ impl Editor {
             Key::Reset => Wish::Do(Command::Reset),
             Key::Step => Wish::Do(Command::Frame),
             Key::Back => Wish::Do(Command::Rewind {
-                moment: moments.saturating_sub(BACK_MOMENTS),
+                moment: around.moments.saturating_sub(BACK_MOMENTS),
             }),
             Key::Pause => Wish::Toggle,
             Key::Save => Wish::Save,
@@ -146,14 +150,13 @@ impl Editor {
 
     /// What an arrow asks for: a move of the block that slides, unless it stays where it is, or another size
     /// of the grid.
-    fn arrow_wish(&self, deed: Deed, side: Side, by: u16, dims: Dims) -> Wish
-        requires inside { IsArea dims (area_of self.now) }
-        ensures { (moments : ℕ) → result
-            ≡ wish_of (Key.Arrow deed side by) dims moments self.now }
+    fn arrow_wish(&self, deed: Deed, side: Side, by: u16, around: &Around) -> Wish
+        requires inside { IsArea around.now.dims (area_of self.now) }
+        ensures { result ≡ wish_of (Key.Arrow deed side by) around.now self.now }
     {
         match deed {
             Deed::Slide => {
-                let (y, x) = self.slid(side, by, dims);
+                let (y, x) = self.slid(side, by, around.dims);
                 if y == self.y && x == self.x {
                     return Wish::Nothing;
                 }
@@ -164,7 +167,7 @@ impl Editor {
                 })
             }
             Deed::Grow => {
-                let (h, w) = stepped(side, by, (dims.h, dims.w));
+                let (h, w) = stepped(side, by, (around.dims.h, around.dims.w));
                 Wish::Do(Command::Resize { h, w })
             }
             _ => Wish::Nothing,
@@ -184,13 +187,14 @@ impl Editor {
     }
 
     /// Does what a key makes of the editor.
-    fn change(&mut self, key: Key, dims: Dims)
-        requires inside { IsArea dims (area_of self.old) }
-        ensures editor { self.new ≡ editor_after key dims self.old }
-        ensures inside { IsArea dims (area_of self.new) }
+    fn change(&mut self, key: Key, around: &Around)
+        requires inside { IsArea around.now.dims (area_of self.old) }
+        ensures editor { self.new ≡ editor_after key around.now self.old }
+        ensures inside { IsArea around.now.dims (area_of self.new) }
     {
+        let dims = around.dims;
         match key {
-            Key::Arrow { deed, side, by } => self.follow(deed, side, by, dims),
+            Key::Arrow { deed, side, by } => self.follow(deed, side, by, around),
             Key::Glyph(_) => self.advance(dims),
             Key::Rub => *self = self.rubbed(),
             Key::All => {
@@ -209,11 +213,12 @@ impl Editor {
     }
 
     /// Does what an arrow makes of the editor.
-    fn follow(&mut self, deed: Deed, side: Side, by: u16, dims: Dims)
-        requires inside { IsArea dims (area_of self.old) }
-        ensures editor { self.new ≡ editor_after (Key.Arrow deed side by) dims self.old }
-        ensures inside { IsArea dims (area_of self.new) }
+    fn follow(&mut self, deed: Deed, side: Side, by: u16, around: &Around)
+        requires inside { IsArea around.now.dims (area_of self.old) }
+        ensures editor { self.new ≡ editor_after (Key.Arrow deed side by) around.now self.old }
+        ensures inside { IsArea around.now.dims (area_of self.new) }
     {
+        let dims = around.dims;
         match deed {
             Deed::Move => self.go(stepped(side, by, (self.y, self.x)), dims),
             Deed::Stretch => {

@@ -90,6 +90,8 @@ pub enum Key {
     Append,
     /// Delete.
     Erase,
+    /// Control and K: fills the selection with the glyph at the cursor.
+    Fill,
     /// Control and L: paints all rows.
     Redraw,
     /// So many beats a minute less.

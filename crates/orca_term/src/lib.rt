@@ -2,6 +2,7 @@
 //! pacer of the frames.
 #![tactic(auto)]
 
+mod around;
 mod cell;
 mod editor;
 mod forms;
@@ -16,6 +17,7 @@ mod status;
 mod tables;
 mod view;
 
+pub use around::Around;
 pub use cell::{Cell, ScreenSize};
 pub use editor::{Editor, Wish};
 pub use keys::{Deed, Key, Keys, Pending, Side};

@@ -52,6 +52,7 @@ fn further_key(byte: u8) -> Option<Key>
         0x01 => Some(Key::All),
         0x07 => Some(Key::Guide),
         0x09 => Some(Key::Append),
+        0x0B => Some(Key::Fill),
         0x0C => Some(Key::Redraw),
         0x15 => Some(Key::Undo),
         _ => None,
