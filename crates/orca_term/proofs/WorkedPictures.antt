@@ -1,9 +1,10 @@
--- The tempo in the status line, and the ruler, computed by the definitions.
+-- The status line and the ruler, computed by the definitions.
 use Rattle.std.specs.Prelude.{◌≡◌, ℕ, Bool, false, true, None, [], ◌∷◌, ◌++◌, codes, replicate, refl}
 use Rattle.std.specs.Fmt.{decimal}
 use Rattle.orca_base.specs.Glyphs.{empty}
 use Rattle.orca_base.specs.MarkSet.{MarkSet, no_marks}
-use Rattle.orca_term.specs.Picture.{Scene, byte_at, tempo_word}
+use Rattle.orca_term.specs.Picture.{Scene, byte_at, glyph_under, status_text, tempo_word}
+use Rattle.orca_term.specs.Words.{glyph_words}
 use Rattle.orca_term.specs.declared.editor.Editor.{Editor}
 use Rattle.orca_term.specs.declared.status.StatusLine.{StatusLine}
 
@@ -34,6 +35,27 @@ between_beats = refl
 
 before_the_first : tempo_word (line 0) ≡ decimal 120 ++ codes " " ++ codes "."
 before_the_first = refl
+
+-- ---- the operator in words
+
+upper_case : glyph_words 68 ≡ codes " D delay"
+upper_case = refl
+
+lower_case : glyph_words 122 ≡ codes " z lerp"
+lower_case = refl
+
+signs : glyph_words 42 ++ glyph_words 33 ++ glyph_words 61
+    ≡ codes " * bang ! control change = osc"
+signs = refl
+
+-- a digit, an empty place and a sign that is no operator
+no_operators : glyph_words 51 ++ glyph_words 46 ++ glyph_words 64 ≡ []
+no_operators = refl
+
+without_words : status_text (editor false false) 68 (line 1)
+    ≡ status_text (editor false false) 46 (line 1)
+unfolding status_text
+without_words = refl
 
 -- ---- the ruler
 
@@ -75,3 +97,16 @@ under_others = refl
 
 without_guide : shown false 8 16 ∷ shown false 8 0 ∷ [] ≡ codes ".."
 without_guide = refl
+
+-- ---- the glyph at the cursor
+
+abbrev under : ℕ → ℕ → ℕ
+under y x =
+    let e : Editor = record (editor false true) { y = y; x = x } in
+    glyph_under (record (scene true) { editor = e })
+
+in_the_grid : under 0 8 ∷ under 8 8 ∷ under 1 8 ∷ [] ≡ codes "AB."
+in_the_grid = refl
+
+outside : under 9 8 ∷ under 0 17 ∷ [] ≡ codes ".."
+outside = refl

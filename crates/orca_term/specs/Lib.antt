@@ -8,3 +8,4 @@ pub mod Painting
 pub mod Picture
 pub mod Terminal
 pub mod Viewing
+pub mod Words

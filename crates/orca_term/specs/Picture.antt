@@ -13,6 +13,7 @@ use Rattle.orca_base.specs.declared.limits.TheConstants.{BEAT_FRAMES, MIN_SCREEN
 use Rattle.orca_base.specs.declared.place.Place.{Place}
 use Rattle.orca_term.specs.Codes.{plus}
 use Rattle.orca_term.specs.Editing.{area_of}
+use Rattle.orca_term.specs.Words.{glyph_words}
 use Rattle.orca_base.specs.RuleNames.{rule_name}
 use Rattle.orca_term.specs.declared.cell.Cell.{Cell}
 use Rattle.orca_term.specs.declared.cell.ScreenSize.{ScreenSize}
@@ -139,15 +140,23 @@ tempo_word line =
     decimal line.tempo ++ codes " "
     ++ (if line.tick % BEAT_FRAMES == 1 then codes "*" else codes ".")
 
--- the text of the status line: the guide adds the tempo, and typing that goes on adds a word
-unfoldable pub status_text : Editor → StatusLine → List ℕ
-status_text e line =
+-- the glyph at the cursor; outside the grid there is none
+abbrev pub glyph_under : Scene → ℕ
+glyph_under scene =
+    let at : Place = record { y = scene.editor.y; x = scene.editor.x } in
+    if is_inside scene.sheet.dims at then glyph_at scene.sheet at else empty
+
+-- the text of the status line, with this glyph at the cursor: the guide adds the tempo and the
+-- glyph in words, and typing that goes on adds a word
+unfoldable pub status_text : Editor → ℕ → StatusLine → List ℕ
+status_text e glyph line =
     decimal line.tick ++ codes " " ++ decimal line.moments ++ codes " " ++ decimal line.sounding
     ++ codes " " ++ decimal e.y ++ codes "," ++ decimal e.x
     ++ codes " " ++ decimal e.h ++ codes "x" ++ decimal e.w
     ++ codes " " ++ state_word e.paused
     ++ (if e.guide then codes " " ++ tempo_word line else [])
     ++ (if e.append then codes " append" else []) ++ codes " " ++ note_word line.note
+    ++ (if e.guide then glyph_words glyph else [])
 
 -- the cell of a column of the status line: the text is cut at the last column, or filled with
 -- spaces
@@ -167,4 +176,5 @@ cell_at d scene text n = cell_of d scene text (n / d.columns) (n % d.columns)
 -- the cells of the screen, in reading order
 unfoldable pub picture : ScreenSize → Scene → StatusLine → List Cell
 picture d scene line =
-    map (cell_at d scene (status_text scene.editor line)) (range_with_len 0 (screen_cells d))
+    map (cell_at d scene (status_text scene.editor (glyph_under scene) line))
+    (range_with_len 0 (screen_cells d))

@@ -8,6 +8,7 @@ mod editor;
 mod forms;
 mod keys;
 mod limits;
+mod names;
 mod numbers;
 mod pacer;
 mod painting;

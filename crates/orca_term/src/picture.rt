@@ -9,7 +9,7 @@ ghost use Rattle.orca_base.specs.Grids.{IsInside, glyph_at};
 ghost use Rattle.orca_base.specs.MarkSet.{no_marks};
 ghost use Rattle.orca_term.specs.Codes.{plus};
 ghost use Rattle.orca_term.specs.Editing.{area_of};
-ghost use Rattle.orca_term.specs.Picture.{IsPrintable, IsPrintableByte, IsScreen, faint, screen_cells, scene_of, style_at, style_by, blank, grid_cell, page_of, status_cell, picture};
+ghost use Rattle.orca_term.specs.Picture.{IsPrintable, IsPrintableByte, IsScreen, faint, screen_cells, scene_of, style_at, style_by, blank, grid_cell, glyph_under, page_of, status_cell, picture};
 
 use crate::limits::RULER_PLACES;
 use crate::status::status_text;
@@ -61,7 +61,8 @@ pub(crate) fn draw<T: Look>(
     ensures printable { All IsPrintable cells.new.items }
     ensures room { vec_capacity cells.new ≡ vec_capacity cells.old }
 {
-    let text = status_text(editor, line);
+    let glyph = glyph_under(look, editor);
+    let text = status_text(editor, glyph, line);
     let (rows, columns) = (u32::from(size.rows) - 1, u32::from(size.columns));
     let top = page_of(rows, u32::from(editor.y));
     let left = page_of(columns, u32::from(editor.x));
@@ -74,6 +75,21 @@ pub(crate) fn draw<T: Look>(
         push_grid_row(cells, columns, look, editor, first);
     }
     push_status_row(cells, columns, text.as_slice());
+}
+
+/// The glyph at the cursor, if that lies in the grid.
+fn glyph_under<T: Look>(look: &T, editor: &Editor) -> Glyph
+    ensures { result ≡ glyph_under (scene_of (T.sheet look.now) (T.marks look.now) editor.now) }
+{
+    let dims = look.dims();
+    if editor.y >= dims.h || editor.x >= dims.w {
+        return Glyph::EMPTY;
+    }
+    let at = Place {
+        y: editor.y,
+        x: editor.x,
+    };
+    look.glyph_at(at)
 }
 
 /// Appends the cells of a row of the window, from its first one on.

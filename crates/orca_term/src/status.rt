@@ -3,12 +3,14 @@
 ghost use Rattle.std.specs.Prelude.{◌≡◌, ◌==◌, ◌+◌, ◌%◌, ◌≤◌, [], ◌∷◌, ◌++◌, codes, if◌then◌else◌, length, All};
 ghost use Rattle.std.specs.Fmt.{decimal};
 ghost use Rattle.orca_term.specs.Picture.{IsPrintableByte, state_word, tempo_word, note_word, status_text};
+ghost use Rattle.orca_term.specs.Words.{glyph_words};
 
 use crate::Editor;
-use crate::limits::STATUS_BYTES;
+use crate::limits::{NAME_BYTES, STATUS_BYTES};
+use crate::names::operator_name;
 use itoa::Buffer;
 use orca_base::limits::{BEAT_FRAMES, MAX_DIGITS, RULE_NAME_BYTES};
-use orca_base::{Inline, Rule};
+use orca_base::{Glyph, Inline, Rule};
 
 /// The text of a status line.
 pub(crate) type StatusText = Inline<STATUS_BYTES>;
@@ -28,10 +30,10 @@ pub struct StatusLine {
     pub note: Option<Rule>,
 }
 
-/// The text of the status line.
+/// The text of the status line, with this glyph at the cursor.
 #[tactic(auto, unfolding(crate::specs::Picture::status_text))]
-pub(crate) fn status_text(editor: &Editor, line: &StatusLine) -> StatusText
-    ensures text { result ≡ status_text editor.now line.now }
+pub(crate) fn status_text(editor: &Editor, glyph: Glyph, line: &StatusLine) -> StatusText
+    ensures text { result ≡ status_text editor.now glyph line.now }
     ensures printable { All IsPrintableByte result }
 {
     let mut text = StatusText::empty();
@@ -47,7 +49,39 @@ pub(crate) fn status_text(editor: &Editor, line: &StatusLine) -> StatusText
     push_word(&mut text, append_word(editor.append));
     push_word(&mut text, b" ");
     push_word(&mut text, note_word(&line.note));
+    push_words(&mut text, editor, glyph);
     text
+}
+
+/// Appends a glyph and its name, where the guide shows and the glyph is an operator.
+fn push_words(text: &mut StatusText, editor: &Editor, glyph: Glyph)
+    requires room { length text.old + 3 + NAME_BYTES ≤ STATUS_BYTES }
+    requires printable { All IsPrintableByte text.old }
+    ensures text { text.new ≡ text.old ++ (if editor.now.guide then glyph_words glyph else []) }
+    ensures printable { All IsPrintableByte text.new }
+{
+    let name = if editor.guide {
+        operator_name(glyph)
+    } else {
+        None
+    };
+    let Some(name) = name else {
+        return;
+    };
+    push_word(text, b" ");
+    push_glyph(text, glyph);
+    push_word(text, name.as_bytes());
+}
+
+/// Appends a glyph and a space.
+fn push_glyph(text: &mut StatusText, glyph: Glyph)
+    requires room { length text.old + 2 ≤ STATUS_BYTES }
+    requires printable { All IsPrintableByte text.old }
+    ensures text { text.new ≡ text.old ++ glyph ∷ codes " " }
+    ensures printable { All IsPrintableByte text.new }
+{
+    text.push(glyph.byte());
+    text.push(b' ');
 }
 
 /// Appends the tempo and the beat, where the guide shows.
