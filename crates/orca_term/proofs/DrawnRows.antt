@@ -108,7 +108,7 @@ row_cut scene y left inside columns fits outside =
     ∙ one_from f blank inside (columns - inside)
     (λ x from to. cond-false _ _ _ (outside x from (omega arith)))
 
--- the ruler's test, where its row is known
+-- the ruler's test, where the guide or its row is known
 off_by : (guide row column empty faint : Bool) → (guide && row) ≡ false
     → (guide && (row && column) && empty && faint) ≡ false
 off_by false row column empty faint off = refl

@@ -1,9 +1,9 @@
--- The status line and the ruler, computed by the definitions.
+-- The status line, the ruler and the styles, computed by the definitions.
 use Rattle.std.specs.Prelude.{◌≡◌, ℕ, Bool, false, true, None, [], ◌∷◌, ◌++◌, codes, replicate, refl}
 use Rattle.std.specs.Fmt.{decimal}
-use Rattle.orca_base.specs.Glyphs.{empty}
+use Rattle.orca_base.specs.Glyphs.{empty, is_operator}
 use Rattle.orca_base.specs.MarkSet.{MarkSet, no_marks}
-use Rattle.orca_term.specs.Picture.{Scene, byte_at, glyph_under, status_text, tempo_word}
+use Rattle.orca_term.specs.Picture.{Scene, byte_at, glyph_under, status_text, style_by, tempo_word}
 use Rattle.orca_term.specs.Words.{glyph_words}
 use Rattle.orca_term.specs.declared.editor.Editor.{Editor}
 use Rattle.orca_term.specs.declared.status.StatusLine.{StatusLine}
@@ -110,3 +110,56 @@ in_the_grid = refl
 
 outside : under 9 8 ∷ under 0 17 ∷ [] ≡ codes ".."
 outside = refl
+
+-- ---- styles
+
+-- the style of a place that isn't selected, with the guide and without it
+abbrev styles : MarkSet → ℕ → ℕ × ℕ
+styles marks glyph = (style_by true false marks glyph, style_by false false marks glyph)
+
+works_each_frame : styles no_marks 68 ≡ (94, 0)
+works_each_frame = refl
+
+waits_for_a_bang : styles no_marks 100 ≡ (35, 0)
+unfolding is_operator
+waits_for_a_bang = refl
+
+sends : styles no_marks 58 ≡ (35, 0)
+unfolding is_operator
+sends = refl
+
+rings : styles no_marks 42 ≡ (91, 0)
+rings = refl
+
+comments : styles no_marks 35 ≡ (2, 0)
+comments = refl
+
+counts : styles no_marks 55 ≡ (0, 0)
+unfolding is_operator
+counts = refl
+
+other_sign : styles no_marks 36 ≡ (0, 0)
+unfolding is_operator
+other_sign = refl
+
+holds_nothing : styles no_marks 46 ≡ (2, 2)
+holds_nothing = refl
+
+output_bang : styles output 42 ≡ (91, 1)
+output_bang = refl
+
+output_letter : styles output 68 ≡ (1, 1)
+output_letter = refl
+
+input_letter : styles input 100 ≡ (4, 4)
+input_letter = refl
+
+locked_bang : styles locked 42 ≡ (2, 2)
+locked_bang = refl
+
+sleeper : styles (record no_marks { sleep = true }) 69 ≡ (2, 2)
+sleeper = refl
+
+-- the selection is the same for all of them
+selected : (guided : Bool) (marks : MarkSet) (glyph : ℕ) → style_by guided true marks glyph ≡ 7
+selected guided marks glyph = refl

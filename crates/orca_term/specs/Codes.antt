@@ -10,6 +10,10 @@ bracket = 91
 abbrev pub semicolon : ℕ
 semicolon = 59
 
+-- `#`, which begins and ends a comment
+abbrev pub hash : ℕ
+hash = 35
+
 -- `+`, which the ruler shows
 abbrev pub plus : ℕ
 plus = 43

@@ -5,13 +5,13 @@ use Rattle.std.specs.Fmt.{decimal}
 use Rattle.std.specs.List.{range_with_len}
 use Rattle.orca_base.specs.Ascii.{space}
 use Rattle.orca_base.specs.Edits.{is_in_area}
-use Rattle.orca_base.specs.Glyphs.{empty}
+use Rattle.orca_base.specs.Glyphs.{bang, empty, is_operator, is_upper}
 use Rattle.orca_base.specs.Grids.{Sheet, is_inside, index_of, glyph_at}
 use Rattle.orca_base.specs.MarkSet.{MarkSet, no_marks}
 use Rattle.orca_base.specs.declared.command.Rule.{Rule}
 use Rattle.orca_base.specs.declared.limits.TheConstants.{BEAT_FRAMES, MIN_SCREEN_ROWS, MAX_SCREEN_ROWS, MIN_SCREEN_COLUMNS, MAX_SCREEN_COLUMNS}
 use Rattle.orca_base.specs.declared.place.Place.{Place}
-use Rattle.orca_term.specs.Codes.{plus}
+use Rattle.orca_term.specs.Codes.{hash, plus}
 use Rattle.orca_term.specs.Editing.{area_of}
 use Rattle.orca_term.specs.Words.{glyph_words}
 use Rattle.orca_base.specs.RuleNames.{rule_name}
@@ -52,7 +52,7 @@ pub record Scene : Type 0 where
 abbrev pub scene_of : Sheet → List MarkSet → Editor → Scene
 scene_of sheet marks editor = record { sheet = sheet; marks = marks; editor = editor }
 
--- the styles: none, bold, faint, underlined, and with the colours exchanged
+-- the styles: none, bold, faint, underlined, with the colours exchanged, and three colours
 abbrev pub plain : ℕ
 plain = 0
 
@@ -67,6 +67,15 @@ underlined = 4
 
 abbrev pub reversed : ℕ
 reversed = 7
+
+abbrev pub magenta : ℕ
+magenta = 35
+
+abbrev pub bright_red : ℕ
+bright_red = 91
+
+abbrev pub bright_blue : ℕ
+bright_blue = 94
 
 -- a printable byte of ASCII
 abbrev pub IsPrintableByte : ℕ → Type 0
@@ -85,18 +94,30 @@ blank = record { byte = space; style = plain }
 abbrev pub marks_at : Scene → Place → MarkSet
 marks_at scene at = slice_index_or scene.marks (index_of scene.sheet.dims at) no_marks
 
+-- the style of a glyph that nothing marks, where the guide shows: of a bang, of a comment, of an
+-- operator that works in each frame, and of one that waits for a bang
+abbrev pub colour_of : ℕ → ℕ
+colour_of glyph =
+    if glyph == bang then bright_red
+    else (if glyph == hash then faint
+    else (if is_upper glyph then bright_blue
+    else (if is_operator glyph then magenta else plain)))
+
 -- the style of a place with these marks and this glyph: the first of these that holds. It lies in
--- the selection; it carries Output; it carries Input; it carries Lock or Sleep, or is empty
-abbrev pub style_by : Bool → MarkSet → ℕ → ℕ
-style_by selected marks glyph =
+-- the selection; it carries Output; it carries Input; it carries Lock or Sleep, or is empty. The
+-- guide adds colours
+abbrev pub style_by : Bool → Bool → MarkSet → ℕ → ℕ
+style_by guided selected marks glyph =
     if selected then reversed
-    else (if marks.output then bold
+    else (if marks.output then (if guided && glyph == bang then bright_red else bold)
     else (if marks.input then underlined
-    else (if marks.lock || marks.sleep || glyph == empty then faint else plain)))
+    else (if marks.lock || marks.sleep || glyph == empty then faint
+    else (if guided then colour_of glyph else plain))))
 
 abbrev pub style_at : Scene → Place → ℕ
 style_at scene at =
-    style_by (is_in_area (area_of scene.editor) at) (marks_at scene at) (glyph_at scene.sheet at)
+    style_by scene.editor.guide (is_in_area (area_of scene.editor) at) (marks_at scene at)
+    (glyph_at scene.sheet at)
 
 -- the places of the ruler
 abbrev pub is_ruled : Place → Bool

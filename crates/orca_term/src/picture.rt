@@ -1,15 +1,15 @@
 //! The picture of a grid, its marks, the editor and the status line.
 
-ghost use Rattle.std.specs.Prelude.{◌≡◌, ◌==◌, ◌+◌, ◌-◌, ◌%◌, ◌^◌, ◌<◌, ◌≤◌, ◌&&◌, ◌++◌, false, true, if◌then◌else◌, length, map, slice_index_or, vec_len, All};
+ghost use Rattle.std.specs.Prelude.{◌≡◌, ◌≢◌, ◌==◌, ◌+◌, ◌-◌, ◌%◌, ◌^◌, ◌<◌, ◌≤◌, ◌&&◌, ◌++◌, false, true, if◌then◌else◌, length, map, slice_index_or, vec_len, All};
 ghost use Rattle.std.specs.List.{range_with_len};
 ghost use Rattle.std.specs.Vec.{vec_capacity};
 ghost use Rattle.orca_base.specs.Edits.{is_in_area};
-ghost use Rattle.orca_base.specs.Glyphs.{empty};
+ghost use Rattle.orca_base.specs.Glyphs.{bang, empty};
 ghost use Rattle.orca_base.specs.Grids.{IsInside, glyph_at};
 ghost use Rattle.orca_base.specs.MarkSet.{no_marks};
 ghost use Rattle.orca_term.specs.Codes.{plus};
 ghost use Rattle.orca_term.specs.Editing.{area_of};
-ghost use Rattle.orca_term.specs.Picture.{IsPrintable, IsPrintableByte, IsScreen, faint, screen_cells, scene_of, style_at, style_by, blank, grid_cell, glyph_under, page_of, status_cell, picture};
+ghost use Rattle.orca_term.specs.Picture.{IsPrintable, IsPrintableByte, IsScreen, bold, bright_red, colour_of, faint, plain, screen_cells, scene_of, style_at, style_by, blank, grid_cell, glyph_under, page_of, status_cell, picture};
 
 use crate::limits::RULER_PLACES;
 use crate::status::status_text;
@@ -30,6 +30,15 @@ const UNDERLINED: u8 = 4;
 
 /// With the colours of letter and ground exchanged.
 const REVERSED: u8 = 7;
+
+/// Magenta.
+const MAGENTA: u8 = 35;
+
+/// Bright red.
+const BRIGHT_RED: u8 = 91;
+
+/// Bright blue.
+const BRIGHT_BLUE: u8 = 94;
 
 /// A space without a style.
 pub(crate) const BLANK: Cell = Cell {
@@ -140,21 +149,23 @@ fn push_places<T: Look>(cells: &mut Vec<Cell>, look: &T, editor: &Editor, at: Pl
     ensures printable { All IsPrintable cells.new.items }
     ensures room { vec_capacity cells.new ≡ vec_capacity cells.old }
 {
-    if is_guided(editor, at.y) {
+    if !editor.guide {
+        push_plain_places(cells, look, editor, at, end);
+    } else if at.y % RULER_PLACES == 0 {
         push_ruled_places(cells, look, editor, at, end);
     } else {
-        push_plain_places(cells, look, editor, at, end);
+        push_coloured_places(cells, look, editor, at, end);
     }
 }
 
-/// The same in a row where no ruler shows. What is the same for all cells is worked out before.
+/// The same without the guide. What is the same for all cells is worked out before.
 fn push_plain_places<T: Look>(cells: &mut Vec<Cell>, look: &T, editor: &Editor, at: Place, end: u16)
     requires room { vec_len cells.old + (end - at.x) ≤ vec_capacity cells.old }
     requires inside { IsInside (T.sheet look.now).dims at }
     requires order { at.x ≤ end }
     requires fits { end ≤ (T.sheet look.now).dims.w }
     requires printable { All IsPrintable cells.old.items }
-    requires plain { (editor.now.guide && at.y % RULER_PLACES == 0) ≡ false }
+    requires plain { editor.now.guide ≡ false }
     ensures places { let scene = scene_of (T.sheet look.now) (T.marks look.now) editor.now in
         cells.new.items ≡ cells.old.items ++ map
         (λ x. grid_cell scene (record { y = at.y; x = at.x + x }))
@@ -171,14 +182,21 @@ fn push_plain_places<T: Look>(cells: &mut Vec<Cell>, look: &T, editor: &Editor, 
     }
 }
 
-/// The same in a row where the ruler shows.
-fn push_ruled_places<T: Look>(cells: &mut Vec<Cell>, look: &T, editor: &Editor, at: Place, end: u16)
+/// The same in colours, in a row without the ruler.
+fn push_coloured_places<T: Look>(
+    cells: &mut Vec<Cell>,
+    look: &T,
+    editor: &Editor,
+    at: Place,
+    end: u16,
+)
     requires room { vec_len cells.old + (end - at.x) ≤ vec_capacity cells.old }
     requires inside { IsInside (T.sheet look.now).dims at }
     requires order { at.x ≤ end }
     requires fits { end ≤ (T.sheet look.now).dims.w }
     requires printable { All IsPrintable cells.old.items }
-    requires guided { (editor.now.guide && at.y % RULER_PLACES == 0) ≡ true }
+    requires guided { editor.now.guide ≡ true }
+    requires bare { at.y % RULER_PLACES ≢ 0 }
     ensures places { let scene = scene_of (T.sheet look.now) (T.marks look.now) editor.now in
         cells.new.items ≡ cells.old.items ++ map
         (λ x. grid_cell scene (record { y = at.y; x = at.x + x }))
@@ -191,15 +209,33 @@ fn push_ruled_places<T: Look>(cells: &mut Vec<Cell>, look: &T, editor: &Editor, 
     for x in at.x..end {
         let here = Place { y: at.y, x };
         let is_selected = selected.contains(&u32::from(x));
-        cells.push_reserved(ruled(place_cell(look, is_selected, here), x));
+        cells.push_reserved(coloured_cell(look, is_selected, here));
     }
 }
 
-/// Whether the ruler shows in a row.
-fn is_guided(editor: &Editor, y: u16) -> bool
-    ensures { result ≡ (editor.now.guide && y % RULER_PLACES == 0) }
+/// The same in colours, in a row with the ruler.
+fn push_ruled_places<T: Look>(cells: &mut Vec<Cell>, look: &T, editor: &Editor, at: Place, end: u16)
+    requires room { vec_len cells.old + (end - at.x) ≤ vec_capacity cells.old }
+    requires inside { IsInside (T.sheet look.now).dims at }
+    requires order { at.x ≤ end }
+    requires fits { end ≤ (T.sheet look.now).dims.w }
+    requires printable { All IsPrintable cells.old.items }
+    requires guided { editor.now.guide ≡ true }
+    requires ruled { at.y % RULER_PLACES ≡ 0 }
+    ensures places { let scene = scene_of (T.sheet look.now) (T.marks look.now) editor.now in
+        cells.new.items ≡ cells.old.items ++ map
+        (λ x. grid_cell scene (record { y = at.y; x = at.x + x }))
+        (range_with_len 0 (end - at.x)) }
+    ensures len { vec_len cells.new ≡ vec_len cells.old + (end - at.x) }
+    ensures printable { All IsPrintable cells.new.items }
+    ensures room { vec_capacity cells.new ≡ vec_capacity cells.old }
 {
-    editor.guide && y % RULER_PLACES == 0
+    let selected = editor.columns_at(at.y);
+    for x in at.x..end {
+        let here = Place { y: at.y, x };
+        let is_selected = selected.contains(&u32::from(x));
+        cells.push_reserved(ruled(coloured_cell(look, is_selected, here), x));
+    }
 }
 
 /// Appends blanks.
@@ -253,10 +289,11 @@ fn status_cell(text: &[u8], x: u32) -> Cell
     }
 }
 
-/// The glyph and the style of a place of the grid.
+/// The glyph and the style of a place of the grid, without colours.
 fn place_cell<T: Look>(look: &T, selected: bool, at: Place) -> Cell
     requires inside { IsInside (T.sheet look.now).dims at }
     ensures cell { (editor : Editor) → is_in_area (area_of editor) at ≡ selected
+        → editor.guide ≡ false
         → result ≡ record {
           byte = glyph_at (T.sheet look.now) at;
           style = style_at (scene_of (T.sheet look.now) (T.marks look.now) editor) at;
@@ -267,6 +304,26 @@ fn place_cell<T: Look>(look: &T, selected: bool, at: Place) -> Cell
     Cell {
         byte: glyph.byte(),
         style: style_of(selected, look.marks_at(at), glyph),
+    }
+}
+
+/// The same in colours.
+#[tactic(auto, using(crate::proofs::Colours::coloured_style))]
+fn coloured_cell<T: Look>(look: &T, selected: bool, at: Place) -> Cell
+    requires inside { IsInside (T.sheet look.now).dims at }
+    ensures cell { (editor : Editor) → is_in_area (area_of editor) at ≡ selected
+        → editor.guide ≡ true
+        → result ≡ record {
+          byte = glyph_at (T.sheet look.now) at;
+          style = style_at (scene_of (T.sheet look.now) (T.marks look.now) editor) at;
+        } }
+    ensures printable { IsPrintable result }
+{
+    let glyph = look.glyph_at(at);
+    let style = style_of(selected, look.marks_at(at), glyph);
+    Cell {
+        byte: glyph.byte(),
+        style: coloured(style, glyph),
     }
 }
 
@@ -285,9 +342,9 @@ fn ruled(cell: Cell, x: u16) -> Cell
     cell
 }
 
-/// The style of a place.
+/// The style of a place without colours.
 fn style_of(selected: bool, marks: Marks, glyph: Glyph) -> u8
-    ensures { result ≡ style_by selected marks glyph }
+    ensures { result ≡ style_by false selected marks glyph }
 {
     if selected {
         REVERSED
@@ -307,7 +364,39 @@ fn style_of(selected: bool, marks: Marks, glyph: Glyph) -> u8
 
 /// The style of a glyph where neither the selection nor a mark gives one.
 fn style_of_glyph(glyph: Glyph) -> u8
-    ensures { result ≡ style_by false no_marks glyph }
+    ensures { result ≡ style_by false false no_marks glyph }
 {
     if glyph == Glyph::EMPTY { FAINT } else { PLAIN }
+}
+
+/// A style with the colour that the glyph gives it: outputs and what nothing marks have one.
+fn coloured(style: u8, glyph: Glyph) -> u8
+    ensures { result ≡ (if style == plain then colour_of glyph
+        else (if style == bold && glyph == bang then bright_red else style)) }
+{
+    if style == PLAIN {
+        colour_of(glyph)
+    } else if style == BOLD && glyph == Glyph::BANG {
+        BRIGHT_RED
+    } else {
+        style
+    }
+}
+
+/// The style of a glyph that nothing marks.
+fn colour_of(glyph: Glyph) -> u8
+    ensures { result ≡ colour_of glyph }
+{
+    let byte = glyph.byte();
+    if glyph == Glyph::BANG {
+        BRIGHT_RED
+    } else if byte == b'#' {
+        FAINT
+    } else if byte.is_ascii_uppercase() {
+        BRIGHT_BLUE
+    } else if glyph.is_operator() {
+        MAGENTA
+    } else {
+        PLAIN
+    }
 }

@@ -1,10 +1,11 @@
-use Rattle.std.proofs.Common.{◌≡◌, ℕ, ◌+◌, ◌-◌, ◌++◌, ◌∙◌, ◌&&◌, true, nat_le, nat_lt, map, sym, ap, rules, arith}
+use Rattle.std.proofs.Common.{◌≡◌, ℕ, ◌+◌, ◌-◌, ◌++◌, ◌∙◌, ◌&&◌, ◌%◌, ◌==◌, true, false, nat_le, nat_lt, map, refl, sym, ap, rules, arith}
 use Rattle.std.specs.List.{range_with_len}
 use Rattle.std.proofs.lemmas.List.Elements.{All-push}
 use Rattle.orca_base.specs.Grids.{is_inside}
 use Rattle.orca_base.specs.declared.place.Place.{Place}
 use Rattle.orca_term.specs.Picture.{IsPrintable, scene_of, grid_cell}
 use Rattle.orca_term.specs.declared.cell.Cell.{Cell}
+use Rattle.orca_term.specs.declared.limits.TheConstants.{RULER_PLACES}
 use Rattle.orca_term.proofs.DrawnRows.{cell_more, plain_place}
 use Rattle.orca_term.proofs.picture.push_plain_places.Goals as goal
 
@@ -25,10 +26,12 @@ loop-x-preserved g c =
     let inside : is_inside scene.sheet.dims here ≡ true = search (rules, arith) in
     let bare =
     c.place_cell.ensures.cell c.args.editor.now
-    (c.columns_at-selected.ensures c.loop-x.x ∙ selected) in
+    (c.columns_at-selected.ensures c.loop-x.x ∙ selected) c.requires.plain in
+    let off : (c.args.editor.now.guide && c.args.at.y % RULER_PLACES == 0) ≡ false =
+    rw c.requires.plain refl in
     let cell : c.place_cell.result ≡ f done =
     bare
-    ∙ (plain_place scene here inside c.requires.plain
+    ∙ (plain_place scene here inside off
     ∙ ap (λ x. grid_cell scene (record { y = c.args.at.y; x = x })) (sym column)) in
     record {
       cells =

@@ -1,10 +1,11 @@
-use Rattle.std.proofs.Common.{◌≡◌, ℕ, ◌+◌, ◌-◌, ◌++◌, ◌∙◌, ◌&&◌, true, nat_le, nat_lt, map, sym, ap, rules, arith}
+use Rattle.std.proofs.Common.{◌≡◌, ℕ, ◌+◌, ◌-◌, ◌++◌, ◌∙◌, ◌&&◌, ◌%◌, ◌==◌, true, nat_le, nat_lt, map, sym, ap, rules, arith}
 use Rattle.std.specs.List.{range_with_len}
 use Rattle.std.proofs.lemmas.List.Elements.{All-push}
 use Rattle.orca_base.specs.Grids.{is_inside}
 use Rattle.orca_base.specs.declared.place.Place.{Place}
 use Rattle.orca_term.specs.Picture.{IsPrintable, scene_of, grid_cell}
 use Rattle.orca_term.specs.declared.cell.Cell.{Cell}
+use Rattle.orca_term.specs.declared.limits.TheConstants.{RULER_PLACES}
 use Rattle.orca_term.proofs.DrawnRows.{cell_more, ruled_place}
 use Rattle.orca_term.proofs.picture.push_ruled_places.Goals as goal
 
@@ -24,11 +25,13 @@ loop-x-preserved g c =
     search (rules, arith) in
     let inside : is_inside scene.sheet.dims here ≡ true = search (rules, arith) in
     let bare =
-    c.place_cell.ensures.cell c.args.editor.now
-    (c.columns_at-selected.ensures c.loop-x.x ∙ selected) in
+    c.coloured_cell.ensures.cell c.args.editor.now
+    (c.columns_at-selected.ensures c.loop-x.x ∙ selected) c.requires.guided in
+    let on : (c.args.editor.now.guide && c.args.at.y % RULER_PLACES == 0) ≡ true =
+    search (rules, arith) in
     let cell : c.ruled.result ≡ f done =
     (rw bare at c.ruled.ensures.cell)
-    ∙ (ruled_place scene here inside c.requires.guided
+    ∙ (ruled_place scene here inside on
     ∙ ap (λ x. grid_cell scene (record { y = c.args.at.y; x = x })) (sym column)) in
     record {
       cells =
