@@ -10,7 +10,8 @@ use Rattle.orca_base.specs.Glyphs.{empty}
 use Rattle.orca_base.specs.Grids.{Size, glyph_at, is_inside}
 use Rattle.orca_base.specs.declared.place.Place.{Place}
 use Rattle.orca_term.specs.Codes.{plus}
-use Rattle.orca_term.specs.Picture.{Scene, blank, faint, grid_cell, style_at, page_of, window_place, status_cell, cell_of, cell_at}
+use Rattle.orca_term.specs.Editing.{page_of, window_place}
+use Rattle.orca_term.specs.Picture.{Scene, blank, faint, grid_cell, style_at, status_cell, cell_of, cell_at}
 use Rattle.orca_term.specs.declared.cell.Cell.{Cell}
 use Rattle.orca_term.specs.declared.cell.ScreenSize.{ScreenSize}
 use Rattle.orca_term.specs.declared.limits.TheConstants.{RULER_PLACES}

@@ -1,6 +1,6 @@
 -- The names of the operators stand in two tables.
 use Rattle.std.proofs.Common.{◌≡◌, ◌==◌, ℕ, Bool, true, false, List, [], ◌∷◌, ◌++◌, refl}
-use Rattle.std.specs.Prelude.{if◌then◌else◌, Option, Some, None}
+use Rattle.std.specs.Prelude.{if◌then◌else◌, Option, Some}
 use Rattle.std.specs.Option.{option_or}
 use Rattle.orca_term.specs.Keys.{found_in}
 

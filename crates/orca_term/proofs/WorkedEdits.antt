@@ -35,6 +35,7 @@ at y x h w = record {
   paused = false;
   append = false;
   guide = true;
+  anchor = record { y = 0; x = 0 };
 }
 
 -- the same while typing goes on
@@ -127,3 +128,73 @@ size = refl
 -- the whole selection, with the glyph at the cursor
 fill : pressed key.Fill (at 2 3 2 4) ≡ (wish.Do (command.Fill (rect 2 3 2 4) 68), at 2 3 2 4)
 fill = refl
+
+-- ---- the mouse
+
+-- the same after a click on a place
+abbrev anchored : ℕ → ℕ → Editor → Editor
+anchored y x e = record e { anchor = record { y = y; x = x } }
+
+click : pressed (key.Press 2 10) (at 4 4 3 3) ≡ (wish.Nothing, anchored 2 10 (at 2 10 1 1))
+click = refl
+
+-- on the status row, at the right of the grid
+click_beside : pressed (key.Press 23 60) (at 20 3 1 1)
+    ≡ (wish.Nothing, anchored 22 56 (at 22 56 1 1))
+click_beside = refl
+
+-- on the second page, whose only row this is
+second_page : pressed (key.Press 1 5) (at 24 3 1 1) ≡ (wish.Nothing, anchored 24 5 (at 24 5 1 1))
+second_page = refl
+
+below_the_grid : pressed (key.Press 9 5) (at 24 3 1 1)
+    ≡ (wish.Nothing, anchored 24 5 (at 24 5 1 1))
+below_the_grid = refl
+
+-- rows 3 to 5 and columns 8 to 15 are shown
+page_amid : given (key.Press 3 7) (around 9 20 4 8) (at 3 8 1 1)
+    ≡ (wish.Nothing, anchored 5 15 (at 5 15 1 1))
+page_amid = refl
+
+drag_up : pressed (key.Drag 2 14) (anchored 5 10 (at 5 10 1 1))
+    ≡ (wish.Nothing, anchored 5 10 (at 2 10 4 5))
+drag_up = refl
+
+drag_beyond : pressed (key.Drag 99 79) (anchored 5 10 (at 5 10 1 1))
+    ≡ (wish.Nothing, anchored 5 10 (at 5 10 18 47))
+drag_beyond = refl
+
+-- a drag back from the last place of the one before
+drag_back : pressed (key.Drag 5 10) (anchored 5 10 (at 2 10 4 5))
+    ≡ (wish.Nothing, anchored 5 10 (at 5 10 1 1))
+drag_back = refl
+
+-- the anchor lies outside a grid that is smaller now, and stays
+anchor_outside : given (key.Drag 0 0) (around 10 20 24 80) (anchored 24 50 (at 3 3 1 1))
+    ≡ (wish.Nothing, anchored 24 50 (at 0 0 10 20))
+anchor_outside = refl
+
+over_two_pages : given (key.Drag 0 0) (around 9 20 4 8) (anchored 1 1 (at 7 17 1 1))
+    ≡ (wish.Nothing, anchored 1 1 (at 1 1 6 16))
+over_two_pages = refl
+
+-- before any click a drag reaches from the first place
+drag_first : pressed (key.Drag 1 2) (at 4 4 1 1) ≡ (wish.Nothing, at 0 0 2 3)
+drag_first = refl
+
+-- arrows, the wheel, All and Escape leave the anchor
+arrow_between : pressed (key.Arrow Move Down 1) (anchored 5 10 (at 2 10 4 5))
+    ≡ (wish.Nothing, anchored 5 10 (at 3 10 4 5))
+arrow_between = refl
+
+wheel_at_the_edge : pressed (key.Arrow Move Up 8) (anchored 5 10 (at 2 10 4 5))
+    ≡ (wish.Nothing, anchored 5 10 (at 0 10 4 5))
+wheel_at_the_edge = refl
+
+all_between : pressed key.All (anchored 5 10 (at 2 10 4 5))
+    ≡ (wish.Nothing, anchored 5 10 (at 0 0 25 57))
+all_between = refl
+
+escape_between : pressed key.Escape (anchored 5 10 (at 2 10 4 5))
+    ≡ (wish.Nothing, anchored 5 10 (at 2 10 1 1))
+escape_between = refl

@@ -2,15 +2,19 @@
 use Rattle.std.specs.Prelude.{⊤, ◌≡◌, ℕ, false, true, List, [], ◌∷◌, ◌++◌, map, codes, refl}
 use Rattle.orca_base.specs.Ascii.{escape}
 use Rattle.orca_term.specs.Codes.{introducer}
-use Rattle.orca_term.specs.Keys.{Item, Byte, Due, key_of, key_of_numbers, key_of_sequence, keys_from, numbers_from, plain_key, plain_sequence, turn}
+use Rattle.orca_term.specs.Keys.{Item, Byte, Due, key_of, key_of_numbers, key_of_sequence, keys_from, mouse_sequence, numbers_from, plain_key, plain_sequence, turn}
 use Rattle.orca_term.specs.declared.keys.Deed.TheVariants.{Move, Stretch, Slide, Grow}
 use Rattle.orca_term.specs.declared.keys.Key.{Key}
 use Rattle.orca_term.specs.declared.keys.Key.TheVariants as key
 use Rattle.orca_term.specs.declared.keys.Pending.TheVariants.{Nothing}
 use Rattle.orca_term.specs.declared.keys.Side.TheVariants.{Up, Down, Left, Right}
 
+unfoldable sequences : ⊤
+unfolding key_of_sequence plain_sequence key_of_numbers numbers_from mouse_sequence
+sequences = tt
+
 unfoldable worked : ⊤
-unfolding keys_from turn key_of plain_key key_of_sequence plain_sequence key_of_numbers numbers_from
+unfolding keys_from turn key_of plain_key sequences
 worked = tt
 
 -- the keys of items, from nothing on
@@ -122,7 +126,55 @@ one_number_and_a_letter : NoKey (sequence (codes "1A"))
 unfolding worked
 one_number_and_a_letter = refl
 
--- what stands around a pasted text
+-- ---- the mouse
+
+click : FullAlone (sequence (codes "<0;5;3M")) (key.Press 2 4)
+unfolding worked
+click = refl
+
+click_with_zeros : FullAlone (sequence (codes "<000;005;003M")) (key.Press 2 4)
+unfolding worked
+click_with_zeros = refl
+
+motion : FullAlone (sequence (codes "<32;999;999M")) (key.Drag 998 998)
+unfolding worked
+motion = refl
+
+wheel_up : FullAlone (sequence (codes "<64;9;9M")) (key.Arrow Move Up 8)
+unfolding worked
+wheel_up = refl
+
+wheel_down : FullAlone (sequence (codes "<65;9;9M")) (key.Arrow Move Down 8)
+unfolding worked
+wheel_down = refl
+
+release : NoKey (sequence (codes "<0;5;3m"))
+unfolding worked
+release = refl
+
+-- the third button, the first one with Shift, and a motion without a button
+other_buttons : NoKey (sequence (codes "<2;5;3M") ++ sequence (codes "<4;5;3M")
+    ++ sequence (codes "<35;5;3M"))
+unfolding worked
+other_buttons = refl
+
+-- rows and columns are counted from 1
+no_such_column : NoKey (sequence (codes "<0;0;3M"))
+unfolding worked
+no_such_column = refl
+
+no_such_row : NoKey (sequence (codes "<64;5;0M"))
+unfolding worked
+no_such_row = refl
+
+other_forms : NoKey (sequence (codes "<M") ++ sequence (codes "<0;1M")
+    ++ sequence (codes "<0;1;1;1M") ++ sequence (codes "0;1;1M") ++ sequence (codes "<0;1000;1M"))
+unfolding worked
+other_forms = refl
+
+-- ---- texts that are pasted
+
+-- what stands around one
 no_paste : NoKey (sequence (codes "200~") ++ sequence (codes "201~"))
 unfolding worked
 no_paste = refl

@@ -18,6 +18,7 @@ editor append guide = record {
   paused = false;
   append = append;
   guide = guide;
+  anchor = record { y = 3; x = 3 };
 }
 
 abbrev line : ℕ → StatusLine

@@ -18,6 +18,13 @@ hash = 35
 abbrev pub plus : ℕ
 plus = 43
 
+-- `<`, which begins a report of the mouse, and `M`, which ends it
+abbrev pub less : ℕ
+less = 60
+
+abbrev pub capital_m : ℕ
+capital_m = 77
+
 -- `H`, the end of a cursor position
 abbrev pub letter_h : ℕ
 letter_h = 72

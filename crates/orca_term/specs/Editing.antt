@@ -1,11 +1,13 @@
 -- The editor: a cursor, and a selection that reaches from it downwards and to the right.
-use Rattle.std.specs.Prelude.{ℕ, ◌+◌, ◌-◌, Bool, false, not, ◌&&◌, ◌==◌, max, min, if◌then◌else◌, Some, None}
+use Rattle.std.specs.Prelude.{ℕ, ◌+◌, ◌-◌, ◌*◌, ◌/◌, Bool, false, not, ◌&&◌, ◌==◌, max, min, if◌then◌else◌, Some, None}
 use Rattle.orca_base.specs.declared.area.Area.{Area}
 use Rattle.orca_base.specs.declared.area.Rect.{Rect}
 use Rattle.orca_base.specs.declared.command.Command.TheVariants as command
 use Rattle.orca_base.specs.declared.limits.TheConstants.{BACK_MOMENTS}
+use Rattle.orca_base.specs.declared.place.Place.{Place}
 use Rattle.orca_base.specs.Grids.{Size}
 use Rattle.orca_term.specs.declared.around.Around.{Around}
+use Rattle.orca_term.specs.declared.cell.ScreenSize.{ScreenSize}
 use Rattle.orca_term.specs.declared.editor.Wish.{Wish}
 use Rattle.orca_term.specs.declared.editor.Wish.TheVariants as wish
 use Rattle.orca_term.specs.declared.editor.Editor.{Editor}
@@ -25,6 +27,7 @@ new_editor full = record {
   paused = false;
   append = false;
   guide = full;
+  anchor = record { y = 0; x = 0 };
 }
 
 -- the selection
@@ -76,6 +79,40 @@ typed d e = if e.append then moved d e (stepped Right 1 (e.y, e.x)) else e
 abbrev pub rubbed : Editor → Editor
 rubbed e = if e.append && e.h == 1 && e.w == 1 then with_cursor e e.y (e.x - 1) else e
 
+-- ---- the window and the mouse
+
+-- the start of the page of so many that a number lies on
+abbrev pub page_of : ℕ → ℕ → ℕ
+page_of side n = n / side * side
+
+-- the place that a cell of the window shows: the window is the page of the grid on which the cursor
+-- lies
+abbrev pub window_place : ScreenSize → Editor → ℕ → ℕ → Place
+window_place d e y x = record { y = page_of (d.rows - 1) e.y + y; x = page_of d.columns e.x + x }
+
+-- the nearest place of a grid
+abbrev pub place_inside : Size → Place → Place
+place_inside d at = record { y = min at.y (d.h - 1); x = min at.x (d.w - 1) }
+
+-- the place of a cell of the screen, or the nearest one that the window shows
+abbrev pub pointed : Around → Editor → ℕ → ℕ → Place
+pointed a e row column =
+    place_inside a.dims (window_place a.screen e (min row (a.screen.rows - 2))
+    (min column (a.screen.columns - 1)))
+
+-- a click
+abbrev pub pressed : Place → Editor → Editor
+pressed at e = record e { y = at.y; x = at.x; h = 1; w = 1; anchor = at }
+
+-- the selection from one place to another
+abbrev pub spanned : Place → Place → Editor → Editor
+spanned from to e =
+    let y = min from.y to.y in
+    let x = min from.x to.x in
+    record e { y = y; x = x; h = max from.y to.y - y + 1; w = max from.x to.x - x + 1 }
+
+-- ---- keys
+
 -- what a key makes of the editor
 abbrev pub editor_after : Key → Around → Editor → Editor
 editor_after (key.Arrow Move side by) a e = moved a.dims e (stepped side by (e.y, e.x))
@@ -90,6 +127,9 @@ editor_after key.Escape a e = record e { h = 1; w = 1; append = false }
 editor_after key.Append a e = record e { append = not e.append }
 editor_after key.Guide a e = record e { guide = not e.guide }
 editor_after key.Pause a e = record e { paused = not e.paused }
+editor_after (key.Press row column) a e = pressed (pointed a e row column) e
+editor_after (key.Drag row column) a e =
+    spanned (place_inside a.dims e.anchor) (pointed a e row column) e
 editor_after _ a e = e
 
 -- what a key asks for

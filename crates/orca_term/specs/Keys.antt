@@ -6,7 +6,7 @@ use Rattle.std.specs.Option.{option_or, option_to_list}
 use Rattle.orca_base.specs.Ascii.{escape}
 use Rattle.orca_base.specs.Glyphs.{is_glyph}
 use Rattle.orca_base.specs.declared.limits.TheConstants.{MAX_COLUMNS, SEQUENCE_BYTES}
-use Rattle.orca_term.specs.Codes.{bracket, semicolon, tilde, letter_t}
+use Rattle.orca_term.specs.Codes.{bracket, semicolon, tilde, letter_t, less, capital_m}
 use Rattle.orca_term.specs.Forms.{no_digits, more, continues}
 use Rattle.orca_term.specs.declared.forms.Number.{Number}
 use Rattle.orca_term.specs.declared.keys.Deed.{Deed}
@@ -149,12 +149,40 @@ key_of_numbers (n ∷ rows ∷ columns ∷ []) last =
     if n == 8 && last == letter_t then Some (key.Screen rows columns) else None
 key_of_numbers _ last = None
 
+-- the sides to which the wheel of a mouse turns
+abbrev pub wheel : List (ℕ × Side)
+wheel = (64, Up) ∷ (65, Down) ∷ []
+
+-- the key of a button, of a motion with the first one held, and of the wheel
+abbrev pub button_key : ℕ → ℕ → ℕ → Option Key
+button_key b row column =
+    if b == 0 then Some (key.Press row column)
+    else (if b == 32 then Some (key.Drag row column) else arrow_in wheel b 1 RULER_PLACES)
+
+-- the key of a report of the mouse: the button, and the column and the row counted from 1
+abbrev pub mouse_key : List ℕ → Option Key
+mouse_key (b ∷ x ∷ y ∷ []) =
+    if nat_le 1 x && nat_le 1 y then button_key b (y - 1) (x - 1) else None
+mouse_key _ = None
+
+-- its numbers stand after `<`, and `M` ends it
+unfoldable pub mouse_sequence : List ℕ → ℕ → Option Key
+mouse_sequence (first ∷ bytes) last =
+    if first == less && last == capital_m then option_and_then mouse_key (numbers_in bytes)
+    else None
+mouse_sequence [] last = None
+
+-- the key of a sequence that full keys add
+abbrev pub further_sequence : List ℕ → ℕ → Option Key
+further_sequence bytes last =
+    option_or (option_and_then (λ numbers. key_of_numbers numbers last) (numbers_in bytes))
+    (mouse_sequence bytes last)
+
 -- the key of a sequence
 unfoldable pub key_of_sequence : Bool → List ℕ → ℕ → Option Key
 key_of_sequence full bytes last =
     option_or (plain_sequence bytes last)
-    (if full then option_and_then (λ numbers. key_of_numbers numbers last) (numbers_in bytes)
-    else None)
+    (if full then further_sequence bytes last else None)
 
 -- the key of what is pending where it ends in such a byte: a sequence with too many bytes has none
 abbrev pub key_at_end : Bool → Pending → ℕ → Option Key

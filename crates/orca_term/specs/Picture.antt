@@ -1,6 +1,6 @@
 -- The picture: of each cell of the screen its byte and its style. The last row is the status line,
 -- and the others are a window on the grid. Styles are those of ECMA-48, select graphic rendition.
-use Rattle.std.specs.Prelude.{ℕ, ◌+◌, ◌-◌, ◌*◌, ◌/◌, ◌%◌, ◌≤◌, ◌==◌, Bool, true, false, ◌&&◌, ◌||◌, if◌then◌else◌, Option, Some, None, List, [], ◌++◌, map, codes, max, min, slice_index_or}
+use Rattle.std.specs.Prelude.{ℕ, ◌+◌, ◌*◌, ◌/◌, ◌%◌, ◌≤◌, ◌==◌, Bool, true, false, ◌&&◌, ◌||◌, if◌then◌else◌, Option, Some, None, List, [], ◌++◌, map, codes, max, min, slice_index_or}
 use Rattle.std.specs.Fmt.{decimal}
 use Rattle.std.specs.List.{range_with_len}
 use Rattle.orca_base.specs.Ascii.{space}
@@ -12,7 +12,7 @@ use Rattle.orca_base.specs.declared.command.Rule.{Rule}
 use Rattle.orca_base.specs.declared.limits.TheConstants.{BEAT_FRAMES, MIN_SCREEN_ROWS, MAX_SCREEN_ROWS, MIN_SCREEN_COLUMNS, MAX_SCREEN_COLUMNS}
 use Rattle.orca_base.specs.declared.place.Place.{Place}
 use Rattle.orca_term.specs.Codes.{hash, plus}
-use Rattle.orca_term.specs.Editing.{area_of}
+use Rattle.orca_term.specs.Editing.{area_of, window_place}
 use Rattle.orca_term.specs.Words.{glyph_words}
 use Rattle.orca_base.specs.RuleNames.{rule_name}
 use Rattle.orca_term.specs.declared.cell.Cell.{Cell}
@@ -135,15 +135,6 @@ unfoldable pub grid_cell : Scene → Place → Cell
 grid_cell scene at =
     if is_inside scene.sheet.dims at
     then record { byte = byte_at scene at; style = style_at scene at } else blank
-
--- the start of the page of so many that a number lies on
-abbrev pub page_of : ℕ → ℕ → ℕ
-page_of side n = n / side * side
-
--- the place that a cell of the window shows: the window is the page of the grid on which the cursor
--- lies
-abbrev pub window_place : ScreenSize → Editor → ℕ → ℕ → Place
-window_place d e y x = record { y = page_of (d.rows - 1) e.y + y; x = page_of d.columns e.x + x }
 
 -- whether the performance goes on
 abbrev pub state_word : Bool → List ℕ

@@ -7,7 +7,7 @@ ghost use Rattle.orca_term.specs.Editing.{area_of, rect_of, new_editor, cut_to_g
 
 use crate::{Around, Deed, Key, ScreenSize, Side};
 use orca_base::limits::BACK_MOMENTS;
-use orca_base::{Command, Dims, Rect};
+use orca_base::{Command, Dims, Place, Rect};
 use std::ops::Range;
 
 /// A cursor, a selection that reaches from it downwards and to the right, and what the user has switched on.
@@ -25,8 +25,11 @@ pub struct Editor {
     pub paused: bool,
     /// Whether the cursor goes on after a glyph that is typed.
     pub append: bool,
-    /// Whether the picture shows the guide: the tempo, the beat and the ruler.
+    /// Whether the picture shows the guide: the tempo, the beat, the operator at the cursor in words, the
+    /// ruler and the colours.
     pub guide: bool,
+    /// The place on which the mouse was pressed last, from which a drag selects.
+    pub anchor: Place,
 }
 
 /// What a key asks for, beside what it makes of the editor.
@@ -63,6 +66,7 @@ impl Editor {
             paused: false,
             append: false,
             guide: false,
+            anchor: Place { y: 0, x: 0 },
         }
     }
 
@@ -208,6 +212,8 @@ impl Editor {
             Key::Append => self.append = !self.append,
             Key::Guide => self.guide = !self.guide,
             Key::Pause => self.paused = !self.paused,
+            Key::Press { row, column } => self.press(around, row, column),
+            Key::Drag { row, column } => self.drag(around, row, column),
             _ => {}
         }
     }

@@ -46,8 +46,8 @@ pub enum Side {
 pub enum Key {
     /// A glyph.
     Glyph(Glyph),
-    /// An arrow, by itself or with Shift, Alt and Control; and Home, End, PageUp and PageDown, which are
-    /// arrows that reach further.
+    /// An arrow, by itself or with Shift, Alt and Control; and Home, End, PageUp, PageDown and the wheel of
+    /// the mouse, which are arrows that reach further.
     Arrow {
         /// What it does.
         deed: Deed,
@@ -98,6 +98,20 @@ pub enum Key {
     Slower(u16),
     /// So many beats a minute more.
     Faster(u16),
+    /// The first button of the mouse is pressed on a cell of the screen.
+    Press {
+        /// The row, counted from 0.
+        row: u16,
+        /// The column, counted from 0.
+        column: u16,
+    },
+    /// The mouse is moved to a cell of the screen while its first button is held.
+    Drag {
+        /// The row, counted from 0.
+        row: u16,
+        /// The column, counted from 0.
+        column: u16,
+    },
     /// The terminal tells its size.
     Screen {
         /// The number of its rows.

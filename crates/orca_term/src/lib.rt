@@ -8,15 +8,18 @@ mod editor;
 mod forms;
 mod keys;
 mod limits;
+mod mouse;
 mod names;
 mod numbers;
 mod pacer;
 mod painting;
 mod picture;
+mod pointer;
 mod screen;
 mod status;
 mod tables;
 mod view;
+mod window;
 
 pub use around::Around;
 pub use cell::{Cell, ScreenSize};

@@ -9,10 +9,11 @@ ghost use Rattle.orca_base.specs.Grids.{IsInside, glyph_at};
 ghost use Rattle.orca_base.specs.MarkSet.{no_marks};
 ghost use Rattle.orca_term.specs.Codes.{plus};
 ghost use Rattle.orca_term.specs.Editing.{area_of};
-ghost use Rattle.orca_term.specs.Picture.{IsPrintable, IsPrintableByte, IsScreen, bold, bright_red, colour_of, faint, plain, screen_cells, scene_of, style_at, style_by, blank, grid_cell, glyph_under, page_of, status_cell, picture};
+ghost use Rattle.orca_term.specs.Picture.{IsPrintable, IsPrintableByte, IsScreen, bold, bright_red, colour_of, faint, plain, screen_cells, scene_of, style_at, style_by, blank, grid_cell, glyph_under, status_cell, picture};
 
 use crate::limits::RULER_PLACES;
 use crate::status::status_text;
+use crate::window::page_of;
 use crate::{Cell, Editor, ScreenSize, StatusLine};
 use orca_base::{Glyph, Look, Mark, Marks, Place};
 
@@ -266,15 +267,6 @@ fn push_status_row(cells: &mut Vec<Cell>, columns: u32, text: &[u8])
     for x in 0..columns {
         cells.push_reserved(status_cell(text, x));
     }
-}
-
-/// The start of the page that a number lies on.
-fn page_of(side: u32, n: u32) -> u32
-    requires { 1 ≤ side }
-    ensures page { result ≡ page_of side n }
-    ensures before { result ≤ n }
-{
-    n / side * side
 }
 
 /// The cell of a column of the status line.

@@ -2,9 +2,10 @@
 
 ghost use Rattle.std.specs.Prelude.{◌≡◌, ◌≤◌, [], ◌∷◌, length};
 ghost use Rattle.std.specs.Option.{option_and_then};
-ghost use Rattle.orca_term.specs.Keys.{key_of, plain_key, further_keys, found_in, key_of_sequence, plain_sequence, arrow_keys, shifted_keys, sides, edges, numbered_edges, pages, deed_of, arrow_key, ended_key, paged_key, numbers_in, numbered_keys, key_of_numbers};
+ghost use Rattle.orca_term.specs.Keys.{key_of, plain_key, further_keys, found_in, key_of_sequence, plain_sequence, arrow_keys, shifted_keys, sides, edges, numbered_edges, pages, deed_of, arrow_key, ended_key, paged_key, numbers_in, numbered_keys, key_of_numbers, further_sequence};
 
 use crate::limits::{FAR_BEATS, RULER_PLACES};
+use crate::mouse::mouse_sequence;
 use crate::numbers::numbers_in;
 use crate::{Deed, Key, Side};
 use orca_base::Glyph;
@@ -109,8 +110,16 @@ fn shifted_arrow(last: u8) -> Option<Key>
     })
 }
 
-/// The key of a sequence that full keys add, by its numbers.
+/// The key of a sequence that full keys add.
 fn further_sequence(bytes: &[u8], last: u8) -> Option<Key>
+    requires { length bytes.now ≤ SEQUENCE_BYTES }
+    ensures { result ≡ further_sequence bytes.now last }
+{
+    numbered_sequence(bytes, last).or(mouse_sequence(bytes, last))
+}
+
+/// The key of a sequence by its numbers.
+fn numbered_sequence(bytes: &[u8], last: u8) -> Option<Key>
     requires { length bytes.now ≤ SEQUENCE_BYTES }
     ensures { result ≡ option_and_then (λ numbers. key_of_numbers numbers last)
         (numbers_in bytes.now) }
@@ -201,7 +210,7 @@ fn paged_key(n: u16, m: u16) -> Option<Key>
 }
 
 /// An arrow to a side, if any, with modifiers: one more than the sum of Shift (1), Alt (2) and Control (4).
-fn arrow_key(m: u16, by: u16, side: Option<Side>) -> Option<Key>
+pub(crate) fn arrow_key(m: u16, by: u16, side: Option<Side>) -> Option<Key>
     ensures { result ≡ option_and_then (arrow_key m by) side }
 {
     let Some(side) = side else {

@@ -1,6 +1,7 @@
 use Rattle.std.proofs.Common.{◌≡◌, ℕ, ◌+◌, ◌-◌, ◌*◌, ◌∙◌, ap, length, arith}
 use Rattle.std.proofs.lemmas.List.FromFn.{length-map-range_with_len}
-use Rattle.orca_term.specs.Picture.{scene_of, page_of, cell_at, glyph_under, picture, screen_cells, status_text}
+use Rattle.orca_term.specs.Editing.{page_of}
+use Rattle.orca_term.specs.Picture.{scene_of, cell_at, glyph_under, picture, screen_cells, status_text}
 use Rattle.orca_term.proofs.DrawnRows.{grid_row_more, status_row_more, rows_before}
 use Rattle.orca_term.proofs.picture.draw.Given.{Over}
 use Rattle.orca_term.proofs.picture.draw.Goals as goal
