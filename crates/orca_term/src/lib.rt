@@ -17,6 +17,7 @@ mod picture;
 mod pointer;
 mod screen;
 mod status;
+mod styles;
 mod tables;
 mod view;
 mod window;

@@ -4,42 +4,19 @@ ghost use Rattle.std.specs.Prelude.{◌≡◌, ◌≢◌, ◌==◌, ◌+◌, ◌
 ghost use Rattle.std.specs.List.{range_with_len};
 ghost use Rattle.std.specs.Vec.{vec_capacity};
 ghost use Rattle.orca_base.specs.Edits.{is_in_area};
-ghost use Rattle.orca_base.specs.Glyphs.{bang, empty};
+ghost use Rattle.orca_base.specs.Glyphs.{empty};
 ghost use Rattle.orca_base.specs.Grids.{IsInside, glyph_at};
 ghost use Rattle.orca_base.specs.MarkSet.{no_marks};
 ghost use Rattle.orca_term.specs.Codes.{plus};
 ghost use Rattle.orca_term.specs.Editing.{area_of};
-ghost use Rattle.orca_term.specs.Picture.{IsPrintable, IsPrintableByte, IsScreen, bold, bright_red, colour_of, faint, plain, screen_cells, scene_of, style_at, style_by, blank, grid_cell, glyph_under, status_cell, picture};
+ghost use Rattle.orca_term.specs.Picture.{IsPrintable, IsPrintableByte, IsScreen, faint, screen_cells, scene_of, style_at, style_by, blank, grid_cell, glyph_under, status_cell, picture};
 
 use crate::limits::RULER_PLACES;
 use crate::status::status_text;
+use crate::styles::{FAINT, PLAIN, style_in_colours, style_of};
 use crate::window::page_of;
 use crate::{Cell, Editor, ScreenSize, StatusLine};
-use orca_base::{Glyph, Look, Mark, Marks, Place};
-
-/// No style.
-const PLAIN: u8 = 0;
-
-/// Bold.
-const BOLD: u8 = 1;
-
-/// Faint.
-const FAINT: u8 = 2;
-
-/// Underlined.
-const UNDERLINED: u8 = 4;
-
-/// With the colours of letter and ground exchanged.
-const REVERSED: u8 = 7;
-
-/// Magenta.
-const MAGENTA: u8 = 35;
-
-/// Bright red.
-const BRIGHT_RED: u8 = 91;
-
-/// Bright blue.
-const BRIGHT_BLUE: u8 = 94;
+use orca_base::{Glyph, Look, Place};
 
 /// A space without a style.
 pub(crate) const BLANK: Cell = Cell {
@@ -300,7 +277,6 @@ fn place_cell<T: Look>(look: &T, selected: bool, at: Place) -> Cell
 }
 
 /// The same in colours.
-#[tactic(auto, using(crate::proofs::Colours::coloured_style))]
 fn coloured_cell<T: Look>(look: &T, selected: bool, at: Place) -> Cell
     requires inside { IsInside (T.sheet look.now).dims at }
     ensures cell { (editor : Editor) → is_in_area (area_of editor) at ≡ selected
@@ -312,10 +288,9 @@ fn coloured_cell<T: Look>(look: &T, selected: bool, at: Place) -> Cell
     ensures printable { IsPrintable result }
 {
     let glyph = look.glyph_at(at);
-    let style = style_of(selected, look.marks_at(at), glyph);
     Cell {
         byte: glyph.byte(),
-        style: coloured(style, glyph),
+        style: style_in_colours(selected, look.marks_at(at), glyph),
     }
 }
 
@@ -332,63 +307,4 @@ fn ruled(cell: Cell, x: u16) -> Cell
         return Cell { byte: b'+', ..cell };
     }
     cell
-}
-
-/// The style of a place without colours.
-fn style_of(selected: bool, marks: Marks, glyph: Glyph) -> u8
-    ensures { result ≡ style_by false selected marks glyph }
-{
-    if selected {
-        REVERSED
-    } else if marks.is_empty() {
-        // Most places have no mark, and one test is enough for them.
-        style_of_glyph(glyph)
-    } else if marks.has(Mark::Output) {
-        BOLD
-    } else if marks.has(Mark::Input) {
-        UNDERLINED
-    } else if marks.has(Mark::Lock) || marks.has(Mark::Sleep) {
-        FAINT
-    } else {
-        style_of_glyph(glyph)
-    }
-}
-
-/// The style of a glyph where neither the selection nor a mark gives one.
-fn style_of_glyph(glyph: Glyph) -> u8
-    ensures { result ≡ style_by false false no_marks glyph }
-{
-    if glyph == Glyph::EMPTY { FAINT } else { PLAIN }
-}
-
-/// A style with the colour that the glyph gives it: outputs and what nothing marks have one.
-fn coloured(style: u8, glyph: Glyph) -> u8
-    ensures { result ≡ (if style == plain then colour_of glyph
-        else (if style == bold && glyph == bang then bright_red else style)) }
-{
-    if style == PLAIN {
-        colour_of(glyph)
-    } else if style == BOLD && glyph == Glyph::BANG {
-        BRIGHT_RED
-    } else {
-        style
-    }
-}
-
-/// The style of a glyph that nothing marks.
-fn colour_of(glyph: Glyph) -> u8
-    ensures { result ≡ colour_of glyph }
-{
-    let byte = glyph.byte();
-    if glyph == Glyph::BANG {
-        BRIGHT_RED
-    } else if byte == b'#' {
-        FAINT
-    } else if byte.is_ascii_uppercase() {
-        BRIGHT_BLUE
-    } else if glyph.is_operator() {
-        MAGENTA
-    } else {
-        PLAIN
-    }
 }

@@ -1,0 +1,100 @@
+//! The styles of the picture. They are those of ECMA-48, select graphic rendition.
+
+ghost use Rattle.std.specs.Prelude.{◌≡◌, false, true};
+ghost use Rattle.orca_base.specs.MarkSet.{no_marks};
+ghost use Rattle.orca_term.specs.Picture.{style_by};
+
+use orca_base::{Glyph, Mark, Marks};
+
+/// No style.
+pub(crate) const PLAIN: u8 = 0;
+
+/// Bold.
+const BOLD: u8 = 1;
+
+/// Faint.
+pub(crate) const FAINT: u8 = 2;
+
+/// Underlined.
+const UNDERLINED: u8 = 4;
+
+/// With the colours of letter and ground exchanged.
+const REVERSED: u8 = 7;
+
+/// Bright red.
+const BRIGHT_RED: u8 = 91;
+
+/// The style of each byte below 128 as a glyph that nothing marks.
+static COLOURS: [u8; 128] = [
+    0, 0, 0, 0, 0, 0, 0, 0, 0, 0, 0, 0, 0, 0, 0, 0, 0, 0, 0, 0, 0, 0, 0, 0, 0, 0, 0, 0, 0, 0, 0, 0,
+    0, 35, 0, 2, 0, 35, 0, 0, 0, 0, 91, 0, 0, 0, 2, 0, 0, 0, 0, 0, 0, 0, 0, 0, 0, 0, 35, 35, 0, 35,
+    0, 35, 0, 94, 94, 94, 94, 94, 94, 94, 94, 94, 94, 94, 94, 94, 94, 94, 94, 94, 94, 94, 94, 94,
+    94, 94, 94, 94, 94, 0, 0, 0, 0, 0, 0, 35, 35, 35, 35, 35, 35, 35, 35, 35, 35, 35, 35, 35, 35,
+    35, 35, 35, 35, 35, 35, 35, 35, 35, 35, 35, 35, 0, 0, 0, 0, 0,
+];
+
+/// The style of a place without colours.
+pub(crate) fn style_of(selected: bool, marks: Marks, glyph: Glyph) -> u8
+    ensures { result ≡ style_by false selected marks glyph }
+{
+    if selected {
+        REVERSED
+    } else if marks.is_empty() {
+        // Most places have no mark, and one test is enough for them.
+        style_of_glyph(glyph)
+    } else if marks.has(Mark::Output) {
+        BOLD
+    } else if marks.has(Mark::Input) {
+        UNDERLINED
+    } else if marks.has(Mark::Lock) || marks.has(Mark::Sleep) {
+        FAINT
+    } else {
+        style_of_glyph(glyph)
+    }
+}
+
+/// The style of a glyph where neither the selection nor a mark gives one.
+fn style_of_glyph(glyph: Glyph) -> u8
+    ensures { result ≡ style_by false false no_marks glyph }
+{
+    if glyph == Glyph::EMPTY { FAINT } else { PLAIN }
+}
+
+/// The style of a place in colours.
+pub(crate) fn style_in_colours(selected: bool, marks: Marks, glyph: Glyph) -> u8
+    ensures { result ≡ style_by true selected marks glyph }
+{
+    if selected {
+        REVERSED
+    } else if marks.is_empty() {
+        // Most places have no mark, and one test is enough for them.
+        colour_of(glyph)
+    } else if marks.has(Mark::Output) {
+        output_colour(glyph)
+    } else if marks.has(Mark::Input) {
+        UNDERLINED
+    } else if marks.has(Mark::Lock) || marks.has(Mark::Sleep) {
+        FAINT
+    } else {
+        colour_of(glyph)
+    }
+}
+
+/// The style of a glyph in colours where neither the selection nor a mark gives one.
+#[tactic(auto, using(crate::proofs::Colours::colour_table))]
+fn colour_of(glyph: Glyph) -> u8
+    ensures { result ≡ style_by true false no_marks glyph }
+{
+    COLOURS[usize::from(glyph.byte())]
+}
+
+/// The style of an output in colours.
+fn output_colour(glyph: Glyph) -> u8
+    ensures { result ≡ style_by true false (record no_marks { output = true }) glyph }
+{
+    if glyph == Glyph::BANG {
+        BRIGHT_RED
+    } else {
+        BOLD
+    }
+}
