@@ -1,5 +1,4 @@
 -- More answers only add acts.
-use Rattle.std.proofs.Common.{List}
 use Rattle.orca_course.proofs.PerformanceLemmas.{begun_adds}
 use Rattle.orca_live.specs.Laws.{OnlyAppends}
 use Rattle.orca_live.specs.Performing.{live_part}

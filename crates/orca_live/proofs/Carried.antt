@@ -3,7 +3,7 @@ use Rattle.std.proofs.Common.{List, [], ◌∷◌, ℕ, sym, subst}
 use Rattle.std.specs.Prelude.{Option, Some, None}
 use Rattle.orca_course.specs.Acts.{Act}
 use Rattle.orca_course.specs.Acts.Act.{Await}
-use Rattle.orca_course.specs.Courses.{Course, each, lastly, lastly_by, mapped, onward}
+use Rattle.orca_course.specs.Courses.{Course, lastly, lastly_by, mapped, onward}
 use Rattle.orca_course.specs.Performers.{attended, begun, finished, heard, opened, performance, polled}
 use Rattle.orca_course.specs.declared.ending.Ending.{Ending}
 use Rattle.orca_course.proofs.CourseLemmas.{each-holds}

@@ -1,6 +1,6 @@
 -- How bytes are cut into answers changes no command: polls give the commands of their items.
-use Rattle.std.proofs.Common.{◌≡◌, ◌==◌, ℕ, arith, Bool, true, false, List, [], ◌∷◌, ◌++◌, refl, sym, ◌∙◌, ap, append_assoc, append-nil}
-use Rattle.std.specs.Prelude.{max, min, if◌then◌else◌, map, Option, Some, None}
+use Rattle.std.proofs.Common.{◌≡◌, ◌==◌, ℕ, Bool, true, false, List, [], ◌∷◌, ◌++◌, refl, sym, ◌∙◌, ap, append_assoc, append-nil}
+use Rattle.std.specs.Prelude.{if◌then◌else◌, map, Option, Some, None}
 use Rattle.std.specs.Option.{is_some, option_map, option_map_or}
 use Rattle.orca_base.specs.declared.command.Command.{Command}
 use Rattle.orca_base.specs.declared.command.Command.TheVariants.{Frame}
@@ -9,7 +9,7 @@ use Rattle.orca_base.specs.declared.command.Entry.TheVariants as entry
 use Rattle.orca_base.specs.declared.command.Rule.{Rule}
 use Rattle.orca_concert.specs.Concerts.{command_course as obey_course}
 use Rattle.orca_course.specs.Acts.{Act, commands_in}
-use Rattle.orca_course.specs.Courses.{Course, each, ended, joined, lastly, lastly_by, mapped, onward, onward_by, still}
+use Rattle.orca_course.specs.Courses.{Course, each, ended, lastly, lastly_by, mapped, onward, onward_by, still}
 use Rattle.orca_course.specs.Performers.{attended, begun, finished, heard, opened, performance, polled}
 use Rattle.orca_course.specs.Standings.{standing_closed}
 use Rattle.orca_course.specs.declared.ending.Ending.{Ending}
@@ -18,7 +18,6 @@ use Rattle.orca_course.specs.declared.ending.Stop.{Stop}
 use Rattle.orca_course.specs.declared.ending.Stop.TheVariants.{Full}
 use Rattle.orca_course.proofs.ActLemmas.{commands_in-append}
 use Rattle.orca_course.proofs.PerformanceLemmas.{attended_done}
-use Rattle.orca_edit.specs.Machines.{preview_of}
 use Rattle.orca_edit.specs.Obeying.{MachineState, accept, entry_of, obey, piece_of, refuse, rule_against}
 use Rattle.orca_edit.specs.Pieces.{Piece, apply, fold_entries, next_frame, opened_piece, piece_after}
 use Rattle.orca_edit.proofs.FoldLemmas.{fold_entries-append, silence-piece_after}
@@ -36,7 +35,7 @@ use Rattle.orca_term.specs.declared.keys.Key.{Key}
 use Rattle.orca_live.specs.Items.{items_by, items_of}
 use Rattle.orca_live.specs.Laws.{ItemsDecide, PlayAlike}
 use Rattle.orca_live.specs.Performing.{answer_course, answered_at, byte_course, command_course, due_course, fired, frame_course, heard_course, item_course, key_course, live_part, open_course, press_course, save_course, struck_course, told_course, wish_course}
-use Rattle.orca_live.specs.States.{LiveState, dims_at, fitted, is_full, moments_at, piece_at}
+use Rattle.orca_live.specs.States.{LiveState, around_at, fitted, is_full}
 use Rattle.orca_live.proofs.GivenLemmas.{commands_before, core, core_fitted, finish_closes, min_twice, open_aside, plain, side_twice, told_aside}
 
 -- ---- what matters of a state, and of a course
@@ -123,8 +122,8 @@ unfolding press_course key_course struck_course
 press_steady None s = ap (quiet false) (sym (core_fitted s))
 press_steady (Some key) s =
     let t = fitted s in
-    wish_plain (wish_of key (dims_at t) (moments_at t) t.editor)
-    (record t { editor = editor_after key (dims_at t) t.editor })
+    wish_plain (wish_of key (around_at t) t.editor)
+    (record t { editor = editor_after key (around_at t) t.editor })
     ∙ ap (λ u. told (struck_course key u)) (sym (core_fitted s))
 
 item_steady : (item : Item) → Steady (item_course item)

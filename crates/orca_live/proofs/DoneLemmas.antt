@@ -12,7 +12,6 @@ use Rattle.orca_course.specs.Doing.{Does, goes_of}
 use Rattle.orca_course.specs.Worlds.{World, Called, owing, Calls, Made, Sated}
 use Rattle.orca_course.specs.declared.ending.Stop.{Stop}
 use Rattle.orca_course.specs.declared.refused.NoMemory.{NoMemory}
-use Rattle.orca_course.proofs.CourseLemmas.{still_onward}
 use Rattle.orca_course.proofs.DoingLemmas.{does_from, does_mapped, does_still, does_then, does_owing, does_acts, does_cut, does_joined, rests_mute, rests_none}
 use Rattle.orca_course.specs.Acts.Act.{Append, Save, Screen, Give, Show}
 use Rattle.orca_course.proofs.CallLemmas.{calls_one, does_calls}
@@ -33,7 +32,7 @@ use Rattle.orca_term.specs.declared.cell.Cell.{Cell}
 use Rattle.orca_term.specs.declared.cell.ScreenSize.{ScreenSize}
 use Rattle.orca_live.specs.Performing.{additions, close_course, command_course, keeping_command, lines_course, noted, of_session, item_course, key_course, press_course, struck_course, wish_course, paint_course, painted_course, picture_at, preview_course, redrawn, show_course, view_sends}
 use Rattle.orca_live.specs.Quiet.{silent_manner}
-use Rattle.orca_live.specs.States.{LiveState, live_stance, dims_at, fitted, moments_at, piece_at}
+use Rattle.orca_live.specs.States.{LiveState, live_stance, around_at, fitted, piece_at}
 
 -- a pace alone has changed
 pub does_paced : (s : LiveState) (p q : Pace) (x : World) → q ≡ p
@@ -95,8 +94,8 @@ close_did s t result did = session_did (silence_course silent_manner) s t result
 
 -- the editor has changed, and then what the key asks for was done
 pub struck_did : (key : Key) (s : LiveState) (w : Wish) (e : Editor) {t : LiveState} {x y : World}
-    {result : Result (Option Stop) NoMemory} → w ≡ wish_of key (dims_at s) (moments_at s) s.editor
-    → e ≡ editor_after key (dims_at s) s.editor
+    {result : Result (Option Stop) NoMemory} → w ≡ wish_of key (around_at s) s.editor
+    → e ≡ editor_after key (around_at s) s.editor
     → Does live_stance (wish_course w (record s { editor = e })) (record s { editor = e }) x result
     t y
     → Does live_stance (struck_course key s) s x result t y

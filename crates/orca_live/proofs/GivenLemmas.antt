@@ -49,11 +49,10 @@ paint_commands marks s = simp views_commands
 
 -- ---- what matters to the session
 
--- no moments, no pace, no screen, and no line that waits for the journal
+-- no moments, no pace, nothing that is shown, and no line that waits for the journal
 abbrev pub plain : LiveState → LiveState
 plain s = record s {
   pace = record { bpm = 0; parts = 0; due = 0 };
-  screen = record { rows = 0; columns = 0 };
   shown = None;
   unwritten = [];
   at = 0;

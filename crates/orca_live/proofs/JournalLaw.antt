@@ -1,5 +1,5 @@
 -- A performance keeps its journal.
-use Rattle.std.proofs.Common.{◌≡◌, ◌≢◌, ◌⊎◌, ℕ, arith, Bool, true, false, List, [], ◌∷◌, ◌++◌, refl, sym, ◌∙◌, ap, subst, append_assoc, append-nil}
+use Rattle.std.proofs.Common.{◌≡◌, ◌≢◌, ◌⊎◌, ℕ, arith, true, false, List, [], ◌∷◌, ◌++◌, refl, sym, ◌∙◌, ap, subst, append_assoc, append-nil}
 use Rattle.std.specs.Prelude.{if◌then◌else◌, IfSome, Option, Some, None, unwrap_or}
 use Rattle.std.specs.List.{flat_map}
 use Rattle.std.specs.Option.{option_map}
@@ -28,8 +28,8 @@ use Rattle.orca_script.specs.Runs.{printed_header}
 use Rattle.orca_term.specs.Viewing.{painting_bytes}
 use Rattle.orca_term.specs.declared.cell.Cell.{Cell}
 use Rattle.orca_trace.specs.Calls.{Poll}
-use Rattle.orca_live.specs.Carrying.{Along, Carries, IsSaved, answer_carried, finish_carried, first_carried, heard_carried}
-use Rattle.orca_live.specs.Journals.{IsApart, JournalsPerformance, KeepsJournal, held_after, journal_text}
+use Rattle.orca_live.specs.Carrying.{Carries, IsSaved, answer_carried, finish_carried, first_carried, heard_carried}
+use Rattle.orca_live.specs.Journals.{IsApart, JournalsPerformance, held_after, journal_text}
 use Rattle.orca_live.specs.Performing.{additions, answer_course, close_course, command_course, finish_course, header_course, heard_course, if_named, journal_course, last_course, last_grid_course, last_script_course, lines_course, live_part, noted, open_course, paint_course, painted_course, picture_at, preview_course, save_course, script_course, show_course, told_course, view_sends, write_course}
 use Rattle.orca_live.specs.States.{LiveState, Setting}
 

@@ -1,8 +1,8 @@
 -- How a performance of a player ends: by leaving, or by a full history, and with no note.
 use Rattle.std.proofs.Common.{◌≡◌, ℕ, true, false, List, refl, inl, inr, ◌∙◌, ap, arith}
-use Rattle.std.specs.Prelude.{Bool, IfSome, Option, Some, None, if◌then◌else◌}
+use Rattle.std.specs.Prelude.{Bool, IfSome}
 use Rattle.orca_concert.specs.Concerts.{command_course as obey_course}
-use Rattle.orca_course.specs.Courses.{each, ended, mapped, onward, still}
+use Rattle.orca_course.specs.Courses.{each, mapped, onward}
 use Rattle.orca_course.specs.Standings.{notes_of}
 use Rattle.orca_course.specs.declared.ending.Stop.{Stop}
 use Rattle.orca_course.specs.declared.ending.Stop.TheVariants.{Full, Left}

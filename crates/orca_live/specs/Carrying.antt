@@ -25,7 +25,7 @@ use Rattle.orca_term.specs.declared.editor.Wish.TheVariants as wish
 use Rattle.orca_term.specs.declared.keys.Key.{Key}
 use Rattle.orca_term.specs.declared.keys.Pending.{Pending}
 use Rattle.orca_live.specs.Performing.{answer_course, answered_at, byte_course, close_course, command_course, due_course, finish_course, fired, frame_course, heard_course, if_named, item_course, journal_course, key_course, last_course, last_grid_course, last_script_course, open_course, paced, paint_course, painted_course, press_course, preview_course, save_course, script_course, show_course, struck_course, told_course, toggled, wish_course, write_course}
-use Rattle.orca_live.specs.States.{LiveState, Setting, dims_at, fitted, is_full, key_name, moments_at, piece_at}
+use Rattle.orca_live.specs.States.{LiveState, Setting, around_at, fitted, is_full, key_name, piece_at}
 
 -- two states are the same to the session, to the terminal, to the script and to the journal
 pub record LooksAlike (s t : LiveState) : Type 0 where
@@ -141,8 +141,8 @@ struck_carried : {holds : LiveState → List Act → LiveState → Type 0} → C
     (s : LiveState) → Along holds (struck_course key s) s
 unfolding struck_course
 struck_carried carry key s =
-    let t : LiveState = record s { editor = editor_after key (dims_at s) s.editor } in
-    let w = wish_of key (dims_at s) (moments_at s) s.editor in
+    let t : LiveState = record s { editor = editor_after key (around_at s) s.editor } in
+    let w = wish_of key (around_at s) s.editor in
     from_alike carry s t (wish_course w t) (looks_so s s.pending t.editor s.pace s.at)
     (wish_carried carry w t)
 

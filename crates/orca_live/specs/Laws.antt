@@ -41,13 +41,14 @@ abbrev pub OnlyAppends : Type 0
 OnlyAppends =
     (polls more : List Poll) (s : LiveState) → Extends (so_far s polls) (so_far s (polls ++ more))
 
--- two states with the same setting, session, keys, editor and kept commands; moments, the pace and
--- the screen may differ
+-- two states with the same setting, session, keys, editor, screen and kept commands; moments, the
+-- pace and what is shown may differ
 pub record AreAlike (s t : LiveState) : Type 0 where
   pub setting : s.setting ≡ t.setting
   pub standing : s.standing ≡ t.standing
   pub pending : s.pending ≡ t.pending
   pub editor : s.editor ≡ t.editor
+  pub screen : s.screen ≡ t.screen
   pub given : s.given ≡ t.given
 
 -- two performances that give the same commands, and lead to the same session and the same script

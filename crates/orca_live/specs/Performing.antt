@@ -31,7 +31,7 @@ use Rattle.orca_term.specs.declared.editor.Wish.{Wish}
 use Rattle.orca_term.specs.declared.editor.Wish.TheVariants as wish
 use Rattle.orca_term.specs.declared.keys.Key.{Key}
 use Rattle.orca_live.specs.Quiet.{silent_manner}
-use Rattle.orca_live.specs.States.{LiveState, dims_at, fitted, is_full, key_name, line_at, live_stance, moments_at, piece_at, until_at}
+use Rattle.orca_live.specs.States.{LiveState, around_at, fitted, is_full, key_name, line_at, live_stance, piece_at, until_at}
 
 -- what is done under a name, if there is one
 abbrev pub if_named : Option (List ℕ) → (List ℕ → LiveState → Course LiveState Stop) → LiveState
@@ -128,8 +128,8 @@ wish_course (wish.Redraw size) s = redrawn (screen_inside (unwrap_or size s.scre
 -- a key, where the editor is fitted to the grid
 unfoldable pub struck_course : Key → LiveState → Course LiveState Stop
 struck_course key s =
-    wish_course (wish_of key (dims_at s) (moments_at s) s.editor)
-    (record s { editor = editor_after key (dims_at s) s.editor })
+    wish_course (wish_of key (around_at s) s.editor)
+    (record s { editor = editor_after key (around_at s) s.editor })
 
 -- a key
 unfoldable pub key_course : Key → LiveState → Course LiveState Stop

@@ -3,7 +3,8 @@
 use Rattle.std.specs.Prelude.{ℕ, Bool, true, nat_le, if◌then◌else◌, List, length, Option, Some, None, unwrap_or, Result}
 use Rattle.std.specs.Option.{option_map}
 use Rattle.orca_base.specs.declared.command.Command.{Command}
-use Rattle.orca_base.specs.Grids.{Size}
+use Rattle.orca_base.specs.Grids.{Size, glyph_at}
+use Rattle.orca_base.specs.declared.place.Place.{Place}
 use Rattle.orca_course.specs.Courses.{Course}
 use Rattle.orca_course.specs.Doing.{Does, Stance}
 use Rattle.orca_course.specs.Standings.{Standing, notes_of, standing}
@@ -18,6 +19,7 @@ use Rattle.orca_live.specs.declared.live.Live.{Live}
 use Rattle.orca_live.specs.declared.setting.Setting.{Setting as HeldSetting}
 use Rattle.orca_term.specs.Editing.{editor_inside}
 use Rattle.orca_term.specs.Pacing.{Pace}
+use Rattle.orca_term.specs.declared.around.Around.{Around}
 use Rattle.orca_term.specs.declared.cell.Cell.{Cell}
 use Rattle.orca_term.specs.declared.cell.ScreenSize.{ScreenSize}
 use Rattle.orca_term.specs.declared.editor.Editor.{Editor}
@@ -109,6 +111,17 @@ dims_at s = (piece_at s).sheet.dims
 -- the number of entries of its history
 abbrev pub moments_at : LiveState → ℕ
 moments_at s = length s.standing.machine.history
+
+-- what a key is told, where the editor is fitted to the grid
+abbrev pub around_at : LiveState → Around
+around_at s =
+    let at : Place = record { y = s.editor.y; x = s.editor.x } in
+    record {
+      dims = dims_at s;
+      moments = moments_at s;
+      glyph = glyph_at (piece_at s).sheet at;
+      screen = s.screen;
+    }
 
 -- the editor is fitted to the grid
 abbrev pub fitted : LiveState → LiveState

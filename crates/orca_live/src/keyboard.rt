@@ -10,17 +10,17 @@ ghost use Rattle.orca_term.specs.Pacing.{faster, retimed, slower};
 ghost use Rattle.orca_term.specs.Picture.{screen_inside};
 ghost use Rattle.orca_course.specs.Doing.{goes_of};
 ghost use Rattle.orca_live.specs.Performing.{byte_course, command_course, key_course, press_course, struck_course, wish_course};
-ghost use Rattle.orca_live.specs.States.{Did, dims_at, fitted, live_state};
+ghost use Rattle.orca_live.specs.States.{Did, around_at, dims_at, fitted, live_state};
 
 use crate::Live;
 use crate::journal::note;
 use crate::saving::save_grid;
 use orca_base::limits::MAX_BPM;
-use orca_base::{Command, Look};
+use orca_base::{Command, Look, Place};
 use orca_course::{Desk, NoMemory, Stop};
 use orca_edit::Machine;
 use orca_rig::House;
-use orca_term::{Key, Keys, Pacer, ScreenSize, View, Wish};
+use orca_term::{Around, Key, Keys, Pacer, ScreenSize, View, Wish};
 
 /// Keeps a command for the script, if one is saved at the end.
 fn keep(given: &mut Option<Vec<Command>>, command: &Command) -> Result<(), NoMemory>
@@ -131,6 +131,25 @@ pub(crate) fn fit<M: Machine>(live: &mut Live<'_, M>)
     live.editor.fit(dims);
 }
 
+/// What a key is told, where the editor is fitted to the grid.
+fn around<M: Machine>(live: &Live<'_, M>) -> Around
+    requires inside { let s = live_state M.Machine.own live.now in
+        IsArea (dims_at s) (area_of s.editor) }
+    ensures { result ≡ around_at (live_state M.Machine.own live.now) }
+{
+    live.stage.machine.is_shown();
+    let at = Place {
+        y: live.editor.y,
+        x: live.editor.x,
+    };
+    Around {
+        dims: Look::dims(&live.stage.machine),
+        moments: live.stage.machine.moments(),
+        glyph: Look::glyph_at(&live.stage.machine, at),
+        screen: live.view.size(),
+    }
+}
+
 /// Does what a key does, where the editor is fitted to the grid.
 #[tactic(auto, using(crate::proofs::DoneLemmas::struck_did))]
 fn strike<M: Machine, H: House>(
@@ -142,10 +161,8 @@ fn strike<M: Machine, H: House>(
         IsArea (dims_at s) (area_of s.editor) }
     ensures { Did M.Machine.own (struck_course key) live.old desk.old result live.new desk.new }
 {
-    live.stage.machine.is_shown();
-    let dims = Look::dims(&live.stage.machine);
-    let moments = live.stage.machine.moments();
-    let wish = live.editor.key(key, dims, moments);
+    let around = around(live);
+    let wish = live.editor.key(key, &around);
     do_wish(live, desk, &wish)
 }
 

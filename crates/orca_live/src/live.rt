@@ -20,7 +20,7 @@ pub struct Live<'a, M> {
     pub stage: Stage<M, Silent>,
     /// The reader of keys.
     pub keys: Keys,
-    /// The cursor, the selection and the pause.
+    /// The cursor, the selection, the anchor and the pause.
     pub editor: Editor,
     /// When the next frame is due.
     pub pacer: Pacer,
