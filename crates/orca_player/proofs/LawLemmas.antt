@@ -167,7 +167,14 @@ work_alike cutting setup (Play play) sheet script (Some a) (Some b) polls others
     let u = live_start setup play a s in
     let v = live_start setup play b s in
     let alike = cutting polls others u v cut.items
-    (record { setting = refl; standing = refl; pending = refl; editor = refl; given = refl })
+    (record {
+      setting = refl;
+      standing = refl;
+      pending = refl;
+      editor = refl;
+      screen = refl;
+      given = refl;
+    })
     (ended_by (performance live_part u polls).ending ends)
     (ended_by (performance live_part v others).ending other_ends) in
     record {
