@@ -1,7 +1,13 @@
--- What objects tell of one act more.
-use Rattle.std.proofs.Common.{◌≡◌, ℕ, ◌+◌, List, [], ◌∷◌, ◌++◌, length, refl, arith}
+-- What objects tell of one act more, and what a desk keeps to after one call more.
+use Rattle.std.proofs.Common.{◌≡◌, ℕ, ◌+◌, List, [], ◌∷◌, ◌++◌, append-nil, length, refl, arith}
+use Rattle.std.proofs.lemmas.List.Folds.{list_any-append}
 use Rattle.orca_course.specs.Acts.{Act, given}
+use Rattle.orca_trace.specs.Calls.{Call}
 use Rattle.orca_course.specs.Told.{Listened, asked_in, attached_in, counts_in, listened_after}
+use Rattle.orca_course.specs.Worlds.{AreCounted, Stores, World}
+use Rattle.orca_course.proofs.ActLemmas.{given-append, polls_in-append}
+use Rattle.orca_course.proofs.AnsweredLemmas.{done_in-append}
+use Rattle.orca_course.proofs.WorldLemmas.{IsNext}
 
 pub attached_in-append : (xs ys : List Act)
     → attached_in (xs ++ ys) ≡ attached_in xs ++ attached_in ys
@@ -21,3 +27,23 @@ pub counts_in-append : (n : ℕ) (xs ys : List Act)
     → counts_in n (xs ++ ys) ≡ counts_in n xs ++ counts_in (n + length (given xs)) ys
 counts_in-append n [] ys = grind arith
 counts_in-append n (x ∷ xs) ys = grind (arith, λ (m : ℕ). counts_in-append m xs ys)
+
+-- ---- one call more
+
+pub is_next : {call : Call} {x y : World} → y.calls ≡ x.calls ++ call ∷ []
+    → Stores call x.contents y.contents → AreCounted (call ∷ []) x.faults y.faults
+    → y.paid ≡ x.paid → IsNext call x y
+is_next calls stored counted paid =
+    record { calls = calls; stored = stored; counted = counted; paid = paid }
+
+pub ruleset one_more = (
+  list_any-append,
+  done_in-append,
+  given-append,
+  attached_in-append,
+  asked_in-append,
+  polls_in-append,
+  listened_after-append,
+  counts_in-append,
+  append-nil,
+)
