@@ -1,8 +1,7 @@
 -- What a sink has taken.
-use Rattle.std.specs.Prelude.{ℕ, ◌⊎◌, if◌then◌else◌, Bool, List, ◌∷◌, ◌++◌, Option, Some, None}
+use Rattle.std.specs.Prelude.{ℕ, ◌⊎◌, if◌then◌else◌, Bool, List, ◌∷◌, ◌++◌, codes, Option, Some, None}
 use Rattle.std.specs.Io.KnownBytes.{Appends, Keeps, append_known}
 use Rattle.orca_edge.specs.declared.sinks.Sink.{Sink}
-use Rattle.orca_edge.specs.declared.sinks.TheConstants.{CANCEL}
 use Rattle.orca_edge.specs.Owed.{OwesNone, IsMissed, SendsEnds}
 
 -- the bytes that a sink of messages holds, where they are known, and then the rest of the message
@@ -63,6 +62,11 @@ TakesEnds contents (Some before) (Some after) = HasEnds contents before after
 TakesEnds contents None None = Unit {0}
 TakesEnds contents before after = ⊥
 
--- the bytes of a painting: after one that was given up they begin with CAN
+-- CAN (24), which ends an escape sequence that was begun, and then ESC [ ? 1 l, by which the arrows
+-- of a terminal send what they send in its normal mode
+abbrev pub fresh_start : List ℕ
+fresh_start = 24 ∷ 27 ∷ codes "[?1l"
+
+-- the bytes of a painting: after one that was given up they begin so
 abbrev pub painting_bytes : Bool → List ℕ → List ℕ
-painting_bytes is_torn bytes = if is_torn then CANCEL ∷ bytes else bytes
+painting_bytes is_torn bytes = if is_torn then fresh_start ++ bytes else bytes

@@ -37,7 +37,7 @@ use std::{io, rt, str};
 /// |---|---|
 /// | a MIDI message that ends a note | none of it, until there is room again |
 /// | another MIDI message | none of it |
-/// | a painting | its first pieces. The next painting begins with CAN (ECMA-48) |
+/// | a painting | its first pieces. The next one begins with CAN (ECMA-48) and `ESC [ ? 1 l` |
 /// | a text | its first pieces |
 /// | a datagram | none of it |
 ///
@@ -49,7 +49,8 @@ use std::{io, rt, str};
 ///
 /// A device that shows room may have it for one byte alone, and would let a longer write wait. So
 /// it may take the first bytes of a MIDI message and no more. The rest then goes before anything
-/// else there. A painting may be given up inside an escape sequence, which CAN ends.
+/// else there. A painting may be given up inside an escape sequence, which CAN ends; and the
+/// terminal may be another one once it takes something again, whose arrows `ESC [ ? 1 l` sets.
 ///
 /// Some sinks can still make a write wait: a pipe into which somebody else writes in the same
 /// moment, and a terminal of hardware that stops in the middle of a piece.

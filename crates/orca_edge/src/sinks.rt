@@ -17,8 +17,11 @@ use std::io;
 use std::io::{ErrorKind, Write};
 use std::rt::Clock;
 
-/// The control character that ends an escape sequence that was begun (ECMA-48, CAN).
-pub(crate) const CANCEL: u8 = 0x18;
+/// What goes before a painting if the last one was given up: CAN (ECMA-48), which ends an escape
+/// sequence that was begun, and `ESC [ ? 1 l`, which resets the cursor key mode of a VT100, so that
+/// the arrows send `ESC [ A` to `ESC [ D`. Another terminal may have been attached while nothing
+/// was taken, and its arrows may send something else.
+const FRESH_START: [u8; 6] = *b"\x18\x1b[?1l";
 
 /// Writes the first of the bytes, once there is room: as many as one write takes, and one at least.
 /// A write that was interrupted, or found no room after all, is tried again, and one that takes
@@ -250,7 +253,8 @@ impl Output {
     }
 
     /// Writes a painting. One that is given up may end inside an escape sequence. The next one then
-    /// begins with CAN, so that the terminal reads it from its first byte.
+    /// begins with [`FRESH_START`], so that the terminal reads it from its first byte, and its
+    /// arrows are read as arrows.
     pub(crate) fn paint<W: Write, C: Clock>(
         &mut self,
         patience: &Patience<'_, C>,
@@ -265,7 +269,7 @@ impl Output {
         let was_torn = self.is_torn;
         self.is_torn = true;
         if was_torn {
-            write_pieces(patience, &mut self.gate, to, &[CANCEL])?;
+            write_pieces(patience, &mut self.gate, to, &FRESH_START)?;
         }
         write_pieces(patience, &mut self.gate, to, bytes)?;
         self.is_torn = false;
