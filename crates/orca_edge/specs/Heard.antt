@@ -128,6 +128,13 @@ abbrev pub IsNext : ℕ → ℕ → ℕ → Type 0
 IsNext hand next count =
     (hand + 1 < count → hand < 255 → next ≡ hand + 1) × (count ≤ hand + 1 → next ≡ 0)
 
+-- once bytes of a hand were answered, the hand after it is read next
+abbrev pub IsNextAfter : Answer → ℕ → ℕ → Type 0
+IsNextAfter (answer.Bytes hand count at) next hands = IsNext hand next hands
+IsNextAfter (answer.Due at) next hands = Unit {0}
+IsNextAfter answer.End next hands = Unit {0}
+IsNextAfter answer.Failed next hands = Unit {0}
+
 -- whether an answer is a moment that has come
 abbrev pub is_due : Answer → Bool
 is_due (answer.Bytes hand count at) = false

@@ -6,7 +6,7 @@ ghost use Rattle.std.specs.Option.{option_map_or};
 ghost use Rattle.std.specs.Io.KnownBytes.{Consumes};
 ghost use Rattle.orca_base.specs.declared.limits.TheConstants.{ARRIVAL_BYTES};
 ghost use Rattle.orca_rig.specs.Arrived.{MayAnswer};
-ghost use Rattle.orca_edge.specs.Heard.{IsPieceOf, IsPiece, piece_bytes, hand_bytes, turn_bytes, AreHeard, IsTurn, IsNext, Tells, state_after, turn_of, is_open, is_broken, last_turn};
+ghost use Rattle.orca_edge.specs.Heard.{IsPieceOf, IsPiece, piece_bytes, hand_bytes, turn_bytes, AreHeard, IsTurn, IsNext, IsNextAfter, Tells, state_after, turn_of, is_open, is_broken, last_turn};
 
 use crate::moments::{FOREVER, Wait, Watch, has_come, milliseconds, wait_of};
 use crate::whole::{TRIES, status_of};
@@ -194,6 +194,8 @@ impl<S: Read> Hands<S> {
             → Tells self.old.hands.items self.new.hands.items self.old.next now result }
         ensures next { option_map_or (λ moment. nat_le moment now) due false ≡ false
             → IsNext self.old.next self.new.next (length self.old.hands.items) }
+        ensures waits { option_map_or (λ moment. nat_le moment now) due false ≡ true
+            → self.new.next ≡ self.old.next }
         ensures heard { AreHeard S.remaining self.old.hands.items self.new.hands.items
             (λ hand. turn_bytes hand result bytes.new) }
     {
@@ -264,6 +266,7 @@ impl<S: Read + AsRawFd> Hands<S> {
         bytes: &mut [u8; ARRIVAL_BYTES],
     ) -> Answer
         ensures answer { MayAnswer until clock.now.last result }
+        ensures next { IsNextAfter result self.new.next (length self.old.hands.items) }
         ensures heard { AreHeard S.remaining self.old.hands.items self.new.hands.items
             (λ hand. hand_bytes hand result bytes.new) }
     {
