@@ -1,4 +1,6 @@
 mod WriteLemmas
 mod OwedLemmas
 mod EndsLemmas
+mod CommaLemmas
 mod WorkedWaits
+mod WorkedNames

@@ -1,13 +1,41 @@
--- Names of files.
-use Rattle.std.specs.Prelude.{ℕ, ◌≡◌, ◌≤◌, Bool, List, ◌==◌, ◌||◌, not, fold, length}
+-- Names of files, and of what hands are heard over.
+use Rattle.std.specs.Prelude.{ℕ, ◌-◌, ◌≡◌, ◌≤◌, nat_lt, Bool, true, false, if◌then◌else◌, List, [], ◌∷◌, ◌==◌, ◌||◌, not, fold, length, replicate, Option, Some, None, option_and_then}
 use Rattle.std.specs.List.{list_any}
-use Rattle.std.specs.Option.{unwrap_or}
+use Rattle.std.specs.Option.{is_some, unwrap_or}
+use Rattle.std.specs.Path.{path_join, path_parent, path_with_file_name, rsplit_once}
+use Rattle.orca_edge.specs.declared.hands.Hand.{Hand}
+use Rattle.orca_edge.specs.declared.real_inbox.Source.{Source}
+use Rattle.orca_edge.specs.declared.real_inbox.Source.TheVariants as source
 use Rattle.orca_edge.specs.declared.saving.TheConstants.{MAX_LINKS}
-use Rattle.std.specs.Path.{path_join, path_parent, path_with_file_name}
 
 -- a name with a slash (47), or without a colon (58), is that of a file; any other is an address
 abbrev pub names_file : List ℕ → Bool
 names_file name = list_any (λ byte. byte == 47) name || not (list_any (λ byte. byte == 58) name)
+
+-- to several hands a name can say both: the file of hand 0, a comma (44), and the address of the
+-- others; the comma is the last one of the name, and what is before it names a file
+abbrev pub file_and_address : ℕ → List ℕ → Option (List ℕ × List ℕ)
+file_and_address hands name =
+    if nat_lt 1 hands
+    then option_and_then (λ (parts : List ℕ × List ℕ).
+    if names_file parts.0 then Some parts else None) (rsplit_once 44 name)
+    else None
+
+-- what is a file, and no connection
+abbrev pub is_file : {F : Type 0} → Source F → Bool
+is_file (source.Connection stream) = false
+is_file (source.File file) = true
+
+-- whether a hand is heard over a file
+abbrev pub is_of_file : {F : Type 0} → Hand (Source F) → Bool
+is_of_file hand = is_file hand.stream
+
+-- which of so many hands are heard over a file, hand 0 first, where what the name says was opened:
+-- one that is the name of a file has opened for one hand
+abbrev pub are_of_files : ℕ → List ℕ → List Bool
+are_of_files hands name =
+    if is_some (file_and_address hands name) then true ∷ replicate (hands - 1) false
+    else (if names_file name then true ∷ [] else replicate hands false)
 
 -- where a symbolic link leads to: its text, as it is read from the folder that the link is in
 abbrev pub behind : List ℕ → List ℕ → List ℕ

@@ -1,8 +1,9 @@
-ghost use Rattle.std.specs.Prelude.{◌≡◌, ◌≢◌, ◌≤◌, ◌+◌, [], false, None, length, IfOk, OnOk, OnErr, IsErrOf, IsSomeAnd, true};
+ghost use Rattle.std.specs.Prelude.{◌≡◌, ◌≢◌, ◌≤◌, ◌<◌, ◌+◌, ◌++◌, ◌∷◌, [], true, false, None, length, map, replicate, IfOk, OnOk, OnErr, IfSome, IsErrOf, IsSomeAnd};
+ghost use Rattle.std.specs.Option.{option_map};
 ghost use Rattle.orca_rig.specs.Outside.{Rose};
 ghost use Rattle.orca_rig.specs.Arrived.{moment_after, is_ending};
 ghost use Rattle.orca_edge.specs.Heard.{is_due};
-ghost use Rattle.orca_edge.specs.Names.{names_file};
+ghost use Rattle.orca_edge.specs.Names.{names_file, file_and_address, are_of_files, is_of_file};
 ghost use Rattle.orca_base.specs.declared.limits.TheConstants.{MAX_HANDS};
 
 use crate::hands::Hands;
@@ -43,18 +44,23 @@ impl<F: AsRawFd> AsRawFd for Source<F> {
 }
 
 /// An inbox over what the name of `listen_hands` says: connections to an address, one for each
-/// hand, or a file of keys, for one hand. Moments are microseconds since all of them were open, by
-/// the clock that does not go back. It tells no log.
+/// hand, or a file of keys, for one hand, or both. Moments are microseconds since all of them were
+/// open, by the clock that does not go back. It tells no log.
 ///
 /// A name with a `/`, and one without a `:`, is that of a file: a terminal, a pipe, a device or a
 /// plain file. Any other is an address, `HOST:PORT`. A file is opened anew and for reading alone.
 /// So a program that has it open already, as the shell of a terminal has, is left as it is.
 ///
+/// To several hands a name can say both, `FILE,HOST:PORT`. The last comma parts them, and what is
+/// before it names a file by the rule above. The file is hand 0. It is opened first, so that nobody
+/// else can be that. To one hand a comma is a letter of the name.
+///
 /// | what happens | what is answered |
 /// |---|---|
 /// | the address is malformed or taken, or its name stands for none | `listen_hands` fails |
-/// | the file is missing or may not be read, or there are several hands | `listen_hands` fails |
-/// | fewer connect than there are hands | `listen_hands` waits |
+/// | the file is missing or may not be read | `listen_hands` fails |
+/// | there are several hands, and the name is that of a file alone | `listen_hands` fails |
+/// | fewer connect than there are hands without a file | `listen_hands` waits |
 /// | nobody has the pipe open for writing | `listen_hands` waits |
 /// | a peer closes its end, also inside the bytes of a key | its bytes, and then no more of it |
 /// | a pipe's last writer closes it, a plain file has been read, a terminal hangs up | the same |
@@ -110,8 +116,9 @@ where
         }
     }
 
-    /// An inbox whose address is bound already. Its `listen_hands` accepts those who connected
-    /// since then first, and reads no name.
+    /// An inbox whose address is bound already. Where its `listen_hands` would listen at the
+    /// address that the name says, it listens here, and accepts those who connected since then
+    /// first.
     pub fn over(rt: &R, bound: R::Listener) -> RealInbox<'_, R>
         ensures listened { ⟦<RealInbox<'static, R> as Inbox>⟧.listened result ≡ false }
         ensures ended { ⟦<RealInbox<'static, R> as Inbox>⟧.ended result ≡ false }
@@ -126,6 +133,9 @@ where
     fn open(&mut self, name: &str, hands: u8) -> Result<(), OutsideFault>
         ensures hands { OnOk result (IsSomeAnd self.new.hands (λ opened.
             length opened.hands.items ≡ hands)) }
+        ensures files { OnOk result (IsSomeAnd self.new.hands (λ opened.
+            map is_of_file opened.hands.items ≡ are_of_files hands name.now)) }
+        ensures none { OnErr result (self.new.hands ≡ self.old.hands) }
         ensures last { self.new.clock.last ≡ self.old.clock.last }
         ensures listened { self.new.listened ≡ self.old.listened }
         ensures ended { self.new.ended ≡ self.old.ended }
@@ -133,11 +143,7 @@ where
     {
         let rt = self.clock.rt;
         let mut opened = Hands::new(rt.alloc(), hands)?;
-        match self.bound.take() {
-            Some(bound) => accept_all(&bound, hands, &mut opened)?,
-            None if is_file_name(name) => open_file(rt, name, hands, &mut opened)?,
-            None => accept_all(&TcpListener::bind(rt, name)?, hands, &mut opened)?,
-        }
+        open_named(rt, self.bound.take(), name, hands, &mut opened)?;
         self.clock.origin = microseconds(rt.monotonic()?);
         self.hands = Some(opened);
         Ok(())
@@ -178,8 +184,8 @@ where
 
     ghost faults = { λ i. i.failed };
 
-    /// Waits until so many have connected to the address, and then accepts nobody else; or opens
-    /// the file. The moment of the start is 0.
+    /// Opens the file, where the name says one, and waits until as many have connected to the
+    /// address as there are other hands. Then it accepts nobody else. The moment of the start is 0.
     fn listen_hands(&mut self, name: &str, hands: u8) -> Result<u64, OutsideFault>
         requires fresh { self.old.listened ≡ false }
         requires some { 1 ≤ hands }
@@ -197,6 +203,9 @@ where
 
         ensures hands { OnOk result (IsSomeAnd self.new.hands (λ opened.
             length opened.hands.items ≡ hands)) }
+        ensures files { OnOk result (IsSomeAnd self.new.hands (λ opened.
+            map is_of_file opened.hands.items ≡ are_of_files hands name.now)) }
+        ensures none { OnErr result (self.new.hands ≡ self.old.hands) }
     {
         self.listened = true;
         let opened = self.open(name, hands);
@@ -231,6 +240,52 @@ fn is_file_name(name: &str) -> bool
     bytes.contains(&b'/') || !bytes.contains(&b':')
 }
 
+/// The file of hand 0 and the address of the other hands, where the name says both.
+fn file_and_address(name: &str, hands: u8) -> Option<(&str, &str)>
+    ensures parts { option_map (λ parts. (parts.0.now, parts.1.now)) result
+        ≡ file_and_address hands name.now }
+    ensures several { IfSome result (λ _. 1 < hands) }
+{
+    if hands <= 1 {
+        return None;
+    }
+    let Some((file, address)) = name.rsplit_once(',') else {
+        return None;
+    };
+    if is_file_name(file) {
+        Some((file, address))
+    } else {
+        None
+    }
+}
+
+/// Opens what the name says, the file first. Connections come to what is bound already, where
+/// something is.
+fn open_named<R>(
+    rt: &R,
+    bound: Option<R::Listener>,
+    name: &str,
+    hands: u8,
+    opened: &mut Hands<Source<R::File>>,
+) -> Result<(), OutsideFault>
+where
+    R: AllocGlobal + Net<Stream = TcpStream> + rt::Files + Clock,
+    R::File: AsRawFd,
+    ensures count { OnOk result (length opened.new.hands.items
+        ≡ length opened.old.hands.items + hands) }
+    ensures files { OnOk result (map is_of_file opened.new.hands.items
+        ≡ map is_of_file opened.old.hands.items ++ are_of_files hands name.now) }
+{
+    if let Some((file, address)) = file_and_address(name, hands) {
+        open_file(rt, file, 1, opened)?;
+        accept_all(&listener_at(rt, bound, address)?, hands - 1, opened)
+    } else if is_file_name(name) {
+        open_file(rt, name, hands, opened)
+    } else {
+        accept_all(&listener_at(rt, bound, name)?, hands, opened)
+    }
+}
+
 /// Opens the file for the one hand that there may be, so that no read of it waits. That a pipe is
 /// opened waits until somebody has it open for writing.
 fn open_file<R: rt::Files>(
@@ -244,6 +299,8 @@ where
     ensures alone { OnOk result (hands ≡ 1) }
     ensures one { OnOk result (length opened.new.hands.items
         ≡ length opened.old.hands.items + 1) }
+    ensures file { OnOk result (map is_of_file opened.new.hands.items
+        ≡ map is_of_file opened.old.hands.items ++ true ∷ []) }
 {
     if hands != 1 {
         return Err(OutsideFault::Failed);
@@ -253,14 +310,28 @@ where
     Ok(opened.add(Source::File(file))?)
 }
 
+/// What is bound already, or else a listener at the address.
+fn listener_at<R: Net>(
+    rt: &R,
+    bound: Option<R::Listener>,
+    address: &str,
+) -> io::Result<R::Listener> {
+    match bound {
+        Some(bound) => Ok(bound),
+        None => TcpListener::bind(rt, address),
+    }
+}
+
 /// Accepts so many connections, one after another.
 fn accept_all<L: OpenListener<Stream = TcpStream>, F: Read + Drop>(
     listener: &L,
     hands: u8,
     opened: &mut Hands<Source<F>>,
 ) -> Result<(), OutsideFault>
-    ensures { OnOk result (length opened.new.hands.items
+    ensures count { OnOk result (length opened.new.hands.items
         ≡ length opened.old.hands.items + hands) }
+    ensures connections { OnOk result (map is_of_file opened.new.hands.items
+        ≡ map is_of_file opened.old.hands.items ++ replicate hands false) }
 {
     for _hand in 0..hands {
         let stream = accept(listener)?;

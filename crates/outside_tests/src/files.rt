@@ -4,6 +4,7 @@ use orca_edge::RealInbox;
 use orca_rig::{Answer, Inbox, OutsideFault};
 use std::io;
 use std::io::Write;
+use std::net::{OpenListener, TcpListener};
 use std::os::fd::AsRawFd;
 
 #[test]
@@ -26,10 +27,30 @@ fn a_pipe_brings_its_bytes_and_its_end(rt: HostRuntime) {
 }
 
 #[test]
-fn one_hand_has_a_file_that_is_there(rt: HostRuntime) {
-    for (name, hands) in [("/dev/null", 2), ("missing", 1), ("/no:where", 1)] {
+fn a_file_is_one_hand_and_is_there(rt: HostRuntime) {
+    for (name, hands) in [
+        ("/dev/null", 2),
+        ("missing", 1),
+        ("/no:where", 1),
+        ("missing,127.0.0.1:0", 2),
+        ("/dev/null,127.0.0.1:0", 1),
+        ("/dev/null,no address", 2),
+    ] {
         let mut inbox = RealInbox::new(&rt);
         let start = inbox.listen_hands(name, hands);
-        assert!(rt; start == Err(OutsideFault::Failed));
+        assert!(rt; start == Err(OutsideFault::Failed), "{name}");
     }
+}
+
+#[test]
+fn nothing_stays_open_if_the_address_is_taken(rt: HostRuntime) {
+    let (reader, mut writer) = io::pipe(&rt).expect(&rt, "a pipe");
+    let taken = TcpListener::bind(&rt, "127.0.0.1:0").expect(&rt, "a listener");
+    let address = taken.local_addr().expect(&rt, "an address");
+    let name = format!(in rt.alloc(); "/dev/fd/{},{address}", reader.as_raw_fd());
+    let mut inbox = RealInbox::new(&rt);
+    let start = inbox.listen_hands(&name.expect(&rt, "memory"), 2);
+    assert!(rt; start == Err(OutsideFault::Failed));
+    drop(reader);
+    assert!(rt; writer.write(b"x").is_err());
 }

@@ -4,8 +4,9 @@ use orca_base::limits::{ARRIVAL_BYTES, MAX_HANDS};
 use orca_edge::RealInbox;
 use orca_rig::{Answer, Inbox, MemOuts};
 use std::alloc::Global;
-use std::io::Write;
-use std::net::{Net, OpenListener, SocketAddr, TcpListener, TcpStream};
+use std::io;
+use std::io::{PipeWriter, Write};
+use std::net::{Net, OpenListener, TcpListener, TcpStream};
 use std::os::fd::AsRawFd;
 use std::process::Abort;
 use std::rt::{Clock, Files};
@@ -16,10 +17,17 @@ pub fn make_outs(rt: &impl Abort, alloc: Global) -> MemOuts {
     MemOuts::new(Vec::new(alloc)).expect(rt, "memory")
 }
 
+/// Where a player types.
+#[derive(Drop)]
+pub enum Player {
+    Connection(TcpStream),
+    Pipe(PipeWriter),
+}
+
 /// The players, hand 0 first, and the inbox that hears them.
 #[derive(Drop)]
 pub struct Room<'a, R: Net + Files> {
-    pub players: Vec<TcpStream>,
+    pub players: Vec<Player>,
     pub inbox: RealInbox<'a, R>,
 }
 
@@ -72,31 +80,52 @@ const STEPS: [Step; 28] = [
     Poll(None, Some((6, b"last"))),
 ];
 
-/// As many players as may be, who connect to this address.
-fn connect<R>(rt: &R, address: SocketAddr) -> Vec<TcpStream>
+/// Players who connect, until there are as many as may be, and an inbox that has accepted them, by
+/// this name.
+fn seat<'a, R>(rt: &'a R, players: &mut Vec<Player>, name: &str) -> RealInbox<'a, R>
 where
-    R: AllocGlobal + Net<Stream = TcpStream> + Abort,
+    R: AllocGlobal + Net<Stream = TcpStream> + Files + Clock + Abort,
+    R::File: AsRawFd,
+    ensures { result.ended ≡ false }
 {
-    let mut players = Vec::new(rt.alloc());
-    for _ in 0..MAX_HANDS {
+    let listener = TcpListener::bind(rt, "127.0.0.1:0").expect(rt, "a listener");
+    let address = listener.local_addr().expect(rt, "an address");
+    for _ in players.len()..usize::from(MAX_HANDS) {
         let player = TcpStream::connect(rt, address).expect(rt, "a connection");
-        players.push(player).expect(rt, "memory");
+        players
+            .push(Player::Connection(player))
+            .expect(rt, "memory");
     }
-    players
+    let mut inbox = RealInbox::over(rt, listener);
+    let start = inbox.listen_hands(name, MAX_HANDS);
+    assert!(rt; start == Ok(0));
+    inbox
 }
 
-/// As many players as may be, and an inbox that will accept them.
+/// A room in which all type into connections.
 fn open<R>(rt: &R) -> Room<'_, R>
 where
     R: AllocGlobal + Net<Stream = TcpStream> + Files + Clock + Abort,
     R::File: AsRawFd,
-    ensures listened { result.inbox.listened ≡ false }
-    ensures ended { result.inbox.ended ≡ false }
+    ensures { result.inbox.ended ≡ false }
 {
-    let listener = TcpListener::bind(rt, "127.0.0.1:0").expect(rt, "a listener");
-    let address = listener.local_addr().expect(rt, "an address");
-    let players = connect(rt, address);
-    let inbox = RealInbox::over(rt, listener);
+    let mut players = Vec::new(rt.alloc());
+    let inbox = seat(rt, &mut players, "127.0.0.1:0");
+    Room { players, inbox }
+}
+
+/// A room in which hand 0 types into a pipe, and the others into connections.
+fn open_with_pipe<R>(rt: &R) -> Room<'_, R>
+where
+    R: AllocGlobal + Net<Stream = TcpStream> + Files + Clock + Abort,
+    R::File: AsRawFd,
+    ensures { result.inbox.ended ≡ false }
+{
+    let (reader, writer) = io::pipe(rt).expect(rt, "a pipe");
+    let name = format!(in rt.alloc(); "/dev/fd/{},127.0.0.1:0", reader.as_raw_fd());
+    let mut players = Vec::new(rt.alloc());
+    players.push(Player::Pipe(writer)).expect(rt, "memory");
+    let inbox = seat(rt, &mut players, &name.expect(rt, "memory"));
     Room { players, inbox }
 }
 
@@ -104,15 +133,6 @@ impl<R: AllocGlobal + Net<Stream = TcpStream> + Files + Clock> Room<'_, R>
 where
     R::File: AsRawFd,
 {
-    /// The inbox accepts the players.
-    fn listen(&mut self, rt: &impl Abort)
-        requires { self.old.inbox.listened ≡ false }
-        ensures { self.new.inbox.ended ≡ self.old.inbox.ended }
-    {
-        let start = self.inbox.listen_hands("no address", MAX_HANDS);
-        assert!(rt; start == Ok(0));
-    }
-
     fn step(&mut self, rt: &impl Abort, outs: &MemOuts, step: Step)
         requires { self.old.inbox.ended ≡ false }
         ensures { self.new.inbox.ended ≡ false }
@@ -127,9 +147,14 @@ where
     }
 
     /// The player of this hand sends the bytes.
-    fn send(&self, rt: &impl Abort, hand: usize, bytes: &[u8]) {
-        let mut player = self.players.get(hand).expect(rt, "a player");
-        player.write_all(bytes).expect(rt, "a write");
+    fn send(&mut self, rt: &impl Abort, hand: usize, bytes: &[u8])
+        ensures { self.new.inbox ≡ self.old.inbox }
+    {
+        let sent = match self.players.get_mut(hand).expect(rt, "a player") {
+            Player::Connection(stream) => stream.write_all(bytes),
+            Player::Pipe(writer) => writer.write_all(bytes),
+        };
+        sent.expect(rt, "a write");
     }
 
     /// Polls, and looks at the answer: these bytes of this hand, or a Due where none are wanted. It
@@ -161,15 +186,42 @@ where
     }
 }
 
-#[test]
-fn bytes_and_moments_come_in_turn(rt: HostRuntime) {
-    let outs = make_outs(&rt, rt.alloc());
-    let mut room = open(&rt);
-    room.listen(&rt);
+/// The steps, after which all have gone.
+fn check_steps<R>(rt: &R, room: &mut Room<'_, R>)
+where
+    R: AllocGlobal + Net<Stream = TcpStream> + Files + Clock + Abort,
+    R::File: AsRawFd,
+    requires { room.old.inbox.ended ≡ false }
+{
+    let outs = make_outs(rt, rt.alloc());
     for step in STEPS {
-        room.step(&rt, &outs, step);
+        room.step(rt, &outs, step);
     }
     assert!(rt; room.last(&outs) == Answer::End);
+}
+
+#[test]
+fn bytes_and_moments_come_in_turn(rt: HostRuntime) {
+    check_steps(&rt, &mut open(&rt));
+    check_steps(&rt, &mut open_with_pipe(&rt));
+}
+
+#[test]
+fn hands_that_flood_are_heard_in_turn(rt: HostRuntime) {
+    let outs = make_outs(&rt, rt.alloc());
+    let mut room = open_with_pipe(&rt);
+    for hand in 0..MAX_HANDS {
+        room.send(&rt, usize::from(hand), &[b'0' + hand; 4 * ARRIVAL_BYTES]);
+    }
+    for turn in 0..4 * MAX_HANDS {
+        let hand = turn % MAX_HANDS;
+        room.hear(
+            &rt,
+            &outs,
+            None,
+            Some((hand, &[b'0' + hand; ARRIVAL_BYTES])),
+        );
+    }
 }
 
 #[test]
@@ -177,7 +229,6 @@ fn twenty_moments_come_on_time(rt: HostRuntime) {
     // All hands are silent.
     let outs = make_outs(&rt, rt.alloc());
     let mut room = open(&rt);
-    room.listen(&rt);
     let start = Instant::now(&rt).expect(&rt, "a clock");
     let mut late = 0u8;
     for moment in 1..21u64 {

@@ -1,5 +1,5 @@
 use Rattle.std.proofs.Common.{◌≡◌, false}
-use Rattle.outside_tests.proofs.tcp.bytes_and_moments_come_in_turn.Given as goal
+use Rattle.outside_tests.proofs.tcp.check_steps.Given as goal
 
 -- the last answer hasn't come
 abbrev pub invariant-loop-step : goal.invariant-loop-step
