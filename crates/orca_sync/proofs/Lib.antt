@@ -1,4 +1,4 @@
 mod ClockLaws
-mod LeadLaws
+pub mod LeadLaws
 mod WorkedClocks
 mod WorkedLimits

@@ -2,7 +2,7 @@
 use Rattle.std.specs.Prelude.{ℕ, zero, suc, ◌≡◌, ◌-◌, ◌^◌, true, false, map, [], ◌∷◌, ◌++◌, replicate, Some, None, refl}
 use Rattle.orca_base.specs.MidiBytes.{note_on_bytes}
 use Rattle.orca_sync.specs.Clocks.{stopped, running, heed, beats_from}
-use Rattle.orca_sync.specs.Leading.{Lead, lead_from, due_of, plays, clocked_at, toggle_byte, toggled_at}
+use Rattle.orca_sync.specs.Leading.{Metronome, metronome_from, due_of, plays, clocked_at, toggle_byte, toggled_at}
 use Rattle.orca_sync.specs.declared.follower.Beat.TheVariants.{Frame, Restart}
 use Rattle.orca_term.specs.Pacing.{interval_of}
 
@@ -58,18 +58,18 @@ unfolding heed beats_from
 start_after_a_stop = refl
 
 -- the intervals of the slowest tempo, of 120 beats a minute, and of the fastest
-slowest_interval : interval_of (lead_from 1 0).pace ≡ 2500000
+slowest_interval : interval_of (metronome_from 1 0).pace ≡ 2500000
 slowest_interval = refl
 
-usual_interval : interval_of (lead_from 120 0).pace ≡ 20833
+usual_interval : interval_of (metronome_from 120 0).pace ≡ 20833
 usual_interval = refl
 
-fastest_interval : interval_of (lead_from 999 0).pace ≡ 2502
+fastest_interval : interval_of (metronome_from 999 0).pace ≡ 2502
 fastest_interval = refl
 
 -- a leader of 120 beats a minute that started at 0, after so many clocks that were given in time
-abbrev in_time : ℕ → Lead
-in_time zero = lead_from 120 0
+abbrev in_time : ℕ → Metronome
+in_time zero = metronome_from 120 0
 in_time (suc clocks) = clocked_at (in_time clocks).pace.due (in_time clocks)
 
 -- of its first seven clocks the first and the last play a frame
@@ -92,14 +92,14 @@ later : due_of (clocked_at 50000 (in_time 0)) ≡ Some 70833
 later = refl
 
 -- no moment comes after the last one
-last_moment : due_of (lead_from 120 (2 ^ 64 - 1)) ≡ Some (2 ^ 64 - 1)
+last_moment : due_of (metronome_from 120 (2 ^ 64 - 1)) ≡ Some (2 ^ 64 - 1)
 last_moment = refl
 
 -- a pause: nothing is due until it goes on, and then an interval later
-abbrev paused : Lead
+abbrev paused : Metronome
 paused = toggled_at 30000 (in_time 1)
 
-abbrev resumed : Lead
+abbrev resumed : Metronome
 resumed = toggled_at 40000 paused
 
 byte_of_a_pause : toggle_byte (in_time 1) ≡ 0xFC

@@ -3,7 +3,7 @@
 ghost use Rattle.std.specs.Prelude.{◌≡◌, ◌≤◌, ◌↔◌, true, false, if◌then◌else◌, IsNone};
 ghost use Rattle.orca_sync.specs.Clocks.{Pulse, heed, heeded};
 ghost use Rattle.orca_sync.specs.Laws.{VoicesAreNoClock};
-ghost use Rattle.orca_sync.specs.Leading.{lead_from, due_of, plays, clocked_at, toggle_byte, toggled_at};
+ghost use Rattle.orca_sync.specs.Leading.{metronome_from, due_of, plays, clocked_at, toggle_byte, toggled_at};
 ghost use Rattle.orca_sync.specs.RealTime.{timing_clock, start};
 ghost use Rattle.orca_sync.specs.Together.{LeadsFollower};
 ghost use Rattle.orca_sync.specs.declared.follower.Beat.TheVariants.{Nothing, Frame, Restart};
@@ -16,8 +16,8 @@ use orca_term::Pacer;
 use std::marker::Model;
 
 /// A leader, which gives a clock. It begins with [`START`](crate::real_time::START), and each clock is a
-/// [`TIMING_CLOCK`](crate::real_time::TIMING_CLOCK). Moments are in microseconds. A contract sees its pace,
-/// and the pulse of a follower that heeds all its bytes.
+/// [`TIMING_CLOCK`](crate::real_time::TIMING_CLOCK). Moments are in microseconds. A contract sees its
+/// metronome: its pace, and the pulse of a follower that heeds all its bytes.
 #[derive(Clone, Copy, Debug, PartialEq, Eq)]
 pub struct Leader {
     pacer: Pacer,
@@ -28,9 +28,9 @@ pub struct Leader {
 impl Model for Leader {
     ghost use Rattle.std.specs.Prelude.{◌<◌};
     ghost use Rattle.orca_sync.specs.declared.limits.TheConstants.{FRAME_CLOCKS};
-    ghost use Rattle.orca_sync.specs.Leading.{Lead};
+    ghost use Rattle.orca_sync.specs.Leading.{Metronome};
 
-    ghost Value = { Lead };
+    ghost Value = { Metronome };
 
     ghost view = { λ leader. record {
       pace = leader.pacer;
@@ -39,10 +39,10 @@ impl Model for Leader {
 
     ghost invariant = { λ leader. leader.count < FRAME_CLOCKS };
 
-    ghost inverse = { λ lead. record {
-      pacer = lead.pace;
-      runs = lead.pulse.runs;
-      count = lead.pulse.count;
+    ghost inverse = { λ metronome. record {
+      pacer = metronome.pace;
+      runs = metronome.pulse.runs;
+      count = metronome.pulse.count;
     } };
 }
 
@@ -53,7 +53,7 @@ impl Leader {
     pub fn start(at: u64, bpm: u16) -> Leader
         requires some { 1 ≤ bpm }
         requires few { bpm ≤ MAX_BPM }
-        ensures lead { result ≡ lead_from bpm at }
+        ensures metronome { result ≡ metronome_from bpm at }
         ensures heard { (p : Pulse) → heed p start ≡ heeded Restart result.pulse }
 
         // What a follower plays that heeds all that is given.
@@ -82,7 +82,7 @@ impl Leader {
     pub fn clock(&mut self, at: u64) -> bool
         requires runs { self.old.pulse.runs ≡ true }
         ensures plays { result ≡ plays self.old }
-        ensures lead { self.new ≡ clocked_at at self.old }
+        ensures metronome { self.new ≡ clocked_at at self.old }
 
         // A follower plays the same frames, and the bytes of their messages don't disturb it.
         ensures heard { heed self.old.pulse timing_clock
@@ -99,7 +99,7 @@ impl Leader {
     #[tactic(auto, unfolding(crate::specs::Clocks::heed))]
     pub fn toggle(&mut self, at: u64) -> u8
         ensures byte { result ≡ toggle_byte self.old }
-        ensures lead { self.new ≡ toggled_at at self.old }
+        ensures metronome { self.new ≡ toggled_at at self.old }
         ensures heard { heed self.old.pulse result ≡ heeded Nothing self.new.pulse }
     {
         if self.runs {
