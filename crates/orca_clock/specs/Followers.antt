@@ -1,0 +1,98 @@
+-- The definition of a performance that follows a clock.
+use Rattle.std.specs.Prelude.{ℕ, ◌==◌, if◌then◌else◌, List, Option, Some, None, Result}
+use Rattle.orca_base.specs.declared.command.Command.TheVariants as command
+use Rattle.orca_course.specs.Courses.{Course, each, mapped, still}
+use Rattle.orca_course.specs.Doing.{Does, Stance}
+use Rattle.orca_course.specs.Performers.{Part}
+use Rattle.orca_course.specs.Worlds.{World, owing}
+use Rattle.orca_course.specs.declared.ending.Ending.{Ending}
+use Rattle.orca_course.specs.declared.ending.Stop.{Stop}
+use Rattle.orca_course.specs.declared.refused.NoMemory.{NoMemory}
+use Rattle.orca_concert.specs.Concerts.{Concert, command_course}
+use Rattle.orca_concert.specs.Manners.{Manner}
+use Rattle.orca_concert.specs.Stages.{concert_at}
+use Rattle.orca_concert.specs.declared.report.Report.{Ghosts as ReportGhosts}
+use Rattle.orca_edit.specs.declared.machine.Machine.{Ghosts}
+use Rattle.orca_rig.specs.declared.inbox.Answer.{Answer}
+use Rattle.orca_rig.specs.declared.inbox.Answer.TheVariants as answer
+use Rattle.orca_sync.specs.Clocks.{Pulse, heed, stopped}
+use Rattle.orca_sync.specs.declared.follower.Beat.{Beat}
+use Rattle.orca_sync.specs.declared.follower.Beat.TheVariants as beat
+use Rattle.orca_clock.specs.Clocked.{end_course, frame_course}
+use Rattle.orca_clock.specs.declared.follow.Follow.{Follow}
+
+-- ---- states
+
+-- where the run stands and what its report has kept, and the pulse of the clock that it follows
+pub record Followed (R : Type 0) : Type 0 where
+  pub concert : Concert R
+  pub pulse : Pulse
+
+-- the same, by the ghost members of its bounds
+abbrev pub follow_state : {M R : Type 0} → Ghosts M → (r : ReportGhosts R) → Follow M R
+    → Followed r.Kept
+follow_state g r follow = record {
+  concert = concert_at g r follow.stage;
+  pulse = follow.follower;
+}
+
+-- no clock has started it so far
+abbrev pub follow_at_start : {R : Type 0} → Concert R → Followed R
+follow_at_start s = record { concert = s; pulse = stopped }
+
+-- it stands where its session does
+abbrev pub follow_stance : {R : Type 0} → Manner R → Stance (Followed R)
+follow_stance m = record { standing = λ s. Some s.concert.standing; hands = m.hands }
+
+-- this was done of a course
+abbrev pub Did : {M R : Type 0} → Ghosts M → (r : ReportGhosts R)
+    → (Followed r.Kept → Course (Followed r.Kept) Stop) → Follow M R → World
+    → Result (Option Stop) NoMemory → Follow M R → World → Type 0
+Did g r c p x result q y =
+    Does (follow_stance r.manner) (c (follow_state g r p)) (follow_state g r p)
+    (owing (g.residue p.stage.machine) x) result (follow_state g r q)
+    (owing (g.residue q.stage.machine) y)
+
+-- ---- bytes
+
+-- what the clock asks for: the session begins anew, or a frame is played
+unfoldable pub beat_course : {R : Type 0} → Manner R → Beat → Concert R → Course (Concert R) Stop
+beat_course m beat.Nothing s = still s
+beat_course m beat.Frame s = frame_course m s
+beat_course m beat.Restart s = command_course m 0 command.Reset s
+
+-- what is done with the session alone, and the pulse after it
+abbrev pub with_pulse : {R : Type 0} → Pulse → Course (Concert R) Stop → Course (Followed R) Stop
+with_pulse pulse c = mapped (λ t. record { concert = t; pulse = pulse }) (λ end. end) c
+
+-- a byte: its beat is played
+unfoldable pub byte_course : {R : Type 0} → Manner R → ℕ → Followed R → Course (Followed R) Stop
+byte_course m byte s =
+    with_pulse (heed s.pulse byte).pulse (beat_course m (heed s.pulse byte).beat s.concert)
+
+-- ---- a performance
+
+-- what an answer brings; the bytes of other hands are dropped. No moment is waited for, so none
+-- comes
+unfoldable pub follow_course : {R : Type 0} → Manner R → Answer → List ℕ → Followed R
+    → Course (Followed R) Stop
+follow_course m (answer.Bytes hand count at) bytes s =
+    if hand == 0 then each (byte_course m) bytes s else still s
+follow_course m (answer.Due at) bytes s = still s
+follow_course m answer.End bytes s = still s
+follow_course m answer.Failed bytes s = still s
+
+-- the end
+unfoldable pub follow_finish : {R : Type 0} → Manner R → Ending → Followed R
+    → Course (Followed R) Stop
+follow_finish m ending s = with_pulse s.pulse (end_course m ending s.concert)
+
+-- what a follower does
+abbrev pub follow_part : {R : Type 0} → Manner R → Part (Followed R)
+follow_part m = record {
+  stance = follow_stance m;
+  until = λ s. None;
+  opens = still;
+  hears = follow_course m;
+  finishes = follow_finish m;
+}

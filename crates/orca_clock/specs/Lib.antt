@@ -1,0 +1,4 @@
+pub mod Clocked
+pub mod Deaf
+pub mod Followers
+pub mod Leaders

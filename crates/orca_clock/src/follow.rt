@@ -1,0 +1,161 @@
+//! A follower of a clock.
+
+ghost use Rattle.std.specs.Prelude.{◌≡◌};
+ghost use Rattle.orca_course.specs.Courses.{each};
+ghost use Rattle.orca_course.specs.Doing.{goes_of};
+ghost use Rattle.orca_concert.specs.Stages.{Plays, concert_at};
+ghost use Rattle.orca_clock.specs.Followers.{Did, beat_course, byte_course, follow_at_start, follow_course, follow_finish, follow_state};
+
+use crate::ending::end;
+use crate::frame::do_frame;
+use orca_base::Command;
+use orca_concert::{Report, Stage};
+use orca_course::{Desk, Ending, NoMemory, Performer, Stop};
+use orca_edit::Machine;
+use orca_rig::{Answer, House};
+use orca_sync::{Beat, Follower};
+
+/// The hand whose bytes are those of the clock.
+const CLOCK: u8 = 0;
+
+/// A session that plays by a clock that comes in.
+#[derive(Drop)]
+pub struct Follow<M, R> {
+    /// The session, and what is printed of it.
+    pub stage: Stage<M, R>,
+    /// What the clock asks for.
+    pub follower: Follower,
+}
+
+impl<M: Machine, R: Report> Follow<M, R> {
+    /// A session that no clock has started so far.
+    pub fn start(stage: Stage<M, R>) -> Follow<M, R>
+        ensures state { follow_state M.Machine.own R.Report.own result
+            ≡ follow_at_start (concert_at M.Machine.own R.Report.own stage) }
+        ensures machine { result.stage.machine ≡ stage.machine }
+    {
+        Follow {
+            stage,
+            follower: Follower::start(),
+        }
+    }
+}
+
+impl<M: Machine, R: Report> Performer for Follow<M, R> {
+    ghost use Rattle.orca_clock.specs.Deaf.{follow_is_deaf};
+    ghost use Rattle.orca_clock.specs.Followers.{Followed, follow_part, follow_state};
+
+    ghost State = { Followed R.Kept };
+
+    ghost state = { λ follow. follow_state M.Machine.own R.Report.own follow };
+
+    ghost residue = { λ follow. M.residue follow.stage.machine };
+
+    ghost part = { follow_part R.manner };
+
+    #[tactic(auto, using(orca_course::proofs::WorldLemmas::called_still))]
+    fn open<H: House>(&mut self, _: &mut Desk<H>) -> Result<Option<Stop>, NoMemory> {
+        Ok(None)
+    }
+
+    fn until(&self) -> Option<u64> {
+        None
+    }
+
+    fn hear<H: House>(
+        &mut self,
+        desk: &mut Desk<H>,
+        answer: Answer,
+        bytes: &[u8],
+    ) -> Result<Option<Stop>, NoMemory> {
+        hear(self, desk, answer, bytes)
+    }
+
+    fn finish<H: House>(&mut self, desk: &mut Desk<H>, ending: Ending) -> Result<(), NoMemory> {
+        finish(self, desk, ending)
+    }
+
+    ghost deaf = { follow_is_deaf R.manner R.quiet };
+}
+
+/// Does what the clock asks for.
+#[tactic(auto, using(orca_course::proofs::WorldLemmas::called_still), unfolding(crate::specs::Followers::beat_course))]
+fn do_beat<M: Machine, R: Report, H: House>(
+    stage: &mut Stage<M, R>,
+    desk: &mut Desk<H>,
+    beat: Beat,
+) -> Result<Option<Stop>, NoMemory>
+    ensures { Plays M.Machine.own R.Report.own (beat_course R.manner beat)
+        stage.old desk.old result stage.new desk.new }
+{
+    match beat {
+        Beat::Nothing => Ok(None),
+        Beat::Frame => do_frame(stage, desk),
+        Beat::Restart => stage.do_command(desk, 0, &Command::Reset),
+    }
+}
+
+/// Does what a byte asks for.
+fn do_byte<M: Machine, R: Report, H: House>(
+    follow: &mut Follow<M, R>,
+    desk: &mut Desk<H>,
+    byte: u8,
+) -> Result<Option<Stop>, NoMemory>
+    ensures { Did M.Machine.own R.Report.own (byte_course R.manner byte)
+        follow.old desk.old result follow.new desk.new }
+{
+    let beat = follow.follower.byte(byte);
+    do_beat(&mut follow.stage, desk, beat)
+}
+
+/// Does what bytes ask for, one by one. Those after the end of the performance are dropped.
+#[tactic(auto, using(orca_course::proofs::DoingLemmas::far_more, orca_course::proofs::DoingLemmas::far_none, orca_course::proofs::DoingLemmas::far_over, std::proofs::lemmas::List::drop_all, std::proofs::lemmas::List::drop_more))]
+fn do_bytes<M: Machine, R: Report, H: House>(
+    follow: &mut Follow<M, R>,
+    desk: &mut Desk<H>,
+    bytes: &[u8],
+) -> Result<Option<Stop>, NoMemory>
+    ensures { Did M.Machine.own R.Report.own (each (byte_course R.manner) bytes.now)
+        follow.old desk.old result follow.new desk.new }
+{
+    for byte in bytes {
+        if let Some(stop) = do_byte(follow, desk, *byte)? {
+            return Ok(Some(stop));
+        }
+    }
+    Ok(None)
+}
+
+/// Does what an answer brings. The bytes of other hands are dropped.
+#[tactic(auto, using(orca_course::proofs::WorldLemmas::called_still), unfolding(crate::specs::Followers::follow_course))]
+fn hear<M: Machine, R: Report, H: House>(
+    follow: &mut Follow<M, R>,
+    desk: &mut Desk<H>,
+    answer: Answer,
+    bytes: &[u8],
+) -> Result<Option<Stop>, NoMemory>
+    ensures { Did M.Machine.own R.Report.own (follow_course R.manner answer bytes.now)
+        follow.old desk.old result follow.new desk.new }
+{
+    match answer {
+        Answer::Bytes { hand, .. } => {
+            if hand != CLOCK {
+                return Ok(None);
+            }
+            do_bytes(follow, desk, bytes)
+        }
+        Answer::Due { .. } | Answer::End | Answer::Failed => Ok(None),
+    }
+}
+
+/// Tells where the run stands at last, and ends every note.
+fn finish<M: Machine, R: Report, H: House>(
+    follow: &mut Follow<M, R>,
+    desk: &mut Desk<H>,
+    ending: Ending,
+) -> Result<(), NoMemory>
+    ensures { Did M.Machine.own R.Report.own (follow_finish R.manner ending)
+        follow.old desk.old (goes_of result) follow.new desk.new }
+{
+    end(&mut follow.stage, desk, ending)
+}
