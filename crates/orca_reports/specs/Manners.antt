@@ -84,6 +84,16 @@ replay_manner = record {
   saves = λ r. still r;
 }
 
+-- `follow` and `lead` print at last the grid and where the run stands, as one text
+abbrev pub state_manner : Manner (Unit {0})
+state_manner = record {
+  hands = true;
+  done = λ line answer messages r. still r;
+  final = λ s r. says (text_sent (state_at s.machine) ∷ []) r;
+  close = λ messages r. still r;
+  saves = λ r. still r;
+}
+
 -- `make` prints its five lines at last, as one text
 abbrev pub make_manner : Manner (Unit {0})
 make_manner = record {

@@ -10,7 +10,7 @@ use Rattle.orca_course.specs.Acts.Act.{Save}
 use Rattle.orca_course.specs.Courses.{course, ended, still}
 use Rattle.orca_course.specs.declared.ending.Stop.TheVariants.{Full, SongTooLong, WaveTooLong}
 use Rattle.orca_send.specs.declared.lines.Label.TheVariants.{Tick, End}
-use Rattle.orca_reports.specs.Manners.{run_manner, events_manner, replay_manner, make_manner, frame_report, refusal_report, unless_full}
+use Rattle.orca_reports.specs.Manners.{run_manner, events_manner, replay_manner, state_manner, make_manner, frame_report, refusal_report, unless_full}
 use Rattle.orca_smf.specs.declared.limits.TheConstants.{MAX_TRACK_BYTES}
 use Rattle.orca_smf.specs.Recording.{Recorded}
 use Rattle.orca_smf.specs.Songs.{smf}
@@ -63,6 +63,14 @@ quiet-events = record {
 pub quiet-replay : IsQuiet replay_manner
 quiet-replay = record {
   done = λ line answer messages r. aside_refusal line answer r;
+  final = λ s r. aside_text _ r;
+  close = λ messages r. aside_still r;
+  saves = λ r. aside_still r;
+}
+
+pub quiet-state : IsQuiet state_manner
+quiet-state = record {
+  done = λ line answer messages r. aside_still r;
   final = λ s r. aside_text _ r;
   close = λ messages r. aside_still r;
   saves = λ r. aside_still r;

@@ -13,6 +13,7 @@ mod recorder;
 mod replay;
 mod run;
 mod smf;
+mod state;
 mod wav;
 
 pub use events::EventsReport;
@@ -21,4 +22,5 @@ pub use make::MakeReport;
 pub use replay::ReplayReport;
 pub use run::RunReport;
 pub use smf::SmfReport;
+pub use state::StateReport;
 pub use wav::{WavReport, wave_bytes};

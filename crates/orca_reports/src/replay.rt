@@ -109,7 +109,7 @@ fn push_kept(line: &mut Vec<u8>, rule: Rule) -> Result<(), Memory>
 }
 
 /// Makes `line` the grid, and then the line of where the session stands.
-fn write_state<M: Machine>(line: &mut Vec<u8>, machine: &M) -> Result<(), Memory>
+pub(crate) fn write_state<M: Machine>(line: &mut Vec<u8>, machine: &M) -> Result<(), Memory>
     ensures { OnOk result (line.new.items ≡ state_at (M.machine machine.now)) }
 {
     machine.is_shown();
