@@ -1,5 +1,5 @@
--- What performances by a clock share: a byte of the clock that is given, a frame that is due, and the
--- end.
+-- What performances by a clock share: a byte of the clock that is given, a frame that is due, and
+-- the end.
 use Rattle.std.specs.Prelude.{ℕ, nat_le, if◌then◌else◌, [], ◌∷◌, length, None}
 use Rattle.orca_base.specs.declared.command.Command.TheVariants as command
 use Rattle.orca_base.specs.declared.port.Port.TheVariants as port

@@ -4,8 +4,10 @@
 mod ending;
 mod follow;
 mod frame;
+mod laws;
 mod lead;
 mod sending;
 
 pub use follow::Follow;
+pub use laws::clock_law;
 pub use lead::Lead;

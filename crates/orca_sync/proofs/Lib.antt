@@ -1,4 +1,4 @@
-mod ClockLaws
+pub mod ClockLaws
 pub mod LeadLaws
 mod WorkedClocks
 mod WorkedLimits

@@ -5,8 +5,8 @@ use Rattle.orca_sync.specs.RealTime.{continue, stop}
 use Rattle.orca_sync.specs.declared.limits.TheConstants.{BEAT_CLOCKS}
 use Rattle.orca_term.specs.Pacing.{Pace, parts_from, due_after}
 
--- what a leader goes by: its pace, and its pulse, which is that of a follower that heeds each of its
--- bytes. While it doesn't run it is paused, and no clock is due
+-- what a leader goes by: its pace, and its pulse, which is that of a follower that heeds each of
+-- its bytes. While it doesn't run it is paused, and no clock is due
 pub record Metronome : Type 0 where
   pub pace : Pace
   pub pulse : Pulse

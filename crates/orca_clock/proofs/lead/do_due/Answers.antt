@@ -28,5 +28,10 @@ pub returns : goal.returns
 unfolding due_course clocked_course
 returns g c =
     let runs : c.args.lead.now.leader.pulse.runs ≡ true = grind (arith, common_steps) in
-    rw (← c.clock-first.ensures.metronome, ← c.clock-first.ensures.plays, c.if-not-first.false, runs)
+    rw (
+      ← c.clock-first.ensures.metronome,
+      ← c.clock-first.ensures.plays,
+      c.if-not-first.false,
+      runs,
+    )
     (led_did g.R.Report.manner _ _ _ _ _ (does_then _ c.in_ok-give_byte.ensures c.do_frame.ensures))
