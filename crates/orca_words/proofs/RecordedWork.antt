@@ -19,7 +19,7 @@ use Rattle.orca_words.specs.declared.limits.TheConstants.{MIN_SONG_BPM}
 use Rattle.orca_words.specs.declared.request.Request.{Request as Held}
 use Rattle.orca_words.specs.Recordings.{HasOwnJournal, HasSongTempo, IfPerform, IsPortless, OwnsJournals, RecordsWithoutPorts}
 use Rattle.orca_words.specs.RequestIn.{request_in}
-use Rattle.orca_words.specs.Requests.{Events, Make, Migrate, Perform, Performance, Play, Recording, Replay, Request, Run, Setup, Smf, Wav, Work, frames_of, greatest, is_same_name, migration_of, number_in, option_number, performance_of, performed, portless_setup_of, positional_text, recording_of, request_by, request_in_form, request_of, setup_of, with_own_journal, with_ports, workload_of}
+use Rattle.orca_words.specs.Requests.{Events, Follow, Lead, Make, Migrate, Perform, Performance, Play, Recording, Replay, Request, Run, Setup, Smf, Wav, Work, frames_of, greatest, is_same_name, leading_of, migration_of, number_in, option_number, performance_of, performed, portless_setup_of, positional_text, recording_of, request_by, request_in_form, request_of, setup_of, with_own_journal, with_ports, workload_of}
 
 -- ---- numbers
 
@@ -152,6 +152,11 @@ recordable verb.Smf found =
 recordable verb.Wav found =
     performed_holds Wav (portless_setup_of found) (recording_of found 1)
     (λ s setup wave read. (tt, no_ports found s setup, tt))
+recordable verb.Follow found =
+    performed_holds Follow (setup_of found) (Some (positional_text found (codes "ADDRESS")))
+    (λ s _ address _. (tt, tt, tt))
+recordable verb.Lead found =
+    performed_holds Lead (setup_of found) (leading_of found) (λ s _ lead _. (tt, tt, tt))
 
 -- ---- what is answered
 

@@ -7,7 +7,7 @@ use Rattle.clap.proofs.OnLiterals.{clap_on_literals}
 use Rattle.orca_base.specs.Ascii.{space}
 use Rattle.orca_base.specs.Numbers.{number_of}
 use Rattle.orca_words.specs.Forms.{command_of, forms}
-use Rattle.orca_words.specs.Requests.{Request, Setup, Perform, Make, Migrate, Run, Events, Replay, Play, Smf, Wav, migration_of, number_in, option_full, option_text, performance_of, portless_setup_of, recording_of, request_by, with_own_journal, request_in_form, request_of, setup_of, workload_of}
+use Rattle.orca_words.specs.Requests.{Events, Follow, Lead, Make, Migrate, Perform, Play, Replay, Request, Run, Setup, Smf, Wav, leading_of, migration_of, number_in, option_full, option_text, performance_of, portless_setup_of, recording_of, request_by, request_in_form, request_of, setup_of, with_own_journal, workload_of}
 
 -- what a line asks for
 unfoldable asked : Text → Option Request
@@ -18,7 +18,7 @@ unfolding option_text option_full number_in number_of
 values = tt
 
 unfoldable parts : ⊤
-unfolding setup_of portless_setup_of performance_of with_own_journal workload_of migration_of recording_of
+unfolding setup_of portless_setup_of performance_of workload_of migration_of recording_of leading_of with_own_journal
 parts = tt
 
 unfoldable worked : ⊤
@@ -138,6 +138,25 @@ wav_none : asked (codes "wav g 4294967295 o")
 unfolding worked none_set
 wav_none = refl
 
+follow_all : asked (codes "follow --seed 7 g --limit=9 --midi m a --udp=u --osc o")
+    ≡ Some (Perform all_set (Follow (codes "a")))
+unfolding worked all_set
+follow_all = refl
+
+follow_none : asked (codes "follow g a") ≡ Some (Perform none_set (Follow (codes "a")))
+unfolding worked none_set
+follow_none = refl
+
+lead_all : asked (codes "lead g --osc=o --udp u a --midi=m --bpm 999 --limit 9 --seed=7")
+    ≡ Some (Perform all_set (Lead (record { address = codes "a"; bpm = 999 })))
+unfolding worked all_set
+lead_all = refl
+
+lead_none : asked (codes "lead g -- a")
+    ≡ Some (Perform none_set (Lead (record { address = codes "a"; bpm = 120 })))
+unfolding worked none_set
+lead_none = refl
+
 -- after `--` all words are positional, and a lone dash and an empty word are texts
 after_dashes : asked (codes "run --seed=7 -- --seed 3")
     ≡ Some (Perform (record none_set { grid = codes "--seed"; seed = 7 }) (Run 3))
@@ -219,6 +238,24 @@ refused : list_all (λ line. not (is_some (asked line))) (codes ""
     ∷ codes "wav g 3 o --bpm 1000"
     ∷ codes "wav g 3 o --limit=4000001"
     ∷ codes "wav g 3 o --osc o"
+    ∷ codes "follow"
+    ∷ codes "follow g"
+    ∷ codes "follow 3 g a"
+    ∷ codes "follow g a --bpm 90"
+    ∷ codes "follow g a --rows 9"
+    ∷ codes "follow g a --keys full"
+    ∷ codes "follow g a --script s"
+    ∷ codes "follow g a --limit 0"
+    ∷ codes "follow g a -h"
+    ∷ codes "lead"
+    ∷ codes "lead g"
+    ∷ codes "lead g 3 a"
+    ∷ codes "lead g a --bpm 0"
+    ∷ codes "lead g a --bpm 1000"
+    ∷ codes "lead g a --bpm 90 --bpm=90"
+    ∷ codes "lead g a --cols 9"
+    ∷ codes "lead g a --save o"
+    ∷ codes "lead g a --seed 4294967296"
     ∷ []) ≡ true
 unfolding worked
 refused = refl

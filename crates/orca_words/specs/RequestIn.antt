@@ -11,8 +11,9 @@ use Rattle.orca_words.specs.declared.request.Work.TheVariants as held_work
 use Rattle.orca_words.specs.declared.request.Performance.{Performance as HeldPerformance}
 use Rattle.orca_words.specs.declared.request.Workload.{Workload as HeldWorkload}
 use Rattle.orca_words.specs.declared.request.Recording.{Recording as HeldRecording}
+use Rattle.orca_words.specs.declared.request.Leading.{Leading as HeldLeading}
 use Rattle.orca_words.specs.declared.request.Migration.{Migration as HeldMigration}
-use Rattle.orca_words.specs.Requests.{Request, Perform, Make, Migrate, Setup, Work, Run, Events, Replay, Play, Smf, Wav, Performance, Workload, Recording, Migration}
+use Rattle.orca_words.specs.Requests.{Request, Perform, Make, Migrate, Setup, Work, Run, Events, Replay, Play, Smf, Wav, Follow, Lead, Performance, Workload, Recording, Leading, Migration}
 
 -- what a parse found
 unfoldable pub rows_in : ArgMatches → List Row
@@ -59,6 +60,9 @@ recording_in recording = record {
   out = recording.out.now;
 }
 
+abbrev pub leading_in : HeldLeading → Leading
+leading_in lead = record { address = lead.address.now; bpm = lead.bpm }
+
 abbrev pub migration_in : HeldMigration → Migration
 migration_in migration = record {
   script = migration.script.now;
@@ -73,6 +77,8 @@ work_in (held_work.Replay script) = Replay script.now
 work_in (held_work.Play play) = Play (performance_in play)
 work_in (held_work.Smf song) = Smf (recording_in song)
 work_in (held_work.Wav wave) = Wav (recording_in wave)
+work_in (held_work.Follow address) = Follow address.now
+work_in (held_work.Lead lead) = Lead (leading_in lead)
 
 abbrev pub request_in : Held → Request
 request_in (held.Perform setup work) = Perform (setup_in setup) (work_in work)

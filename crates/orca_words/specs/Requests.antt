@@ -38,6 +38,11 @@ pub record Recording : Type 0 where
   pub bpm : ℕ
   pub out : Text
 
+-- where the keys of a player come from, and how fast a clock is given
+pub record Leading : Type 0 where
+  pub address : Text
+  pub bpm : ℕ
+
 -- a script that is saved in format 2
 pub record Migration : Type 0 where
   pub script : Text
@@ -59,6 +64,8 @@ pub data Work : Type 0 where
   Play : Performance → Work
   Smf : Recording → Work
   Wav : Recording → Work
+  Follow : Text → Work
+  Lead : Leading → Work
 
 -- what the words ask for
 pub data Request : Type 0 where
@@ -194,6 +201,12 @@ recording_of found least =
     with_number (option_number found (codes "bpm") DEFAULT_BPM least MAX_BPM) (λ bpm.
     Some (record { frames = frames; bpm = bpm; out = positional_text found (codes "OUT") })))
 
+-- the address and the tempo of `lead`
+unfoldable pub leading_of : List Row → Option Leading
+leading_of found =
+    with_number (option_number found (codes "bpm") DEFAULT_BPM 1 MAX_BPM) (λ bpm.
+    Some (record { address = positional_text found (codes "ADDRESS"); bpm = bpm }))
+
 -- the names and the seed of `migrate`
 unfoldable pub migration_of : List Row → Option Migration
 migration_of found =
@@ -223,6 +236,9 @@ request_by verb.Smf found =
     performed (portless_setup_of found) (option_map Smf (recording_of found MIN_SONG_BPM))
 request_by verb.Wav found =
     performed (portless_setup_of found) (option_map Wav (recording_of found 1))
+request_by verb.Follow found =
+    performed (setup_of found) (Some (Follow (positional_text found (codes "ADDRESS"))))
+request_by verb.Lead found = performed (setup_of found) (option_map Lead (leading_of found))
 
 -- what the words after the first ask for, by the form that it picked. They are accepted exactly
 -- where the command of the form has no fault and the numbers are in their ranges

@@ -11,6 +11,8 @@ pub(crate) enum Verb {
     Migrate,
     Smf,
     Wav,
+    Follow,
+    Lead,
 }
 
 /// A form of the command line: its first word, the names of the positionals that have to follow it,
@@ -34,8 +36,11 @@ const PLAY_OPTIONS: &[&str] = &[
 /// The options of a run on a grid that is saved as a song or as sound.
 const RECORDING_OPTIONS: &[&str] = &["seed", "limit", "bpm"];
 
+/// The options of a run on a grid that gives a MIDI clock.
+const LEAD_OPTIONS: &[&str] = &["seed", "limit", "midi", "udp", "osc", "bpm"];
+
 /// The command lines that are read: each is in one of these forms.
-pub(crate) static FORMS: [Form; 8] = [
+pub(crate) static FORMS: [Form; 10] = [
     ("run", &["GRID", "FRAMES"], OPTIONS, Verb::Run),
     ("events", &["GRID", "FRAMES"], OPTIONS, Verb::Events),
     ("replay", &["GRID", "SCRIPT"], OPTIONS, Verb::Replay),
@@ -59,4 +64,6 @@ pub(crate) static FORMS: [Form; 8] = [
         RECORDING_OPTIONS,
         Verb::Wav,
     ),
+    ("follow", &["GRID", "ADDRESS"], OPTIONS, Verb::Follow),
+    ("lead", &["GRID", "ADDRESS"], LEAD_OPTIONS, Verb::Lead),
 ];

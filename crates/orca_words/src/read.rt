@@ -2,9 +2,9 @@
 
 ghost use Rattle.std.specs.Prelude.{◌≡◌, ◌≤◌, None, Some, find, map, option_map, string_bytes, IfOk, IsErrOf, MatchOption};
 ghost use Rattle.std.specs.Str.{bytes_eq};
-ghost use Rattle.orca_words.specs.Requests.{frames_of, migration_of, performance_of, performed, portless_setup_of, recording_of, request_by, request_in_form, request_of, setup_of, is_same_name, with_own_journal, workload_of};
+ghost use Rattle.orca_words.specs.Requests.{frames_of, is_same_name, leading_of, migration_of, performance_of, performed, portless_setup_of, recording_of, request_by, request_in_form, request_of, setup_of, with_own_journal, workload_of};
 ghost use Rattle.orca_words.specs.Forms.{form_by, form_in};
-ghost use Rattle.orca_words.specs.RequestIn.{migration_in, performance_in, recording_in, request_in, rows_in, setup_in, text_in, work_in, workload_in};
+ghost use Rattle.orca_words.specs.RequestIn.{leading_in, migration_in, performance_in, recording_in, request_in, rows_in, setup_in, text_in, work_in, workload_in};
 ghost use Rattle.orca_words.specs.Recordings.{HasOwnJournal, HasSongTempo, IfPerform, RecordsWithoutPorts};
 
 use crate::command::parse;
@@ -13,7 +13,9 @@ use crate::limits::{DEFAULT_SCREEN_COLUMNS, DEFAULT_SCREEN_ROWS, MAX_MADE_FRAMES
 use crate::values::{
     option_full, option_number, option_text, positional_number, positional_text, small_option,
 };
-use crate::{Migration, Performance, Recording, Request, Setup, WordsFault, Work, Workload};
+use crate::{
+    Leading, Migration, Performance, Recording, Request, Setup, WordsFault, Work, Workload,
+};
 use clap::ArgMatches;
 use orca_base::limits::{
     DEFAULT_BPM, DEFAULT_HISTORY, DEFAULT_SEED, MAX_BPM, MAX_COLUMNS, MAX_HISTORY, MAX_ROWS,
@@ -128,6 +130,11 @@ fn request_by<'a>(verb: Verb, found: &ArgMatches<'a>) -> Option<Request<'a>>
             let wave = recording(found, 1)?;
             perform(portless_setup(found), Work::Wav(wave))
         }
+        Verb::Follow => {
+            let address = positional_text(found, "ADDRESS");
+            perform(setup(found), Work::Follow { address })
+        }
+        Verb::Lead => perform(setup(found), Work::Lead(leading(found)?)),
     }
 }
 
@@ -233,6 +240,18 @@ fn performance<'a>(found: &ArgMatches<'a>) -> Option<Performance<'a>>
         save: option_text(found, "save"),
         script: option_text(found, "script"),
         journal: option_text(found, "journal"),
+    })
+}
+
+/// The address and the tempo of `lead`.
+#[tactic(auto, unfolding(crate::specs::Requests::leading_of))]
+fn leading<'a>(found: &ArgMatches<'a>) -> Option<Leading<'a>>
+    ensures { option_map leading_in result ≡ leading_of (rows_in found.now) }
+{
+    let bpm = small_option(found, "bpm", DEFAULT_BPM, 1, MAX_BPM)?;
+    Some(Leading {
+        address: positional_text(found, "ADDRESS"),
+        bpm,
     })
 }
 

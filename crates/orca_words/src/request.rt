@@ -49,6 +49,10 @@ pub enum Work<'a> {
     Smf(Recording<'a>),
     /// The word `wav`: frames are played, and their notes are saved as sound. No port is attached.
     Wav(Recording<'a>),
+    /// The word `follow`: the grid plays by the MIDI clock whose bytes arrive at an address.
+    Follow { address: &'a str },
+    /// The word `lead`: the grid plays, and gives a MIDI clock.
+    Lead(Leading<'a>),
 }
 
 /// Where keys come from and which they are, where pictures go to, how fast frames are played, and what is
@@ -87,6 +91,16 @@ pub struct Recording<'a> {
     pub bpm: u16,
     /// The file that the song or the sound is saved to.
     pub out: &'a str,
+    ghost bpm_in_range: { (1 ≤ bpm) × (bpm ≤ MAX_BPM) },
+}
+
+/// Where the keys of a player come from, and how fast a clock is given.
+#[derive(Debug, PartialEq, Eq, Drop)]
+pub struct Leading<'a> {
+    /// The address at which the keys arrive.
+    pub address: &'a str,
+    /// The tempo in beats a minute: 1 to [`MAX_BPM`](orca_base::limits::MAX_BPM).
+    pub bpm: u16,
     ghost bpm_in_range: { (1 ≤ bpm) × (bpm ≤ MAX_BPM) },
 }
 
