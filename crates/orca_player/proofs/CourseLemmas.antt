@@ -4,6 +4,8 @@ use Rattle.std.specs.Prelude.{Option, Some, None, IfSome, Ok, Result, Err}
 use Rattle.std.proofs.lemmas.List.{map-append}
 use Rattle.orca_base.specs.Grids.{Sheet}
 use Rattle.orca_base.specs.Ports.{Sent}
+use Rattle.orca_clock.specs.Followers.{Followed}
+use Rattle.orca_clock.specs.Leaders.{Led}
 use Rattle.orca_concert.specs.Concerts.{Concert, concert as concert_at, concert_course, handed_of}
 use Rattle.orca_concert.specs.Manners.{IsQuiet, Manner}
 use Rattle.orca_concert.proofs.DeafLemmas.{concert_is_deaf}
@@ -12,7 +14,7 @@ use Rattle.orca_course.specs.Acts.Act.{Give, Stand}
 use Rattle.orca_course.specs.Courses.{Course, mapped}
 use Rattle.orca_course.specs.Doing.{Does, Stance}
 use Rattle.orca_course.specs.Following.{Follows, keys_after_acts, sounding}
-use Rattle.orca_course.specs.Performers.{IsLostBy}
+use Rattle.orca_course.specs.Performers.{IsDeaf, IsLostBy, Part}
 use Rattle.orca_course.specs.Standings.{Standing, notes_of}
 use Rattle.orca_course.specs.Worlds.{Calls, Made, Unsent, World, is_lost, owing}
 use Rattle.orca_course.specs.declared.ending.Ending.{Ending}
@@ -30,11 +32,12 @@ use Rattle.orca_live.specs.Performing.{live_part}
 use Rattle.orca_live.specs.States.{LiveState}
 use Rattle.orca_notes.specs.Device.{Voice, voices}
 use Rattle.orca_notes.specs.Sound.{ends}
+use Rattle.orca_reports.specs.Manners.{state_manner}
 use Rattle.orca_script.specs.Runs.{ScriptReadsBack}
 use Rattle.orca_term.specs.Picture.{IsScreen}
 use Rattle.orca_words.specs.Requests.{Performance, Setup}
 use Rattle.orca_player.specs.Doing.{Came, CameBy, IsBlamed, status_at}
-use Rattle.orca_player.specs.Outlines.{concert, live_outline, live_start, opening, played, standing_at, status_of_end, status_of_ending}
+use Rattle.orca_player.specs.Outlines.{concert, follow_outline, follow_start, followed, lead_outline, lead_start, led, live_outline, live_start, opening, performed_outline, played, standing_at, status_of_end, status_of_ending}
 use Rattle.orca_player.specs.Performances.{IsSilenced, Performed}
 use Rattle.orca_player.specs.declared.status.Status.{Status}
 use Rattle.orca_player.specs.declared.status.Status.TheVariants.{Memory}
@@ -206,6 +209,26 @@ pub lost_by : (ending : Ending) (x y : World) → IsLostBy (Ok (Some ending)) (i
     → IsBlamed (status_of_ending ending) x y
 lost_by ending x y lost = grind arith
 
+-- one that neither paints nor saves
+pub performed_by : {S : Type 0} (p : Part S) (s : Standing) {u t : S} {x y : World}
+    {status : Status} → p.stance.standing u ≡ Some s → Performed p u x status t y
+    → CameBy (λ b. performed_outline p s u b.polls) x status y
+unfolding opening mapped
+performed_by p s stands did =
+    by (record { script = None; start = None; polls = did.polls }) (record {
+      polls = did.all;
+      few = did.few;
+      sized = tt;
+      reads = λ other. tt;
+      takes = λ other ends. tt;
+    }) (did.came s stands)
+
+-- memory was refused before anything was done
+pub performed_none : {S : Type 0} (p : Part S) → IsDeaf p → (s : Standing) (u : S) (x : World)
+    → CameBy (λ b. performed_outline p s u b.polls) x Memory x
+unfolding opening mapped
+performed_none p deaf s u x = by_memory (polls_none p deaf u, tt) (came_none _ x)
+
 -- ---- a player
 
 pub played_by : {s t : LiveState} {x y : World} {status : Status}
@@ -233,3 +256,17 @@ pub live_from : (setup : Setup) (play : Performance) (at : ℕ) (s : Standing) (
     → CameBy (λ b. live_outline setup play b.polls s at) x status y
 unfolding live_outline
 live_from setup play at s u is did = rw is at did
+
+-- ---- a clock
+
+pub follow_from : (s : Standing) (u : Followed (Unit {0})) {x y : World} {status : Status}
+    → u ≡ follow_start s → CameBy (λ b. followed state_manner u b.polls) x status y
+    → CameBy (λ b. follow_outline b.polls s) x status y
+unfolding follow_outline
+follow_from s u is did = rw is at did
+
+pub lead_from : (bpm at : ℕ) (s : Standing) (u : Led (Unit {0})) {x y : World} {status : Status}
+    → u ≡ lead_start bpm at s → CameBy (λ b. led state_manner u b.polls) x status y
+    → CameBy (λ b. lead_outline bpm b.polls s at) x status y
+unfolding lead_outline
+lead_from bpm at s u is did = rw is at did

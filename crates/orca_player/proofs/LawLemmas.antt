@@ -4,10 +4,12 @@ use Rattle.std.specs.Prelude.{Option, Some, None, unwrap_or, Result, Ok, Err, If
 use Rattle.std.specs.Option.{option_map, option_map_or}
 use Rattle.orca_base.specs.declared.command.Command.{Command}
 use Rattle.orca_base.specs.Grids.{Sheet}
+use Rattle.orca_clock.specs.Followers.{follow_part}
+use Rattle.orca_clock.specs.Leaders.{lead_part}
 use Rattle.orca_concert.specs.Concerts.{concert as concert_at}
 use Rattle.orca_course.specs.Acts.{Act, commands_in, ArePrintable}
 use Rattle.orca_course.specs.Courses.{mapped}
-use Rattle.orca_course.specs.Performers.{performance}
+use Rattle.orca_course.specs.Performers.{Part, performance}
 use Rattle.orca_course.specs.Standings.{Standing}
 use Rattle.orca_course.specs.declared.ending.Ending.{Ending}
 use Rattle.orca_cues.specs.Scripts.{any_script_of, cues_asking, seed_in}
@@ -15,21 +17,25 @@ use Rattle.orca_cues.proofs.Printed.{script2_read}
 use Rattle.orca_edit.specs.Obeying.{MachineState, machine_closed}
 use Rattle.orca_grid.specs.GridText.{grid_text}
 use Rattle.orca_grid.specs.declared.refusal.GridRefusal.{GridRefusal}
+use Rattle.orca_live.specs.Items.{items_of}
 use Rattle.orca_live.specs.Laws.{ItemsDecide, ReplaysScript as LiveReplays, replayed}
 use Rattle.orca_live.specs.Performing.{live_part}
-use Rattle.orca_reports.specs.Manners.{replay_manner}
+use Rattle.orca_reports.specs.Manners.{replay_manner, state_manner}
 use Rattle.orca_trace.specs.Calls.{Poll}
 use Rattle.orca_script.specs.Runs.{lines_behind, printed_script}
-use Rattle.orca_words.specs.Requests.{Perform, Performance, Play, Replay, Request, Setup, Work, request_of}
+use Rattle.orca_words.specs.Requests.{Follow, Lead, Perform, Performance, Play, Replay, Request, Setup, Work, request_of}
 use Rattle.orca_course.specs.Acts.Act.{Attach, Listen, Load, Stand}
 use Rattle.orca_live.specs.Paintings.{ShowsPerformance, ShowsPictures}
 use Rattle.orca_term.specs.Picture.{IsScreen}
 use Rattle.orca_term.specs.declared.cell.ScreenSize.{ScreenSize}
 use Rattle.orca_player.specs.Doing.{ReadsBack}
 use Rattle.orca_player.specs.Laws.{CutsAlike, EndAlike, HasEnd, HearAlike, IsReplayed, ReplaysAlike}
-use Rattle.orca_player.specs.Outlines.{Brought, Heard, Outline, Script, after, asked_outline, attaches, concert, grid_outline, listening, live_outline, live_start, loading, made_outline, migrated, opening, outline, performed, reading, request_outline, script_kept, script_outline, standing_at, start_of, status_of_ending, stopped, work_outline}
+use Rattle.orca_player.specs.Outlines.{Brought, Heard, Outline, Script, after, asked_outline, attaches, concert, follow_outline, follow_start, grid_outline, lead_outline, lead_start, listening, live_outline, live_start, loading, made_outline, migrated, opening, outline, performed, performed_outline, reading, request_outline, script_kept, script_outline, standing_at, start_of, status_of_ending, stopped, work_outline}
+use Rattle.orca_player.specs.declared.live.TheConstants.{ALONE}
 use Rattle.orca_player.specs.declared.status.Status.TheVariants.{FileFault}
 use Rattle.orca_player.proofs.CameLemmas.{attaches-calls, calls_bare, AreCalls}
+use Rattle.orca_player.proofs.ClockLemmas.{follow_by_items, lead_by_items, lead_core}
+use Rattle.orca_player.proofs.ItemLemmas.{ByItems, items_alike}
 use Rattle.orca_concert.proofs.EndingLemmas.{concert-standing}
 
 -- each beginning of acts shows its pictures
@@ -89,7 +95,7 @@ shown_listened law address hands setup play at polls s sized =
 shown_grid : ShowsPerformance → (setup : Setup) (work : Work) (b : Brought)
     (read : Result Sheet GridRefusal) → Sized (grid_outline setup work b read)
     → Shown (grid_outline setup work b read)
-unfolding grid_outline work_outline listening loading script_outline reading concert opening
+unfolding grid_outline work_outline listening loading script_outline reading concert follow_outline lead_outline opening
 shown_grid law setup work b read sized = grind (arith, shown_listened law)
 
 shown_loaded : ShowsPerformance → (setup : Setup) (work : Work) (b : Brought)
@@ -155,11 +161,24 @@ Alike o p = HasEnd o → HasEnd p → EndAlike o p
 alike_none : (o : Outline) → Alike o o
 alike_none o = λ ends others. record { commands = refl; standing = refl; given = refl }
 
+-- performances that go by items
+alike_by : {S : Type 0} (p : Part S) (core : S → S) (by : ByItems p core) (address : List ℕ)
+    (hands a b : ℕ) (s : Standing) (polls others : List Poll) (u v : S)
+    → items_of polls ≡ items_of others → core u ≡ core v
+    → Alike (after (Listen address hands (Some a) ∷ []) (performed_outline p s u polls))
+    (after (Listen address hands (Some b) ∷ []) (performed_outline p s v others))
+unfolding opening mapped
+alike_by p core by address hands a b s polls others u v items same = λ ends other_ends.
+    let alike = items_alike p core by polls others u v items same
+    (ended_by (performance p u polls).ending ends)
+    (ended_by (performance p v others).ending other_ends) in
+    record { commands = alike.commands; standing = alike.standing; given = refl }
+
 work_alike : ItemsDecide → (setup : Setup) (work : Work) (sheet : Sheet) (script : Option (List ℕ))
     (a b : Option ℕ) (polls others : List Poll) → AreCut a b polls others
     → Alike (work_outline setup work sheet (brings script a polls))
     (work_outline setup work sheet (brings script b others))
-unfolding work_outline listening live_outline opening mapped
+unfolding work_outline listening live_outline follow_outline lead_outline opening mapped
 work_alike cutting setup (Play play) sheet script None None polls others cut = alike_none _
 work_alike cutting setup (Play play) sheet script (Some a) (Some b) polls others cut =
     λ ends other_ends.
@@ -183,6 +202,19 @@ work_alike cutting setup (Play play) sheet script (Some a) (Some b) polls others
       given = ap (script_kept play.script setup.seed) alike.given;
     }
 work_alike cutting setup (Play play) sheet script _ _ polls others cut = absurd cc
+work_alike cutting setup (Follow address) sheet script None None polls others cut = alike_none _
+work_alike cutting setup (Follow address) sheet script (Some a) (Some b) polls others cut =
+    let s = start_of setup sheet in
+    let u = follow_start s in
+    alike_by (follow_part state_manner) (λ s. s) follow_by_items address ALONE a b s polls others u u
+    cut.items refl
+work_alike cutting setup (Follow address) sheet script _ _ polls others cut = absurd cc
+work_alike cutting setup (Lead lead) sheet script None None polls others cut = alike_none _
+work_alike cutting setup (Lead lead) sheet script (Some a) (Some b) polls others cut =
+    let s = start_of setup sheet in
+    alike_by (lead_part state_manner) lead_core lead_by_items lead.address ALONE a b s polls others
+    (lead_start lead.bpm a s) (lead_start lead.bpm b s) cut.items refl
+work_alike cutting setup (Lead lead) sheet script _ _ polls others cut = absurd cc
 work_alike cutting setup _ sheet script a b polls others cut = alike_none _
 
 commands_attached : (setup : Setup) (more : List Act)

@@ -1,6 +1,8 @@
 pub mod CameLemmas
+pub mod ClockLemmas
 pub mod CourseLemmas
 pub mod EndLemmas
+pub mod ItemLemmas
 pub mod LawLemmas
 pub mod JournalLemmas
 pub mod ReadyLemmas

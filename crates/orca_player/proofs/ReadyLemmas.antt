@@ -5,6 +5,8 @@ use Rattle.std.specs.Option.{option_map}
 use Rattle.std.proofs.lemmas.Bool.Decides.{nat_tests}
 use Rattle.orca_base.specs.declared.limits.TheConstants.{MAX_POLLS}
 use Rattle.orca_base.specs.Grids.{Sheet}
+use Rattle.orca_clock.specs.Followers.{follow_part}
+use Rattle.orca_clock.specs.Leaders.{lead_part}
 use Rattle.orca_concert.specs.Concerts.{concert as concert_at, concert_course, cues_course}
 use Rattle.orca_concert.specs.Manners.{Manner}
 use Rattle.orca_concert.proofs.EndingLemmas.{Closes, Ends, Frames, concert-ends, cues-end, frames-cue}
@@ -14,7 +16,7 @@ use Rattle.orca_course.specs.Standings.{Standing}
 use Rattle.orca_course.specs.declared.ending.Ending.{Ending}
 use Rattle.orca_course.specs.declared.ending.Stop.{Stop}
 use Rattle.orca_course.specs.declared.ending.Stop.TheVariants.{Left}
-use Rattle.orca_course.proofs.PerformanceLemmas.{EndsIn, performance_in}
+use Rattle.orca_course.proofs.PerformanceLemmas.{EndsIn, performance_in, performance_well}
 use Rattle.orca_cues.specs.Cues.{frames_cue}
 use Rattle.orca_cues.specs.declared.source.Cue.{Cue}
 use Rattle.orca_live.specs.Items.{turns_of}
@@ -22,7 +24,7 @@ use Rattle.orca_live.specs.Laws.{so_far}
 use Rattle.orca_live.specs.Performing.{live_part}
 use Rattle.orca_live.specs.States.{LiveState}
 use Rattle.orca_live.proofs.LeavingLemmas.{AtFull, heard_ends, live_ends_well}
-use Rattle.orca_reports.specs.Manners.{events_manner, make_manner, replay_manner, run_manner}
+use Rattle.orca_reports.specs.Manners.{events_manner, make_manner, replay_manner, run_manner, state_manner}
 use Rattle.orca_reports.specs.Songs.{recording_at_start, smf_manner}
 use Rattle.orca_reports.specs.Waves.{frame_samples, wav_manner, wave_at_start}
 use Rattle.orca_reports.proofs.EndingLemmas.{AnyRoom, IsLong, Never, WaveRoom, smf-closes, smf-frames, wav-frames}
@@ -30,11 +32,12 @@ use Rattle.orca_rig.specs.declared.inbox.Answer.{Answer}
 use Rattle.orca_rig.specs.declared.inbox.Answer.TheVariants as answer
 use Rattle.orca_trace.specs.Calls.{Poll}
 use Rattle.orca_wav.specs.declared.limits.TheConstants.{MAX_WAVE_BYTES, SAMPLE_BYTES}
-use Rattle.orca_words.specs.Requests.{Events, Performance, Play, Recording, Replay, Request, Run, Setup, Smf, Wav, Work, request_of}
-use Rattle.orca_player.specs.Outlines.{Brought, Heard, Outline, concert, grid_outline, is_too_long, listening, live_outline, live_start, loading, made_outline, migrated, opening, outline, performed, performed_outline, reading, request_outline, script_outline, standing_at, start_of, status_of_end, status_of_ending, wave_bytes, work_outline}
-use Rattle.orca_player.specs.Ready.{CanDo, HasRoom, IsReady}
+use Rattle.orca_words.specs.Requests.{Events, Follow, Lead, Performance, Play, Recording, Replay, Request, Run, Setup, Smf, Wav, Work, request_of}
+use Rattle.orca_player.specs.Outlines.{Brought, Heard, Outline, concert, follow_outline, follow_start, grid_outline, is_too_long, lead_outline, lead_start, listening, live_outline, live_start, loading, made_outline, migrated, opening, outline, performed, performed_outline, reading, request_outline, script_outline, standing_at, start_of, status_of_end, status_of_ending, wave_bytes, work_outline}
+use Rattle.orca_player.specs.Ready.{CanDo, HasRoom, IsReady, NeverFull}
 use Rattle.orca_player.specs.declared.status.Status.{Status}
 use Rattle.orca_player.specs.declared.status.Status.TheVariants.{Done, FileFault, InboxFault, Usage}
+use Rattle.orca_player.proofs.ClockLemmas.{follow_ends_well, lead_ends_well}
 
 -- a run that would end without a refusal: all is done, or something outside fails
 abbrev pub IsFine : Status → Type 0
@@ -114,6 +117,24 @@ live_fine setup play at polls s few room =
     heard_ends (λ stop. stop ≡ Left) refl poll.answer poll.bytes _
     (room_at _ u before more poll poll.answer (subst (HasRoom u) is room) goes refl)) few)
 
+follow_fine : (polls : List Poll) (s : Standing) → turns_of polls < MAX_POLLS
+    → NeverFull (follow_part state_manner) (follow_start s) polls
+    → FineOutline (follow_outline polls s)
+unfolding follow_outline
+follow_fine polls s few room =
+    performed_fine (follow_part state_manner) s (follow_start s) polls
+    (performance_well _ (follow_ends_well state_manner (λ line answer messages r. tt)) _ polls few
+    room)
+
+lead_fine : (bpm : ℕ) (polls : List Poll) (s : Standing) (at : ℕ) → turns_of polls < MAX_POLLS
+    → NeverFull (lead_part state_manner) (lead_start bpm at s) polls
+    → FineOutline (lead_outline bpm polls s at)
+unfolding lead_outline
+lead_fine bpm polls s at few room =
+    performed_fine (lead_part state_manner) s (lead_start bpm at s) polls
+    (performance_well _ (lead_ends_well state_manner (λ line answer messages r. tt)) _ polls few
+    room)
+
 -- ---- requests
 
 -- a wave that is not too long has room for its frames
@@ -146,6 +167,8 @@ work_fine setup (Wav wave) sheet b short ready =
     setup.seed sheet (assumption) wav-frames (wave_room wave.out wave short) ready
 work_fine setup (Replay name) sheet b short ready = grind (arith, replay_fine)
 work_fine setup (Play play) sheet b short ready = grind (arith, live_fine)
+work_fine setup (Follow address) sheet b short ready = grind (arith, follow_fine)
+work_fine setup (Lead lead) sheet b short ready = grind (arith, lead_fine)
 
 pub outline_fine : (words : List (List ℕ)) (h : Heard)
     → IsSomeAnd (request_of words) (λ request. IsReady request h)
@@ -164,5 +187,5 @@ ending-other end = grind arith
 
 pub request-other : (request : Request) (h : Heard)
     → IfSome (request_outline request h).course.ending (λ status. status ≢ Usage)
-unfolding request_outline performed loading grid_outline work_outline listening script_outline reading migrated made_outline concert live_outline opening mapped
+unfolding request_outline performed loading grid_outline work_outline listening script_outline reading migrated made_outline concert live_outline follow_outline lead_outline opening mapped
 request-other request h = grind (arith, end-other, ending-other)

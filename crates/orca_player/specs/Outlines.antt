@@ -7,6 +7,8 @@ use Rattle.orca_base.specs.declared.port.Port.{Port}
 use Rattle.orca_base.specs.declared.port.Port.TheVariants as port
 use Rattle.orca_base.specs.declared.command.Command.{Command}
 use Rattle.orca_base.specs.Grids.{Sheet, Size}
+use Rattle.orca_clock.specs.Followers.{Followed, follow_at_start, follow_part}
+use Rattle.orca_clock.specs.Leaders.{Led, lead_at_start, lead_part}
 use Rattle.orca_concert.specs.Concerts.{concert as concert_at, concert_course, stance_of}
 use Rattle.orca_concert.specs.Manners.{Manner}
 use Rattle.orca_course.specs.Acts.{Act}
@@ -31,7 +33,7 @@ use Rattle.orca_grid.specs.declared.refusal.GridRefusal.{GridRefusal}
 use Rattle.orca_live.specs.Performing.{live_part}
 use Rattle.orca_live.specs.Starting.{live_at_start}
 use Rattle.orca_live.specs.States.{LiveState, Setting}
-use Rattle.orca_reports.specs.Manners.{events_manner, make_manner, replay_manner, run_manner}
+use Rattle.orca_reports.specs.Manners.{events_manner, make_manner, replay_manner, run_manner, state_manner}
 use Rattle.orca_reports.specs.SavedSongs.{song_of}
 use Rattle.orca_reports.specs.SavedWaves.{wave_of}
 use Rattle.orca_reports.specs.Songs.{recording_at_start, smf_manner}
@@ -40,7 +42,7 @@ use Rattle.orca_trace.specs.Calls.{Poll}
 use Rattle.orca_script.specs.Runs.{printed_script}
 use Rattle.orca_term.specs.declared.cell.ScreenSize.{ScreenSize}
 use Rattle.orca_wav.specs.declared.limits.TheConstants.{MAX_WAVE_BYTES, SAMPLE_BYTES}
-use Rattle.orca_words.specs.Requests.{Events, Make, Migrate, Migration, Perform, Performance, Play, Recording, Replay, Request, Run, Setup, Smf, Wav, Work, Workload, request_of}
+use Rattle.orca_words.specs.Requests.{Events, Follow, Lead, Make, Migrate, Migration, Perform, Performance, Play, Recording, Replay, Request, Run, Setup, Smf, Wav, Work, Workload, request_of}
 use Rattle.orca_player.specs.Takes.{Take, Song, Wave}
 use Rattle.orca_player.specs.declared.live.TheConstants.{ALONE}
 use Rattle.orca_player.specs.declared.status.Status.{Status}
@@ -215,6 +217,32 @@ played s polls = record (performed_outline live_part s.standing s polls) {
 unfoldable pub live_outline : Setup → Performance → List Poll → Standing → ℕ → Outline
 live_outline setup play polls s at = played (live_start setup play at s) polls
 
+-- ---- a clock
+
+-- the session is opened, and it plays by a clock that comes in
+abbrev pub followed : {R : Type 0} → Manner R → Followed R → List Poll → Outline
+followed m s polls = performed_outline (follow_part m) s.concert.standing s polls
+
+-- no clock has started it so far
+abbrev pub follow_start : Standing → Followed (Unit {0})
+follow_start s = follow_at_start (concert_at s tt)
+
+-- the same from its start
+unfoldable pub follow_outline : List Poll → Standing → Outline
+follow_outline polls s = followed state_manner (follow_start s) polls
+
+-- the session is opened, and it plays and gives a clock
+abbrev pub led : {R : Type 0} → Manner R → Led R → List Poll → Outline
+led m s polls = performed_outline (lead_part m) s.concert.standing s polls
+
+-- with so many beats a minute, from a moment on
+abbrev pub lead_start : ℕ → ℕ → Standing → Led (Unit {0})
+lead_start bpm at s = lead_at_start bpm at (concert_at s tt)
+
+-- the same from its start
+unfoldable pub lead_outline : ℕ → List Poll → Standing → ℕ → Outline
+lead_outline bpm polls s at = led state_manner (lead_start bpm at s) polls
+
 -- ---- a grid
 
 -- where a session stands that was opened on a grid
@@ -241,6 +269,11 @@ work_outline setup (Replay name) sheet b =
 work_outline setup (Play play) sheet b =
     listening play.address ALONE b.start
     (live_outline setup play b.polls (start_of setup sheet))
+work_outline setup (Follow address) sheet b =
+    listening address ALONE b.start (λ at. follow_outline b.polls (start_of setup sheet))
+work_outline setup (Lead lead) sheet b =
+    listening lead.address ALONE b.start
+    (lead_outline lead.bpm b.polls (start_of setup sheet))
 
 -- a text that is no grid ends the run
 unfoldable pub grid_outline : Setup → Work → Brought → Result Sheet GridRefusal → Outline

@@ -3,8 +3,12 @@
 use Rattle.std.specs.Prelude.{◌≡◌, ◌≢◌, ◌<◌, ◌≤◌, ℕ, false, List, ◌∷◌, ◌++◌, Some, None, IfSome, IsOkAnd, Ok}
 use Rattle.orca_base.specs.declared.limits.TheConstants.{MAX_POLLS}
 use Rattle.orca_base.specs.Grids.{Sheet}
+use Rattle.orca_clock.specs.Followers.{follow_part}
+use Rattle.orca_clock.specs.Leaders.{lead_part}
 use Rattle.orca_concert.specs.Concerts.{concert as concert_at, concert_course}
-use Rattle.orca_course.specs.declared.ending.Stop.TheVariants.{SongTooLong}
+use Rattle.orca_course.specs.Performers.{Part, performance}
+use Rattle.orca_course.specs.declared.ending.Ending.TheVariants.{Stopped}
+use Rattle.orca_course.specs.declared.ending.Stop.TheVariants.{Full, SongTooLong}
 use Rattle.orca_cues.specs.Cues.{frames_cue}
 use Rattle.orca_cues.specs.Scripts.{any_script_of}
 use Rattle.orca_cues.specs.declared.source.Cue.{Cue}
@@ -13,12 +17,13 @@ use Rattle.orca_live.specs.Items.{turns_of}
 use Rattle.orca_live.specs.Laws.{so_far}
 use Rattle.orca_live.specs.Performing.{answered_at, item_course}
 use Rattle.orca_live.specs.States.{LiveState, is_full}
+use Rattle.orca_reports.specs.Manners.{state_manner}
 use Rattle.orca_reports.specs.Songs.{recording_at_start, smf_manner}
 use Rattle.orca_trace.specs.Calls.{Poll}
 use Rattle.orca_rig.specs.declared.inbox.Answer.TheVariants as answer
 use Rattle.orca_term.specs.Keys.{Due}
-use Rattle.orca_words.specs.Requests.{Events, Make, Migrate, Perform, Play, Recording, Replay, Request, Run, Setup, Smf, Wav, Work}
-use Rattle.orca_player.specs.Outlines.{Brought, Heard, is_too_long, live_start, start_of}
+use Rattle.orca_words.specs.Requests.{Events, Follow, Lead, Make, Migrate, Perform, Play, Recording, Replay, Request, Run, Setup, Smf, Wav, Work}
+use Rattle.orca_player.specs.Outlines.{Brought, Heard, follow_start, is_too_long, lead_start, live_start, start_of}
 
 -- each line of a text asks for commands, or for none
 abbrev pub IsScript : List ℕ → Type 0
@@ -36,6 +41,10 @@ HasRoom s polls =
     → (so_far s before).ending ≡ None
     → is_full (before_frame at (so_far s before).state) ≡ false
 
+-- no frame of a clock is due where the history is full, which would end the performance
+abbrev pub NeverFull : {S : Type 0} → Part S → S → List Poll → Type 0
+NeverFull p s polls = (performance p s polls).ending ≢ Some (Stopped Full)
+
 -- a song of these frames does not end the run since it is too long
 abbrev pub SongFits : Setup → Recording → Sheet → Type 0
 SongFits setup song sheet =
@@ -44,7 +53,7 @@ SongFits setup song sheet =
 
 -- what the work needs on an opened grid. The frames of a run, of its events, of a song and of a wave
 -- fit into the history, and the song is not too long. A performance has room for each frame that is
--- due, and fewer polls than may be made are answered by bytes or a due frame
+-- due, also by a clock, and fewer polls than may be made are answered by bytes or a due moment
 abbrev pub CanDo : Setup → Work → Sheet → Brought → Type 0
 CanDo setup (Run frames) sheet b = frames ≤ setup.limit
 CanDo setup (Events frames) sheet b = frames ≤ setup.limit
@@ -54,6 +63,14 @@ CanDo setup (Replay name) sheet b = IfSome b.script IsScript
 CanDo setup (Play play) sheet b =
     (turns_of b.polls < MAX_POLLS)
     × IfSome b.start (λ at. HasRoom (live_start setup play at (start_of setup sheet)) b.polls)
+CanDo setup (Follow address) sheet b =
+    (turns_of b.polls < MAX_POLLS)
+    × IfSome b.start (λ at. NeverFull (follow_part state_manner)
+    (follow_start (start_of setup sheet)) b.polls)
+CanDo setup (Lead lead) sheet b =
+    (turns_of b.polls < MAX_POLLS)
+    × IfSome b.start (λ at. NeverFull (lead_part state_manner)
+    (lead_start lead.bpm at (start_of setup sheet)) b.polls)
 
 -- all that a request asks for can be done, unless something outside fails
 abbrev pub IsReady : Request → Heard → Type 0

@@ -3,6 +3,8 @@
 
 mod concert;
 mod ending;
+mod follow;
+mod lead;
 mod live;
 mod migration;
 mod opening;

@@ -26,8 +26,8 @@ use orca_session::Session;
 use orca_term::ScreenSize;
 use orca_words::{Performance, Setup};
 
-/// A player alone.
-const ALONE: u8 = 1;
+/// One hand alone.
+pub(crate) const ALONE: u8 = 1;
 
 /// Waits for a player at the address, and plays the grid until the performance ends.
 pub(crate) fn play<H: House>(

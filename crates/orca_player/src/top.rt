@@ -13,6 +13,8 @@ ghost use Rattle.orca_words.specs.Requests.{Perform, request_of};
 use crate::Status;
 use crate::concert::concert;
 use crate::ending::end;
+use crate::follow::follow;
+use crate::lead::lead;
 use crate::live::play;
 use crate::migration::migrate;
 use crate::opening::{Opening, attach_all};
@@ -31,9 +33,10 @@ use std::alloc::Global;
 
 /// Does what the words ask for, and answers how it ended. They are the words after the program's own
 /// name: `run` and `events` play frames, `replay` does the commands of a script, `make` those of a
-/// generated run, and `play` lets a player edit the grid while it plays. `smf` and `wav` play frames
-/// and save their notes as a song or as sound, and `migrate` saves a script in format 2. The desk owns the files, the
-/// ports, the inbox and the counter of steps.
+/// generated run, and `play` lets a player edit the grid while it plays. `follow` plays by a MIDI clock
+/// that comes in, and `lead` plays and gives one. `smf` and `wav` play frames and save their notes as a
+/// song or as sound, and `migrate` saves a script in format 2. The desk owns the files, the ports, the
+/// inbox and the counter of steps.
 ///
 /// The named ports are attached in the order MIDI, UDP, OSC, then the grid is loaded and read, and
 /// then the script of `replay`, whose lines are all read before the first command is done. The
@@ -212,6 +215,8 @@ fn do_work<H: House>(
         Work::Wav(wave) => record_wave(&opening, wave, desk),
         Work::Replay { script } => replay(&mut opening, script, desk),
         Work::Play(performance) => play(&opening, setup, performance, desk),
+        Work::Follow { address } => follow(&opening, address, desk),
+        Work::Lead(leading) => lead(&opening, leading, desk),
     }
 }
 

@@ -1,4 +1,4 @@
-use Rattle.std.proofs.Common.{[], refl}
+use Rattle.std.proofs.Common.{refl}
 use Rattle.std.specs.Prelude.{None, Some}
 use Rattle.orca_player.specs.Outlines.{listening}
 use Rattle.orca_player.proofs.CameLemmas.{by_after, kind_of, listened}

@@ -44,6 +44,14 @@ pub returns-in-Replay : goal.returns-in-Replay
 unfolding work_outline
 returns-in-Replay g c = rw c.in-Replay.is c.replay.ensures
 
+pub returns-in-Play : goal.returns-in-Play
+unfolding work_outline
+returns-in-Play g c = rw c.in-Play.is c.play.ensures
+
+pub returns-in-Follow : goal.returns-in-Follow
+unfolding work_outline
+returns-in-Follow g c = rw c.in-Follow.is c.follow.ensures
+
 pub returns : goal.returns
 unfolding work_outline
-returns g c = rw c.in-Play.is c.play.ensures
+returns g c = rw c.in-Lead.is c.lead.ensures

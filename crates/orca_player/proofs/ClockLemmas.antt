@@ -1,0 +1,249 @@
+-- Performances by a clock: how they end, and that how bytes are cut into answers changes no command.
+use Rattle.std.proofs.Common.{◌≡◌, ◌⊎◌, inl, inr, ℕ, ◌==◌, Bool, true, false, List, [], ◌∷◌, ◌++◌, refl, ◌∙◌, ap, arith}
+use Rattle.std.specs.Prelude.{if◌then◌else◌, IfSome, Some}
+use Rattle.orca_base.specs.Ascii.{space}
+use Rattle.orca_base.specs.declared.command.Command.{Command}
+use Rattle.orca_base.specs.declared.command.Command.TheVariants as command
+use Rattle.orca_base.specs.Ports.{Sent}
+use Rattle.orca_clock.specs.Clocked.{clock_course, end_course, frame_course, last_text_course}
+use Rattle.orca_clock.specs.Followers.{Followed, beat_course, byte_course, follow_course, follow_finish, follow_part}
+use Rattle.orca_clock.specs.Leaders.{Led, clocked_course, due_course, key_course, lead_course, lead_finish, lead_open, lead_part, quit, toggle_course}
+use Rattle.orca_concert.specs.Concerts.{Concert, close_course, command_course, final_course, handed_of}
+use Rattle.orca_concert.specs.Manners.{Manner}
+use Rattle.orca_concert.proofs.EndingLemmas.{Ends}
+use Rattle.orca_course.specs.Acts.{commands_in, gives}
+use Rattle.orca_course.specs.Acts.Act.{Stand}
+use Rattle.orca_course.specs.Courses.{Course, afterwards, each, ended, mapped, onward, still}
+use Rattle.orca_course.specs.Following.{sounding}
+use Rattle.orca_course.specs.Standings.{Standing, notes_of, standing_closed}
+use Rattle.orca_course.specs.declared.ending.Ending.{Ending}
+use Rattle.orca_course.specs.declared.ending.Ending.TheVariants.{Lost, Spent, Stopped}
+use Rattle.orca_course.specs.declared.ending.Stop.{Stop}
+use Rattle.orca_course.specs.declared.ending.Stop.TheVariants.{Full, Left, SongTooLong, WaveTooLong}
+use Rattle.orca_course.proofs.ActLemmas.{commands_in-append}
+use Rattle.orca_course.proofs.CourseLemmas.{each-kind}
+use Rattle.orca_course.proofs.PerformanceLemmas.{EndsWell, notes-standing_closed}
+use Rattle.orca_notes.specs.Sound.{ends}
+use Rattle.orca_reports.specs.Manners.{state_manner}
+use Rattle.orca_rig.specs.declared.inbox.Answer.{Answer}
+use Rattle.orca_rig.specs.declared.inbox.Answer.TheVariants as answer
+use Rattle.orca_sync.specs.Clocks.{heed}
+use Rattle.orca_sync.specs.Leading.{Metronome}
+use Rattle.orca_sync.specs.declared.follower.Beat.{Beat}
+use Rattle.orca_sync.specs.declared.follower.Beat.TheVariants as beat
+use Rattle.orca_term.specs.Keys.{Byte, Due, Item}
+use Rattle.orca_term.specs.Pacing.{Pace}
+use Rattle.orca_player.proofs.ItemLemmas.{ByItems, Told, quiet, told}
+
+-- a performance may end by leaving and by a full history, and what is printed of commands ends it in
+-- no other way
+module _ {R : Type 0} (m : Manner R) (P : Stop → Type 0) (left : P Left) (full : P Full)
+    (ends : Ends P m) where
+  command_ends : (c : Command) (s : Concert R) → IfSome (command_course m 0 c s).ending P
+  unfolding command_course onward mapped
+  command_ends c s = ends 0 _ _ s.kept
+
+  frame_ends : (s : Concert R) → IfSome (frame_course m s).ending P
+  unfolding frame_course
+  frame_ends s = grind (arith, full, command_ends command.Frame s)
+
+  -- ---- a follower
+
+  beat_ends : (b : Beat) (s : Concert R) → IfSome (beat_course m b s).ending P
+  unfolding beat_course
+  beat_ends beat.Nothing s = tt
+  beat_ends beat.Frame s = frame_ends s
+  beat_ends beat.Restart s = command_ends command.Reset s
+
+  byte_ends : (byte : ℕ) (s : Followed R) → IfSome (byte_course m byte s).ending P
+  unfolding byte_course mapped
+  byte_ends byte s = beat_ends (heed s.pulse byte).beat s.concert
+
+  pub follow_ends : (a : Answer) (bytes : List ℕ) (s : Followed R)
+      → IfSome (follow_course m a bytes s).ending P
+  unfolding follow_course
+  follow_ends (answer.Bytes hand count at) bytes s =
+      grind (arith, each-kind (λ end. IfSome end P) (byte_course m) tt byte_ends bytes s)
+  follow_ends (answer.Due at) bytes s = tt
+  follow_ends answer.End bytes s = tt
+  follow_ends answer.Failed bytes s = tt
+
+  -- ---- a leader
+
+  clocked_ends : (metronome : Metronome) (s : Concert R)
+      → IfSome (clocked_course m metronome s).ending P
+  unfolding clocked_course onward
+  clocked_ends metronome s = grind (arith, frame_ends s)
+
+  due_ends : (at : ℕ) (s : Led R) (runs : Bool) → s.metronome.pulse.runs ≡ runs
+      → IfSome (due_course m at s).ending P
+  unfolding due_course mapped clocked_course
+  due_ends at s true is = rw is (clocked_ends s.metronome s.concert)
+  due_ends at s false is = rw is tt
+
+  key_ends : (at byte : ℕ) (s : Led R) → IfSome (key_course at byte s).ending P
+  unfolding key_course toggle_course mapped
+  key_ends at byte s = grind (arith, left)
+
+  pub lead_ends : (a : Answer) (bytes : List ℕ) (s : Led R)
+      → IfSome (lead_course m a bytes s).ending P
+  unfolding lead_course
+  lead_ends (answer.Bytes hand count at) bytes s =
+      grind (arith, each-kind (λ end. IfSome end P) (key_course at) tt (key_ends at) bytes s)
+  lead_ends (answer.Due at) bytes s = due_ends at s s.metronome.pulse.runs refl
+  lead_ends answer.End bytes s = tt
+  lead_ends answer.Failed bytes s = tt
+
+-- ---- the last note
+
+pub follow_silent : {R : Type 0} (m : Manner R) (ending : Ending) (s : Followed R)
+    → sounding (Some (follow_finish m ending s).state.concert.standing) ≡ []
+unfolding follow_finish end_course afterwards close_course onward mapped
+follow_silent m ending s =
+    notes-standing_closed (last_text_course m ending s.concert).state.standing
+
+pub lead_silent : {R : Type 0} (m : Manner R) (ending : Ending) (s : Led R)
+    → sounding (Some (lead_finish m ending s).state.concert.standing) ≡ []
+unfolding lead_finish end_course afterwards close_course onward mapped
+lead_silent m ending s =
+    notes-standing_closed (last_text_course m ending s.concert).state.standing
+
+-- ---- both
+
+-- it ends by leaving or by a full history
+abbrev pub IsLeft : Stop → Type 0
+IsLeft stop = (stop ≡ Left) ⊎ (stop ≡ Full)
+
+pub follow_ends_well : {R : Type 0} (m : Manner R) → Ends IsLeft m → EndsWell (follow_part m)
+follow_ends_well m ends = record {
+  opens = λ s. refl;
+  hears = follow_ends m IsLeft (inl refl) (inr refl) ends;
+  silent = follow_silent m;
+}
+
+pub lead_ends_well : {R : Type 0} (m : Manner R) → Ends IsLeft m → EndsWell (lead_part m)
+unfolding lead_open mapped
+lead_ends_well m ends = record {
+  opens = λ s. refl;
+  hears = lead_ends m IsLeft (inl refl) (inr refl) ends;
+  silent = lead_silent m;
+}
+
+-- ---- the end, whose report tells the grid
+
+-- what is told at last is no command, and changes nothing where the run stands
+record IsAside (s : Concert (Unit {0})) (c : Course (Concert (Unit {0})) Stop) : Type 0 where
+  pub commands : commands_in c.acts ≡ []
+  pub standing : c.state.standing ≡ s.standing
+
+text_aside : (ending : Ending) (s : Concert (Unit {0}))
+    → IsAside s (last_text_course state_manner ending s)
+unfolding last_text_course final_course mapped
+text_aside (Stopped Left) s = record { commands = refl; standing = refl }
+text_aside (Stopped Full) s = record { commands = refl; standing = refl }
+text_aside (Stopped SongTooLong) s = record { commands = refl; standing = refl }
+text_aside (Stopped WaveTooLong) s = record { commands = refl; standing = refl }
+text_aside Lost s = record { commands = refl; standing = refl }
+text_aside Spent s = record { commands = refl; standing = refl }
+
+-- neither are messages that are handed out
+handed_commands : (sends : List Sent) (t : Standing)
+    → commands_in ((gives sends ++ Stand t ∷ []) ++ []) ≡ []
+handed_commands [] t = refl
+handed_commands (sent ∷ sends) t = handed_commands sends t
+
+-- no command comes, and every note ends
+record Closes (s : Concert (Unit {0})) (c : Course (Concert (Unit {0})) Stop) : Type 0 where
+  pub commands : commands_in c.acts ≡ []
+  pub standing : c.state.standing ≡ standing_closed s.standing
+
+end_closes : (ending : Ending) (s : Concert (Unit {0}))
+    → Closes s (end_course state_manner ending s)
+unfolding end_course close_course afterwards mapped onward
+end_closes ending s =
+    let text = text_aside ending s in
+    let c = last_text_course state_manner ending s in
+    record {
+      commands = commands_in-append c.acts _
+          ∙ rw text.commands
+          (handed_commands (handed_of true (ends (notes_of c.state.standing)))
+          (standing_closed c.state.standing));
+      standing = ap standing_closed text.standing;
+    }
+
+-- ---- any cutting
+
+-- a byte asks for its beat, and no moment is waited for
+abbrev follow_step : Item → Followed (Unit {0}) → Told (Followed (Unit {0}))
+follow_step (Byte byte) s = told (λ t. t) (byte_course state_manner byte s)
+follow_step Due s = quiet false s
+
+pub follow_by_items : ByItems (follow_part state_manner) (λ s. s)
+unfolding follow_course follow_finish mapped
+follow_by_items = record {
+  step = follow_step;
+  byte = λ at byte s. byte_course state_manner byte s;
+  last = λ s. Some (standing_closed s.concert.standing);
+  hears = λ hand count at bytes s. refl;
+  bytes = λ at byte s. refl;
+  due = λ at bytes s. refl;
+  goes = λ s. refl;
+  opens = λ s. refl;
+  silent = λ ending s. (end_closes ending s.concert).commands;
+  stands = λ ending s. ap Some (end_closes ending s.concert).standing;
+}
+
+-- the moments of a leader change no command
+abbrev pub still_pace : Pace
+still_pace = record { bpm = 0; parts = 0; due = 0 }
+
+abbrev pub lead_core : Led (Unit {0}) → Led (Unit {0})
+lead_core s = record s { metronome = record s.metronome { pace = still_pace } }
+
+abbrev lead_step : Item → Led (Unit {0}) → Told (Led (Unit {0}))
+lead_step (Byte byte) s = told lead_core (key_course 0 byte s)
+lead_step Due s = told lead_core (due_course state_manner 0 s)
+
+due_core : (at : ℕ) (s : Led (Unit {0})) (runs : Bool) → s.metronome.pulse.runs ≡ runs
+    → told lead_core (due_course state_manner at s)
+    ≡ told lead_core (due_course state_manner 0 (lead_core s))
+unfolding due_course mapped clocked_course
+due_core at s true is = rw is refl
+due_core at s false is = rw is refl
+
+toggle_core : (at : ℕ) (s : Led (Unit {0})) (runs : Bool) → s.metronome.pulse.runs ≡ runs
+    → told lead_core (toggle_course at s) ≡ told lead_core (toggle_course 0 (lead_core s))
+unfolding toggle_course mapped
+toggle_core at s true is = rw is refl
+toggle_core at s false is = rw is refl
+
+key_if : (at : ℕ) (s : Led (Unit {0})) (pauses leaves : Bool)
+    → told lead_core (if pauses then toggle_course at s
+    else (if leaves then ended Left s else still s))
+    ≡ told lead_core (if pauses then toggle_course 0 (lead_core s)
+    else (if leaves then ended Left (lead_core s) else still (lead_core s)))
+key_if at s true leaves = toggle_core at s s.metronome.pulse.runs refl
+key_if at s false true = refl
+key_if at s false false = refl
+
+key_core : (at byte : ℕ) (s : Led (Unit {0}))
+    → told lead_core (key_course at byte s) ≡ told lead_core (key_course 0 byte (lead_core s))
+unfolding key_course
+key_core at byte s = key_if at s (byte == space) (byte == quit)
+
+pub lead_by_items : ByItems (lead_part state_manner) lead_core
+unfolding lead_open lead_course lead_finish end_course onward mapped
+lead_by_items = record {
+  step = lead_step;
+  byte = key_course;
+  last = λ s. Some (standing_closed s.concert.standing);
+  hears = λ hand count at bytes s. refl;
+  bytes = key_core;
+  due = λ at bytes s. due_core at s s.metronome.pulse.runs refl;
+  goes = λ s. refl;
+  opens = λ s. refl;
+  silent = λ ending s. let end = end_closes ending s.concert in
+      commands_in-append (end_course state_manner ending s.concert).acts _
+      ∙ rw end.commands refl;
+  stands = λ ending s. ap Some (end_closes ending s.concert).standing;
+}

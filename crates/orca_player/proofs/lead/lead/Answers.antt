@@ -1,0 +1,14 @@
+use Rattle.std.proofs.Common.{refl}
+use Rattle.std.specs.Prelude.{None, Some}
+use Rattle.orca_player.specs.Outlines.{listening}
+use Rattle.orca_player.proofs.CameLemmas.{by_after, kind_of, listened}
+use Rattle.orca_player.proofs.lead.lead.Goals as goal
+
+pub returns-in-Ok : goal.returns-in-Ok
+unfolding listening
+returns-in-Ok g c =
+    by_after (record { script = None; start = Some _; polls = c.start.ensures.brought.polls })
+    (listened c.in-Ok.ensures.listened) (kind_of c.start.ensures) c.start.ensures.came refl
+
+pub returns-in-Err : goal.returns-in-Err
+returns-in-Err g c = c.in-Err.ensures.ends _

@@ -1,0 +1,10 @@
+use Rattle.std.proofs.Common.{refl}
+use Rattle.orca_player.proofs.ClockLemmas.{lead_silent}
+use Rattle.orca_player.proofs.CourseLemmas.{performed_by}
+use Rattle.orca_player.proofs.lead.lead_all.Goals as goal
+
+pub perform_all-requires-clause-silent : goal.perform_all-requires-clause-silent
+perform_all-requires-clause-silent g c = lead_silent g.R.Report.manner
+
+pub returns : goal.returns
+returns g c = performed_by _ _ refl c.perform_all.ensures
