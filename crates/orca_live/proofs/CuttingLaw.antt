@@ -34,9 +34,9 @@ use Rattle.orca_term.specs.declared.editor.Wish.TheVariants as wish
 use Rattle.orca_term.specs.declared.keys.Key.{Key}
 use Rattle.orca_live.specs.Items.{items_by, items_of}
 use Rattle.orca_live.specs.Laws.{ItemsDecide, PlayAlike}
-use Rattle.orca_live.specs.Performing.{answer_course, answered_at, byte_course, command_course, due_course, fired, frame_course, heard_course, item_course, key_course, live_part, open_course, press_course, save_course, struck_course, told_course, wish_course}
+use Rattle.orca_live.specs.Performing.{answer_course, answered_at, byte_course, command_course, due_course, fired, frame_course, heard_course, item_course, key_course, live_part, open_course, press_course, save_course, struck_course, update_course, wish_course}
 use Rattle.orca_live.specs.States.{LiveState, around_at, fitted, is_full}
-use Rattle.orca_live.proofs.GivenLemmas.{commands_before, core, core_fitted, finish_closes, min_twice, open_aside, plain, side_twice, told_aside}
+use Rattle.orca_live.proofs.GivenLemmas.{commands_before, core, core_fitted, finish_closes, min_twice, open_aside, plain, side_twice, update_aside}
 
 -- ---- what matters of a state, and of a course
 
@@ -201,11 +201,12 @@ due_items rest s =
 -- the journal and a picture change nothing that matters, and what ends a player ends the
 -- performance
 heard_by : (end : Option Stop) (c : Course LiveState Stop) → c.ending ≡ end
-    → told (mapped {F = Ending} (λ t. t) (option_map Stopped) (onward_by end c told_course)) ≡ told c
+    → told (mapped {F = Ending} (λ t. t) (option_map Stopped) (onward_by end c update_course))
+    ≡ told c
 unfolding mapped
 heard_by None c is =
-    let d = told_course c.state in
-    let aside = told_aside c.state in
+    let d = update_course c.state in
+    let aside = update_aside c.state in
     rw (is, aside.goes)
     (ap (λ u. record (quiet false u) { commands = commands_in (c.acts ++ d.acts) }) aside.same
     ∙ ap (λ xs. record (quiet false (core c.state)) { commands = xs })

@@ -15,7 +15,7 @@ use Rattle.orca_course.specs.Standings.{Standing, standing_closed}
 use Rattle.orca_course.proofs.ActLemmas.{commands_in-append}
 use Rattle.orca_edit.specs.Machines.{preview_of}
 use Rattle.orca_term.specs.declared.cell.Cell.{Cell}
-use Rattle.orca_live.specs.Performing.{additions, close_course, command_course, finish_course, header_course, if_named, journal_course, last_course, last_grid_course, last_script_course, lines_course, open_course, paint_course, painted_course, preview_course, save_course, script_course, show_course, told_course, view_sends, write_course}
+use Rattle.orca_live.specs.Performing.{additions, close_course, command_course, finish_course, header_course, if_named, journal_course, last_course, last_grid_course, last_script_course, lines_course, open_course, paint_course, painted_course, preview_course, save_course, script_course, show_course, update_course, view_sends, write_course}
 use Rattle.orca_live.specs.States.{LiveState, fitted, piece_at}
 
 -- ---- the commands of acts
@@ -121,9 +121,9 @@ show_aside s =
     record { commands = paint.commands; same = paint.same; goes = paint.goes }
 
 -- what follows an answer, and what comes first
-pub told_aside : (s : LiveState) → IsAside s (told_course s)
-unfolding told_course
-told_aside s = aside_then s (write_course s) show_course (write_aside s) show_aside
+pub update_aside : (s : LiveState) → IsAside s (update_course s)
+unfolding update_course
+update_aside s = aside_then s (write_course s) show_course (write_aside s) show_aside
 
 pub open_aside : (s : LiveState) → IsAside s (open_course s)
 unfolding open_course

@@ -30,12 +30,12 @@ use Rattle.orca_term.specs.declared.cell.Cell.{Cell}
 use Rattle.orca_trace.specs.Calls.{Poll}
 use Rattle.orca_live.specs.Carrying.{Carries, IsSaved, answer_carried, finish_carried, first_carried, heard_carried}
 use Rattle.orca_live.specs.Journals.{IsApart, JournalsPerformance, held_after, journal_text}
-use Rattle.orca_live.specs.Performing.{additions, answer_course, close_course, command_course, finish_course, header_course, heard_course, if_named, journal_course, last_course, last_grid_course, last_script_course, lines_course, live_part, noted, open_course, paint_course, painted_course, picture_at, preview_course, save_course, script_course, show_course, told_course, view_sends, write_course}
+use Rattle.orca_live.specs.Performing.{additions, answer_course, close_course, command_course, finish_course, header_course, heard_course, if_named, journal_course, last_course, last_grid_course, last_script_course, lines_course, live_part, noted, open_course, paint_course, painted_course, picture_at, preview_course, save_course, script_course, show_course, update_course, view_sends, write_course}
 use Rattle.orca_live.specs.States.{LiveState, Setting}
 
 -- ---- acts after acts
 
--- what is held is a beginning of what tells the commands
+-- what is held is a beginning of the text of the commands
 abbrev Begun : ℕ → Option (List ℕ) → List Command → Type 0
 Begun seed held given = IfSome held (λ text. Extends text (journal_text seed given))
 
@@ -47,7 +47,7 @@ abbrev added : List ℕ → List ℕ → List ℕ → Option (List ℕ) → Opti
 added name other bytes held =
     if bytes_eq other name then option_map (λ before. before ++ bytes) held else held
 
--- wherever acts stop, what is held is a beginning of what tells the commands, and all of it where
+-- wherever acts stop, what is held is a beginning of the text of the commands, and all of it where
 -- the inbox is asked; and then this holds of what is held and of the commands
 abbrev Journaled : List ℕ → ℕ → (Option (List ℕ) → List Command → Type 0) → Option (List ℕ)
     → List Command → List Act → Type 0
@@ -115,7 +115,7 @@ module _ (name : List ℕ) (seed : ℕ) where
   begun_front after held given (_ ∷ xs) ys last journaled =
       begun_front after held given xs ys last journaled
 
-  -- where the inbox is asked, it tells all commands
+  -- where the inbox is asked, it is the text of all commands
   asked_front : (after : Option (List ℕ) → List Command → Type 0) (held : Option (List ℕ))
       (given : List Command) (xs ys : List Act) (poll : Poll)
       → Journaled name seed after held given (xs ++ Await poll ∷ ys)
@@ -136,7 +136,7 @@ module _ (name : List ℕ) (seed : ℕ) where
 
 -- ---- what is held, and what waits
 
--- together they tell the commands
+-- together they are the text of the commands
 abbrev Waits : ℕ → List ℕ → Option (List ℕ) → List Command → Type 0
 Waits seed lines held given =
     (text : List ℕ) × (held ≡ Some text) × (text ++ lines ≡ journal_text seed given)
@@ -145,7 +145,7 @@ waits_begun : (seed : ℕ) (lines : List ℕ) (held : Option (List ℕ)) (given 
     → Waits seed lines held given → Begun seed held given
 waits_begun seed lines held given waits = rw waits.1 (lines, sym waits.2)
 
--- if nothing waits, what is held tells all
+-- if nothing waits, what is held is all of it
 waits_none : (seed : ℕ) (lines : List ℕ) (held : Option (List ℕ)) (given : List Command)
     → lines ≡ [] → Waits seed lines held given → held ≡ Some (journal_text seed given)
 waits_none seed lines held given none waits =
@@ -153,10 +153,10 @@ waits_none seed lines held given none waits =
     waits.1 ∙ ap Some (sym (append-nil text) ∙ (ap (λ more. text ++ more) (sym none) ∙ waits.2))
 
 -- a command more
-told_more : (seed : ℕ) (text lines : List ℕ) (given : List Command) (command : Command)
+more_lines : (seed : ℕ) (text lines : List ℕ) (given : List Command) (command : Command)
     → text ++ lines ≡ journal_text seed given
     → text ++ (lines ++ printed command) ≡ journal_text seed (given ++ command ∷ [])
-told_more seed text lines given command is =
+more_lines seed text lines given command is =
     sym (append_assoc text lines (printed command))
     ∙ (ap (λ told. told ++ printed command) is
     ∙ (append_assoc (printed_header seed) (flat_map printed given) (printed command)
@@ -169,7 +169,7 @@ waits_more : (seed : ℕ) (name : List ℕ) (journal : Option (List ℕ)) (lines
     → Waits seed lines held given
     → Waits seed (noted journal command lines) held (given ++ command ∷ [])
 waits_more seed name journal lines held given command kept waits =
-    rw kept (waits.0, waits.1, told_more seed waits.0 lines given command waits.2)
+    rw kept (waits.0, waits.1, more_lines seed waits.0 lines given command waits.2)
 
 -- ---- names
 
@@ -240,8 +240,10 @@ module _ (name : List ℕ) (set : Setting) (kept : set.journal ≡ Some name)
       let more = second (first is).0 in (
         more.0,
         λ held given waits.
-            journaled_twice name set.seed (Waits set.seed s.unwritten) (Waits set.seed t.unwritten) held
-            given xs ys ((first is).1 held given waits) more.1,
+            let some = Waits set.seed s.unwritten in
+            let all = Waits set.seed t.unwritten in
+            journaled_twice name set.seed some all held given xs ys ((first is).1 held given waits)
+            more.1,
       )
 
   writes_command : (command : Command) (s : LiveState)
@@ -320,14 +322,14 @@ module _ (name : List ℕ) (set : Setting) (kept : set.journal ≡ Some name)
   -- ---- answers
 
   -- after an answer nothing waits, unless the performance ended
-  told_written : (s : LiveState) → s.setting ≡ set → (told_course s).state.unwritten ≡ []
-  unfolding told_course write_course lines_course show_course preview_course paint_course painted_course onward
-  told_written s is = rw (is, kept) refl
+  update_written : (s : LiveState) → s.setting ≡ set → (update_course s).state.unwritten ≡ []
+  unfolding update_course write_course lines_course show_course preview_course paint_course painted_course onward
+  update_written s is = rw (is, kept) refl
 
   heard_by : (end : Option Stop) (c : Course LiveState Stop) → c.ending ≡ end
-      → c.state.setting ≡ set → (onward_by end c told_course).ending ≡ None
-      → (onward_by end c told_course).state.unwritten ≡ []
-  heard_by None c ends is goes = told_written c.state is
+      → c.state.setting ≡ set → (onward_by end c update_course).ending ≡ None
+      → (onward_by end c update_course).state.unwritten ≡ []
+  heard_by None c ends is goes = update_written c.state is
   heard_by (Some stop) c ends is goes = absurd cc
 
   heard_written : (a : Answer) (bytes : List ℕ) (s : LiveState) → s.setting ≡ set

@@ -1,20 +1,19 @@
--- What a journal tells is read as its seed and its commands.
-use Rattle.std.proofs.Common.{◌≡◌, ◌==◌, ℕ, ◌+◌, ◌<◌, ◌≤◌, ◌^◌, false, true, arith, List, [], ◌∷◌, ◌++◌, refl, ap, ◌∙◌}
-use Rattle.std.specs.Prelude.{All, Some, None, Ok, map}
+-- The text of a journal is read as its seed and its commands.
+use Rattle.std.proofs.Common.{◌≡◌, ◌==◌, ℕ, ◌+◌, ◌≤◌, false, true, arith, List, [], ◌∷◌, refl, ap, ◌∙◌}
+use Rattle.std.specs.Prelude.{All, None, map}
 use Rattle.std.specs.List.{flat_map}
 use Rattle.std.specs.Str.Lines.{lines}
 use Rattle.std.proofs.lemmas.Bool.{ne_eqb}
 use Rattle.std.proofs.lemmas.List.Elements.{All-cons, All-head, All-tail}
 use Rattle.orca_base.specs.declared.command.Command.{Command}
 use Rattle.orca_base.specs.declared.command.Command.TheVariants.{Frame}
-use Rattle.orca_cues.specs.Scripts.{any_script_of, cues_asking, cues_of, first_fault, seed_in}
+use Rattle.orca_cues.specs.Scripts.{cues_asking, cues_of, first_fault}
 use Rattle.orca_cues.proofs.Printed.{script2_read}
 use Rattle.orca_script.specs.Canonical.{HasValues, line_of, printed}
 use Rattle.orca_script.specs.Runs.{LineReadsBack, lines_behind, run_of, text_behind}
-use Rattle.orca_script.specs.declared.format_2.Line.{Line}
 use Rattle.orca_script.specs.declared.format_2.Line.TheVariants.{Do}
 use Rattle.orca_script.proofs.RunsReadBack.{script_reads_back}
-use Rattle.orca_live.specs.Journals.{IsScriptOf, JournalsAreScripts, journal_text}
+use Rattle.orca_live.specs.Journals.{JournalsAreScripts}
 
 -- a command has values
 abbrev Valued : Command → Type 0

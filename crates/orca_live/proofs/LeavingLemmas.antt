@@ -13,9 +13,9 @@ use Rattle.orca_rig.specs.declared.inbox.Answer.TheVariants as answer
 use Rattle.orca_term.specs.Keys.{Byte, Due, Item}
 use Rattle.orca_term.specs.declared.editor.Wish.{Wish}
 use Rattle.orca_term.specs.declared.editor.Wish.TheVariants as wish
-use Rattle.orca_live.specs.Performing.{answer_course, answered_at, byte_course, command_course, due_course, frame_course, heard_course, item_course, key_course, live_part, press_course, save_course, struck_course, told_course, wish_course}
+use Rattle.orca_live.specs.Performing.{answer_course, answered_at, byte_course, command_course, due_course, frame_course, heard_course, item_course, key_course, live_part, press_course, save_course, struck_course, update_course, wish_course}
 use Rattle.orca_live.specs.States.{LiveState, is_full}
-use Rattle.orca_live.proofs.GivenLemmas.{finish_closes, open_aside, told_aside}
+use Rattle.orca_live.proofs.GivenLemmas.{finish_closes, open_aside, update_aside}
 
 -- what a full history at the frame of an answer would need
 abbrev pub AtFull : Type 0 → Answer → LiveState → Type 0
@@ -62,9 +62,9 @@ module _ (P : Stop → Type 0) (left : P Left) where
       → IfSome (heard_course a bytes s).ending P
   unfolding heard_course
   heard_ends a bytes s full =
-      onward-kind (λ end. IfSome end P) (answer_course a bytes s) told_course
+      onward-kind (λ end. IfSome end P) (answer_course a bytes s) update_course
       (answer_ends a bytes s full)
-      (λ on. rw ((told_aside (answer_course a bytes s).state).goes) tt)
+      (λ on. rw ((update_aside (answer_course a bytes s).state).goes) tt)
 
 anywhere : (Q : Type 0) (a : Answer) (s : LiveState) → Q → AtFull Q a s
 anywhere Q (answer.Due at) s q = λ full. q

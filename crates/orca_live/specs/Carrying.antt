@@ -24,7 +24,7 @@ use Rattle.orca_term.specs.declared.editor.Wish.{Wish}
 use Rattle.orca_term.specs.declared.editor.Wish.TheVariants as wish
 use Rattle.orca_term.specs.declared.keys.Key.{Key}
 use Rattle.orca_term.specs.declared.keys.Pending.{Pending}
-use Rattle.orca_live.specs.Performing.{answer_course, answered_at, byte_course, close_course, command_course, due_course, finish_course, fired, frame_course, heard_course, if_named, item_course, journal_course, key_course, last_course, last_grid_course, last_script_course, open_course, paced, paint_course, painted_course, press_course, preview_course, save_course, script_course, show_course, struck_course, told_course, toggled, wish_course, write_course}
+use Rattle.orca_live.specs.Performing.{answer_course, answered_at, byte_course, close_course, command_course, due_course, finish_course, fired, frame_course, heard_course, if_named, item_course, journal_course, key_course, last_course, last_grid_course, last_script_course, open_course, paced, paint_course, painted_course, press_course, preview_course, save_course, script_course, show_course, struck_course, update_course, toggled, wish_course, write_course}
 use Rattle.orca_live.specs.States.{LiveState, Setting, around_at, fitted, is_full, key_name, piece_at}
 
 -- two states are the same to the session, to the terminal, to the script and to the journal
@@ -224,10 +224,10 @@ answer_carried carry (answer.Due at) bytes s =
 answer_carried carry answer.End bytes s = carry.none s s (looks_same s)
 answer_carried carry answer.Failed bytes s = carry.none s s (looks_same s)
 
-told_carried : {holds : LiveState → List Act → LiveState → Type 0} → Carries holds
-    → (s : LiveState) → Along holds (told_course s) s
-unfolding told_course onward
-told_carried carry s =
+update_carried : {holds : LiveState → List Act → LiveState → Type 0} → Carries holds
+    → (s : LiveState) → Along holds (update_course s) s
+unfolding update_course onward
+update_carried carry s =
     let c = write_course s in
     onward_carried carry s c.ending c show_course (carry.write s) (show_carried carry)
 
@@ -236,8 +236,8 @@ pub heard_carried : {holds : LiveState → List Act → LiveState → Type 0} �
 unfolding heard_course onward
 heard_carried carry a bytes s =
     let c = answer_course a bytes s in
-    onward_carried carry s c.ending c told_course (answer_carried carry a bytes s)
-    (told_carried carry)
+    onward_carried carry s c.ending c update_course (answer_carried carry a bytes s)
+    (update_carried carry)
 
 -- ---- the end
 

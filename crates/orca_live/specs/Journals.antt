@@ -1,4 +1,4 @@
--- The journal of a performance: a file that tells its commands while it plays.
+-- The journal of a performance: a file that has its commands while it plays.
 use Rattle.std.specs.Prelude.{◌≡◌, ◌≢◌, ◌<◌, ◌^◌, ℕ, if◌then◌else◌, List, [], ◌∷◌, ◌++◌, All, map, Ok, Option, Some, None, IfSome}
 use Rattle.std.specs.List.{flat_map}
 use Rattle.std.specs.Option.{option_map}
@@ -21,8 +21,8 @@ use Rattle.orca_live.specs.Laws.{GoesOn, so_far}
 use Rattle.orca_live.specs.Performing.{live_part}
 use Rattle.orca_live.specs.States.{LiveState, Setting}
 
--- the text that tells commands: the first line of a script with the seed, and then the canonical
--- line of each command, also of each of several frames in a row
+-- the text of a journal: the first line of a script with the seed, and then the canonical line of
+-- each command, also of each of several frames in a row
 abbrev pub journal_text : ℕ → List Command → List ℕ
 journal_text seed commands = printed_header seed ++ flat_map printed commands
 
@@ -42,13 +42,13 @@ held_in name acts = held_after name None acts
 
 -- a course keeps a journal under this name
 pub record KeepsJournal {S E : Type 0} (name : List ℕ) (seed : ℕ) (c : Course S E) : Type 0 where
-  -- wherever the inbox is asked, the file tells exactly the commands so far
+  -- wherever the inbox is asked, the file has the text of exactly the commands so far
   pub asked : (xs ys : List Act) (poll : Poll) → c.acts ≡ xs ++ Await poll ∷ ys
       → held_in name xs ≡ Some (journal_text seed (commands_in xs))
   -- wherever acts stop, it has a beginning of that: the other lines wait
   pub begun : (xs ys : List Act) → c.acts ≡ xs ++ ys
       → IfSome (held_in name xs) (λ text. Extends text (journal_text seed (commands_in xs)))
-  -- and at the end it tells all of them
+  -- and at the end it has the text of all of them
   pub ended : c.ending ≢ None
       → held_in name c.acts ≡ Some (journal_text seed (commands_in c.acts))
 
@@ -65,14 +65,14 @@ JournalsPerformance =
     → IsApart name s.setting → s.unwritten ≡ []
     → KeepsJournal name s.setting.seed (performance live_part s polls)
 
--- ---- what a journal tells
+-- ---- a journal is a script
 
--- it is read as a script of this seed, with these commands, one on each line after the first
+-- a text is read as a script of this seed, with these commands, one on each line after the first
 pub record IsScriptOf (seed : ℕ) (commands : List Command) (text : List ℕ) : Type 0 where
   pub seeds : seed_in text ≡ Some seed
   pub cues : any_script_of text ≡ Ok (cues_asking 2 (map Do commands))
 
--- so is what tells commands whose numbers have 32 bits
+-- so is that of a journal, if the numbers of the commands have 32 bits
 abbrev pub JournalsAreScripts : Type 0
 JournalsAreScripts =
     (seed : ℕ) (commands : List Command) → seed < 2 ^ 32
@@ -88,4 +88,5 @@ redone m commands s =
 abbrev pub LeadsBack : Type 0
 LeadsBack =
     (polls : List Poll) (s : LiveState) (m : Manner (Unit {0})) → GoesOn m
-    → redone m (commands_in (so_far s polls).acts) s.standing ≡ (so_far s polls).state.standing.machine
+    → redone m (commands_in (so_far s polls).acts) s.standing
+    ≡ (so_far s polls).state.standing.machine

@@ -211,13 +211,13 @@ answer_course (answer.Due at) bytes s = due_course (answered_at at s)
 answer_course answer.End bytes s = still s
 answer_course answer.Failed bytes s = still s
 
--- the commands of an answer are written, and then the picture is shown
-unfoldable pub told_course : LiveState → Course LiveState Stop
-told_course s = onward (write_course s) show_course
+-- the journal and then the picture are brought up to date
+unfoldable pub update_course : LiveState → Course LiveState Stop
+update_course s = onward (write_course s) show_course
 
--- an answer, and then the journal and the picture, unless the performance ended
+-- what an answer brings, and then the journal and the picture, unless the performance ended
 unfoldable pub heard_course : Answer → List ℕ → LiveState → Course LiveState Stop
-heard_course answer bytes s = onward (answer_course answer bytes s) told_course
+heard_course answer bytes s = onward (answer_course answer bytes s) update_course
 
 -- ---- the end
 

@@ -78,8 +78,8 @@ pub(crate) fn write_journal<M: Machine, H: House>(
     }
 }
 
-/// Adds the lines that wait to the file of a name, and none waits then. Their room is kept for those
-/// to come.
+/// Adds the lines that wait to the file of a name, and none waits then. Their room is kept for
+/// those to come.
 #[tactic(auto, using(crate::proofs::DoneLemmas::lines_did))]
 fn write_lines<M: Machine, H: House>(
     live: &mut Live<'_, M>,

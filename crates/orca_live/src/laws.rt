@@ -30,13 +30,13 @@ pub fn painting_law()
     ensures { ShowsPerformance }
 {}
 
-/// Whenever the inbox is asked, the journal tells the seed and exactly the commands so far; wherever
-/// a performance stops, it has a beginning of that; and at the end it tells all of them. It does
-/// nothing.
+/// Whenever the inbox is asked, the journal has the text of the seed and exactly the commands so
+/// far; wherever a performance stops, it has a beginning of that; and at the end it has the text of
+/// all of them. It does nothing.
 #[tactic(auto, using(crate::proofs::JournalLaw::journals_performance, crate::proofs::ScriptLaw::leads_back))]
 pub fn journal_law()
     ensures keeps { JournalsPerformance }
-    // What is told is a script, and done again it leads to the session as it stood when it was told.
+    // This text is a script, and its commands, done again, lead to the session as it stood then.
     ensures reads { JournalsAreScripts }
     ensures leads_back { LeadsBack }
 {}

@@ -1,7 +1,7 @@
 //! What a player does with the answers of an inbox.
 
 ghost use Rattle.orca_course.specs.Doing.{goes_of};
-ghost use Rattle.orca_live.specs.Performing.{answer_course, close_course, finish_course, heard_course, last_course, open_course, told_course};
+ghost use Rattle.orca_live.specs.Performing.{answer_course, close_course, finish_course, heard_course, last_course, open_course, update_course};
 ghost use Rattle.orca_live.specs.States.{Did};
 
 use crate::Live;
@@ -92,17 +92,17 @@ fn do_answer<M: Machine, H: House>(
     }
 }
 
-/// Writes the commands of an answer to the journal, and paints the picture.
-#[tactic(auto, using(orca_course::proofs::DoingLemmas::does_cut, orca_course::proofs::DoingLemmas::goes_err), unfolding(crate::specs::Performing::told_course))]
-fn tell<M: Machine, H: House>(live: &mut Live<'_, M>, desk: &mut Desk<H>) -> Result<(), NoMemory>
-    ensures { Did M.Machine.own told_course live.old desk.old (goes_of result) live.new desk.new }
+/// Brings the journal and then the picture up to date.
+#[tactic(auto, using(orca_course::proofs::DoingLemmas::does_cut, orca_course::proofs::DoingLemmas::goes_err), unfolding(crate::specs::Performing::update_course))]
+fn update<M: Machine, H: House>(live: &mut Live<'_, M>, desk: &mut Desk<H>) -> Result<(), NoMemory>
+    ensures { Did M.Machine.own update_course live.old desk.old (goes_of result) live.new desk.new }
 {
     write_journal(live, desk)?;
     show(live, desk)
 }
 
-/// Does what an answer brings, and then tells it, unless the performance ended: to the journal and
-/// by the picture.
+/// Does what an answer brings, and then brings the journal and the picture up to date, unless the
+/// performance ended.
 #[tactic(auto, using(orca_course::proofs::DoingLemmas::does_cut, orca_course::proofs::DoingLemmas::does_err), unfolding(crate::specs::Performing::heard_course))]
 fn hear<M: Machine, H: House>(
     live: &mut Live<'_, M>,
@@ -116,7 +116,7 @@ fn hear<M: Machine, H: House>(
     if let Some(stop) = do_answer(live, desk, answer, bytes)? {
         return Ok(Some(stop));
     }
-    tell(live, desk)?;
+    update(live, desk)?;
     Ok(None)
 }
 

@@ -58,8 +58,8 @@ ReplaysAlike words =
     → HasEnd (outline words h) → (outline words h).given ≡ Some script
     → ReadsBack script → IsReplayed setup h script (outline words h)
 
--- where words ask for a performance with a journal, it is kept from the first picture on. A run that
--- ends before paints on no screen, and has none
+-- where words ask for a performance with a journal, it is kept from the first picture on. A run
+-- that ends before paints on no screen, and has none
 abbrev pub KeepsJournals : List (List ℕ) → Type 0
 KeepsJournals words =
     (setup : Setup) (performance : Performance) (h : Heard) (name : List ℕ)

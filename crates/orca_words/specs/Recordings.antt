@@ -24,8 +24,8 @@ RecordsWithoutPorts setup (Smf song) = IsPortless setup
 RecordsWithoutPorts setup (Wav wave) = IsPortless setup
 RecordsWithoutPorts setup _ = Unit {0}
 
--- the journal of a performance is no other file of it: neither that of the grid, nor one that is saved
--- at the end
+-- the journal of a performance is no other file of it: neither that of the grid, nor one that is
+-- saved at the end
 abbrev pub HasOwnJournal : Setup → Work → Type 0
 HasOwnJournal setup (Play play) = IfSome play.journal (λ name.
     (name ≢ setup.grid) × IfSome play.save (λ other. name ≢ other)
