@@ -40,20 +40,39 @@ fn the_greatest_numbers_are_printed(rt: HostRuntime) {
     assert!(rt; number == Ok(()) && text.as_slice() == b"18446744073709551615".as_slice());
 }
 
+/// What is told at the start, besides the editor.
+const FIRST_LINE: StatusLine = StatusLine {
+    tick: 0,
+    moments: 0,
+    sounding: 0,
+    note: None,
+    tempo: 120,
+};
+
 #[test]
 fn a_painting_is_shown(rt: HostRuntime) -> Result<(), Fail> {
     let grid = Grid::blank(rt.alloc(), Dims { h: 1, w: 2 })?;
     let mut view = View::start(rt.alloc(), 2, 8)?;
     let mut screen = Screen::start(rt.alloc(), 2, 8)?;
-    let line = StatusLine {
-        tick: 0,
-        moments: 0,
-        sounding: 0,
-        note: None,
-        tempo: 120,
-    };
-    screen.show(view.paint(&grid, &Editor::start(), &line));
+    screen.show(view.paint(&grid, &Editor::start(), &FIRST_LINE));
     assert!(rt; screen.cell(0, 0) == (b'.', 7) && screen.cell(0, 1) == (b'.', 2));
     assert!(rt; screen.cell(0, 2) == (b' ', 0) && screen.cell(1, 7) == (b',', 0));
+    Ok(())
+}
+
+/// The status row is `0 0 0 0,0 1x1 play 120 . ok D delay`.
+#[test]
+fn an_operator_is_coloured_and_named(rt: HostRuntime) -> Result<(), Fail> {
+    let grid = Grid::read(rt.alloc(), b"DD")?;
+    let mut view = View::start(rt.alloc(), 2, 40)?;
+    let mut screen = Screen::start(rt.alloc(), 2, 40)?;
+    let editor = Editor {
+        guide: true,
+        ..Editor::start()
+    };
+    screen.show(view.paint(&grid, &editor, &FIRST_LINE));
+    assert!(rt; screen.cell(0, 0) == (b'D', 7) && screen.cell(0, 1) == (b'D', 94));
+    assert!(rt; screen.cell(1, 28) == (b'D', 0) && screen.cell(1, 30) == (b'd', 0));
+    assert!(rt; screen.cell(1, 34) == (b'y', 0) && screen.cell(1, 35) == (b' ', 0));
     Ok(())
 }
