@@ -1,21 +1,23 @@
 # For ./perform, which sources this: what would fail is said before the first frame. Each refusal is one line that names
 # the option and the name.
 
-# The options of `orca play` that have a text, and the least and the most of those that have a number.
-texts='--midi --udp --osc --save --script --keys'
+# The options that have a text, and the least and the most of those that have a number.
+texts='--midi --udp --osc --save --script --keys --follow'
 numbers='--seed --limit --bpm --rows --cols'
 declare -A least=([--seed]=0 [--limit]=1 [--bpm]=1 [--rows]=2 [--cols]=8)
 declare -A most=([--seed]=4294967295 [--limit]=4000000 [--bpm]=999 [--rows]=100 [--cols]=256)
-# The options that were given, the piece, the one it begins as if it is new, and what is to be done: play, recover, discard
-# or ports.
+# What is to be done: play, lead, follow, recover, discard or ports; and the options that each may have.
+task=play
+declare -A options=([play]="$texts $numbers" [lead]='--midi --udp --osc --seed --limit --bpm')
+options[follow]='--follow --midi --udp --osc --seed --limit'
+# The options that were given, the piece, and the one it begins as if it is new.
 declare -A given=()
 piece=
 model=
-task=play
 
 # give OPTION VALUE
 give() {
-    [[ " $texts $numbers " == *" $1 "* ]] || fails "there is no option $1; the options are $texts $numbers"
+    [[ " ${options[play]} " == *" $1 "* ]] || fails "there is no option $1; the options are ${options[play]}"
     [ -z "${given[$1]+given}" ] || fails "$1 $2: this option is given twice"
     [ -n "$2" ] || fails "$1: its value is missing"
     given[$1]=$2
@@ -29,7 +31,7 @@ read_words() {
         shift
         case $word in
             --) names+=("$@") && break ;;
-            --recover | --discard | --ports) task=${word#--} ;;
+            --lead | --recover | --discard | --ports) task=${word#--} ;;
             -?*=*) give "${word%%=*}" "${word#*=}" ;;
             -?*)
                 [[ ${1-} != -?* ]] && [ $# != 0 ] || set -- '' "$@"
@@ -41,12 +43,15 @@ read_words() {
     done
     [ "${#names[@]}" -le 1 ] || fails "${names[1]}: one piece is played, and ${names[0]} is another name"
     piece=${names[0]-}
-    [[ $task${piece:+ piece} =~ ^(ports|(play|recover|discard) piece)$ ]] ||
-        fails "usage: perform [--recover|--discard] PIECE [options of orca play], or perform --ports"
+    [ "$task${given[--follow]+given}" != playgiven ] || task=follow
+    [[ $task${piece:+ piece} =~ ^(ports|[a-z]* piece)$ ]] ||
+        fails "usage: perform [--lead|--recover|--discard] PIECE [options], or perform --ports"
     # A name that is no file may be that of a piece that came with this.
     [[ $piece == */* ]] || [ -e "$piece" ] || [ ! -f "$top/pieces/${piece%.orca}.orca" ] ||
         piece=${piece%.orca}.orca model=$top/pieces/$piece
-    [ "$task" = play ] || [ "${#given[@]}" = 0 ] || fails "--$task: it has no other options"
+    for word in "${!given[@]}"; do
+        [[ " ${options[$task]-} " == *" $word "* ]] || fails "--$task: it has no option $word"
+    done
     for word in "$piece" "${given[@]}"; do
         ! printf %s "$word" | LC_ALL=C.UTF-8 grep -qazxv '.*' || fails "$word: a name has to be UTF-8"
     done
@@ -89,7 +94,11 @@ look_at_piece() {
     [ ! -d "$piece" ] || fails "$piece: this is a folder, and a piece is a file"
     [ ! -e "$piece" ] || [ -f "$piece" ] || fails "$piece: this is a pipe or a device, and a piece is a file"
     [ ! -e "$piece" ] || [ -r "$piece" ] || fails "$piece: this file may not be read"
-    [ -n "${given[--save]+given}" ] || look_at_save "$piece" "$piece"
+    if [ "$task" != play ]; then
+        [ -e "$piece" ] || fails "$piece: there is no such file"
+    elif [ -z "${given[--save]+given}" ]; then
+        look_at_save "$piece" "$piece"
+    fi
 }
 
 look_at_midi() {
@@ -103,6 +112,13 @@ look_at_midi() {
         fails "$what: this file has something in it, and would be emptied: remove it, or give another name"
     [ -w "$1" ] ||
         fails "$what: you may not write to it; it is of the group $(stat -Lc %G -- "$1"): join that group, and log in again"
+}
+
+look_at_clock() {
+    [ -e "$1" ] || fails "--follow $1: there is no such name, and a device or a pipe that gives a clock is wanted"
+    [ ! -d "$1" ] || fails "--follow $1: this is a folder"
+    [ ! -S "$1" ] || fails "--follow $1: this is a socket, and a file, a pipe or a device is wanted"
+    [ -r "$1" ] || fails "--follow $1: you may not read it; it is of the group $(stat -Lc %G -- "$1")"
 }
 
 # One name has one use, but for --save on the piece.
@@ -124,13 +140,14 @@ look_at_pairs() {
 look() {
     local option
     read_words "$@"
-    [ "$task" = play ] || return 0
-    given[--keys]=${given[--keys]-full}
-    [[ ${given[--keys]} =~ ^(plain|full)$ ]] || fails "--keys ${given[--keys]}: plain or full is wanted"
+    [ -n "${options[$task]-}" ] || return 0
     look_at_numbers
     look_at_addresses
+    [ "$task" != follow ] || look_at_clock "${given[--follow]}"
+    [ "$task" = play ] || [ -e "$piece" ] || [ -z "$model" ] || piece=$model
     look_at_piece
     look_at_pairs
+    [[ ${given[--keys]-full} =~ ^(plain|full)$ ]] || fails "--keys ${given[--keys]}: plain or full is wanted"
     for option in --save --script; do
         [ -z "${given[$option]+given}" ] || look_at_save "$option ${given[$option]}" "${given[$option]}"
     done

@@ -28,23 +28,25 @@ is_room() {
     [ -O "$1" ] && printf %s "$full" | cmp -s - "$1/of"
 } 2>/dev/null
 
+# note_names FOLDER: a room has the full names of its piece and of its port
+note_names() {
+    full_name "${given[--midi]-/dev/null}" && printf %s "$full" >"$1/midi" && full_name "$piece" && printf %s "$full" >"$1/of"
+}
+
 # begin_room FOLDER: a room is made, with what is needed to tell later what was played
 begin_room() {
     # A room without the name of its piece was never begun.
     [ ! -O "$1" ] || [ -e "$1/of" ] || rm -rf -- "$1"
     mkdir -m 700 -- "$1" || return 1
     { [ -z "$is_new" ] && cat -- "$piece" || new_piece; } >"$1/piece" && printf %s "${given[--limit]-}" >"$1/limit" &&
-        printf %s "$port" >"$1/midi" && printf %s "$full" >"$1/of" || { rm -rf -- "$1" && return 1; }
+        note_names "$1" || { rm -rf -- "$1" && return 1; }
 } 2>/dev/null
 
 # The two rooms of this performance, and a lock on the first, for as long as it or its program lives.
+is_new=
 make_room() {
-    is_new=
     [ -e "$piece" ] || is_new=new
     [ -z "$is_new" ] || given[--save]=${given[--save]-$piece}
-    full_name "${given[--midi]-/dev/null}"
-    port=$full
-    full_name "$piece"
     for room in "${rooms[@]}" ''; do
         [ -n "$room" ] || fails "there is no room for a copy of the piece, neither beside it nor in ${TMPDIR:-/tmp}"
         ! begin_room "$room" || break
@@ -54,6 +56,12 @@ make_room() {
     quick=${rooms[3]}
     begin_room "$quick" || quick=$room
     script=$quick/script
+}
+
+# The room of a piece that is not edited, of which nothing stays.
+make_bare_room() {
+    room=$(mktemp -d) && note_names "$room" || fails "there is no room in ${TMPDIR:-/tmp}"
+    rooms=("$room")
 }
 
 # What a new piece begins as: its model, or an empty grid of the size of the picture, less its status line.
