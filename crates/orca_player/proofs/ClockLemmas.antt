@@ -5,7 +5,7 @@ use Rattle.orca_base.specs.Ascii.{space}
 use Rattle.orca_base.specs.declared.command.Command.{Command}
 use Rattle.orca_base.specs.declared.command.Command.TheVariants as command
 use Rattle.orca_base.specs.Ports.{Sent}
-use Rattle.orca_clock.specs.Clocked.{clock_course, end_course, frame_course, last_text_course}
+use Rattle.orca_clock.specs.Clocked.{end_course, frame_course, last_text_course}
 use Rattle.orca_clock.specs.Followers.{Followed, beat_course, byte_course, follow_course, follow_finish, follow_part}
 use Rattle.orca_clock.specs.Leaders.{Led, clocked_course, due_course, key_course, lead_course, lead_finish, lead_open, lead_part, quit, toggle_course}
 use Rattle.orca_concert.specs.Concerts.{Concert, close_course, command_course, final_course, handed_of}
@@ -13,7 +13,7 @@ use Rattle.orca_concert.specs.Manners.{Manner}
 use Rattle.orca_concert.proofs.EndingLemmas.{Ends}
 use Rattle.orca_course.specs.Acts.{commands_in, gives}
 use Rattle.orca_course.specs.Acts.Act.{Stand}
-use Rattle.orca_course.specs.Courses.{Course, afterwards, each, ended, mapped, onward, still}
+use Rattle.orca_course.specs.Courses.{Course, afterwards, ended, mapped, onward, still}
 use Rattle.orca_course.specs.Following.{sounding}
 use Rattle.orca_course.specs.Standings.{Standing, notes_of, standing_closed}
 use Rattle.orca_course.specs.declared.ending.Ending.{Ending}

@@ -3,8 +3,10 @@ pub mod ClockLemmas
 pub mod CourseLemmas
 pub mod EndLemmas
 pub mod ItemLemmas
+pub mod KeepingLemmas
 pub mod LawLemmas
 pub mod JournalLemmas
 pub mod ReadyLemmas
 pub mod RecordedLemmas
+pub mod SheetLemmas
 pub mod TopLemmas

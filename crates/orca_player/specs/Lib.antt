@@ -1,3 +1,4 @@
+pub mod Clocks
 pub mod Statuses
 pub mod Outlines
 pub mod Ready

@@ -2,6 +2,7 @@ ghost use Rattle.std.specs.Prelude.{◌≡◌, ◌⊎◌, ◌≤◌, false, leng
 ghost use Rattle.orca_base.specs.declared.limits.TheConstants.{MAX_FILE_BYTES};
 ghost use Rattle.orca_course.specs.Worlds.{IsSound, has_ended, has_listened};
 ghost use Rattle.orca_grid.specs.GridText.{grid_text};
+ghost use Rattle.orca_player.specs.Clocks.{KeepsTime};
 ghost use Rattle.orca_player.specs.Doing.{Came, CameBy, refused_status};
 ghost use Rattle.orca_player.specs.Outlines.{Heard, grid_outline, is_too_long as is_long_work, made_outline, outline, performed, request_outline, work_outline};
 ghost use Rattle.orca_player.specs.Laws.{CutsAlike, KeepsJournals, ReplaysAlike};
@@ -22,6 +23,7 @@ use crate::recording::{is_too_long, record_song, record_wave};
 use crate::replay::replay;
 use orca_base::Dims;
 use orca_base::limits::DEFAULT_HISTORY;
+use orca_clock::clock_law;
 use orca_course::Desk;
 use orca_cues::{Frames, Maker, Turns};
 use orca_frame::table_laws;
@@ -85,7 +87,15 @@ pub fn run<H: House>(alloc: Global, words: &Vec<String>, desk: &mut Desk<H>) -> 
     // Whenever the inbox of a performance is asked, its journal has the line of the seed and the
     // lines of exactly the commands so far. Wherever the run stops, it has a beginning of that.
     ensures journals { KeepsJournals (map string_bytes words.now.items) }
+
+    // A run that follows a clock does the commands of all bytes that it hears, however they were cut
+    // and whatever other bytes stand between. One that hears exactly what a run that leads gives
+    // plays exactly the frames of that.
+    ensures clocks { KeepsTime (map string_bytes words.now.items) }
 {
+    // What runs by a clock do is said by these laws.
+    table_laws();
+    clock_law();
     let status = work(alloc, words, desk);
     end(alloc, desk, status)
 }

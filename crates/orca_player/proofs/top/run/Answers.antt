@@ -5,6 +5,7 @@ use Rattle.orca_live.proofs.ScriptLaw.{replays_script}
 use Rattle.orca_words.proofs.RecordedWork.{owns_journals}
 use Rattle.orca_player.proofs.EndLemmas.{caused_came, ran_by, ran_usage, ran_usage_only}
 use Rattle.orca_player.proofs.JournalLemmas.{keeps_journals}
+use Rattle.orca_player.proofs.KeepingLemmas.{keeps_time}
 use Rattle.orca_player.proofs.LawLemmas.{cuts_alike, replays_alike}
 use Rattle.orca_player.proofs.top.run.Goals as goal
 
@@ -16,6 +17,11 @@ returns-clause-replays g c = replays_alike replays_script _
 
 pub returns-clause-journals : goal.returns-clause-journals
 returns-clause-journals g c = keeps_journals journals_performance owns_journals _
+
+pub returns-clause-clocks : goal.returns-clause-clocks
+returns-clause-clocks g c =
+    let law = c.clock_law.ensures in
+    keeps_time c.table_laws.ensures law.bytes law.clock law.leads _
 
 pub returns-clause-ran : goal.returns-clause-ran
 returns-clause-ran g c =
