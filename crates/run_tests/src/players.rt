@@ -124,7 +124,7 @@ fn try_run<L: Ledger>(rt: &impl Abort, alloc: Global, wanted: Run, blank: Blank)
     Ok(())
 }
 
-const RUNS: [Run; 6] = [
+const RUNS: [Run; 11] = [
     (
         "events hi.orca 2",
         0,
@@ -147,6 +147,44 @@ const RUNS: [Run; 6] = [
         "run hi.orca 1",
         2,
         &[(Port::Udp, b"hi"), (Port::Fault, b"no memory\n")],
+        Status::Memory,
+    ),
+    (
+        "follow hi.orca here:1",
+        1,
+        &[(Port::Fault, b"no memory\n")],
+        Status::Memory,
+    ),
+    (
+        "lead hi.orca here:1",
+        0,
+        &[
+            (Port::Midi, b"\xfa"),
+            (Port::Text, b";hi\n*..\ntick 0 moments 0 sounding 0\n"),
+            (Port::Midi, b"\xfc"),
+        ],
+        Status::Done,
+    ),
+    (
+        "lead hi.orca here:1",
+        1,
+        &[(Port::Fault, b"no memory\n")],
+        Status::Memory,
+    ),
+    (
+        "lead hi.orca here:1",
+        2,
+        &[(Port::Midi, b"\xfa"), (Port::Fault, b"no memory\n")],
+        Status::Memory,
+    ),
+    (
+        "lead hi.orca here:1",
+        3,
+        &[
+            (Port::Midi, b"\xfa"),
+            (Port::Text, b";hi\n*..\ntick 0 moments 0 sounding 0\n"),
+            (Port::Fault, b"no memory\n"),
+        ],
         Status::Memory,
     ),
     ("run no.orca 1", 1, &[], Status::Memory),
