@@ -1,11 +1,12 @@
 #!/usr/bin/env python3
-"""Measures `orca play` over a real connection: bench/live.py [PROGRAM] [--short] [--seconds S] [--turns N] [--keys N]
-[--flood BYTES]
+"""Measures `orca play` over a real connection: bench/live.py [PROGRAM] [--short] [--clock] [--seconds S] [--turns N]
+[--keys N] [--flood BYTES]
 
 It prints how late frames are, how long a key waits for its painting, near a frame and away from one, how a beat that fell
 behind catches up, what eight megabytes of keys and saves do to the frames, how much of a processor is used, and how many
-bytes a frame paints; with --short it prints only how late frames and keys are. PROGRAM is crates/orca/out/orca if it is not
-given. For figures that mean something nothing else may run.
+bytes a frame paints; with --short it prints only how late frames and keys are, and with --clock only how late the clock of
+`lead` is, and a frame of `follow` after its clock. PROGRAM is crates/orca/out/orca if it is not given. For figures that mean
+something nothing else may run.
 """
 import os, random, select, signal, socket, subprocess, sys, tempfile, threading, time
 
@@ -15,6 +16,8 @@ HERE = os.path.dirname(os.path.abspath(__file__))
 # A clock and a note in each frame, above a small piece.
 BEAT = b'.D1.....\n..:03C82\n' + grids.piece()
 NOTE = b'\x90\x24'
+# The bytes of a MIDI clock.
+CLOCK, START = b'\xf8', b'\xfa'
 # How long before a moment a key counts as near it, in seconds.
 NEAR = 0.012
 # A program that waits for one moment after another, as a player does, and does nothing else: it sleeps, reads the clock for the
@@ -60,13 +63,13 @@ def free_port():
 class Player:
     """A program that plays, and its connection; with a pipe for its notes if its options name one."""
 
-    def __init__(self, grid, *options):
+    def __init__(self, grid, *options, verb='play'):
         port = free_port()
         with open('grid', 'wb') as file:
             file.write(grid)
         os.path.exists('pipe') or os.mkfifo('pipe')
         self.notes = os.open('pipe', os.O_RDWR)
-        words = [PROGRAM, 'play', 'grid', '127.0.0.1:%d' % port, *map(str, options)]
+        words = [PROGRAM, verb, 'grid', '127.0.0.1:%d' % port, *map(str, options)]
         self.process = subprocess.Popen(words, stdout=subprocess.PIPE, bufsize=0)
         until = time.monotonic() + 10
         while True:
@@ -83,14 +86,15 @@ class Player:
         ready, _, _ = select.select([self.process.stdout], [], [], seconds)
         return os.read(self.process.stdout.fileno(), 1 << 20) if ready else b''
 
-    def frames(self, seconds):
-        """The moments at which frames come within this time, one by one. What is painted is read, and dropped."""
+    def frames(self, seconds, sign=NOTE):
+        """The moments at which frames come within this time, one by one, or other bytes. What is painted is read, and
+        dropped."""
         until = time.monotonic() + seconds
         while time.monotonic() < until:
             ready, _, _ = select.select([self.notes, self.process.stdout], [], [], 0.1)
             now = time.monotonic()
             # Two frames may have come since the last look.
-            for _ in range(os.read(self.notes, 1 << 16).count(NOTE) if self.notes in ready else 0):
+            for _ in range(os.read(self.notes, 1 << 16).count(sign) if self.notes in ready else 0):
                 yield now
             if self.process.stdout in ready:
                 self.painting(0)
@@ -160,6 +164,34 @@ def lateness(bpm, seconds):
     late = late_by(moments, interval_of(bpm))
     spread('a frame at %d beats a minute, %d frames' % (bpm, len(late)), late, 'microseconds', 1e6)
     waiter.tell()
+
+
+def clocks(bpm, seconds):
+    """How late the clock of a leader is."""
+    interval = 60_000_000 // (24 * bpm) / 1e6
+    waiter, player = Waiter(interval), Player(BEAT, '--bpm', bpm, '--midi', 'pipe', verb='lead')
+    moments = list(player.frames(seconds, CLOCK))
+    player.leave()
+    spread('a clock at %d beats a minute, %d clocks' % (bpm, len(moments)), late_by(moments, interval), 'microseconds', 1e6)
+    waiter.tell()
+
+
+def followed(bpm, count):
+    """From a clock to the frame that it plays."""
+    echo, player, times, echoed = Echo(), Player(BEAT, '--midi', 'pipe', verb='follow'), [], []
+    player.keys.send(START)
+    begin = time.monotonic() + 0.1
+    for turn in range(6 * count):
+        time.sleep(max(0, begin + turn * 60 / (24 * bpm) - time.monotonic()))
+        start = time.monotonic()
+        player.keys.send(CLOCK)
+        if turn % 6 == 0:
+            times.append(next(player.frames(10)) - start)
+            echoed.append(echo.answer_time())
+    player.leave()
+    echo.leave()
+    spread('a frame after its clock at %d beats a minute, %d frames' % (bpm, count), times, 'microseconds', 1e6)
+    spread('    a program beside it that only answers', echoed, 'microseconds', 1e6)
 
 
 class Echo:
@@ -296,6 +328,11 @@ def processor(name, grid, seconds, keys, *options):
 
 def main():
     keys, seconds = option('--keys', 1000), option('--seconds', 60)
+    if '--clock' in sys.argv:
+        for bpm in (120, 999):
+            clocks(bpm, seconds)
+            followed(bpm, min(keys, 4 * seconds))
+        return
     large = ('--rows', 100, '--cols', 256)
     # In some of these turns the machine itself may be stopped less than in others.
     for bpm in (120, 999):
