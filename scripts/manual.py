@@ -177,7 +177,7 @@ def page_of_perform(commands, version, date):
                                   *(line for form, *_ in rows_of(commands, PERFORM) for line in (".br", inline(form)))])
     lines += section("DESCRIPTION", page_of(commands[PERFORM]))
     lines += section("OPTIONS", page_table([["option", "", "example"], *(
-        row for row in rows_of(commands, "Options") if option_of(row) in options_of_words()["play"])]))
+        row for row in rows_of(commands, "Options") if option_of(row) in options_of_perform())]))
     lines += section(keys.upper(), page_of(readme[keys]))
     lines += section("EXIT STATUS", page_of(commands["Statuses"]))
     examples = [re.sub(r"pieces/(\w+)\.orca", r"\1", line) for line in
@@ -219,10 +219,15 @@ def options_of_words():
     return options
 
 
+def options_of_perform():
+    """Those of `play`, but for the journal, which `perform` keeps by itself."""
+    return [option for option in options_of_words()["play"] if option != "--journal"]
+
+
 def completion(commands):
     options = dict(options_of_words())
     own = [option for form, *_ in rows_of(commands, PERFORM) for option in re.findall(r"--[a-z]+", form)]
-    options["perform"] = own + options["play"]
+    options["perform"] = own + options_of_perform()
     table = " ".join(f"[{word}]='{' '.join(names)}'" for word, names in options.items())
     words = " ".join(word for word in options if word != "perform")
     return read("completions/orca").replace("@words@", words).replace("@options@", table)
