@@ -1,0 +1,111 @@
+-- The hands at a session, and what each may ask for.
+use Rattle.std.specs.Prelude.{ℕ, ◌==◌, Bool, true, false, not, ◌&&◌, if◌then◌else◌, List, [], ◌∷◌, map, replicate, slice_index_or, slice_set, Option, Some, None, Result, Ok, Err}
+use Rattle.std.specs.Option.{option_map_or}
+use Rattle.orca_base.specs.declared.command.Command.{Command}
+use Rattle.orca_base.specs.Grids.{Size}
+use Rattle.orca_jam.specs.Denials.{is_leaders, is_undo, not_yours}
+use Rattle.orca_jam.specs.Owners.{last_editor, owned}
+use Rattle.orca_jam.specs.declared.crew.TheConstants.{LEADER}
+use Rattle.orca_jam.specs.declared.denial.Denial.{Denial}
+use Rattle.orca_jam.specs.declared.denial.Denial.TheVariants.{LeaderOnly}
+use Rattle.orca_jam.specs.declared.owner.Owner.{Owner}
+use Rattle.orca_jam.specs.declared.player.Player.{Player}
+use Rattle.orca_term.specs.Editing.{editor_after, editor_inside, new_editor, wish_of}
+use Rattle.orca_term.specs.Keys.{Item, turn}
+use Rattle.orca_term.specs.declared.around.Around.{Around}
+use Rattle.orca_term.specs.declared.editor.Editor.{Editor}
+use Rattle.orca_term.specs.declared.editor.Wish.{Wish}
+use Rattle.orca_term.specs.declared.editor.Wish.TheVariants as wish
+use Rattle.orca_term.specs.declared.keys.Key.{Key}
+use Rattle.orca_term.specs.declared.keys.Key.TheVariants as key
+use Rattle.orca_term.specs.declared.keys.Pending.TheVariants.{Nothing}
+
+-- whether a hand plays alone, the players in the order of their hands, whose each entry of the
+-- history is, and room for how many of them there is. Of a hand that plays alone no owners are kept
+pub record CrewState : Type 0 where
+  pub alone : Bool
+  pub players : List Player
+  pub owners : List Owner
+  pub room : ℕ
+
+-- nothing is pending, and a new editor
+abbrev pub new_player : Bool → Player
+new_player full = record { keys = Nothing; editor = new_editor full }
+
+-- a hand that plays alone
+abbrev pub crew_alone : Bool → CrewState
+crew_alone full = record {
+  alone = true;
+  players = new_player full ∷ [];
+  owners = [];
+  room = 0;
+}
+
+-- so many hands share a session, with room for the owners of so many entries
+abbrev pub crew_at_start : Bool → ℕ → ℕ → CrewState
+crew_at_start full hands room = record {
+  alone = false;
+  players = replicate hands (new_player full);
+  owners = [];
+  room = room;
+}
+
+-- the player of a hand
+abbrev pub player_at : CrewState → ℕ → Player
+player_at c hand = slice_index_or c.players hand (new_player false)
+
+abbrev pub with_player : ℕ → Player → CrewState → CrewState
+with_player hand p c = record c { players = slice_set c.players hand p }
+
+-- the editor of a hand is this one
+abbrev pub with_editor : ℕ → Editor → CrewState → CrewState
+with_editor hand e c = with_player hand (record (player_at c hand) { editor = e }) c
+
+-- the reader of a player was given a byte, or nothing came for a while
+abbrev pub turned_player : Bool → Item → Player → Player
+turned_player full item p = record p { keys = (turn full p.keys item).pending }
+
+-- that of a hand was
+abbrev pub turned_by : Bool → ℕ → Item → CrewState → CrewState
+turned_by full hand item c = with_player hand (turned_player full item (player_at c hand)) c
+
+-- the editor of a player is brought into a grid of this size
+abbrev pub fitted_player : Size → Player → Player
+fitted_player d p = record p { editor = editor_inside d p.editor }
+
+-- every editor is
+abbrev pub fitted_crew : Size → CrewState → CrewState
+fitted_crew d c = record c { players = map (fitted_player d) c.players }
+
+-- ---- what a hand may ask for
+
+-- why a key is denied to a hand, if it is: the first reason that stands. A hand that plays alone
+-- may do all
+unfoldable pub denial_of : CrewState → ℕ → Key → Option Denial
+denial_of c hand key =
+    if c.alone then None
+    else (if is_leaders key && not (hand == LEADER) then Some LeaderOnly
+    else (if is_undo key then not_yours hand (last_editor c.owners) else None))
+
+-- hands that share a session do nothing again that was taken back
+abbrev pub offers : CrewState → Key → Bool
+offers c key.Redo = c.alone
+offers c _ = true
+
+-- what a key asks for that isn't denied
+abbrev pub asked : CrewState → ℕ → Key → Around → Wish
+asked c hand key a =
+    if offers c key then wish_of key a (player_at c hand).editor else wish.Nothing
+
+-- what a hand is told of a key
+abbrev pub answer_to : CrewState → ℕ → Key → Around → Result Wish Denial
+answer_to c hand key a = option_map_or Err (denial_of c hand key) (Ok (asked c hand key a))
+
+-- the crew after a key that isn't denied
+abbrev pub struck_by : ℕ → Key → Around → CrewState → CrewState
+struck_by hand key a c = with_editor hand (editor_after key a (player_at c hand).editor) c
+
+-- the crew after a command of a hand that was accepted, where the history has n entries then
+abbrev pub took_by : ℕ → Command → ℕ → CrewState → CrewState
+took_by hand command n c =
+    if c.alone then c else record c { owners = owned hand command n c.owners }

@@ -1,0 +1,4 @@
+pub mod Crews
+pub mod Denials
+pub mod Owners
+pub mod Seats

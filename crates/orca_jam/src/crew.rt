@@ -1,0 +1,277 @@
+//! The hands at a session.
+
+ghost use Rattle.std.specs.Prelude.{◌≡◌, ◌<◌, ◌≤◌, ℕ, Bool, All, false, length, map, slice_get, IfOk, OnErr, OnOk};
+ghost use Rattle.orca_base.specs.Areas.{IsArea};
+ghost use Rattle.orca_base.specs.declared.limits.TheConstants.{MAX_HANDS, MAX_HISTORY};
+ghost use Rattle.orca_jam.specs.Crews.{answer_to, crew_alone, crew_at_start, denial_of, fitted_crew, fitted_player, offers, player_at, struck_by, took_by, turned_by, with_editor, with_player};
+ghost use Rattle.orca_jam.specs.Denials.{is_leaders as belongs_to_leader, not_yours};
+ghost use Rattle.orca_term.specs.Editing.{area_of, wish_of};
+ghost use Rattle.orca_term.specs.Keys.{Byte, Due, turn};
+
+use crate::owner::{follow, last_editor};
+use crate::player::Player;
+use crate::{Denial, Owner};
+use orca_base::limits::{MAX_HANDS, MAX_HISTORY};
+use orca_base::{Command, Dims, Memory};
+use orca_term::{Around, Deed, Editor, Key, Wish};
+use std::alloc::Global;
+use std::marker::Model;
+
+/// The hand to which some keys belong: the first one.
+pub const LEADER: u8 = 0;
+
+/// Room for the players of all hands.
+const SEATS: usize = MAX_HANDS as usize;
+
+/// The hands at a session, 1 to [`MAX_HANDS`] of them, each with a reader of keys and an editor. A contract sees
+/// these, whose each entry of the history is, and room for how many entries there is. A hand that plays alone
+/// may do all; of a session that hands share, some keys belong to the first hand, nobody takes back the edit
+/// of another, and nobody does again what was taken back.
+#[derive(Drop)]
+pub struct Crew {
+    alone: bool,
+    room: u32,
+    hands: u8,
+    players: [Player; SEATS],
+    owners: Vec<Owner>,
+}
+
+impl Model for Crew {
+    ghost use Rattle.orca_jam.specs.Crews.{CrewState};
+
+    ghost Value = { CrewState };
+
+    ghost use Rattle.orca_jam.specs.Seats.{IsCrew, crew_of};
+
+    ghost view = { crew_of };
+
+    ghost invariant = { IsCrew };
+}
+
+impl Crew {
+    /// A hand that plays alone, with the full keys or with the plain ones. It takes no memory.
+    pub fn alone(alloc: Global, full: bool) -> Crew
+        ensures { result ≡ crew_alone full }
+    {
+        Crew {
+            alone: true,
+            room: 0,
+            hands: 1,
+            players: [Player::start(full); SEATS],
+            owners: Vec::new(alloc),
+        }
+    }
+
+    /// Hands that share a session, whose history may have `limit` entries, with the full keys or with the
+    /// plain ones. It takes room for the owners of all entries; no later call takes memory. [`Memory`] if
+    /// the room is refused.
+    pub fn start(alloc: Global, full: bool, hands: u8, limit: u32) -> Result<Crew, Memory>
+        requires some_hands { 1 ≤ hands }
+        requires few_hands { hands ≤ MAX_HANDS }
+        requires some { 1 ≤ limit }
+        requires most { limit ≤ MAX_HISTORY }
+        ensures { IfOk result (λ crew. crew ≡ crew_at_start full hands limit) }
+    {
+        Ok(Crew {
+            alone: false,
+            room: limit,
+            hands,
+            players: [Player::start(full); SEATS],
+            owners: Vec::with_capacity(alloc, limit as usize)?,
+        })
+    }
+
+    /// The number of hands.
+    pub fn hands(&self) -> u8
+        ensures hands { result ≡ length self.now.players }
+        ensures some { 1 ≤ result }
+        ensures few { result ≤ MAX_HANDS }
+    {
+        self.hands
+    }
+
+    /// Reads a byte of a hand, and gives the key that it ends, if any: of the full keys, or of the plain
+    /// ones.
+    pub fn feed(&mut self, full: bool, hand: u8, byte: u8) -> Option<Key>
+        requires { hand < length self.old.players }
+        ensures key { result ≡ (turn full (player_at self.old hand).keys (Byte byte)).key }
+        ensures crew { self.new ≡ turned_by full hand (Byte byte) self.old }
+    {
+        let mut player = self.player(hand);
+        let key = player.feed(full, byte);
+        self.seat(hand, player);
+        key
+    }
+
+    /// Nothing came of a hand for a while: an ESC that stands alone is the escape key.
+    pub fn due(&mut self, hand: u8) -> Option<Key>
+        requires { hand < length self.old.players }
+        ensures key { (full : Bool)
+            → result ≡ (turn full (player_at self.old hand).keys Due).key }
+        ensures crew { (full : Bool) → self.new ≡ turned_by full hand Due self.old }
+    {
+        let mut player = self.player(hand);
+        let key = player.keys.due();
+        self.seat(hand, player);
+        key
+    }
+
+    /// Brings the cursor and the selection of every hand into a grid of this size.
+    pub fn fit(&mut self, dims: Dims)
+        ensures crew { self.new ≡ fitted_crew dims self.old }
+        ensures inside { (hand : ℕ) → hand < length self.new.players
+            → IsArea dims (area_of (player_at self.new hand).editor) }
+    {
+        fit_all(&mut self.players, dims);
+    }
+
+    /// The editor of a hand.
+    pub fn editor(&self, hand: u8) -> &Editor
+        requires { hand < length self.now.players }
+        ensures { result.now ≡ (player_at self.now hand).editor }
+    {
+        &self.players[hand as usize].editor
+    }
+
+    /// The editor of a hand is this one.
+    pub fn set_editor(&mut self, hand: u8, editor: Editor)
+        requires { hand < length self.old.players }
+        ensures { self.new ≡ with_editor hand editor self.old }
+    {
+        let keys = self.player(hand).keys;
+        self.seat(hand, Player { keys, editor });
+    }
+
+    /// The player of a hand.
+    fn player(&self, hand: u8) -> Player
+        requires { hand < length self.now.players }
+        ensures { result ≡ player_at self.now hand }
+    {
+        self.players[hand as usize]
+    }
+
+    /// The player of a hand is this one.
+    fn seat(&mut self, hand: u8, player: Player)
+        requires { hand < length self.old.players }
+        ensures { self.new ≡ with_player hand player self.old }
+    {
+        self.players[hand as usize] = player;
+    }
+
+    /// What a key of a hand asks for, with what it makes of the editor of that hand. A key that is denied
+    /// changes nothing: [`Denial::LeaderOnly`] if it belongs to the first hand, and else
+    /// [`Denial::NotYours`] if it would take back the edit of another.
+    pub fn ask(&mut self, hand: u8, key: Key, around: &Around) -> Result<Wish, Denial>
+        requires hand { hand < length self.old.players }
+        requires inside { IsArea around.now.dims (area_of (player_at self.old hand).editor) }
+        ensures answer { result ≡ answer_to self.old hand key around.now }
+        ensures denied { OnErr result (self.new ≡ self.old) }
+        ensures asked { OnOk result (self.new ≡ struck_by hand key around.now self.old) }
+        ensures inside { IsArea around.now.dims (area_of (player_at self.new hand).editor) }
+    {
+        if let Some(denial) = self.denial(hand, &key) {
+            return Err(denial);
+        }
+        let offered = self.offers(&key);
+        let wish = self.strike(hand, key, around);
+        if !offered {
+            return Ok(Wish::Nothing);
+        }
+        Ok(wish)
+    }
+
+    /// What a key of a hand asks for, with what it makes of the editor.
+    fn strike(&mut self, hand: u8, key: Key, around: &Around) -> Wish
+        requires hand { hand < length self.old.players }
+        requires inside { IsArea around.now.dims (area_of (player_at self.old hand).editor) }
+        ensures wish { result ≡ wish_of key around.now (player_at self.old hand).editor }
+        ensures crew { self.new ≡ struck_by hand key around.now self.old }
+        ensures inside { IsArea around.now.dims (area_of (player_at self.new hand).editor) }
+    {
+        let mut player = self.player(hand);
+        let wish = player.editor.key(key, around);
+        self.seat(hand, player);
+        wish
+    }
+
+    /// Why a key is denied to a hand, if it is.
+    #[tactic(auto, unfolding(crate::specs::Crews::denial_of))]
+    fn denial(&self, hand: u8, key: &Key) -> Option<Denial>
+        ensures { result ≡ denial_of self.now hand key.now }
+    {
+        if self.alone {
+            return None;
+        }
+        if hand != LEADER && is_leaders(key) {
+            return Some(Denial::LeaderOnly);
+        }
+        if !matches!(key, Key::Undo) {
+            return None;
+        }
+        deny(hand, last_editor(&self.owners))
+    }
+
+    /// Whether a key is offered.
+    fn offers(&self, key: &Key) -> bool
+        ensures { result ≡ offers self.now key.now }
+    {
+        self.alone || !matches!(key, Key::Redo)
+    }
+
+    /// A command of a hand was accepted, or one that no hand asked for, and the history has so many entries
+    /// then. Of a hand that plays alone nothing is kept.
+    pub fn took(&mut self, hand: u8, command: &Command, moments: u32)
+        requires some { 1 ≤ moments }
+        requires room { self.old.alone ≡ false → moments ≤ self.old.room }
+        ensures { self.new ≡ took_by hand command.now moments self.old }
+    {
+        if self.alone {
+            return;
+        }
+        follow(&mut self.owners, hand, command, moments as usize);
+    }
+
+    /// Whose an entry of the history is; none exactly from the number of its entries on.
+    pub fn owner(&self, index: u32) -> Option<Owner>
+        ensures { result ≡ slice_get self.now.owners index }
+    {
+        self.owners.get(index as usize).copied()
+    }
+}
+
+/// Brings the cursor and the selection of each player into a grid of this size.
+fn fit_all(players: &mut [Player], dims: Dims)
+    ensures players { players.new ≡ map (fitted_player dims) players.old }
+    ensures inside { All (λ p. IsArea dims (area_of p.editor)) players.new }
+{
+    for player in players.iter_mut() {
+        player.fit(dims);
+    }
+}
+
+/// Whether a key belongs to the first hand.
+fn is_leaders(key: &Key) -> bool
+    ensures { result ≡ belongs_to_leader key.now }
+{
+    match key {
+        Key::Back | Key::Reset | Key::Pause | Key::Save | Key::Quit => true,
+        Key::Slower(_) | Key::Faster(_) | Key::Redraw | Key::Screen { .. } => true,
+        Key::Arrow { deed, .. } => matches!(deed, Deed::Grow),
+        _ => false,
+    }
+}
+
+/// Why an undo is denied to a hand, where the last edit is the one of this hand, if there is an edit.
+fn deny(hand: u8, last: Option<u8>) -> Option<Denial>
+    ensures { result ≡ not_yours hand last }
+{
+    match last {
+        None => None,
+        Some(other) => {
+            if other == hand {
+                return None;
+            }
+            Some(Denial::NotYours { hand: other })
+        }
+    }
+}

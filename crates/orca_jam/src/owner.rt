@@ -1,0 +1,73 @@
+//! Whose the entries of a history are.
+
+ghost use Rattle.std.specs.Prelude.{◌≡◌, ◌≤◌, length, max, vec_capacity, vec_len};
+ghost use Rattle.orca_edit.specs.Machines.{is_jump as jumps};
+ghost use Rattle.orca_jam.specs.Owners.{is_edit_command as edits, last_editor as editor_of_last, owned};
+
+use orca_base::Command;
+
+/// The hand of an entry that no hand asked for.
+pub const NOBODY: u8 = 255;
+
+/// Whose an entry of the history is.
+#[derive(Clone, Copy, Debug, PartialEq, Eq)]
+pub struct Owner {
+    /// The hand that asked for it; [`NOBODY`] for the end of a jump and for the frames of the clock.
+    pub hand: u8,
+    /// Whether the entry is an edit.
+    pub edit: bool,
+}
+
+/// The hand of the last edit, if there is one.
+pub(crate) fn last_editor(owners: &[Owner]) -> Option<u8>
+    ensures { result ≡ editor_of_last owners.now }
+{
+    let mut end = owners.len();
+    while end > 0 {
+        end -= 1;
+        let owner = owners[end];
+        if owner.edit {
+            return Some(owner.hand);
+        }
+    }
+    None
+}
+
+/// Does to the owners what a command of a hand did to the history, which has so many entries then.
+#[tactic(auto, unfolding(crate::specs::Owners::owned))]
+pub(crate) fn follow(owners: &mut Vec<Owner>, hand: u8, command: &Command, moments: usize)
+    requires some { 1 ≤ moments }
+    requires room { moments ≤ vec_capacity owners.old }
+    requires within { vec_len owners.old ≤ vec_capacity owners.old }
+    ensures owners { owners.new.items ≡ owned hand command.now moments owners.old.items }
+    ensures few { length owners.new.items ≤ max moments (length owners.old.items) }
+    ensures room { vec_capacity owners.new ≡ vec_capacity owners.old }
+{
+    if is_jump(command) {
+        owners.truncate(moments - 1);
+        owners.push_reserved(Owner {
+            hand: NOBODY,
+            edit: false,
+        });
+    } else if owners.len() < moments {
+        let edit = is_edit(command);
+        owners.push_reserved(Owner { hand, edit });
+    }
+}
+
+/// Whether a command goes back in the history, or forward again.
+fn is_jump(command: &Command) -> bool
+    ensures { result ≡ jumps command.now }
+{
+    matches!(
+        command,
+        Command::Undo | Command::Rewind { .. } | Command::Redo
+    )
+}
+
+/// Whether the entry of a command is an edit.
+fn is_edit(command: &Command) -> bool
+    ensures { result ≡ edits command.now }
+{
+    !matches!(command, Command::Frame)
+}

@@ -1,0 +1,55 @@
+//! What a hand has.
+
+ghost use Rattle.std.specs.Prelude.{◌≡◌};
+ghost use Rattle.orca_base.specs.Areas.{IsArea};
+ghost use Rattle.orca_jam.specs.Crews.{fitted_player, new_player, turned_player};
+ghost use Rattle.orca_term.specs.Editing.{area_of};
+ghost use Rattle.orca_term.specs.Keys.{Byte, turn};
+
+use orca_base::Dims;
+use orca_term::{Editor, Key, Keys};
+
+/// What a hand has: its reader of keys, and its editor.
+#[derive(Clone, Copy)]
+pub struct Player {
+    /// The reader of its keys.
+    pub keys: Keys,
+    /// Its cursor, its selection, and what it has switched on.
+    pub editor: Editor,
+}
+
+impl Player {
+    /// A player of the full keys, or of the plain ones: nothing was read, and the guide shows with full
+    /// keys.
+    pub fn start(full: bool) -> Player
+        ensures { result ≡ new_player full }
+    {
+        Player {
+            keys: Keys::start(),
+            editor: Editor {
+                guide: full,
+                ..Editor::start()
+            },
+        }
+    }
+
+    /// Reads a byte, and gives the key that it ends, if any: of the full keys, or of the plain ones.
+    pub fn feed(&mut self, full: bool, byte: u8) -> Option<Key>
+        ensures key { result ≡ (turn full self.old.keys (Byte byte)).key }
+        ensures player { self.new ≡ turned_player full (Byte byte) self.old }
+    {
+        if full {
+            self.keys.feed_full(byte)
+        } else {
+            self.keys.feed(byte)
+        }
+    }
+
+    /// Brings the cursor and the selection into a grid of this size.
+    pub fn fit(&mut self, dims: Dims)
+        ensures player { self.new ≡ fitted_player dims self.old }
+        ensures inside { IsArea dims (area_of self.new.editor) }
+    {
+        self.editor.fit(dims);
+    }
+}
