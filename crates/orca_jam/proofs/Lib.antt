@@ -1,3 +1,5 @@
 pub mod Digits
 pub mod LastEditor
+pub mod LeaderLaws
+pub mod OwnerLaws
 pub mod Seats

@@ -4,10 +4,12 @@
 
 mod crew;
 mod denial;
+mod laws;
 mod limits;
 mod owner;
 mod player;
 
 pub use crew::{Crew, LEADER};
 pub use denial::{Denial, DenialLine};
+pub use laws::crew_law;
 pub use owner::{NOBODY, Owner};

@@ -1,0 +1,346 @@
+-- The owners of a history go with it, and an undo spares the edits of other hands.
+use Rattle.std.proofs.Common.{◌≡◌, ℕ, zero, suc, ◌-◌, Bool, true, false, true≢false, List, [], ◌∷◌, ◌++◌, length, take, map, Option, Some, None, refl, arith, ap, sym, ◌∙◌, length-append}
+use Rattle.std.specs.Prelude.{if◌then◌else◌, ◌==◌, is_some, nat_lt, cond}
+use Rattle.std.specs.Option.{option_map, option_map_or, option_or}
+use Rattle.std.proofs.Math.Path.{subst}
+use Rattle.std.proofs.lemmas.Bool.Decides.{nat_tests}
+use Rattle.std.proofs.lemmas.Option.{none-some, same_Some}
+use Rattle.std.proofs.lemmas.List.{length-map, map-append}
+use Rattle.orca_base.specs.declared.command.Command.{Command}
+use Rattle.orca_base.specs.declared.command.Command.TheVariants as command
+use Rattle.orca_base.specs.declared.command.Entry.{Entry}
+use Rattle.orca_base.specs.declared.command.Entry.TheVariants.{Hush, Put}
+use Rattle.orca_base.specs.declared.command.Rule.TheVariants.{NothingToUndo}
+use Rattle.orca_base.specs.declared.place.Place.{Place}
+use Rattle.orca_base.specs.Grids.{Sheet}
+use Rattle.orca_base.specs.Histories.{is_edit, last_edit}
+use Rattle.orca_edit.specs.Machines.{is_jump}
+use Rattle.orca_edit.specs.Obeying.{MachineState, Obeyed, accept, carry_out, clip_after, entry_of, jump, obey, piece_of, place, rule_against, taken_area}
+use Rattle.orca_jam.specs.Crews.{CrewState, denial_of}
+use Rattle.orca_jam.specs.Denials.{not_yours}
+use Rattle.orca_jam.specs.Laws.{AreOwners, KeepsOwners, UndoSpares, edits_of_others, is_of_other}
+use Rattle.orca_jam.specs.Owners.{is_edit_command, last_editor, nobodys, owned}
+use Rattle.orca_jam.specs.declared.denial.Denial.TheVariants.{NotYours}
+use Rattle.orca_jam.specs.declared.owner.Owner.{Owner}
+use Rattle.orca_term.specs.declared.keys.Key.TheVariants as key
+
+-- ---- owners beside entries
+
+-- as many owners as entries
+as_many : (h : List Entry) (o : List Owner) → AreOwners h o → length o ≡ length h
+as_many h o are =
+    sym (length-map o (λ (owner : Owner). owner.edit)) ∙ (ap length are ∙ length-map h is_edit)
+
+-- of the first entry and its owner, and of the others
+first-alike : (a b : Bool) (xs ys : List Bool) → a ∷ xs ≡ b ∷ ys → a ≡ b
+first-alike a b xs ys same = cc
+
+others-alike : (a b : Bool) (xs ys : List Bool) → a ∷ xs ≡ b ∷ ys → xs ≡ ys
+others-alike a b xs ys same = cc
+
+edit-of : (e : Entry) (w : Owner) (h : List Entry) (o : List Owner) → AreOwners (e ∷ h) (w ∷ o)
+    → w.edit ≡ is_edit e
+edit-of e w h o are = first-alike w.edit (is_edit e) _ _ are
+
+rest-of : (e : Entry) (w : Owner) (h : List Entry) (o : List Owner) → AreOwners (e ∷ h) (w ∷ o)
+    → AreOwners h o
+rest-of e w h o are = others-alike w.edit (is_edit e) _ _ are
+
+-- no owners without entries, and no entries without owners
+no-owner : (w : Owner) (o : List Owner) → AreOwners [] (w ∷ o) → ⊥
+no-owner w o are = cc
+
+no-entry : (e : Entry) (h : List Entry) → AreOwners (e ∷ h) [] → ⊥
+no-entry e h are = cc
+
+-- ---- a jump
+
+-- as many of the owners as of the entries
+cut : (n : ℕ) (h : List Entry) (o : List Owner) → AreOwners h o
+    → take (length (take n h)) o ≡ take n o
+cut zero h o are = refl
+cut (suc n) [] [] are = refl
+cut (suc n) [] (w ∷ o) are = absurd (no-owner w o are)
+cut (suc n) (e ∷ h) [] are = absurd (no-entry e h are)
+cut (suc n) (e ∷ h) (w ∷ o) are = ap (λ (ws : List Owner). w ∷ ws) (cut n h o (rest-of e w h o are))
+
+first-owners : (n : ℕ) (h : List Entry) (o : List Owner) → AreOwners h o
+    → AreOwners (take n h) (take n o)
+first-owners zero h o are = refl
+first-owners (suc n) [] [] are = refl
+first-owners (suc n) [] (w ∷ o) are = absurd (no-owner w o are)
+first-owners (suc n) (e ∷ h) [] are = absurd (no-entry e h are)
+first-owners (suc n) (e ∷ h) (w ∷ o) are =
+    let head = edit-of e w h o are in
+    let tail = first-owners n h o (rest-of e w h o are) in cc
+
+-- the owners after a jump
+jumped : (hand : ℕ) (c : Command) (n : ℕ) (h : List Entry) (o : List Owner) → AreOwners h o
+    → is_jump c ≡ true
+    → owned hand c (length (take n h ++ Hush ∷ [])) o ≡ take n o ++ nobodys ∷ []
+unfolding owned
+jumped hand c n h o are is =
+    let long : length (take n h ++ Hush ∷ []) - 1 ≡ length (take n h) =
+    omega (arith, length-append (take n h) (Hush ∷ [])) in
+    rw (is, long, cut n h o are) refl
+
+added-alike : (h : List Entry) (o : List Owner) (e : Entry) (w : Owner) → AreOwners h o
+    → w.edit ≡ is_edit e → AreOwners (h ++ e ∷ []) (o ++ w ∷ [])
+added-alike h o e w are is =
+    let owners = map-append (λ (owner : Owner). owner.edit) o (w ∷ []) in
+    let entries = map-append is_edit h (e ∷ []) in
+    owners ∙ (ap (λ (edits : List Bool). edits ++ w.edit ∷ []) are
+    ∙ (ap (λ (edit : Bool). map is_edit h ++ edit ∷ []) is ∙ sym entries))
+
+jump-keeps : (m : MachineState) (o : List Owner) (hand : ℕ) (c : Command) (n : ℕ)
+    → AreOwners m.history o → is_jump c ≡ true → obey m c ≡ jump m n
+    → let after = (obey m c).machine.history in AreOwners after (owned hand c (length after) o)
+unfolding jump
+jump-keeps m o hand c n are is jumps =
+    rw (jumps, jumped hand c n m.history o are is)
+    (added-alike (take n m.history) (take n o) Hush nobodys (first-owners n m.history o are) refl)
+
+-- ---- an entry more
+
+entry-keeps : (h : List Entry) (o : List Owner) (hand : ℕ) (c : Command) (e : Entry)
+    → AreOwners h o → is_jump c ≡ false → is_edit_command c ≡ is_edit e
+    → AreOwners (h ++ e ∷ []) (owned hand c (length (h ++ e ∷ [])) o)
+unfolding owned
+entry-keeps h o hand c e are is edit =
+    let long = length-append h (e ∷ []) in
+    let few = as_many h o are in
+    let more : nat_lt (length o) (length (h ++ e ∷ [])) ≡ true = grind (arith, nat_tests) in
+    rw (is, more)
+    (added-alike h o e (record { hand = hand; edit = is_edit_command c }) are edit)
+
+-- none more
+none-keeps : (h : List Entry) (o : List Owner) (hand : ℕ) (c : Command) → AreOwners h o
+    → is_jump c ≡ false → AreOwners h (owned hand c (length h) o)
+unfolding owned
+none-keeps h o hand c are is =
+    let few = as_many h o are in
+    let same : nat_lt (length o) (length h) ≡ false = grind (arith, nat_tests) in
+    rw (is, same) are
+
+carried : (m : MachineState) (o : List Owner) (hand : ℕ) (c : Command) (clip : Option Sheet)
+    (e : Option Entry) → AreOwners m.history o → is_jump c ≡ false
+    → ((x : Entry) → e ≡ Some x → is_edit_command c ≡ is_edit x)
+    → let after = (carry_out m c clip e).machine.history in
+    AreOwners after (owned hand c (length after) o)
+carried m o hand c clip None are is edit = none-keeps m.history o hand c are is
+carried m o hand c clip (Some e) are is edit =
+    entry-keeps m.history o hand c e are is (edit e refl)
+
+edited : (e x : Entry) → is_edit e ≡ true → Some e ≡ Some x → true ≡ is_edit x
+edited e x is same = sym is ∙ ap is_edit (same_Some e x same)
+
+put : (at : Place) (clip : Option Sheet) (x : Entry) → option_map (Put at) clip ≡ Some x
+    → true ≡ is_edit x
+put at None x same = absurd (none-some _ same)
+put at (Some block) x same = edited (Put at block) x refl same
+
+-- ---- the last edit
+
+alike-by : (last : Option ℕ) (mine : Option ℕ) (b : Bool) (hand : ℕ)
+    → is_some mine ≡ is_some last
+    → is_some (option_or mine (if b then Some hand else None))
+    ≡ is_some (option_map_or (λ j. Some (suc j)) last (if b then Some 0 else None))
+alike-by (Some i) (Some k) b hand same = refl
+alike-by (Some i) None b hand same = absurd (true≢false (sym same))
+alike-by None (Some k) b hand same = absurd (true≢false same)
+alike-by None None true hand same = refl
+alike-by None None false hand same = refl
+
+-- the owners know of a last edit where the history has one
+alike : (h : List Entry) (o : List Owner) → AreOwners h o
+    → is_some (last_editor o) ≡ is_some (last_edit h)
+alike [] [] are = refl
+alike [] (w ∷ o) are = absurd (no-owner w o are)
+alike (e ∷ h) [] are = absurd (no-entry e h are)
+alike (e ∷ h) (w ∷ o) are =
+    rw (edit-of e w h o are)
+    (alike-by (last_edit h) (last_editor o) (is_edit e) w.hand
+    (alike h o (rest-of e w h o are)))
+
+-- no edit stands first, and none among the others
+plain-by : (last : Option ℕ) (b : Bool)
+    → option_map_or (λ j. Some (suc j)) last (if b then Some 0 else None) ≡ None
+    → (last ≡ None) × (b ≡ false)
+plain-by (Some j) b none = absurd (none-some _ (sym none))
+plain-by None true none = absurd (none-some _ (sym none))
+plain-by None false none = (refl, refl)
+
+-- without an edit there is none of another hand
+none-of-others : (hand : ℕ) (h : List Entry) (o : List Owner) → AreOwners h o
+    → last_edit h ≡ None → edits_of_others hand h o ≡ []
+none-of-others hand [] [] are none = refl
+none-of-others hand [] (w ∷ o) are none = absurd (no-owner w o are)
+none-of-others hand (e ∷ h) [] are none = absurd (no-entry e h are)
+none-of-others hand (e ∷ h) (w ∷ o) are none =
+    let plain = plain-by (last_edit h) (is_edit e) none in
+    rw (edit-of e w h o are ∙ plain.1)
+    (none-of-others hand h o (rest-of e w h o are) plain.0)
+
+-- what an undo of the last edit leaves, where that is the hand's own
+abbrev SparedBy : ℕ → List Entry → List Owner → ℕ → Type 0
+SparedBy hand h o i =
+    edits_of_others hand (take i h ++ Hush ∷ []) (take i o ++ nobodys ∷ [])
+    ≡ edits_of_others hand h o
+
+spared-by : (hand : ℕ) (e : Entry) (w : Owner) (h : List Entry) (o : List Owner)
+    (last mine : Option ℕ) (i : ℕ) → AreOwners (e ∷ h) (w ∷ o)
+    → last ≡ last_edit h → mine ≡ last_editor o → is_some mine ≡ is_some last
+    → ((j : ℕ) → last_edit h ≡ Some j → last_editor o ≡ Some hand → SparedBy hand h o j)
+    → option_map_or (λ j. Some (suc j)) last (if is_edit e then Some 0 else None) ≡ Some i
+    → option_or mine (if w.edit then Some w.hand else None) ≡ Some hand
+    → SparedBy hand (e ∷ h) (w ∷ o) i
+spared-by hand e w h o (Some j) (Some k) i are last mine same later found own =
+    subst (SparedBy hand (e ∷ h) (w ∷ o)) (same_Some _ _ found)
+    (ap (λ (rest : List (Entry × Owner)). cond (is_of_other hand w) ((e, w) ∷ rest) rest)
+    (later j (sym last) (sym mine ∙ own)))
+spared-by hand e w h o (Some j) None i are last mine same later found own =
+    absurd (true≢false (sym same))
+spared-by hand e w h o None (Some k) i are last mine same later found own =
+    absurd (true≢false same)
+spared-by hand e w h o None None i are last mine same later found own =
+    first-spared hand e w h o (is_edit e) i are (edit-of e w h o are) (sym last) found own
+  where
+    first-spared : (hand : ℕ) (e : Entry) (w : Owner) (h : List Entry) (o : List Owner) (b : Bool)
+        (i : ℕ) → AreOwners (e ∷ h) (w ∷ o) → w.edit ≡ b → last_edit h ≡ None
+        → option_map_or (λ j. Some (suc j)) None (if b then Some 0 else None) ≡ Some i
+        → option_or None (if w.edit then Some w.hand else None) ≡ Some hand
+        → SparedBy hand (e ∷ h) (w ∷ o) i
+    first-spared hand e w h o false i are edit none found own = absurd (none-some _ found)
+    first-spared hand e w h o true i are edit none found own =
+        let mine : Some w.hand ≡ Some hand = rw edit at own in
+        let hands : w.hand ≡ hand = same_Some _ _ mine in
+        let his : (w.hand == hand) ≡ true = grind (arith, nat_tests) in
+        subst (SparedBy hand (e ∷ h) (w ∷ o)) (same_Some _ _ found)
+        (rw (edit, his) (sym (none-of-others hand h o (rest-of e w h o are) none)))
+
+spared : (hand : ℕ) (h : List Entry) (o : List Owner) (i : ℕ) → AreOwners h o
+    → last_edit h ≡ Some i → last_editor o ≡ Some hand → SparedBy hand h o i
+spared hand [] o i are last own = absurd (none-some _ last)
+spared hand (e ∷ h) [] i are last own = absurd (no-entry e h are)
+spared hand (e ∷ h) (w ∷ o) i are last own =
+    let rest = rest-of e w h o are in
+    spared-by hand e w h o (last_edit h) (last_editor o) i are refl refl (alike h o rest)
+    (λ j found mine. spared hand h o j rest found mine) last own
+
+-- ---- an undo
+
+undone : (m : MachineState) (i : ℕ) → rule_against m command.Undo ≡ None
+    → last_edit m.history ≡ Some i → obey m command.Undo ≡ jump m i
+unfolding obey accept
+undone m i allowed last = rw (allowed, last) refl
+
+rewound : (m : MachineState) (moment : ℕ) → rule_against m (command.Rewind moment) ≡ None
+    → obey m (command.Rewind moment) ≡ jump m moment
+unfolding obey accept
+rewound m moment allowed = rw allowed refl
+
+-- an undo that is allowed has an edit to undo
+undoes_some : (m : MachineState) (last : Option ℕ) → last_edit m.history ≡ last
+    → rule_against m command.Undo ≡ None → (P : Type 0) → ((i : ℕ) → last ≡ Some i → P) → P
+unfolding rule_against
+undoes_some m (Some i) is allowed P next = next i refl
+undoes_some m None is allowed P next =
+    absurd (none-some NothingToUndo (sym allowed ∙ rw is refl))
+
+-- the last edit is the hand's own, if its undo is not denied
+own-by : (hand : ℕ) (mine : Option ℕ) → is_some mine ≡ true → not_yours hand mine ≡ None
+    → mine ≡ Some hand
+own-by hand None some free = absurd (true≢false (sym some))
+own-by hand (Some other) some free = by (other == hand) refl free
+  where
+    by : (b : Bool) → (other == hand) ≡ b
+        → not_yours hand (Some other) ≡ None → Some other ≡ Some hand
+    by true is free = let same : other ≡ hand = grind (arith, nat_tests) in ap Some same
+    by false is free =
+        let denied : not_yours hand (Some other) ≡ Some (NotYours other) = rw is refl in
+        absurd (none-some _ (sym free ∙ denied))
+
+own : (c : CrewState) (hand : ℕ) → c.alone ≡ false → denial_of c hand key.Undo ≡ None
+    → is_some (last_editor c.owners) ≡ true → last_editor c.owners ≡ Some hand
+unfolding denial_of
+own c hand shared denied some =
+    let free : not_yours hand (last_editor c.owners) ≡ None = rw shared at denied in
+    own-by hand (last_editor c.owners) some free
+
+undo-at : (m : MachineState) (c : CrewState) (hand i : ℕ) → AreOwners m.history c.owners
+    → last_edit m.history ≡ Some i → last_editor c.owners ≡ Some hand
+    → obey m command.Undo ≡ jump m i
+    → let after = (obey m command.Undo).machine.history in
+    edits_of_others hand after (owned hand command.Undo (length after) c.owners)
+    ≡ edits_of_others hand m.history c.owners
+unfolding jump
+undo-at m c hand i are last mine jumps =
+    rw (jumps, jumped hand command.Undo i m.history c.owners are refl)
+    (spared hand m.history c.owners i are last mine)
+
+pub undo_spares : UndoSpares
+undo_spares m c hand are shared denied allowed =
+    undoes_some m (last_edit m.history) refl allowed _ (λ i last.
+    let some : is_some (last_editor c.owners) ≡ true =
+    alike m.history c.owners are ∙ ap is_some last in
+    undo-at m c hand i are last (own c hand shared denied some) (undone m i allowed last))
+
+-- ---- every command
+
+-- what is done with a command that is no jump
+abbrev entered : MachineState → Command → Obeyed
+entered m c =
+    let d = (piece_of m).sheet.dims in
+    carry_out m c (clip_after m.clip (piece_of m).sheet (taken_area d c)) (entry_of d m.clip c)
+
+-- the owners after such a command
+plain-keeps : (m : MachineState) (o : List Owner) (hand : ℕ) (c : Command)
+    → AreOwners m.history o → rule_against m c ≡ None → is_jump c ≡ false
+    → accept m c ≡ entered m c
+    → ((x : Entry) → entry_of (piece_of m).sheet.dims m.clip c ≡ Some x
+    → is_edit_command c ≡ is_edit x)
+    → let after = (obey m c).machine.history in AreOwners after (owned hand c (length after) o)
+unfolding obey
+plain-keeps m o hand c are allowed plain accepts edit =
+    let d = (piece_of m).sheet.dims in
+    rw (allowed, accepts)
+    (carried m o hand c (clip_after m.clip (piece_of m).sheet (taken_area d c))
+    (entry_of d m.clip c) are plain edit)
+
+pub keeps_owners : KeepsOwners
+unfolding accept entry_of
+keeps_owners m o hand command.Frame are other allowed =
+    plain-keeps m o hand command.Frame are allowed refl refl
+    (λ x is. ap is_edit (same_Some _ x is))
+keeps_owners m o hand (command.Write y x glyph) are other allowed =
+    plain-keeps m o hand (command.Write y x glyph) are allowed refl refl
+    (λ e is. edited _ e refl is)
+keeps_owners m o hand (command.Fill rect glyph) are other allowed =
+    plain-keeps m o hand (command.Fill rect glyph) are allowed refl refl
+    (λ e is. edited _ e refl is)
+keeps_owners m o hand (command.Erase rect) are other allowed =
+    plain-keeps m o hand (command.Erase rect) are allowed refl refl
+    (λ e is. edited _ e refl is)
+keeps_owners m o hand (command.Cut rect) are other allowed =
+    plain-keeps m o hand (command.Cut rect) are allowed refl refl
+    (λ e is. edited _ e refl is)
+keeps_owners m o hand (command.Move rect y x) are other allowed =
+    plain-keeps m o hand (command.Move rect y x) are allowed refl refl
+    (λ e is. edited _ e refl is)
+keeps_owners m o hand (command.Resize h w) are other allowed =
+    plain-keeps m o hand (command.Resize h w) are allowed refl refl
+    (λ e is. edited _ e refl is)
+keeps_owners m o hand command.Reset are other allowed =
+    plain-keeps m o hand command.Reset are allowed refl refl (λ e is. edited _ e refl is)
+keeps_owners m o hand (command.Copy rect) are other allowed =
+    plain-keeps m o hand (command.Copy rect) are allowed refl refl
+    (λ e is. absurd (none-some _ is))
+keeps_owners m o hand (command.Paste y x) are other allowed =
+    plain-keeps m o hand (command.Paste y x) are allowed refl refl
+    (λ e is. put (place y x) m.clip e is)
+keeps_owners m o hand command.Undo are other allowed =
+    undoes_some m (last_edit m.history) refl allowed _ (λ i last.
+    jump-keeps m o hand command.Undo i are refl (undone m i allowed last))
+keeps_owners m o hand (command.Rewind moment) are other allowed =
+    jump-keeps m o hand (command.Rewind moment) moment are refl (rewound m moment allowed)
+keeps_owners m o hand command.Redo are other allowed = absurd (other refl)
