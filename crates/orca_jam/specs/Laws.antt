@@ -17,8 +17,8 @@ use Rattle.orca_term.specs.declared.keys.Key.TheVariants as key
 abbrev pub AreOwners : List Entry → List Owner → Type 0
 AreOwners history owners = map (λ owner. owner.edit) owners ≡ map is_edit history
 
--- they stay so: with each command that is accepted, but for a redo, which hands that share a session
--- are not offered
+-- they stay so: with each command that is accepted, but for a redo, which hands that share a
+-- session are not offered
 abbrev pub KeepsOwners : Type 0
 KeepsOwners =
     (m : MachineState) (owners : List Owner) (hand : ℕ) (c : Command)

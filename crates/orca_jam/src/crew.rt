@@ -2,7 +2,7 @@
 
 ghost use Rattle.std.specs.Prelude.{◌≡◌, ◌<◌, ◌≤◌, ℕ, Bool, All, false, length, map, slice_get, IfOk, OnErr, OnOk};
 ghost use Rattle.orca_base.specs.Areas.{IsArea};
-ghost use Rattle.orca_base.specs.declared.limits.TheConstants.{MAX_HANDS, MAX_HISTORY};
+ghost use Rattle.orca_base.specs.declared.limits.TheConstants.{MAX_HANDS};
 ghost use Rattle.orca_jam.specs.Crews.{answer_to, crew_alone, crew_at_start, denial_of, fitted_crew, fitted_player, offers, player_at, struck_by, took_by, turned_by, with_editor, with_player};
 ghost use Rattle.orca_jam.specs.Denials.{is_leaders as belongs_to_leader, not_yours};
 ghost use Rattle.orca_term.specs.Editing.{area_of, wish_of};
@@ -11,7 +11,7 @@ ghost use Rattle.orca_term.specs.Keys.{Byte, Due, turn};
 use crate::owner::{follow, last_editor};
 use crate::player::Player;
 use crate::{Denial, Owner};
-use orca_base::limits::{MAX_HANDS, MAX_HISTORY};
+use orca_base::limits::MAX_HANDS;
 use orca_base::{Command, Dims, Memory};
 use orca_term::{Around, Deed, Editor, Key, Wish};
 use std::alloc::Global;
@@ -69,7 +69,6 @@ impl Crew {
         requires some_hands { 1 ≤ hands }
         requires few_hands { hands ≤ MAX_HANDS }
         requires some { 1 ≤ limit }
-        requires most { limit ≤ MAX_HISTORY }
         ensures { IfOk result (λ crew. crew ≡ crew_at_start full hands limit) }
     {
         Ok(Crew {
@@ -221,7 +220,6 @@ impl Crew {
     /// A command of a hand was accepted, or one that no hand asked for, and the history has so many entries
     /// then. Of a hand that plays alone nothing is kept.
     pub fn took(&mut self, hand: u8, command: &Command, moments: u32)
-        requires some { 1 ≤ moments }
         requires room { self.old.alone ≡ false → moments ≤ self.old.room }
         ensures { self.new ≡ took_by hand command.now moments self.old }
     {

@@ -1,6 +1,6 @@
 //! Whose the entries of a history are.
 
-ghost use Rattle.std.specs.Prelude.{◌≡◌, ◌≤◌, length, max, vec_capacity, vec_len};
+ghost use Rattle.std.specs.Prelude.{◌≡◌, ◌≤◌, ℕ, length, vec_capacity, vec_len};
 ghost use Rattle.orca_edit.specs.Machines.{is_jump as jumps};
 ghost use Rattle.orca_jam.specs.Owners.{is_edit_command as edits, last_editor as editor_of_last, owned};
 
@@ -36,15 +36,17 @@ pub(crate) fn last_editor(owners: &[Owner]) -> Option<u8>
 /// Does to the owners what a command of a hand did to the history, which has so many entries then.
 #[tactic(auto, unfolding(crate::specs::Owners::owned))]
 pub(crate) fn follow(owners: &mut Vec<Owner>, hand: u8, command: &Command, moments: usize)
-    requires some { 1 ≤ moments }
+    requires some { 1 ≤ vec_capacity owners.old }
     requires room { moments ≤ vec_capacity owners.old }
     requires within { vec_len owners.old ≤ vec_capacity owners.old }
     ensures owners { owners.new.items ≡ owned hand command.now moments owners.old.items }
-    ensures few { length owners.new.items ≤ max moments (length owners.old.items) }
+    ensures few { (room : ℕ) → 1 ≤ room → moments ≤ room → length owners.old.items ≤ room
+        → length owners.new.items ≤ room }
+
     ensures room { vec_capacity owners.new ≡ vec_capacity owners.old }
 {
     if is_jump(command) {
-        owners.truncate(moments - 1);
+        owners.truncate(moments.saturating_sub(1));
         owners.push_reserved(Owner {
             hand: NOBODY,
             edit: false,
