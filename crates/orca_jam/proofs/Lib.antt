@@ -1,4 +1,5 @@
 pub mod Digits
+pub mod JamLemmas
 pub mod LastEditor
 pub mod LeaderLaws
 pub mod OwnerLaws

@@ -2,14 +2,19 @@
 //! each entry of the history is.
 #![tactic(auto)]
 
+mod answers;
 mod crew;
 mod denial;
+mod jam;
 mod laws;
 mod limits;
 mod owner;
 mod player;
+mod shared;
 
+pub use answers::{JamFault, JamReply};
 pub use crew::{Crew, LEADER};
 pub use denial::{Denial, DenialLine};
+pub use jam::Jam;
 pub use laws::crew_law;
 pub use owner::{NOBODY, Owner};

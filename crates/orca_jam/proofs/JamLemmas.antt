@@ -1,0 +1,296 @@
+-- What a machine that hands share keeps.
+use Rattle.std.proofs.Common.{◌≡◌, ◌≢◌, ℕ, ◌<◌, ◌≤◌, Bool, true, false, true≢false, List, [], length, Option, Some, None, Ok, Err, refl, arith, ap, sym, ◌∙◌}
+use Rattle.std.specs.Prelude.{Result, if◌then◌else◌, ◌&&◌, ◌==◌}
+use Rattle.std.specs.Option.{option_map_or}
+use Rattle.std.proofs.Math.Path.{subst}
+use Rattle.orca_base.specs.declared.command.Command.{Command}
+use Rattle.orca_base.specs.declared.command.Command.TheVariants as command
+use Rattle.orca_base.specs.declared.command.Entry.{Entry}
+use Rattle.orca_base.specs.declared.command.Fault.{Fault}
+use Rattle.orca_base.specs.declared.command.Fault.TheVariants as fault
+use Rattle.orca_base.specs.declared.command.Reply.{Reply}
+use Rattle.orca_base.specs.declared.command.Rule.{Rule}
+use Rattle.orca_base.specs.declared.command.Rule.TheVariants.{NothingToUndo}
+use Rattle.orca_base.specs.declared.message.Message.{Message}
+use Rattle.orca_base.specs.Grids.{Sheet}
+use Rattle.orca_base.specs.Histories.{last_edit}
+use Rattle.orca_jam.proofs.OwnerLaws.{keeps_owners}
+use Rattle.orca_jam.specs.Crews.{CrewState, answer_to, asked, denial_of, new_player, player_at, struck_by, took_by, with_editor, with_player}
+use Rattle.orca_jam.specs.Jamming.{Answered, AreInside, IsJam, JamState, Jams, Wished, around_of, before, crew_after, crew_in}
+use Rattle.orca_jam.specs.Laws.{AreOwners}
+use Rattle.orca_jam.specs.Owners.{owned}
+use Rattle.orca_base.specs.Areas.{IsArea}
+use Rattle.orca_jam.specs.declared.answers.JamFault.{JamFault}
+use Rattle.orca_jam.specs.declared.answers.JamReply.{JamReply}
+use Rattle.orca_jam.specs.declared.denial.Denial.{Denial}
+use Rattle.orca_jam.specs.declared.player.Player.{Player}
+use Rattle.orca_term.specs.Editing.{area_of, editor_after, rect_of, slid}
+use Rattle.orca_term.specs.declared.around.Around.{Around}
+use Rattle.orca_term.specs.declared.editor.Editor.{Editor}
+use Rattle.orca_term.specs.declared.editor.Wish.{Wish}
+use Rattle.orca_term.specs.declared.editor.Wish.TheVariants as wish
+use Rattle.orca_term.specs.declared.keys.Deed.TheVariants.{Move, Stretch, Slide, Grow}
+use Rattle.orca_term.specs.declared.keys.Key.{Key}
+use Rattle.orca_term.specs.declared.keys.Key.TheVariants as key
+use Rattle.std.proofs.lemmas.Grind.{get_or-set_at}
+use Rattle.std.proofs.lemmas.Bool.Decides.{nat_tests}
+use Rattle.std.proofs.lemmas.List.{get_or-set_other, get_or-set_same, length-set, set-get_or, set-set}
+use Rattle.orca_jam.specs.declared.owner.Owner.{Owner}
+use Rattle.orca_edit.specs.Machines.{Acts}
+use Rattle.orca_edit.specs.Obeying.{MachineState, Obeyed, accept, carry_out, jump, obey, piece_of, redo, refuse, rule_against}
+
+-- ---- what a machine does with a command, by its kind
+
+accept-cases : (m : MachineState) (c : Command) (P : Obeyed → Type 0)
+    → ((clip : Option Sheet) (e : Option Entry) → P (carry_out m c clip e))
+    → ((moment : ℕ) → P (jump m moment)) → P (redo m) → ((rule : Rule) → P (refuse m rule))
+    → P (accept m c)
+unfolding accept
+accept-cases m command.Frame P carried jumped redone refused = carried _ _
+accept-cases m (command.Write y x glyph) P carried jumped redone refused = carried _ _
+accept-cases m (command.Fill rect glyph) P carried jumped redone refused = carried _ _
+accept-cases m (command.Erase rect) P carried jumped redone refused = carried _ _
+accept-cases m (command.Copy rect) P carried jumped redone refused = carried _ _
+accept-cases m (command.Cut rect) P carried jumped redone refused = carried _ _
+accept-cases m (command.Paste y x) P carried jumped redone refused = carried _ _
+accept-cases m (command.Move rect y x) P carried jumped redone refused = carried _ _
+accept-cases m (command.Resize h w) P carried jumped redone refused = carried _ _
+accept-cases m command.Reset P carried jumped redone refused = carried _ _
+accept-cases m command.Undo P carried jumped redone refused =
+    by (last_edit m.history)
+  where
+    by : (last : Option ℕ) → P (option_map_or (jump m) last (refuse m NothingToUndo))
+    by (Some i) = jumped i
+    by None = refused NothingToUndo
+accept-cases m (command.Rewind moment) P carried jumped redone refused = jumped moment
+accept-cases m command.Redo P carried jumped redone refused = redone
+
+obey-cases : (m : MachineState) (c : Command) (P : Obeyed → Type 0)
+    → ((clip : Option Sheet) (e : Option Entry) → P (carry_out m c clip e))
+    → ((moment : ℕ) → P (jump m moment)) → P (redo m) → ((rule : Rule) → P (refuse m rule))
+    → P (obey m c)
+unfolding obey
+obey-cases m c P carried jumped redone refused = by (rule_against m c)
+  where
+    by : (rule : Option Rule) → P (option_map_or (refuse m) rule (accept m c))
+    by (Some rule) = refused rule
+    by None = accept-cases m c P carried jumped redone refused
+
+-- ---- the limit stays
+
+carried-limit : (m : MachineState) (c : Command) (clip : Option Sheet) (e : Option Entry)
+    → (carry_out m c clip e).machine.limit ≡ m.limit
+carried-limit m c clip None = refl
+carried-limit m c clip (Some e) = refl
+
+obey-limit : (m : MachineState) (c : Command) → (obey m c).machine.limit ≡ m.limit
+unfolding jump redo
+obey-limit m c =
+    obey-cases m c (λ o. o.machine.limit ≡ m.limit) (carried-limit m c) (λ moment. refl) refl
+    (λ rule. refl)
+
+-- ---- after a refusal all is as before
+
+ok-err : {A B : Type 0} (a : A) (b : B) → ◌≡◌ {A = Result A B} (Ok a) (Err b) → ⊥
+ok-err a b is = cc
+
+abbrev AsBefore : MachineState → Obeyed → Type 0
+AsBefore m o =
+    (rule : Rule) → o.answer ≡ Err rule → (o.machine ≡ m) × (o.messages ≡ [])
+
+carried-ok : (m : MachineState) (c : Command) (clip : Option Sheet) (e : Option Entry)
+    → AsBefore m (carry_out m c clip e)
+carried-ok m c clip None rule is = absurd (ok-err _ _ is)
+carried-ok m c clip (Some e) rule is = absurd (ok-err _ _ is)
+
+obey-refused : (m : MachineState) (c : Command) → AsBefore m (obey m c)
+unfolding jump redo
+obey-refused m c =
+    obey-cases m c (AsBefore m) (carried-ok m c) (λ moment rule is. absurd (ok-err _ _ is))
+    (λ rule is. absurd (ok-err _ _ is)) (λ refused rule is. (refl, refl))
+
+-- what was accepted no rule stands against
+obey-allowed : (m : MachineState) (c : Command) (reply : Reply) → (obey m c).answer ≡ Ok reply
+    → rule_against m c ≡ None
+unfolding obey
+obey-allowed m c reply is = by (rule_against m c) refl is
+  where
+    by : (rule : Option Rule) → rule_against m c ≡ rule
+        → (option_map_or (refuse m) rule (accept m c)).answer ≡ Ok reply → rule_against m c ≡ None
+    by (Some rule) stands is = absurd (ok-err _ _ (sym is))
+    by None stands is = stands
+
+-- ---- what a machine did
+
+pub acted-limit : (m n : MachineState) (c : Command) (answer : Result Reply Fault)
+    (messages : List Message) → Acts m c answer n messages → n.limit ≡ m.limit
+acted-limit m n c (Ok reply) messages acts =
+    sym (ap (λ (o : Obeyed). o.machine.limit) acts.obeys) ∙ obey-limit m c
+acted-limit m n c (Err (fault.Refused rule)) messages acts =
+    sym (ap (λ (o : Obeyed). o.machine.limit) acts.obeys) ∙ obey-limit m c
+acted-limit m n c (Err fault.Memory) messages acts = ap (λ (m : MachineState). m.limit) acts.obeys.machine
+
+pub acted-same : (m n : MachineState) (c : Command) (f : Fault) (messages : List Message)
+    → Acts m c (Err f) n messages → (n ≡ m) × (messages ≡ [])
+acted-same m n c (fault.Refused rule) messages acts =
+    let same = obey-refused m c rule (ap (λ (o : Obeyed). o.answer) acts.obeys) in (
+      sym (ap (λ (o : Obeyed). o.machine) acts.obeys) ∙ same.0,
+      sym (ap (λ (o : Obeyed). o.messages) acts.obeys) ∙ same.1,
+    )
+acted-same m n c fault.Memory messages acts = (acts.obeys.machine, acts.obeys.silent)
+
+pub acted-owners : (m n : MachineState) (c : Command) (reply : Reply) (messages : List Message)
+    (owners : List Owner) (hand : ℕ) → Acts m c (Ok reply) n messages → AreOwners m.history owners
+    → c ≢ command.Redo → AreOwners n.history (owned hand c (length n.history) owners)
+acted-owners m n c reply messages owners hand acts are other =
+    let after = ap (λ (o : Obeyed). o.machine.history) acts.obeys in
+    subst (λ (history : List Entry). AreOwners history (owned hand c (length history) owners)) after
+    (keeps_owners m owners hand c are other
+    (obey-allowed m c reply (ap (λ (o : Obeyed). o.answer) acts.obeys)))
+
+-- ---- what holds of it afterwards
+
+sound-as : (n : MachineState) (c : CrewState) (owners : List Owner) → c.alone ≡ false
+    → n.limit ≤ c.room → AreOwners n.history owners
+    → AreInside n (crew_in n (record c { owners = owners }))
+    → IsJam n (crew_in n (record c { owners = owners }))
+sound-as n c owners shared room are inside =
+    record { shared = shared; room = room; owners = are; inside = inside }
+
+pub sound-after : (m n : MachineState) (crew : CrewState) (hand : ℕ) (c : Command) (reply : Reply)
+    (messages : List Message) → IsJam m crew → Acts m c (Ok reply) n messages → c ≢ command.Redo
+    → AreInside n (crew_after hand c n crew) → IsJam n (crew_after hand c n crew)
+sound-after m n crew hand c reply messages sound acts other inside =
+    let owners = owned hand c (length n.history) crew.owners in
+    let took : took_by hand c (length n.history) crew ≡ record crew { owners = owners } =
+    rw sound.shared refl in
+    let limit = acted-limit m n c (Ok reply) messages acts in
+    subst (λ (x : CrewState). AreInside n (crew_in n x) → IsJam n (crew_in n x)) (sym took)
+    (sound-as n crew owners sound.shared (omega (arith, sound.room, limit))
+    (acted-owners m n c reply messages crew.owners hand acts sound.owners other)) inside
+
+-- ---- no key asks for a redo
+
+abbrev is_redo : Wish → Bool
+is_redo (wish.Do command.Redo) = true
+is_redo _ = false
+
+no_redo : (c : CrewState) (hand : ℕ) (k : Key) (a : Around) → c.alone ≡ false
+    → is_redo (asked c hand k a) ≡ false
+no_redo c hand key.Redo a shared = rw shared refl
+no_redo c hand (key.Arrow Slide side by) a shared =
+    slides (slid side by a.dims (player_at c hand).editor)
+  where
+    slides : (at : ℕ × ℕ)
+        → is_redo (if at.0 == (player_at c hand).editor.y && at.1 == (player_at c hand).editor.x
+        then wish.Nothing else wish.Do (command.Move (rect_of (player_at c hand).editor) at.0 at.1))
+        ≡ false
+    slides at = either (at.0 == (player_at c hand).editor.y && at.1 == (player_at c hand).editor.x)
+      where
+        either : (b : Bool) → is_redo (if b then wish.Nothing
+            else wish.Do (command.Move (rect_of (player_at c hand).editor) at.0 at.1)) ≡ false
+        either true = refl
+        either false = refl
+no_redo c hand (key.Glyph glyph) a shared = refl
+no_redo c hand (key.Arrow Move side by) a shared = refl
+no_redo c hand (key.Arrow Stretch side by) a shared = refl
+no_redo c hand (key.Arrow Grow side by) a shared = refl
+no_redo c hand key.Rub a shared = refl
+no_redo c hand key.Pause a shared = refl
+no_redo c hand key.Copy a shared = refl
+no_redo c hand key.Cut a shared = refl
+no_redo c hand key.Paste a shared = refl
+no_redo c hand key.Undo a shared = refl
+no_redo c hand key.Back a shared = refl
+no_redo c hand key.Reset a shared = refl
+no_redo c hand key.Step a shared = refl
+no_redo c hand key.Save a shared = refl
+no_redo c hand key.Quit a shared = refl
+no_redo c hand key.Escape a shared = refl
+no_redo c hand key.All a shared = refl
+no_redo c hand key.Guide a shared = refl
+no_redo c hand key.Append a shared = refl
+no_redo c hand key.Erase a shared = refl
+no_redo c hand key.Fill a shared = refl
+no_redo c hand key.Redraw a shared = refl
+no_redo c hand (key.Slower beats) a shared = refl
+no_redo c hand (key.Faster beats) a shared = refl
+no_redo c hand (key.Press row column) a shared = refl
+no_redo c hand (key.Drag row column) a shared = refl
+no_redo c hand (key.Screen rows columns) a shared = refl
+
+pub asks-no-redo : (c : CrewState) (hand : ℕ) (k : Key) (a : Around) (w : Wish) → c.alone ≡ false
+    → Ok w ≡ answer_to c hand k a → w ≢ wish.Do command.Redo
+unfolding denial_of
+asks-no-redo c hand k a w shared told redo =
+    let not_so = no_redo c hand k a shared in
+    let is : w ≡ asked c hand k a = told-by (denial_of c hand k) w (asked c hand k a) told in
+    absurd (true≢false (sym (ap is_redo redo) ∙ (ap is_redo is ∙ not_so)))
+  where
+    told-by : (denial : Option Denial) (w v : Wish)
+        → ◌≡◌ {A = Result Wish Denial} (Ok w) (option_map_or Err denial (Ok v)) → w ≡ v
+    told-by None w v told = cc
+    told-by (Some denial) w v told = absurd (ok-err w denial told)
+
+-- ---- the editor of a hand
+
+pub inside-with : (m : MachineState) (c : CrewState) (hand : ℕ) (p : Player) → AreInside m c
+    → hand < length c.players → IsArea (piece_of m).sheet.dims (area_of p.editor)
+    → AreInside m (with_player hand p c)
+inside-with m c hand p inside there one other below = by (other == hand) refl
+  where
+    by : (b : Bool) → (other == hand) ≡ b
+        → IsArea (piece_of m).sheet.dims (area_of (player_at (with_player hand p c) other).editor)
+    by true is =
+        let same : other ≡ hand = grind (arith, nat_tests) in
+        rw (get_or-set_at c.players hand other p (new_player false) same there) one
+    by false is =
+        let differs : other ≢ hand = grind (arith, nat_tests) in
+        rw (get_or-set_other c.players hand other p (new_player false) differs)
+        (inside other (omega (arith, below, length-set c.players hand p)))
+
+-- a crew with another editor is still one
+pub sound-with : (m : MachineState) (c : CrewState) (hand : ℕ) (e : Editor) → IsJam m c
+    → hand < length c.players → IsArea (piece_of m).sheet.dims (area_of e)
+    → IsJam m (with_editor hand e c)
+sound-with m c hand e sound there one = record {
+  shared = sound.shared;
+  room = sound.room;
+  owners = sound.owners;
+  inside =
+      inside-with m c hand (record (player_at c hand) { editor = e }) sound.inside there one;
+}
+
+-- an editor that is put back
+restored : (c : CrewState) (hand : ℕ) (e : Editor) → hand < length c.players
+    → with_editor hand (player_at c hand).editor (with_editor hand e c) ≡ c
+restored c hand e there =
+    let p : Player = record (player_at c hand) { editor = e } in
+    let same = get_or-set_same c.players hand p (new_player false) there in
+    rw same
+    (ap (λ (ps : List Player). record c { players = ps })
+    (set-set c.players hand p (player_at c hand) ∙ set-get_or c.players hand (new_player false)))
+
+-- a wish that was granted is what became of the key
+pub granted : (s : JamState) (hand : ℕ) (k : Key) (w : Wish) (e : Editor) (c : CrewState)
+    (answer : Result JamReply JamFault) (t : JamState) (messages : List Message) (a : Around)
+    → hand < length s.crew.players → e ≡ (player_at s.crew hand).editor → a ≡ around_of s hand
+    → Ok w ≡ answer_to s.crew hand k a → c ≡ struck_by hand k a s.crew
+    → Wished (before hand e (record s { crew = c })) hand c w answer t messages
+    → Jams s hand k answer t messages
+granted s hand k w e c answer t messages a there editor around told crew wished =
+    let after : Editor = editor_after k a (player_at s.crew hand).editor in
+    let back : before hand e (record s { crew = c }) ≡ s =
+    rw (editor, crew) (ap (λ (x : CrewState). record s { crew = x }) (restored s.crew hand after there))
+    in
+    let first : Answered s hand c (Ok w) answer t messages =
+    subst (λ (x : JamState). Wished x hand c w answer t messages) back wished in
+    let second : Answered s hand (struck_by hand k a s.crew) (Ok w) answer t messages =
+    subst (λ (x : CrewState). Answered s hand x (Ok w) answer t messages) crew first in
+    let third :
+    Answered s hand (struck_by hand k a s.crew) (answer_to s.crew hand k a) answer t messages =
+    subst (λ (x : Result Wish Denial).
+    Answered s hand (struck_by hand k a s.crew) x answer t messages) told second in
+    subst (λ (x : Around).
+    Answered s hand (struck_by hand k x s.crew) (answer_to s.crew hand k x) answer t messages)
+    around third
