@@ -44,8 +44,8 @@ AreInside m c =
     (hand : ℕ) → hand < length c.players
     → IsArea (piece_of m).sheet.dims (area_of (player_at c hand).editor)
 
--- what holds of every such machine and crew: the hands share it, there is room for all owners, which
--- are those of the history, and every editor lies in the grid
+-- what holds of every such machine and crew: the hands share it, there is room for all owners,
+-- which are those of the history, and every editor lies in the grid
 pub record IsJam (m : MachineState) (c : CrewState) : Type 0 where
   pub shared : c.alone ≡ false
   pub room : m.limit ≤ c.room
@@ -151,7 +151,8 @@ abbrev pub around_of : JamState → ℕ → Around
 around_of s hand = around_at s.machine (player_at s.crew hand).editor s.screen
 
 -- what became of a key of a hand
-abbrev pub Jams : JamState → ℕ → Key → Result JamReply JamFault → JamState → List Message → Type 0
+abbrev pub Jams : JamState → ℕ → Key → Result JamReply JamFault → JamState → List Message
+    → Type 0
 Jams s hand key answer t messages =
     let around = around_of s hand in
     Answered s hand (struck_by hand key around s.crew) (answer_to s.crew hand key around)

@@ -118,6 +118,15 @@ impl<M: Machine> Jam<M> {
         self.shared.crew.owner(index)
     }
 
+    /// The number of hands.
+    pub fn hands(&self) -> u8
+        ensures hands { result ≡ length self.now.crew.players }
+        ensures some { 1 ≤ result }
+        ensures few { result ≤ MAX_HANDS }
+    {
+        self.shared.crew.hands()
+    }
+
     /// The editor of a hand.
     pub fn editor(&self, hand: u8) -> &Editor
         requires { hand < length self.now.crew.players }
