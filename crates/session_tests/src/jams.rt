@@ -1,0 +1,184 @@
+//! Hands that share a session: whose edits an undo takes, and which keys are the first hand's.
+
+ghost use Rattle.std.specs.Prelude.{◌≡◌, ◌<◌};
+
+use orca_base::{Command, Dims, Glyph, Look, Place, Reply, Rule, Steps};
+use orca_grid::Grid;
+use orca_jam::{Crew, Denial, Jam, JamFault, JamReply, NOBODY, Owner};
+use orca_notes::Messages;
+use orca_session::Session;
+use orca_term::{Deed, Key, ScreenSize, Side};
+use std::alloc::Global;
+use std::marker::Brand;
+use std::process::Abort;
+use std::sync::ledger::{Blank, Ledger};
+use std::test::Fail;
+
+/// The screen that hands are told of.
+const SCREEN: ScreenSize = ScreenSize {
+    rows: 2,
+    columns: 8,
+};
+
+/// A key of a hand, and what becomes of it.
+type Stroke = (u8, Key, Result<JamReply, JamFault>);
+
+/// A key that only moves the cursor to the right.
+const RIGHT: Key = Key::Arrow {
+    deed: Deed::Move,
+    side: Side::Right,
+    by: 1,
+};
+
+/// Hands press keys, with a counter of steps of its own.
+fn strike<L: Ledger>(
+    rt: &impl Abort,
+    jam: &mut Jam<Session>,
+    messages: &mut Messages,
+    strokes: &[Stroke],
+    blank: Blank,
+)
+    requires name { blank.name ≡ L.name }
+    requires parts { blank.parts ≡ L.parts }
+    requires some { 0 < blank.parts }
+{
+    let mut steps = Steps::<L>::start(blank);
+    for (hand, key, want) in strokes {
+        messages.clear();
+        if *hand < jam.hands() {
+            let answer = jam.key(*hand, *key, messages, &mut steps);
+            assert_eq!(rt; answer, *want, "hand {hand} {key:?}");
+        }
+    }
+}
+
+/// Two hands at a row of four dots, with a history of ten entries.
+fn two_hands(alloc: Global) -> Result<Jam<Session>, Fail> {
+    let grid = Grid::blank(alloc, Dims { h: 1, w: 4 })?;
+    let session = Session::start(alloc, &grid, 1, 10)?;
+    Ok(Jam::start(alloc, session, 2, SCREEN)?)
+}
+
+/// What becomes of a glyph that is written in this column.
+fn written(x: u32, glyph: Glyph) -> Result<JamReply, JamFault> {
+    Ok(JamReply::Acted {
+        command: Command::Write { y: 0, x, glyph },
+        reply: Reply::Edited,
+    })
+}
+
+/// What becomes of an undo that goes back to this moment.
+fn undone(moment: u32) -> Result<JamReply, JamFault> {
+    Ok(JamReply::Acted {
+        command: Command::Undo,
+        reply: Reply::Jumped { moment },
+    })
+}
+
+/// What becomes of a key of the first hand that another presses.
+fn denied() -> Result<JamReply, JamFault> {
+    Err(JamFault::LeaderOnly)
+}
+
+/// The key of a hand to which nothing came for a while.
+fn late(crew: &mut Crew, hand: u8) -> Option<Key> {
+    if hand < crew.hands() {
+        return crew.due(hand);
+    }
+    None
+}
+
+/// The glyph of a column of the row.
+fn glyph_in(jam: &Jam<Session>, x: u16) -> u8 {
+    let machine = jam.machine();
+    if x < machine.dims().w {
+        return machine.glyph_at(Place { y: 0, x }).byte();
+    }
+    0
+}
+
+#[test]
+fn an_undo_takes_no_edit_of_another_hand(rt: HostRuntime) -> Result<(), Fail> {
+    let mut jam = two_hands(rt.alloc())?;
+    let mut messages = Messages::start(rt.alloc())?;
+    let (seven, eight) = (Glyph::from_value(7), Glyph::from_value(8));
+    let strokes = [
+        (0, Key::Glyph(seven), written(0, seven)),
+        (1, RIGHT, Ok(JamReply::Moved)),
+        (1, Key::Glyph(eight), written(1, eight)),
+        (0, Key::Redo, Ok(JamReply::Moved)),
+        (0, Key::Undo, Err(JamFault::NotYours { hand: 1 })),
+        (1, Key::Undo, undone(1)),
+        (0, Key::Undo, undone(0)),
+        (
+            1,
+            Key::Undo,
+            Err(JamFault::Refused {
+                command: Command::Undo,
+                rule: Rule::NothingToUndo,
+            }),
+        ),
+    ];
+    strike::<Brand>(&rt, &mut jam, &mut messages, &strokes, Blank::new(1));
+    assert!(rt; glyph_in(&jam, 0) == b'.' && glyph_in(&jam, 1) == b'.');
+    let (hand, edit) = (NOBODY, false);
+    assert!(rt; jam.owner(0) == Some(Owner { hand, edit }) && jam.owner(1) == None);
+    let line = Denial::NotYours { hand: 1 }.line(0);
+    assert!(rt; line.as_slice() == b"hand 0 refused NotYours 1\n".as_slice());
+    Ok(())
+}
+
+#[test]
+fn some_keys_are_the_first_hands(rt: HostRuntime) -> Result<(), Fail> {
+    let mut jam = two_hands(rt.alloc())?;
+    let mut messages = Messages::start(rt.alloc())?;
+    let seven = Glyph::from_value(7);
+    let grow = Key::Arrow {
+        deed: Deed::Grow,
+        side: Side::Right,
+        by: 1,
+    };
+    let strokes = [
+        (1, Key::Pause, denied()),
+        (1, Key::Back, denied()),
+        (1, Key::Reset, denied()),
+        (1, Key::Save, denied()),
+        (1, Key::Quit, denied()),
+        (1, Key::Faster(1), denied()),
+        (1, Key::Redraw, denied()),
+        (1, grow, denied()),
+        (0, Key::Glyph(seven), written(0, seven)),
+        (0, Key::Quit, Ok(JamReply::Quit)),
+    ];
+    strike::<Brand>(&rt, &mut jam, &mut messages, &strokes, Blank::new(1));
+    assert!(rt; glyph_in(&jam, 0) == b'7');
+    let line = Denial::LeaderOnly.line(1);
+    assert!(rt; line.as_slice() == b"hand 1 refused LeaderOnly\n".as_slice());
+    Ok(())
+}
+
+#[test]
+fn sequences_of_two_hands_do_not_mix(rt: HostRuntime) -> Result<(), Fail> {
+    let mut crew = Crew::start(rt.alloc(), false, 2, 4_000_000)?;
+    let mut keys = [None; 6];
+    for (i, (hand, byte)) in [
+        (0, 0x1B),
+        (0, b'['),
+        (1, b'7'),
+        (0, b'C'),
+        (0, 0x1B),
+        (1, 0x1B),
+    ]
+    .into_iter()
+    .enumerate()
+    {
+        if hand < crew.hands() && i < keys.len() {
+            keys[i] = crew.feed(false, hand, byte);
+        }
+    }
+    let glyph = Some(Key::Glyph(Glyph::from_value(7)));
+    assert!(rt; keys == [None, None, glyph, Some(RIGHT), None, None]);
+    let both = (late(&mut crew, 0), late(&mut crew, 1));
+    assert!(rt; both == (Some(Key::Escape), Some(Key::Escape)));
+    Ok(())
+}
