@@ -45,10 +45,9 @@ fn strike<L: Ledger>(
     let mut steps = Steps::<L>::start(blank);
     for (hand, key, want) in strokes {
         messages.clear();
-        if *hand < jam.hands() {
-            let answer = jam.key(*hand, *key, messages, &mut steps);
-            assert_eq!(rt; answer, *want, "hand {hand} {key:?}");
-        }
+        assert!(rt; *hand < jam.hands(), "hand {hand}");
+        let answer = jam.key(*hand, *key, messages, &mut steps);
+        assert_eq!(rt; answer, *want, "hand {hand} {key:?}");
     }
 }
 
