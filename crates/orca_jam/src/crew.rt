@@ -1,6 +1,6 @@
 //! The hands at a session.
 
-ghost use Rattle.std.specs.Prelude.{◌≡◌, ◌<◌, ◌≤◌, ℕ, Bool, All, false, length, map, slice_get, IfOk, OnErr, OnOk};
+ghost use Rattle.std.specs.Prelude.{◌≡◌, ◌<◌, ◌≤◌, ℕ, Bool, All, false, length, map, nat_le, slice_get, IfOk, OnErr, OnOk};
 ghost use Rattle.orca_base.specs.Areas.{IsArea};
 ghost use Rattle.orca_base.specs.declared.limits.TheConstants.{MAX_HANDS};
 ghost use Rattle.orca_jam.specs.Crews.{answer_to, crew_alone, crew_at_start, denial_of, fitted_crew, fitted_player, offers, player_at, struck_by, took_by, turned_by, with_editor, with_player};
@@ -132,6 +132,13 @@ impl Crew {
         &self.players[hand as usize].editor
     }
 
+    /// The editor of the first hand.
+    pub fn leader(&self) -> &Editor
+        ensures { result.now ≡ (player_at self.now LEADER).editor }
+    {
+        &self.players[LEADER as usize].editor
+    }
+
     /// The editor of a hand is this one.
     pub fn set_editor(&mut self, hand: u8, editor: Editor)
         requires { hand < length self.old.players }
@@ -215,6 +222,13 @@ impl Crew {
         ensures { result ≡ offers self.now key.now }
     {
         self.alone || !matches!(key, Key::Redo)
+    }
+
+    /// Whether there is room for the owners of so many entries.
+    pub fn has_room(&self, moments: u32) -> bool
+        ensures { result ≡ nat_le moments self.now.room }
+    {
+        moments <= self.room
     }
 
     /// A command of a hand was accepted, or one that no hand asked for, and the history has so many entries
