@@ -1,18 +1,21 @@
 -- What was done of a course: of the session alone, for keys, of what is saved, and of what is
 -- shown.
-use Rattle.std.proofs.Common.{◌≡◌, ℕ, List, [], ◌∷◌, ◌++◌, refl, sym, ◌∙◌, ◌==◌, Bool, true, false, length, arith}
-use Rattle.std.specs.Prelude.{Option, None, Result, Ok, Err, Some, All}
-use Rattle.std.specs.Option.{option_map}
+use Rattle.std.proofs.Common.{◌≡◌, ℕ, ◌+◌, ◌<◌, ◌≤◌, List, [], ◌∷◌, ◌++◌, refl, sym, ◌∙◌, ap, ◌==◌, Bool, true, false, drop, length, arith}
+use Rattle.std.specs.List.{range_with_len}
+use Rattle.std.proofs.lemmas.List.{drop_all, drop_more, length-set}
+use Rattle.std.proofs.lemmas.List.FromFn.{get_or-range_with_len, length-range_with_len}
+use Rattle.std.specs.Prelude.{Option, None, Result, Ok, Err, Some, All, OnErr, OnOk}
+use Rattle.std.specs.Option.{option_map, option_map_or}
 use Rattle.orca_base.specs.declared.command.Command.{Command}
 use Rattle.orca_base.specs.declared.port.Port.TheVariants as port
 use Rattle.orca_base.specs.MarkSet.{MarkSet}
 use Rattle.orca_concert.specs.Concerts.{Concert, concert, close_course as silence_course, command_course as obey_course, stance_of}
-use Rattle.orca_course.specs.Courses.{Course, mapped, onward, still, course}
+use Rattle.orca_course.specs.Courses.{Course, each, mapped, onward, still, course}
 use Rattle.orca_course.specs.Doing.{Does, goes_of}
 use Rattle.orca_course.specs.Worlds.{World, Called, owing, Calls, Made, Sated}
 use Rattle.orca_course.specs.declared.ending.Stop.{Stop}
 use Rattle.orca_course.specs.declared.refused.NoMemory.{NoMemory}
-use Rattle.orca_course.proofs.DoingLemmas.{does_from, does_mapped, does_still, does_then, does_owing, does_acts, does_cut, does_joined, rests_mute, rests_none}
+use Rattle.orca_course.proofs.DoingLemmas.{does_from, does_mapped, does_still, does_then, does_owing, does_acts, does_begun, does_cut, does_joined, rests_mute, rests_none}
 use Rattle.orca_course.specs.Acts.Act.{Append, Save, Screen, Give, Show}
 use Rattle.orca_course.proofs.CallLemmas.{calls_one, does_calls}
 use Rattle.orca_course.specs.Acts.{AreMute}
@@ -20,17 +23,16 @@ use Rattle.orca_course.proofs.WorldLemmas.{made_none, made_screen, made_show}
 use Rattle.orca_edit.specs.Machines.{preview_of}
 use Rattle.orca_edit.specs.Prices.{preview_price}
 use Rattle.orca_term.specs.Pacing.{Pace}
-use Rattle.orca_term.specs.Editing.{editor_after, wish_of}
-use Rattle.orca_term.specs.Keys.{Item, turn}
+use Rattle.orca_jam.specs.Crews.{CrewState, answer_to, asked, denial_of, player_at, struck_by, turned_by, turned_player}
+use Rattle.orca_jam.specs.declared.denial.Denial.{Denial}
+use Rattle.orca_term.specs.Keys.{Due, Item, turn}
 use Rattle.orca_term.specs.declared.editor.Wish.{Wish}
-use Rattle.orca_term.specs.declared.editor.Editor.{Editor}
 use Rattle.orca_term.specs.declared.keys.Key.{Key}
-use Rattle.orca_term.specs.declared.keys.Pending.{Pending}
 use Rattle.orca_term.specs.Picture.{IsPrintable}
 use Rattle.orca_term.specs.Viewing.{Seen, painting_bytes}
 use Rattle.orca_term.specs.declared.cell.Cell.{Cell}
 use Rattle.orca_term.specs.declared.cell.ScreenSize.{ScreenSize}
-use Rattle.orca_live.specs.Performing.{additions, close_course, command_course, keeping_command, lines_course, noted, of_session, item_course, key_course, press_course, struck_course, wish_course, paint_course, painted_course, picture_at, preview_course, redrawn, show_course, view_sends}
+use Rattle.orca_live.specs.Performing.{additions, close_course, command_course, denied_course, lull_course, lines_course, noted, obeyed, of_session, owning, item_course, key_course, press_course, read_course, struck_course, telling, wish_course, paint_course, painted_course, picture_at, preview_course, redrawn, show_course, view_sends}
 use Rattle.orca_live.specs.Quiet.{silent_manner}
 use Rattle.orca_live.specs.States.{LiveState, live_stance, around_at, fitted, piece_at}
 
@@ -64,22 +66,42 @@ session_did c s t (Err e) goes did =
     does_mapped (λ (u : Concert (Unit {0})). record s { standing = u.standing }) (λ end. end) (Err e)
     refl (λ u. refl) did
 
--- a command was done, and kept
-pub command_did : (command : Command) (s : LiveState) (t : Concert (Unit {0}))
-    (given : Option (List Command)) (lines : List ℕ) {x y : World}
-    (result : Result (Option Stop) NoMemory)
+-- a command was done and kept, and whose the entries are
+pub command_did : (who : ℕ) (command : Command) (s : LiveState) (t : Concert (Unit {0}))
+    (given : Option (List Command)) (lines : List ℕ) (crew : CrewState) {x y : World}
+    (end : Option Stop)
     → given ≡ option_map (λ commands. commands ++ command ∷ []) s.given
     → lines ≡ noted s.setting.journal command s.unwritten
+    → crew ≡ owning who command t.standing.tally.note (length t.standing.machine.history) s.crew
     → Does (stance_of silent_manner)
-    (obey_course silent_manner 0 command (concert s.standing tt)) (concert s.standing tt) x result
-    t y
-    → Does live_stance (command_course command s) s x (goes_of result)
+    (obey_course silent_manner 0 command (concert s.standing tt)) (concert s.standing tt) x
+    (Ok end) t y
+    → Does live_stance (command_course who command s) s x (Ok None)
+    (record s { standing = t.standing; crew = crew; given = given; unwritten = lines }) y
+unfolding command_course obey_course onward mapped
+command_did who command s t given lines crew end kept waits owns did =
+    let goes : end ≡ None = sym did.did.ending in
+    let all = does_mapped {part = stance_of silent_manner} {whole = live_stance}
+    (λ (u : Concert (Unit {0})). obeyed who command s u.standing) (λ end. end) (Ok end) refl
+    (λ u. refl) did in
+    rw (kept, waits, owns) (does_from s refl (rw goes at all))
+
+-- memory was refused to a command
+pub command_cut : (who : ℕ) (command : Command) (s : LiveState) (t : Concert (Unit {0}))
+    (given : Option (List Command)) (lines : List ℕ) {x y : World} (e : NoMemory)
+    → Does (stance_of silent_manner)
+    (obey_course silent_manner 0 command (concert s.standing tt)) (concert s.standing tt) x
+    (Err e) t y
+    → Does live_stance (command_course who command s) s x (Err e)
     (record s { standing = t.standing; given = given; unwritten = lines }) y
 unfolding command_course obey_course onward mapped
-command_did command s t given lines result kept waits did =
-    rw (kept, waits) (does_from s refl
-    (session_did (obey_course silent_manner 0 command) (keeping_command command s) t result refl
-    did))
+command_cut who command s t given lines e did =
+    let with : Concert (Unit {0}) → LiveState = λ (u : Concert (Unit {0})).
+    record s { standing = u.standing; given = given; unwritten = lines } in
+    let cut = does_from s refl
+    (does_mapped {part = stance_of silent_manner} {whole = live_stance} with (λ end. end) (Err e)
+    refl (λ u. refl) did) in
+    does_begun cut.did.done cut.did.left cut.did.splits cut.did.made cut.did.rests cut.did.wants
 
 -- every note was ended
 pub close_did : (s : LiveState) (t : Concert (Unit {0})) {x y : World}
@@ -92,34 +114,95 @@ close_did s t result did = session_did (silence_course silent_manner) s t result
 
 -- ---- keys and items
 
--- the editor has changed, and then what the key asks for was done
-pub struck_did : (key : Key) (s : LiveState) (w : Wish) (e : Editor) {t : LiveState} {x y : World}
-    {result : Result (Option Stop) NoMemory} → w ≡ wish_of key (around_at s) s.editor
-    → e ≡ editor_after key (around_at s) s.editor
-    → Does live_stance (wish_course w (record s { editor = e })) (record s { editor = e }) x result
-    t y
-    → Does live_stance (struck_course key s) s x result t y
-unfolding struck_course
-struck_did key s w e asks changes did = does_from s refl (rw (asks, changes) at did)
+-- a key is not denied, and asks for this
+asked_by : (denial : Option Denial) (asks w : Wish) → Ok w ≡ option_map_or Err denial (Ok asks)
+    → (denial ≡ None) × (w ≡ asks)
+asked_by None asks w is = (refl, grind (arith, is))
+asked_by (Some denial) asks w is = absurd cc
 
--- the editor was fitted to the grid, and then the key was struck
-pub press_some : (key : Option Key) (some : Key) (s u : LiveState) {t : LiveState} {x y : World}
-    {result : Result (Option Stop) NoMemory} → key ≡ Some some → u ≡ fitted s
-    → Does live_stance (struck_course some u) u x result t y
-    → Does live_stance (press_course key s) s x result t y
+-- a key is denied
+denied_by : (denial : Option Denial) (asks : Wish) (why : Denial)
+    → Err why ≡ option_map_or Err denial (Ok asks) → denial ≡ Some why
+denied_by None asks why is = absurd cc
+denied_by (Some denial) asks why is = grind (arith, is)
+
+-- the editor of the hand has changed, and then what the key asks for was done
+pub struck_asked : (hand : ℕ) (key : Key) (s : LiveState) (answer : Result Wish Denial) (w : Wish)
+    (crew : CrewState) {t : LiveState} {x y : World} {result : Result (Option Stop) NoMemory}
+    → answer ≡ answer_to s.crew hand key (around_at hand s) → answer ≡ Ok w
+    → OnOk answer (crew ≡ struck_by hand key (around_at hand s) s.crew)
+    → Does live_stance (wish_course hand w (record s { crew = crew })) (record s { crew = crew }) x
+    result t y
+    → Does live_stance (struck_course hand key s) s x result t y
+unfolding struck_course
+struck_asked hand key s answer w crew told is changes did =
+    let by = asked_by (denial_of s.crew hand key) (asked s.crew hand key (around_at hand s)) w
+    (sym is ∙ told) in
+    rw by.0 (does_from s refl (rw (by.1, rw is at changes) at did))
+
+-- the hand was told why the key is denied
+pub struck_denied : (hand : ℕ) (key : Key) (s : LiveState) (answer : Result Wish Denial)
+    (denial : Denial) (crew : CrewState) {x y : World} (n : ℕ) (result : Result (Unit {0}) NoMemory)
+    → answer ≡ answer_to s.crew hand key (around_at hand s) → answer ≡ Err denial
+    → OnErr answer (crew ≡ s.crew) → Called result (telling hand denial) x y
+    → Does live_stance (struck_course hand key s) s (owing n x) (goes_of result)
+    (record s { crew = crew }) (owing n y)
+unfolding struck_course denied_course
+struck_denied hand key s answer denial crew n result told is same called =
+    rw (
+      denied_by (denial_of s.crew hand key) (asked s.crew hand key (around_at hand s)) denial
+          (sym is ∙ told),
+      rw is at same,
+    )
+    (does_owing n (goes_of result)
+    (does_calls (telling hand denial ∷ []) result (refl, tt) refl (calls_one result called)))
+
+-- the editors were fitted to the grid, and then the key was struck
+pub press_some : (hand : ℕ) (key : Option Key) (some : Key) (s u : LiveState) {t : LiveState}
+    {x y : World} {result : Result (Option Stop) NoMemory} → key ≡ Some some → u ≡ fitted s
+    → Does live_stance (struck_course hand some u) u x result t y
+    → Does live_stance (press_course hand key s) s x result t y
 unfolding press_course key_course
-press_some key some s u is fits did = rw is (does_from s refl (rw fits at did))
+press_some hand key some s u is fits did = rw is (does_from s refl (rw fits at did))
 
 -- an item, whose key was pressed
-pub item_did : (item : Item) (s : LiveState) (key : Option Key) (p : Pending) {t : LiveState}
-    {x y : World} {result : Result (Option Stop) NoMemory}
-    → key ≡ (turn s.setting.full s.pending item).key
-    → p ≡ (turn s.setting.full s.pending item).pending
-    → Does live_stance (press_course key (record s { pending = p })) (record s { pending = p }) x
-    result t y
-    → Does live_stance (item_course item s) s x result t y
-unfolding item_course
-item_did item s key p ends leaves did = does_from s refl (rw (ends, leaves) at did)
+pub read_did : (hand : ℕ) (item : Item) (s : LiveState) (key : Option Key) (crew : CrewState)
+    {t : LiveState} {x y : World} {result : Result (Option Stop) NoMemory}
+    → key ≡ (turn s.setting.full (player_at s.crew hand).keys item).key
+    → crew ≡ turned_by s.setting.full hand item s.crew
+    → Does live_stance (press_course hand key (record s { crew = crew })) (record s { crew = crew })
+    x result t y
+    → Does live_stance (read_course hand item s) s x result t y
+unfolding read_course
+read_did hand item s key crew ends leaves did = does_from s refl (rw (ends, leaves) at did)
+
+-- ---- the hands in their order
+
+pub hands_left : (n k : ℕ) → k < n
+    → drop k (range_with_len 0 n) ≡ k ∷ drop (k + 1) (range_with_len 0 n)
+hands_left n k below =
+    drop_more (range_with_len 0 n) k 0 (rw length-range_with_len below)
+    ∙ ap (λ (hand : ℕ). hand ∷ drop (k + 1) (range_with_len 0 n))
+    (get_or-range_with_len 0 n k 0 below ∙ omega arith)
+
+pub hands_over : (n k : ℕ) → n ≤ k → drop k (range_with_len 0 n) ≡ []
+hands_over n k past = drop_all k (range_with_len 0 n) (rw length-range_with_len past)
+
+-- nothing came of each hand
+pub lull_did : (hands : ℕ) (s : LiveState) {t : LiveState} {x y : World}
+    {result : Result (Option Stop) NoMemory} → hands ≡ length s.crew.players
+    → Does live_stance (each (λ hand. item_course hand Due) (range_with_len 0 hands) s) s x result
+    t y
+    → Does live_stance (lull_course s) s x result t y
+unfolding lull_course
+lull_did hands s are did = rw are at did
+
+-- a reader was given an item, and there are as many hands
+pub hands_turned : (full : Bool) (hand : ℕ) (item : Item) (old new : CrewState) (n : ℕ)
+    → new ≡ turned_by full hand item old → n ≡ length old.players → hand < n
+    → hand < length new.players
+hands_turned full hand item old new n turned are below =
+    rw (turned, length-set old.players hand (turned_player full item (player_at old hand)), ← are) below
 
 -- ---- what is saved
 

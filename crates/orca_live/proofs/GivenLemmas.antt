@@ -1,9 +1,10 @@
 -- Which acts give commands, what changes nothing that matters to the session, and what the end of a
 -- performance leaves.
 use Rattle.std.proofs.Common.{◌≡◌, ℕ, arith, List, [], ◌∷◌, ◌++◌, refl, ◌∙◌, ap, append-nil}
-use Rattle.std.specs.Prelude.{max, min, Option, Some, None}
+use Rattle.std.specs.Prelude.{map, max, min, Option, Some, None}
 use Rattle.orca_base.specs.declared.command.Command.{Command}
 use Rattle.orca_base.specs.MarkSet.{MarkSet}
+use Rattle.orca_base.specs.Grids.{Size}
 use Rattle.orca_base.specs.Ports.{Sent}
 use Rattle.orca_concert.specs.Concerts.{close_course as silence_course, command_course as obey_course}
 use Rattle.orca_course.specs.Acts.{commands_in, gives, Act}
@@ -14,9 +15,11 @@ use Rattle.orca_course.proofs.CourseLemmas.{onward_goes}
 use Rattle.orca_course.specs.Standings.{Standing, standing_closed}
 use Rattle.orca_course.proofs.ActLemmas.{commands_in-append}
 use Rattle.orca_edit.specs.Machines.{preview_of}
+use Rattle.orca_jam.specs.Crews.{fitted_player}
+use Rattle.orca_jam.specs.declared.player.Player.{Player}
 use Rattle.orca_term.specs.declared.cell.Cell.{Cell}
 use Rattle.orca_live.specs.Performing.{additions, close_course, command_course, finish_course, header_course, if_named, journal_course, last_course, last_grid_course, last_script_course, lines_course, open_course, paint_course, painted_course, preview_course, save_course, script_course, show_course, update_course, view_sends, write_course}
-use Rattle.orca_live.specs.States.{LiveState, fitted, piece_at}
+use Rattle.orca_live.specs.States.{LiveState, dims_at, fitted, piece_at}
 
 -- ---- the commands of acts
 
@@ -32,10 +35,10 @@ handed_commands [] t = refl
 handed_commands (sent ∷ sends) t = handed_commands sends t
 
 -- a command is given once
-pub command_once : (command : Command) (s : LiveState)
-    → commands_in (command_course command s).acts ≡ command ∷ []
+pub command_once : (who : ℕ) (command : Command) (s : LiveState)
+    → commands_in (command_course who command s).acts ≡ command ∷ []
 unfolding command_course obey_course onward mapped
-command_once command s = simp handed_commands
+command_once who command s = simp handed_commands
 
 views_commands : (bytes : List ℕ) (cells : List Cell)
     → commands_in (view_sends bytes ++ Show cells ∷ []) ≡ []
@@ -58,7 +61,7 @@ plain s = record s {
   at = 0;
 }
 
--- and the editor as it fits the grid
+-- and the editors as they fit the grid
 abbrev pub core : LiveState → LiveState
 core s = plain (fitted s)
 
@@ -68,9 +71,22 @@ min_twice a b = omega arith
 pub side_twice : (a b : ℕ) → max 1 (min (max 1 (min a b)) b) ≡ max 1 (min a b)
 side_twice a b = omega arith
 
+player_twice : (d : Size) (p : Player)
+    → fitted_player d (fitted_player d p) ≡ fitted_player d p
+player_twice d p = simp (min_twice, side_twice)
+
 -- an editor is fitted once
+pub players_twice : (d : Size) (players : List Player)
+    → map (fitted_player d) (map (fitted_player d) players) ≡ map (fitted_player d) players
+players_twice d [] = refl
+players_twice d (p ∷ players) =
+    ap (λ (q : Player). q ∷ map (fitted_player d) (map (fitted_player d) players)) (player_twice d p)
+    ∙ ap (λ (rest : List Player). fitted_player d p ∷ rest) (players_twice d players)
+
 pub core_fitted : (s : LiveState) → core (fitted s) ≡ core s
-core_fitted s = simp (min_twice, side_twice)
+core_fitted s =
+    ap (λ (players : List Player). plain (record s { crew = record s.crew { players = players } }))
+    (players_twice (dims_at s) s.crew.players)
 
 -- a course that gives no command and changes nothing that matters, and after which it goes on
 pub record IsAside (s : LiveState) (c : Course LiveState Stop) : Type 0 where

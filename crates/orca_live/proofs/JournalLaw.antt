@@ -20,6 +20,7 @@ use Rattle.orca_course.specs.declared.ending.Ending.TheVariants.{Stopped}
 use Rattle.orca_course.specs.declared.ending.Stop.{Stop}
 use Rattle.orca_course.proofs.PerformanceLemmas.{attended_done}
 use Rattle.orca_edit.specs.Obeying.{obey}
+use Rattle.orca_jam.specs.declared.denial.Denial.{Denial}
 use Rattle.orca_notes.specs.Sound.{ends}
 use Rattle.orca_rig.specs.declared.inbox.Answer.{Answer}
 use Rattle.orca_rig.specs.declared.inbox.Answer.TheVariants as answer
@@ -30,7 +31,7 @@ use Rattle.orca_term.specs.declared.cell.Cell.{Cell}
 use Rattle.orca_trace.specs.Calls.{Poll}
 use Rattle.orca_live.specs.Carrying.{Carries, IsSaved, answer_carried, finish_carried, first_carried, heard_carried}
 use Rattle.orca_live.specs.Journals.{IsApart, JournalsPerformance, held_after, journal_text}
-use Rattle.orca_live.specs.Performing.{additions, answer_course, close_course, command_course, finish_course, header_course, heard_course, if_named, journal_course, last_course, last_grid_course, last_script_course, lines_course, live_part, noted, open_course, paint_course, painted_course, picture_at, preview_course, save_course, script_course, show_course, update_course, view_sends, write_course}
+use Rattle.orca_live.specs.Performing.{additions, answer_course, close_course, command_course, denied_course, finish_course, header_course, heard_course, if_named, journal_course, last_course, last_grid_course, last_script_course, lines_course, live_part, noted, open_course, paint_course, painted_course, picture_at, preview_course, save_course, script_course, show_course, update_course, view_sends, write_course}
 use Rattle.orca_live.specs.States.{LiveState, Setting}
 
 -- ---- acts after acts
@@ -246,10 +247,10 @@ module _ (name : List ℕ) (set : Setting) (kept : set.journal ≡ Some name)
             more.1,
       )
 
-  writes_command : (command : Command) (s : LiveState)
-      → Writes name set s (command_course command s).acts (command_course command s).state
+  writes_command : (who : ℕ) (command : Command) (s : LiveState)
+      → Writes name set s (command_course who command s).acts (command_course who command s).state
   unfolding command_course obey_course onward mapped
-  writes_command command s is =
+  writes_command who command s is =
       let o = obey s.standing.machine command in (
         is,
         λ held given waits. (
@@ -260,6 +261,11 @@ module _ (name : List ℕ) (set : Setting) (kept : set.journal ≡ Some name)
               (ap (λ (set : Setting). set.journal) is ∙ kept) waits),
         ),
       )
+
+  writes_denied : (hand : ℕ) (denial : Denial) (s : LiveState)
+      → Writes name set s (denied_course hand denial s).acts s
+  unfolding denied_course
+  writes_denied hand denial s is = (is, λ held given waits. waits)
 
   writes_close : (s : LiveState)
       → Writes name set s (close_course s).acts (close_course s).state
@@ -313,6 +319,7 @@ module _ (name : List ℕ) (set : Setting) (kept : set.journal ≡ Some name)
         (alike.setting ∙ is, λ held given waits. rw alike.unwritten waits);
     both = writes_twice;
     command = writes_command;
+    denied = writes_denied;
     save = writes_save;
     write = writes_write;
     paint = writes_paint;

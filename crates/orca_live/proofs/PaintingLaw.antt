@@ -14,6 +14,7 @@ use Rattle.orca_course.specs.Performers.{performance}
 use Rattle.orca_course.specs.Standings.{Standing, notes_of, standing_after, standing_closed}
 use Rattle.orca_course.specs.declared.ending.Stop.{Stop}
 use Rattle.orca_edit.specs.Obeying.{obey}
+use Rattle.orca_jam.specs.declared.denial.Denial.{Denial}
 use Rattle.orca_notes.specs.Sound.{ends}
 use Rattle.orca_term.specs.Picture.{IsPrintable, IsScreen, picture, screen_cells}
 use Rattle.orca_term.specs.Viewing.{Shows, painting_bytes}
@@ -23,7 +24,7 @@ use Rattle.orca_term.proofs.Views.{shown_bytes}
 use Rattle.orca_live.specs.Carrying.{Carries}
 use Rattle.orca_live.proofs.Carried.{performance_carried}
 use Rattle.orca_live.specs.Paintings.{ShowsPerformance, ShowsPictures, viewed, views_in}
-use Rattle.orca_live.specs.Performing.{additions, close_course, command_course, header_course, if_named, journal_course, lines_course, live_part, painted_course, picture_at, view_sends, write_course}
+use Rattle.orca_live.specs.Performing.{additions, close_course, command_course, denied_course, header_course, if_named, journal_course, lines_course, live_part, painted_course, picture_at, view_sends, write_course}
 use Rattle.orca_live.specs.States.{LiveState}
 
 -- ---- acts after acts
@@ -104,13 +105,18 @@ handed_shows d after t (message ∷ messages) sent seen =
     handed_shows d after t messages _
     (rw (sym (append-nil _) ∙ no_views message, append-nil sent) seen)
 
-displays_command : (command : Command) (s : LiveState)
-    → Displays s (command_course command s).acts (command_course command s).state
+displays_command : (who : ℕ) (command : Command) (s : LiveState)
+    → Displays s (command_course who command s).acts (command_course who command s).state
 unfolding command_course obey_course onward mapped
-displays_command command s d sent seen =
+displays_command who command s d sent seen =
     let o = obey s.standing.machine command in
     handed_shows d (λ e sent. IsSeen e s.screen s.shown sent) (standing_after s.standing o)
     o.messages sent seen
+
+displays_denied : (hand : ℕ) (denial : Denial) (s : LiveState)
+    → Displays s (denied_course hand denial s).acts s
+unfolding denied_course
+displays_denied hand denial s d sent seen = rw append-nil seen
 
 displays_close : (s : LiveState) → Displays s (close_course s).acts (close_course s).state
 unfolding close_course silence_course onward mapped
@@ -177,6 +183,7 @@ displays_carries = record {
       shown_twice d (λ e sent. IsSeen e s.screen s.shown sent)
       (λ e sent. IsSeen e t.screen t.shown sent) sent xs ys (first d sent seen) second;
   command = displays_command;
+  denied = displays_denied;
   save = λ name bytes s saved d sent seen. seen;
   write = displays_write;
   paint = displays_paint;

@@ -20,6 +20,7 @@ use Rattle.orca_course.proofs.ActLemmas.{commands_in-append}
 use Rattle.orca_cues.specs.Scripts.{cue_asking, cues_asking}
 use Rattle.orca_cues.specs.declared.source.Order.TheVariants.{Do as Once}
 use Rattle.orca_edit.specs.Obeying.{MachineState, accept, entry_of, machine_closed, obey, refuse, rule_against}
+use Rattle.orca_jam.specs.declared.denial.Denial.{Denial}
 use Rattle.orca_script.specs.Runs.{commands_of, lines_behind}
 use Rattle.orca_script.specs.declared.format_2.Line.{Line}
 use Rattle.orca_script.specs.declared.format_2.Line.TheVariants as asks
@@ -28,7 +29,7 @@ use Rattle.orca_live.specs.Carrying.{Carries}
 use Rattle.orca_live.proofs.Carried.{begun_carried}
 use Rattle.orca_live.specs.Journals.{LeadsBack}
 use Rattle.orca_live.specs.Laws.{GoesOn, Replays, ReplaysScript, replayed, so_far}
-use Rattle.orca_live.specs.Performing.{additions, command_course, header_course, if_named, journal_course, lines_course, live_part, painted_course, write_course}
+use Rattle.orca_live.specs.Performing.{additions, command_course, denied_course, header_course, if_named, journal_course, lines_course, live_part, painted_course, write_course}
 use Rattle.orca_live.specs.States.{LiveState}
 use Rattle.orca_live.proofs.GivenLemmas.{command_once, finish_closes, paint_commands}
 
@@ -77,10 +78,15 @@ keeps_twice r s t xs ys first second =
     (kept_with (commands_in ys) x.0, machine_after (commands_in ys) x.1)) first
     ∙ simp (commands_in-append, kept_twice, machine_after-append))
 
-keeps_command : (command : Command) (s : LiveState)
-    → Keeps s (command_course command s).acts (command_course command s).state
+keeps_command : (who : ℕ) (command : Command) (s : LiveState)
+    → Keeps s (command_course who command s).acts (command_course who command s).state
 unfolding command_course obey_course onward mapped
-keeps_command command s = ap (λ commands. after commands s) (sym (command_once command s))
+keeps_command who command s = ap (λ commands. after commands s) (sym (command_once who command s))
+
+keeps_denied : (hand : ℕ) (denial : Denial) (s : LiveState)
+    → Keeps s (denied_course hand denial s).acts s
+unfolding denied_course
+keeps_denied hand denial s = keeps_none s
 
 keeps_paint : (marks : List MarkSet) (s : LiveState)
     → Keeps s (painted_course marks s).acts (painted_course marks s).state
@@ -113,6 +119,7 @@ keeps_carries = record {
   none = λ s t alike. rw (alike.given, alike.standing) (keeps_none s);
   both = keeps_twice;
   command = keeps_command;
+  denied = keeps_denied;
   save = λ name bytes s saved. keeps_none s;
   write = keeps_write;
   paint = keeps_paint;

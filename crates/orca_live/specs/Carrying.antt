@@ -1,7 +1,8 @@
 -- What holds of each step of a performance, and of two in turn, holds of each of its parts. It is
 -- proved here, since that a player is deaf is said of it as a performer, and follows from this.
-use Rattle.std.proofs.Common.{◌≡◌, ◌⊎◌, inl, inr, ◌==◌, ℕ, arith, Bool, true, false, List, [], ◌∷◌, ◌++◌, refl}
+use Rattle.std.proofs.Common.{◌≡◌, ◌⊎◌, inl, inr, ℕ, arith, Bool, true, false, List, [], ◌∷◌, ◌++◌, length, refl}
 use Rattle.std.specs.Prelude.{if◌then◌else◌, Option, Some, None, unwrap_or}
+use Rattle.std.proofs.lemmas.List.{length-map, length-set}
 use Rattle.orca_base.specs.declared.command.Command.{Command}
 use Rattle.orca_base.specs.declared.command.Command.TheVariants.{Frame}
 use Rattle.orca_base.specs.MarkSet.{MarkSet}
@@ -12,22 +13,23 @@ use Rattle.orca_course.specs.declared.ending.Stop.{Stop}
 use Rattle.orca_course.specs.declared.ending.Stop.TheVariants.{Full}
 use Rattle.orca_course.proofs.CourseLemmas.{each-holds}
 use Rattle.orca_edit.specs.Machines.{preview_of}
+use Rattle.orca_jam.specs.Crews.{CrewState, asked, denial_of, fitted_player, player_at, struck_by, turned_by}
+use Rattle.orca_jam.specs.declared.denial.Denial.{Denial}
+use Rattle.orca_jam.specs.declared.owner.TheConstants.{NOBODY}
 use Rattle.orca_rig.specs.declared.inbox.Answer.{Answer}
 use Rattle.orca_rig.specs.declared.inbox.Answer.TheVariants as answer
-use Rattle.orca_term.specs.Editing.{editor_after, wish_of}
 use Rattle.orca_term.specs.Keys.{Byte, Due, Item, turn}
 use Rattle.orca_term.specs.Pacing.{Pace, faster, pace_from, retimed, slower}
 use Rattle.orca_term.specs.Picture.{IsScreen, screen_inside}
 use Rattle.orca_term.specs.declared.cell.ScreenSize.{ScreenSize}
-use Rattle.orca_term.specs.declared.editor.Editor.{Editor}
 use Rattle.orca_term.specs.declared.editor.Wish.{Wish}
 use Rattle.orca_term.specs.declared.editor.Wish.TheVariants as wish
 use Rattle.orca_term.specs.declared.keys.Key.{Key}
-use Rattle.orca_term.specs.declared.keys.Pending.{Pending}
-use Rattle.orca_live.specs.Performing.{answer_course, answered_at, byte_course, close_course, command_course, due_course, finish_course, fired, frame_course, heard_course, if_named, item_course, journal_course, key_course, last_course, last_grid_course, last_script_course, open_course, paced, paint_course, painted_course, press_course, preview_course, save_course, script_course, show_course, struck_course, update_course, toggled, wish_course, write_course}
-use Rattle.orca_live.specs.States.{LiveState, Setting, around_at, fitted, is_full, key_name, piece_at}
+use Rattle.orca_live.specs.Performing.{answer_course, answered_at, byte_course, close_course, command_course, denied_course, due_course, finish_course, fired, frame_course, heard_course, if_named, item_course, journal_course, key_course, last_course, last_grid_course, last_script_course, lull_course, open_course, paced, paint_course, painted_course, press_course, preview_course, read_course, save_course, script_course, show_course, struck_course, struck_where, update_course, toggled, wish_course, write_course}
+use Rattle.orca_live.specs.States.{LiveState, Setting, around_at, dims_at, fitted, hands_of, is_full, is_hand, key_name, leader_at, piece_at}
 
--- two states are the same to the session, to the terminal, to the script and to the journal
+-- two states are the same to the session, to the terminal, to the script and to the journal, and
+-- have as many hands
 pub record LooksAlike (s t : LiveState) : Type 0 where
   pub setting : t.setting ≡ s.setting
   pub standing : t.standing ≡ s.standing
@@ -35,21 +37,29 @@ pub record LooksAlike (s t : LiveState) : Type 0 where
   pub shown : t.shown ≡ s.shown
   pub given : t.given ≡ s.given
   pub unwritten : t.unwritten ≡ s.unwritten
+  pub hands : length t.crew.players ≡ length s.crew.players
 
--- the keys, the editor, the pace and the moment are nothing to these
-looks_so : (s : LiveState) (pending : Pending) (editor : Editor) (pace : Pace) (at : ℕ)
-    → LooksAlike s (record s { pending = pending; editor = editor; pace = pace; at = at })
-looks_so s pending editor pace at = record {
+-- what the hands have, the pace and the moment are nothing to these
+looks_so : (s : LiveState) (crew : CrewState) (pace : Pace) (at : ℕ)
+    → length crew.players ≡ length s.crew.players
+    → LooksAlike s (record s { crew = crew; pace = pace; at = at })
+looks_so s crew pace at hands = record {
   setting = refl;
   standing = refl;
   screen = refl;
   shown = refl;
   given = refl;
   unwritten = refl;
+  hands = hands;
 }
 
 pub looks_same : (s : LiveState) → LooksAlike s s
-looks_same s = looks_so s s.pending s.editor s.pace s.at
+looks_same s = looks_so s s.crew s.pace s.at refl
+
+-- the editors are fitted
+looks_fitted : (s : LiveState) → LooksAlike s (fitted s)
+looks_fitted s =
+    looks_so s (fitted s).crew s.pace s.at (length-map s.crew.players (fitted_player (dims_at s)))
 
 -- a name that the grid or the script is saved under: by the key, or at the end
 abbrev pub IsSaved : List ℕ → Setting → Type 0
@@ -60,8 +70,10 @@ pub record Carries (holds : LiveState → List Act → LiveState → Type 0) : T
   pub none : (s t : LiveState) → LooksAlike s t → holds s [] t
   pub both : (r s t : LiveState) (xs ys : List Act) → holds r xs s → holds s ys t
       → holds r (xs ++ ys) t
-  pub command : (command : Command) (s : LiveState)
-      → holds s (command_course command s).acts (command_course command s).state
+  pub command : (who : ℕ) (command : Command) (s : LiveState)
+      → holds s (command_course who command s).acts (command_course who command s).state
+  pub denied : (hand : ℕ) (denial : Denial) (s : LiveState)
+      → holds s (denied_course hand denial s).acts s
   pub save : (name bytes : List ℕ) (s : LiveState) → IsSaved name s.setting
       → holds s (Save name bytes ∷ []) s
   pub write : (s : LiveState) → holds s (write_course s).acts (write_course s).state
@@ -107,11 +119,11 @@ toggled_by false s t alike = alike
 toggled_alike : (s : LiveState) → LooksAlike s (toggled s)
 toggled_alike s =
     let pace = pace_from s.pace.bpm s.at in
-    toggled_by s.editor.paused s (record s { pace = pace })
-    (looks_so s s.pending s.editor pace s.at)
+    toggled_by (leader_at s).paused s (record s { pace = pace })
+    (looks_so s s.crew pace s.at refl)
 
 paced_alike : (bpm : ℕ) (s : LiveState) → LooksAlike s (paced bpm s)
-paced_alike bpm s = looks_so s s.pending s.editor (retimed bpm s.pace) s.at
+paced_alike bpm s = looks_so s s.crew (retimed bpm s.pace) s.at refl
 
 -- a size that is brought into those that a screen may have is one of them
 inside_is_screen : (d : ScreenSize) → IsScreen (screen_inside d)
@@ -122,54 +134,70 @@ inside_is_screen d = record {
   few_columns = omega arith;
 }
 
-wish_carried : {holds : LiveState → List Act → LiveState → Type 0} → Carries holds → (w : Wish)
-    (s : LiveState) → Along holds (wish_course w s) s
+wish_carried : {holds : LiveState → List Act → LiveState → Type 0} → Carries holds → (hand : ℕ)
+    (w : Wish) (s : LiveState) → Along holds (wish_course hand w s) s
 unfolding wish_course save_course
-wish_carried carry wish.Nothing s = carry.none s s (looks_same s)
-wish_carried carry (wish.Do command) s = carry.command command s
-wish_carried carry wish.Toggle s = carry.none s (toggled s) (toggled_alike s)
-wish_carried carry wish.Save s = carry.save _ _ s (inl refl)
-wish_carried carry wish.Quit s = carry.none s s (looks_same s)
-wish_carried carry (wish.Slower beats) s =
+wish_carried carry hand wish.Nothing s = carry.none s s (looks_same s)
+wish_carried carry hand (wish.Do command) s = carry.command hand command s
+wish_carried carry hand wish.Toggle s = carry.none s (toggled s) (toggled_alike s)
+wish_carried carry hand wish.Save s = carry.save _ _ s (inl refl)
+wish_carried carry hand wish.Quit s = carry.none s s (looks_same s)
+wish_carried carry hand (wish.Slower beats) s =
     carry.none s (paced (slower beats s.pace.bpm) s) (paced_alike (slower beats s.pace.bpm) s)
-wish_carried carry (wish.Faster beats) s =
+wish_carried carry hand (wish.Faster beats) s =
     carry.none s (paced (faster beats s.pace.bpm) s) (paced_alike (faster beats s.pace.bpm) s)
-wish_carried carry (wish.Redraw size) s =
+wish_carried carry hand (wish.Redraw size) s =
     let d = unwrap_or size s.screen in carry.screen (screen_inside d) s (inside_is_screen d)
 
-struck_carried : {holds : LiveState → List Act → LiveState → Type 0} → Carries holds → (key : Key)
-    (s : LiveState) → Along holds (struck_course key s) s
+where_carried : {holds : LiveState → List Act → LiveState → Type 0} → Carries holds → (hand : ℕ)
+    (key : Key) (s : LiveState) (denial : Option Denial)
+    → Along holds (struck_where hand key s denial) s
+unfolding denied_course
+where_carried carry hand key s (Some denial) = carry.denied hand denial s
+where_carried carry hand key s None =
+    let around = around_at hand s in
+    let t : LiveState = record s { crew = struck_by hand key around s.crew } in
+    let w = asked s.crew hand key around in
+    from_alike carry s t (wish_course hand w t)
+    (looks_so s t.crew s.pace s.at (length-set s.crew.players hand _))
+    (wish_carried carry hand w t)
+
+struck_carried : {holds : LiveState → List Act → LiveState → Type 0} → Carries holds → (hand : ℕ)
+    (key : Key) (s : LiveState) → Along holds (struck_course hand key s) s
 unfolding struck_course
-struck_carried carry key s =
-    let t : LiveState = record s { editor = editor_after key (around_at s) s.editor } in
-    let w = wish_of key (around_at s) s.editor in
-    from_alike carry s t (wish_course w t) (looks_so s s.pending t.editor s.pace s.at)
-    (wish_carried carry w t)
+struck_carried carry hand key s = where_carried carry hand key s (denial_of s.crew hand key)
 
-press_carried : {holds : LiveState → List Act → LiveState → Type 0} → Carries holds
-    → (key : Option Key) (s : LiveState) → Along holds (press_course key s) s
+press_carried : {holds : LiveState → List Act → LiveState → Type 0} → Carries holds → (hand : ℕ)
+    (key : Option Key) (s : LiveState) → Along holds (press_course hand key s) s
 unfolding press_course key_course
-press_carried carry None s = carry.none s s (looks_same s)
-press_carried carry (Some key) s =
-    from_alike carry s (fitted s) (struck_course key (fitted s))
-    (looks_so s s.pending (fitted s).editor s.pace s.at)
-    (struck_carried carry key (fitted s))
+press_carried carry hand None s = carry.none s s (looks_same s)
+press_carried carry hand (Some key) s =
+    from_alike carry s (fitted s) (struck_course hand key (fitted s)) (looks_fitted s)
+    (struck_carried carry hand key (fitted s))
 
-item_carried : {holds : LiveState → List Act → LiveState → Type 0} → Carries holds
-    → (item : Item) (s : LiveState) → Along holds (item_course item s) s
+read_carried : {holds : LiveState → List Act → LiveState → Type 0} → Carries holds → (hand : ℕ)
+    (item : Item) (s : LiveState) → Along holds (read_course hand item s) s
+unfolding read_course
+read_carried carry hand item s =
+    let t : LiveState = record s { crew = turned_by s.setting.full hand item s.crew } in
+    let key = (turn s.setting.full (player_at s.crew hand).keys item).key in
+    from_alike carry s t (press_course hand key t)
+    (looks_so s t.crew s.pace s.at (length-set s.crew.players hand _))
+    (press_carried carry hand key t)
+
+item_carried : {holds : LiveState → List Act → LiveState → Type 0} → Carries holds → (hand : ℕ)
+    (item : Item) (s : LiveState) → Along holds (item_course hand item s) s
 unfolding item_course
-item_carried carry item s =
-    let t : LiveState = record s { pending = (turn s.setting.full s.pending item).pending } in
-    let key = (turn s.setting.full s.pending item).key in
-    from_alike carry s t (press_course key t) (looks_so s t.pending s.editor s.pace s.at)
-    (press_carried carry key t)
+item_carried {holds = holds} carry hand item s =
+    if_carried holds s (is_hand hand s) (read_course hand item s) (still s)
+    (read_carried carry hand item s) (carry.none s s (looks_same s))
 
-bytes_carried : {holds : LiveState → List Act → LiveState → Type 0} → Carries holds
-    → (bytes : List ℕ) (s : LiveState) → Along holds (each byte_course bytes s) s
+bytes_carried : {holds : LiveState → List Act → LiveState → Type 0} → Carries holds → (hand : ℕ)
+    (bytes : List ℕ) (s : LiveState) → Along holds (each (byte_course hand) bytes s) s
 unfolding byte_course
-bytes_carried {holds = holds} carry bytes s =
-    each-holds holds byte_course (λ t. carry.none t t (looks_same t)) carry.both
-    (λ byte t. item_carried carry (Byte byte) t) bytes s
+bytes_carried {holds = holds} carry hand bytes s =
+    each-holds holds (byte_course hand) (λ t. carry.none t t (looks_same t)) carry.both
+    (λ byte t. item_carried carry hand (Byte byte) t) bytes s
 
 -- ---- the clock
 
@@ -178,17 +206,24 @@ frame_carried : {holds : LiveState → List Act → LiveState → Type 0} → Ca
 unfolding frame_course onward
 frame_carried {holds = holds} carry s =
     let next : LiveState → Course LiveState Stop = λ (t : LiveState). still (fired t) in
-    let c = command_course Frame s in
+    let c = command_course NOBODY Frame s in
     if_carried holds s (is_full s) (ended Full s) (onward c next) (carry.none s s (looks_same s))
-    (onward_carried carry s c.ending c next (carry.command Frame s)
-    (λ t. carry.none t (fired t) (looks_so t t.pending t.editor (fired t).pace t.at)))
+    (onward_carried carry s c.ending c next (carry.command NOBODY Frame s)
+    (λ t. carry.none t (fired t) (looks_so t t.crew (fired t).pace t.at refl)))
+
+lull_carried : {holds : LiveState → List Act → LiveState → Type 0} → Carries holds
+    → (s : LiveState) → Along holds (lull_course s) s
+unfolding lull_course
+lull_carried {holds = holds} carry s =
+    each-holds holds (λ hand. item_course hand Due) (λ t. carry.none t t (looks_same t)) carry.both
+    (λ hand t. item_carried carry hand Due t) (hands_of s) s
 
 due_carried : {holds : LiveState → List Act → LiveState → Type 0} → Carries holds
     → (s : LiveState) → Along holds (due_course s) s
 unfolding due_course onward
 due_carried carry s =
-    let c = item_course Due s in
-    onward_carried carry s c.ending c frame_course (item_carried carry Due s)
+    let c = lull_course s in
+    onward_carried carry s c.ending c frame_course (lull_carried carry s)
     (frame_carried carry)
 
 -- ---- what is shown
@@ -197,8 +232,7 @@ paint_carried : {holds : LiveState → List Act → LiveState → Type 0} → Ca
     → (marks : List MarkSet) (s : LiveState) → Along holds (paint_course marks s) s
 unfolding paint_course
 paint_carried carry marks s =
-    from_alike carry s (fitted s) (painted_course marks (fitted s))
-    (looks_so s s.pending (fitted s).editor s.pace s.at)
+    from_alike carry s (fitted s) (painted_course marks (fitted s)) (looks_fitted s)
     (carry.paint marks (fitted s))
 
 show_carried : {holds : LiveState → List Act → LiveState → Type 0} → Carries holds
@@ -211,16 +245,13 @@ show_carried carry s = paint_carried carry (preview_of (piece_at s)) s
 pub answer_carried : {holds : LiveState → List Act → LiveState → Type 0} → Carries holds
     → (a : Answer) (bytes : List ℕ) (s : LiveState) → Along holds (answer_course a bytes s) s
 unfolding answer_course
-answer_carried {holds = holds} carry (answer.Bytes hand count at) bytes s =
+answer_carried carry (answer.Bytes hand count at) bytes s =
     let t = answered_at at s in
-    let alike : LooksAlike s t = looks_so s s.pending s.editor s.pace at in
-    if_carried holds s (hand == 0) (each byte_course bytes t) (still t)
-    (from_alike carry s t (each byte_course bytes t) alike (bytes_carried carry bytes t))
-    (carry.none s t alike)
+    from_alike carry s t (each (byte_course hand) bytes t) (looks_so s s.crew s.pace at refl)
+    (bytes_carried carry hand bytes t)
 answer_carried carry (answer.Due at) bytes s =
     let t = answered_at at s in
-    from_alike carry s t (due_course t) (looks_so s s.pending s.editor s.pace at)
-    (due_carried carry t)
+    from_alike carry s t (due_course t) (looks_so s s.crew s.pace at refl) (due_carried carry t)
 answer_carried carry answer.End bytes s = carry.none s s (looks_same s)
 answer_carried carry answer.Failed bytes s = carry.none s s (looks_same s)
 

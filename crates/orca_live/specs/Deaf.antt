@@ -13,9 +13,10 @@ use Rattle.orca_course.proofs.ActLemmas.{AreDeaf-append, AreDeaf-gives}
 use Rattle.orca_course.specs.Standings.{notes_of, standing_after, standing_closed}
 use Rattle.orca_course.specs.declared.ending.Stop.{Stop}
 use Rattle.orca_edit.specs.Obeying.{obey}
+use Rattle.orca_jam.specs.declared.denial.Denial.{Denial}
 use Rattle.orca_notes.specs.Sound.{ends}
 use Rattle.orca_term.specs.Viewing.{painting_bytes}
-use Rattle.orca_live.specs.Performing.{additions, close_course, command_course, header_course, if_named, journal_course, lines_course, live_part, painted_course, picture_at, view_sends, write_course}
+use Rattle.orca_live.specs.Performing.{additions, close_course, command_course, denied_course, header_course, if_named, journal_course, lines_course, live_part, painted_course, picture_at, view_sends, write_course}
 use Rattle.orca_live.specs.States.{LiveState}
 use Rattle.orca_live.specs.Carrying.{Carries, finish_carried, heard_carried, open_carried}
 
@@ -30,11 +31,17 @@ deaf_views : (bytes : List ℕ) (acts : List Act) → AreDeaf acts → AreDeaf (
 deaf_views [] acts deaf = deaf
 deaf_views (byte ∷ bytes) acts deaf = deaf
 
-command_deaf : (command : Command) (s : LiveState) → AreDeaf (command_course command s).acts
+command_deaf : (who : ℕ) (command : Command) (s : LiveState)
+    → AreDeaf (command_course who command s).acts
 unfolding command_course obey_course onward mapped
-command_deaf command s =
+command_deaf who command s =
     let o = obey s.standing.machine command in
     deaf_handed (handed_of true o.messages) (Stand (standing_after s.standing o) ∷ []) tt
+
+denied_deaf : (hand : ℕ) (denial : Denial) (s : LiveState)
+    → AreDeaf (denied_course hand denial s).acts
+unfolding denied_course
+denied_deaf hand denial s = tt
 
 close_deaf : (s : LiveState) → AreDeaf (close_course s).acts
 unfolding close_course silence_course onward mapped
@@ -73,6 +80,7 @@ deaf_carries = record {
   none = λ s t alike. tt;
   both = λ r s t xs ys first second. AreDeaf-append xs ys first second;
   command = command_deaf;
+  denied = denied_deaf;
   save = λ name bytes s saved. tt;
   write = write_deaf;
   paint = paint_deaf;

@@ -1,23 +1,28 @@
--- What the reader of keys is given by polls.
-use Rattle.std.specs.Prelude.{ℕ, ◌==◌, not, if◌then◌else◌, List, [], ◌∷◌, ◌++◌, map, count_by}
+-- What the hands of a performance are heard to do by polls.
+use Rattle.std.specs.Prelude.{ℕ, not, nat_lt, if◌then◌else◌, List, [], ◌∷◌, ◌++◌, map, count_by}
 use Rattle.orca_rig.specs.Arrived.{is_ending}
 use Rattle.orca_trace.specs.Calls.{Poll}
 use Rattle.orca_rig.specs.declared.inbox.Answer.{Answer}
 use Rattle.orca_rig.specs.declared.inbox.Answer.TheVariants as answer
-use Rattle.orca_term.specs.Keys.{Byte, Due, Item}
 
--- an answer, and then the rest: each byte of the first hand is an item, and so is a due frame
-abbrev pub items_by : Answer → List ℕ → List Item → List Item
-items_by (answer.Bytes hand count at) bytes rest =
-    if hand == 0 then map Byte bytes ++ rest else rest
-items_by (answer.Due at) bytes rest = Due ∷ rest
-items_by answer.End bytes rest = []
-items_by answer.Failed bytes rest = []
+-- a byte of a hand, or a due frame
+pub data HeardItem : Type 0 where
+  ByteOf : (hand byte : ℕ) → HeardItem
+  FrameDue : HeardItem
+
+-- an answer, and then the rest, where so many hands are heard: each of their bytes is an item, and
+-- so is a due frame
+abbrev pub items_by : ℕ → Answer → List ℕ → List HeardItem → List HeardItem
+items_by hands (answer.Bytes hand count at) bytes rest =
+    if nat_lt hand hands then map (ByteOf hand) bytes ++ rest else rest
+items_by hands (answer.Due at) bytes rest = FrameDue ∷ rest
+items_by hands answer.End bytes rest = []
+items_by hands answer.Failed bytes rest = []
 
 -- the items of polls, up to the first one that ends them
-abbrev pub items_of : List Poll → List Item
-items_of [] = []
-items_of (poll ∷ polls) = items_by poll.answer poll.bytes (items_of polls)
+abbrev pub items_of : ℕ → List Poll → List HeardItem
+items_of hands [] = []
+items_of hands (poll ∷ polls) = items_by hands poll.answer poll.bytes (items_of hands polls)
 
 -- how many polls were answered by bytes or a due frame
 abbrev pub turns_of : List Poll → ℕ

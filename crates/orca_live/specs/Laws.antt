@@ -1,6 +1,6 @@
 -- Laws of performances: more answers only add acts; how bytes were cut into answers changes no
 -- command; and the script that is saved, done again, leads to the same session.
-use Rattle.std.specs.Prelude.{◌≡◌, ◌≢◌, ℕ, List, [], ◌++◌, Some, None, Result}
+use Rattle.std.specs.Prelude.{◌≡◌, ◌≢◌, ℕ, List, length, [], ◌++◌, Some, None, Result}
 use Rattle.orca_base.specs.declared.command.Command.{Command}
 use Rattle.orca_base.specs.declared.command.Reply.{Reply}
 use Rattle.orca_base.specs.declared.command.Rule.{Rule}
@@ -41,13 +41,12 @@ abbrev pub OnlyAppends : Type 0
 OnlyAppends =
     (polls more : List Poll) (s : LiveState) → Extends (so_far s polls) (so_far s (polls ++ more))
 
--- two states with the same setting, session, keys, editor, screen and kept commands; moments, the
--- pace and what is shown may differ
+-- two states with the same setting, session, hands, screen and kept commands; moments, the pace and
+-- what is shown may differ
 pub record AreAlike (s t : LiveState) : Type 0 where
   pub setting : s.setting ≡ t.setting
   pub standing : s.standing ≡ t.standing
-  pub pending : s.pending ≡ t.pending
-  pub editor : s.editor ≡ t.editor
+  pub crew : s.crew ≡ t.crew
   pub screen : s.screen ≡ t.screen
   pub given : s.given ≡ t.given
 
@@ -57,11 +56,12 @@ pub record PlayAlike (c d : Course LiveState Ending) : Type 0 where
   pub given : c.state.given ≡ d.state.given
   pub commands : commands_in c.acts ≡ commands_in d.acts
 
--- how the same items were cut into answers changes no command
+-- how the same items of the hands that are heard were cut into answers changes no command
 abbrev pub ItemsDecide : Type 0
 ItemsDecide =
     (polls others : List Poll) (s t : LiveState)
-    → items_of polls ≡ items_of others → AreAlike s t
+    → let hands = length s.crew.players in
+    items_of hands polls ≡ items_of hands others → AreAlike s t
     → HasEnded (whole s polls) → HasEnded (whole t others)
     → PlayAlike (whole s polls) (whole t others)
 

@@ -1,9 +1,10 @@
 -- The definition of a performance: what is done for a key, a byte, a due frame, an answer of the
 -- inbox, and at the end.
-use Rattle.std.specs.Prelude.{ℕ, ◌==◌, if◌then◌else◌, List, [], ◌∷◌, ◌++◌, Option, Some, None, unwrap_or}
+use Rattle.std.specs.Prelude.{ℕ, nat_le, if◌then◌else◌, List, [], ◌∷◌, ◌++◌, length, Option, Some, None, unwrap_or}
 use Rattle.std.specs.Option.{option_map}
 use Rattle.orca_base.specs.declared.command.Command.{Command}
 use Rattle.orca_base.specs.declared.command.Command.TheVariants.{Frame}
+use Rattle.orca_base.specs.declared.command.Rule.{Rule}
 use Rattle.orca_base.specs.declared.port.Port.TheVariants as port
 use Rattle.orca_base.specs.MarkSet.{MarkSet}
 use Rattle.orca_concert.specs.Concerts.{Concert, concert, close_course as silence_course, command_course as obey_course}
@@ -11,16 +12,20 @@ use Rattle.orca_course.specs.Acts.{Act}
 use Rattle.orca_course.specs.Acts.Act.{Append, Give, Save, Screen, Show}
 use Rattle.orca_course.specs.Courses.{Course, course, each, ended, joined, mapped, onward, still}
 use Rattle.orca_course.specs.Performers.{Part}
+use Rattle.orca_course.specs.Standings.{Standing}
 use Rattle.orca_course.specs.declared.ending.Stop.{Stop}
 use Rattle.orca_course.specs.declared.ending.Stop.TheVariants.{Full, Left}
 use Rattle.orca_edit.specs.Machines.{preview_of}
 use Rattle.orca_edit.specs.Prices.{preview_price}
 use Rattle.orca_grid.specs.GridText.{text_of}
+use Rattle.orca_jam.specs.Crews.{CrewState, asked, denial_of, player_at, struck_by, took_by, turned_by}
+use Rattle.orca_jam.specs.Denials.{denial_line}
+use Rattle.orca_jam.specs.declared.denial.Denial.{Denial}
+use Rattle.orca_jam.specs.declared.owner.TheConstants.{NOBODY}
 use Rattle.orca_rig.specs.declared.inbox.Answer.{Answer}
 use Rattle.orca_rig.specs.declared.inbox.Answer.TheVariants as answer
 use Rattle.orca_script.specs.Canonical.{printed}
 use Rattle.orca_script.specs.Runs.{printed_header, printed_script}
-use Rattle.orca_term.specs.Editing.{editor_after, wish_of}
 use Rattle.orca_term.specs.Keys.{Byte, Due, Item, turn}
 use Rattle.orca_term.specs.Pacing.{due_after, faster, pace_from, retimed, slower}
 use Rattle.orca_term.specs.Picture.{picture, scene_of, screen_inside}
@@ -31,7 +36,7 @@ use Rattle.orca_term.specs.declared.editor.Wish.{Wish}
 use Rattle.orca_term.specs.declared.editor.Wish.TheVariants as wish
 use Rattle.orca_term.specs.declared.keys.Key.{Key}
 use Rattle.orca_live.specs.Quiet.{silent_manner}
-use Rattle.orca_live.specs.States.{LiveState, around_at, fitted, is_full, key_name, line_at, live_stance, piece_at, until_at}
+use Rattle.orca_live.specs.States.{LiveState, around_at, fitted, hands_of, is_full, is_hand, key_name, leader_at, line_at, live_stance, piece_at, until_at}
 
 -- what is done under a name, if there is one
 abbrev pub if_named : Option (List ℕ) → (List ℕ → LiveState → Course LiveState Stop) → LiveState
@@ -59,10 +64,24 @@ keeping_command command s = record s {
   unwritten = noted s.setting.journal command s.unwritten;
 }
 
--- a command is done
-unfoldable pub command_course : Command → LiveState → Course LiveState Stop
-command_course command s =
-    of_session (obey_course silent_manner 0 command) (keeping_command command s)
+-- the hands after a command of one, or of nobody, which this rule refused, if one did, where the
+-- history has n entries then. Whose they are is kept as far as there is room
+abbrev pub owning : ℕ → Command → Option Rule → ℕ → CrewState → CrewState
+owning who command (Some rule) n c = c
+owning who command None n c = if nat_le n c.room then took_by who command n c else c
+
+-- a command of a hand, or of nobody, is kept, and led the session there
+abbrev pub obeyed : ℕ → Command → LiveState → Standing → LiveState
+obeyed who command s at = record (keeping_command command s) {
+  standing = at;
+  crew = owning who command at.tally.note (length at.machine.history) s.crew;
+}
+
+-- a command of a hand, or of nobody, is done
+unfoldable pub command_course : ℕ → Command → LiveState → Course LiveState Stop
+command_course who command s =
+    mapped (λ t. obeyed who command s t.standing) (λ end. end)
+    (obey_course silent_manner 0 command (concert s.standing tt))
 
 -- the grid is saved under this name
 unfoldable pub save_course : List ℕ → LiveState → Course LiveState Stop
@@ -104,7 +123,7 @@ write_course s = if_named s.setting.journal lines_course s
 
 -- the pause has changed: a pacer starts where the performance goes on, at the tempo that it has
 abbrev pub toggled : LiveState → LiveState
-toggled s = if s.editor.paused then s else record s { pace = pace_from s.pace.bpm s.at }
+toggled s = if (leader_at s).paused then s else record s { pace = pace_from s.pace.bpm s.at }
 
 -- the pacer takes another tempo
 abbrev pub paced : ℕ → LiveState → LiveState
@@ -114,41 +133,58 @@ paced bpm s = record s { pace = retimed bpm s.pace }
 abbrev pub redrawn : ScreenSize → LiveState → Course LiveState Stop
 redrawn d s = course (Screen d ∷ []) 0 (record s { screen = d; shown = None })
 
--- what a key asks for, once the editor has changed
-unfoldable pub wish_course : Wish → LiveState → Course LiveState Stop
-wish_course wish.Nothing s = still s
-wish_course (wish.Do command) s = command_course command s
-wish_course wish.Toggle s = still (toggled s)
-wish_course wish.Save s = save_course (key_name s.setting) s
-wish_course wish.Quit s = ended Left s
-wish_course (wish.Slower beats) s = still (paced (slower beats s.pace.bpm) s)
-wish_course (wish.Faster beats) s = still (paced (faster beats s.pace.bpm) s)
-wish_course (wish.Redraw size) s = redrawn (screen_inside (unwrap_or size s.screen)) s
+-- what a key of a hand asks for, once its editor has changed
+unfoldable pub wish_course : ℕ → Wish → LiveState → Course LiveState Stop
+wish_course hand wish.Nothing s = still s
+wish_course hand (wish.Do command) s = command_course hand command s
+wish_course hand wish.Toggle s = still (toggled s)
+wish_course hand wish.Save s = save_course (key_name s.setting) s
+wish_course hand wish.Quit s = ended Left s
+wish_course hand (wish.Slower beats) s = still (paced (slower beats s.pace.bpm) s)
+wish_course hand (wish.Faster beats) s = still (paced (faster beats s.pace.bpm) s)
+wish_course hand (wish.Redraw size) s = redrawn (screen_inside (unwrap_or size s.screen)) s
 
--- a key, where the editor is fitted to the grid
-unfoldable pub struck_course : Key → LiveState → Course LiveState Stop
-struck_course key s =
-    wish_course (wish_of key (around_at s) s.editor)
-    (record s { editor = editor_after key (around_at s) s.editor })
+-- a hand is told why its key is denied
+abbrev pub telling : ℕ → Denial → Act
+telling hand denial = Give (record { port = port.Fault; bytes = denial_line hand denial })
 
--- a key
-unfoldable pub key_course : Key → LiveState → Course LiveState Stop
-key_course key s = struck_course key (fitted s)
+unfoldable pub denied_course : ℕ → Denial → LiveState → Course LiveState Stop
+denied_course hand denial s = course (telling hand denial ∷ []) 0 s
 
--- the key that was ended, if any
-unfoldable pub press_course : Option Key → LiveState → Course LiveState Stop
-press_course None s = still s
-press_course (Some key) s = key_course key s
+-- a key of a hand, where the editors are fitted to the grid, and why it is denied, if it is
+abbrev pub struck_where : ℕ → Key → LiveState → Option Denial → Course LiveState Stop
+struck_where hand key s (Some denial) = denied_course hand denial s
+struck_where hand key s None =
+    let around = around_at hand s in
+    wish_course hand (asked s.crew hand key around)
+    (record s { crew = struck_by hand key around s.crew })
 
--- the reader of keys is given an item: a byte, or that nothing came for a while
-unfoldable pub item_course : Item → LiveState → Course LiveState Stop
-item_course item s =
-    press_course (turn s.setting.full s.pending item).key
-    (record s { pending = (turn s.setting.full s.pending item).pending })
+-- a key of a hand, where the editors are fitted to the grid
+unfoldable pub struck_course : ℕ → Key → LiveState → Course LiveState Stop
+struck_course hand key s = struck_where hand key s (denial_of s.crew hand key)
 
--- a byte
-unfoldable pub byte_course : ℕ → LiveState → Course LiveState Stop
-byte_course byte s = item_course (Byte byte) s
+-- a key of a hand
+unfoldable pub key_course : ℕ → Key → LiveState → Course LiveState Stop
+key_course hand key s = struck_course hand key (fitted s)
+
+-- the key of a hand that was ended, if any
+unfoldable pub press_course : ℕ → Option Key → LiveState → Course LiveState Stop
+press_course hand None s = still s
+press_course hand (Some key) s = key_course hand key s
+
+-- the reader of a hand is given an item: a byte, or that nothing came for a while
+unfoldable pub read_course : ℕ → Item → LiveState → Course LiveState Stop
+read_course hand item s =
+    press_course hand (turn s.setting.full (player_at s.crew hand).keys item).key
+    (record s { crew = turned_by s.setting.full hand item s.crew })
+
+-- an item of a hand. What comes of a hand that there is not is dropped
+unfoldable pub item_course : ℕ → Item → LiveState → Course LiveState Stop
+item_course hand item s = if is_hand hand s then read_course hand item s else still s
+
+-- a byte of a hand
+unfoldable pub byte_course : ℕ → ℕ → LiveState → Course LiveState Stop
+byte_course hand byte s = item_course hand (Byte byte) s
 
 -- ---- the clock
 
@@ -159,11 +195,17 @@ fired s = record s { pace = record s.pace { due = due_after s.pace s.at } }
 -- a frame is played; a full history ends the performance
 unfoldable pub frame_course : LiveState → Course LiveState Stop
 frame_course s =
-    if is_full s then ended Full s else onward (command_course Frame s) (λ t. still (fired t))
+    if is_full s then ended Full s
+    else onward (command_course NOBODY Frame s) (λ t. still (fired t))
 
--- a frame is due: an ESC that stands alone is a key, and then the frame is played
+-- nothing came for a while: an ESC of each hand that stands alone is a key, in the order of the
+-- hands
+unfoldable pub lull_course : LiveState → Course LiveState Stop
+lull_course s = each (λ hand. item_course hand Due) (hands_of s) s
+
+-- a frame is due: nothing came for a while, and then the frame is played
 unfoldable pub due_course : LiveState → Course LiveState Stop
-due_course s = onward (item_course Due s) frame_course
+due_course s = onward (lull_course s) frame_course
 
 -- ---- what is shown
 
@@ -172,12 +214,12 @@ abbrev pub view_sends : List ℕ → List Act
 view_sends [] = []
 view_sends bytes = Give (record { port = port.View; bytes = bytes }) ∷ []
 
--- the picture with these marks
+-- the picture of the first hand, with these marks
 abbrev pub picture_at : List MarkSet → LiveState → List Cell
 picture_at marks s =
-    picture s.screen (scene_of (piece_at s).sheet marks s.editor) (line_at s)
+    picture s.screen (scene_of (piece_at s).sheet marks (leader_at s)) (line_at s)
 
--- the picture with these marks is painted, where the editor is fitted to the grid
+-- the picture with these marks is painted, where the editors are fitted to the grid
 unfoldable pub painted_course : List MarkSet → LiveState → Course LiveState Stop
 painted_course marks s =
     let cells = picture_at marks s in
@@ -202,11 +244,10 @@ show_course s = joined (preview_course s) (paint_course (preview_of (piece_at s)
 abbrev pub answered_at : ℕ → LiveState → LiveState
 answered_at at s = record s { at = at }
 
--- what an answer brings; the bytes of other hands are dropped. The loop asks nothing of an answer
--- that ends the performance
+-- what an answer brings. The loop asks nothing of an answer that ends the performance
 unfoldable pub answer_course : Answer → List ℕ → LiveState → Course LiveState Stop
 answer_course (answer.Bytes hand count at) bytes s =
-    if hand == 0 then each byte_course bytes (answered_at at s) else still (answered_at at s)
+    each (byte_course hand) bytes (answered_at at s)
 answer_course (answer.Due at) bytes s = due_course (answered_at at s)
 answer_course answer.End bytes s = still s
 answer_course answer.Failed bytes s = still s

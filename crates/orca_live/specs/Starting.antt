@@ -2,21 +2,18 @@
 use Rattle.std.specs.Prelude.{ℕ, [], None}
 use Rattle.std.specs.Option.{option_map}
 use Rattle.orca_course.specs.Standings.{Standing}
+use Rattle.orca_jam.specs.Crews.{CrewState}
 use Rattle.orca_live.specs.States.{LiveState, Setting}
-use Rattle.orca_term.specs.Editing.{new_editor}
 use Rattle.orca_term.specs.Pacing.{pace_from}
 use Rattle.orca_term.specs.declared.cell.ScreenSize.{ScreenSize}
-use Rattle.orca_term.specs.declared.keys.Pending.TheVariants.{Nothing}
 
--- no key was read, the cursor stands on the first place, the guide shows if the full keys are read,
 -- a pacer starts at this moment, nothing was painted, and no command was given, so none waits for
 -- the journal
-abbrev pub live_at_start : Setting → ScreenSize → ℕ → Standing → LiveState
-live_at_start set screen at standing = record {
+abbrev pub live_at_start : Setting → CrewState → ScreenSize → ℕ → Standing → LiveState
+live_at_start set crew screen at standing = record {
   setting = set;
   standing = standing;
-  pending = Nothing;
-  editor = new_editor set.full;
+  crew = crew;
   pace = pace_from set.bpm at;
   screen = screen;
   shown = None;

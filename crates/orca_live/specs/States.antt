@@ -1,6 +1,7 @@
--- Where a performance stands: its setting, the session, the keys, the editor, the pacer, what is
--- shown, the commands that are kept for the script, and the lines that wait for the journal.
-use Rattle.std.specs.Prelude.{ℕ, Bool, true, nat_le, if◌then◌else◌, List, length, Option, Some, None, unwrap_or, Result}
+-- Where a performance stands: its setting, the session, the hands, the pacer, what is shown, the
+-- commands that are kept for the script, and the lines that wait for the journal.
+use Rattle.std.specs.Prelude.{ℕ, Bool, true, nat_le, nat_lt, if◌then◌else◌, List, length, Option, Some, None, unwrap_or, Result}
+use Rattle.std.specs.List.{range_with_len}
 use Rattle.std.specs.Option.{option_map}
 use Rattle.orca_base.specs.declared.command.Command.{Command}
 use Rattle.orca_base.specs.Grids.{Size, glyph_at}
@@ -15,15 +16,15 @@ use Rattle.orca_edit.specs.Obeying.{MachineState, piece_of}
 use Rattle.orca_edit.specs.Pieces.{Piece}
 use Rattle.orca_edit.specs.Prices.{Kept}
 use Rattle.orca_edit.specs.declared.machine.Machine.{Ghosts}
+use Rattle.orca_jam.specs.Crews.{CrewState, fitted_crew, player_at}
+use Rattle.orca_jam.specs.declared.crew.TheConstants.{LEADER}
 use Rattle.orca_live.specs.declared.live.Live.{Live}
 use Rattle.orca_live.specs.declared.setting.Setting.{Setting as HeldSetting}
-use Rattle.orca_term.specs.Editing.{editor_inside}
 use Rattle.orca_term.specs.Pacing.{Pace}
 use Rattle.orca_term.specs.declared.around.Around.{Around}
 use Rattle.orca_term.specs.declared.cell.Cell.{Cell}
 use Rattle.orca_term.specs.declared.cell.ScreenSize.{ScreenSize}
 use Rattle.orca_term.specs.declared.editor.Editor.{Editor}
-use Rattle.orca_term.specs.declared.keys.Pending.{Pending}
 use Rattle.orca_term.specs.declared.status.StatusLine.{StatusLine}
 
 -- the tempo in beats a minute at the start, the seed of the random operator, the name of the grid's
@@ -57,8 +58,8 @@ key_name set = unwrap_or set.save set.grid
 pub record LiveState : Type 0 where
   pub setting : Setting
   pub standing : Standing
-  pub pending : Pending
-  pub editor : Editor
+  -- the keys and the editor of each hand, and whose each entry of the history is
+  pub crew : CrewState
   pub pace : Pace
   pub screen : ScreenSize
   -- the last picture, if one was painted
@@ -75,8 +76,7 @@ abbrev pub state_of : {M : Type 0} → MachineState → Kept → Live M → Live
 state_of machine kept live = record {
   setting = setting_in live.setting;
   standing = standing machine kept live.stage.tally;
-  pending = live.keys;
-  editor = live.editor;
+  crew = live.crew;
   pace = live.pacer;
   screen = live.view.size;
   shown = live.view.last;
@@ -112,10 +112,27 @@ dims_at s = (piece_at s).sheet.dims
 abbrev pub moments_at : LiveState → ℕ
 moments_at s = length s.standing.machine.history
 
--- what a key is told, where the editor is fitted to the grid
-abbrev pub around_at : LiveState → Around
-around_at s =
-    let at : Place = record { y = s.editor.y; x = s.editor.x } in
+-- there is such a hand
+abbrev pub is_hand : ℕ → LiveState → Bool
+is_hand hand s = nat_lt hand (length s.crew.players)
+
+-- the hands, in their order
+abbrev pub hands_of : LiveState → List ℕ
+hands_of s = range_with_len 0 (length s.crew.players)
+
+-- the editor of a hand
+abbrev pub editor_at : ℕ → LiveState → Editor
+editor_at hand s = (player_at s.crew hand).editor
+
+-- that of the first one, whose picture is shown and whose pause holds
+abbrev pub leader_at : LiveState → Editor
+leader_at s = editor_at LEADER s
+
+-- what a key of a hand is told, where the editors are fitted to the grid
+abbrev pub around_at : ℕ → LiveState → Around
+around_at hand s =
+    let e = editor_at hand s in
+    let at : Place = record { y = e.y; x = e.x } in
     record {
       dims = dims_at s;
       moments = moments_at s;
@@ -123,15 +140,15 @@ around_at s =
       screen = s.screen;
     }
 
--- the editor is fitted to the grid
+-- every editor is fitted to the grid
 abbrev pub fitted : LiveState → LiveState
-fitted s = record s { editor = editor_inside (dims_at s) s.editor }
+fitted s = record s { crew = fitted_crew (dims_at s) s.crew }
 
 -- the history has as many entries as it may have
 abbrev pub is_full : LiveState → Bool
 is_full s = nat_le s.standing.machine.limit (moments_at s)
 
--- what the status line tells besides the editor
+-- what the status line tells besides the first hand's editor
 abbrev pub line_at : LiveState → StatusLine
 line_at s = record {
   tick = (piece_at s).tick;
@@ -143,4 +160,4 @@ line_at s = record {
 
 -- the moment that a poll waits for: that of the next frame, and none while paused
 abbrev pub until_at : LiveState → Option ℕ
-until_at s = if s.editor.paused then None else Some s.pace.due
+until_at s = if (leader_at s).paused then None else Some s.pace.due

@@ -1,13 +1,15 @@
 //! What a due moment does.
 
-ghost use Rattle.orca_live.specs.Performing.{due_course, frame_course};
+ghost use Rattle.orca_live.specs.Performing.{due_course, frame_course, item_course, lull_course};
 ghost use Rattle.orca_live.specs.States.{Did};
+ghost use Rattle.orca_term.specs.Keys.{Due};
 
 use crate::Live;
 use crate::keyboard::{do_command, press};
 use orca_base::Command;
 use orca_course::{Desk, NoMemory, Stop};
 use orca_edit::Machine;
+use orca_jam::NOBODY;
 use orca_rig::House;
 
 /// Plays a frame; a full history ends the performance.
@@ -21,20 +23,51 @@ fn do_frame<M: Machine, H: House>(
     if live.is_full() {
         return Ok(Some(Stop::Full));
     }
-    do_command(live, desk, &Command::Frame)?;
+    do_command(live, desk, NOBODY, &Command::Frame)?;
     live.pacer.fired(live.at);
     Ok(None)
 }
 
-/// A frame is due: an ESC that stands alone is a key, and then the frame is played.
+/// Nothing came of a hand for a while: an ESC that stands alone is a key.
+#[tactic(auto, using(orca_course::proofs::WorldLemmas::called_still, crate::proofs::DoneLemmas::read_did), unfolding(crate::specs::Performing::item_course))]
+fn do_item<M: Machine, H: House>(
+    live: &mut Live<'_, M>,
+    desk: &mut Desk<H>,
+    hand: u8,
+) -> Result<Option<Stop>, NoMemory>
+    ensures { Did M.Machine.own (item_course hand Due) live.old desk.old result live.new desk.new }
+{
+    if hand >= live.crew.hands() {
+        return Ok(None);
+    }
+    let key = live.crew.due(hand);
+    press(live, desk, hand, key)
+}
+
+/// Nothing came for a while, of the hands in their order.
+#[tactic(auto, using(orca_course::proofs::DoingLemmas::far_more, orca_course::proofs::DoingLemmas::far_none, orca_course::proofs::DoingLemmas::far_over, std::proofs::lemmas::List::drop_all, std::proofs::lemmas::List::drop_more))]
+fn do_lull<M: Machine, H: House>(
+    live: &mut Live<'_, M>,
+    desk: &mut Desk<H>,
+) -> Result<Option<Stop>, NoMemory>
+    ensures { Did M.Machine.own lull_course live.old desk.old result live.new desk.new }
+{
+    for hand in 0..live.crew.hands() {
+        if let Some(stop) = do_item(live, desk, hand)? {
+            return Ok(Some(stop));
+        }
+    }
+    Ok(None)
+}
+
+/// A frame is due: nothing came for a while, and then the frame is played.
 pub(crate) fn do_due<M: Machine, H: House>(
     live: &mut Live<'_, M>,
     desk: &mut Desk<H>,
 ) -> Result<Option<Stop>, NoMemory>
     ensures { Did M.Machine.own due_course live.old desk.old result live.new desk.new }
 {
-    let key = live.keys.due();
-    if let Some(stop) = press(live, desk, key)? {
+    if let Some(stop) = do_lull(live, desk)? {
         return Ok(Some(stop));
     }
     do_frame(live, desk)

@@ -1,26 +1,27 @@
 //! What keys and the commands that they ask for do.
 
-ghost use Rattle.std.specs.Prelude.{◌≡◌, [], ◌∷◌, ◌++◌, IfErr, None, OnOk, unwrap_or};
+ghost use Rattle.std.specs.Prelude.{◌≡◌, ◌<◌, ℕ, [], ◌∷◌, ◌++◌, length, IfErr, None, OnOk, unwrap_or};
 ghost use Rattle.std.specs.Option.{option_map};
 ghost use Rattle.orca_base.specs.Areas.{IsArea};
 ghost use Rattle.orca_course.specs.Courses.{each};
 ghost use Rattle.orca_term.specs.Editing.{area_of};
-ghost use Rattle.orca_term.specs.Keys.{Byte, turn};
 ghost use Rattle.orca_term.specs.Pacing.{faster, retimed, slower};
 ghost use Rattle.orca_term.specs.Picture.{screen_inside};
 ghost use Rattle.orca_course.specs.Doing.{goes_of};
-ghost use Rattle.orca_live.specs.Performing.{byte_course, command_course, key_course, press_course, struck_course, wish_course};
-ghost use Rattle.orca_live.specs.States.{Did, around_at, dims_at, fitted, live_state};
+ghost use Rattle.orca_course.specs.Worlds.{Called};
+ghost use Rattle.orca_live.specs.Performing.{byte_course, command_course, owning, press_course, struck_course, telling, wish_course};
+ghost use Rattle.orca_live.specs.States.{Did, around_at, dims_at, editor_at, fitted, live_state};
 
 use crate::Live;
 use crate::journal::note;
 use crate::saving::save_grid;
 use orca_base::limits::MAX_BPM;
-use orca_base::{Command, Look, Place};
+use orca_base::{Command, Look, Place, Port, Rule};
 use orca_course::{Desk, NoMemory, Stop};
 use orca_edit::Machine;
+use orca_jam::{Crew, Denial};
 use orca_rig::House;
-use orca_term::{Around, Key, Keys, Pacer, ScreenSize, View, Wish};
+use orca_term::{Around, Key, Pacer, ScreenSize, View, Wish};
 
 /// Keeps a command for the script, if one is saved at the end.
 fn keep(given: &mut Option<Vec<Command>>, command: &Command) -> Result<(), NoMemory>
@@ -35,19 +36,35 @@ fn keep(given: &mut Option<Vec<Command>>, command: &Command) -> Result<(), NoMem
     Ok(())
 }
 
-/// Does a command, and keeps it for the script and the journal.
+/// Keeps whose the entries are after a command of a hand, unless a rule refused it, as far as there is
+/// room.
+fn own(crew: &mut Crew, who: u8, command: &Command, note: Option<Rule>, moments: u32)
+    ensures { crew.new ≡ owning who command.now note moments crew.old }
+{
+    if note.is_some() {
+        return;
+    }
+    if crew.has_room(moments) {
+        crew.took(who, command, moments);
+    }
+}
+
+/// Does a command of a hand, or of nobody, and keeps it for the script and the journal.
 #[tactic(auto, using(orca_course::proofs::DoingLemmas::goes_err, orca_course::proofs::DoingLemmas::does_nothing))]
 pub(crate) fn do_command<M: Machine, H: House>(
     live: &mut Live<'_, M>,
     desk: &mut Desk<H>,
+    who: u8,
     command: &Command,
 ) -> Result<(), NoMemory>
-    ensures { Did M.Machine.own (command_course command.now)
+    ensures { Did M.Machine.own (command_course who command.now)
         live.old desk.old (goes_of result) live.new desk.new }
 {
     keep(&mut live.given, command)?;
     note(live.setting.journal, command, &mut live.unwritten)?;
     live.stage.do_command(desk, 0, command)?;
+    let moments = live.stage.machine.moments();
+    own(&mut live.crew, who, command, live.stage.tally.note, moments);
     Ok(())
 }
 
@@ -76,23 +93,25 @@ fn redraw(view: &mut View, size: Option<ScreenSize>)
     view.begin_anew(size);
 }
 
-/// Does what a key asks for, once the editor has changed.
+/// Does what a key of a hand asks for, once its editor has changed.
 #[tactic(auto, using(orca_course::proofs::WorldLemmas::called_still, orca_course::proofs::DoingLemmas::does_err, crate::proofs::DoneLemmas::does_paced), unfolding(crate::specs::Performing::wish_course))]
 fn do_wish<M: Machine, H: House>(
     live: &mut Live<'_, M>,
     desk: &mut Desk<H>,
+    hand: u8,
     wish: &Wish,
 ) -> Result<Option<Stop>, NoMemory>
-    ensures { Did M.Machine.own (wish_course wish.now) live.old desk.old result live.new desk.new }
+    ensures { Did M.Machine.own (wish_course hand wish.now)
+        live.old desk.old result live.new desk.new }
 {
     match wish {
         Wish::Nothing => Ok(None),
         Wish::Do(command) => {
-            do_command(live, desk, command)?;
+            do_command(live, desk, hand, command)?;
             Ok(None)
         }
         Wish::Toggle => {
-            if !live.editor.paused {
+            if !live.crew.leader().paused {
                 live.pacer = Pacer::start(live.at, live.pacer.tempo());
             }
             Ok(None)
@@ -118,29 +137,32 @@ fn do_wish<M: Machine, H: House>(
     }
 }
 
-/// Fits the editor to the grid.
+/// Fits every editor to the grid.
 pub(crate) fn fit<M: Machine>(live: &mut Live<'_, M>)
     ensures fitted { live_state M.Machine.own live.new
         ≡ fitted (live_state M.Machine.own live.old) }
     ensures machine { live.new.stage.machine ≡ live.old.stage.machine }
     ensures inside { let t = live_state M.Machine.own live.new in
-        IsArea (dims_at t) (area_of t.editor) }
+        (hand : ℕ) → hand < length t.crew.players → IsArea (dims_at t) (area_of (editor_at hand t)) }
+    ensures hands { length live.new.crew.players ≡ length live.old.crew.players }
 {
     live.stage.machine.is_shown();
     let dims = Look::dims(&live.stage.machine);
-    live.editor.fit(dims);
+    live.crew.fit(dims);
 }
 
-/// What a key is told, where the editor is fitted to the grid.
-fn around<M: Machine>(live: &Live<'_, M>) -> Around
+/// What a key of a hand is told, where the editors are fitted to the grid.
+fn around<M: Machine>(live: &Live<'_, M>, hand: u8) -> Around
+    requires hand { hand < length live.now.crew.players }
     requires inside { let s = live_state M.Machine.own live.now in
-        IsArea (dims_at s) (area_of s.editor) }
-    ensures { result ≡ around_at (live_state M.Machine.own live.now) }
+        IsArea (dims_at s) (area_of (editor_at hand s)) }
+    ensures { result ≡ around_at hand (live_state M.Machine.own live.now) }
 {
     live.stage.machine.is_shown();
+    let editor = live.crew.editor(hand);
     let at = Place {
-        y: live.editor.y,
-        x: live.editor.x,
+        y: editor.y,
+        x: editor.x,
     };
     Around {
         dims: Look::dims(&live.stage.machine),
@@ -150,77 +172,87 @@ fn around<M: Machine>(live: &Live<'_, M>) -> Around
     }
 }
 
-/// Does what a key does, where the editor is fitted to the grid.
-#[tactic(auto, using(crate::proofs::DoneLemmas::struck_did))]
+/// Tells a hand why its key is denied.
+fn deny<H: House>(desk: &mut Desk<H>, hand: u8, denial: Denial) -> Result<(), NoMemory>
+    ensures { Called result (telling hand denial) desk.old desk.new }
+{
+    desk.send(Port::Fault, denial.line(hand).as_slice())
+}
+
+/// Does what a key of a hand does, where the editors are fitted to the grid.
+#[tactic(auto, using(crate::proofs::DoneLemmas::struck_asked, crate::proofs::DoneLemmas::struck_denied))]
 fn strike<M: Machine, H: House>(
     live: &mut Live<'_, M>,
     desk: &mut Desk<H>,
+    hand: u8,
     key: Key,
 ) -> Result<Option<Stop>, NoMemory>
+    requires hand { hand < length live.old.crew.players }
     requires inside { let s = live_state M.Machine.own live.old in
-        IsArea (dims_at s) (area_of s.editor) }
-    ensures { Did M.Machine.own (struck_course key) live.old desk.old result live.new desk.new }
+        IsArea (dims_at s) (area_of (editor_at hand s)) }
+    ensures { Did M.Machine.own (struck_course hand key)
+        live.old desk.old result live.new desk.new }
 {
-    let around = around(live);
-    let wish = live.editor.key(key, &around);
-    do_wish(live, desk, &wish)
+    let around = around(live, hand);
+    match live.crew.ask(hand, key, &around) {
+        Ok(wish) => do_wish(live, desk, hand, &wish),
+        Err(denial) => {
+            deny(desk, hand, denial)?;
+            Ok(None)
+        }
+    }
 }
 
-/// Does what the key does that was ended, if any was.
+/// Does what the key of a hand does that was ended, if any was.
 #[tactic(auto, using(orca_course::proofs::WorldLemmas::called_still, crate::proofs::DoneLemmas::press_some), unfolding(crate::specs::Performing::press_course))]
 pub(crate) fn press<M: Machine, H: House>(
     live: &mut Live<'_, M>,
     desk: &mut Desk<H>,
+    hand: u8,
     key: Option<Key>,
 ) -> Result<Option<Stop>, NoMemory>
-    ensures { Did M.Machine.own (press_course key) live.old desk.old result live.new desk.new }
+    requires hand { hand < length live.old.crew.players }
+    ensures { Did M.Machine.own (press_course hand key) live.old desk.old result live.new desk.new }
 {
     match key {
         None => Ok(None),
         Some(key) => {
             fit(live);
-            strike(live, desk, key)
+            strike(live, desk, hand, key)
         }
     }
 }
 
-/// The key that a byte ends, if any: of the full keys, or of the plain ones.
-fn feed(keys: &mut Keys, full: bool, byte: u8) -> Option<Key>
-    ensures key { result ≡ (turn full keys.old (Byte byte)).key }
-    ensures pending { keys.new ≡ (turn full keys.old (Byte byte)).pending }
-{
-    if full {
-        keys.feed_full(byte)
-    } else {
-        keys.feed(byte)
-    }
-}
-
-/// Reads a byte.
-#[tactic(auto, using(crate::proofs::DoneLemmas::item_did), unfolding(crate::specs::Performing::byte_course))]
+/// Reads a byte of a hand. What comes of a hand that there is not is dropped.
+#[tactic(auto, using(orca_course::proofs::WorldLemmas::called_still, crate::proofs::DoneLemmas::read_did), unfolding(crate::specs::Performing::byte_course, crate::specs::Performing::item_course))]
 fn do_byte<M: Machine, H: House>(
     live: &mut Live<'_, M>,
     desk: &mut Desk<H>,
+    hand: u8,
     byte: u8,
 ) -> Result<Option<Stop>, NoMemory>
-    ensures { Did M.Machine.own (byte_course byte) live.old desk.old result live.new desk.new }
+    ensures { Did M.Machine.own (byte_course hand byte) live.old desk.old result live.new desk.new }
 {
-    let key = feed(&mut live.keys, live.setting.full, byte);
-    press(live, desk, key)
+    if hand >= live.crew.hands() {
+        return Ok(None);
+    }
+    let key = live.crew.feed(live.setting.full, hand, byte);
+    press(live, desk, hand, key)
 }
 
-/// Reads bytes, one by one. Those after the end of the performance are dropped.
+/// Reads bytes of a hand, one by one. Those after the end of the performance are dropped.
 #[tactic(auto, using(orca_course::proofs::DoingLemmas::far_more, orca_course::proofs::DoingLemmas::far_none, orca_course::proofs::DoingLemmas::far_over, std::proofs::lemmas::List::drop_all, std::proofs::lemmas::List::drop_more))]
 pub(crate) fn do_bytes<M: Machine, H: House>(
     live: &mut Live<'_, M>,
     desk: &mut Desk<H>,
+    hand: u8,
     bytes: &[u8],
 ) -> Result<Option<Stop>, NoMemory>
-    ensures { Did M.Machine.own (each byte_course bytes.now)
+    ensures { Did M.Machine.own (each (byte_course hand) bytes.now)
         live.old desk.old result live.new desk.new }
 {
     for byte in bytes {
-        if let Some(stop) = do_byte(live, desk, *byte)? {
+        if let Some(stop) = do_byte(live, desk, hand, *byte)? {
             return Ok(Some(stop));
         }
     }

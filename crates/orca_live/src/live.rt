@@ -8,7 +8,8 @@ use crate::{Setting, Silent};
 use orca_base::{Command, Memory};
 use orca_concert::Stage;
 use orca_edit::Machine;
-use orca_term::{Editor, Keys, Pacer, ScreenSize, StatusLine, View};
+use orca_jam::Crew;
+use orca_term::{Pacer, ScreenSize, StatusLine, View};
 use std::alloc::Global;
 
 /// All that a performance keeps.
@@ -18,10 +19,8 @@ pub struct Live<'a, M> {
     pub setting: Setting<'a>,
     /// The session, and what is counted of it.
     pub stage: Stage<M, Silent>,
-    /// The reader of keys.
-    pub keys: Keys,
-    /// The cursor, the selection, the anchor and the pause.
-    pub editor: Editor,
+    /// The hands: the keys and the editor of each, and whose each entry of the history is.
+    pub crew: Crew,
     /// When the next frame is due.
     pub pacer: Pacer,
     /// What is shown.
@@ -37,12 +36,13 @@ pub struct Live<'a, M> {
 }
 
 impl<'a, M: Machine> Live<'a, M> {
-    /// A performance on a screen of this size, before its first picture, that starts at a moment in
-    /// microseconds. [`Memory`] if the room for the pictures is refused.
+    /// A performance of these hands on a screen of this size, before its first picture, that starts at a
+    /// moment in microseconds. [`Memory`] if the room for the pictures is refused.
     pub fn start(
         alloc: Global,
         stage: Stage<M, Silent>,
         setting: Setting<'a>,
+        crew: Crew,
         screen: ScreenSize,
         at: u64,
     ) -> Result<Live<'a, M>, Memory>
@@ -50,7 +50,7 @@ impl<'a, M: Machine> Live<'a, M> {
         requires columns { (MIN_SCREEN_COLUMNS ≤ screen.columns)
             × (screen.columns ≤ MAX_SCREEN_COLUMNS) }
         ensures state { IfOk result (λ live.
-            live_state M.Machine.own live ≡ live_at_start (setting_in setting.entry) screen at
+            live_state M.Machine.own live ≡ live_at_start (setting_in setting.entry) crew screen at
             (standing_of M.Machine.own stage)) }
         ensures machine { IfOk result (λ live. live.stage.machine ≡ stage.machine) }
     {
@@ -58,11 +58,7 @@ impl<'a, M: Machine> Live<'a, M> {
         Ok(Live {
             setting,
             stage,
-            keys: Keys::start(),
-            editor: Editor {
-                guide: setting.full,
-                ..Editor::start()
-            },
+            crew,
             pacer: Pacer::start(at, setting.bpm),
             view,
             given: setting.script.map(|_| Vec::new(alloc)),
@@ -72,7 +68,7 @@ impl<'a, M: Machine> Live<'a, M> {
         })
     }
 
-    /// What the status line tells besides the editor.
+    /// What the status line tells besides the first hand's editor.
     pub(crate) fn line(&self) -> StatusLine
         ensures { result ≡ line_at (live_state M.Machine.own self.now) }
     {
@@ -89,7 +85,7 @@ impl<'a, M: Machine> Live<'a, M> {
     pub(crate) fn until_moment(&self) -> Option<u64>
         ensures { result ≡ until_at (live_state M.Machine.own self.now) }
     {
-        if self.editor.paused {
+        if self.crew.leader().paused {
             return None;
         }
         Some(self.pacer.due_at())

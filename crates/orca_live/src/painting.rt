@@ -38,14 +38,14 @@ pub(crate) fn paint_first<M: Machine, H: House>(
     live.stage.machine.is_shown();
     let Live {
         stage,
-        editor,
+        crew,
         view,
         ..
     } = live;
     let unmarked = Unmarked {
         look: &stage.machine,
     };
-    let bytes = view.paint(&unmarked, editor, &line);
+    let bytes = view.paint(&unmarked, crew.leader(), &line);
     send_view(desk, bytes)
 }
 
@@ -59,11 +59,11 @@ fn paint<M: Machine, H: House>(live: &mut Live<'_, M>, desk: &mut Desk<H>) -> Re
     live.stage.machine.is_shown();
     let Live {
         stage,
-        editor,
+        crew,
         view,
         ..
     } = live;
-    let bytes = view.paint(&stage.machine, editor, &line);
+    let bytes = view.paint(&stage.machine, crew.leader(), &line);
     send_view(desk, bytes)
 }
 

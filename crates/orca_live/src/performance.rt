@@ -15,9 +15,6 @@ use orca_course::{Desk, Ending, NoMemory, Performer, Stop};
 use orca_edit::Machine;
 use orca_rig::{Answer, House};
 
-/// The hand whose bytes are keys.
-const PLAYER: u8 = 0;
-
 impl<'a, M: Machine> Performer for Live<'a, M> {
     ghost use Rattle.orca_live.specs.Deaf.{live_is_deaf};
     ghost use Rattle.orca_live.specs.Performing.{live_part};
@@ -65,7 +62,7 @@ fn open<M: Machine, H: House>(live: &mut Live<'_, M>, desk: &mut Desk<H>) -> Res
     paint_first(live, desk)
 }
 
-/// Does what an answer brings. The bytes of other hands are dropped.
+/// Does what an answer brings.
 #[tactic(auto, using(orca_course::proofs::WorldLemmas::called_still, orca_course::proofs::DoingLemmas::does_from), unfolding(crate::specs::Performing::answer_course))]
 fn do_answer<M: Machine, H: House>(
     live: &mut Live<'_, M>,
@@ -79,10 +76,7 @@ fn do_answer<M: Machine, H: House>(
     match answer {
         Answer::Bytes { hand, at, .. } => {
             live.at = at;
-            if hand != PLAYER {
-                return Ok(None);
-            }
-            do_bytes(live, desk, bytes)
+            do_bytes(live, desk, hand, bytes)
         }
         Answer::Due { at } => {
             live.at = at;

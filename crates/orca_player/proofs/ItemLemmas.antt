@@ -1,7 +1,8 @@
 -- Performances that go by what is heard, and not by its moments or how it was cut into answers.
-use Rattle.std.proofs.Common.{◌≡◌, ◌≢◌, ℕ, ◌==◌, Bool, true, false, List, [], ◌∷◌, ◌++◌, refl, sym, ◌∙◌, ap, append_assoc, append-nil}
-use Rattle.std.specs.Prelude.{if◌then◌else◌, map, Option, Some, None}
+use Rattle.std.proofs.Common.{◌≡◌, ◌≢◌, ℕ, zero, suc, arith, ◌==◌, Bool, true, false, List, [], ◌∷◌, ◌++◌, refl, sym, ◌∙◌, ap, append_assoc, append-nil}
+use Rattle.std.specs.Prelude.{if◌then◌else◌, map, nat_lt, Option, Some, None}
 use Rattle.std.specs.Option.{is_some, option_map}
+use Rattle.std.proofs.lemmas.Bool.Decides.{nat_tests}
 use Rattle.orca_base.specs.declared.command.Command.{Command}
 use Rattle.orca_course.specs.Acts.{Act, commands_in}
 use Rattle.orca_course.specs.Courses.{Course, each, lastly, lastly_by, mapped, onward, onward_by, still}
@@ -12,7 +13,8 @@ use Rattle.orca_course.specs.declared.ending.Ending.TheVariants.{Stopped}
 use Rattle.orca_course.specs.declared.ending.Stop.{Stop}
 use Rattle.orca_course.proofs.ActLemmas.{commands_in-append}
 use Rattle.orca_course.proofs.PerformanceLemmas.{attended_done}
-use Rattle.orca_live.specs.Items.{items_by, items_of}
+use Rattle.orca_live.specs.Items.{ByteOf, FrameDue, HeardItem, items_by, items_of}
+use Rattle.orca_player.specs.declared.live.TheConstants.{ALONE}
 use Rattle.orca_rig.specs.declared.inbox.Answer.{Answer}
 use Rattle.orca_rig.specs.declared.inbox.Answer.TheVariants as answer
 use Rattle.orca_term.specs.Keys.{Byte, Due, Item}
@@ -55,6 +57,16 @@ next_before false xs x g = simp append_assoc
 
 -- ---- a performer that goes by items
 
+-- what the one hand that is heard does
+abbrev item_in : HeardItem → Item
+item_in (ByteOf hand byte) = Byte byte
+item_in FrameDue = Due
+
+-- one hand is heard, the first
+one_hand : (hand : ℕ) → (hand == 0) ≡ nat_lt hand ALONE
+one_hand zero = refl
+one_hand (suc hand) = grind (arith, nat_tests)
+
 -- what an answer brings is what its items bring one by one, by what matters of a state; what comes
 -- first gives no command and does not end it; and neither does the end, after which the run stands by
 -- what mattered
@@ -76,9 +88,9 @@ pub record ByItems {S : Type 0} (p : Part S) (core : S → S) : Type 0 where
 
 module _ {S : Type 0} (p : Part S) (core : S → S) (by : ByItems p core) where
   -- what items lead to, and their commands
-  abbrev items_told : List Item → S → Told S
+  abbrev items_told : List HeardItem → S → Told S
   items_told [] s = quiet false s
-  items_told (item ∷ items) s = next (by.step item s) (items_told items)
+  items_told (item ∷ items) s = next (by.step (item_in item) s) (items_told items)
 
   next_by : {E : Type 0} (end : Option E) (c : Course S E) (f : S → Course S E)
       (g h : S → Told S) → c.ending ≡ end
@@ -102,14 +114,15 @@ module _ {S : Type 0} (p : Part S) (core : S → S) (by : ByItems p core) where
       next_by c.ending c f g h refl more ∙ ap (λ (x : Told S). next x h) is
 
   -- bytes are items
-  bytes_items : (at : ℕ) (bytes : List ℕ) (rest : List Item) (s : S)
+  bytes_items : (at hand : ℕ) (bytes : List ℕ) (rest : List HeardItem) (s : S)
       → next (told core (each (by.byte at) bytes s)) (items_told rest)
-      ≡ items_told (map Byte bytes ++ rest) (core s)
+      ≡ items_told (map (ByteOf hand) bytes ++ rest) (core s)
   unfolding each
-  bytes_items at [] rest s = refl
-  bytes_items at (byte ∷ bytes) rest s =
+  bytes_items at hand [] rest s = refl
+  bytes_items at hand (byte ∷ bytes) rest s =
       next_onward (by.byte at byte s) _ (each (by.byte at) bytes) (items_told rest)
-      (items_told (map Byte bytes ++ rest)) (by.bytes at byte s) (bytes_items at bytes rest)
+      (items_told (map (ByteOf hand) bytes ++ rest)) (by.bytes at byte s)
+      (bytes_items at hand bytes rest)
 
   -- ---- answers
 
@@ -124,21 +137,23 @@ module _ {S : Type 0} (p : Part S) (core : S → S) (by : ByItems p core) where
   unfolding mapped
   told_mapped c = ap (λ over. record (told core c) { over = over }) (stop_ends c.ending)
 
-  mine_items : (at : ℕ) (mine : Bool) (bytes : List ℕ) (rest : List Item) (s : S)
+  mine_items : (at hand : ℕ) (mine : Bool) (bytes : List ℕ) (rest : List HeardItem) (s : S)
       → next (told core (if mine then each (by.byte at) bytes s else still s)) (items_told rest)
-      ≡ items_told (if mine then map Byte bytes ++ rest else rest) (core s)
-  mine_items at true bytes rest s = bytes_items at bytes rest s
-  mine_items at false bytes rest s = refl
+      ≡ items_told (if mine then map (ByteOf hand) bytes ++ rest else rest) (core s)
+  mine_items at hand true bytes rest s = bytes_items at hand bytes rest s
+  mine_items at hand false bytes rest s = refl
 
-  answer_items : (a : Answer) (bytes : List ℕ) (rest : List Item) (s : S)
+  answer_items : (a : Answer) (bytes : List ℕ) (rest : List HeardItem) (s : S)
       → next (told core (heard p a bytes s)) (items_told rest)
-      ≡ items_told (items_by a bytes rest) (core s)
+      ≡ items_told (items_by ALONE a bytes rest) (core s)
   unfolding heard
   answer_items (answer.Bytes hand count at) bytes rest s =
       ap (λ (x : Told S). next x (items_told rest))
       (told_mapped (p.hears (answer.Bytes hand count at) bytes s)
       ∙ ap (told core) (by.hears hand count at bytes s))
-      ∙ mine_items at (hand == 0) bytes rest s
+      ∙ (mine_items at hand (hand == 0) bytes rest s
+      ∙ ap (λ mine. items_told (if mine then map (ByteOf hand) bytes ++ rest else rest) (core s))
+      (one_hand hand))
   answer_items (answer.Due at) bytes rest s =
       ap (λ (x : Told S). next x (items_told rest))
       (told_mapped (p.hears (answer.Due at) bytes s) ∙ by.due at bytes s)
@@ -149,20 +164,20 @@ module _ {S : Type 0} (p : Part S) (core : S → S) (by : ByItems p core) where
 
   polls_items : (polls : List Poll) (s : S)
       → next (told core (each (polled p) polls s)) (quiet false)
-      ≡ items_told (items_of polls) (core s)
+      ≡ items_told (items_of ALONE polls) (core s)
   unfolding each polled onward
   polls_items [] s = refl
   polls_items (poll ∷ polls) s =
       next_onward (polled p poll s) _ (each (polled p) polls) (quiet false)
-      (items_told (items_of polls)) refl (polls_items polls)
-      ∙ answer_items poll.answer poll.bytes (items_of polls) s
+      (items_told (items_of ALONE polls)) refl (polls_items polls)
+      ∙ answer_items poll.answer poll.bytes (items_of ALONE polls) s
 
   -- all but whether it ended
   abbrev ran : Course S Ending → Told S
   ran c = record (told core c) { over = false }
 
   attended_items : (polls : List Poll) (s : S)
-      → ran (attended p polls s) ≡ items_told (items_of polls) (core s)
+      → ran (attended p polls s) ≡ items_told (items_of ALONE polls) (core s)
   attended_items polls s =
       let c = each (polled p) polls s in
       ap (λ (done : List Act × S).
@@ -170,7 +185,7 @@ module _ {S : Type 0} (p : Part S) (core : S → S) (by : ByItems p core) where
       ∙ (next_nothing (is_some c.ending) (told core c) ∙ polls_items polls s)
 
   begun_items : (polls : List Poll) (s : S)
-      → ran (begun p s polls) ≡ items_told (items_of polls) (core s)
+      → ran (begun p s polls) ≡ items_told (items_of ALONE polls) (core s)
   unfolding begun opened onward mapped
   begun_items polls s =
       let t = (p.opens s).state in
@@ -180,7 +195,7 @@ module _ {S : Type 0} (p : Part S) (core : S → S) (by : ByItems p core) where
       (commands_in-append (p.opens s).acts (attended p polls t).acts
       ∙ ap (λ (x : Told S). x.commands ++ commands_in (attended p polls t).acts) first)
       ∙ (attended_items polls t
-      ∙ ap (λ (x : Told S). items_told (items_of polls) x.state) first))
+      ∙ ap (λ (x : Told S). items_told (items_of ALONE polls) x.state) first))
 
   -- ---- the end
 
@@ -211,7 +226,7 @@ module _ {S : Type 0} (p : Part S) (core : S → S) (by : ByItems p core) where
   }
 
   -- two performances of the same items, from states that are alike in what matters
-  pub items_alike : (polls others : List Poll) (s t : S) → items_of polls ≡ items_of others
+  pub items_alike : (polls others : List Poll) (s t : S) → items_of ALONE polls ≡ items_of ALONE others
       → core s ≡ core t → (performance p s polls).ending ≢ None
       → (performance p t others).ending ≢ None
       → PlayAlike (performance p s polls) (performance p t others)
@@ -221,6 +236,6 @@ module _ {S : Type 0} (p : Part S) (core : S → S) (by : ByItems p core) where
       let d = begun p t others in
       last_by c.ending d.ending c d
       (begun_items polls s
-      ∙ (ap (items_told (items_of polls)) same
+      ∙ (ap (items_told (items_of ALONE polls)) same
       ∙ (ap (λ list. items_told list (core t)) items ∙ sym (begun_items others t))))
       ends others_end

@@ -164,7 +164,7 @@ alike_none o = λ ends others. record { commands = refl; standing = refl; given 
 -- performances that go by items
 alike_by : {S : Type 0} (p : Part S) (core : S → S) (by : ByItems p core) (address : List ℕ)
     (hands a b : ℕ) (s : Standing) (polls others : List Poll) (u v : S)
-    → items_of polls ≡ items_of others → core u ≡ core v
+    → items_of ALONE polls ≡ items_of ALONE others → core u ≡ core v
     → Alike (after (Listen address hands (Some a) ∷ []) (performed_outline p s u polls))
     (after (Listen address hands (Some b) ∷ []) (performed_outline p s v others))
 unfolding opening mapped
@@ -189,8 +189,7 @@ work_alike cutting setup (Play play) sheet script (Some a) (Some b) polls others
     (record {
       setting = refl;
       standing = refl;
-      pending = refl;
-      editor = refl;
+      crew = refl;
       screen = refl;
       given = refl;
     })

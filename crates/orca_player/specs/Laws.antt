@@ -5,6 +5,7 @@ use Rattle.std.specs.Option.{option_map}
 use Rattle.orca_course.specs.Acts.{commands_in}
 use Rattle.orca_live.specs.Items.{items_of}
 use Rattle.orca_live.specs.Journals.{KeepsJournal}
+use Rattle.orca_player.specs.declared.live.TheConstants.{ALONE}
 use Rattle.orca_script.specs.Runs.{printed_script}
 use Rattle.orca_words.specs.Requests.{Perform, Performance, Play, Replay, Setup, request_of}
 use Rattle.orca_player.specs.Outlines.{Heard, Outline, Script, outline, request_outline}
@@ -14,13 +15,13 @@ use Rattle.orca_player.specs.Doing.{ReadsBack}
 abbrev pub HasEnd : Outline → Type 0
 HasEnd o = o.course.ending ≢ None
 
--- the files hold the same, and the same bytes and due frames come, in the same order; moments, and
--- how the bytes are cut into answers, may differ
+-- the files hold the same, and the same bytes of the hand that is heard and due frames come, in the
+-- same order; moments, and how the bytes are cut into answers, may differ
 pub record HearAlike (h k : Heard) : Type 0 where
   pub grid : k.grid ≡ h.grid
   pub script : k.brought.script ≡ h.brought.script
   pub starts : is_some k.brought.start ≡ is_some h.brought.start
-  pub items : items_of h.brought.polls ≡ items_of k.brought.polls
+  pub items : items_of ALONE h.brought.polls ≡ items_of ALONE k.brought.polls
 
 -- the same commands, the same session at last, and the same script that is saved
 pub record EndAlike (o p : Outline) : Type 0 where

@@ -31,6 +31,7 @@ use Rattle.orca_edit.specs.Prices.{kept_at_start}
 use Rattle.orca_grid.specs.GridText.{grid_text}
 use Rattle.orca_grid.specs.declared.refusal.GridRefusal.{GridRefusal}
 use Rattle.orca_live.specs.Performing.{live_part}
+use Rattle.orca_jam.specs.Crews.{crew_alone}
 use Rattle.orca_live.specs.Starting.{live_at_start}
 use Rattle.orca_live.specs.States.{LiveState, Setting}
 use Rattle.orca_reports.specs.Manners.{events_manner, make_manner, replay_manner, run_manner, state_manner}
@@ -196,9 +197,10 @@ setting_of setup performance = record {
 abbrev pub screen_of : Performance → ScreenSize
 screen_of performance = record { rows = performance.rows; columns = performance.cols }
 
--- a performance that starts at a moment
+-- a performance of a hand that plays alone, which starts at a moment
 abbrev pub live_start : Setup → Performance → ℕ → Standing → LiveState
-live_start setup play at s = live_at_start (setting_of setup play) (screen_of play) at s
+live_start setup play at s =
+    live_at_start (setting_of setup play) (crew_alone play.full) (screen_of play) at s
 
 -- the script of a seed and the commands that were kept, if it is saved
 abbrev pub script_kept : Option (List ℕ) → ℕ → Option (List Command) → Option Script

@@ -15,13 +15,12 @@ use Rattle.orca_cues.specs.declared.source.Cue.{Cue}
 use Rattle.orca_grid.specs.GridText.{grid_text}
 use Rattle.orca_live.specs.Items.{turns_of}
 use Rattle.orca_live.specs.Laws.{so_far}
-use Rattle.orca_live.specs.Performing.{answered_at, item_course}
+use Rattle.orca_live.specs.Performing.{answered_at, lull_course}
 use Rattle.orca_live.specs.States.{LiveState, is_full}
 use Rattle.orca_reports.specs.Manners.{state_manner}
 use Rattle.orca_reports.specs.Songs.{recording_at_start, smf_manner}
 use Rattle.orca_trace.specs.Calls.{Poll}
 use Rattle.orca_rig.specs.declared.inbox.Answer.TheVariants as answer
-use Rattle.orca_term.specs.Keys.{Due}
 use Rattle.orca_words.specs.Requests.{Events, Follow, Lead, Make, Migrate, Perform, Play, Recording, Replay, Request, Run, Setup, Smf, Wav, Work}
 use Rattle.orca_player.specs.Outlines.{Brought, Heard, follow_start, is_too_long, lead_start, live_start, start_of}
 
@@ -31,7 +30,7 @@ IsScript text = (cues : List Cue) × (any_script_of text ≡ Ok cues)
 
 -- where a performance stands before the frame of an answer at this moment
 abbrev pub before_frame : ℕ → LiveState → LiveState
-before_frame at s = (item_course Due (answered_at at s)).state
+before_frame at s = (lull_course (answered_at at s)).state
 
 -- wherever a frame is due, the history has room for it
 abbrev pub HasRoom : LiveState → List Poll → Type 0

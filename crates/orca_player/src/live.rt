@@ -20,6 +20,7 @@ use crate::reading::reading_law;
 use orca_base::{Command, Memory};
 use orca_course::Desk;
 use orca_edit::Machine;
+use orca_jam::Crew;
 use orca_live::{Live, Setting, Silent};
 use orca_rig::House;
 use orca_session::Session;
@@ -131,6 +132,7 @@ fn open_live<'a>(
         opening.alloc,
         stage,
         setting_of(setup, performance),
+        Crew::alone(opening.alloc, performance.full),
         screen,
         at,
     )

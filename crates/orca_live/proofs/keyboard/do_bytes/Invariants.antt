@@ -8,7 +8,7 @@ use Rattle.orca_live.proofs.keyboard.do_bytes.Given as goal
 -- the bytes so far were read, and the others are left
 abbrev pub invariant-loop-byte : goal.invariant-loop-byte
 invariant-loop-byte g l =
-    SoFar live_stance byte_course l.bytes (drop l.byte-index l.bytes)
+    SoFar live_stance (byte_course l.hand) l.bytes (drop l.byte-index l.bytes)
     (state_of (g.M.Machine.machine l.fn.live.stage.machine)
     (g.M.Machine.kept l.fn.live.stage.machine) l.fn.live)
     (owing (g.M.Machine.residue l.fn.live.stage.machine) l.fn.desk)

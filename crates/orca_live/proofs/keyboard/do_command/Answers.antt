@@ -1,7 +1,6 @@
 use Rattle.std.proofs.Common.{refl}
-use Rattle.std.specs.Prelude.{Ok, Err}
 use Rattle.orca_course.proofs.DoingLemmas.{does_nothing, goes_err}
-use Rattle.orca_live.proofs.DoneLemmas.{command_did}
+use Rattle.orca_live.proofs.DoneLemmas.{command_cut, command_did}
 use Rattle.orca_live.proofs.keyboard.do_command.Goals as goal
 
 pub returns-in_err-note : goal.returns-in_err-note
@@ -12,10 +11,9 @@ returns-in_err-note g c =
 pub returns-in_err-do_command : goal.returns-in_err-do_command
 returns-in_err-do_command g c =
     goes_err _ _ c.from_residual-in_err-do_command.ensures.1
-    (command_did _ _ _ _ _ (Err _) c.in_ok-keep.ensures.kept c.in_ok-note.ensures.noted
-    c.in_err-do_command.ensures)
+    (command_cut _ _ _ _ _ _ _ c.in_err-do_command.ensures)
 
 pub returns : goal.returns
 returns g c =
-    command_did _ _ _ _ _ (Ok _) c.in_ok-keep.ensures.kept c.in_ok-note.ensures.noted
-    c.in_ok-do_command.ensures
+    command_did _ _ _ _ _ _ _ _ c.in_ok-keep.ensures.kept c.in_ok-note.ensures.noted
+    (rw c.moments-moments.ensures.moments at c.own.ensures) c.in_ok-do_command.ensures

@@ -7,7 +7,7 @@ returns g c =
     paint_did _ _ _ _ _ _ _ (ap g.M.Look.marks c.fit.ensures.machine)
     (ap g.M.Machine.residue c.fit.ensures.machine) c.fit.ensures.fitted
     (painted_did _ _ _ _ _ _
-    (rw (c.is_shown.ensures, c.line-line.ensures) at c.paint-bytes.ensures.painting)
-    (rw (c.is_shown.ensures, c.line-line.ensures) at c.paint-bytes.follows.holds-at-none)
-    (rw (c.is_shown.ensures, c.line-line.ensures) at c.paint-bytes.ensures.printable)
+    (rw (c.is_shown.ensures, c.line-line.ensures, c.leader.ensures) at c.paint-bytes.ensures.painting)
+    (rw (c.is_shown.ensures, c.line-line.ensures, c.leader.ensures) at c.paint-bytes.follows.holds-at-none)
+    (rw (c.is_shown.ensures, c.line-line.ensures, c.leader.ensures) at c.paint-bytes.ensures.printable)
     c.send_view.ensures)
