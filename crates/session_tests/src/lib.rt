@@ -1,4 +1,4 @@
-//! What a rewind far back may cost, and calls that no run makes. They need public calls alone, so they
+//! A rewind far back, and calls that no run makes. They need public calls alone, so they
 //! stand in a crate of their own: the tests of a crate prove that crate once more.
 #![tactic(auto)]
 
