@@ -318,7 +318,7 @@ module _ (name : List ℕ) (set : Setting) (kept : set.journal ≡ Some name)
     none = λ s t alike is.
         (alike.setting ∙ is, λ held given waits. rw alike.unwritten waits);
     both = writes_twice;
-    command = writes_command;
+    command = λ who command s other. writes_command who command s;
     denied = writes_denied;
     save = writes_save;
     write = writes_write;

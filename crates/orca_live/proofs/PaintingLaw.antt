@@ -182,7 +182,7 @@ displays_carries = record {
   both = λ r s t xs ys first second d sent seen.
       shown_twice d (λ e sent. IsSeen e s.screen s.shown sent)
       (λ e sent. IsSeen e t.screen t.shown sent) sent xs ys (first d sent seen) second;
-  command = displays_command;
+  command = λ who command s other. displays_command who command s;
   denied = displays_denied;
   save = λ name bytes s saved d sent seen. seen;
   write = displays_write;

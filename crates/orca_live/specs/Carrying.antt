@@ -1,10 +1,11 @@
 -- What holds of each step of a performance, and of two in turn, holds of each of its parts. It is
 -- proved here, since that a player is deaf is said of it as a performer, and follows from this.
-use Rattle.std.proofs.Common.{◌≡◌, ◌⊎◌, inl, inr, ℕ, arith, Bool, true, false, List, [], ◌∷◌, ◌++◌, length, refl}
-use Rattle.std.specs.Prelude.{if◌then◌else◌, Option, Some, None, unwrap_or}
+use Rattle.std.proofs.Common.{◌≡◌, ◌≢◌, ◌⊎◌, inl, inr, ℕ, arith, Bool, true, false, List, [], ◌∷◌, ◌++◌, length, refl, sym, ap}
+use Rattle.std.specs.Prelude.{if◌then◌else◌, Option, Some, None, Ok, Err, unwrap_or}
+use Rattle.std.specs.Option.{option_map_or}
 use Rattle.std.proofs.lemmas.List.{length-map, length-set}
 use Rattle.orca_base.specs.declared.command.Command.{Command}
-use Rattle.orca_base.specs.declared.command.Command.TheVariants.{Frame}
+use Rattle.orca_base.specs.declared.command.Command.TheVariants.{Frame, Redo}
 use Rattle.orca_base.specs.MarkSet.{MarkSet}
 use Rattle.orca_course.specs.Acts.{Act}
 use Rattle.orca_course.specs.Acts.Act.{Save, Screen}
@@ -13,9 +14,11 @@ use Rattle.orca_course.specs.declared.ending.Stop.{Stop}
 use Rattle.orca_course.specs.declared.ending.Stop.TheVariants.{Full}
 use Rattle.orca_course.proofs.CourseLemmas.{each-holds}
 use Rattle.orca_edit.specs.Machines.{preview_of}
-use Rattle.orca_jam.specs.Crews.{CrewState, asked, denial_of, fitted_player, player_at, struck_by, turned_by}
+use Rattle.orca_jam.specs.Crews.{asked, denial_of, fitted_player, player_at, struck_by, turned_by}
 use Rattle.orca_jam.specs.declared.denial.Denial.{Denial}
 use Rattle.orca_jam.specs.declared.owner.TheConstants.{NOBODY}
+use Rattle.orca_jam.specs.declared.player.Player.{Player}
+use Rattle.orca_jam.proofs.JamLemmas.{asks-no-redo}
 use Rattle.orca_rig.specs.declared.inbox.Answer.{Answer}
 use Rattle.orca_rig.specs.declared.inbox.Answer.TheVariants as answer
 use Rattle.orca_term.specs.Keys.{Byte, Due, Item, turn}
@@ -29,7 +32,7 @@ use Rattle.orca_live.specs.Performing.{answer_course, answered_at, byte_course, 
 use Rattle.orca_live.specs.States.{LiveState, Setting, around_at, dims_at, fitted, hands_of, is_full, is_hand, key_name, leader_at, piece_at}
 
 -- two states are the same to the session, to the terminal, to the script and to the journal, and
--- have as many hands
+-- have as many hands, of which only the keys and the editors may differ
 pub record LooksAlike (s t : LiveState) : Type 0 where
   pub setting : t.setting ≡ s.setting
   pub standing : t.standing ≡ s.standing
@@ -38,12 +41,13 @@ pub record LooksAlike (s t : LiveState) : Type 0 where
   pub given : t.given ≡ s.given
   pub unwritten : t.unwritten ≡ s.unwritten
   pub hands : length t.crew.players ≡ length s.crew.players
+  pub crew : t.crew ≡ record s.crew { players = t.crew.players }
 
--- what the hands have, the pace and the moment are nothing to these
-looks_so : (s : LiveState) (crew : CrewState) (pace : Pace) (at : ℕ)
-    → length crew.players ≡ length s.crew.players
-    → LooksAlike s (record s { crew = crew; pace = pace; at = at })
-looks_so s crew pace at hands = record {
+-- the keys and the editors of the hands, the pace and the moment are nothing to these
+looks_so : (s : LiveState) (players : List Player) (pace : Pace) (at : ℕ)
+    → length players ≡ length s.crew.players
+    → LooksAlike s (record s { crew = record s.crew { players = players }; pace = pace; at = at })
+looks_so s players pace at hands = record {
   setting = refl;
   standing = refl;
   screen = refl;
@@ -51,15 +55,17 @@ looks_so s crew pace at hands = record {
   given = refl;
   unwritten = refl;
   hands = hands;
+  crew = refl;
 }
 
 pub looks_same : (s : LiveState) → LooksAlike s s
-looks_same s = looks_so s s.crew s.pace s.at refl
+looks_same s = looks_so s s.crew.players s.pace s.at refl
 
 -- the editors are fitted
 looks_fitted : (s : LiveState) → LooksAlike s (fitted s)
 looks_fitted s =
-    looks_so s (fitted s).crew s.pace s.at (length-map s.crew.players (fitted_player (dims_at s)))
+    looks_so s (fitted s).crew.players s.pace s.at
+    (length-map s.crew.players (fitted_player (dims_at s)))
 
 -- a name that the grid or the script is saved under: by the key, or at the end
 abbrev pub IsSaved : List ℕ → Setting → Type 0
@@ -70,7 +76,9 @@ pub record Carries (holds : LiveState → List Act → LiveState → Type 0) : T
   pub none : (s t : LiveState) → LooksAlike s t → holds s [] t
   pub both : (r s t : LiveState) (xs ys : List Act) → holds r xs s → holds s ys t
       → holds r (xs ++ ys) t
+  -- hands that share a session do nothing again that was taken back
   pub command : (who : ℕ) (command : Command) (s : LiveState)
+      → (s.crew.alone ≡ false → command ≢ Redo)
       → holds s (command_course who command s).acts (command_course who command s).state
   pub denied : (hand : ℕ) (denial : Denial) (s : LiveState)
       → holds s (denied_course hand denial s).acts s
@@ -120,10 +128,10 @@ toggled_alike : (s : LiveState) → LooksAlike s (toggled s)
 toggled_alike s =
     let pace = pace_from s.pace.bpm s.at in
     toggled_by (leader_at s).paused s (record s { pace = pace })
-    (looks_so s s.crew pace s.at refl)
+    (looks_so s s.crew.players pace s.at refl)
 
 paced_alike : (bpm : ℕ) (s : LiveState) → LooksAlike s (paced bpm s)
-paced_alike bpm s = looks_so s s.crew (retimed bpm s.pace) s.at refl
+paced_alike bpm s = looks_so s s.crew.players (retimed bpm s.pace) s.at refl
 
 -- a size that is brought into those that a screen may have is one of them
 inside_is_screen : (d : ScreenSize) → IsScreen (screen_inside d)
@@ -135,37 +143,41 @@ inside_is_screen d = record {
 }
 
 wish_carried : {holds : LiveState → List Act → LiveState → Type 0} → Carries holds → (hand : ℕ)
-    (w : Wish) (s : LiveState) → Along holds (wish_course hand w s) s
+    (w : Wish) (s : LiveState) → (s.crew.alone ≡ false → w ≢ wish.Do Redo)
+    → Along holds (wish_course hand w s) s
 unfolding wish_course save_course
-wish_carried carry hand wish.Nothing s = carry.none s s (looks_same s)
-wish_carried carry hand (wish.Do command) s = carry.command hand command s
-wish_carried carry hand wish.Toggle s = carry.none s (toggled s) (toggled_alike s)
-wish_carried carry hand wish.Save s = carry.save _ _ s (inl refl)
-wish_carried carry hand wish.Quit s = carry.none s s (looks_same s)
-wish_carried carry hand (wish.Slower beats) s =
+wish_carried carry hand wish.Nothing s other = carry.none s s (looks_same s)
+wish_carried carry hand (wish.Do command) s other =
+    carry.command hand command s (λ shared is. other shared (ap wish.Do is))
+wish_carried carry hand wish.Toggle s other = carry.none s (toggled s) (toggled_alike s)
+wish_carried carry hand wish.Save s other = carry.save _ _ s (inl refl)
+wish_carried carry hand wish.Quit s other = carry.none s s (looks_same s)
+wish_carried carry hand (wish.Slower beats) s other =
     carry.none s (paced (slower beats s.pace.bpm) s) (paced_alike (slower beats s.pace.bpm) s)
-wish_carried carry hand (wish.Faster beats) s =
+wish_carried carry hand (wish.Faster beats) s other =
     carry.none s (paced (faster beats s.pace.bpm) s) (paced_alike (faster beats s.pace.bpm) s)
-wish_carried carry hand (wish.Redraw size) s =
+wish_carried carry hand (wish.Redraw size) s other =
     let d = unwrap_or size s.screen in carry.screen (screen_inside d) s (inside_is_screen d)
 
 where_carried : {holds : LiveState → List Act → LiveState → Type 0} → Carries holds → (hand : ℕ)
-    (key : Key) (s : LiveState) (denial : Option Denial)
+    (key : Key) (s : LiveState) (denial : Option Denial) → denial_of s.crew hand key ≡ denial
     → Along holds (struck_where hand key s denial) s
 unfolding denied_course
-where_carried carry hand key s (Some denial) = carry.denied hand denial s
-where_carried carry hand key s None =
+where_carried carry hand key s (Some denial) is = carry.denied hand denial s
+where_carried carry hand key s None is =
     let around = around_at hand s in
     let t : LiveState = record s { crew = struck_by hand key around s.crew } in
     let w = asked s.crew hand key around in
     from_alike carry s t (wish_course hand w t)
-    (looks_so s t.crew s.pace s.at (length-set s.crew.players hand _))
-    (wish_carried carry hand w t)
+    (looks_so s t.crew.players s.pace s.at (length-set s.crew.players hand _))
+    (wish_carried carry hand w t
+    (λ shared. asks-no-redo s.crew hand key around w shared
+    (ap (λ (denial : Option Denial). option_map_or Err denial (Ok w)) (sym is))))
 
 struck_carried : {holds : LiveState → List Act → LiveState → Type 0} → Carries holds → (hand : ℕ)
     (key : Key) (s : LiveState) → Along holds (struck_course hand key s) s
 unfolding struck_course
-struck_carried carry hand key s = where_carried carry hand key s (denial_of s.crew hand key)
+struck_carried carry hand key s = where_carried carry hand key s (denial_of s.crew hand key) refl
 
 press_carried : {holds : LiveState → List Act → LiveState → Type 0} → Carries holds → (hand : ℕ)
     (key : Option Key) (s : LiveState) → Along holds (press_course hand key s) s
@@ -182,7 +194,7 @@ read_carried carry hand item s =
     let t : LiveState = record s { crew = turned_by s.setting.full hand item s.crew } in
     let key = (turn s.setting.full (player_at s.crew hand).keys item).key in
     from_alike carry s t (press_course hand key t)
-    (looks_so s t.crew s.pace s.at (length-set s.crew.players hand _))
+    (looks_so s t.crew.players s.pace s.at (length-set s.crew.players hand _))
     (press_carried carry hand key t)
 
 item_carried : {holds : LiveState → List Act → LiveState → Type 0} → Carries holds → (hand : ℕ)
@@ -201,6 +213,10 @@ bytes_carried {holds = holds} carry hand bytes s =
 
 -- ---- the clock
 
+-- a frame is no redo
+plays_on : Frame ≢ Redo
+plays_on is = cc
+
 frame_carried : {holds : LiveState → List Act → LiveState → Type 0} → Carries holds
     → (s : LiveState) → Along holds (frame_course s) s
 unfolding frame_course onward
@@ -208,8 +224,9 @@ frame_carried {holds = holds} carry s =
     let next : LiveState → Course LiveState Stop = λ (t : LiveState). still (fired t) in
     let c = command_course NOBODY Frame s in
     if_carried holds s (is_full s) (ended Full s) (onward c next) (carry.none s s (looks_same s))
-    (onward_carried carry s c.ending c next (carry.command NOBODY Frame s)
-    (λ t. carry.none t (fired t) (looks_so t t.crew (fired t).pace t.at refl)))
+    (onward_carried carry s c.ending c next
+    (carry.command NOBODY Frame s (λ shared. plays_on))
+    (λ t. carry.none t (fired t) (looks_so t t.crew.players (fired t).pace t.at refl)))
 
 lull_carried : {holds : LiveState → List Act → LiveState → Type 0} → Carries holds
     → (s : LiveState) → Along holds (lull_course s) s
@@ -247,11 +264,13 @@ pub answer_carried : {holds : LiveState → List Act → LiveState → Type 0} �
 unfolding answer_course
 answer_carried carry (answer.Bytes hand count at) bytes s =
     let t = answered_at at s in
-    from_alike carry s t (each (byte_course hand) bytes t) (looks_so s s.crew s.pace at refl)
+    from_alike carry s t (each (byte_course hand) bytes t)
+    (looks_so s s.crew.players s.pace at refl)
     (bytes_carried carry hand bytes t)
 answer_carried carry (answer.Due at) bytes s =
     let t = answered_at at s in
-    from_alike carry s t (due_course t) (looks_so s s.crew s.pace at refl) (due_carried carry t)
+    from_alike carry s t (due_course t) (looks_so s s.crew.players s.pace at refl)
+    (due_carried carry t)
 answer_carried carry answer.End bytes s = carry.none s s (looks_same s)
 answer_carried carry answer.Failed bytes s = carry.none s s (looks_same s)
 

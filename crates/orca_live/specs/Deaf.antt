@@ -79,7 +79,7 @@ deaf_carries : Carries (λ r xs t. AreDeaf xs)
 deaf_carries = record {
   none = λ s t alike. tt;
   both = λ r s t xs ys first second. AreDeaf-append xs ys first second;
-  command = command_deaf;
+  command = λ who command s other. command_deaf who command s;
   denied = denied_deaf;
   save = λ name bytes s saved. tt;
   write = write_deaf;
