@@ -53,7 +53,7 @@ use Rattle.orca_live.proofs.GivenLemmas.{commands_before, core, core_fitted, fin
 abbrev KeepsHands : LiveState → List Act → LiveState → Type 0
 KeepsHands s acts t = length t.crew.players ≡ length s.crew.players
 
-owning_hands : (who : ℕ) (c : Command) (refused : Option Rule) (n : ℕ) (crew : CrewState)
+pub owning_hands : (who : ℕ) (c : Command) (refused : Option Rule) (n : ℕ) (crew : CrewState)
     → (owning who c refused n crew).players ≡ crew.players
 owning_hands who c refused n crew = grind arith
 
@@ -204,7 +204,7 @@ press_steady hand (Some key) s =
     ∙ ap (λ u. told (struck_course hand key u)) (sym (core_fitted s))
 
 -- fitting a player moves nothing of its keys
-keys_fitted : (d : Size) (players : List Player) (hand : ℕ)
+pub keys_fitted : (d : Size) (players : List Player) (hand : ℕ)
     → (slice_index_or (map (fitted_player d) players) hand (new_player false)).keys
     ≡ (slice_index_or players hand (new_player false)).keys
 keys_fitted d [] hand = refl

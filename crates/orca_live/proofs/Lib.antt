@@ -8,3 +8,4 @@ pub mod CuttingLaw
 pub mod LeavingLemmas
 pub mod JournalLaw
 pub mod JournalReads
+pub mod HearingLaw

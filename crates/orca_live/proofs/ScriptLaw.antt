@@ -25,8 +25,10 @@ use Rattle.orca_script.specs.Runs.{commands_of, lines_behind}
 use Rattle.orca_script.specs.declared.format_2.Line.{Line}
 use Rattle.orca_script.specs.declared.format_2.Line.TheVariants as asks
 use Rattle.orca_script.proofs.RunsReadBack.{behind_same}
+use Rattle.orca_trace.specs.Calls.{Poll}
 use Rattle.orca_live.specs.Carrying.{Carries}
 use Rattle.orca_live.proofs.Carried.{begun_carried}
+use Rattle.orca_live.specs.Hands.{after_commands}
 use Rattle.orca_live.specs.Journals.{LeadsBack}
 use Rattle.orca_live.specs.Laws.{GoesOn, Replays, ReplaysScript, replayed, so_far}
 use Rattle.orca_live.specs.Performing.{additions, command_course, denied_course, header_course, if_named, journal_course, lines_course, live_part, painted_course, write_course}
@@ -35,16 +37,11 @@ use Rattle.orca_live.proofs.GivenLemmas.{command_once, finish_closes, paint_comm
 
 -- ---- commands, one after another
 
--- the session after commands
-abbrev machine_after : List Command → MachineState → MachineState
-machine_after [] machine = machine
-machine_after (command ∷ commands) machine = machine_after commands (obey machine command).machine
-
-machine_after-append : (xs ys : List Command) (machine : MachineState)
-    → machine_after (xs ++ ys) machine ≡ machine_after ys (machine_after xs machine)
-machine_after-append [] ys machine = refl
-machine_after-append (command ∷ xs) ys machine =
-    machine_after-append xs ys (obey machine command).machine
+after_commands-append : (xs ys : List Command) (machine : MachineState)
+    → after_commands (xs ++ ys) machine ≡ after_commands ys (after_commands xs machine)
+after_commands-append [] ys machine = refl
+after_commands-append (command ∷ xs) ys machine =
+    after_commands-append xs ys (obey machine command).machine
 
 -- these commands after those that are kept
 abbrev kept_with : List Command → Option (List Command) → Option (List Command)
@@ -61,7 +58,7 @@ kept_twice (Some before) xs ys = ap Some (append_assoc before xs ys)
 
 -- what commands make of those that are kept, and of the session
 abbrev after : List Command → LiveState → Option (List Command) × MachineState
-after commands s = (kept_with commands s.given, machine_after commands s.standing.machine)
+after commands s = (kept_with commands s.given, after_commands commands s.standing.machine)
 
 -- the commands of acts are kept, and lead to the session
 abbrev Keeps : LiveState → List Act → LiveState → Type 0
@@ -75,8 +72,8 @@ keeps_twice : (r s t : LiveState) (xs ys : List Act) → Keeps r xs s → Keeps 
 keeps_twice r s t xs ys first second =
     second
     ∙ (ap (λ (x : Option (List Command) × MachineState).
-    (kept_with (commands_in ys) x.0, machine_after (commands_in ys) x.1)) first
-    ∙ simp (commands_in-append, kept_twice, machine_after-append))
+    (kept_with (commands_in ys) x.0, after_commands (commands_in ys) x.1)) first
+    ∙ simp (commands_in-append, kept_twice, after_commands-append))
 
 keeps_command : (who : ℕ) (command : Command) (s : LiveState)
     → Keeps s (command_course who command s).acts (command_course who command s).state
@@ -161,21 +158,21 @@ frame_stays m rule is = frame_by m (rule_against m command.Frame) rule is
 
 -- so it is refused as often as it is given
 frames_stay : (n : ℕ) (m : MachineState) → (obey m command.Frame).machine ≡ m
-    → machine_after (replicate n command.Frame) m ≡ m
+    → after_commands (replicate n command.Frame) m ≡ m
 frames_stay zero m same = refl
 frames_stay (suc n) m same =
-    ap (machine_after (replicate n command.Frame)) same ∙ frames_stay n m same
+    ap (after_commands (replicate n command.Frame)) same ∙ frames_stay n m same
 
 module _ (m : Manner (Unit {0})) (goes : GoesOn m) where
   frames_replay : (line n : ℕ) (s : Concert (Unit {0}))
       → ran after_cue (each (order_course m line) (replicate n (Once command.Frame)) s)
-      ≡ (machine_after (replicate n command.Frame) s.standing.machine, None)
+      ≡ (after_commands (replicate n command.Frame) s.standing.machine, None)
   unfolding each order_course obey_course onward mapped
   frames_replay line zero s = refl
   frames_replay line (suc n) s =
       let old = s.standing.machine in
       let o = obey old command.Frame in
-      let more = machine_after (replicate n command.Frame) in
+      let more = after_commands (replicate n command.Frame) in
       let c = order_course m line (Once command.Frame) s in
       order_by o.answer _ c (each (order_course m line) (replicate n (Once command.Frame)))
       (more o.machine) (goes line o.answer o.messages s.kept) refl (frames_replay line n c.state)
@@ -184,7 +181,7 @@ module _ (m : Manner (Unit {0})) (goes : GoesOn m) where
 
   cue_replays : (line : ℕ) (asked : Line) (s : Concert (Unit {0}))
       → ran (λ end. end) (cue_course m (cue_asking line asked) s)
-      ≡ (machine_after (commands_of asked) s.standing.machine, None)
+      ≡ (after_commands (commands_of asked) s.standing.machine, None)
   unfolding cue_course each order_course obey_course onward mapped
   cue_replays line (asks.Do command) s =
       let o = obey s.standing.machine command in
@@ -194,7 +191,7 @@ module _ (m : Manner (Unit {0})) (goes : GoesOn m) where
 
   cues_replay : (lines : List Line) (line : ℕ) (s : Concert (Unit {0}))
       → ran (λ end. end) (cues_course m (cues_asking line lines) s)
-      ≡ (machine_after (flat_map commands_of lines) s.standing.machine, None)
+      ≡ (after_commands (flat_map commands_of lines) s.standing.machine, None)
   unfolding cues_course each onward
   cues_replay [] line s = refl
   cues_replay (asked ∷ lines) line s =
@@ -202,16 +199,16 @@ module _ (m : Manner (Unit {0})) (goes : GoesOn m) where
       let rest = flat_map commands_of lines in
       rw (ap (λ (x : MachineState × Option Stop). x.1) first)
       (cues_replay lines (line + 1) (cue_course m (cue_asking line asked) s).state
-      ∙ (ap (λ (x : MachineState × Option Stop). (machine_after rest x.0, None)) first
+      ∙ (ap (λ (x : MachineState × Option Stop). (after_commands rest x.0, None)) first
       ∙ ap (λ m. (m, None))
-      (sym (machine_after-append (commands_of asked) rest s.standing.machine))))
+      (sym (after_commands-append (commands_of asked) rest s.standing.machine))))
 
   replayed_machine : (commands : List Command) (s : Standing)
-      → replayed m commands s ≡ machine_after commands s.machine
+      → replayed m commands s ≡ after_commands commands s.machine
   replayed_machine commands s =
       ap (λ (x : MachineState × Option Stop). x.0)
       (cues_replay (lines_behind 0 commands) 2 (concert s tt))
-      ∙ ap (λ list. machine_after list s.machine) (behind_same commands 0)
+      ∙ ap (λ list. after_commands list s.machine) (behind_same commands 0)
 
 -- ---- a performance
 
@@ -243,6 +240,14 @@ replays_script polls s empty ends =
     replays_by c.ending c s empty
     (begun_carried keeps_carries (λ poll t. keeps_none t) keeps_journal s polls) ends
 
+-- its commands lead to the session
+pub obeys_commands : (s : LiveState) (polls : List Poll)
+    → (so_far s polls).state.standing.machine
+    ≡ after_commands (commands_in (so_far s polls).acts) s.standing.machine
+obeys_commands s polls =
+    ap (λ (x : Option (List Command) × MachineState). x.1)
+    (begun_carried keeps_carries (λ poll t. keeps_none t) keeps_journal s polls)
+
 -- ---- one command on each line
 
 lines_same : (commands : List Command) → flat_map commands_of (map asks.Do commands) ≡ commands
@@ -254,6 +259,5 @@ leads_back polls s m goes =
     let commands = commands_in (so_far s polls).acts in
     ap (λ (x : MachineState × Option Stop). x.0)
     (cues_replay m goes (map asks.Do commands) 2 (concert s.standing tt))
-    ∙ (ap (λ list. machine_after list s.standing.machine) (lines_same commands)
-    ∙ sym (ap (λ (x : Option (List Command) × MachineState). x.1)
-    (begun_carried keeps_carries (λ poll t. keeps_none t) keeps_journal s polls)))
+    ∙ (ap (λ list. after_commands list s.standing.machine) (lines_same commands)
+    ∙ sym (obeys_commands s polls))

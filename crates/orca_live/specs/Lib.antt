@@ -1,5 +1,6 @@
 pub mod Carrying
 pub mod Deaf
+pub mod Hands
 pub mod Items
 pub mod Journals
 pub mod Laws

@@ -1,3 +1,4 @@
+ghost use Rattle.orca_live.specs.Hands.{EachIsHeard};
 ghost use Rattle.orca_live.specs.Journals.{JournalsAreScripts, JournalsPerformance, LeadsBack};
 ghost use Rattle.orca_live.specs.Laws.{ItemsDecide, OnlyAppends, ReplaysScript};
 ghost use Rattle.orca_live.specs.Paintings.{ShowsPerformance};
@@ -39,4 +40,12 @@ pub fn journal_law()
     // This text is a script, and its commands, done again, lead to the session as it stood then.
     ensures reads { JournalsAreScripts }
     ensures leads_back { LeadsBack }
+{}
+
+/// Each of several hands is heard: wherever a performance stands, its session is the one after its
+/// commands, in the order in which they came, and the reader of each hand stands where its own
+/// bytes and the due frames have left it. It does nothing.
+#[tactic(auto, using(crate::proofs::HearingLaw::each_is_heard))]
+pub fn hands_law()
+    ensures heard { EachIsHeard }
 {}
