@@ -8,4 +8,6 @@ pub mod CuttingLaw
 pub mod LeavingLemmas
 pub mod JournalLaw
 pub mod JournalReads
+pub mod OwningLaw
 pub mod HearingLaw
+pub mod NamingLaw

@@ -1,15 +1,31 @@
--- Laws of several hands at one session: each of them is heard.
-use Rattle.std.specs.Prelude.{◌≡◌, ◌==◌, ℕ, Bool, true, if◌then◌else◌, List, [], ◌∷◌, length, None}
+-- Laws of several hands at one session: each of them is heard, and they keep whose each entry is.
+use Rattle.std.specs.Prelude.{◌≡◌, ◌≤◌, ◌==◌, ℕ, Bool, true, false, if◌then◌else◌, List, [], ◌∷◌, length, None}
+use Rattle.std.specs.Option.{option_map_or}
 use Rattle.orca_base.specs.declared.command.Command.{Command}
-use Rattle.orca_course.specs.Acts.{commands_in}
-use Rattle.orca_edit.specs.Obeying.{MachineState, obey}
-use Rattle.orca_jam.specs.Crews.{player_at}
+use Rattle.orca_base.specs.declared.command.Command.TheVariants as command
+use Rattle.orca_course.specs.Acts.{Act, commands_in}
+use Rattle.orca_course.specs.Acts.Act.{Await, Obey}
+use Rattle.orca_course.specs.Standings.{Standing}
+use Rattle.orca_edit.specs.Obeying.{MachineState, obey, rule_against}
+use Rattle.orca_jam.specs.Crews.{crew_at_start, denial_of, player_at}
+use Rattle.orca_jam.specs.Laws.{AreOwners, edits_of_others}
+use Rattle.orca_jam.specs.Owners.{owned}
+use Rattle.orca_jam.specs.declared.owner.Owner.{Owner}
+use Rattle.orca_jam.specs.declared.owner.TheConstants.{NOBODY}
+use Rattle.orca_rig.specs.declared.inbox.Answer.{Answer}
+use Rattle.orca_rig.specs.declared.inbox.Answer.TheVariants as answer
 use Rattle.orca_term.specs.Keys.{Byte, Due, Item, turn}
+use Rattle.orca_term.specs.declared.cell.ScreenSize.{ScreenSize}
+use Rattle.orca_term.specs.declared.keys.Key.TheVariants as key
 use Rattle.orca_term.specs.declared.keys.Pending.{Pending}
 use Rattle.orca_trace.specs.Calls.{Poll}
 use Rattle.orca_live.specs.Items.{ByteOf, FrameDue, HeardItem, items_of}
 use Rattle.orca_live.specs.Laws.{so_far}
-use Rattle.orca_live.specs.States.{LiveState, is_hand}
+use Rattle.orca_live.specs.Performing.{command_course, key_course}
+use Rattle.orca_live.specs.Starting.{live_at_start}
+use Rattle.orca_live.specs.States.{LiveState, Setting, is_hand, moments_at}
+
+-- ---- each hand is heard
 
 -- the session after commands, one after another
 abbrev pub after_commands : List Command → MachineState → MachineState
@@ -47,3 +63,65 @@ pub record HearsEach (s : LiveState) : Type 0 where
 
 abbrev pub EachIsHeard : Type 0
 EachIsHeard = (s : LiveState) → HearsEach s
+
+-- ---- whose each entry is
+
+-- hands share the session, whose history has no more entries than it may have; each entry has an
+-- owner, and there is room for those of a full history
+pub record HasOwners (s : LiveState) : Type 0 where
+  pub shared : s.crew.alone ≡ false
+  pub fits : moments_at s ≤ s.standing.machine.limit
+  pub room : s.standing.machine.limit ≤ s.crew.room
+  pub owners : AreOwners s.standing.machine.history s.crew.owners
+
+-- so it is where hands begin to share a session without a history
+abbrev pub StartsWithOwners : Type 0
+StartsWithOwners =
+    (set : Setting) (hands room : ℕ) (screen : ScreenSize) (at : ℕ) (begins : Standing)
+    → begins.machine.history ≡ [] → begins.machine.limit ≤ room
+    → HasOwners (live_at_start set (crew_at_start set.full hands room) screen at begins)
+
+-- who gives the commands that an answer brings: the hand whose bytes came, or nobody, where a frame
+-- is due
+abbrev pub giver : Answer → ℕ
+giver (answer.Bytes hand count at) = hand
+giver _ = NOBODY
+
+-- the owners after a command of a hand, or of nobody: a refused one changes none of them
+abbrev pub owners_given : ℕ → Command → MachineState → List Owner → List Owner
+owners_given who command machine owners =
+    option_map_or (λ rule. owners) (rule_against machine command)
+    (owned who command (length (obey machine command).machine.history) owners)
+
+-- the owners after acts: each command is of whoever the last answer came from
+abbrev pub owners_after : ℕ → List Act → MachineState → List Owner → List Owner
+owners_after who [] machine owners = owners
+owners_after who (Await poll ∷ acts) machine owners =
+    owners_after (giver poll.answer) acts machine owners
+owners_after who (Obey command ∷ acts) machine owners =
+    owners_after who acts (obey machine command).machine (owners_given who command machine owners)
+owners_after who (_ ∷ acts) machine owners = owners_after who acts machine owners
+
+-- hands that share a session keep whose each entry is, wherever they stand: what came of the bytes
+-- of a hand is this hand's, and a frame of the clock is nobody's. So an undo that is neither denied
+-- to a hand nor refused leaves every edit of every other hand, in order
+pub record SharesFairly (s : LiveState) : Type 0 where
+  pub owners : (polls : List Poll) → HasOwners (so_far s polls).state
+  pub names : (polls : List Poll)
+      → let c = so_far s polls in
+      c.state.crew.owners ≡ owners_after NOBODY c.acts s.standing.machine s.crew.owners
+  pub spares : (polls : List Poll) (hand : ℕ)
+      → let t = (so_far s polls).state in
+      let u = (command_course hand command.Undo t).state in
+      denial_of t.crew hand key.Undo ≡ None → rule_against t.standing.machine command.Undo ≡ None
+      → edits_of_others hand u.standing.machine.history u.crew.owners
+      ≡ edits_of_others hand t.standing.machine.history t.crew.owners
+  -- the key of it leaves them too, whatever becomes of the key
+  pub undoes : (polls : List Poll) (hand : ℕ)
+      → let t = (so_far s polls).state in
+      let u = (key_course hand key.Undo t).state in
+      edits_of_others hand u.standing.machine.history u.crew.owners
+      ≡ edits_of_others hand t.standing.machine.history t.crew.owners
+
+abbrev pub HandsShare : Type 0
+HandsShare = (s : LiveState) → HasOwners s → SharesFairly s

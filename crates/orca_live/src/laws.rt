@@ -1,4 +1,4 @@
-ghost use Rattle.orca_live.specs.Hands.{EachIsHeard};
+ghost use Rattle.orca_live.specs.Hands.{EachIsHeard, HandsShare, StartsWithOwners};
 ghost use Rattle.orca_live.specs.Journals.{JournalsAreScripts, JournalsPerformance, LeadsBack};
 ghost use Rattle.orca_live.specs.Laws.{ItemsDecide, OnlyAppends, ReplaysScript};
 ghost use Rattle.orca_live.specs.Paintings.{ShowsPerformance};
@@ -45,7 +45,12 @@ pub fn journal_law()
 /// Each of several hands is heard: wherever a performance stands, its session is the one after its
 /// commands, in the order in which they came, and the reader of each hand stands where its own
 /// bytes and the due frames have left it. It does nothing.
-#[tactic(auto, using(crate::proofs::HearingLaw::each_is_heard))]
+#[tactic(auto, using(crate::proofs::HearingLaw::each_is_heard, crate::proofs::NamingLaw::hands_share))]
 pub fn hands_law()
     ensures heard { EachIsHeard }
+    // Those that share a session begin with an owner of each entry, and keep whose each is: what
+    // came of the bytes of a hand is this hand's. So an undo that one of them is granted leaves
+    // every edit of the others.
+    ensures starts { StartsWithOwners }
+    ensures shared { HandsShare }
 {}

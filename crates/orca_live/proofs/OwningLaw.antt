@@ -1,0 +1,365 @@
+-- Hands that share a session keep whose each entry is, and an undo spares the edits of others.
+use Rattle.std.proofs.Common.{◌≡◌, ◌≢◌, ℕ, suc, ◌<◌, ◌≤◌, Bool, true, false, List, [], ◌∷◌, ◌++◌, length, take, refl, sym, ◌∙◌, ap, subst, arith, inl, inr, length-append}
+use Rattle.std.specs.Prelude.{if◌then◌else◌, ◌&&◌, ◌||◌, nat_le, Option, Some, None}
+use Rattle.std.specs.Option.{option_map_or}
+use Rattle.std.proofs.lemmas.Bool.{cases_Bool, le-leb, leb-false}
+use Rattle.std.proofs.lemmas.List.{length-take-le}
+use Rattle.std.proofs.lemmas.Option.{none-some, same_Some}
+use Rattle.orca_base.specs.declared.command.Command.{Command}
+use Rattle.orca_base.specs.declared.command.Command.TheVariants as command
+use Rattle.orca_base.specs.declared.command.Entry.{Entry}
+use Rattle.orca_base.specs.declared.command.Entry.TheVariants.{Hush}
+use Rattle.orca_base.specs.declared.command.Rule.{Rule}
+use Rattle.orca_base.specs.declared.command.Rule.TheVariants.{HistoryFull, NoSuchMoment, NothingToRedo, NothingToUndo}
+use Rattle.orca_base.specs.Grids.{Sheet}
+use Rattle.orca_base.specs.Histories.{is_edit, last_edit}
+use Rattle.orca_base.specs.MarkSet.{MarkSet}
+use Rattle.orca_concert.specs.Concerts.{command_course as obey_course}
+use Rattle.orca_course.specs.Acts.{Act}
+use Rattle.orca_course.specs.Courses.{Course, mapped, onward}
+use Rattle.orca_course.specs.Standings.{note_of, standing_after}
+use Rattle.orca_course.specs.declared.ending.Stop.{Stop}
+use Rattle.orca_edit.specs.Obeying.{MachineState, Obeyed, Test, accept, adds_entry, block_tests, carry_out, clip_after, entry_of, first_standing, has_no_room, jump, obey, piece_of, redoes_nothing, refuse, rewinds_too_far, rule_against, taken_area, test, undoes_nothing}
+use Rattle.orca_jam.specs.Crews.{CrewState, denial_of, struck_by}
+use Rattle.orca_jam.specs.Laws.{edits_of_others}
+use Rattle.orca_jam.specs.declared.denial.Denial.{Denial}
+use Rattle.orca_jam.specs.Owners.{owned}
+use Rattle.orca_jam.proofs.OwnerLaws.{keeps_owners, undo_spares}
+use Rattle.orca_term.specs.declared.keys.Key.TheVariants as key
+use Rattle.orca_trace.specs.Calls.{Poll}
+use Rattle.orca_live.specs.Carrying.{Carries}
+use Rattle.orca_live.proofs.Carried.{begun_carried}
+use Rattle.orca_live.specs.Hands.{HasOwners, StartsWithOwners}
+use Rattle.orca_live.specs.Laws.{so_far}
+use Rattle.orca_live.specs.Performing.{command_course, denied_course, header_course, if_named, journal_course, key_course, lines_course, obeyed, owning, painted_course, struck_course, struck_where, wish_course, write_course}
+use Rattle.orca_live.specs.States.{LiveState, around_at, fitted}
+
+-- ---- the rules
+
+-- where none of these tests stands, this one doesn't
+no_test : (before : List Test) (t : Test) (after : List Test)
+    → first_standing (before ++ t ∷ after) ≡ None → t.stands ≡ false
+no_test [] t after none = elim (cases_Bool t.stands) [
+  | inl stands ↦
+      let some : first_standing (t ∷ after) ≡ Some t.rule = rw stands refl in absurd (cc)
+  | inr fails ↦ fails
+]
+no_test (b ∷ before) t after none = elim (cases_Bool b.stands) [
+  | inl stands ↦
+      let some : first_standing (b ∷ (before ++ t ∷ after)) ≡ Some b.rule = rw stands refl in
+      absurd (cc)
+  | inr fails ↦ no_test before t after (rw fails at none)
+]
+
+-- a moment to go back to is there
+moment_below : (m : MachineState) (moment : ℕ) → rule_against m (command.Rewind moment) ≡ None
+    → moment < length m.history
+unfolding rule_against
+moment_below m moment allowed =
+    let c : Command = command.Rewind moment in
+    leb-false (length m.history) moment
+    (no_test
+    (block_tests (piece_of m).sheet.dims m.clip c
+    ++ test NothingToUndo (undoes_nothing m.history c) ∷ [])
+    (test (NoSuchMoment (length m.history)) (rewinds_too_far m.history c))
+    (test HistoryFull (has_no_room m.limit m.history m.tail c)
+    ∷ test NothingToRedo (redoes_nothing m.tail c)
+    ∷ [])
+    allowed)
+
+neither : (adds full b : Bool) → adds ≡ true → (adds && full) || b ≡ false → full ≡ false
+neither true true b is none = none
+neither true false b is none = refl
+neither false full b is none = absurd cc
+
+-- a command that adds an entry has room for it
+has_room : (m : MachineState) (c : Command) → rule_against m c ≡ None → adds_entry c ≡ true
+    → length m.history < m.limit
+unfolding rule_against
+has_room m c allowed adds =
+    leb-false m.limit (length m.history)
+    (neither (adds_entry c) (nat_le m.limit (length m.history)) _ adds
+    (no_test
+    (block_tests (piece_of m).sheet.dims m.clip c
+    ++ test NothingToUndo (undoes_nothing m.history c)
+    ∷ test (NoSuchMoment (length m.history)) (rewinds_too_far m.history c)
+    ∷ [])
+    (test HistoryFull (has_no_room m.limit m.history m.tail c))
+    (test NothingToRedo (redoes_nothing m.tail c) ∷ [])
+    allowed))
+
+-- the last edit is in the history
+edit_by : (last : Option ℕ) (edit : Bool) (n i : ℕ) → ((j : ℕ) → last ≡ Some j → j < n)
+    → option_map_or (λ j. Some (suc j)) last (if edit then Some 0 else None) ≡ Some i → i < suc n
+edit_by (Some j) edit n i later is =
+    let same : suc j ≡ i = same_Some _ _ is in omega (arith, later j refl)
+edit_by None true n i later is = let same : 0 ≡ i = same_Some _ _ is in omega arith
+edit_by None false n i later is = absurd (none-some _ is)
+
+edit_below : (h : List Entry) (i : ℕ) → last_edit h ≡ Some i → i < length h
+edit_below [] i is = absurd (none-some _ is)
+edit_below (e ∷ h) i is =
+    edit_by (last_edit h) (is_edit e) (length h) i (λ j found. edit_below h j found) is
+
+-- ---- one command
+
+-- what an accepted command makes of a session
+record IsTaken (m : MachineState) (o : Obeyed) : Type 0 where
+  pub note : note_of o.answer ≡ None
+  pub limit : o.machine.limit ≡ m.limit
+  pub fits : length m.history ≤ m.limit → length o.machine.history ≤ m.limit
+
+taken_entry : (m : MachineState) (c : Command) (clip : Option Sheet) (e : Option Entry)
+    → length m.history < m.limit → IsTaken m (carry_out m c clip e)
+taken_entry m c clip None room = record { note = refl; limit = refl; fits = λ fits. fits }
+taken_entry m c clip (Some e) room = record {
+  note = refl;
+  limit = refl;
+  fits = λ fits. omega (arith, length-append m.history (e ∷ []));
+}
+
+-- what is done with a command that is no jump
+abbrev entered : MachineState → Command → Obeyed
+entered m c =
+    let d = (piece_of m).sheet.dims in
+    carry_out m c (clip_after m.clip (piece_of m).sheet (taken_area d c)) (entry_of d m.clip c)
+
+taken_entered : (m : MachineState) (c : Command) → rule_against m c ≡ None → adds_entry c ≡ true
+    → accept m c ≡ entered m c → IsTaken m (accept m c)
+taken_entered m c allowed adds is =
+    let d = (piece_of m).sheet.dims in
+    subst (IsTaken m) (sym is)
+    (taken_entry m c (clip_after m.clip (piece_of m).sheet (taken_area d c)) (entry_of d m.clip c)
+    (has_room m c allowed adds))
+
+taken_jump : (m : MachineState) (i : ℕ) → i < length m.history → IsTaken m (jump m i)
+unfolding jump
+taken_jump m i below = record {
+  note = refl;
+  limit = refl;
+  fits = λ fits.
+      omega (
+        arith,
+        length-append (take i m.history) (Hush ∷ []),
+        length-take-le i m.history (omega arith),
+      );
+}
+
+taken_undo : (m : MachineState) (last : Option ℕ) → last_edit m.history ≡ last
+    → rule_against m command.Undo ≡ None
+    → IsTaken m (option_map_or (jump m) last (refuse m NothingToUndo))
+unfolding rule_against
+taken_undo m (Some i) is allowed = taken_jump m i (edit_below m.history i is)
+taken_undo m None is allowed = absurd (none-some NothingToUndo (sym allowed ∙ rw is refl))
+
+taken : (m : MachineState) (c : Command) → rule_against m c ≡ None → c ≢ command.Redo
+    → IsTaken m (accept m c)
+unfolding accept entry_of
+taken m command.Frame allowed other = taken_entered m command.Frame allowed refl refl
+taken m (command.Write y x glyph) allowed other =
+    taken_entered m (command.Write y x glyph) allowed refl refl
+taken m (command.Fill rect glyph) allowed other =
+    taken_entered m (command.Fill rect glyph) allowed refl refl
+taken m (command.Erase rect) allowed other =
+    taken_entered m (command.Erase rect) allowed refl refl
+taken m (command.Copy rect) allowed other =
+    record { note = refl; limit = refl; fits = λ fits. fits }
+taken m (command.Cut rect) allowed other = taken_entered m (command.Cut rect) allowed refl refl
+taken m (command.Paste y x) allowed other = taken_entered m (command.Paste y x) allowed refl refl
+taken m (command.Move rect y x) allowed other =
+    taken_entered m (command.Move rect y x) allowed refl refl
+taken m (command.Resize h w) allowed other = taken_entered m (command.Resize h w) allowed refl refl
+taken m command.Reset allowed other = taken_entered m command.Reset allowed refl refl
+taken m command.Undo allowed other = taken_undo m (last_edit m.history) refl allowed
+taken m (command.Rewind moment) allowed other =
+    taken_jump m moment (moment_below m moment allowed)
+taken m command.Redo allowed other = absurd (other refl)
+
+taken_obeyed : (m : MachineState) (c : Command) → rule_against m c ≡ None → c ≢ command.Redo
+    → IsTaken m (obey m c)
+unfolding obey
+taken_obeyed m c allowed other = rw allowed (taken m c allowed other)
+
+-- the hands after it own what they own by its definition
+owning_taken : (who : ℕ) (c : Command) (refused : Option Rule) (n : ℕ) (crew : CrewState)
+    → refused ≡ None → crew.alone ≡ false → n ≤ crew.room
+    → owning who c refused n crew ≡ record crew { owners = owned who c n crew.owners }
+owning_taken who c refused n crew taken shared room =
+    rw (taken, le-leb n crew.room room, shared) refl
+
+-- the same, of the session of a performance
+pub owning_obeyed : (who : ℕ) (c : Command) (s : LiveState) → HasOwners s
+    → rule_against s.standing.machine c ≡ None → c ≢ command.Redo
+    → let o = obey s.standing.machine c in
+    let n = length o.machine.history in
+    owning who c (note_of o.answer) n s.crew
+    ≡ record s.crew { owners = owned who c n s.crew.owners }
+owning_obeyed who c s has allowed other =
+    let m = s.standing.machine in
+    let o = obey m c in
+    let is = taken_obeyed m c allowed other in
+    owning_taken who c (note_of o.answer) (length o.machine.history) s.crew is.note has.shared
+    (omega (arith, is.fits has.fits, has.room))
+
+-- ---- steps
+
+-- from one state to another they go on to own what they did
+abbrev Owns : LiveState → List Act → LiveState → Type 0
+Owns s acts t = HasOwners s → HasOwners t
+
+-- where nothing that is owned has changed
+pub owns_same : (s t : LiveState) → t.standing ≡ s.standing
+    → t.crew ≡ record s.crew { players = t.crew.players } → HasOwners s → HasOwners t
+owns_same s t standing crew has =
+    let alone : t.crew.alone ≡ s.crew.alone = ap (λ (c : CrewState). c.alone) crew in
+    let room : t.crew.room ≡ s.crew.room = ap (λ (c : CrewState). c.room) crew in
+    let owners : t.crew.owners ≡ s.crew.owners = ap (λ (c : CrewState). c.owners) crew in
+    record {
+      shared = alone ∙ has.shared;
+      fits = rw standing has.fits;
+      room = rw (standing, room) has.room;
+      owners = rw (standing, owners) has.owners;
+    }
+
+-- where a command leads
+abbrev pub led : ℕ → Command → LiveState → Obeyed → LiveState
+led who c s o = obeyed who c s (standing_after s.standing o)
+
+owns_accepted : (who : ℕ) (c : Command) (s : LiveState) → HasOwners s
+    → rule_against s.standing.machine c ≡ None → c ≢ command.Redo
+    → HasOwners (led who c s (obey s.standing.machine c))
+owns_accepted who c s has allowed other =
+    let m = s.standing.machine in
+    let after = obey m c in
+    let taken = taken_obeyed m c allowed other in
+    let is = owning_obeyed who c s has allowed other in
+    record {
+      shared = ap (λ (crew : CrewState). crew.alone) is ∙ has.shared;
+      fits = omega (arith, taken.fits has.fits, taken.limit);
+      room = omega (arith, ap (λ (crew : CrewState). crew.room) is, taken.limit, has.room);
+      owners = rw (ap (λ (crew : CrewState). crew.owners) is)
+          (keeps_owners m s.crew.owners who c has.owners other allowed);
+    }
+
+owns_refused : (who : ℕ) (c : Command) (s : LiveState) (rule : Rule) → HasOwners s
+    → HasOwners (led who c s (refuse s.standing.machine rule))
+owns_refused who c s rule has = record {
+  shared = has.shared;
+  fits = has.fits;
+  room = has.room;
+  owners = has.owners;
+}
+
+pub owns_by : (who : ℕ) (c : Command) (s : LiveState) (rule : Option Rule)
+    → rule_against s.standing.machine c ≡ rule → c ≢ command.Redo → HasOwners s
+    → HasOwners (led who c s (obey s.standing.machine c))
+unfolding obey
+owns_by who c s None is other has = owns_accepted who c s has is other
+owns_by who c s (Some rule) is other has =
+    let m = s.standing.machine in
+    subst (λ (against : Option Rule).
+    HasOwners (led who c s (option_map_or (refuse m) against (accept m c))))
+    (sym is) (owns_refused who c s rule has)
+
+owns_command : (who : ℕ) (c : Command) (s : LiveState)
+    → (s.crew.alone ≡ false → c ≢ command.Redo)
+    → Owns s (command_course who c s).acts (command_course who c s).state
+unfolding command_course obey_course onward mapped
+owns_command who c s may has =
+    owns_by who c s (rule_against s.standing.machine c) refl (may has.shared) has
+
+owns_named : (name : Option (List ℕ)) (next : List ℕ → LiveState → Course LiveState Stop)
+    (s : LiveState) → ((name : List ℕ) → Owns s [] (next name s).state)
+    → Owns s [] (if_named name next s).state
+owns_named None next s owns has = has
+owns_named (Some name) next s owns has = owns name has
+
+owns_write : (s : LiveState) → Owns s [] (write_course s).state
+unfolding write_course lines_course
+owns_write s =
+    owns_named s.setting.journal lines_course s
+    (λ name has. owns_same s (record s { unwritten = [] }) refl refl has)
+
+owns_journal : (s : LiveState) → Owns s [] (journal_course s).state
+unfolding journal_course header_course
+owns_journal s = owns_named s.setting.journal header_course s (λ name has. has)
+
+owns_paint : (marks : List MarkSet) (s : LiveState) → Owns s [] (painted_course marks s).state
+unfolding painted_course
+owns_paint marks s has = owns_same s (painted_course marks s).state refl refl has
+
+owns_carries : Carries Owns
+owns_carries = record {
+  none = λ s t alike has. owns_same s t alike.standing alike.crew has;
+  both = λ r s t xs ys first second has. second (first has);
+  command = owns_command;
+  denied = λ hand denial s has. has;
+  save = λ name bytes s saved has. has;
+  write = owns_write;
+  paint = owns_paint;
+  screen = λ d s is has. owns_same s (record s { screen = d; shown = None }) refl refl has;
+}
+
+-- ---- a performance
+
+pub starts_with_owners : StartsWithOwners
+starts_with_owners set hands room screen at begins none fits = record {
+  shared = refl;
+  fits = rw none (omega arith);
+  room = fits;
+  owners = rw none refl;
+}
+
+pub owns_so_far : (s : LiveState) (polls : List Poll) → HasOwners s
+    → HasOwners (so_far s polls).state
+owns_so_far s polls = begun_carried owns_carries (λ poll t has. has) owns_journal s polls
+
+-- the edits of other hands stay
+abbrev Spares : ℕ → LiveState → LiveState → Type 0
+Spares hand s t =
+    edits_of_others hand t.standing.machine.history t.crew.owners
+    ≡ edits_of_others hand s.standing.machine.history s.crew.owners
+
+pub spares_allowed : (hand : ℕ) (s : LiveState) → HasOwners s
+    → denial_of s.crew hand key.Undo ≡ None
+    → rule_against s.standing.machine command.Undo ≡ None
+    → Spares hand s (command_course hand command.Undo s).state
+unfolding command_course obey_course onward mapped
+spares_allowed hand s has granted allowed =
+    let m = s.standing.machine in
+    let is = owning_obeyed hand command.Undo s has allowed (λ same. cc) in
+    ap (λ (crew : CrewState).
+    edits_of_others hand (obey m command.Undo).machine.history crew.owners) is
+    ∙ undo_spares m s.crew hand has.owners has.shared granted allowed
+
+-- an undo that a rule refuses changes nothing
+spares_by : (hand : ℕ) (s : LiveState) (rule : Option Rule)
+    → rule_against s.standing.machine command.Undo ≡ rule → HasOwners s
+    → denial_of s.crew hand key.Undo ≡ None
+    → Spares hand s (command_course hand command.Undo s).state
+unfolding command_course obey_course onward mapped obey
+spares_by hand s None is has granted = spares_allowed hand s has granted is
+spares_by hand s (Some rule) is has granted =
+    let m = s.standing.machine in
+    ap (λ (against : Option Rule).
+    let t = led hand command.Undo s (option_map_or (refuse m) against (accept m command.Undo)) in
+    edits_of_others hand t.standing.machine.history t.crew.owners) is
+
+-- nor does a key that is denied
+spares_where : (hand : ℕ) (s : LiveState) (denial : Option Denial)
+    → denial_of s.crew hand key.Undo ≡ denial → HasOwners s
+    → Spares hand s (struck_where hand key.Undo s denial).state
+unfolding denied_course wish_course denial_of
+spares_where hand s (Some denial) is has = refl
+spares_where hand s None is has =
+    let t : LiveState =
+    record s { crew = struck_by hand key.Undo (around_at hand s) s.crew } in
+    spares_by hand t (rule_against s.standing.machine command.Undo) refl
+    (owns_same s t refl refl has) is
+
+pub spares_key : (hand : ℕ) (s : LiveState) → HasOwners s
+    → Spares hand s (key_course hand key.Undo s).state
+unfolding key_course struck_course
+spares_key hand s has =
+    let t = fitted s in
+    spares_where hand t (denial_of t.crew hand key.Undo) refl (owns_same s t refl refl has)
