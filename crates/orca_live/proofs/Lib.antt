@@ -11,3 +11,5 @@ pub mod JournalReads
 pub mod OwningLaw
 pub mod HearingLaw
 pub mod NamingLaw
+pub mod RedoKey
+pub mod SoloLaw

@@ -7,5 +7,6 @@ pub mod Laws
 pub mod Paintings
 pub mod Performing
 pub mod Quiet
+pub mod Solo
 pub mod Starting
 pub mod States

@@ -2,6 +2,7 @@ ghost use Rattle.orca_live.specs.Hands.{EachIsHeard, HandsShare, StartsWithOwner
 ghost use Rattle.orca_live.specs.Journals.{JournalsAreScripts, JournalsPerformance, LeadsBack};
 ghost use Rattle.orca_live.specs.Laws.{ItemsDecide, OnlyAppends, ReplaysScript};
 ghost use Rattle.orca_live.specs.Paintings.{ShowsPerformance};
+ghost use Rattle.orca_live.specs.Solo.{PlaysAlone};
 
 /// More answers only add acts: what was done before stays done. It does nothing.
 #[tactic(auto, using(crate::proofs::AppendingLaw::only_appends))]
@@ -53,4 +54,11 @@ pub fn hands_law()
     // every edit of the others.
     ensures starts { StartsWithOwners }
     ensures shared { HandsShare }
+{}
+
+/// A hand that shares its session with nobody, so that each edit is its own, plays without the key of
+/// Redo as one that plays alone: it does the same acts, and ends the same way. It does nothing.
+#[tactic(auto, using(crate::proofs::SoloLaw::plays_alone))]
+pub fn solo_law()
+    ensures { PlaysAlone }
 {}

@@ -19,7 +19,9 @@ mod setting;
 mod silent;
 mod unmarked;
 
-pub use laws::{appending_law, cutting_law, hands_law, journal_law, painting_law, script_law};
+pub use laws::{
+    appending_law, cutting_law, hands_law, journal_law, painting_law, script_law, solo_law,
+};
 pub use live::Live;
 pub use setting::Setting;
 pub use silent::Silent;

@@ -1,0 +1,131 @@
+-- The key of Redo is given by its byte alone, outside of sequences and inside.
+use Rattle.std.proofs.Common.{◌≡◌, ◌≢◌, ℕ, ◌+◌, Bool, true, false, not, ◌&&◌, ◌||◌, List, [], ◌∷◌, refl, arith}
+use Rattle.std.specs.Prelude.{◌==◌, Option, Some, None, option_and_then}
+use Rattle.std.proofs.lemmas.Bool.{and_parts}
+use Rattle.std.proofs.lemmas.Bool.Decides.{nat_tests}
+use Rattle.orca_base.specs.declared.limits.TheConstants.{MAX_COLUMNS}
+use Rattle.orca_term.specs.Keys.{Item, Byte, Due, arrow_in, arrow_key, arrow_keys, button_key, edges, ended_key, found_in, further_keys, further_sequence, key_at_end, key_of, key_of_numbers, key_of_sequence, lone_keys, mouse_key, mouse_sequence, numbered_edges, numbered_keys, numbers_in, paged_key, pages, plain_key, plain_sequence, shifted_keys, sides, turn, wheel}
+use Rattle.orca_term.specs.declared.keys.Key.{Key}
+use Rattle.orca_term.specs.declared.keys.Key.TheVariants as key
+use Rattle.orca_term.specs.declared.keys.Pending.{Pending}
+use Rattle.orca_term.specs.declared.keys.Pending.TheVariants.{Nothing, Lone, Sequence, Overlong}
+use Rattle.orca_term.specs.declared.keys.Side.{Side}
+use Rattle.orca_term.specs.declared.limits.TheConstants.{RULER_PLACES}
+use Rattle.orca_live.specs.Solo.{redo_byte}
+
+-- whether a key is that of Redo
+abbrev pub is_redo : Key → Bool
+is_redo key.Redo = true
+is_redo _ = false
+
+-- another key, or none
+abbrev pub IsOther : Option Key → Type 0
+IsOther None = Unit {0}
+IsOther (Some k) = is_redo k ≡ false
+
+-- an item is not the byte of that key
+abbrev pub IsSpared : Item → Type 0
+IsSpared (Byte byte) = byte ≢ redo_byte
+IsSpared Due = Unit {0}
+
+other_then : {A : Type 0} (f : A → Option Key) (o : Option A) → ((a : A) → IsOther (f a))
+    → IsOther (option_and_then f o)
+other_then f None others = tt
+other_then f (Some a) others = others a
+
+-- ---- tables
+
+-- in a table the key stands beside this number, if anywhere
+abbrev stands_at : ℕ → List (ℕ × Key) → Bool
+stands_at k [] = true
+stands_at k (row ∷ rows) = (not (is_redo row.1) || row.0 == k) && stands_at k rows
+
+found_other : (rows : List (ℕ × Key)) (n k : ℕ) → stands_at k rows ≡ true → n ≢ k
+    → IsOther (found_in rows n)
+found_other [] n k stands apart = tt
+found_other (row ∷ rows) n k stands apart =
+    let parts = and_parts (not (is_redo row.1) || row.0 == k) (stands_at k rows) stands in
+    let rest = found_other rows n k parts.1 apart in
+    grind (arith, nat_tests, parts.0, rest)
+
+-- a table without it
+never_found : (rows : List (ℕ × Key)) (n : ℕ) → ((k : ℕ) → stands_at k rows ≡ true)
+    → IsOther (found_in rows n)
+never_found rows n never = found_other rows n (n + 1) (never (n + 1)) (λ is. omega (arith, is))
+
+-- ---- single bytes
+
+plain_other : (byte : ℕ) → byte ≢ redo_byte → IsOther (plain_key byte)
+unfolding plain_key
+plain_other byte apart = grind (arith, found_other lone_keys byte redo_byte refl apart)
+
+byte_other : (full : Bool) (byte : ℕ) → byte ≢ redo_byte → IsOther (key_of full byte)
+unfolding key_of
+byte_other full byte apart =
+    grind (arith, plain_other byte apart, never_found further_keys byte (λ k. refl))
+
+-- ---- sequences
+
+short_other : (bytes : List ℕ) (last : ℕ) → IsOther (plain_sequence bytes last)
+unfolding plain_sequence
+short_other bytes last =
+    grind (arith, never_found arrow_keys last (λ k. refl), never_found shifted_keys last (λ k. refl))
+
+arrow_other : (m by : ℕ) (side : Side) → IsOther (arrow_key m by side)
+arrow_other m by side = grind arith
+
+in_other : (table : List (ℕ × Side)) (n m by : ℕ) → IsOther (arrow_in table n m by)
+in_other table n m by = other_then (arrow_key m by) (found_in table n) (arrow_other m by)
+
+ended_other : (last m : ℕ) → IsOther (ended_key last m)
+ended_other last m = grind (arith, in_other sides last m 1, in_other edges last m MAX_COLUMNS)
+
+paged_other : (n m : ℕ) → IsOther (paged_key n m)
+paged_other n m =
+    grind (arith, in_other pages n m RULER_PLACES, in_other numbered_edges n m MAX_COLUMNS)
+
+numbers_other : (numbers : List ℕ) (last : ℕ) → IsOther (key_of_numbers numbers last)
+unfolding key_of_numbers
+numbers_other numbers last =
+    grind (arith, ended_other, paged_other, λ (n : ℕ). never_found numbered_keys n (λ k. refl))
+
+button_other : (b row column : ℕ) → IsOther (button_key b row column)
+button_other b row column = grind (arith, in_other wheel b 1 RULER_PLACES)
+
+report_other : (numbers : List ℕ) → IsOther (mouse_key numbers)
+report_other numbers = grind (arith, button_other)
+
+mouse_other : (bytes : List ℕ) (last : ℕ) → IsOther (mouse_sequence bytes last)
+unfolding mouse_sequence
+mouse_other [] last = tt
+mouse_other (first ∷ bytes) last =
+    grind (arith, other_then mouse_key (numbers_in bytes) report_other)
+
+further_other : (bytes : List ℕ) (last : ℕ) → IsOther (further_sequence bytes last)
+further_other bytes last =
+    grind (
+      arith,
+      other_then (λ numbers. key_of_numbers numbers last) (numbers_in bytes)
+          (λ numbers. numbers_other numbers last),
+      mouse_other bytes last,
+    )
+
+end_other : (full : Bool) (p : Pending) (last : ℕ) → IsOther (key_at_end full p last)
+unfolding key_of_sequence
+end_other full Nothing last = tt
+end_other full Lone last = tt
+end_other full (Sequence bytes) last =
+    grind (arith, short_other bytes last, further_other bytes last)
+end_other full Overlong last = tt
+
+-- ---- the reader
+
+pub turn_other : (full : Bool) (p : Pending) (item : Item) → IsSpared item
+    → IsOther (turn full p item).key
+unfolding turn
+turn_other full Nothing (Byte byte) apart = grind (arith, byte_other full byte apart)
+turn_other full Lone (Byte byte) apart = grind (arith, byte_other full byte apart)
+turn_other full (Sequence bytes) (Byte byte) apart =
+    grind (arith, end_other full (Sequence bytes) byte, byte_other full byte apart)
+turn_other full Overlong (Byte byte) apart = grind (arith, byte_other full byte apart)
+turn_other full p Due spared = grind arith

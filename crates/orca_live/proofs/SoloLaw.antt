@@ -1,0 +1,444 @@
+-- One hand whose edits are its own plays as one that plays alone: what is done from its states is
+-- done from those of one that plays alone too, and it stays such a hand.
+use Rattle.std.proofs.Common.{◌≡◌, ◌≢◌, ℕ, zero, suc, arith, length, Bool, true, false, List, [], ◌∷◌, ◌++◌, refl, ◌∙◌, ap, subst}
+use Rattle.std.specs.Prelude.{if◌then◌else◌, map, nat_le, nat_lt, All, Option, Some, None}
+use Rattle.std.specs.Option.{option_map}
+use Rattle.std.proofs.lemmas.Bool.{le-ltb}
+use Rattle.std.proofs.lemmas.List.{length-map, length-set}
+use Rattle.std.proofs.lemmas.List.Elements.{All-cons, All-head, All-nil, All-tail}
+use Rattle.orca_base.specs.declared.command.Command.{Command}
+use Rattle.orca_base.specs.declared.command.Command.TheVariants.{Frame}
+use Rattle.orca_base.specs.declared.command.Rule.{Rule}
+use Rattle.orca_base.specs.MarkSet.{MarkSet}
+use Rattle.orca_base.specs.declared.limits.TheConstants.{MAX_POLLS}
+use Rattle.orca_concert.specs.Concerts.{close_course as silence_course, command_course as obey_course}
+use Rattle.orca_course.specs.Courses.{Course, each, ended, joined, lastly, lastly_by, mapped, onward, onward_by, still}
+use Rattle.orca_course.specs.Performers.{attended, begun, finished, heard, opened, performance, polled, spent}
+use Rattle.orca_course.specs.declared.ending.Ending.{Ending}
+use Rattle.orca_course.specs.declared.ending.Ending.TheVariants.{Spent, Stopped}
+use Rattle.orca_course.specs.declared.ending.Stop.{Stop}
+use Rattle.orca_course.specs.declared.ending.Stop.TheVariants.{Full}
+use Rattle.orca_course.proofs.CourseLemmas.{goes_both}
+use Rattle.orca_course.proofs.PollLemmas.{heard_goes}
+use Rattle.orca_edit.specs.Machines.{preview_of}
+use Rattle.orca_jam.specs.Crews.{CrewState, asked, denial_of, fitted_player, player_at, struck_by, took_by, turned_by, with_player}
+use Rattle.orca_jam.specs.Laws.{AreLeaders}
+use Rattle.orca_jam.specs.Owners.{owned}
+use Rattle.orca_jam.specs.declared.crew.TheConstants.{LEADER}
+use Rattle.orca_jam.specs.declared.owner.Owner.{Owner}
+use Rattle.orca_jam.specs.declared.owner.TheConstants.{NOBODY}
+use Rattle.orca_jam.specs.declared.player.Player.{Player}
+use Rattle.orca_jam.proofs.LeaderLaws.{leader_is_free, leader_stays_free}
+use Rattle.orca_rig.specs.Arrived.{is_ending}
+use Rattle.orca_rig.specs.declared.inbox.Answer.{Answer}
+use Rattle.orca_rig.specs.declared.inbox.Answer.TheVariants as answer
+use Rattle.orca_term.specs.Keys.{Byte, Due, Item, turn}
+use Rattle.orca_term.specs.declared.around.Around.{Around}
+use Rattle.orca_term.specs.declared.editor.Wish.{Wish}
+use Rattle.orca_term.specs.declared.editor.Wish.TheVariants as wish
+use Rattle.orca_term.specs.declared.keys.Key.{Key}
+use Rattle.orca_trace.specs.Calls.{Poll}
+use Rattle.orca_live.specs.Items.{ByteOf, FrameDue, HeardItem, items_by, items_of}
+use Rattle.orca_live.specs.Performing.{answer_course, answered_at, byte_course, close_course, command_course, due_course, finish_course, fired, frame_course, header_course, heard_course, if_named, item_course, journal_course, key_course, last_course, last_grid_course, last_script_course, lines_course, live_part, lull_course, open_course, owning, paint_course, painted_course, press_course, preview_course, read_course, save_course, script_course, show_course, struck_course, struck_where, update_course, wish_course, write_course}
+use Rattle.orca_live.specs.Solo.{HasNoRedo, IsSolo, PlaysAlone, as_alone, redo_byte}
+use Rattle.orca_live.specs.States.{LiveState, around_at, dims_at, fitted, hands_of, is_full, is_hand, leader_at, piece_at}
+use Rattle.orca_live.proofs.RedoKey.{IsOther, IsSpared, is_redo, turn_other}
+
+-- ---- courses
+
+-- a course as it is where the hand plays alone
+abbrev lone : {E : Type 0} → Course LiveState E → Course LiveState E
+lone c = record c { state = as_alone c.state }
+
+-- the second course is so of the first one, which leaves one hand whose edits are its own
+record Agrees {E : Type 0} (c d : Course LiveState E) : Type 0 where
+  pub same : d ≡ lone c
+  pub solo : IsSolo c.state.crew
+
+agreed : {E : Type 0} (c : Course LiveState E) → IsSolo c.state.crew → Agrees c (lone c)
+agreed c solo = record { same = refl; solo = solo }
+
+-- what one hand does, it does if it plays alone
+abbrev Alike : {E : Type 0} → (LiveState → Course LiveState E) → Type 0
+Alike f = (s : LiveState) → IsSolo s.crew → Agrees (f s) (f (as_alone s))
+
+-- one course after another
+joined_agrees : {E : Type 0} {d e : Course LiveState E} (c : Course LiveState E) → Agrees d e
+    → Agrees (joined c d) (joined (lone c) e)
+joined_agrees {E = E} c rest = record {
+  same = ap (λ (e : Course LiveState E). joined (lone c) e) rest.same;
+  solo = rest.solo;
+}
+
+by_agrees : {E : Type 0} (end : Option E) (c : Course LiveState E)
+    (next : LiveState → Course LiveState E) → IsSolo c.state.crew
+    → (end ≡ None → Agrees (next c.state) (next (as_alone c.state)))
+    → Agrees (onward_by end c next) (onward_by end (lone c) next)
+by_agrees None c next solo more = joined_agrees c (more refl)
+by_agrees (Some e) c next solo more = agreed c solo
+
+onward_agrees : {E : Type 0} {c d : Course LiveState E} (next : LiveState → Course LiveState E)
+    → Agrees c d → (c.ending ≡ None → Alike next) → Agrees (onward c next) (onward d next)
+unfolding onward
+onward_agrees {E = E} {c = c} next first more =
+    let all = by_agrees c.ending c next first.solo (λ on. more on c.state first.solo) in
+    record {
+      same = ap (λ (d : Course LiveState E). onward_by d.ending d next) first.same ∙ all.same;
+      solo = all.solo;
+    }
+
+each_agrees : {X E : Type 0} (f : X → LiveState → Course LiveState E) (xs : List X)
+    → All (λ x. Alike (f x)) xs → Alike (each f xs)
+unfolding each
+each_agrees f [] all s solo = agreed _ solo
+each_agrees {X = X} f (x ∷ xs) all s solo =
+    let P : X → Type 0 = λ (x : X). Alike (f x) in
+    onward_agrees (each f xs) (All-head P x xs all s solo)
+    (λ on. each_agrees f xs (All-tail P x xs all))
+
+if_agrees : {E : Type 0} {c d e f : Course LiveState E} (b : Bool) → Agrees c d → Agrees e f
+    → Agrees (if b then c else e) (if b then d else f)
+if_agrees true first second = first
+if_agrees false first second = second
+
+mapped_agrees : {E F : Type 0} {c d : Course LiveState E} (g : Option E → Option F) → Agrees c d
+    → Agrees (mapped (λ t. t) g c) (mapped (λ t. t) g d)
+unfolding mapped
+mapped_agrees {E = E} {F = F} g first = record {
+  same = ap (λ (c : Course LiveState E). mapped {F = F} (λ (t : LiveState). t) g c) first.same;
+  solo = first.solo;
+}
+
+named_agrees : (name : Option (List ℕ)) (next : List ℕ → LiveState → Course LiveState Stop)
+    → ((name : List ℕ) → Alike (next name)) → Alike (if_named name next)
+named_agrees None next agrees s solo = agreed _ solo
+named_agrees (Some name) next agrees s solo = agrees name s solo
+
+-- ---- crews
+
+abbrev lone_crew : CrewState → CrewState
+lone_crew c = record c { alone = true; owners = []; room = 0 }
+
+-- a crew with as many players
+players_solo : (c : CrewState) (players : List Player) → IsSolo c
+    → length players ≡ length c.players → IsSolo (record c { players = players })
+players_solo c players solo as_many = record { one = as_many ∙ solo.one; own = solo.own }
+
+fitted_solo : (s : LiveState) → IsSolo s.crew → IsSolo (fitted s).crew
+fitted_solo s solo =
+    players_solo s.crew _ solo (length-map s.crew.players (fitted_player (dims_at s)))
+
+player_solo : (c : CrewState) (p : Player) → IsSolo c → IsSolo (with_player LEADER p c)
+player_solo c p solo = players_solo c _ solo (length-set c.players LEADER p)
+
+-- ---- commands
+
+-- a command of this hand, or of nobody, leaves the edits the first hand's
+abbrev IsOwn : ℕ → Command → Type 0
+IsOwn who command =
+    (owners : List Owner) (n : ℕ) → AreLeaders owners → AreLeaders (owned who command n owners)
+
+if_solo : (b : Bool) (c d : CrewState) → IsSolo c → IsSolo d → IsSolo (if b then c else d)
+if_solo true c d first second = first
+if_solo false c d first second = second
+
+owning_solo : (who : ℕ) (command : Command) (refused : Option Rule) (n : ℕ) (c : CrewState)
+    → IsOwn who command → IsSolo c → IsSolo (owning who command refused n c)
+owning_solo who command (Some rule) n c own solo = solo
+owning_solo who command None n c own solo =
+    if_solo (nat_le n c.room) (took_by who command n c) c
+    (if_solo c.alone c _ solo (record { one = solo.one; own = own c.owners n solo.own })) solo
+
+-- of one that plays alone no owners are kept
+owning_lone : (who : ℕ) (command : Command) (refused : Option Rule) (n : ℕ) (c : CrewState)
+    → owning who command refused n (lone_crew c) ≡ lone_crew (owning who command refused n c)
+owning_lone who command refused n c = grind arith
+
+command_agrees : (who : ℕ) (command : Command) → IsOwn who command
+    → Alike (command_course who command)
+unfolding command_course obey_course onward mapped
+command_agrees who command own s solo =
+    let c = command_course who command s in
+    record {
+      same =
+          ap (λ (crew : CrewState). record c { state = record c.state { crew = crew } })
+          (owning_lone who command _ _ s.crew);
+      solo = owning_solo who command _ _ s.crew own solo;
+    }
+
+-- ---- keys
+
+toggle_agrees : (paused : Bool) (s t : LiveState) → IsSolo s.crew → IsSolo t.crew
+    → Agrees {E = Stop} (still (if paused then s else t))
+    (still (if paused then as_alone s else as_alone t))
+toggle_agrees true s t first second = agreed _ first
+toggle_agrees false s t first second = agreed _ second
+
+wish_agrees : (w : Wish) → Alike (wish_course LEADER w)
+unfolding wish_course save_course
+wish_agrees wish.Nothing s solo = agreed _ solo
+wish_agrees (wish.Do command) s solo =
+    command_agrees LEADER command (λ owners n all. (leader_stays_free owners command n all).0) s solo
+wish_agrees wish.Toggle s solo = toggle_agrees (leader_at s).paused s _ solo solo
+wish_agrees wish.Save s solo = agreed _ solo
+wish_agrees wish.Quit s solo = agreed _ solo
+wish_agrees (wish.Slower beats) s solo = agreed _ solo
+wish_agrees (wish.Faster beats) s solo = agreed _ solo
+wish_agrees (wish.Redraw size) s solo = agreed _ solo
+
+-- nothing is denied to one that plays alone
+lone_free : (c : CrewState) (hand : ℕ) (k : Key) → denial_of (lone_crew c) hand k ≡ None
+unfolding denial_of
+lone_free c hand k = refl
+
+-- every key but that of Redo asks for the same
+asked_alike : (c : CrewState) (hand : ℕ) (k : Key) (a : Around) → is_redo k ≡ false
+    → asked (lone_crew c) hand k a ≡ asked c hand k a
+asked_alike c hand k a other = grind arith
+
+free_agrees : (k : Key) → is_redo k ≡ false → Alike (λ s. struck_where LEADER k s None)
+free_agrees k other s solo =
+    let a = around_at LEADER s in
+    let t : LiveState = record s { crew = struck_by LEADER k a s.crew } in
+    let all = wish_agrees (asked s.crew LEADER k a) t (player_solo s.crew _ solo) in
+    record {
+      same =
+          ap (λ (w : Wish). wish_course LEADER w (as_alone t)) (asked_alike s.crew LEADER k a other)
+          ∙ all.same;
+      solo = all.solo;
+    }
+
+struck_agrees : (k : Key) → is_redo k ≡ false → Alike (struck_course LEADER k)
+unfolding struck_course
+struck_agrees k other s solo =
+    rw (leader_is_free s.crew k solo.own, lone_free s.crew LEADER k) (free_agrees k other s solo)
+
+press_agrees : (k : Option Key) → IsOther k → Alike (press_course LEADER k)
+unfolding press_course key_course
+press_agrees None other s solo = agreed _ solo
+press_agrees (Some k) other s solo = struck_agrees k other (fitted s) (fitted_solo s solo)
+
+read_agrees : (item : Item) → IsSpared item → Alike (read_course LEADER item)
+unfolding read_course
+read_agrees item spared s solo =
+    let full = s.setting.full in
+    let keys = (player_at s.crew LEADER).keys in
+    press_agrees (turn full keys item).key (turn_other full keys item spared)
+    (record s { crew = turned_by full LEADER item s.crew }) (player_solo s.crew _ solo)
+
+-- another hand is none of the crew
+no_other : (hand : ℕ) (c : CrewState) → IsSolo c → nat_lt (suc hand) (length c.players) ≡ false
+no_other hand c solo = le-ltb (suc hand) (length c.players) (omega (arith, solo.one))
+
+item_agrees : (hand : ℕ) (item : Item) → (hand ≡ LEADER → IsSpared item)
+    → Alike (item_course hand item)
+unfolding item_course
+item_agrees zero item spared s solo =
+    if_agrees (is_hand LEADER s) (read_agrees item (spared refl) s solo) (agreed (still s) solo)
+item_agrees (suc hand) item spared s solo = rw (no_other hand s.crew solo) (agreed (still s) solo)
+
+-- ---- the clock
+
+frame_agrees : Alike frame_course
+unfolding frame_course
+frame_agrees s solo =
+    if_agrees (is_full s) (agreed (ended Full s) solo)
+    (onward_agrees (λ (t : LiveState). still (fired t))
+    (command_agrees NOBODY Frame (λ owners n all. (leader_stays_free owners Frame n all).1) s solo)
+    (λ on t one. agreed (still (fired t)) one))
+
+lull_agrees : Alike lull_course
+unfolding lull_course
+lull_agrees s solo =
+    each_agrees (λ (hand : ℕ). item_course hand Due) (hands_of s)
+    (λ k hand at. item_agrees _ Due (λ is. tt)) s solo
+
+due_agrees : Alike due_course
+unfolding due_course
+due_agrees s solo = onward_agrees frame_course (lull_agrees s solo) (λ on. frame_agrees)
+
+-- ---- what is shown and written
+
+paint_agrees : (marks : List MarkSet) → Alike (paint_course marks)
+unfolding paint_course painted_course
+paint_agrees marks s solo = agreed _ (fitted_solo s solo)
+
+show_agrees : Alike show_course
+unfolding show_course preview_course
+show_agrees s solo =
+    joined_agrees (preview_course s) (paint_agrees (preview_of (piece_at s)) s solo)
+
+write_agrees : Alike write_course
+unfolding write_course lines_course
+write_agrees s solo =
+    named_agrees s.setting.journal lines_course (λ name t one. agreed _ one) s solo
+
+update_agrees : Alike update_course
+unfolding update_course
+update_agrees s solo = onward_agrees show_course (write_agrees s solo) (λ on. show_agrees)
+
+-- ---- answers
+
+-- an item is not the byte of the key
+abbrev IsNoRedo : HeardItem → Type 0
+IsNoRedo item = (hand : ℕ) → item ≢ ByteOf hand redo_byte
+
+-- neither are the bytes of the first hand, nor what comes after them
+none_in : (bytes : List ℕ) (rest : List HeardItem)
+    → HasNoRedo (map (ByteOf LEADER) bytes ++ rest)
+    → All (λ byte. IsSpared (Byte byte)) bytes × HasNoRedo rest
+none_in [] rest none = (All-nil (λ (byte : ℕ). IsSpared (Byte byte)), none)
+none_in (byte ∷ bytes) rest none =
+    let more = map (ByteOf LEADER) bytes ++ rest in
+    let here = All-head IsNoRedo (ByteOf LEADER byte) more none in
+    let both = none_in bytes rest (All-tail IsNoRedo (ByteOf LEADER byte) more none) in (
+      All-cons (λ (byte : ℕ). IsSpared (Byte byte)) byte bytes
+          (λ is. here LEADER (ap (ByteOf LEADER) is)) both.0,
+      both.1,
+    )
+
+answer_agrees : (a : Answer) (bytes : List ℕ) (rest : List HeardItem)
+    → HasNoRedo (items_by 1 a bytes rest) → Alike (answer_course a bytes)
+unfolding answer_course byte_course
+answer_agrees (answer.Bytes zero count at) bytes rest none s solo =
+    each_agrees (λ (byte : ℕ). item_course LEADER (Byte byte)) bytes
+    (λ k byte in'. item_agrees LEADER (Byte _) (λ is. (none_in bytes rest none).0 k byte in'))
+    (answered_at at s) solo
+answer_agrees (answer.Bytes (suc hand) count at) bytes rest none s solo =
+    each_agrees (λ (byte : ℕ). item_course (suc hand) (Byte byte)) bytes
+    (λ k byte in'. item_agrees (suc hand) (Byte _) (λ is. absurd cc)) (answered_at at s) solo
+answer_agrees (answer.Due at) bytes rest none s solo = due_agrees (answered_at at s) solo
+answer_agrees answer.End bytes rest none s solo = agreed _ solo
+answer_agrees answer.Failed bytes rest none s solo = agreed _ solo
+
+hears_agrees : (a : Answer) (bytes : List ℕ) (rest : List HeardItem)
+    → HasNoRedo (items_by 1 a bytes rest) → Alike (heard_course a bytes)
+unfolding heard_course
+hears_agrees a bytes rest none s solo =
+    onward_agrees update_course (answer_agrees a bytes rest none s solo) (λ on. update_agrees)
+
+heard_agrees : (a : Answer) (bytes : List ℕ) (rest : List HeardItem)
+    → HasNoRedo (items_by 1 a bytes rest) → Alike (heard live_part a bytes)
+unfolding heard
+heard_agrees (answer.Bytes hand count at) bytes rest none s solo =
+    mapped_agrees (option_map Stopped)
+    (hears_agrees (answer.Bytes hand count at) bytes rest none s solo)
+heard_agrees (answer.Due at) bytes rest none s solo =
+    mapped_agrees (option_map Stopped) (hears_agrees (answer.Due at) bytes rest none s solo)
+heard_agrees answer.End bytes rest none s solo = agreed _ solo
+heard_agrees answer.Failed bytes rest none s solo = agreed _ solo
+
+-- ---- polls
+
+polled_agrees : (poll : Poll) (rest : List HeardItem)
+    → HasNoRedo (items_by 1 poll.answer poll.bytes rest) → Alike (polled live_part poll)
+unfolding polled
+polled_agrees poll rest none s solo =
+    onward_agrees (heard live_part poll.answer poll.bytes) (agreed _ solo)
+    (λ on. heard_agrees poll.answer poll.bytes rest none)
+
+-- what comes after an answer that is no last one
+rest_none : (a : Answer) (bytes : List ℕ) (rest : List HeardItem) → is_ending a ≡ false
+    → HasNoRedo (items_by 1 a bytes rest) → HasNoRedo rest
+rest_none (answer.Bytes zero count at) bytes rest on none = (none_in bytes rest none).1
+rest_none (answer.Bytes (suc hand) count at) bytes rest on none =
+    rw (le-ltb (suc hand) 1 (omega arith)) at none
+rest_none (answer.Due at) bytes rest on none = All-tail IsNoRedo FrameDue rest none
+rest_none answer.End bytes rest on none = absurd cc
+rest_none answer.Failed bytes rest on none = absurd cc
+
+poll_goes : (poll : Poll) (s : LiveState) → (polled live_part poll s).ending ≡ None
+    → is_ending poll.answer ≡ false
+unfolding polled
+poll_goes poll s on =
+    heard_goes live_part poll.answer poll.bytes s
+    (goes_both _ (heard live_part poll.answer poll.bytes) on).1
+
+polls_agree : (polls : List Poll) → HasNoRedo (items_of 1 polls)
+    → Alike (each (polled live_part) polls)
+unfolding each
+polls_agree [] none s solo = agreed _ solo
+polls_agree (poll ∷ polls) none s solo =
+    let rest = items_of 1 polls in
+    onward_agrees (each (polled live_part) polls) (polled_agrees poll rest none s solo)
+    (λ on. polls_agree polls (rest_none poll.answer poll.bytes rest (poll_goes poll s on) none))
+
+spent_agrees : (polls : List Poll) → Alike (spent polls)
+unfolding spent
+spent_agrees polls s solo =
+    if_agrees (nat_le MAX_POLLS (length polls)) (agreed (ended Spent s) solo)
+    (agreed (still s) solo)
+
+attended_agrees : (polls : List Poll) → HasNoRedo (items_of 1 polls)
+    → Alike (attended live_part polls)
+unfolding attended
+attended_agrees polls none s solo =
+    onward_agrees (spent polls) (polls_agree polls none s solo) (λ on. spent_agrees polls)
+
+-- ---- the start
+
+journal_agrees : Alike journal_course
+unfolding journal_course header_course
+journal_agrees s solo =
+    named_agrees s.setting.journal header_course (λ name t one. agreed _ one) s solo
+
+open_agrees : Alike open_course
+unfolding open_course
+open_agrees s solo =
+    onward_agrees (paint_course []) (journal_agrees s solo) (λ on. paint_agrees [])
+
+begun_agrees : (polls : List Poll) → HasNoRedo (items_of 1 polls)
+    → Alike (λ s. begun live_part s polls)
+unfolding begun opened
+begun_agrees polls none s solo =
+    onward_agrees (attended live_part polls)
+    (mapped_agrees (option_map Stopped) (open_agrees s solo)) (λ on. attended_agrees polls none)
+
+-- ---- the end
+
+close_agrees : Alike close_course
+unfolding close_course silence_course onward mapped
+close_agrees s solo = agreed _ solo
+
+grid_agrees : Alike last_grid_course
+unfolding last_grid_course save_course
+grid_agrees s solo =
+    named_agrees s.setting.save save_course (λ name t one. agreed _ one) s solo
+
+script_agrees : Alike last_script_course
+unfolding last_script_course script_course
+script_agrees s solo =
+    named_agrees s.setting.script script_course (λ name t one. agreed _ one) s solo
+
+last_agrees : Alike last_course
+unfolding last_course
+last_agrees s solo = onward_agrees last_script_course (grid_agrees s solo) (λ on. script_agrees)
+
+finish_agrees : Alike finish_course
+unfolding finish_course
+finish_agrees s solo =
+    onward_agrees (λ (t : LiveState). onward (write_course t) last_course) (close_agrees s solo)
+    (λ on t one. onward_agrees last_course (write_agrees t one) (λ on. last_agrees))
+
+finished_agrees : (end : Option Ending) (c : Course LiveState Ending) → IsSolo c.state.crew
+    → Agrees (lastly_by end c (finished live_part)) (lastly_by end (lone c) (finished live_part))
+unfolding finished
+finished_agrees None c solo = agreed _ solo
+finished_agrees (Some e) c solo =
+    joined_agrees c (mapped_agrees (λ end. Some e) (finish_agrees c.state solo))
+
+pub plays_alone : PlaysAlone
+unfolding performance lastly
+plays_alone s polls solo none =
+    let c = begun live_part s polls in
+    let first =
+    begun_agrees polls (subst (λ (n : ℕ). HasNoRedo (items_of n polls)) solo.one none) s solo in
+    let same =
+    ap (λ (d : Course LiveState Ending). lastly_by d.ending d (finished live_part)) first.same
+    ∙ (finished_agrees c.ending c first.solo).same in
+    record {
+      acts = ap (λ (d : Course LiveState Ending). d.acts) same;
+      bill = ap (λ (d : Course LiveState Ending). d.bill) same;
+      ending = ap (λ (d : Course LiveState Ending). d.ending) same;
+      state = ap (λ (d : Course LiveState Ending). d.state) same;
+    }
