@@ -2,24 +2,27 @@
 # the option and the name.
 
 # The options that have a text, and the least and the most of those that have a number.
-texts='--midi --udp --osc --save --script --keys --follow'
-numbers='--seed --limit --bpm --rows --cols'
-declare -A least=([--seed]=0 [--limit]=1 [--bpm]=1 [--rows]=2 [--cols]=8)
-declare -A most=([--seed]=4294967295 [--limit]=4000000 [--bpm]=999 [--rows]=100 [--cols]=256)
-# What is to be done: play, lead, follow, recover, discard or ports; and the options that each may have.
+texts='--midi --udp --osc --save --script --keys --follow --at'
+numbers='--seed --limit --bpm --rows --cols --hands'
+declare -A least=([--seed]=0 [--limit]=1 [--bpm]=1 [--rows]=2 [--cols]=8 [--hands]=1)
+declare -A most=([--seed]=4294967295 [--limit]=4000000 [--bpm]=999 [--rows]=100 [--cols]=256 [--hands]=8)
+# What is to be done: play, lead, follow, join, recover, discard or ports; and the options that each may have.
 task=play
 declare -A options=([play]="$texts $numbers" [lead]='--midi --udp --osc --seed --limit --bpm')
 options[follow]='--follow --midi --udp --osc --seed --limit'
-# The options that were given, the piece, and the one it begins as if it is new.
+# The options that were given, the piece or the address of --join, and the piece that a new one begins as.
 declare -A given=()
 piece=
 model=
+hands=1
 
 # give OPTION VALUE
 give() {
     [[ " ${options[play]} " == *" $1 "* ]] || fails "there is no option $1; the options are ${options[play]}"
     [ -z "${given[$1]+given}" ] || fails "$1 $2: this option is given twice"
     [ -n "$2" ] || fails "$1: its value is missing"
+    [ -z "${least[$1]-}" ] || { [[ $2 =~ ^[0-9]{1,10}$ ]] && ((10#$2 >= ${least[$1]} && 10#$2 <= ${most[$1]})); } ||
+        fails "$1 $2: a number from ${least[$1]} to ${most[$1]} is wanted"
     given[$1]=$2
 }
 
@@ -31,7 +34,7 @@ read_words() {
         shift
         case $word in
             --) names+=("$@") && break ;;
-            --lead | --recover | --discard | --ports) task=${word#--} ;;
+            --lead | --join | --recover | --discard | --ports) task=${word#--} ;;
             -?*=*) give "${word%%=*}" "${word#*=}" ;;
             -?*)
                 [[ ${1-} != -?* ]] && [ $# != 0 ] || set -- '' "$@"
@@ -41,11 +44,11 @@ read_words() {
             *) names+=("$word") ;;
         esac
     done
-    [ "${#names[@]}" -le 1 ] || fails "${names[1]}: one piece is played, and ${names[0]} is another name"
+    [ "${#names[@]}" -le 1 ] || fails "${names[1]}: one name is wanted, and ${names[0]} is there already"
     piece=${names[0]-}
     [ "$task${given[--follow]+given}" != playgiven ] || task=follow
     [[ $task${piece:+ piece} =~ ^(ports|[a-z]* piece)$ ]] ||
-        fails "usage: perform [--lead|--recover|--discard] PIECE [options], or perform --ports"
+        fails "usage: perform [--lead|--recover|--discard] PIECE [options], perform --join HOST:PORT, or perform --ports"
     # A name that is no file may be that of a piece that came with this.
     [[ $piece == */* ]] || [ -e "$piece" ] || [ ! -f "$top/pieces/${piece%.orca}.orca" ] ||
         piece=${piece%.orca}.orca model=$top/pieces/$piece
@@ -57,24 +60,25 @@ read_words() {
     done
 }
 
-look_at_numbers() {
-    local option value
-    for option in $numbers; do
-        value=${given[$option]-${least[$option]}}
-        [[ $value =~ ^[0-9]{1,10}$ ]] && ((10#$value >= ${least[$option]} && 10#$value <= ${most[$option]})) ||
-            fails "$option $value: a number from ${least[$option]} to ${most[$option]} is wanted"
-    done
+# look_at_address OPTION ADDRESS: then $host and $port are its parts
+look_at_address() {
+    local pattern='^(\[[0-9A-Fa-f:.%]+\]|[^],:[[:space:]]+):([0-9]{1,5})$'
+    [[ $2 =~ $pattern ]] && ((10#${BASH_REMATCH[2]} >= 1 && 10#${BASH_REMATCH[2]} <= 65535)) ||
+        fails "$1 $2: an address is HOST:PORT, as in 127.0.0.1:9000"
+    host=${BASH_REMATCH[1]//[][]/} port=${BASH_REMATCH[2]}
+    ! command -v getent >/dev/null || getent ahosts "$host" >/dev/null || fails "$1 $2: there is no host $host"
 }
 
-look_at_addresses() {
-    local option address host pattern='^(\[[0-9A-Fa-f:.%]+\]|[^]:[[:space:]]+):([0-9]{1,5})$'
-    for option in --udp --osc; do
-        address=${given[$option]-127.0.0.1:1}
-        [[ $address =~ $pattern ]] && ((10#${BASH_REMATCH[2]} >= 1 && 10#${BASH_REMATCH[2]} <= 65535)) ||
-            fails "$option $address: an address is HOST:PORT, as in 127.0.0.1:9000"
-        host=${BASH_REMATCH[1]}
-        ! command -v getent >/dev/null || getent ahosts "${host//[][]/}" >/dev/null || fails "$option $address: there is no host $host"
-    done
+# How many hands play, and the address at which all but the first join. It is one of this machine alone, unless --at names
+# another one, with the port 7420 unless it has its own.
+look_at_hands() {
+    hands=$((10#${given[--hands]-1}))
+    at=${given[--at]-127.0.0.1}
+    [ -z "${given[--at]+given}" ] || [ "$hands" -gt 1 ] || fails "--at $at: --hands has to say how many play, 2 to 8"
+    [[ $at =~ :[0-9]+$ ]] || at+=:7420
+    look_at_address --at "$at"
+    meeting=$at
+    [[ $host != 0.0.0.0 && $host != :: ]] || meeting=$HOSTNAME:$port
 }
 
 # look_at_save WHAT NAME: a text can be saved under this name. The program opens both ends of a pipe that it saves to, so
@@ -91,6 +95,7 @@ look_at_save() {
 }
 
 look_at_piece() {
+    [ "$task" = play ] || [ -e "$piece" ] || [ -z "$model" ] || piece=$model
     [ ! -d "$piece" ] || fails "$piece: this is a folder, and a piece is a file"
     [ ! -e "$piece" ] || [ -f "$piece" ] || fails "$piece: this is a pipe or a device, and a piece is a file"
     [ ! -e "$piece" ] || [ -r "$piece" ] || fails "$piece: this file may not be read"
@@ -101,24 +106,21 @@ look_at_piece() {
     fi
 }
 
+# look_at_bytes OPTION NAME RIGHT WORDS: bytes can be written to what has this name, or read from it, as these words say
+look_at_bytes() {
+    [ ! -d "$2" ] && [ ! -S "$2" ] || fails "$1 $2: this is a folder or a socket, and a file, a pipe or a device is wanted"
+    [ "$3" "$2" ] ||
+        fails "$1 $2: you may not $4 it; it is of the group $(stat -Lc %G -- "$2"): join that group, and log in again"
+}
+
 look_at_midi() {
     local what="--midi $1" name
     printf -v name %q "$1"
     [ -e "$1" ] || [[ $1 != /dev/snd/* ]] || fails "$what: there is no such device; ${0##*/} --ports shows those that are there"
     [ -e "$1" ] || fails "$what: there is no such name: mkfifo $name makes a pipe for a synthesizer, and touch $name a file of bytes"
-    [ ! -d "$1" ] || fails "$what: this is a folder"
-    [ ! -S "$1" ] || fails "$what: this is a socket, and a file, a pipe or a device is wanted"
+    look_at_bytes --midi "$1" -w 'write to'
     [ ! -f "$1" ] || [ ! -s "$1" ] ||
         fails "$what: this file has something in it, and would be emptied: remove it, or give another name"
-    [ -w "$1" ] ||
-        fails "$what: you may not write to it; it is of the group $(stat -Lc %G -- "$1"): join that group, and log in again"
-}
-
-look_at_clock() {
-    [ -e "$1" ] || fails "--follow $1: there is no such name, and a device or a pipe that gives a clock is wanted"
-    [ ! -d "$1" ] || fails "--follow $1: this is a folder"
-    [ ! -S "$1" ] || fails "--follow $1: this is a socket, and a file, a pipe or a device is wanted"
-    [ -r "$1" ] || fails "--follow $1: you may not read it; it is of the group $(stat -Lc %G -- "$1")"
 }
 
 # One name has one use, but for --save on the piece.
@@ -138,20 +140,26 @@ look_at_pairs() {
 
 # look WORD..: reads the words, and refuses those with which a performance would fail
 look() {
-    local option
+    local option value
     read_words "$@"
+    [ "$task" != join ] || look_at_address --join "$piece"
     [ -n "${options[$task]-}" ] || return 0
-    look_at_numbers
-    look_at_addresses
-    [ "$task" != follow ] || look_at_clock "${given[--follow]}"
-    [ "$task" = play ] || [ -e "$piece" ] || [ -z "$model" ] || piece=$model
+    look_at_hands
     look_at_piece
     look_at_pairs
-    [[ ${given[--keys]-full} =~ ^(plain|full)$ ]] || fails "--keys ${given[--keys]}: plain or full is wanted"
-    for option in --save --script; do
-        [ -z "${given[$option]+given}" ] || look_at_save "$option ${given[$option]}" "${given[$option]}"
+    for option in "${!given[@]}"; do
+        value=${given[$option]}
+        case $option in
+            --udp | --osc) look_at_address "$option" "$value" ;;
+            --save | --script) look_at_save "$option $value" "$value" ;;
+            --midi) look_at_midi "$value" ;;
+            --follow)
+                [ -e "$value" ] || fails "--follow $value: there is no such name, and a device or a pipe that gives a clock is wanted"
+                look_at_bytes --follow "$value" -r read
+                ;;
+            --keys) [[ $value =~ ^(plain|full)$ ]] || fails "--keys $value: plain or full is wanted" ;;
+        esac
     done
-    [ -z "${given[--midi]+given}" ] || look_at_midi "${given[--midi]}"
 }
 
 # list_ports: the MIDI devices of this machine, each with the word that sends there and the name that it gives itself

@@ -182,7 +182,7 @@ def page_of_perform(commands, version, date):
     lines += section("EXIT STATUS", page_of(commands["Statuses"]))
     examples = [re.sub(r"pieces/(\w+)\.orca", r"\1", line) for line in
                 dict.fromkeys(re.findall(r"\./perform [^`\n|]*[^`\n| ]", read("docs/COMMANDS.md")))
-                if "[" not in line and "PIECE" not in line]
+                if not re.search(r"\[|PIECE|--join", line)]
     lines += section("EXAMPLES", [*wrapped("Each piece is named as it came with the program."), *page_code(examples)])
     return lines + files_and_others(FILES, "orca")
 
