@@ -1,12 +1,13 @@
 #!/usr/bin/env python3
-"""Measures `orca play` over a real connection: bench/live.py [PROGRAM] [--short] [--clock] [--seconds S] [--turns N]
-[--keys N] [--flood BYTES]
+"""Measures `orca play` over a real connection: bench/live.py [PROGRAM] [--short] [--clock] [--hands] [--seconds S]
+[--turns N] [--keys N] [--flood BYTES]
 
-It prints how late frames are, how long a key waits for its painting, near a frame and away from one, how a beat that fell
-behind catches up, what eight megabytes of keys and saves do to the frames, how much of a processor is used, and how many
-bytes a frame paints; with --short it prints only how late frames and keys are, and with --clock only how late the clock of
-`lead` is, and a frame of `follow` after its clock. PROGRAM is crates/orca/out/orca if it is not given. For figures that mean
-something nothing else may run.
+It prints how late frames are, how long a key waits for its painting, near a frame and away from one, how a beat that
+fell behind catches up, what eight megabytes of keys and saves do to the frames, how much of a processor is used, and
+how many bytes a frame paints; with --short it prints only how late frames and keys are, with --clock only how late the
+clock of `lead` is, and a frame of `follow` after its clock, and with --hands only how late the frames of `jam` are
+while eight hands send nothing, and while each of them sends eight megabytes of keys. PROGRAM is crates/orca/out/orca if
+it is not given. For figures that mean something nothing else may run.
 """
 import os, random, select, signal, socket, subprocess, sys, tempfile, threading, time
 
@@ -20,6 +21,11 @@ NOTE = b'\x90\x24'
 CLOCK, START = b'\xf8', b'\xfa'
 # How long before a moment a key counts as near it, in seconds.
 NEAR = 0.012
+# How late a frame may be while hands flood, in seconds.
+LATE = 0.005
+HANDS = 8
+# The cursor goes where no instrument is. If a frame comes inside an arrow, the rest of that is written there.
+AWAY = b'\x1b[B' * 20
 # A program that waits for one moment after another, as a player does, and does nothing else: it sleeps, reads the clock for the
 # last 80 microseconds, and tells how late it was at each. A virtual machine is stopped by its host, whatever it does; what
 # this program is late, no program on this machine could be spared.
@@ -61,15 +67,16 @@ def free_port():
 
 
 class Player:
-    """A program that plays, and its connection; with a pipe for its notes if its options name one."""
+    """A program that plays, and its connections, of which one is its keys; with a pipe for its notes if its options name
+    one."""
 
-    def __init__(self, grid, *options, verb='play'):
-        port = free_port()
+    def __init__(self, grid, *options, verb='play', hands=1):
+        port = self.port = free_port()
         with open('grid', 'wb') as file:
             file.write(grid)
         os.path.exists('pipe') or os.mkfifo('pipe')
         self.notes = os.open('pipe', os.O_RDWR)
-        words = [PROGRAM, verb, 'grid', '127.0.0.1:%d' % port, *map(str, options)]
+        words = [PROGRAM, verb, 'grid', '127.0.0.1:%d' % port, *map(str, options), *[str(hands)] * (verb == 'jam')]
         self.process = subprocess.Popen(words, stdout=subprocess.PIPE, bufsize=0)
         until = time.monotonic() + 10
         while True:
@@ -80,6 +87,7 @@ class Player:
                 assert time.monotonic() < until and self.process.poll() is None, 'the program does not listen'
                 time.sleep(0.01)
         self.keys.setsockopt(socket.IPPROTO_TCP, socket.TCP_NODELAY, 1)
+        self.hands = [self.keys, *(socket.create_connection(('127.0.0.1', port)) for _ in range(1, hands))]
 
     def painting(self, seconds):
         """The next bytes that are painted; none if there are none in this time."""
@@ -99,13 +107,20 @@ class Player:
             if self.process.stdout in ready:
                 self.painting(0)
 
+    def has_unread(self):
+        """Whether keys wait that the program has not read."""
+        with open('/proc/net/tcp') as file:
+            rows = [line.split() for line in file]
+        return any(row[1].endswith(':%04X' % self.port) and int(row[4].split(':')[1], 16) for row in rows)
+
     def used(self):
         """The time for which the process has had a processor, in seconds."""
         with open('/proc/%d/schedstat' % self.process.pid) as file:
             return int(file.read().split()[0]) / 1e9
 
     def leave(self):
-        self.keys.close()
+        for hand in self.hands:
+            hand.close()
         while self.painting(1):
             pass
         self.process.wait(10)
@@ -244,8 +259,7 @@ def keys_by_frames(bpm, count):
     """Keys while a piece plays: those that are typed shortly before a frame, and the others. After each of them a program
     is asked that only answers."""
     echo, player, interval = Echo(), Player(BEAT, '--bpm', bpm, '--midi', 'pipe'), interval_of(bpm)
-    # The cursor goes where no instrument is.
-    player.keys.send(b'\x1b[B' * 20)
+    player.keys.send(AWAY)
     times, echoed = {True: [], False: []}, []
     for turn in range(count):
         is_near = turn % 2 == 0
@@ -284,17 +298,61 @@ def flood(bpm, count):
     """So many bytes of keys at once: how late the frames are while they come."""
     player, interval = Player(BEAT, '--bpm', bpm, '--midi', 'pipe'), interval_of(bpm)
     before = list(player.frames(20 * interval))
-    sender = threading.Thread(target=player.keys.sendall, args=(b'\x1b[C\x1b[D' * (count // 6),))
+    sender = threading.Thread(target=player.keys.sendall, args=(AWAY + b'\x1b[C\x1b[D' * (count // 6),))
     waiter, begin = Waiter(interval), time.monotonic()
     sender.start()
     during = []
-    while sender.is_alive():
+    while sender.is_alive() or player.has_unread():
         during += player.frames(10 * interval)
     seconds = time.monotonic() - begin
     player.leave()
     late = late_by(before + during, interval)[len(before):]
     spread('a frame at %d beats under %d bytes of keys in %.1f s' % (bpm, count, seconds), late, 'microseconds', 1e6)
     waiter.tell()
+
+
+class Sender:
+    """A process that sends these bytes to a connection, from the word go."""
+
+    def __init__(self, connection, data):
+        ready, self.word = os.pipe()
+        self.process = os.fork()
+        if not self.process:
+            os.close(self.word)
+            os.read(ready, 1)
+            connection.sendall(data)
+            os._exit(0)
+        os.close(ready)
+
+    def go(self):
+        os.write(self.word, b'.')
+        os.close(self.word)
+
+    def is_at_work(self):
+        return os.waitpid(self.process, os.WNOHANG) == (0, 0)
+
+
+def hands_flood(bpm, seconds, count):
+    """Eight hands, which send nothing for so many seconds, and then so many bytes of keys each: how late the frames are."""
+    interval, player = interval_of(bpm), Player(BEAT, '--bpm', bpm, '--midi', 'pipe', verb='jam', hands=HANDS)
+    for name, keys in ('nothing', b''), ('%d bytes of keys each' % count, AWAY + b'\x1b[C\x1b[D' * (count // 6)):
+        senders, waiter = [Sender(hand, keys) for hand in player.hands], Waiter(interval)
+        # Frames that came while these began were not looked at.
+        for _ in player.frames(2 * interval):
+            pass
+        begin, moments = time.monotonic(), []
+        for sender in senders:
+            sender.go()
+        while senders or player.has_unread() or not keys and time.monotonic() - begin < seconds:
+            moments += player.frames(10 * interval)
+            senders = [sender for sender in senders if sender.is_at_work()]
+        late = late_by(moments, interval)
+        spread('%d hands send %s in %.1f s' % (HANDS, name, time.monotonic() - begin), late, 'microseconds', 1e6)
+        which = [number for number, it in enumerate(late, 1) if it > LATE]
+        print('    %d of %d frames at %d beats are more than %d milliseconds late%s' % (
+            len(which), len(late), bpm, LATE * 1e3, ': number ' + ', '.join(map(str, which[:8])) if which else ''), flush=True)
+        waiter.tell()
+    player.leave()
 
 
 def saving(bpm, count):
@@ -332,6 +390,10 @@ def main():
         for bpm in (120, 999):
             clocks(bpm, seconds)
             followed(bpm, min(keys, 4 * seconds))
+        return
+    if '--hands' in sys.argv:
+        for bpm in (120, 999):
+            hands_flood(bpm, seconds / 4, option('--flood', 8_000_000))
         return
     large = ('--rows', 100, '--cols', 256)
     # In some of these turns the machine itself may be stopped less than in others.
