@@ -233,10 +233,11 @@ look_for_room() {
         "${0##*/} --recover saves them beside it, and ${0##*/} --discard drops them"
 }
 
-# recover: what was played goes to files beside the piece, and the rooms go
+# recover: what was played goes to files beside the piece, unless it is to be discarded, and the rooms go
 recover() {
     local name=$piece.recovered file
-    find_room || fails "$piece: there is nothing to recover"
+    find_room || fails "$piece: there is nothing to $task"
+    [ "$task" != discard ] || { end_room; exit; }
     for file in "$name.orca" "$name.script"; do
         [ ! -e "$file" ] && [ ! -L "$file" ] || fails "$file: this file is there already: give it another name first"
     done
@@ -245,11 +246,5 @@ recover() {
         [ -s "$name.orca" ] || fails "$piece: it can't be played again; what is left is in $room"
     say "the grid is in $name.orca, and the script in $name.script"
     tell_replay "$name.script"
-    end_room
-}
-
-# discard: the rooms go
-discard() {
-    find_room || fails "$piece: there is nothing to discard"
     end_room
 }
