@@ -69,7 +69,9 @@ byte_other full byte apart =
 short_other : (bytes : List ℕ) (last : ℕ) → IsOther (plain_sequence bytes last)
 unfolding plain_sequence
 short_other bytes last =
-    grind (arith, never_found arrow_keys last (λ k. refl), never_found shifted_keys last (λ k. refl))
+    let arrow = never_found arrow_keys last (λ k. refl) in
+    let shifted = never_found shifted_keys last (λ k. refl) in
+    grind (arith, arrow, shifted)
 
 arrow_other : (m by : ℕ) (side : Side) → IsOther (arrow_key m by side)
 arrow_other m by side = grind arith

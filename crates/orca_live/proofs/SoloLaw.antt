@@ -178,7 +178,8 @@ wish_agrees : (w : Wish) → Alike (wish_course LEADER w)
 unfolding wish_course save_course
 wish_agrees wish.Nothing s solo = agreed _ solo
 wish_agrees (wish.Do command) s solo =
-    command_agrees LEADER command (λ owners n all. (leader_stays_free owners command n all).0) s solo
+    command_agrees LEADER command (λ owners n all. (leader_stays_free owners command n all).0) s
+    solo
 wish_agrees wish.Toggle s solo = toggle_agrees (leader_at s).paused s _ solo solo
 wish_agrees wish.Save s solo = agreed _ solo
 wish_agrees wish.Quit s solo = agreed _ solo

@@ -56,8 +56,8 @@ pub fn hands_law()
     ensures shared { HandsShare }
 {}
 
-/// A hand that shares its session with nobody, so that each edit is its own, plays without the key of
-/// Redo as one that plays alone: it does the same acts, and ends the same way. It does nothing.
+/// A hand that shares its session with nobody, so that each edit is its own, plays without the key
+/// of Redo as one that plays alone: it does the same acts, and ends the same way. It does nothing.
 #[tactic(auto, using(crate::proofs::SoloLaw::plays_alone))]
 pub fn solo_law()
     ensures { PlaysAlone }

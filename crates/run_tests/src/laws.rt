@@ -1,7 +1,9 @@
 //! The laws of devices and of performances, which stand with the program.
 
 use orca_course::device_law;
-use orca_live::{appending_law, cutting_law, journal_law, painting_law, script_law};
+use orca_live::{
+    appending_law, cutting_law, hands_law, journal_law, painting_law, script_law, solo_law,
+};
 
 #[test]
 fn the_laws_can_be_called(rt: HostRuntime) {
@@ -11,4 +13,6 @@ fn the_laws_can_be_called(rt: HostRuntime) {
     script_law();
     painting_law();
     journal_law();
+    hands_law();
+    solo_law();
 }
