@@ -19,7 +19,7 @@ use Rattle.orca_trace.specs.Calls.{Poll}
 use Rattle.orca_term.specs.Picture.{IsScreen}
 use Rattle.orca_words.specs.Requests.{Setup}
 use Rattle.orca_player.specs.Doing.{Came, CameBy, IsBlamed, IsWhole, KeepsTake, ReadsBack, WasRefused, status_at}
-use Rattle.orca_player.specs.Outlines.{Brought, Outline, after, attaches, loading, nothing, plain, stopped}
+use Rattle.orca_player.specs.Outlines.{Brought, Outline, after, attaches, listening, loading, nothing, plain, stopped}
 use Rattle.orca_player.specs.Takes.{saves_in}
 use Rattle.orca_player.specs.declared.status.Status.{Status}
 use Rattle.orca_player.specs.declared.status.Status.TheVariants.{FileFault, Memory}
@@ -356,3 +356,11 @@ kind_of did = assumption did
 pub by_later : {acts : List Act} {o : Brought → Outline} {x y z : World} {status : Status}
     → Before acts x y → CameBy o y status z → CameBy (λ b. after acts (o b)) x status z
 by_later before did = by_after did.brought before (kind_of did) did.came refl
+
+-- the same, where the hands that are listened for are known by another name
+pub came_by_hands : {known hands : ℕ} (address : List ℕ) (next : Brought → ℕ → Outline)
+    {x y : World} {status : Status} → known ≡ hands
+    → CameBy (λ b. listening address known b.start (next b)) x status y
+    → CameBy (λ b. listening address hands b.start (next b)) x status y
+came_by_hands address next {x = x} {y = y} {status = status} same did =
+    subst (λ n. CameBy (λ b. listening address n b.start (next b)) x status y) same did

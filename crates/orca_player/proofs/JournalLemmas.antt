@@ -1,5 +1,5 @@
 -- A run with a journal keeps it.
-use Rattle.std.proofs.Common.{◌≡◌, ◌≢◌, ℕ, List, [], ◌∷◌, ◌++◌, refl, sym, subst, arith}
+use Rattle.std.proofs.Common.{◌≡◌, ◌≢◌, ℕ, List, [], ◌∷◌, ◌++◌, refl, sym, subst}
 use Rattle.std.specs.Prelude.{Option, Some, None, IfSome, Result, Ok, Err}
 use Rattle.std.specs.Option.{option_map_or}
 use Rattle.std.proofs.lemmas.Option.{IfSome_then}
@@ -7,10 +7,9 @@ use Rattle.orca_base.specs.declared.command.Command.{Command}
 use Rattle.orca_base.specs.Grids.{Sheet}
 use Rattle.orca_course.specs.Acts.{Act, commands_in}
 use Rattle.orca_course.specs.Acts.Act.{Attach, Await, Listen, Load, Stand}
-use Rattle.orca_course.specs.Courses.{Course, mapped}
+use Rattle.orca_course.specs.Courses.{mapped}
 use Rattle.orca_course.specs.Performers.{performance}
 use Rattle.orca_course.specs.Standings.{Standing}
-use Rattle.orca_course.specs.declared.ending.Ending.{Ending}
 use Rattle.orca_grid.specs.GridText.{grid_text}
 use Rattle.orca_grid.specs.declared.refusal.GridRefusal.{GridRefusal}
 use Rattle.orca_live.specs.Journals.{IsApart, JournalsPerformance, KeepsJournal, held_in, journal_text}
@@ -19,10 +18,9 @@ use Rattle.orca_script.specs.Canonical.{Extends}
 use Rattle.orca_term.specs.declared.cell.ScreenSize.{ScreenSize}
 use Rattle.orca_trace.specs.Calls.{Poll}
 use Rattle.orca_words.specs.Recordings.{HasOwnJournal, OwnsJournals}
-use Rattle.orca_words.specs.Requests.{Perform, Performance, Play, Setup, request_of}
+use Rattle.orca_words.specs.Requests.{Perform, Performance, Play, Setup}
 use Rattle.orca_player.specs.Laws.{KeepsJournals}
-use Rattle.orca_player.specs.Outlines.{Brought, Heard, Outline, after, attaches, grid_outline, listening, live_outline, live_start, loading, opening, outline, performed, request_outline, setting_of, start_of, status_of_ending, stopped, work_outline}
-use Rattle.orca_player.specs.declared.live.TheConstants.{ALONE}
+use Rattle.orca_player.specs.Outlines.{Brought, Heard, Outline, attaches, grid_outline, hands_of, listening, live_outline, live_start, loading, opening, outline, performed, request_outline, setting_of, start_of, stopped, work_outline}
 use Rattle.orca_player.specs.declared.status.Status.{Status}
 use Rattle.orca_player.specs.declared.status.Status.TheVariants.{FileFault, InboxFault}
 use Rattle.orca_player.proofs.CameLemmas.{AreCalls, attaches-calls}
@@ -145,7 +143,7 @@ kept_grid : JournalsPerformance → (setup : Setup) (play : Performance) (b : Br
 unfolding grid_outline work_outline listening
 kept_grid law setup play b (Err refusal) name journal own = tt
 kept_grid law setup play b (Ok sheet) name journal own =
-    kept_by name setup.seed _ _ (Listen play.address ALONE b.start ∷ []) _ tt
+    kept_by name setup.seed _ _ (Listen play.address (hands_of play) b.start ∷ []) _ tt
     (kept_or name setup.seed InboxFault b.start _
     (kept_live law setup play b.polls (start_of setup sheet) name journal own))
 

@@ -1,7 +1,8 @@
 -- The laws of performances, on the outlines of runs.
-use Rattle.std.proofs.Common.{◌≡◌, ◌≢◌, ℕ, List, [], ◌++◌, refl, sym, ◌∙◌, ap, arith, ◌∷◌}
+use Rattle.std.proofs.Common.{◌≡◌, ◌≢◌, ℕ, Bool, List, length, [], ◌++◌, refl, sym, ◌∙◌, ap, arith, ◌∷◌}
 use Rattle.std.specs.Prelude.{Option, Some, None, unwrap_or, Result, Ok, Err, IfSome}
 use Rattle.std.specs.Option.{option_map, option_map_or}
+use Rattle.std.proofs.lemmas.List.{length-replicate}
 use Rattle.orca_base.specs.declared.command.Command.{Command}
 use Rattle.orca_base.specs.Grids.{Sheet}
 use Rattle.orca_clock.specs.Followers.{follow_part}
@@ -17,6 +18,7 @@ use Rattle.orca_cues.proofs.Printed.{script2_read}
 use Rattle.orca_edit.specs.Obeying.{MachineState, machine_closed}
 use Rattle.orca_grid.specs.GridText.{grid_text}
 use Rattle.orca_grid.specs.declared.refusal.GridRefusal.{GridRefusal}
+use Rattle.orca_jam.specs.Crews.{crew_alone, crew_at_start, new_player}
 use Rattle.orca_live.specs.Items.{items_of}
 use Rattle.orca_live.specs.Laws.{ItemsDecide, ReplaysScript as LiveReplays, replayed}
 use Rattle.orca_live.specs.Performing.{live_part}
@@ -29,7 +31,7 @@ use Rattle.orca_live.specs.Paintings.{ShowsPerformance, ShowsPictures}
 use Rattle.orca_term.specs.Picture.{IsScreen}
 use Rattle.orca_term.specs.declared.cell.ScreenSize.{ScreenSize}
 use Rattle.orca_player.specs.Doing.{ReadsBack}
-use Rattle.orca_player.specs.Laws.{CutsAlike, EndAlike, HasEnd, HearAlike, IsReplayed, ReplaysAlike}
+use Rattle.orca_player.specs.Laws.{CutsAlike, EndAlike, HasEnd, HearAlike, IsReplayed, ReplaysAlike, hands_heard}
 use Rattle.orca_player.specs.Outlines.{Brought, Heard, Outline, Script, after, asked_outline, attaches, concert, follow_outline, follow_start, grid_outline, lead_outline, lead_start, listening, live_outline, live_start, loading, made_outline, migrated, opening, outline, performed, performed_outline, reading, request_outline, script_kept, script_outline, standing_at, start_of, status_of_ending, stopped, work_outline}
 use Rattle.orca_player.specs.declared.live.TheConstants.{ALONE}
 use Rattle.orca_player.specs.declared.status.Status.TheVariants.{FileFault}
@@ -150,9 +152,10 @@ brings script start polls = record { script = script; start = start; polls = pol
 abbrev hears : Option (List ℕ) → Option (List ℕ) → Option ℕ → List Poll → Heard
 hears grid script start polls = record { grid = grid; brought = brings script start polls }
 
--- the same items, cut into answers in two ways
-abbrev AreCut : Option ℕ → Option ℕ → List Poll → List Poll → Type 0
-AreCut a b polls others = HearAlike (hears None None a polls) (hears None None b others)
+-- the same items of so many hands, cut into answers in two ways
+abbrev AreCut : ℕ → Option ℕ → Option ℕ → List Poll → List Poll → Type 0
+AreCut hands a b polls others =
+    HearAlike hands (hears None None a polls) (hears None None b others)
 
 -- if both have an end
 abbrev Alike : Outline → Outline → Type 0
@@ -174,8 +177,16 @@ alike_by p core by address hands a b s polls others u v items same = λ ends oth
     (ended_by (performance p v others).ending other_ends) in
     record { commands = alike.commands; standing = alike.standing; given = refl }
 
+-- the crew of a performance has the hands that it listens for
+crew_counted : (full : Bool) (limit : ℕ) (hands : Option ℕ)
+    → length (option_map_or (λ count. crew_at_start full count limit) hands
+    (crew_alone full)).players ≡ unwrap_or hands ALONE
+crew_counted full limit None = refl
+crew_counted full limit (Some hands) = length-replicate hands (new_player full)
+
 work_alike : ItemsDecide → (setup : Setup) (work : Work) (sheet : Sheet) (script : Option (List ℕ))
-    (a b : Option ℕ) (polls others : List Poll) → AreCut a b polls others
+    (a b : Option ℕ) (polls others : List Poll)
+    → AreCut (hands_heard (Some (Perform setup work))) a b polls others
     → Alike (work_outline setup work sheet (brings script a polls))
     (work_outline setup work sheet (brings script b others))
 unfolding work_outline listening live_outline follow_outline lead_outline opening mapped
@@ -185,7 +196,8 @@ work_alike cutting setup (Play play) sheet script (Some a) (Some b) polls others
     let s = start_of setup sheet in
     let u = live_start setup play a s in
     let v = live_start setup play b s in
-    let alike = cutting polls others u v cut.items
+    let alike = cutting polls others u v
+    (rw (crew_counted play.full setup.limit play.hands) cut.items)
     (record {
       setting = refl;
       standing = refl;
@@ -221,22 +233,23 @@ commands_attached : (setup : Setup) (more : List Act)
 commands_attached setup = (calls_bare (attaches setup) (attaches-calls setup)).commands
 
 asked_alike : ItemsDecide → (request : Option Request) (grid script : Option (List ℕ))
-    (a b : Option ℕ) (polls others : List Poll) → AreCut a b polls others
+    (a b : Option ℕ) (polls others : List Poll) → AreCut (hands_heard request) a b polls others
     → Alike (asked_outline request (hears grid script a polls))
     (asked_outline request (hears grid script b others))
 unfolding request_outline performed loading grid_outline
-asked_alike cutting request grid script a b polls others cut = λ ends other_ends.
-    let same : (setup : Setup) (work : Work) (sheet : Sheet)
-    → Alike (work_outline setup work sheet (brings script a polls))
+asked_alike cutting (Some (Perform setup work)) grid script a b polls others cut =
+    λ ends other_ends.
+    let same : (sheet : Sheet) → Alike (work_outline setup work sheet (brings script a polls))
     (work_outline setup work sheet (brings script b others)) =
-    λ setup work sheet. work_alike cutting setup work sheet script a b polls others cut in
+    λ sheet. work_alike cutting setup work sheet script a b polls others cut in
     grind (arith, same, commands_attached)
+asked_alike cutting request grid script a b polls others cut = alike_none _
 
 pub cuts_alike : (cutting : ItemsDecide) (words : List (List ℕ)) → CutsAlike words
 unfolding outline
 cuts_alike cutting words h k same ends others =
-    let cut : AreCut h.brought.start k.brought.start h.brought.polls k.brought.polls =
-    assumption same in
+    let cut : AreCut (hands_heard (request_of words)) h.brought.start k.brought.start
+    h.brought.polls k.brought.polls = assumption same in
     let alike : Alike (outline words h)
     (outline words (hears k.grid k.brought.script k.brought.start k.brought.polls)) =
     rw (same.grid, same.script)

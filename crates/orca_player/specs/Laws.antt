@@ -1,27 +1,32 @@
 -- Laws of performances, on the outlines of runs: how bytes were cut into answers changes nothing
 -- that lasts, the script that is saved ends in the same session, and a journal is kept.
-use Rattle.std.specs.Prelude.{◌≡◌, ◌≢◌, ℕ, List, Some, None, IfSome, is_some}
+use Rattle.std.specs.Prelude.{◌≡◌, ◌≢◌, ℕ, List, Option, Some, None, IfSome, is_some}
 use Rattle.std.specs.Option.{option_map}
 use Rattle.orca_course.specs.Acts.{commands_in}
 use Rattle.orca_live.specs.Items.{items_of}
 use Rattle.orca_live.specs.Journals.{KeepsJournal}
 use Rattle.orca_player.specs.declared.live.TheConstants.{ALONE}
 use Rattle.orca_script.specs.Runs.{printed_script}
-use Rattle.orca_words.specs.Requests.{Perform, Performance, Play, Replay, Setup, request_of}
-use Rattle.orca_player.specs.Outlines.{Heard, Outline, Script, outline, request_outline}
+use Rattle.orca_words.specs.Requests.{Perform, Performance, Play, Replay, Request, Setup, request_of}
+use Rattle.orca_player.specs.Outlines.{Heard, Outline, Script, hands_of, outline, request_outline}
 use Rattle.orca_player.specs.Doing.{ReadsBack}
 
 -- the answers of the inbox do not break off
 abbrev pub HasEnd : Outline → Type 0
 HasEnd o = o.course.ending ≢ None
 
--- the files hold the same, and the same bytes of the hand that is heard and due frames come, in the
--- same order; moments, and how the bytes are cut into answers, may differ
-pub record HearAlike (h k : Heard) : Type 0 where
+-- how many hands are heard: one, unless hands share a performance
+abbrev pub hands_heard : Option Request → ℕ
+hands_heard (Some (Perform setup (Play play))) = hands_of play
+hands_heard asked = ALONE
+
+-- the files hold the same, and the same bytes of the hands that are heard and due frames come, in
+-- the same order; moments, and how the bytes are cut into answers, may differ
+pub record HearAlike (hands : ℕ) (h k : Heard) : Type 0 where
   pub grid : k.grid ≡ h.grid
   pub script : k.brought.script ≡ h.brought.script
   pub starts : is_some k.brought.start ≡ is_some h.brought.start
-  pub items : items_of ALONE h.brought.polls ≡ items_of ALONE k.brought.polls
+  pub items : items_of hands h.brought.polls ≡ items_of hands k.brought.polls
 
 -- the same commands, the same session at last, and the same script that is saved
 pub record EndAlike (o p : Outline) : Type 0 where
@@ -32,7 +37,8 @@ pub record EndAlike (o p : Outline) : Type 0 where
 -- any cutting
 abbrev pub CutsAlike : List (List ℕ) → Type 0
 CutsAlike words =
-    (h k : Heard) → HearAlike h k → HasEnd (outline words h) → HasEnd (outline words k)
+    (h k : Heard) → HearAlike (hands_heard (request_of words)) h k
+    → HasEnd (outline words h) → HasEnd (outline words k)
     → EndAlike (outline words h) (outline words k)
 
 -- the same files, but with the text of this script

@@ -31,7 +31,7 @@ use Rattle.orca_edit.specs.Prices.{kept_at_start}
 use Rattle.orca_grid.specs.GridText.{grid_text}
 use Rattle.orca_grid.specs.declared.refusal.GridRefusal.{GridRefusal}
 use Rattle.orca_live.specs.Performing.{live_part}
-use Rattle.orca_jam.specs.Crews.{crew_alone}
+use Rattle.orca_jam.specs.Crews.{CrewState, crew_alone, crew_at_start}
 use Rattle.orca_live.specs.Starting.{live_at_start}
 use Rattle.orca_live.specs.States.{LiveState, Setting}
 use Rattle.orca_reports.specs.Manners.{events_manner, make_manner, replay_manner, run_manner, state_manner}
@@ -197,10 +197,21 @@ setting_of setup performance = record {
 abbrev pub screen_of : Performance → ScreenSize
 screen_of performance = record { rows = performance.rows; columns = performance.cols }
 
--- a performance of a hand that plays alone, which starts at a moment
+-- how many hands a performance listens for
+abbrev pub hands_of : Performance → ℕ
+hands_of play = unwrap_or play.hands ALONE
+
+-- its crew: a hand that plays alone, or so many that share the session, with room for the owners
+-- of a whole history
+abbrev pub crew_of : Setup → Performance → CrewState
+crew_of setup play =
+    option_map_or (λ hands. crew_at_start play.full hands setup.limit) play.hands
+    (crew_alone play.full)
+
+-- a performance of its crew, which starts at a moment
 abbrev pub live_start : Setup → Performance → ℕ → Standing → LiveState
 live_start setup play at s =
-    live_at_start (setting_of setup play) (crew_alone play.full) (screen_of play) at s
+    live_at_start (setting_of setup play) (crew_of setup play) (screen_of play) at s
 
 -- the script of a seed and the commands that were kept, if it is saved
 abbrev pub script_kept : Option (List ℕ) → ℕ → Option (List Command) → Option Script
@@ -269,7 +280,7 @@ work_outline setup (Wav wave) sheet b =
 work_outline setup (Replay name) sheet b =
     loading name b.script (script_outline sheet setup.seed setup.limit)
 work_outline setup (Play play) sheet b =
-    listening play.address ALONE b.start
+    listening play.address (hands_of play) b.start
     (live_outline setup play b.polls (start_of setup sheet))
 work_outline setup (Follow address) sheet b =
     listening address ALONE b.start (λ at. follow_outline b.polls (start_of setup sheet))

@@ -34,7 +34,7 @@ refusal_text refusal.Memory = []
 -- the line of a status that is no success, without its end
 unfoldable pub status_text : Status → List ℕ
 status_text Done = []
-status_text Usage = codes "usage: orca run|events|replay|make|play|migrate|smf|wav|follow|lead"
+status_text Usage = codes "usage: orca run|events|replay|make|play|migrate|smf|jam|wav|follow|lead"
 status_text (GridRefused refusal) = codes "grid refused: " ++ refusal_text refusal
 status_text OutFault = codes "output fault"
 status_text FileFault = codes "file fault"

@@ -24,7 +24,7 @@ pub fn end<H: House>(alloc: Global, desk: &mut Desk<H>, status: Status) -> Statu
         Status::Usage => say(
             desk,
             status,
-            b"usage: orca run|events|replay|make|play|migrate|smf|wav|follow|lead\n",
+            b"usage: orca run|events|replay|make|play|migrate|smf|jam|wav|follow|lead\n",
         ),
         Status::GridRefused(refusal) => say_line(desk, status, refusal_line(alloc, refusal)),
         Status::OutFault => say(desk, status, b"output fault\n"),

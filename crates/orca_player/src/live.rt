@@ -7,7 +7,7 @@ ghost use Rattle.orca_course.specs.Standings.{notes_of};
 ghost use Rattle.orca_course.specs.Worlds.{has_ended, has_listened};
 ghost use Rattle.orca_live.specs.States.{live_state, setting_in, state_of};
 ghost use Rattle.orca_player.specs.Doing.{CameBy};
-ghost use Rattle.orca_player.specs.Outlines.{listening, live_outline, live_start, played, setting_of, standing_at};
+ghost use Rattle.orca_player.specs.Outlines.{crew_of, hands_of, listening, live_outline, live_start, played, setting_of, standing_at};
 ghost use Rattle.orca_script.specs.Runs.{ScriptReadsBack};
 ghost use Rattle.orca_term.specs.Picture.{IsScreen};
 ghost use Rattle.orca_words.specs.RequestIn.{performance_in, setup_in};
@@ -26,11 +26,12 @@ use orca_rig::House;
 use orca_session::Session;
 use orca_term::ScreenSize;
 use orca_words::{Performance, Setup};
+use std::alloc::Global;
 
 /// One hand alone.
 pub(crate) const ALONE: u8 = 1;
 
-/// Waits for a player at the address, and plays the grid until the performance ends.
+/// Waits for the players at the address, and plays the grid until the performance ends.
 pub(crate) fn play<H: House>(
     opening: &Opening,
     setup: &Setup<'_>,
@@ -40,12 +41,14 @@ pub(crate) fn play<H: House>(
     requires fresh { has_listened desk.old ≡ false }
     requires open { has_ended desk.old ≡ false }
     requires same { (opening.now.seed ≡ setup.now.seed) × (opening.now.limit ≡ setup.now.limit) }
-    ensures { CameBy (λ b. listening performance.now.address.now ALONE b.start
+    ensures { CameBy (λ b. listening performance.now.address.now
+        (hands_of (performance_in performance.now)) b.start
         (live_outline (setup_in setup.now) (performance_in performance.now) b.polls
         (standing_at opening.now.grid opening.now.seed opening.now.limit)))
         desk.old result desk.new }
 {
-    match listen(desk, performance.address, ALONE) {
+    let hands = performance.hands.unwrap_or(ALONE);
+    match listen(desk, performance.address, hands) {
         Ok(at) => start(opening, setup, performance, at, desk),
         Err(status) => status,
     }
@@ -110,6 +113,18 @@ fn setting_of<'a>(setup: &Setup<'a>, performance: &Performance<'a>) -> Setting<'
     }
 }
 
+/// The crew of a performance: a hand that plays alone, or as many as share the session, with room for the
+/// owners of a whole history.
+fn crew_of(alloc: Global, setup: &Setup<'_>, performance: &Performance<'_>) -> Result<Crew, Memory>
+    ensures { IfOk result (λ crew.
+        crew ≡ crew_of (setup_in setup.now) (performance_in performance.now)) }
+{
+    match performance.hands {
+        None => Ok(Crew::alone(alloc, performance.full)),
+        Some(hands) => Crew::start(alloc, performance.full, hands, setup.limit),
+    }
+}
+
 /// A performance on the opened grid, before its first picture, that starts at this moment.
 fn open_live<'a>(
     opening: &Opening,
@@ -124,6 +139,7 @@ fn open_live<'a>(
     ensures residue { IfOk result (λ live. live.stage.machine.residue ≡ 0) }
 {
     let stage = open_stage(opening, Silent)?;
+    let crew = crew_of(opening.alloc, setup, performance)?;
     let screen = ScreenSize {
         rows: performance.rows,
         columns: performance.cols,
@@ -132,7 +148,7 @@ fn open_live<'a>(
         opening.alloc,
         stage,
         setting_of(setup, performance),
-        Crew::alone(opening.alloc, performance.full),
+        crew,
         screen,
         at,
     )

@@ -35,17 +35,17 @@ use std::alloc::Global;
 
 /// Does what the words ask for, and answers how it ended. They are the words after the program's own
 /// name: `run` and `events` play frames, `replay` does the commands of a script, `make` those of a
-/// generated run, and `play` lets a player edit the grid while it plays. `follow` plays by a MIDI clock
-/// that comes in, and `lead` plays and gives one. `smf` and `wav` play frames and save their notes as a
-/// song or as sound, and `migrate` saves a script in format 2. The desk owns the files, the ports, the
-/// inbox and the counter of steps.
+/// generated run, `play` lets a player edit the grid while it plays, and `jam` lets several share one
+/// session. `follow` plays by a MIDI clock that comes in, and `lead` plays and gives one. `smf` and `wav`
+/// play frames and save their notes as a song or as sound, and `migrate` saves a script in format 2. The
+/// desk owns the files, the ports, the inbox and the counter of steps.
 ///
 /// The named ports are attached in the order MIDI, UDP, OSC, then the grid is loaded and read, and
 /// then the script of `replay`, whose lines are all read before the first command is done. The
 /// messages of each command are sent at once, one by one. At the end the text of the word is
-/// printed, every note ends, and `play` saves. While it plays, `play` adds its commands to its journal.
-/// `smf` and `wav` hand no message out, and save last. `migrate` loads a script, reads all its lines,
-/// and saves it.
+/// printed, every note ends, and `play` and `jam` save. While they play, they add their commands to their
+/// journal. `smf` and `wav` hand no message out, and save last. `migrate` loads a script, reads all its
+/// lines, and saves it.
 ///
 /// A port that fails does not end the run: if all else was done, the status is
 /// [`Status::OutFault`]. Neither does a save, with [`Status::FileFault`]. A status other than 0 sends

@@ -19,7 +19,7 @@ use Rattle.orca_words.specs.declared.limits.TheConstants.{MIN_SONG_BPM}
 use Rattle.orca_words.specs.declared.request.Request.{Request as Held}
 use Rattle.orca_words.specs.Recordings.{HasOwnJournal, HasSongTempo, IfPerform, IsPortless, OwnsJournals, RecordsWithoutPorts}
 use Rattle.orca_words.specs.RequestIn.{request_in}
-use Rattle.orca_words.specs.Requests.{Events, Follow, Lead, Make, Migrate, Perform, Performance, Play, Recording, Replay, Request, Run, Setup, Smf, Wav, Work, frames_of, greatest, is_same_name, leading_of, migration_of, number_in, option_number, performance_of, performed, portless_setup_of, positional_text, recording_of, request_by, request_in_form, request_of, setup_of, with_own_journal, with_ports, workload_of}
+use Rattle.orca_words.specs.Requests.{Events, Follow, Lead, Make, Migrate, Perform, Performance, Play, Recording, Replay, Request, Run, Setup, Smf, Wav, Work, frames_of, greatest, is_same_name, jam_of, leading_of, migration_of, number_in, option_number, performance_of, performed, portless_setup_of, positional_text, recording_of, request_by, request_in_form, request_of, setup_of, with_own_journal, with_ports, workload_of}
 
 -- ---- numbers
 
@@ -149,6 +149,11 @@ recordable verb.Smf found =
     performed_holds Smf (portless_setup_of found) (recording_of found MIN_SONG_BPM)
     (λ s setup song read.
     (tempo_not_below found MIN_SONG_BPM song (omega arith) read, no_ports found s setup, tt))
+recordable verb.Jam found =
+    performed_holds Play (setup_of found)
+    (option_and_then (with_own_journal found) (jam_of found)) (λ s setup play read.
+    option_and_then_some (with_own_journal found) (jam_of found) play read
+    (λ before made same. (tt, tt, own_journal found s before play setup same)))
 recordable verb.Wav found =
     performed_holds Wav (portless_setup_of found) (recording_of found 1)
     (λ s setup wave read. (tt, no_ports found s setup, tt))

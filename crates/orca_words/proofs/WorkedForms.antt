@@ -4,7 +4,7 @@ use Rattle.std.specs.Prelude.{◌≡◌, List, [], ◌∷◌, ◌++◌, codes, r
 use Rattle.clap.specs.Words.{Text}
 use Rattle.orca_words.specs.Forms.{Form, forms}
 use Rattle.orca_words.specs.declared.forms.Verb.{Verb}
-use Rattle.orca_words.specs.declared.forms.Verb.TheVariants.{Run, Events, Replay, Play, Make, Migrate, Smf, Wav, Follow, Lead}
+use Rattle.orca_words.specs.declared.forms.Verb.TheVariants.{Run, Events, Replay, Play, Make, Migrate, Smf, Jam, Wav, Follow, Lead}
 
 abbrev row : Text → List Text → List Text → Verb → Form
 row word positionals options verb =
@@ -37,6 +37,8 @@ forms_are : forms
     (codes "SEED" ∷ codes "HEIGHT" ∷ codes "WIDTH" ∷ codes "FRAMES" ∷ []) [] Make
     ∷ row (codes "migrate") (codes "SCRIPT" ∷ codes "OUT" ∷ []) (codes "seed" ∷ []) Migrate
     ∷ row (codes "smf") recording_names recording_options Smf
+    ∷ row (codes "jam") (codes "GRID" ∷ codes "ADDRESS" ∷ codes "HANDS" ∷ [])
+    (options ++ more_options) Jam
     ∷ row (codes "wav") recording_names recording_options Wav
     ∷ row (codes "follow") (codes "GRID" ∷ codes "ADDRESS" ∷ []) options Follow
     ∷ row (codes "lead") (codes "GRID" ∷ codes "ADDRESS" ∷ []) (options ++ codes "bpm" ∷ []) Lead

@@ -7,7 +7,7 @@ use Rattle.clap.proofs.OnLiterals.{clap_on_literals}
 use Rattle.orca_base.specs.Ascii.{space}
 use Rattle.orca_base.specs.Numbers.{number_of}
 use Rattle.orca_words.specs.Forms.{command_of, forms}
-use Rattle.orca_words.specs.Requests.{Events, Follow, Lead, Make, Migrate, Perform, Play, Replay, Request, Run, Setup, Smf, Wav, leading_of, migration_of, number_in, option_full, option_text, performance_of, portless_setup_of, recording_of, request_by, request_in_form, request_of, setup_of, with_own_journal, workload_of}
+use Rattle.orca_words.specs.Requests.{Events, Follow, Lead, Make, Migrate, Perform, Play, Replay, Request, Run, Setup, Smf, Wav, jam_of, leading_of, migration_of, number_in, option_full, option_text, performance_of, portless_setup_of, recording_of, request_by, request_in_form, request_of, setup_of, with_own_journal, workload_of}
 
 -- what a line asks for
 unfoldable asked : Text → Option Request
@@ -18,7 +18,7 @@ unfolding option_text option_full number_in number_of
 values = tt
 
 unfoldable parts : ⊤
-unfolding setup_of portless_setup_of performance_of workload_of migration_of recording_of leading_of with_own_journal
+unfolding setup_of portless_setup_of performance_of jam_of workload_of migration_of recording_of leading_of with_own_journal
 parts = tt
 
 unfoldable worked : ⊤
@@ -79,6 +79,7 @@ play_all : asked (codes "play --midi=m --rows 9 g --udp u --osc=o --bpm=90 --sav
       rows = 9;
       cols = 8;
       full = true;
+      hands = None;
       save = Some (codes "w");
       script = Some (codes "s");
       journal = Some (codes "j");
@@ -92,6 +93,7 @@ play_none : asked (codes "play g a") ≡ Some (Perform none_set (Play (record {
   rows = 24;
   cols = 80;
   full = false;
+  hands = None;
   save = None;
   script = None;
   journal = None;
@@ -102,6 +104,36 @@ play_none = refl
 play_plain : asked (codes "play g a --keys plain") ≡ asked (codes "play g a")
 unfolding worked
 play_plain = refl
+
+jam_all : asked (codes "jam --midi=m --rows 9 g --udp u --osc=o --bpm=90 a --save w --limit 9"
+    ++ codes " --cols=8 --keys=full 8 --script=s --journal j --seed 7")
+    ≡ Some (Perform all_set (Play (record {
+      address = codes "a";
+      bpm = 90;
+      rows = 9;
+      cols = 8;
+      full = true;
+      hands = Some 8;
+      save = Some (codes "w");
+      script = Some (codes "s");
+      journal = Some (codes "j");
+    })))
+unfolding worked all_set
+jam_all = refl
+
+jam_none : asked (codes "jam g a 02") ≡ Some (Perform none_set (Play (record {
+  address = codes "a";
+  bpm = 120;
+  rows = 24;
+  cols = 80;
+  full = false;
+  hands = Some 2;
+  save = None;
+  script = None;
+  journal = None;
+})))
+unfolding worked none_set
+jam_none = refl
 
 make_some : asked (codes "make 5 64 1024 200")
     ≡ Some (Make (record { seed = 5; height = 64; width = 1024; frames = 200 }))
@@ -231,6 +263,18 @@ refused : list_all (λ line. not (is_some (asked line))) (codes ""
     ∷ codes "smf g 3 o --bpm 1000"
     ∷ codes "smf g 3 o --limit 0"
     ∷ codes "smf g 3 o --midi m"
+    ∷ codes "jam g a"
+    ∷ codes "jam g 2 a"
+    ∷ codes "jam g a 0"
+    ∷ codes "jam g a 9"
+    ∷ codes "jam g a 257"
+    ∷ codes "jam g a 00000000002"
+    ∷ codes "jam g a two"
+    ∷ codes "jam g a 2 2"
+    ∷ codes "jam g a 2 --bpm 0"
+    ∷ codes "jam g a 2 --keys all"
+    ∷ codes "jam g a 2 --journal g"
+    ∷ codes "play g a 2"
     ∷ codes "wav g 3"
     ∷ codes "wav g 3 o x"
     ∷ codes "wav g 4294967296 o"

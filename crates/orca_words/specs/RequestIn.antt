@@ -40,6 +40,7 @@ performance_in play = record {
   rows = play.rows;
   cols = play.cols;
   full = play.full;
+  hands = play.hands;
   save = text_in play.save;
   script = text_in play.script;
   journal = text_in play.journal;

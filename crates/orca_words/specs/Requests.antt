@@ -5,7 +5,7 @@ use Rattle.std.specs.Str.{bytes_eq}
 use Rattle.clap.specs.Walk.{is_empty}
 use Rattle.clap.specs.Words.{Row, Text, fault_of, first_of, matches_of}
 use Rattle.orca_base.specs.Numbers.{number_of}
-use Rattle.orca_base.specs.declared.limits.TheConstants.{DEFAULT_SEED, MAX_HISTORY, DEFAULT_HISTORY, MAX_BPM, DEFAULT_BPM, MIN_SCREEN_ROWS, MAX_SCREEN_ROWS, MIN_SCREEN_COLUMNS, MAX_SCREEN_COLUMNS, MAX_ROWS, MAX_COLUMNS}
+use Rattle.orca_base.specs.declared.limits.TheConstants.{DEFAULT_SEED, MAX_HISTORY, DEFAULT_HISTORY, MAX_BPM, DEFAULT_BPM, MAX_HANDS, MIN_SCREEN_ROWS, MAX_SCREEN_ROWS, MIN_SCREEN_COLUMNS, MAX_SCREEN_COLUMNS, MAX_ROWS, MAX_COLUMNS}
 use Rattle.orca_words.specs.declared.limits.TheConstants.{DEFAULT_SCREEN_ROWS, DEFAULT_SCREEN_COLUMNS, MAX_MADE_FRAMES, MIN_SONG_BPM}
 use Rattle.orca_words.specs.declared.forms.Verb.{Verb}
 use Rattle.orca_words.specs.declared.forms.Verb.TheVariants as verb
@@ -20,14 +20,16 @@ pub record Setup : Type 0 where
   pub udp : Option Text
   pub osc : Option Text
 
--- where keys come from and which they are, where pictures go to, how fast frames are played, and
--- what is saved, at the end and while it plays
+-- where keys come from and which they are, how many hands share the session, or none where one
+-- plays alone, where pictures go to, how fast frames are played, and what is saved, at the end and
+-- while it plays
 pub record Performance : Type 0 where
   pub address : Text
   pub bpm : ℕ
   pub rows : ℕ
   pub cols : ℕ
   pub full : Bool
+  pub hands : Option ℕ
   pub save : Option Text
   pub script : Option Text
   pub journal : Option Text
@@ -162,10 +164,21 @@ performance_of found =
       rows = rows;
       cols = cols;
       full = full;
+      hands = None;
       save = option_text found (codes "save");
       script = option_text found (codes "script");
       journal = option_text found (codes "journal");
     })) (option_full found))))
+
+-- so many hands share its session
+abbrev pub shared_by : ℕ → Performance → Performance
+shared_by hands play = record play { hands = Some hands }
+
+-- the same of `jam`, and how many hands there are
+unfoldable pub jam_of : List Row → Option Performance
+jam_of found =
+    with_number (positional_number found (codes "HANDS") 1 MAX_HANDS) (λ hands.
+    option_map (shared_by hands) (performance_of found))
 
 -- whether both names are there, and are the same text
 abbrev pub is_same_name : Option Text → Option Text → Bool
@@ -234,6 +247,9 @@ request_by verb.Make found = option_map Make (workload_of found)
 request_by verb.Migrate found = option_map Migrate (migration_of found)
 request_by verb.Smf found =
     performed (portless_setup_of found) (option_map Smf (recording_of found MIN_SONG_BPM))
+request_by verb.Jam found =
+    performed (setup_of found)
+    (option_map Play (option_and_then (with_own_journal found) (jam_of found)))
 request_by verb.Wav found =
     performed (portless_setup_of found) (option_map Wav (recording_of found 1))
 request_by verb.Follow found =

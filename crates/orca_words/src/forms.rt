@@ -10,6 +10,7 @@ pub(crate) enum Verb {
     Make,
     Migrate,
     Smf,
+    Jam,
     Wav,
     Follow,
     Lead,
@@ -40,7 +41,7 @@ const RECORDING_OPTIONS: &[&str] = &["seed", "limit", "bpm"];
 const LEAD_OPTIONS: &[&str] = &["seed", "limit", "midi", "udp", "osc", "bpm"];
 
 /// The command lines that are read: each is in one of these forms.
-pub(crate) static FORMS: [Form; 10] = [
+pub(crate) static FORMS: [Form; 11] = [
     ("run", &["GRID", "FRAMES"], OPTIONS, Verb::Run),
     ("events", &["GRID", "FRAMES"], OPTIONS, Verb::Events),
     ("replay", &["GRID", "SCRIPT"], OPTIONS, Verb::Replay),
@@ -57,6 +58,12 @@ pub(crate) static FORMS: [Form; 10] = [
         &["GRID", "FRAMES", "OUT"],
         RECORDING_OPTIONS,
         Verb::Smf,
+    ),
+    (
+        "jam",
+        &["GRID", "ADDRESS", "HANDS"],
+        PLAY_OPTIONS,
+        Verb::Jam,
     ),
     (
         "wav",

@@ -2,7 +2,7 @@
 
 ghost use Rattle.std.specs.Prelude.{◌≡◌, ◌≤◌, None, Some, find, map, option_map, string_bytes, IfOk, IsErrOf, MatchOption};
 ghost use Rattle.std.specs.Str.{bytes_eq};
-ghost use Rattle.orca_words.specs.Requests.{frames_of, is_same_name, leading_of, migration_of, performance_of, performed, portless_setup_of, recording_of, request_by, request_in_form, request_of, setup_of, with_own_journal, workload_of};
+ghost use Rattle.orca_words.specs.Requests.{frames_of, is_same_name, jam_of, leading_of, migration_of, performance_of, performed, portless_setup_of, recording_of, request_by, request_in_form, request_of, setup_of, with_own_journal, workload_of};
 ghost use Rattle.orca_words.specs.Forms.{form_by, form_in};
 ghost use Rattle.orca_words.specs.RequestIn.{leading_in, migration_in, performance_in, recording_in, request_in, rows_in, setup_in, text_in, work_in, workload_in};
 ghost use Rattle.orca_words.specs.Recordings.{HasOwnJournal, HasSongTempo, IfPerform, RecordsWithoutPorts};
@@ -18,8 +18,8 @@ use crate::{
 };
 use clap::ArgMatches;
 use orca_base::limits::{
-    DEFAULT_BPM, DEFAULT_HISTORY, DEFAULT_SEED, MAX_BPM, MAX_COLUMNS, MAX_HISTORY, MAX_ROWS,
-    MAX_SCREEN_COLUMNS, MAX_SCREEN_ROWS, MIN_SCREEN_COLUMNS, MIN_SCREEN_ROWS,
+    DEFAULT_BPM, DEFAULT_HISTORY, DEFAULT_SEED, MAX_BPM, MAX_COLUMNS, MAX_HANDS, MAX_HISTORY,
+    MAX_ROWS, MAX_SCREEN_COLUMNS, MAX_SCREEN_ROWS, MIN_SCREEN_COLUMNS, MIN_SCREEN_ROWS,
 };
 use std::alloc::Global;
 
@@ -125,6 +125,10 @@ fn request_by<'a>(verb: Verb, found: &ArgMatches<'a>) -> Option<Request<'a>>
         Verb::Smf => {
             let song = recording(found, MIN_SONG_BPM)?;
             perform(portless_setup(found), Work::Smf(song))
+        }
+        Verb::Jam => {
+            let play = with_own_journal(found, jam(found)?)?;
+            perform(setup(found), Work::Play(play))
         }
         Verb::Wav => {
             let wave = recording(found, 1)?;
@@ -237,10 +241,22 @@ fn performance<'a>(found: &ArgMatches<'a>) -> Option<Performance<'a>>
         rows,
         cols,
         full,
+        hands: None,
         save: option_text(found, "save"),
         script: option_text(found, "script"),
         journal: option_text(found, "journal"),
     })
+}
+
+/// The same of `jam`, and how many hands share the session.
+#[tactic(auto, unfolding(crate::specs::Requests::jam_of))]
+fn jam<'a>(found: &ArgMatches<'a>) -> Option<Performance<'a>>
+    ensures { option_map performance_in result ≡ jam_of (rows_in found.now) }
+{
+    let hands = positional_number(found, "HANDS", 1, u32::from(MAX_HANDS))? as u8;
+    let mut play = performance(found)?;
+    play.hands = Some(hands);
+    Some(play)
 }
 
 /// The address and the tempo of `lead`.

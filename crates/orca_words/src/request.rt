@@ -1,7 +1,8 @@
 //! What the words of the command line ask for.
 
 ghost use Rattle.std.specs.Prelude.{◌≤◌};
-ghost use Rattle.orca_base.specs.declared.limits.TheConstants.{MAX_BPM, MAX_COLUMNS, MAX_HISTORY, MAX_ROWS, MAX_SCREEN_COLUMNS, MAX_SCREEN_ROWS, MIN_SCREEN_COLUMNS, MIN_SCREEN_ROWS};
+ghost use Rattle.std.specs.Option.{ForSome};
+ghost use Rattle.orca_base.specs.declared.limits.TheConstants.{MAX_BPM, MAX_COLUMNS, MAX_HANDS, MAX_HISTORY, MAX_ROWS, MAX_SCREEN_COLUMNS, MAX_SCREEN_ROWS, MIN_SCREEN_COLUMNS, MIN_SCREEN_ROWS};
 ghost use Rattle.orca_words.specs.declared.limits.TheConstants.{MAX_MADE_FRAMES};
 
 /// What the words ask for.
@@ -42,7 +43,8 @@ pub enum Work<'a> {
     Events { frames: u32 },
     /// The word `replay`: the commands of a script are done.
     Replay { script: &'a str },
-    /// The word `play`: the grid plays while it is edited by keys.
+    /// The words `play` and `jam`: the grid plays while it is edited by keys, of one hand or of
+    /// several.
     Play(Performance<'a>),
     /// The word `smf`: frames are played, and their MIDI messages are saved as a song. No port is
     /// attached, and the tempo is at least [`MIN_SONG_BPM`](crate::limits::MIN_SONG_BPM).
@@ -55,8 +57,8 @@ pub enum Work<'a> {
     Lead(Leading<'a>),
 }
 
-/// Where keys come from and which they are, where pictures go to, how fast frames are played, and what is
-/// saved, at the end and while it plays.
+/// Where keys come from and which they are, how many hands share the session, where pictures go to, how fast
+/// frames are played, and what is saved, at the end and while it plays.
 #[derive(Debug, PartialEq, Eq, Drop)]
 pub struct Performance<'a> {
     /// The address at which the keys arrive.
@@ -71,6 +73,9 @@ pub struct Performance<'a> {
     pub cols: u16,
     /// Whether the keys are the full ones, or else the plain ones.
     pub full: bool,
+    /// How many hands share the session: 1 to [`MAX_HANDS`](orca_base::limits::MAX_HANDS). None where
+    /// one plays alone.
+    pub hands: Option<u8>,
     /// The file that the grid is saved to.
     pub save: Option<&'a str>,
     /// The file that the commands are saved to.
@@ -80,6 +85,7 @@ pub struct Performance<'a> {
     ghost bpm_in_range: { (1 ≤ bpm) × (bpm ≤ MAX_BPM) },
     ghost rows_in_range: { (MIN_SCREEN_ROWS ≤ rows) × (rows ≤ MAX_SCREEN_ROWS) },
     ghost cols_in_range: { (MIN_SCREEN_COLUMNS ≤ cols) × (cols ≤ MAX_SCREEN_COLUMNS) },
+    ghost hands_in_range: { ForSome hands (λ count. (1 ≤ count) × (count ≤ MAX_HANDS)) },
 }
 
 /// How many frames are played, how fast, and what they are saved to.
