@@ -4,6 +4,7 @@ pub mod CourseLemmas
 pub mod EndLemmas
 pub mod ItemLemmas
 pub mod KeepingLemmas
+pub mod HandLemmas
 pub mod LawLemmas
 pub mod JournalLemmas
 pub mod ReadyLemmas

@@ -6,4 +6,5 @@ pub mod Doing
 pub mod Performances
 pub mod Running
 pub mod Laws
+pub mod Hands
 pub mod Takes

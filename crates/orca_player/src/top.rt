@@ -5,6 +5,7 @@ ghost use Rattle.orca_grid.specs.GridText.{grid_text};
 ghost use Rattle.orca_player.specs.Clocks.{KeepsTime};
 ghost use Rattle.orca_player.specs.Doing.{Came, CameBy, refused_status};
 ghost use Rattle.orca_player.specs.Outlines.{Heard, grid_outline, is_too_long as is_long_work, made_outline, outline, performed, request_outline, work_outline};
+ghost use Rattle.orca_player.specs.Hands.{SharesFairly};
 ghost use Rattle.orca_player.specs.Laws.{CutsAlike, KeepsJournals, ReplaysAlike};
 ghost use Rattle.orca_player.specs.Running.{IsCaused, Ran};
 ghost use Rattle.orca_words.specs.RequestIn.{request_in, setup_in, work_in, workload_in};
@@ -28,6 +29,7 @@ use orca_course::Desk;
 use orca_cues::{Frames, Maker, Turns};
 use orca_frame::table_laws;
 use orca_grid::{Grid, GridRefusal};
+use orca_live::{hands_law, solo_law};
 use orca_reports::{EventsReport, MakeReport, RunReport, saving_law};
 use orca_rig::House;
 use orca_words::{Request, Setup, WordsFault, Work, Workload, read_words};
@@ -92,10 +94,16 @@ pub fn run<H: House>(alloc: Global, words: &Vec<String>, desk: &mut Desk<H>) -> 
     // and whatever other bytes stand between. One that hears exactly what a run that leads gives
     // plays exactly the frames of that.
     ensures clocks { KeepsTime (map string_bytes words.now.items) }
+
+    // Hands that share a session are each heard, the undo of one leaves the edits of the others,
+    // and one hand that could share it plays as one that plays alone, but for the key of Redo.
+    ensures hands { SharesFairly (map string_bytes words.now.items) }
 {
-    // What runs by a clock do is said by these laws.
+    // What runs by a clock do, and what hands do that share a session, is said by these laws.
     table_laws();
     clock_law();
+    hands_law();
+    solo_law();
     let status = work(alloc, words, desk);
     end(alloc, desk, status)
 }

@@ -4,6 +4,7 @@ use Rattle.orca_live.proofs.PaintingLaw.{shows_performance}
 use Rattle.orca_live.proofs.ScriptLaw.{replays_script}
 use Rattle.orca_words.proofs.RecordedWork.{owns_journals}
 use Rattle.orca_player.proofs.EndLemmas.{caused_came, ran_by, ran_usage, ran_usage_only}
+use Rattle.orca_player.proofs.HandLemmas.{shares_fairly}
 use Rattle.orca_player.proofs.JournalLemmas.{keeps_journals}
 use Rattle.orca_player.proofs.KeepingLemmas.{keeps_time}
 use Rattle.orca_player.proofs.LawLemmas.{cuts_alike, replays_alike}
@@ -22,6 +23,11 @@ pub returns-clause-clocks : goal.returns-clause-clocks
 returns-clause-clocks g c =
     let law = c.clock_law.ensures in
     keeps_time c.table_laws.ensures law.bytes law.clock law.leads _
+
+pub returns-clause-hands : goal.returns-clause-hands
+returns-clause-hands g c =
+    let law = c.hands_law.ensures in
+    shares_fairly law.heard law.starts law.shared c.solo_law.ensures _
 
 pub returns-clause-ran : goal.returns-clause-ran
 returns-clause-ran g c =

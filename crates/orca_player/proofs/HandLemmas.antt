@@ -1,0 +1,107 @@
+-- The laws of hands, on the outlines of runs.
+use Rattle.std.proofs.Common.{◌≡◌, ◌≢◌, ℕ, List, [], true, refl, ◌∙◌, ap, arith}
+use Rattle.std.specs.Prelude.{Option, Some, None, Result, Ok, Err}
+use Rattle.std.proofs.lemmas.List.Elements.{All-nil}
+use Rattle.orca_base.specs.Grids.{Sheet}
+use Rattle.orca_course.specs.Courses.{mapped}
+use Rattle.orca_course.specs.Standings.{Standing}
+use Rattle.orca_grid.specs.GridText.{grid_text}
+use Rattle.orca_grid.specs.declared.refusal.GridRefusal.{GridRefusal}
+use Rattle.orca_jam.specs.Laws.{AreLeaders}
+use Rattle.orca_jam.specs.declared.crew.TheConstants.{LEADER}
+use Rattle.orca_jam.specs.declared.owner.Owner.{Owner}
+use Rattle.orca_live.specs.Hands.{EachIsHeard, HandsShare, HasOwners, StartsWithOwners}
+use Rattle.orca_live.specs.Items.{items_of}
+use Rattle.orca_live.specs.Laws.{whole}
+use Rattle.orca_live.specs.Solo.{HasNoRedo, PlaysAlone, PlaysSame, as_alone}
+use Rattle.orca_live.specs.States.{LiveState}
+use Rattle.orca_trace.specs.Calls.{Poll}
+use Rattle.orca_words.specs.Requests.{Perform, Performance, Play, Setup}
+use Rattle.orca_player.specs.Hands.{SharesFairly}
+use Rattle.orca_player.specs.Outlines.{Brought, Heard, grid_outline, listening, live_outline, live_start, loading, opening, outline, performed, played, request_outline, screen_of, setting_of, start_of, work_outline}
+use Rattle.orca_player.specs.declared.live.TheConstants.{ALONE}
+
+-- ---- hands that share
+
+-- this many hands share the session of a performance, or one plays alone
+abbrev with_hands : Option ℕ → Performance → Performance
+with_hands hands play = record play { hands = hands }
+
+-- a history that is opened has no entry, and there is room for the owners of a whole one
+starts_owned : StartsWithOwners → (setup : Setup) (play : Performance) (sheet : Sheet) (at : ℕ)
+    (hands : Option ℕ) → hands ≢ None
+    → HasOwners (live_start setup (with_hands hands play) at (start_of setup sheet))
+starts_owned starts setup play sheet at None some = absurd (some refl)
+starts_owned starts setup play sheet at (Some hands) some =
+    starts (setting_of setup play) hands setup.limit (screen_of play) at (start_of setup sheet) refl
+    (omega arith)
+
+-- ---- one that is alone
+
+-- each edit is the first hand's, where there is none
+no_owner : AreLeaders []
+no_owner = All-nil (λ (owner : Owner). owner.edit ≡ true → owner.hand ≡ LEADER)
+
+-- performances that do the same
+same_played : (u : LiveState) (polls : List Poll)
+    → PlaysSame (whole u polls) (whole (as_alone u) polls)
+    → played u polls ≡ played (as_alone u) polls
+unfolding opening mapped
+same_played u polls same = rw (same.acts, same.bill, same.ending, same.state) refl
+
+solo_live : PlaysAlone → (setup : Setup) (play : Performance) (polls : List Poll) (s : Standing)
+    (at : ℕ) → HasNoRedo (items_of ALONE polls)
+    → live_outline setup (with_hands (Some 1) play) polls s at
+    ≡ live_outline setup (with_hands None play) polls s at
+unfolding live_outline
+solo_live law setup play polls s at none =
+    let u = live_start setup (with_hands (Some 1) play) at s in
+    same_played u polls (law u polls (record { one = refl; own = no_owner }) none)
+
+solo_listening : PlaysAlone → (setup : Setup) (play : Performance) (polls : List Poll)
+    (s : Standing) (start : Option ℕ) → HasNoRedo (items_of ALONE polls)
+    → listening play.address ALONE start (live_outline setup (with_hands (Some 1) play) polls s)
+    ≡ listening play.address ALONE start (live_outline setup (with_hands None play) polls s)
+unfolding listening
+solo_listening law setup play polls s None none = refl
+solo_listening law setup play polls s (Some at) none =
+    rw (solo_live law setup play polls s at none) refl
+
+solo_grid : PlaysAlone → (setup : Setup) (play : Performance) (b : Brought)
+    (read : Result Sheet GridRefusal) → HasNoRedo (items_of ALONE b.polls)
+    → grid_outline setup (Play (with_hands (Some 1) play)) b read
+    ≡ grid_outline setup (Play (with_hands None play)) b read
+unfolding grid_outline work_outline
+solo_grid law setup play b (Err refusal) none = refl
+solo_grid law setup play b (Ok sheet) none =
+    solo_listening law setup play b.polls (start_of setup sheet) b.start none
+
+solo_loaded : PlaysAlone → (setup : Setup) (play : Performance) (b : Brought)
+    (grid : Option (List ℕ)) → HasNoRedo (items_of ALONE b.polls)
+    → performed setup (Play (with_hands (Some 1) play)) (record { grid = grid; brought = b })
+    ≡ performed setup (Play (with_hands None play)) (record { grid = grid; brought = b })
+unfolding performed loading
+solo_loaded law setup play b None none = refl
+solo_loaded law setup play b (Some text) none =
+    rw (solo_grid law setup play b (grid_text text) none) refl
+
+solo_request : PlaysAlone → (setup : Setup) (play : Performance) (h : Heard)
+    → play.hands ≡ Some 1 → HasNoRedo (items_of ALONE h.brought.polls)
+    → request_outline (Perform setup (Play play)) h
+    ≡ request_outline (Perform setup (Play (with_hands None play))) h
+unfolding request_outline
+solo_request law setup play h one none =
+    ap (λ hands. performed setup (Play (with_hands hands play)) h) one
+    ∙ solo_loaded law setup play h.brought h.grid none
+
+pub shares_fairly : EachIsHeard → StartsWithOwners → HandsShare → PlaysAlone
+    → (words : List (List ℕ)) → SharesFairly words
+unfolding outline
+shares_fairly each starts fair law words = record {
+  heard = λ setup play sheet at is. each (live_start setup play at (start_of setup sheet));
+  shares = λ setup play sheet at is some.
+      fair (live_start setup play at (start_of setup sheet))
+      (starts_owned starts setup play sheet at play.hands some);
+  alone = λ others setup play h is one other none.
+      rw (is, other) (solo_request law setup play h one none);
+}
