@@ -46,6 +46,7 @@ RUNS = [
     'migrate_without_a_fault',
     'smf_without_a_fault',
     'wav_without_a_fault',
+    'hands_an_edit_of_another_is_not_taken_back',
 ]
 # How many messages each command of a run gives, where the commands have nothing printed between them.
 MESSAGES = {
