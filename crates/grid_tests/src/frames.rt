@@ -2,7 +2,7 @@
 
 ghost use Rattle.std.specs.Prelude.{◌≡◌, ◌+◌, ◌<◌};
 ghost use Rattle.orca_grid.specs.BlankGrid.{blank_sheet};
-ghost use Rattle.orca_op.specs.Desk.{desk_of_sheet};
+ghost use Rattle.orca_op.specs.Slate.{slate_of_sheet};
 
 use orca_base::{Dims, Now, Steps};
 use orca_board::Board;
@@ -15,7 +15,7 @@ use std::test::Fail;
 /// A frame of 256 rows of 256 dots: one step for each row, and one more. No step is kept when the
 /// program runs, so this contract says how many there are.
 fn play_dots<L: Ledger>(board: &mut Board, steps: &mut Steps<L>)
-    requires { board.old ≡ desk_of_sheet (blank_sheet (record { h = 256; w = 256 })) }
+    requires { board.old ≡ slate_of_sheet (blank_sheet (record { h = 256; w = 256 })) }
     ensures same { board.new ≡ board.old }
     ensures steps { steps.new ≡ steps.old + 257 }
 {
@@ -28,7 +28,7 @@ fn count_dots<L: Ledger>(board: &mut Board, blank: Blank)
     requires name { blank.name ≡ L.name }
     requires parts { blank.parts ≡ L.parts }
     requires some { 0 < blank.parts }
-    requires dots { board.old ≡ desk_of_sheet (blank_sheet (record { h = 256; w = 256 })) }
+    requires dots { board.old ≡ slate_of_sheet (blank_sheet (record { h = 256; w = 256 })) }
     ensures { board.new ≡ board.old }
 {
     play_dots(board, &mut Steps::<L>::start(blank));

@@ -9,10 +9,10 @@ use Rattle.orca_base.specs.Glyphs.{empty, value}
 use Rattle.orca_base.specs.Grids.{IsInside, Size, index_of, is_inside, off, place_at, place_in, right}
 use Rattle.orca_base.specs.MarkSet.{MarkSet}
 use Rattle.orca_base.proofs.PlaceFacts.{index-injective, inside-place_in}
-use Rattle.orca_op.specs.Deeds.{Deed, Mark, Write, Set, Emit, after, cells_after, each, output_at}
-use Rattle.orca_op.specs.Desk.{Desk, desk_after, desk_after_all}
+use Rattle.orca_op.specs.Deeds.{Deed, Mark, Write, Set, Emit, after, cells_after, each_below, output_at}
+use Rattle.orca_op.specs.Slate.{Slate, slate_after, slate_after_all}
 use Rattle.orca_op.specs.GridRules.{store_deeds}
-use Rattle.orca_op.proofs.LawFacts.{Every-each, desk_after_all-each_more, each-same}
+use Rattle.orca_op.proofs.LawFacts.{Every-each, slate_after_all-each_more, each-same}
 use Rattle.orca_op.specs.Laws.{Every}
 use Rattle.ops_grid.specs.Each.{generate_at, konkat_at}
 use Rattle.orca_op.specs.State.{State, glyph_in, peek, var_at}
@@ -76,29 +76,29 @@ var-spared s (Set set_name glyph) row name spares = absurd spares
 var-spared s (Emit event) row name spares = refl
 
 -- marks change no glyph and no variable
-pub peek-marked : (d e : Desk) (at spot : Spot) (marks : MarkSet) → e ≡ desk_after d (Mark at marks)
+pub peek-marked : (d e : Slate) (at spot : Spot) (marks : MarkSet) → e ≡ slate_after d (Mark at marks)
     → peek e.scan spot ≡ peek d.scan spot
 peek-marked d e at spot marks is =
-    ap (λ (x : Desk). peek x.scan spot) is ∙ peek-spared d.scan (Mark at marks) spot tt
+    ap (λ (x : Slate). peek x.scan spot) is ∙ peek-spared d.scan (Mark at marks) spot tt
 
-pub var-marked : (d e : Desk) (at : Spot) (marks : MarkSet) (name : ℕ)
-    → e ≡ desk_after d (Mark at marks) → var_at e.scan name ≡ var_at d.scan name
+pub var-marked : (d e : Slate) (at : Spot) (marks : MarkSet) (name : ℕ)
+    → e ≡ slate_after d (Mark at marks) → var_at e.scan name ≡ var_at d.scan name
 var-marked d e at marks name is =
-    ap (λ (x : Desk). var_at x.scan name) is ∙ var-spared d.scan (Mark at marks) (pos 0) name tt
+    ap (λ (x : Slate). var_at x.scan name) is ∙ var-spared d.scan (Mark at marks) (pos 0) name tt
 
 -- ---- deeds in order
 
-peek-all : (d : Desk) (deeds : List Deed) (spot : Spot) → Every (Spares spot.y) deeds
-    → peek (desk_after_all d deeds).scan spot ≡ peek d.scan spot
+peek-all : (d : Slate) (deeds : List Deed) (spot : Spot) → Every (Spares spot.y) deeds
+    → peek (slate_after_all d deeds).scan spot ≡ peek d.scan spot
 peek-all d [] spot spares = refl
 peek-all d (deed ∷ deeds) spot spares =
-    peek-all (desk_after d deed) deeds spot spares.1 ∙ peek-spared d.scan deed spot spares.0
+    peek-all (slate_after d deed) deeds spot spares.1 ∙ peek-spared d.scan deed spot spares.0
 
-var-all : (d : Desk) (deeds : List Deed) (row : ℤ) (name : ℕ) → Every (Spares row) deeds
-    → var_at (desk_after_all d deeds).scan name ≡ var_at d.scan name
+var-all : (d : Slate) (deeds : List Deed) (row : ℤ) (name : ℕ) → Every (Spares row) deeds
+    → var_at (slate_after_all d deeds).scan name ≡ var_at d.scan name
 var-all d [] row name spares = refl
 var-all d (deed ∷ deeds) row name spares =
-    var-all (desk_after d deed) deeds row name spares.1 ∙ var-spared d.scan deed row name spares.0
+    var-all (slate_after d deed) deeds row name spares.1 ∙ var-spared d.scan deed row name spares.0
 
 number_of : ℤ → ℕ
 number_of (pos n) = n
@@ -125,53 +125,53 @@ store_spares at i name stored = by (name == empty)
     by false = (tt, (lower at.y 1 (omega arith), tt))
 
 -- one name more
-pub konkat_more : (d e f : Desk) (at : Place) (i : ℕ)
-    → e ≡ desk_after_all d (each i (konkat_at d.scan at))
-    → f ≡ desk_after_all e (konkat_at e.scan at i)
-    → f ≡ desk_after_all d (each (i + 1) (konkat_at d.scan at))
+pub konkat_more : (d e f : Slate) (at : Place) (i : ℕ)
+    → e ≡ slate_after_all d (each_below i (konkat_at d.scan at))
+    → f ≡ slate_after_all e (konkat_at e.scan at i)
+    → f ≡ slate_after_all d (each_below (i + 1) (konkat_at d.scan at))
 konkat_more d e f at i before done =
-    let deeds : List Deed = each i (konkat_at d.scan at) in
+    let deeds : List Deed = each_below i (konkat_at d.scan at) in
     let spares : Every (Spares (pos (at.y + 0))) deeds =
     Every-each (Spares (pos (at.y + 0))) i (konkat_at d.scan at)
     (λ k below. (tt, store_spares at (k + 1) _ _)) in
     let name = peek-all d deeds (right at (i + 1)) spares in
     let stored = var-all d deeds (pos (at.y + 0)) (value (peek d.scan (right at (i + 1)))) spares in
-    let same : konkat_at (desk_after_all d deeds).scan at i ≡ konkat_at d.scan at i =
+    let same : konkat_at (slate_after_all d deeds).scan at i ≡ konkat_at d.scan at i =
     rw (name, stored) refl in
-    rw (desk_after_all-each_more d i (konkat_at d.scan at))
-    (done ∙ (ap (λ (x : Desk). desk_after_all x (konkat_at x.scan at i)) before
-    ∙ ap (desk_after_all (desk_after_all d deeds)) same))
+    rw (slate_after_all-each_more d i (konkat_at d.scan at))
+    (done ∙ (ap (λ (x : Slate). slate_after_all x (konkat_at x.scan at i)) before
+    ∙ ap (slate_after_all (slate_after_all d deeds)) same))
 
 -- ---- G
 
 -- one operand more
-pub generate_more : (d e f : Desk) (at : Place) (y x i : ℕ)
-    → e ≡ desk_after_all d (each i (generate_at d.scan at y x))
-    → f ≡ desk_after_all e (generate_at e.scan at y x i)
-    → f ≡ desk_after_all d (each (i + 1) (generate_at d.scan at y x))
+pub generate_more : (d e f : Slate) (at : Place) (y x i : ℕ)
+    → e ≡ slate_after_all d (each_below i (generate_at d.scan at y x))
+    → f ≡ slate_after_all e (generate_at e.scan at y x i)
+    → f ≡ slate_after_all d (each_below (i + 1) (generate_at d.scan at y x))
 generate_more d e f at y x i before done =
-    let deeds : List Deed = each i (generate_at d.scan at y x) in
+    let deeds : List Deed = each_below i (generate_at d.scan at y x) in
     let spares : Every (Spares (pos (at.y + 0))) deeds =
     Every-each (Spares (pos (at.y + 0))) i (generate_at d.scan at y x)
     (λ k below. (tt, (tt, (lower at.y (y + 1) (omega arith), tt)))) in
     let operand = peek-all d deeds (right at (i + 1)) spares in
-    let same : generate_at (desk_after_all d deeds).scan at y x i ≡ generate_at d.scan at y x i =
+    let same : generate_at (slate_after_all d deeds).scan at y x i ≡ generate_at d.scan at y x i =
     rw operand refl in
-    rw (desk_after_all-each_more d i (generate_at d.scan at y x))
-    (done ∙ (ap (λ (z : Desk). desk_after_all z (generate_at z.scan at y x i)) before
-    ∙ ap (desk_after_all (desk_after_all d deeds)) same))
+    rw (slate_after_all-each_more d i (generate_at d.scan at y x))
+    (done ∙ (ap (λ (z : Slate). slate_after_all z (generate_at z.scan at y x i)) before
+    ∙ ap (slate_after_all (slate_after_all d deeds)) same))
 
 -- states that show the same
 pub konkat-same : (s t : State) (at : Place) (n : ℕ)
     → ((k : ℕ) → peek t (right at k) ≡ peek s (right at k))
     → ((name : ℕ) → var_at t name ≡ var_at s name)
-    → each n (konkat_at t at) ≡ each n (konkat_at s at)
+    → each_below n (konkat_at t at) ≡ each_below n (konkat_at s at)
 konkat-same s t at n shown stored =
     each-same n (konkat_at t at) (konkat_at s at)
     (λ i below. rw (shown (i + 1), stored (value (peek s (right at (i + 1))))) refl)
 
 pub generate-same : (s t : State) (at : Place) (y x n : ℕ)
     → ((k : ℕ) → peek t (right at k) ≡ peek s (right at k))
-    → each n (generate_at t at y x) ≡ each n (generate_at s at y x)
+    → each_below n (generate_at t at y x) ≡ each_below n (generate_at s at y x)
 generate-same s t at y x n shown =
     each-same n (generate_at t at y x) (generate_at s at y x) (λ i below. rw (shown (i + 1)) refl)

@@ -9,7 +9,7 @@ use Rattle.orca_base.specs.declared.place.Spot.{Spot}
 use Rattle.orca_base.specs.MarkSet.{MarkSet}
 use Rattle.orca_op.specs.State.{State, peek}
 use Rattle.orca_base.specs.Grids.{left}
-use Rattle.orca_op.specs.Deeds.{Deed, Mark, Write, each, input_at, param_at, output_at, lock_at}
+use Rattle.orca_op.specs.Deeds.{Deed, Mark, Write, each_below, input_at, param_at, output_at, lock_at}
 use Rattle.orca_op.specs.Laws.{EmitsInRange, IsLawful, WritesGlyph, IsCovered, Covers, is_emit}
 use Rattle.orca_op.proofs.LawFacts.{IsGlyph-peek, length-each, no_event-each, count_by-append, Every-each, Every-append, AnyDeed-each, AnyDeed-right}
 
@@ -19,7 +19,7 @@ abbrev pub copies : (State → Place → ℕ) → (State → Place → ℕ → S
     → MarkSet → ℕ → State → Place → Now → List Deed
 copies many from to marks g s at now =
     param_at (left at 3) ∷ param_at (left at 2) ∷ param_at (left at 1)
-    ∷ each (many s at) (λ i. input_at (from s at i) ∷ Mark (to s at i) marks ∷ Write (to s at i)
+    ∷ each_below (many s at) (λ i. input_at (from s at i) ∷ Mark (to s at i) marks ∷ Write (to s at i)
     (peek s (from s at i)) ∷ [])
 
 pub lawful-copies : (many : State → Place → ℕ) (from to : State → Place → ℕ → Spot)
@@ -31,11 +31,11 @@ lawful-copies many from to marks covers few =
     (peek s (from s at i)) ∷ [] in
     record {
       few_deeds = λ g s at now.
-          let run : length (each (many s at) (copy s at)) ≤ many s at * 3 =
+          let run : length (each_below (many s at) (copy s at)) ≤ many s at * 3 =
           length-each (many s at) 3 (copy s at) (λ i. omega arith) in
           omega (arith, run, few s at);
       one_event = λ g s at now.
-          let run : count_by is_emit (each (many s at) (copy s at)) ≡ 0 = no_event-each (many s at)
+          let run : count_by is_emit (each_below (many s at) (copy s at)) ≡ 0 = no_event-each (many s at)
           (copy s at) (λ i. refl) in
           omega (arith, run);
       glyphs = λ g s at now whole is_glyph. (
@@ -89,7 +89,7 @@ lawful-copies many from to marks covers few =
 abbrev pub locks : (State → Place → ℕ) → (State → Place → ℕ → Spot) → (State → Place → Spot)
     → (State → Place → Spot) → ℕ → State → Place → Now → List Deed
 locks many spot from to g s at now =
-    param_at (left at 2) ∷ param_at (left at 1) ∷ each (many s at) (λ i. lock_at (spot s at i) ∷ [])
+    param_at (left at 2) ∷ param_at (left at 1) ∷ each_below (many s at) (λ i. lock_at (spot s at i) ∷ [])
     ++ input_at (from s at) ∷ output_at (to s at) ∷ Write (to s at) (peek s (from s at)) ∷ []
 
 pub lawful-locks : (many : State → Place → ℕ) (spot : State → Place → ℕ → Spot)
@@ -101,18 +101,18 @@ lawful-locks many spot from to few =
     ∷ Write (to s at) (peek s (from s at)) ∷ [] in
     record {
       few_deeds = λ g s at now.
-          let run : length (each (many s at) (lock s at)) ≤ many s at * 1 =
+          let run : length (each_below (many s at) (lock s at)) ≤ many s at * 1 =
           length-each (many s at) 1 (lock s at) (λ i. omega arith) in
-          omega (arith, run, few s at, length-append (each (many s at) (lock s at)) (last s at));
+          omega (arith, run, few s at, length-append (each_below (many s at) (lock s at)) (last s at));
       one_event = λ g s at now.
-          let run : count_by is_emit (each (many s at) (lock s at)) ≡ 0 = no_event-each (many s at)
+          let run : count_by is_emit (each_below (many s at) (lock s at)) ≡ 0 = no_event-each (many s at)
           (lock s at) (λ i. refl) in
-          omega (arith, run, count_by-append is_emit (each (many s at) (lock s at)) (last s at));
+          omega (arith, run, count_by-append is_emit (each_below (many s at) (lock s at)) (last s at));
       glyphs = λ g s at now whole is_glyph. (
         tt,
         (
           tt,
-          Every-append WritesGlyph (each (many s at) (lock s at)) (last s at)
+          Every-append WritesGlyph (each_below (many s at) (lock s at)) (last s at)
               (Every-each WritesGlyph (many s at) (lock s at) (λ i below. (tt, tt)))
               (tt, (tt, (IsGlyph-peek s _ whole, tt))),
         ),
@@ -121,7 +121,7 @@ lawful-locks many spot from to few =
         tt,
         (
           tt,
-          Every-append EmitsInRange (each (many s at) (lock s at)) (last s at)
+          Every-append EmitsInRange (each_below (many s at) (lock s at)) (last s at)
               (Every-each EmitsInRange (many s at) (lock s at) (λ i below. (tt, tt)))
               (tt, (tt, (tt, tt))),
         ),
@@ -131,7 +131,7 @@ lawful-locks many spot from to few =
             tt,
             (
               tt,
-              Every-append P (each (many s at) (lock s at)) (last s at)
+              Every-append P (each_below (many s at) (lock s at)) (last s at)
                   (Every-each P (many s at) (lock s at) (λ i below. (tt, tt))) (
                     tt,
                     (
@@ -139,7 +139,7 @@ lawful-locks many spot from to few =
                       (
                         inr
                             (inr (inr (AnyDeed-right (Covers (to s at))
-                            (each (many s at) (lock s at)) (last s at) (inr (inl (refl, refl)))))),
+                            (each_below (many s at) (lock s at)) (last s at) (inr (inl (refl, refl)))))),
                         tt,
                       ),
                     ),

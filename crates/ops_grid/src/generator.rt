@@ -1,8 +1,8 @@
 ghost use Rattle.std.specs.Prelude.{◌≡◌, ◌+◌, ◌*◌, ◌<◌};
 ghost use Rattle.orca_base.specs.declared.limits.TheConstants.{BASE};
 ghost use Rattle.orca_op.specs.declared.kind.Kind.TheVariants.{Generator as generator_kind};
-ghost use Rattle.orca_op.specs.Deeds.{each};
-ghost use Rattle.orca_op.specs.Desk.{desk_after_all};
+ghost use Rattle.orca_op.specs.Deeds.{each_below};
+ghost use Rattle.orca_op.specs.Slate.{slate_after_all};
 ghost use Rattle.ops_grid.specs.Each.{generate_at};
 ghost use Rattle.ops_grid.specs.GridLaws.{lawful-generator};
 
@@ -55,8 +55,8 @@ fn generate<B: Bench, L: Ledger>(
     steps: &mut Steps<L>,
 )
     requires { (y < BASE) × (x < BASE) × (length < BASE) }
-    ensures deeds { let old = B.desk bench.old in
-        B.desk bench.new ≡ desk_after_all old (each length (generate_at old.scan at y x)) }
+    ensures deeds { let old = B.slate bench.old in
+        B.slate bench.new ≡ slate_after_all old (each_below length (generate_at old.scan at y x)) }
     ensures steps { steps.new ≡ steps.old + 4 * length }
 {
     for i in 0..length {

@@ -1,8 +1,8 @@
 ghost use Rattle.std.specs.Prelude.{◌≡◌, ◌+◌, ◌*◌, ◌<◌, ◌≤◌};
 ghost use Rattle.orca_base.specs.declared.limits.TheConstants.{BASE};
 ghost use Rattle.orca_op.specs.declared.kind.Kind.TheVariants.{Konkat as konkat_kind};
-ghost use Rattle.orca_op.specs.Deeds.{each};
-ghost use Rattle.orca_op.specs.Desk.{desk_after_all};
+ghost use Rattle.orca_op.specs.Deeds.{each_below};
+ghost use Rattle.orca_op.specs.Slate.{slate_after_all};
 ghost use Rattle.ops_grid.specs.Each.{konkat_at};
 ghost use Rattle.ops_grid.specs.GridLaws.{lawful-konkat};
 
@@ -44,8 +44,8 @@ impl Operator for Konkat {
 /// each is read as it was before the first was written.
 fn concatenate<B: Bench, L: Ledger>(bench: &mut B, at: Place, length: u8, steps: &mut Steps<L>)
     requires { length < BASE }
-    ensures deeds { B.desk bench.new
-        ≡ desk_after_all (B.desk bench.old) (each length (konkat_at (B.desk bench.old).scan at)) }
+    ensures deeds { B.slate bench.new
+        ≡ slate_after_all (B.slate bench.old) (each_below length (konkat_at (B.slate bench.old).scan at)) }
     ensures steps { steps.new ≤ steps.old + 5 * length }
     ensures later { steps.old ≤ steps.new }
 {
@@ -57,8 +57,8 @@ fn concatenate<B: Bench, L: Ledger>(bench: &mut B, at: Place, length: u8, steps:
 /// Reads the name in a column, and writes its variable below; nothing is written where the name is missing.
 #[tactic(auto, unfolding(orca_op::specs::GridRules::store_deeds, orca_op::specs::Deeds::after, orca_op::specs::State::var_at))]
 fn write_below<B: Bench, L: Ledger>(bench: &mut B, at: Place, i: u8, steps: &mut Steps<L>)
-    ensures deeds { B.desk bench.new
-        ≡ desk_after_all (B.desk bench.old) (konkat_at (B.desk bench.old).scan at i) }
+    ensures deeds { B.slate bench.new
+        ≡ slate_after_all (B.slate bench.old) (konkat_at (B.slate bench.old).scan at i) }
     ensures steps { steps.new ≤ steps.old + 5 }
     ensures later { steps.old ≤ steps.new }
 {

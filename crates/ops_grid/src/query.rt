@@ -1,8 +1,8 @@
 ghost use Rattle.std.specs.Prelude.{◌≡◌, ◌+◌, ◌*◌, ◌<◌, slice_index};
 ghost use Rattle.orca_base.specs.declared.limits.TheConstants.{BASE};
 ghost use Rattle.orca_op.specs.declared.kind.Kind.TheVariants.{Query as query_kind};
-ghost use Rattle.orca_op.specs.Deeds.{each};
-ghost use Rattle.orca_op.specs.Desk.{desk_after_all};
+ghost use Rattle.orca_op.specs.Deeds.{each_below};
+ghost use Rattle.orca_op.specs.Slate.{slate_after_all};
 ghost use Rattle.orca_op.specs.GridRules.{query_one};
 ghost use Rattle.ops_grid.specs.GridLaws.{lawful-query};
 
@@ -67,8 +67,8 @@ fn collect<B: Bench, L: Ledger>(
     steps: &mut Steps<L>,
 )
     requires { length < BASE }
-    ensures deeds { B.desk bench.new ≡ desk_after_all (B.desk bench.old)
-        (each length (λ i. query_one at y x length i (slice_index operands.now i))) }
+    ensures deeds { B.slate bench.new ≡ slate_after_all (B.slate bench.old)
+        (each_below length (λ i. query_one at y x length i (slice_index operands.now i))) }
     ensures steps { steps.new ≡ steps.old + 3 * length }
 {
     for i in 0..length {

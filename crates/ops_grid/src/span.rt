@@ -19,7 +19,7 @@ pub(crate) fn read<B: Bench, L: Ledger>(
 ) -> [Glyph; ROOM]
     requires { span.length < BASE }
     ensures glyphs { (i : ℕ) → i < span.length → slice_index result i
-        ≡ peek (B.desk bench.now).scan (off at (pos span.y) (pos (i + span.x))) }
+        ≡ peek (B.slate bench.now).scan (off at (pos span.y) (pos (i + span.x))) }
     ensures steps { steps.new ≡ steps.old + span.length }
 {
     let mut glyphs = [Glyph::EMPTY; ROOM];

@@ -1,6 +1,6 @@
 ghost use Rattle.std.specs.Prelude.{◌≡◌, ◌+◌, false};
 ghost use Rattle.orca_base.specs.Glyphs.{note_number};
-ghost use Rattle.orca_op.specs.EventRules.{port, note_with, key_of, velocity_of};
+ghost use Rattle.orca_op.specs.EventRules.{port, note_with, midi_key, velocity_of};
 
 use orca_base::limits::{MAX_CHANNEL, MAX_DATA, MAX_OCTAVE};
 use orca_base::{Event, Glyph, Place, Steps};
@@ -22,11 +22,11 @@ pub(crate) struct NotePorts {
 impl NotePorts {
     /// The glyphs at the right of a place, of a note that lets the others of its channel sound.
     pub(crate) fn read<B: Bench, L: Ledger>(bench: &B, at: Place, steps: &mut Steps<L>) -> NotePorts
-        ensures channel { result.channel ≡ port (B.desk bench.now).scan at 1 }
-        ensures octave { result.octave ≡ port (B.desk bench.now).scan at 2 }
-        ensures note { result.note ≡ port (B.desk bench.now).scan at 3 }
-        ensures velocity { result.velocity ≡ port (B.desk bench.now).scan at 4 }
-        ensures length { result.length ≡ port (B.desk bench.now).scan at 5 }
+        ensures channel { result.channel ≡ port (B.slate bench.now).scan at 1 }
+        ensures octave { result.octave ≡ port (B.slate bench.now).scan at 2 }
+        ensures note { result.note ≡ port (B.slate bench.now).scan at 3 }
+        ensures velocity { result.velocity ≡ port (B.slate bench.now).scan at 4 }
+        ensures length { result.length ≡ port (B.slate bench.now).scan at 5 }
         ensures mono { result.mono ≡ false }
         ensures steps { steps.new ≡ steps.old + 5 }
     {
@@ -63,7 +63,7 @@ impl NotePorts {
 
 /// The MIDI key of a note number in an octave, 127 at most.
 fn key_of(octave: Glyph, number: u8) -> u8
-    ensures { result ≡ key_of octave number }
+    ensures { result ≡ midi_key octave number }
 {
     let key = 12 * u16::from(octave.value().min(MAX_OCTAVE)) + u16::from(number);
     key.min(u16::from(MAX_DATA)) as u8

@@ -57,7 +57,7 @@ impl Operator for OscMessage {
 /// The values of `count` ports, the first being port 3.
 fn read_values<B: Bench, L: Ledger>(bench: &B, at: Place, count: u8, steps: &mut Steps<L>) -> Short
     requires { count < BASE }
-    ensures values { result ≡ map value (ports (B.desk bench.now).scan at 3 count) }
+    ensures values { result ≡ map value (ports (B.slate bench.now).scan at 3 count) }
     ensures steps { steps.new ≡ steps.old + count }
 {
     let mut values = Short::empty();

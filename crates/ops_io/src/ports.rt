@@ -1,7 +1,7 @@
 ghost use Rattle.std.specs.Prelude.{◌≡◌, ◌+◌};
 ghost use Rattle.orca_op.specs.EventRules.{inputs};
 ghost use Rattle.orca_op.specs.MotionRules.{lock_deeds};
-ghost use Rattle.orca_op.specs.Desk.{HasRoom, desk_after_all};
+ghost use Rattle.orca_op.specs.Slate.{HasEventRoom, slate_after_all};
 
 use orca_base::{Place, Steps};
 use orca_op::{Bench, Span};
@@ -15,8 +15,8 @@ pub(crate) fn inputs<B: Bench, L: Ledger>(
     length: u8,
     steps: &mut Steps<L>,
 )
-    ensures deeds { B.desk bench.new ≡ desk_after_all (B.desk bench.old) (inputs at from length) }
-    ensures room { HasRoom (B.desk bench.old) → HasRoom (B.desk bench.new) }
+    ensures deeds { B.slate bench.new ≡ slate_after_all (B.slate bench.old) (inputs at from length) }
+    ensures room { HasEventRoom (B.slate bench.old) → HasEventRoom (B.slate bench.new) }
     ensures steps { steps.new ≡ steps.old + length }
 {
     let ports = Span {
@@ -29,8 +29,8 @@ pub(crate) fn inputs<B: Bench, L: Ledger>(
 
 /// Locks the first `length` ports.
 pub(crate) fn lock<B: Bench, L: Ledger>(bench: &mut B, at: Place, length: u8, steps: &mut Steps<L>)
-    ensures deeds { B.desk bench.new ≡ desk_after_all (B.desk bench.old) (lock_deeds at length) }
-    ensures room { HasRoom (B.desk bench.old) → HasRoom (B.desk bench.new) }
+    ensures deeds { B.slate bench.new ≡ slate_after_all (B.slate bench.old) (lock_deeds at length) }
+    ensures room { HasEventRoom (B.slate bench.old) → HasEventRoom (B.slate bench.new) }
     ensures steps { steps.new ≡ steps.old + length }
 {
     let ports = Span { y: 0, x: 1, length };

@@ -1,6 +1,6 @@
 ghost use Rattle.std.specs.Prelude.{◌≡◌, ◌+◌, ◌≤◌};
 ghost use Rattle.orca_op.specs.EventRules.{send_deeds};
-ghost use Rattle.orca_op.specs.Desk.{HasRoom, desk_after_all};
+ghost use Rattle.orca_op.specs.Slate.{HasEventRoom, slate_after_all};
 
 use orca_base::{Event, Place, Steps};
 use orca_op::Bench;
@@ -14,8 +14,8 @@ pub(crate) fn send<B: Bench, L: Ledger>(
     event: Option<Event>,
     steps: &mut Steps<L>,
 )
-    requires { HasRoom (B.desk bench.old) }
-    ensures deeds { B.desk bench.new ≡ desk_after_all (B.desk bench.old) (send_deeds at event) }
+    requires { HasEventRoom (B.slate bench.old) }
+    ensures deeds { B.slate bench.new ≡ slate_after_all (B.slate bench.old) (send_deeds at event) }
     ensures steps { steps.new ≤ steps.old + 2 }
     ensures later { steps.old ≤ steps.new }
 {

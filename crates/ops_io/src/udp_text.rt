@@ -48,7 +48,7 @@ impl Operator for UdpText {
 
 /// The glyphs before the first empty port, and no more than fit into a text.
 fn read_text<B: Bench, L: Ledger>(bench: &B, at: Place, steps: &mut Steps<L>) -> Short
-    ensures text { result ≡ text_at (B.desk bench.now).scan at }
+    ensures text { result ≡ text_at (B.slate bench.now).scan at }
     ensures short { length result ≤ MAX_TEXT }
     ensures steps { steps.new ≤ steps.old + MAX_TEXT }
     ensures later { steps.old ≤ steps.new }

@@ -5,8 +5,8 @@ use Rattle.orca_base.specs.declared.limits.TheConstants.{JUMP_REACH}
 use Rattle.orca_base.specs.declared.place.Spot.{Spot}
 use Rattle.orca_op.specs.State.{State, peek}
 use Rattle.orca_op.specs.Deeds.{Write, input_at, output_at}
-use Rattle.orca_op.specs.Desk.{Desk, desk_after, desk_after_all}
-use Rattle.orca_op.proofs.LawFacts.{desk_after_all-append}
+use Rattle.orca_op.specs.Slate.{Slate, slate_after, slate_after_all}
+use Rattle.orca_op.proofs.LawFacts.{slate_after_all-append}
 use Rattle.orca_op.proofs.FirstFacts.{first_where-found, first_where-missing}
 use Rattle.orca_op.specs.MotionRules.{chain_end, sleep_deeds, jump}
 
@@ -26,14 +26,14 @@ unfolding chain_end
 chain_end-missing g s beyond before = first_where-missing _ 1 JUMP_REACH before
 
 -- the deeds of a jumper that acts, one after another
-pub jump-desk_after : (d : Desk) (g : ℕ) (source : Spot) (beyond : ℕ → Spot) (i : ℕ)
+pub jump-slate_after : (d : Slate) (g : ℕ) (source : Spot) (beyond : ℕ → Spot) (i : ℕ)
     → (peek d.scan source == g) ≡ false → chain_end g d.scan beyond ≡ Some i
-    → desk_after_all d (jump g d.scan source beyond)
-    ≡ desk_after (desk_after (desk_after_all (desk_after d (input_at source))
+    → slate_after_all d (jump g d.scan source beyond)
+    ≡ slate_after (slate_after (slate_after_all (slate_after d (input_at source))
     (sleep_deeds beyond (i - 1))) (output_at (beyond i))) (Write (beyond i) (peek d.scan
     source))
 unfolding jump
-jump-desk_after d g source beyond i first end =
-    rw (first, end) (desk_after_all-append (desk_after d (input_at source))
+jump-slate_after d g source beyond i first end =
+    rw (first, end) (slate_after_all-append (slate_after d (input_at source))
     (sleep_deeds beyond (i - 1))
     (output_at (beyond i) ∷ Write (beyond i) (peek d.scan source) ∷ []))

@@ -16,7 +16,7 @@ use Rattle.orca_op.specs.First.{first_where}
 use Rattle.orca_op.proofs.FirstFacts.{first_where-before, first_where-passes, first_where-range}
 use Rattle.orca_op.specs.Laws.{Every}
 use Rattle.orca_op.proofs.LawFacts.{Every-each}
-use Rattle.orca_op.specs.MotionRules.{hash, chain_end, comment_length, jump, lock_deeds, sleep_deeds}
+use Rattle.orca_op.specs.MotionRules.{commented, chain_end, comment_length, jump, lock_deeds, sleep_deeds}
 use Rattle.ops_motion.proofs.ChainLemmas.{chain_end-found, chain_end-missing}
 use Rattle.ops_motion.specs.MotionLaws.{comment_length-few}
 use Rattle.ops_motion.specs.Reaches.{EndsAt, HasNoEnd, IsLocked, IsOpen}
@@ -74,7 +74,7 @@ comment_reaches : (s : State) (at : Place) (k : ℕ) → k ≤ COMMENT_REACH →
     → k ≤ comment_length s at
 unfolding comment_length
 comment_reaches s at k near clear =
-    not_before (λ i. peek s (right at i) == hash) COMMENT_REACH k _ near clear refl
+    not_before (λ i. peek s (right at i) == commented) COMMENT_REACH k _ near clear refl
 
 -- locks stand at each of the first n places
 lock_deeds-contains : (at : Place) (n k : ℕ) → 1 ≤ k → k ≤ n
@@ -104,7 +104,7 @@ in_comment reach i j (Some k) within before = omega arith
 is_open : (s : State) (at : Place) (i : ℕ) → i < comment_length s at → IsOpen s at (i + 1)
 unfolding comment_length
 is_open s at i within j low before =
-    let hashes = λ (k : ℕ). peek s (right at k) == hash in
+    let hashes = λ (k : ℕ). peek s (right at k) == commented in
     first_where-before hashes 1 COMMENT_REACH j low
     (in_comment COMMENT_REACH i j (first_where hashes 1 COMMENT_REACH) within before)
 

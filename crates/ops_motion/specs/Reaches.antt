@@ -9,7 +9,7 @@ use Rattle.orca_base.specs.Grids.{right}
 use Rattle.orca_op.specs.State.{State, peek}
 use Rattle.orca_op.specs.Deeds.{Deed, Write, input_at, lock_at}
 use Rattle.orca_op.specs.Laws.{Every}
-use Rattle.orca_op.specs.MotionRules.{hash, comment}
+use Rattle.orca_op.specs.MotionRules.{commented, comment}
 
 -- the spots that a chain goes through hold its glyph as far as the k-th, which holds another
 abbrev pub EndsAt : ℕ → State → (ℕ → Spot) → ℕ → Type 0
@@ -37,7 +37,7 @@ MarksItsSource rule source beyond =
 
 -- no `#` stands between a place and the k-th place to its right
 abbrev pub IsOpen : State → Place → ℕ → Type 0
-IsOpen s at k = (j : ℕ) → 1 ≤ j → j < k → (peek s (right at j) == hash) ≡ false
+IsOpen s at k = (j : ℕ) → 1 ≤ j → j < k → (peek s (right at j) == commented) ≡ false
 
 -- the k-th place to the right lies within the reach of a comment, and no `#` stands before it
 abbrev pub IsLocked : State → Place → ℕ → Type 0

@@ -1,5 +1,5 @@
 ghost use Rattle.std.specs.Prelude.{◌≡◌, ◌+◌, ◌*◌, ◌≤◌, IfSome};
-ghost use Rattle.orca_op.specs.Desk.{desk_after_all};
+ghost use Rattle.orca_op.specs.Slate.{slate_after_all};
 ghost use Rattle.orca_op.specs.MotionRules.{chain_end, jump, sleep_deeds};
 ghost use Rattle.ops_motion.specs.Ways.{source_on, beyond_on};
 
@@ -19,8 +19,8 @@ pub(crate) fn jump<B: Bench, L: Ledger>(
     way: Way,
     steps: &mut Steps<L>,
 )
-    ensures deeds { B.desk bench.new ≡ desk_after_all (B.desk bench.old)
-        (jump glyph (B.desk bench.old).scan (source_on way at) (beyond_on way at)) }
+    ensures deeds { B.slate bench.new ≡ slate_after_all (B.slate bench.old)
+        (jump glyph (B.slate bench.old).scan (source_on way at) (beyond_on way at)) }
     ensures steps { steps.new ≤ steps.old + (2 * JUMP_REACH + 3) }
     ensures later { steps.old ≤ steps.new }
 {
@@ -45,7 +45,7 @@ fn chain_end<B: Bench, L: Ledger>(
     way: Way,
     steps: &mut Steps<L>,
 ) -> Option<u16>
-    ensures end { result ≡ chain_end glyph (B.desk bench.now).scan (beyond_on way at) }
+    ensures end { result ≡ chain_end glyph (B.slate bench.now).scan (beyond_on way at) }
     ensures range { IfSome result (λ places. (1 ≤ places) × (places ≤ JUMP_REACH)) }
     ensures steps { steps.new ≤ steps.old + JUMP_REACH }
     ensures later { steps.old ≤ steps.new }
@@ -66,7 +66,7 @@ fn sleep_chain<B: Bench, L: Ledger>(
     places: u16,
     steps: &mut Steps<L>,
 )
-    ensures deeds { B.desk bench.new ≡ desk_after_all (B.desk bench.old)
+    ensures deeds { B.slate bench.new ≡ slate_after_all (B.slate bench.old)
         (sleep_deeds (beyond_on way at) places) }
     ensures steps { steps.new ≡ steps.old + places }
 {

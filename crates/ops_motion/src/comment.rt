@@ -45,8 +45,8 @@ impl Operator for Comment {
 /// How many places at its right a comment locks: up to and with the next `#`, and no more than its reach.
 #[tactic(auto, unfolding(orca_op::specs::MotionRules::comment_length))]
 fn comment_length<B: Bench, L: Ledger>(bench: &B, at: Place, steps: &mut Steps<L>) -> u16
-    requires { IsInside (B.desk bench.now).scan.dims at }
-    ensures length { result ≡ comment_length (B.desk bench.now).scan at }
+    requires { IsInside (B.slate bench.now).scan.dims at }
+    ensures length { result ≡ comment_length (B.slate bench.now).scan at }
     ensures range { result ≤ COMMENT_REACH }
     ensures steps { steps.new ≤ steps.old + COMMENT_REACH }
     ensures later { steps.old ≤ steps.new }

@@ -1,5 +1,5 @@
 ghost use Rattle.std.specs.Prelude.{◌≡◌, ◌+◌, ◌≤◌};
-ghost use Rattle.orca_op.specs.Desk.{desk_after_all};
+ghost use Rattle.orca_op.specs.Slate.{slate_after_all};
 ghost use Rattle.orca_op.specs.MotionRules.{move_to};
 
 use orca_base::{Glyph, Place, Spot, Steps};
@@ -15,8 +15,8 @@ pub(crate) fn move_to<B: Bench, L: Ledger>(
     target: Spot,
     steps: &mut Steps<L>,
 )
-    ensures deeds { B.desk bench.new ≡ desk_after_all (B.desk bench.old)
-        (move_to glyph (B.desk bench.old).scan at target) }
+    ensures deeds { B.slate bench.new ≡ slate_after_all (B.slate bench.old)
+        (move_to glyph (B.slate bench.old).scan at target) }
     ensures steps { steps.new ≤ steps.old + 4 }
     ensures later { steps.old ≤ steps.new }
 {

@@ -1,4 +1,4 @@
--- The desk that each block edit leaves.
+-- The slate that each block edit leaves.
 use Rattle.std.proofs.Common.{◌≡◌, ℕ, ◌+◌, ◌-◌, ◌*◌, ◌<◌, ◌≤◌, Bool, true, false, not, ◌&&◌, List, length, refl, arith, ap, sym, ◌∙◌, length-append}
 use Rattle.std.specs.Prelude.{if◌then◌else◌}
 use Rattle.std.proofs.lemmas.Bool.{and_parts, leb-true, ltb-true}
@@ -10,19 +10,19 @@ use Rattle.orca_base.specs.Glyphs.{empty}
 use Rattle.orca_base.specs.Grids.{Size, Sheet, IsInside, glyph_at, sheet_by}
 use Rattle.orca_base.proofs.SheetFacts.{glyph_at-sheet_by, length-by_place}
 use Rattle.orca_op.specs.State.{sheet_of}
-use Rattle.orca_op.specs.Desk.{Desk, IsDesk, desk_after_all, is_listed}
-use Rattle.orca_board.specs.Blocks.{desk_after_edit, fill_places, glyph_from, image, places_in, places_outside, put_places, rows_of, shift_places, write_each}
+use Rattle.orca_op.specs.Slate.{Slate, IsSlate, slate_after_all, is_listed}
+use Rattle.orca_board.specs.Blocks.{slate_after_edit, fill_places, glyph_from, image, places_in, places_outside, put_places, rows_of_width, shift_places, write_each}
 use Rattle.orca_board.proofs.BlockLemmas.{after_writes, edit-edit}
 use Rattle.orca_board.proofs.BlockPlaces.{image-fits, in-image, length-places_in, inside-places_in, inside-places_outside, is_listed-places_in, is_listed-places_outside}
 
 -- fill
-pub after_fill : (d : Desk) (area : Area) (glyph : ℕ) → IsDesk d → IsArea d.scan.dims area
-    → desk_after_all d (write_each (λ at. glyph) (places_in area))
-    ≡ desk_after_edit d (sheet_after_fill (sheet_of d.scan) area glyph) (fill_places area)
-after_fill d area glyph desk is =
+pub after_fill : (d : Slate) (area : Area) (glyph : ℕ) → IsSlate d → IsArea d.scan.dims area
+    → slate_after_all d (write_each (λ at. glyph) (places_in area))
+    ≡ slate_after_edit d (sheet_after_fill (sheet_of d.scan) area glyph) (fill_places area)
+after_fill d area glyph slate is =
     after_writes d (λ at. glyph) (places_in area)
     (λ at. if is_in_area area at then glyph else glyph_at (sheet_of d.scan) at)
-    desk.state.sheet.size desk.state.sheet.whole
+    slate.state.sheet.size slate.state.sheet.whole
     (inside-places_in d.scan.dims area is.bottom is.right)
     (λ at inside. rw (is_listed-places_in area at) refl)
 
@@ -32,31 +32,31 @@ listed-image : (d : Size) (to : Place) (size : Size) (at : Place) → IsInside d
 listed-image d to size at start inside = is_listed-places_in (image d to size) at
     ∙ in-image d to size at start inside
 
-after_put : (d : Desk) (to : Place) (block : Sheet) → IsDesk d → IsInside d.scan.dims to
-    → desk_after_all d (write_each (glyph_from block to)
+after_put : (d : Slate) (to : Place) (block : Sheet) → IsSlate d → IsInside d.scan.dims to
+    → slate_after_all d (write_each (glyph_from block to)
     (places_in (image d.scan.dims to block.dims)))
-    ≡ desk_after_edit d (sheet_after_put (sheet_of d.scan) to block)
+    ≡ slate_after_edit d (sheet_after_put (sheet_of d.scan) to block)
     (put_places d.scan.dims to block.dims)
-after_put d to block desk start =
+after_put d to block slate start =
     let fits = image-fits d.scan.dims to block.dims start in
     after_writes d (glyph_from block to) (places_in (image d.scan.dims to block.dims))
     (λ at. if is_within to block.dims at then glyph_from block to at else glyph_at
     (sheet_of d.scan) at)
-    desk.state.sheet.size desk.state.sheet.whole
+    slate.state.sheet.size slate.state.sheet.whole
     (inside-places_in d.scan.dims (image d.scan.dims to block.dims) fits.bottom fits.right)
     (λ at inside. ap (λ (b : Bool). if b then glyph_from block to at else glyph_at
     (sheet_of d.scan) at) (listed-image d.scan.dims to block.dims at start inside))
 
-pub put_as : (d e : Desk) (dims : Size) (to : Place) (block : Sheet) (h w width : ℕ) (area : Area)
-    (cells : List ℕ) → IsDesk d → IsInside d.scan.dims to
+pub put_as : (d e : Slate) (dims : Size) (to : Place) (block : Sheet) (h w width : ℕ) (area : Area)
+    (cells : List ℕ) → IsSlate d → IsInside d.scan.dims to
     → dims ≡ d.scan.dims → h ≡ block.dims.h → w ≡ block.dims.w → width ≡ block.dims.w
     → cells ≡ block.cells → area ≡ image dims to (record { h = h; w = w })
-    → e ≡ desk_after_all d
-    (write_each (glyph_from (rows_of width cells) (corner_of area)) (places_in area))
-    → e ≡ desk_after_edit d (sheet_after_put (sheet_of d.scan) to block)
+    → e ≡ slate_after_all d
+    (write_each (glyph_from (rows_of_width width cells) (corner_of area)) (places_in area))
+    → e ≡ slate_after_edit d (sheet_after_put (sheet_of d.scan) to block)
     (put_places d.scan.dims to block.dims)
-put_as d e dims to block h w width area cells desk start same rows columns whole glyphs is left =
-    (rw (is, same, rows, columns, whole, glyphs) at left) ∙ after_put d to block desk start
+put_as d e dims to block h w width area cells slate start same rows columns whole glyphs is left =
+    (rw (is, same, rows, columns, whole, glyphs) at left) ∙ after_put d to block slate start
 
 pub length-put : (d dims : Size) (to : Place) (size : Size) (h w : ℕ) (area : Area) → dims ≡ d
     → h ≡ size.h → w ≡ size.w → area ≡ image dims to (record { h = h; w = w })
@@ -90,31 +90,31 @@ by_tests : (in_image in_area : Bool) (x y z w : ℕ) → (in_image ≡ true → 
 by_tests true in_area x y z w same = same refl
 by_tests false in_area x y z w same = refl
 
-after_shift : (d : Desk) (area : Area) (to : Place) → IsDesk d → IsArea d.scan.dims area
+after_shift : (d : Slate) (area : Area) (to : Place) → IsSlate d → IsArea d.scan.dims area
     → IsInside d.scan.dims to
-    → desk_after_all (desk_after_all d
+    → slate_after_all (slate_after_all d
     (write_each (λ at. empty) (places_outside area (image d.scan.dims to (size_of area)))))
     (write_each (glyph_from (block_of (sheet_of d.scan) area) to)
     (places_in (image d.scan.dims to (size_of area))))
-    ≡ desk_after_edit d (sheet_after_move (sheet_of d.scan) area to)
+    ≡ slate_after_edit d (sheet_after_move (sheet_of d.scan) area to)
     (shift_places d.scan.dims area to)
-after_shift d area to desk is start =
+after_shift d area to slate is start =
     let target : Area = image d.scan.dims to (size_of area) in
     let fits = image-fits d.scan.dims to (size_of area) start in
     let g : Sheet = sheet_of d.scan in
     let left : Place → ℕ = λ at. if is_listed (places_outside area target) at then empty else
     glyph_at g at in
-    let between : Desk = desk_after_edit d (sheet_by d.scan.dims left)
+    let between : Slate = slate_after_edit d (sheet_by d.scan.dims left)
     (places_outside area target) in
-    ap (λ (e : Desk). desk_after_all e
+    ap (λ (e : Slate). slate_after_all e
     (write_each (glyph_from (block_of g area) to) (places_in target)))
-    (after_writes d (λ at. empty) (places_outside area target) left desk.state.sheet.size
-    desk.state.sheet.whole
+    (after_writes d (λ at. empty) (places_outside area target) left slate.state.sheet.size
+    slate.state.sheet.whole
     (inside-places_outside d.scan.dims area target is.bottom is.right) (λ at inside. refl))
     ∙ (after_writes between (glyph_from (block_of g area) to) (places_in target)
     (λ at. if is_within to (size_of area) at then glyph_at g (moved to (corner_of area) at) else
     (if is_in_area area at then empty else glyph_at g at))
-    desk.state.sheet.size (length-by_place d.scan.dims left)
+    slate.state.sheet.size (length-by_place d.scan.dims left)
     (inside-places_in d.scan.dims target fits.bottom fits.right)
     (λ at inside.
     let there = in-image d.scan.dims to (size_of area) at start inside in
@@ -132,17 +132,17 @@ after_shift d area to desk is start =
     ∙ edit-edit d (sheet_by d.scan.dims left) (sheet_after_move g area to)
     (places_outside area target) (places_in target))
 
-pub shift_as : (d e f : Desk) (dims : Size) (area : Area) (to : Place) (target : Area)
-    (cells : List ℕ) → IsDesk d → IsArea d.scan.dims area → IsInside d.scan.dims to
+pub shift_as : (d e f : Slate) (dims : Size) (area : Area) (to : Place) (target : Area)
+    (cells : List ℕ) → IsSlate d → IsArea d.scan.dims area → IsInside d.scan.dims to
     → dims ≡ d.scan.dims → target ≡ image dims to (size_of area)
     → cells ≡ (block_of (sheet_of d.scan) area).cells
-    → e ≡ desk_after_all d (write_each (λ at. empty) (places_outside area target))
-    → f ≡ desk_after_all e
-    (write_each (glyph_from (rows_of area.w cells) (corner_of target)) (places_in target))
-    → f ≡ desk_after_edit d (sheet_after_move (sheet_of d.scan) area to)
+    → e ≡ slate_after_all d (write_each (λ at. empty) (places_outside area target))
+    → f ≡ slate_after_all e
+    (write_each (glyph_from (rows_of_width area.w cells) (corner_of target)) (places_in target))
+    → f ≡ slate_after_edit d (sheet_after_move (sheet_of d.scan) area to)
     (shift_places d.scan.dims area to)
-shift_as d e f dims area to target cells desk is start same target_is glyphs cleared left =
-    (rw (cleared, target_is, same, glyphs) at left) ∙ after_shift d area to desk is start
+shift_as d e f dims area to target cells slate is start same target_is glyphs cleared left =
+    (rw (cleared, target_is, same, glyphs) at left) ∙ after_shift d area to slate is start
 
 pub length-shift : (d dims : Size) (area : Area) (to : Place) (target : Area) → dims ≡ d
     → target ≡ image dims to (size_of area)

@@ -1,4 +1,4 @@
--- Places written in order: the desk that they leave.
+-- Places written in order: the slate that they leave.
 use Rattle.std.proofs.Common.{◌≡◌, ℕ, ◌*◌, Bool, true, false, ◌||◌, List, [], ◌∷◌, ◌++◌, length, refl, arith, ap, sym, ◌∙◌, subst, inl, inr}
 use Rattle.std.proofs.Math.ListN.{set}
 use Rattle.std.specs.Prelude.{All, Some, map, if◌then◌else◌, slice_index}
@@ -11,12 +11,12 @@ use Rattle.orca_base.specs.declared.place.Place.{Place}
 use Rattle.orca_base.specs.Grids.{Size, Sheet, IsSize, IsInside, by_place, cells_of, here, index_of, is_place, sheet_by}
 use Rattle.orca_base.proofs.PlaceFacts.{index_of-below, is_place-same, place_in-here}
 use Rattle.orca_base.proofs.SheetFacts.{list-by_place, same-by_place}
-use Rattle.orca_op.specs.State.{State, glyph_at}
+use Rattle.orca_op.specs.State.{State, state_glyph}
 use Rattle.orca_op.specs.Deeds.{Write, after}
-use Rattle.orca_op.specs.Desk.{Desk, desk_after, desk_after_all, is_listed, list_after, list_with}
-use Rattle.orca_op.proofs.LawFacts.{desk_after_all-append}
-use Rattle.orca_op.proofs.DeskFacts.{glyph_at-write_other}
-use Rattle.orca_board.specs.Blocks.{list_each, desk_after_edit, nth_place, places_in, write_each}
+use Rattle.orca_op.specs.Slate.{Slate, slate_after, slate_after_all, is_listed, list_after, list_with}
+use Rattle.orca_op.proofs.LawFacts.{slate_after_all-append}
+use Rattle.orca_op.proofs.SlateFacts.{glyph_at-write_other}
+use Rattle.orca_board.specs.Blocks.{list_each, slate_after_edit, nth_place, places_in, write_each}
 
 -- ---- a loop over the places of an area
 
@@ -28,34 +28,34 @@ pub first_places-all : (area : Area) → first_places area (area.h * area.w) ≡
 unfolding by_place
 first_places-all area = refl
 
-pub write_each-push : (d : Desk) (glyph : Place → ℕ) (places : List Place) (at : Place)
-    → desk_after_all d (write_each glyph (places ++ at ∷ []))
-    ≡ desk_after (desk_after_all d (write_each glyph places)) (Write (here at) (glyph at))
+pub write_each-push : (d : Slate) (glyph : Place → ℕ) (places : List Place) (at : Place)
+    → slate_after_all d (write_each glyph (places ++ at ∷ []))
+    ≡ slate_after (slate_after_all d (write_each glyph places)) (Write (here at) (glyph at))
 write_each-push d glyph places at =
-    ap (desk_after_all d) (map_push (λ (p : Place). Write (here p) (glyph p)) places at)
-    ∙ desk_after_all-append d (write_each glyph places) (Write (here at) (glyph at) ∷ [])
+    ap (slate_after_all d) (map_push (λ (p : Place). Write (here p) (glyph p)) places at)
+    ∙ slate_after_all-append d (write_each glyph places) (Write (here at) (glyph at) ∷ [])
 
--- ---- the desk that is left
+-- ---- the slate that is left
 
--- the desk after one place of the grid is written
-abbrev desk_with : Desk → Place → ℕ → Desk
-desk_with d at glyph = record {
+-- the slate after one place of the grid is written
+abbrev slate_with : Slate → Place → ℕ → Slate
+slate_with d at glyph = record {
   scan = record d.scan { cells = set d.scan.cells (index_of d.scan.dims at) glyph };
   began = d.began;
   listed = list_with d.began.dims d.listed (Some at);
 }
 
-desk_after-write : (d : Desk) (at : Place) (glyph : ℕ) → IsInside d.scan.dims at
-    → desk_after d (Write (here at) glyph) ≡ desk_with d at glyph
+slate_after-write : (d : Slate) (at : Place) (glyph : ℕ) → IsInside d.scan.dims at
+    → slate_after d (Write (here at) glyph) ≡ slate_with d at glyph
 unfolding after list_after
-desk_after-write d at glyph inside = rw (place_in-here d.scan.dims at inside) refl
+slate_after-write d at glyph inside = rw (place_in-here d.scan.dims at inside) refl
 
 -- what stands at a place after one place, and then more, are written
 stands : (s : State) (glyph : Place → ℕ) (p : Place) (places : List Place) (at : Place)
     → length s.cells ≡ cells_of s.dims → IsInside s.dims p → IsInside s.dims at
     → (if is_listed places at then glyph at else slice_index
     (set s.cells (index_of s.dims p) (glyph p)) (index_of s.dims at))
-    ≡ (if is_place at p || is_listed places at then glyph at else glyph_at s at)
+    ≡ (if is_place at p || is_listed places at then glyph at else state_glyph s at)
 stands s glyph p places at whole inside_p inside = elim (cases_Bool (is_listed places at)) [
   | inl later ↦ rw (later, or_true (is_place at p)) refl
   | inr not_later ↦ elim (cases_Bool (is_place at p)) [
@@ -76,41 +76,41 @@ stands s glyph p places at whole inside_p inside = elim (cases_Bool (is_listed p
     or_true false = refl
 
 -- the places hold what the function gives them, and the others their glyphs of before
-written : (d : Desk) (glyph : Place → ℕ) (places : List Place) → IsSize d.scan.dims
+written : (d : Slate) (glyph : Place → ℕ) (places : List Place) → IsSize d.scan.dims
     → length d.scan.cells ≡ cells_of d.scan.dims → AllByRecursion (IsInside d.scan.dims) places
-    → desk_after_all d (write_each glyph places)
-    ≡ desk_after_edit d (sheet_by d.scan.dims
-    (λ at. if is_listed places at then glyph at else glyph_at d.scan at)) places
+    → slate_after_all d (write_each glyph places)
+    ≡ slate_after_edit d (sheet_by d.scan.dims
+    (λ at. if is_listed places at then glyph at else state_glyph d.scan at)) places
 written d glyph [] size whole all =
-    ap (λ (cells : List ℕ). desk_after_edit d (record { dims = d.scan.dims; cells = cells }) [])
-    (list-by_place d.scan.dims d.scan.cells (glyph_at d.scan) 0 size whole (λ at inside. refl))
+    ap (λ (cells : List ℕ). slate_after_edit d (record { dims = d.scan.dims; cells = cells }) [])
+    (list-by_place d.scan.dims d.scan.cells (state_glyph d.scan) 0 size whole (λ at inside. refl))
 written d glyph (p ∷ places) size whole all =
-    ap (λ (e : Desk). desk_after_all e (write_each glyph places))
-    (desk_after-write d p (glyph p) all.0)
-    ∙ (written (desk_with d p (glyph p)) glyph places size
+    ap (λ (e : Slate). slate_after_all e (write_each glyph places))
+    (slate_after-write d p (glyph p) all.0)
+    ∙ (written (slate_with d p (glyph p)) glyph places size
     (length-set d.scan.cells (index_of d.scan.dims p) (glyph p) ∙ whole) all.1
-    ∙ ap (λ (cells : List ℕ). desk_after_edit d (record { dims = d.scan.dims; cells = cells })
+    ∙ ap (λ (cells : List ℕ). slate_after_edit d (record { dims = d.scan.dims; cells = cells })
     (p ∷ places))
     (same-by_place d.scan.dims
     (λ at. if is_listed places at then glyph at else slice_index
     (set d.scan.cells (index_of d.scan.dims p) (glyph p)) (index_of d.scan.dims at))
-    (λ at. if is_place at p || is_listed places at then glyph at else glyph_at d.scan at) 0 size
+    (λ at. if is_place at p || is_listed places at then glyph at else state_glyph d.scan at) 0 size
     (λ at inside. stands d.scan glyph p places at whole all.0 inside)))
 
 -- the same, where another function says what each place holds
-pub after_writes : (d : Desk) (glyph : Place → ℕ) (places : List Place) (holds : Place → ℕ)
+pub after_writes : (d : Slate) (glyph : Place → ℕ) (places : List Place) (holds : Place → ℕ)
     → IsSize d.scan.dims → length d.scan.cells ≡ cells_of d.scan.dims
     → All (IsInside d.scan.dims) places
     → ((at : Place) → IsInside d.scan.dims at
-    → (if is_listed places at then glyph at else glyph_at d.scan at) ≡ holds at)
-    → desk_after_all d (write_each glyph places)
-    ≡ desk_after_edit d (sheet_by d.scan.dims holds) places
+    → (if is_listed places at then glyph at else state_glyph d.scan at) ≡ holds at)
+    → slate_after_all d (write_each glyph places)
+    ≡ slate_after_edit d (sheet_by d.scan.dims holds) places
 after_writes d glyph places holds size whole all agree =
     written d glyph places size whole (recursion_from_All (IsInside d.scan.dims) places all)
-    ∙ ap (λ (cells : List ℕ). desk_after_edit d (record { dims = d.scan.dims; cells = cells })
+    ∙ ap (λ (cells : List ℕ). slate_after_edit d (record { dims = d.scan.dims; cells = cells })
     places)
     (same-by_place d.scan.dims
-    (λ at. if is_listed places at then glyph at else glyph_at d.scan at) holds 0 size agree)
+    (λ at. if is_listed places at then glyph at else state_glyph d.scan at) holds 0 size agree)
 
 list_each-append : (began : Size) (listed xs ys : List Place)
     → list_each began listed (xs ++ ys) ≡ list_each began (list_each began listed xs) ys
@@ -119,8 +119,8 @@ list_each-append began listed (x ∷ xs) ys = list_each-append began
     (list_with began listed (Some x)) xs ys
 
 -- an edit after an edit
-pub edit-edit : (d : Desk) (g h : Sheet) (xs ys : List Place)
-    → desk_after_edit (desk_after_edit d g xs) h ys ≡ desk_after_edit d h (xs ++ ys)
+pub edit-edit : (d : Slate) (g h : Sheet) (xs ys : List Place)
+    → slate_after_edit (slate_after_edit d g xs) h ys ≡ slate_after_edit d h (xs ++ ys)
 edit-edit d g h xs ys =
     ap (λ (listed : List Place). record
     { scan = record d.scan { cells = h.cells }; began = d.began; listed = listed })

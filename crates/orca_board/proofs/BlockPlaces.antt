@@ -15,7 +15,7 @@ use Rattle.orca_base.specs.Edits.{is_in_area, is_within, moved, origin}
 use Rattle.orca_base.specs.Grids.{Size, IsInside, is_place, cells_of}
 use Rattle.orca_base.proofs.PlaceFacts.{index-below, is_place-same, is_place-refl}
 use Rattle.orca_base.proofs.SheetFacts.{length-by_place, number-by_place}
-use Rattle.orca_op.specs.Desk.{is_listed}
+use Rattle.orca_op.specs.Slate.{is_listed}
 use Rattle.orca_board.specs.Blocks.{image, nth_place, places_in, places_outside}
 use Rattle.orca_board.specs.Sizes.{cut_places, whole}
 

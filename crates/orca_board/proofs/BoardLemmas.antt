@@ -20,12 +20,12 @@ use Rattle.orca_base.proofs.SheetFacts.{index-by_place, list-by_place, set-by_pl
 use Rattle.orca_marks.specs.Planes.{blank}
 use Rattle.orca_marks.proofs.PlaneLemmas.{index-blank}
 use Rattle.orca_op.specs.Deeds.{Mark, after}
-use Rattle.orca_op.specs.Desk.{Desk, desk_after, desk_of_sheet, list_after}
+use Rattle.orca_op.specs.Slate.{Slate, slate_after, slate_of_sheet, list_after}
 use Rattle.orca_op.specs.Live.{has_bit, is_live, IsSummary}
-use Rattle.orca_op.specs.State.{State, blank_marks, glyph_at}
+use Rattle.orca_op.specs.State.{State, blank_marks, state_glyph}
 use Rattle.orca_op.proofs.FirstFacts.{first_where-same}
-use Rattle.orca_board.specs.Board.{AreLive, IsEmptyOutside, KeepsBoard, glyph_in, marks_in}
-use Rattle.orca_board.proofs.DeskLemmas.{lists-of_sheet}
+use Rattle.orca_board.specs.Board.{AreLive, IsEmptyOutside, KeepsBoard, cell_in, cell_marks}
+use Rattle.orca_board.proofs.SlateLemmas.{lists-of_sheet}
 
 -- a place of a grid is one of the largest
 pub inside-largest : (d : Size) (at : Place) → IsSize d → IsInside d at → IsInside largest at
@@ -39,11 +39,11 @@ inside-largest d at size inside =
 -- a cell as it is read
 pub read-cell : (d most : Size) (cells : List ℕ) (at : Place) (i read : ℕ) → IsInside d at
     → most ≡ largest → i ≡ index_of most at → i < MAX_CELLS → length cells ≡ MAX_CELLS
-    → read ≡ get_or cells i read → read ≡ slice_index (by_place d (glyph_in cells)) (index_of d at)
+    → read ≡ get_or cells i read → read ≡ slice_index (by_place d (cell_in cells)) (index_of d at)
 read-cell d most cells at i read inside is_most number below whole is =
     is ∙ (get_or_default cells i read 0 (omega (arith, below, whole))
     ∙ (ap (λ (n : ℕ). get_or cells n 0) (number ∙ ap (λ (m : Size). index_of m at) is_most)
-    ∙ sym (index-by_place d (glyph_in cells) at 0 inside)))
+    ∙ sym (index-by_place d (cell_in cells) at 0 inside)))
 
 -- one place changed
 pub set-plane : {A : Type 0} (d : Size) (xs : List A) (at : Place) (y x : A) → IsSize d
@@ -86,30 +86,30 @@ live-set bits new cells i glyph below whole live written n few =
       | inr other ↦ rw (other.0, get_or-set_other cells i n glyph 0 other.1) (live n few)
     ])
 
--- the desk after marks in the grid
-pub marked-plane : (d : Desk) (plane : List MarkSet) (spot : Spot) (at : Place) (marks : MarkSet)
+-- the slate after marks in the grid
+pub marked-plane : (d : Slate) (plane : List MarkSet) (spot : Spot) (at : Place) (marks : MarkSet)
     → IsSize d.scan.dims → IsInside d.scan.dims at → place_in d.scan.dims spot ≡ Some at
-    → d.scan.marks ≡ by_place d.scan.dims (marks_in plane) → length plane ≡ MAX_CELLS
+    → d.scan.marks ≡ by_place d.scan.dims (cell_marks plane) → length plane ≡ MAX_CELLS
     → record d {
       scan = record d.scan {
         marks = by_place d.scan.dims
-            (marks_in (set plane (index_of largest at) (all_marks (marks_in plane at) marks)));
+            (cell_marks (set plane (index_of largest at) (all_marks (cell_marks plane at) marks)));
       };
-    } ≡ desk_after d (Mark spot marks)
+    } ≡ slate_after d (Mark spot marks)
 unfolding after list_after
 marked-plane d plane spot at marks size inside place is whole =
     rw (
       place,
       is,
-      index-by_place d.scan.dims (marks_in plane) at no_marks inside,
+      index-by_place d.scan.dims (cell_marks plane) at no_marks inside,
       set-plane
-          d.scan.dims plane at (all_marks (marks_in plane at) marks) no_marks size inside whole,
+          d.scan.dims plane at (all_marks (cell_marks plane at) marks) no_marks size inside whole,
     ) refl
 
 -- no marks
-pub blank-by_place : (d : Size) → IsSize d → by_place d (marks_in blank) ≡ blank_marks d
+pub blank-by_place : (d : Size) → IsSize d → by_place d (cell_marks blank) ≡ blank_marks d
 blank-by_place d size =
-    sym (list-by_place d (blank_marks d) (marks_in blank) no_marks size (long (cells_of d))
+    sym (list-by_place d (blank_marks d) (cell_marks blank) no_marks size (long (cells_of d))
     (λ at inside. none (cells_of d) (index_of d at) ∙ sym (index-blank (index_of largest at))))
   where
     long : (n : ℕ) → length (replicate n no_marks) ≡ n
@@ -130,7 +130,7 @@ no_word words x beyond =
 
 -- the bit of a column's place shows whether the column is live
 pub live-cell : (s : State) (cells bits : List ℕ) (row x : ℕ) → IsSize s.dims → row < s.dims.h
-    → s.cells ≡ by_place s.dims (glyph_in cells) → IsEmptyOutside s.dims cells
+    → s.cells ≡ by_place s.dims (cell_in cells) → IsEmptyOutside s.dims cells
     → AreLive cells bits → x < MAX_COLUMNS → has_bit bits (row * MAX_COLUMNS + x) ≡ is_live s row x
 unfolding is_operator
 live-cell s cells bits row x size below is outside live few =
@@ -139,10 +139,10 @@ live-cell s cells bits row x size below is outside live few =
       | inl inside ↦
           let there : IsInside s.dims (record { y = row; x = x }) =
           record { row = below; column = inside } in
-          let same : glyph_at s (record { y = row; x = x })
-          ≡ glyph_in cells (record { y = row; x = x }) =
+          let same : state_glyph s (record { y = row; x = x })
+          ≡ cell_in cells (record { y = row; x = x }) =
           ap (λ (xs : List ℕ). slice_index xs (row * s.dims.w + x)) is
-          ∙ index-by_place s.dims (glyph_in cells) (record { y = row; x = x }) 0 there in
+          ∙ index-by_place s.dims (cell_in cells) (record { y = row; x = x }) 0 there in
           let column : nat_lt x s.dims.w ≡ true = lt-ltb x s.dims.w inside in
           rw (column, same) refl
       | inr past ↦
@@ -155,7 +155,7 @@ live-cell s cells bits row x size below is outside live few =
 
 -- the words of a row show its live columns
 pub live-row : (s : State) (cells bits words : List ℕ) (row x : ℕ) → IsSize s.dims → row < s.dims.h
-    → s.cells ≡ by_place s.dims (glyph_in cells) → IsEmptyOutside s.dims cells
+    → s.cells ≡ by_place s.dims (cell_in cells) → IsEmptyOutside s.dims cells
     → AreLive cells bits
     → length words ≡ (s.dims.w + (WORD_COLUMNS - 1)) / WORD_COLUMNS
     → (x < WORD_COLUMNS * length words → has_bit words x ≡ has_bit bits (row * MAX_COLUMNS + x))
@@ -172,7 +172,7 @@ live-row s cells bits words row x size below is outside live long read =
 
 -- the summary of a row's bits, in the largest grid, is that of its live columns
 pub summary-row : (s : State) (cells bits : List ℕ) (row summary : ℕ) → IsSize s.dims
-    → row < s.dims.h → s.cells ≡ by_place s.dims (glyph_in cells) → IsEmptyOutside s.dims cells
+    → row < s.dims.h → s.cells ≡ by_place s.dims (cell_in cells) → IsEmptyOutside s.dims cells
     → AreLive cells bits
     → IsSummary (λ x. nat_lt x MAX_COLUMNS && has_bit bits (row * MAX_COLUMNS + x)) summary
     → IsSummary (is_live s row) summary
@@ -219,14 +219,14 @@ outside-none d cells none at inside past =
 
 -- ---- a grid at the start of a frame
 
-pub keeps-of_sheet : (d : Desk) (g : Sheet) (known : List Change) (cells : List ℕ)
+pub keeps-of_sheet : (d : Slate) (g : Sheet) (known : List Change) (cells : List ℕ)
     (marks : List MarkSet) (bits : List ℕ) (room : ℕ)
-    → IsSheet g → d ≡ desk_of_sheet g → known ≡ []
+    → IsSheet g → d ≡ slate_of_sheet g → known ≡ []
     → length cells ≡ MAX_CELLS → length marks ≡ MAX_CELLS → IsEmptyOutside g.dims cells
     → AreLive cells bits → MAX_EVENTS ≤ room → KeepsBoard d known cells marks bits room
 keeps-of_sheet d g known cells marks bits room sheet is none whole marks_whole outside live roomy =
     rw (is, none) (record {
-      lists = lists-of_sheet (desk_of_sheet g) g [] sheet refl refl;
+      lists = lists-of_sheet (slate_of_sheet g) g [] sheet refl refl;
       whole = whole;
       marks_whole = marks_whole;
       outside = outside;

@@ -1,4 +1,4 @@
--- The places that another size cuts off: what the desk holds and lists once they are emptied.
+-- The places that another size cuts off: what the slate holds and lists once they are emptied.
 use Rattle.std.proofs.Common.{◌≡◌, ℕ, Bool, true, false, not, ◌&&◌, List, [], ◌∷◌, refl, arith, ap, sym, ◌∙◌, inl, inr, zero-add}
 use Rattle.std.specs.Prelude.{filter, nat_lt, if◌then◌else◌, Some}
 use Rattle.std.proofs.lemmas.Bool.{both_ways, cases_Bool, le-leb}
@@ -9,10 +9,10 @@ use Rattle.orca_base.specs.Glyphs.{empty}
 use Rattle.orca_base.specs.Grids.{Size, IsSize, IsInside, glyph_at as glyph_on, is_inside, sheet_by}
 use Rattle.orca_base.proofs.PlaceFacts.{inside-is_inside, is_inside-inside}
 use Rattle.orca_base.proofs.SheetFacts.{glyph_at-sheet_by, same-by_place}
-use Rattle.orca_op.specs.Desk.{Desk, IsDesk, desk_after_all, is_listed, list_with}
-use Rattle.orca_op.specs.State.{glyph_at, sheet_of}
-use Rattle.orca_op.proofs.DeskFacts.{absent-list_with}
-use Rattle.orca_board.specs.Blocks.{desk_after_edit, list_each, write_each}
+use Rattle.orca_op.specs.Slate.{Slate, IsSlate, slate_after_all, is_listed, list_with}
+use Rattle.orca_op.specs.State.{state_glyph, sheet_of}
+use Rattle.orca_op.proofs.SlateFacts.{absent-list_with}
+use Rattle.orca_board.specs.Blocks.{slate_after_edit, list_each, write_each}
 use Rattle.orca_board.specs.Sizes.{cut_places, whole}
 use Rattle.orca_board.proofs.BlockLemmas.{after_writes}
 use Rattle.orca_board.proofs.BlockPlaces.{inside-places_outside, is_listed-places_outside}
@@ -32,25 +32,25 @@ listed-cut d to at inside =
     (and-true (not (is_inside to at))))
 
 -- what a place holds once those that are cut off are empty
-abbrev pub left_glyph : Desk → Size → Place → ℕ
-left_glyph d to at = if is_inside to at then glyph_at d.scan at else empty
+abbrev pub left_glyph : Slate → Size → Place → ℕ
+left_glyph d to at = if is_inside to at then state_glyph d.scan at else empty
 
-pub cut-away : (d : Desk) (to : Size) → IsDesk d
-    → desk_after_all d (write_each (λ at. empty) (cut_places d.scan.dims to))
-    ≡ desk_after_edit d (sheet_by d.scan.dims (left_glyph d to)) (cut_places d.scan.dims to)
-cut-away d to desk =
-    after_writes d (λ at. empty) (cut_places d.scan.dims to) (left_glyph d to) desk.state.sheet.size
-    desk.state.sheet.whole
+pub cut-away : (d : Slate) (to : Size) → IsSlate d
+    → slate_after_all d (write_each (λ at. empty) (cut_places d.scan.dims to))
+    ≡ slate_after_edit d (sheet_by d.scan.dims (left_glyph d to)) (cut_places d.scan.dims to)
+cut-away d to slate =
+    after_writes d (λ at. empty) (cut_places d.scan.dims to) (left_glyph d to) slate.state.sheet.size
+    slate.state.sheet.whole
     (inside-places_outside d.scan.dims (whole d.scan.dims) (whole to) (omega arith) (omega arith))
     (λ at inside. rw (listed-cut d.scan.dims to at inside)
-    (swap (is_inside to at) (glyph_at d.scan at)))
+    (swap (is_inside to at) (state_glyph d.scan at)))
   where
     swap : (b : Bool) (g : ℕ) → (if not b then empty else g) ≡ (if b then g else empty)
     swap true g = refl
     swap false g = refl
 
 -- a place that is cut off is empty then
-pub cut-empty : (d : Desk) (to : Size) (at : Place) → IsInside d.scan.dims at
+pub cut-empty : (d : Slate) (to : Size) (at : Place) → IsInside d.scan.dims at
     → is_inside to at ≡ false → glyph_on (sheet_by d.scan.dims (left_glyph d to)) at ≡ empty
 cut-empty d to at inside out =
     glyph_at-sheet_by d.scan.dims (left_glyph d to) at inside ∙ (rw out refl)
@@ -66,33 +66,33 @@ absent-each began listed (p ∷ places) q inside absent =
     (one.0, rw (one.1, rest.1) refl)
 
 -- a place of the last `begin` that lies in no grid of the other size is listed then
-pub cut-listed : (d : Desk) (to : Size) (at : Place) → IsDesk d → IsInside d.began.dims at
+pub cut-listed : (d : Slate) (to : Size) (at : Place) → IsSlate d → IsInside d.began.dims at
     → is_inside to at ≡ false
     → is_listed (list_each d.began.dims d.listed (cut_places d.scan.dims to)) at ≡ true
-cut-listed d to at desk inside out =
+cut-listed d to at slate inside out =
     elim (cases_Bool (is_listed (list_each d.began.dims d.listed (cut_places d.scan.dims to)) at)) [
       | inl is ↦ is
       | inr absent ↦
           let cut = cut_places d.scan.dims to in
           let before = absent-each d.began.dims d.listed cut at inside absent in
-          let there = (desk.kept at inside before.0).0 in
+          let there = (slate.kept at inside before.0).0 in
           absurd (both_ways _ before.1 (listed-cut d.scan.dims to at there ∙ (rw out refl)))
     ]
 
 -- the other size of a grid from which it cuts nothing but empty places is that of the grid before
-pub resize-cut : (d : Desk) (to : Size) → IsSize to
+pub resize-cut : (d : Slate) (to : Size) → IsSize to
     → sheet_after_resize (sheet_by d.scan.dims (left_glyph d to)) to
     ≡ sheet_after_resize (sheet_of d.scan) to
 resize-cut d to size =
     ap (λ (cells : List ℕ). record { dims = to; cells = cells })
     (same-by_place to (λ at. if is_inside d.scan.dims at then glyph_on
     (sheet_by d.scan.dims (left_glyph d to)) at else empty)
-    (λ at. if is_inside d.scan.dims at then glyph_at d.scan at else empty) 0 size
+    (λ at. if is_inside d.scan.dims at then state_glyph d.scan at else empty) 0 size
     (λ at inside. each at inside (is_inside d.scan.dims at) refl))
   where
     each : (at : Place) → IsInside to at → (b : Bool) → is_inside d.scan.dims at ≡ b
         → (if b then glyph_on (sheet_by d.scan.dims (left_glyph d to)) at else empty)
-        ≡ (if b then glyph_at d.scan at else empty)
+        ≡ (if b then state_glyph d.scan at else empty)
     each at inside true here =
         glyph_at-sheet_by d.scan.dims (left_glyph d to) at (inside-is_inside d.scan.dims at here)
         ∙ (rw (is_inside-inside to at inside) refl)

@@ -15,9 +15,9 @@ use Rattle.orca_base.specs.MarkSet.{MarkSet, all_marks, is_marked, no_marks}
 use Rattle.orca_base.proofs.PlaceFacts.{index-apart, index_of-below, inside-is_inside, is_inside-inside, is_place-same}
 use Rattle.orca_base.proofs.SheetFacts.{index-by_place, length-by_place, list-by_place, number-by_place, same-by_place}
 use Rattle.orca_op.specs.Deeds.{Mark, after}
-use Rattle.orca_op.specs.Desk.{Desk, desk_after, list_after}
+use Rattle.orca_op.specs.Slate.{Slate, slate_after, list_after}
 use Rattle.orca_op.specs.State.{State, blank_marks, peek}
-use Rattle.orca_board.specs.Board.{IsEmptyOutside, glyph_in, marks_in}
+use Rattle.orca_board.specs.Board.{IsEmptyOutside, cell_in, cell_marks}
 use Rattle.orca_board.proofs.BoardLemmas.{inside-largest, marked-plane}
 
 -- ---- the place of a spot
@@ -57,22 +57,22 @@ place_in-none d spot size none = place_in-part d spot size ∙ ap (part_in d) no
 
 -- a cell of the largest grid, as a spot of a grid shows it
 glyph_of_part : (s : State) (cells : List ℕ) (spot : Spot) (at : Place) → IsSize s.dims
-    → s.cells ≡ by_place s.dims (glyph_in cells) → IsEmptyOutside s.dims cells
-    → place_in largest spot ≡ Some at → IsInside largest at → glyph_in cells at ≡ peek s spot
+    → s.cells ≡ by_place s.dims (cell_in cells) → IsEmptyOutside s.dims cells
+    → place_in largest spot ≡ Some at → IsInside largest at → cell_in cells at ≡ peek s spot
 unfolding peek
 glyph_of_part s cells spot at size is outside place there =
     rw (place_in-part s.dims spot size, place) (each (is_inside s.dims at) refl)
   where
     each : (b : Bool) → is_inside s.dims at ≡ b
-        → glyph_in cells at ≡ Rattle.orca_op.specs.State.glyph_in s
+        → cell_in cells at ≡ Rattle.orca_op.specs.State.glyph_in s
         (if is_inside s.dims at then Some at else None)
     each true inside =
         rw inside (sym (ap (λ (xs : List ℕ). get_or xs (index_of s.dims at) 0) is
-        ∙ index-by_place s.dims (glyph_in cells) at 0 (inside-is_inside s.dims at inside)))
+        ∙ index-by_place s.dims (cell_in cells) at 0 (inside-is_inside s.dims at inside)))
     each false past = rw past (outside at there past)
 
 pub peek-some : (s : State) (cells : List ℕ) (spot : Spot) (at : Place) (i read : ℕ)
-    → IsSize s.dims → s.cells ≡ by_place s.dims (glyph_in cells) → IsEmptyOutside s.dims cells
+    → IsSize s.dims → s.cells ≡ by_place s.dims (cell_in cells) → IsEmptyOutside s.dims cells
     → Some at ≡ place_in largest spot → IsInside largest at → i ≡ index_of largest at → i
     < MAX_CELLS → length cells ≡ MAX_CELLS → read ≡ get_or cells i read → read ≡ peek s spot
 peek-some s cells spot at i read size is outside place there number below whole shown =
@@ -90,9 +90,9 @@ peek-none s spot size none = rw (place_in-none s.dims spot size (sym none)) refl
 -- a place outside the grid changes none of the grid's marks
 marks_beside : (d : Size) (plane : List MarkSet) (at : Place) (m : MarkSet) → IsSize d
     → IsInside largest at → is_inside d at ≡ false
-    → by_place d (marks_in (set plane (index_of largest at) m)) ≡ by_place d (marks_in plane)
+    → by_place d (cell_marks (set plane (index_of largest at) m)) ≡ by_place d (cell_marks plane)
 marks_beside d plane at m size there past =
-    same-by_place d (marks_in (set plane (index_of largest at) m)) (marks_in plane) no_marks size
+    same-by_place d (cell_marks (set plane (index_of largest at) m)) (cell_marks plane) no_marks size
     (λ q inside. get_or-set_other plane (index_of largest at) (index_of largest q) m no_marks
     (index-apart largest q at (inside-largest d q size inside) there
     (apart q inside (is_place q at) refl)))
@@ -103,17 +103,17 @@ marks_beside d plane at m size there past =
         ∙ is_inside-inside d q inside))
     apart q inside false same = refl
 
--- the desk after marks of a place of the largest grid
-pub marked-part : (d : Desk) (plane : List MarkSet) (spot : Spot) (at : Place) (marks : MarkSet)
-    → IsSize d.scan.dims → d.scan.marks ≡ by_place d.scan.dims (marks_in plane)
+-- the slate after marks of a place of the largest grid
+pub marked-part : (d : Slate) (plane : List MarkSet) (spot : Spot) (at : Place) (marks : MarkSet)
+    → IsSize d.scan.dims → d.scan.marks ≡ by_place d.scan.dims (cell_marks plane)
     → length plane ≡ MAX_CELLS
     → Some at ≡ place_in largest spot → IsInside largest at
     → record d {
       scan = record d.scan {
         marks = by_place d.scan.dims
-            (marks_in (set plane (index_of largest at) (all_marks (marks_in plane at) marks)));
+            (cell_marks (set plane (index_of largest at) (all_marks (cell_marks plane at) marks)));
       };
-    } ≡ desk_after d (Mark spot marks)
+    } ≡ slate_after d (Mark spot marks)
 unfolding after list_after
 marked-part d plane spot at marks size is whole place there =
     each there (sym place) (is_inside d.scan.dims at) refl
@@ -123,9 +123,9 @@ marked-part d plane spot at marks size is whole place there =
         → record d {
           scan = record d.scan {
             marks = by_place d.scan.dims
-                (marks_in (set plane (index_of largest at) (all_marks (marks_in plane at) marks)));
+                (cell_marks (set plane (index_of largest at) (all_marks (cell_marks plane at) marks)));
           };
-        } ≡ desk_after d (Mark spot marks)
+        } ≡ slate_after d (Mark spot marks)
     each in_largest found true inside =
         marked-plane d plane spot at marks size (inside-is_inside d.scan.dims at inside)
         (place_in-part d.scan.dims spot size ∙ (rw (found, inside) refl)) is whole
@@ -135,12 +135,12 @@ marked-part d plane spot at marks size is whole place there =
           found,
           past,
           marks_beside d.scan.dims plane at
-              (all_marks (marks_in plane at) marks) size in_largest past,
+              (all_marks (cell_marks plane at) marks) size in_largest past,
           is,
         ) refl
 
-pub marked-none : (d : Desk) (spot : Spot) (marks : MarkSet) → IsSize d.scan.dims
-    → None ≡ place_in largest spot → d ≡ desk_after d (Mark spot marks)
+pub marked-none : (d : Slate) (spot : Spot) (marks : MarkSet) → IsSize d.scan.dims
+    → None ≡ place_in largest spot → d ≡ slate_after d (Mark spot marks)
 unfolding after list_after
 marked-none d spot marks size none = rw (place_in-none d.scan.dims spot size (sym none)) refl
 
@@ -148,41 +148,41 @@ marked-none d spot marks size none = rw (place_in-none d.scan.dims spot size (sy
 
 -- no marks in a grid
 pub cleared-by_place : (d : Size) (marks old : List MarkSet) → IsSize d
-    → ((at : Place) → IsInside largest at → marks_in marks at
-    ≡ (if is_inside d at then no_marks else marks_in old at))
-    → by_place d (marks_in marks) ≡ blank_marks d
+    → ((at : Place) → IsInside largest at → cell_marks marks at
+    ≡ (if is_inside d at then no_marks else cell_marks old at))
+    → by_place d (cell_marks marks) ≡ blank_marks d
 cleared-by_place d marks old size each =
-    sym (list-by_place d (blank_marks d) (marks_in marks) no_marks size
+    sym (list-by_place d (blank_marks d) (cell_marks marks) no_marks size
     (length-replicate (cells_of d) no_marks) (λ at inside.
     get_or-replicate (cells_of d) (index_of d at) no_marks no_marks (index_of-below d at inside)
     ∙ sym (cleared at inside)))
   where
-    cleared : (at : Place) → IsInside d at → marks_in marks at ≡ no_marks
+    cleared : (at : Place) → IsInside d at → cell_marks marks at ≡ no_marks
     cleared at inside =
         each at (inside-largest d at size inside) ∙ (rw (is_inside-inside d at inside) refl)
 
 -- one place more of a grid is counted
 pub counted_yes : (d : Size) (marks : List MarkSet) (n : ℕ) → n < cells_of d
-    → is_marked (marks_in marks (place_of d n)) ≡ true
-    → count_by is_marked (take (n + 1) (by_place d (marks_in marks)))
-    ≡ count_by is_marked (take n (by_place d (marks_in marks))) + 1
+    → is_marked (cell_marks marks (place_of d n)) ≡ true
+    → count_by is_marked (take (n + 1) (by_place d (cell_marks marks)))
+    ≡ count_by is_marked (take n (by_place d (cell_marks marks))) + 1
 counted_yes d marks n below is =
-    count_by_more_yes is_marked (by_place d (marks_in marks)) n no_marks
-    (omega (arith, length-by_place d (marks_in marks), below))
-    (ap is_marked (number-by_place d (marks_in marks) n no_marks below) ∙ is)
+    count_by_more_yes is_marked (by_place d (cell_marks marks)) n no_marks
+    (omega (arith, length-by_place d (cell_marks marks), below))
+    (ap is_marked (number-by_place d (cell_marks marks) n no_marks below) ∙ is)
 
 pub counted_no : (d : Size) (marks : List MarkSet) (n : ℕ) → n < cells_of d
-    → is_marked (marks_in marks (place_of d n)) ≡ false
-    → count_by is_marked (take (n + 1) (by_place d (marks_in marks)))
-    ≡ count_by is_marked (take n (by_place d (marks_in marks)))
+    → is_marked (cell_marks marks (place_of d n)) ≡ false
+    → count_by is_marked (take (n + 1) (by_place d (cell_marks marks)))
+    ≡ count_by is_marked (take n (by_place d (cell_marks marks)))
 counted_no d marks n below is =
-    count_by_more_no is_marked (by_place d (marks_in marks)) n no_marks
-    (omega (arith, length-by_place d (marks_in marks), below))
-    (ap is_marked (number-by_place d (marks_in marks) n no_marks below) ∙ is)
+    count_by_more_no is_marked (by_place d (cell_marks marks)) n no_marks
+    (omega (arith, length-by_place d (cell_marks marks), below))
+    (ap is_marked (number-by_place d (cell_marks marks) n no_marks below) ∙ is)
 
 -- all of them
 pub counted_all : (d : Size) (marks : List MarkSet)
-    → take (cells_of d) (by_place d (marks_in marks)) ≡ by_place d (marks_in marks)
+    → take (cells_of d) (by_place d (cell_marks marks)) ≡ by_place d (cell_marks marks)
 counted_all d marks =
-    take_all (cells_of d) (by_place d (marks_in marks))
-    (omega (arith, length-by_place d (marks_in marks)))
+    take_all (cells_of d) (by_place d (cell_marks marks))
+    (omega (arith, length-by_place d (cell_marks marks)))

@@ -16,8 +16,8 @@ use Rattle.orca_base.specs.Areas.{IsArea, size_of}
 use Rattle.orca_base.specs.Edits.{is_in_area}
 use Rattle.orca_base.specs.Grids.{Size, IsInside, is_place}
 use Rattle.orca_base.proofs.PlaceFacts.{is_inside-inside, is_place-same}
-use Rattle.orca_op.specs.Desk.{is_listed, list_with}
-use Rattle.orca_op.proofs.DeskFacts.{IsEquivalence-is_place}
+use Rattle.orca_op.specs.Slate.{is_listed, list_with}
+use Rattle.orca_op.proofs.SlateFacts.{IsEquivalence-is_place}
 use Rattle.orca_board.specs.Blocks.{image, list_each, nth_place, places_in, places_outside, put_places, shift_places}
 use Rattle.orca_board.specs.Laws.{AreAllListed}
 use Rattle.orca_board.specs.Sizes.{cut_places, whole}

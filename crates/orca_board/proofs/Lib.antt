@@ -2,7 +2,7 @@ mod BoardLemmas
 pub mod BlockEdits
 pub mod BlockLemmas
 pub mod BlockPlaces
-pub mod DeskLemmas
+pub mod SlateLemmas
 pub mod ResidueLemmas
 mod LawLemmas
 mod RunLemmas

@@ -13,8 +13,8 @@ use Rattle.orca_base.specs.declared.limits.TheConstants.{MAX_CELLS}
 use Rattle.orca_base.specs.declared.place.Place.{Place}
 use Rattle.orca_base.specs.Grids.{Size, IsInside, glyph_at as glyph_on, index_of, is_inside, largest}
 use Rattle.orca_base.proofs.PlaceFacts.{is_place-index, is_inside-inside, inside-is_inside}
-use Rattle.orca_op.specs.State.{glyph_at}
-use Rattle.orca_op.specs.Desk.{Desk, KeepsUnlisted, changes_of, is_listed, list_with}
+use Rattle.orca_op.specs.State.{state_glyph}
+use Rattle.orca_op.specs.Slate.{Slate, KeepsUnlisted, changes_of, is_listed, list_with}
 use Rattle.orca_board.specs.Listing.{IsFlagged, has_number, places_of, changes_with}
 
 -- a flag more counts one more
@@ -152,7 +152,7 @@ places_if changes at old true =
     map_push (λ (c : Change). c.at) changes (record { at = at; old = old })
 places_if changes at old false = refl
 
--- they are those of the desk
+-- they are those of the slate
 pub places-changes_with : (began : Size) (changes : List Change) (at : Place) (old : ℕ)
     → places_of (changes_with began changes at old) ≡ list_with began (places_of changes) (Some at)
 places-changes_with began changes at old =
@@ -182,9 +182,9 @@ with_listed began changes at old present =
 
 -- what a write in the grid adds to the changes: its glyph of the last `begin`, for a place that
 -- isn't listed still holds it
-pub changes-written : (d : Desk) (changes : List Change) (at : Place) → KeepsUnlisted d
+pub changes-written : (d : Slate) (changes : List Change) (at : Place) → KeepsUnlisted d
     → places_of changes ≡ d.listed → changes ≡ changes_of d
-    → changes_with d.began.dims changes at (glyph_at d.scan at)
+    → changes_with d.began.dims changes at (state_glyph d.scan at)
     ≡ changes_of (record d { listed = list_with d.began.dims d.listed (Some at) })
 changes-written d changes at kept places is =
     rw places (by (is_inside d.began.dims at) (is_listed d.listed at)
@@ -194,8 +194,8 @@ changes-written d changes at kept places is =
     change q = record { at = q; old = glyph_on d.began q }
 
     by : (inside found : Bool) → (inside ≡ true → IsInside d.began.dims at)
-        → (IsInside d.began.dims at → found ≡ false → glyph_at d.scan at ≡ glyph_on d.began at)
-        → cond (inside && not found) (changes ++ record { at = at; old = glyph_at d.scan at } ∷ [])
+        → (IsInside d.began.dims at → found ≡ false → state_glyph d.scan at ≡ glyph_on d.began at)
+        → cond (inside && not found) (changes ++ record { at = at; old = state_glyph d.scan at } ∷ [])
         changes ≡ map change (cond (inside && not found) (d.listed ++ at ∷ []) d.listed)
     by true false in_began holds =
         rw (holds (in_began refl) refl)

@@ -11,9 +11,9 @@ use Rattle.orca_base.specs.Grids.{Size, Sheet, IsSheet, IsInside, by_place, glyp
 use Rattle.orca_base.proofs.PlaceFacts.{is_inside-inside, is_place-same}
 use Rattle.orca_base.specs.MarkSet.{MarkSet}
 use Rattle.orca_base.proofs.SheetFacts.{index-by_place, list-by_place}
-use Rattle.orca_op.specs.Desk.{Desk, changes_of, is_listed}
+use Rattle.orca_op.specs.Slate.{Slate, changes_of, is_listed}
 use Rattle.orca_op.specs.State.{State, blank_marks}
-use Rattle.orca_board.specs.Board.{AreLive, KeepsBoard, glyph_in}
+use Rattle.orca_board.specs.Board.{AreLive, KeepsBoard, cell_in}
 use Rattle.orca_board.specs.Listing.{places_of}
 use Rattle.orca_board.specs.Sizes.{is_size, with_sheet}
 use Rattle.orca_board.proofs.BoardLemmas.{inside-largest}
@@ -22,46 +22,46 @@ use Rattle.orca_board.proofs.BoardLemmas.{inside-largest}
 pub record Restores (known : List Change) (cells new : List ℕ) : Type 0 where
   pub whole : length new ≡ MAX_CELLS
   pub olds : (old : Place → ℕ) → All (λ change. change.old ≡ old change.at) known → (at : Place)
-      → IsInside largest at → is_listed (places_of known) at ≡ true → glyph_in new at ≡ old at
+      → IsInside largest at → is_listed (places_of known) at ≡ true → cell_in new at ≡ old at
   pub others : (at : Place) → IsInside largest at → is_listed (places_of known) at ≡ false
-      → glyph_in new at ≡ glyph_in cells at
+      → cell_in new at ≡ cell_in cells at
 
--- the changes of a desk have their glyphs of the last `begin`
-have_olds : (e : Desk) (known : List Change) → known ≡ changes_of e
+-- the changes of a slate have their glyphs of the last `begin`
+have_olds : (e : Slate) (known : List Change) → known ≡ changes_of e
     → All (λ change. change.old ≡ glyph_on e.began change.at) known
 have_olds e known is =
     rw is (All-map (λ (change : Change). change.old ≡ glyph_on e.began change.at)
     (λ (at : Place). record { at = at; old = glyph_on e.began at }) e.listed (λ k at below. refl))
 
 -- so each place holds its glyph of then
-pub back : (e : Desk) (known : List Change) (cells new : List ℕ) (marks : List MarkSet)
+pub back : (e : Slate) (known : List Change) (cells new : List ℕ) (marks : List MarkSet)
     (bits : List ℕ) (room : ℕ)
     → KeepsBoard e known cells marks bits room → Restores known cells new
-    → e.scan.cells ≡ by_place e.scan.dims (glyph_in cells) → e.listed ≡ places_of known
-    → by_place e.began.dims (glyph_in new) ≡ e.began.cells
+    → e.scan.cells ≡ by_place e.scan.dims (cell_in cells) → e.listed ≡ places_of known
+    → by_place e.began.dims (cell_in new) ≡ e.began.cells
 back e known cells new marks bits room kept restored is listed =
-    let began = kept.lists.desk.began in
-    sym (list-by_place e.began.dims e.began.cells (glyph_in new) 0 began.size began.whole
+    let began = kept.lists.slate.began in
+    sym (list-by_place e.began.dims e.began.cells (cell_in new) 0 began.size began.whole
     (λ at inside.
     let there : IsInside largest at = inside-largest e.began.dims at began.size inside in
     elim (cases_Bool (is_listed (places_of known) at)) [
       | inl changed ↦ sym (restored.olds (glyph_on e.began) (have_olds e known kept.lists.changes)
           at there changed)
       | inr absent ↦
-          let same = kept.lists.desk.kept at inside (rw listed absent) in
+          let same = kept.lists.slate.kept at inside (rw listed absent) in
           sym same.1
           ∙ (ap (λ (xs : List ℕ). slice_index xs (index_of e.scan.dims at)) is
-          ∙ (index-by_place e.scan.dims (glyph_in cells) at 0 same.0
+          ∙ (index-by_place e.scan.dims (cell_in cells) at 0 same.0
           ∙ sym (restored.others at there absent)))
     ]))
 
 -- the grid is that of the last `begin`
-pub sheet-back : (e : Desk) (new : List ℕ) → e.scan.dims ≡ e.began.dims
-    → by_place e.began.dims (glyph_in new) ≡ e.began.cells
-    → ◌≡◌ {A = Sheet} (record { dims = e.scan.dims; cells = by_place e.scan.dims (glyph_in new) })
+pub sheet-back : (e : Slate) (new : List ℕ) → e.scan.dims ≡ e.began.dims
+    → by_place e.began.dims (cell_in new) ≡ e.began.cells
+    → ◌≡◌ {A = Sheet} (record { dims = e.scan.dims; cells = by_place e.scan.dims (cell_in new) })
     e.began
 sheet-back e new same is =
-    ap (λ (d : Size). record { dims = d; cells = by_place d (glyph_in new) }) same
+    ap (λ (d : Size). record { dims = d; cells = by_place d (cell_in new) }) same
     ∙ ap (λ (cells : List ℕ). record { dims = e.began.dims; cells = cells }) is
 
 -- a listed place lies in the grid of the last `begin`
@@ -78,13 +78,13 @@ listed-inside d places at all is = by places (recursion_from_All (IsInside d) pl
     ]
 
 -- what the parts of a board keep then
-pub keeps-revert : (e : Desk) (known : List Change) (cells new : List ℕ) (marks : List MarkSet)
+pub keeps-revert : (e : Slate) (known : List Change) (cells new : List ℕ) (marks : List MarkSet)
     (bits more : List ℕ) (room : ℕ)
     → KeepsBoard e known cells marks bits room → Restores known cells new → AreLive new more
-    → e.scan.dims ≡ e.began.dims → e.scan.cells ≡ by_place e.scan.dims (glyph_in cells) → e.listed
+    → e.scan.dims ≡ e.began.dims → e.scan.cells ≡ by_place e.scan.dims (cell_in cells) → e.listed
     ≡ places_of known
     → KeepsBoard (record {
-      scan = record e.scan { cells = by_place e.scan.dims (glyph_in new) };
+      scan = record e.scan { cells = by_place e.scan.dims (cell_in new) };
       began = e.began;
       listed = [];
     }) [] new marks more room
@@ -94,15 +94,15 @@ keeps-revert e known cells new marks bits more room kept restored live same is l
     (back e known cells new marks bits room kept restored is listed) in
     record {
       lists = record {
-        desk = record {
+        slate = record {
           state = record {
-            sheet = subst IsSheet (sym grid) kept.lists.desk.began;
-            marks = kept.lists.desk.state.marks;
-            vars = kept.lists.desk.state.vars;
-            glyphs = kept.lists.desk.state.glyphs;
-            events = kept.lists.desk.state.events;
+            sheet = subst IsSheet (sym grid) kept.lists.slate.began;
+            marks = kept.lists.slate.state.marks;
+            vars = kept.lists.slate.state.vars;
+            glyphs = kept.lists.slate.state.glyphs;
+            events = kept.lists.slate.state.events;
           };
-          began = kept.lists.desk.began;
+          began = kept.lists.slate.began;
           inside = All-nil (IsInside e.began.dims);
           once = tt;
           kept = λ at inside absent. (
@@ -126,7 +126,7 @@ keeps-revert e known cells new marks bits more room kept restored live same is l
     unlisted at past false here = refl
     unlisted at past true here =
         let inside : IsInside e.began.dims at =
-        listed-inside e.began.dims e.listed at kept.lists.desk.inside (rw listed here) in
+        listed-inside e.began.dims e.listed at kept.lists.slate.inside (rw listed here) in
         absurd (both_ways _ past (subst (λ (d : Size). is_inside d at ≡ true) (sym same)
         (is_inside-inside e.began.dims at inside)))
 

@@ -11,7 +11,7 @@ use Rattle.orca_base.specs.Glyphs.{AreGlyphs, IsGlyph, empty}
 use Rattle.orca_base.specs.Grids.{Size, IsSize, IsInside, cells_of, index_of, is_inside, largest, place_of}
 use Rattle.orca_base.proofs.PlaceFacts.{index_of-place_of, inside-place_of, is_inside-inside}
 use Rattle.orca_base.proofs.SheetFacts.{IsGlyph-index}
-use Rattle.orca_board.specs.Board.{IsEmptyOutside, glyph_in}
+use Rattle.orca_board.specs.Board.{IsEmptyOutside, cell_in}
 use Rattle.orca_board.proofs.BoardLemmas.{inside-largest, most_size}
 use Rattle.orca_board.proofs.RunLemmas.{row-fits}
 
@@ -42,7 +42,7 @@ below-last d at past = rw (le-ltb at.y d.h past) refl
 
 -- all cells are empty where those of the rows and those outside are
 pub empty-rows : (d : Size) (cells : List ℕ) (h : ℕ) → d.h ≤ h
-    → ((at : Place) → IsInside largest at → at.y < h → glyph_in cells at ≡ empty)
+    → ((at : Place) → IsInside largest at → at.y < h → cell_in cells at ≡ empty)
     → IsEmptyOutside d cells → (n : ℕ) → n < MAX_CELLS → slice_index cells n ≡ empty
 empty-rows d cells h all rows outside n few =
     ap (λ (k : ℕ). slice_index cells k) (sym (index_of-place_of largest n most_size))
@@ -89,7 +89,7 @@ part-at d glyphs old new part n k laid few =
 -- a place of the row holds its glyph
 laid-here : (d : Size) (glyphs old new part : List ℕ) (n : ℕ) (at : Place)
     → IsLaidRow d glyphs old new part n → IsInside d at → at.y ≡ n
-    → glyph_in new at ≡ slice_index glyphs (index_of d at)
+    → cell_in new at ≡ slice_index glyphs (index_of d at)
 laid-here d glyphs old new part n at laid inside same =
     let many : length part ≡ d.w = length-part d glyphs old new part n laid in
     let low : nat_le (n * MAX_COLUMNS) (index_of largest at) ≡ true =
@@ -106,7 +106,7 @@ laid-here d glyphs old new part n at laid inside same =
 -- every other place holds what it held
 laid-other : (d : Size) (glyphs old new part : List ℕ) (n : ℕ) (at : Place)
     → IsLaidRow d glyphs old new part n → IsInside largest at → (at.y ≡ n → at.x < d.w → ⊥)
-    → glyph_in new at ≡ glyph_in old at
+    → cell_in new at ≡ cell_in old at
 laid-other d glyphs old new part n at laid inside other =
     let k : ℕ = index_of largest at in
     let many : length part ≡ d.w = length-part d glyphs old new part n laid in
@@ -128,9 +128,9 @@ laid-other d glyphs old new part n at laid inside other =
 pub rows-laid : (d : Size) (glyphs old new part : List ℕ) (n : ℕ)
     → IsLaidRow d glyphs old new part n
     → ((at : Place) → IsInside d at → at.y < n
-    → glyph_in old at ≡ slice_index glyphs (index_of d at))
+    → cell_in old at ≡ slice_index glyphs (index_of d at))
     → (at : Place) → IsInside d at → at.y < n + 1
-    → glyph_in new at ≡ slice_index glyphs (index_of d at)
+    → cell_in new at ≡ slice_index glyphs (index_of d at)
 rows-laid d glyphs old new part n laid before at inside below = elim (cases_lt at.y n) [
   | inl above ↦
       laid-other d glyphs old new part n at laid (inside-largest d at laid.size inside)

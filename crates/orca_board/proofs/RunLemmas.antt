@@ -18,10 +18,10 @@ use Rattle.orca_base.specs.Areas.{corner_of}
 use Rattle.orca_base.specs.Edits.{block_of, is_in_area}
 use Rattle.orca_base.specs.Grids.{Size, by_place, here}
 use Rattle.orca_op.specs.Deeds.{Deed, Write}
-use Rattle.orca_op.specs.Desk.{Desk, desk_after, desk_after_all}
-use Rattle.orca_op.proofs.LawFacts.{desk_after_all-append}
-use Rattle.orca_op.specs.State.{State, glyph_at, sheet_of}
-use Rattle.orca_board.specs.Blocks.{crosses, glyph_from, nth_place, places_in, places_outside, row_outside, rows_of, run_of, write_each}
+use Rattle.orca_op.specs.Slate.{Slate, slate_after, slate_after_all}
+use Rattle.orca_op.proofs.LawFacts.{slate_after_all-append}
+use Rattle.orca_op.specs.State.{State, state_glyph, sheet_of}
+use Rattle.orca_board.specs.Blocks.{crosses, glyph_from, nth_place, places_in, places_outside, row_outside, rows_of_width, row_run, write_each}
 use Rattle.orca_board.specs.Sizes.{whole}
 use Rattle.orca_board.proofs.BlockPlaces.{IsBetween, between-test, test-between}
 use Rattle.orca_board.proofs.BlockLemmas.{first_places, first_places-all, write_each-push}
@@ -32,56 +32,56 @@ use Rattle.orca_board.proofs.BlockLemmas.{first_places, first_places-all, write_
 abbrev pub along : Place → ℕ → Place
 along at i = record { y = at.y; x = at.x + i }
 
-pub run-more : (at : Place) (n : ℕ) → run_of at (n + 1) ≡ run_of at n ++ along at n ∷ []
+pub run-more : (at : Place) (n : ℕ) → row_run at (n + 1) ≡ row_run at n ++ along at n ∷ []
 run-more at n = map-range_with_len_more (along at) 0 n n (zero-add n)
 
-run-suc : (at : Place) (n : ℕ) → run_of at (suc n) ≡ run_of at n ++ along at n ∷ []
-run-suc at n = ap (run_of at) (suc-eq-add-one n) ∙ run-more at n
+run-suc : (at : Place) (n : ℕ) → row_run at (suc n) ≡ row_run at n ++ along at n ∷ []
+run-suc at n = ap (row_run at) (suc-eq-add-one n) ∙ run-more at n
 
-pub length-run : (at : Place) (n : ℕ) → length (run_of at n) ≡ n
+pub length-run : (at : Place) (n : ℕ) → length (row_run at n) ≡ n
 length-run at n = length-map-range_with_len (along at) 0 n
 
-pub length-two_runs : (at to : Place) (m n : ℕ) → length (run_of at m ++ run_of to n) ≡ m + n
+pub length-two_runs : (at to : Place) (m n : ℕ) → length (row_run at m ++ row_run to n) ≡ m + n
 length-two_runs at to m n =
-    omega (arith, length-append (run_of at m) (run_of to n), length-run at m, length-run to n)
+    omega (arith, length-append (row_run at m) (row_run to n), length-run at m, length-run to n)
 
 -- one place more is written
-pub run_step : (d e f : Desk) (glyph : Place → ℕ) (at : Place) (n : ℕ) (spot : Spot) (g : ℕ)
-    → e ≡ desk_after_all d (write_each glyph (run_of at n)) → spot ≡ here (along at n)
-    → g ≡ glyph (along at n) → f ≡ desk_after e (Write spot g)
-    → f ≡ desk_after_all d (write_each glyph (run_of at (n + 1)))
+pub run_step : (d e f : Slate) (glyph : Place → ℕ) (at : Place) (n : ℕ) (spot : Spot) (g : ℕ)
+    → e ≡ slate_after_all d (write_each glyph (row_run at n)) → spot ≡ here (along at n)
+    → g ≡ glyph (along at n) → f ≡ slate_after e (Write spot g)
+    → f ≡ slate_after_all d (write_each glyph (row_run at (n + 1)))
 run_step d e f glyph at n spot g before is glyph_is deed =
     (rw (before, is, glyph_is) at deed)
-    ∙ (sym (write_each-push d glyph (run_of at n) (along at n))
-    ∙ ap (λ (places : List Place). desk_after_all d (write_each glyph places))
+    ∙ (sym (write_each-push d glyph (row_run at n) (along at n))
+    ∙ ap (λ (places : List Place). slate_after_all d (write_each glyph places))
     (sym (run-more at n)))
 
 -- places are written, and then more
-pub write_each-append : (d e f : Desk) (glyph : Place → ℕ) (xs ys : List Place)
-    → e ≡ desk_after_all d (write_each glyph xs) → f ≡ desk_after_all e (write_each glyph ys)
-    → f ≡ desk_after_all d (write_each glyph (xs ++ ys))
+pub write_each-append : (d e f : Slate) (glyph : Place → ℕ) (xs ys : List Place)
+    → e ≡ slate_after_all d (write_each glyph xs) → f ≡ slate_after_all e (write_each glyph ys)
+    → f ≡ slate_after_all d (write_each glyph (xs ++ ys))
 write_each-append d e f glyph xs ys before left =
     (rw before at left)
-    ∙ (sym (desk_after_all-append d (write_each glyph xs) (write_each glyph ys))
-    ∙ ap (desk_after_all d)
+    ∙ (sym (slate_after_all-append d (write_each glyph xs) (write_each glyph ys))
+    ∙ ap (slate_after_all d)
     (sym (map-append (λ (p : Place). Write (here p) (glyph p)) xs ys)))
 
 -- functions that agree on a run write the same
 pub write_each-same : (f g : Place → ℕ) (at : Place) (n : ℕ)
     → ((i : ℕ) → i < n → f (along at i) ≡ g (along at i))
-    → write_each f (run_of at n) ≡ write_each g (run_of at n)
+    → write_each f (row_run at n) ≡ write_each g (row_run at n)
 write_each-same f g at zero same = refl
 write_each-same f g at (suc n) same =
     pushed f n ∙ (ap (λ (deeds : List Deed). deeds ++ Write (here (along at n)) (f (along at n)) ∷ [])
     (write_each-same f g at n (λ i below. same i (omega (arith, below))))
-    ∙ (ap (λ (glyph : ℕ). write_each g (run_of at n) ++ Write (here (along at n)) glyph ∷ [])
+    ∙ (ap (λ (glyph : ℕ). write_each g (row_run at n) ++ Write (here (along at n)) glyph ∷ [])
     (same n (omega arith))
     ∙ sym (pushed g n)))
   where
-    pushed : (f : Place → ℕ) (n : ℕ) → write_each f (run_of at (suc n))
-        ≡ write_each f (run_of at n) ++ Write (here (along at n)) (f (along at n)) ∷ []
+    pushed : (f : Place → ℕ) (n : ℕ) → write_each f (row_run at (suc n))
+        ≡ write_each f (row_run at n) ++ Write (here (along at n)) (f (along at n)) ∷ []
     pushed f n = ap (write_each f) (run-suc at n)
-        ∙ map-append (λ (p : Place). Write (here p) (f p)) (run_of at n) (along at n ∷ [])
+        ∙ map-append (λ (p : Place). Write (here p) (f p)) (row_run at n) (along at n ∷ [])
 
 -- ---- the rows of an area
 
@@ -108,7 +108,7 @@ nth-along area n k few =
     ∙ ap (place_by (area.y + n)) column
 
 first_places-more : (area : Area) (n k m : ℕ) → k ≤ area.w → m ≡ n * area.w + k
-    → first_places area m ≡ first_rows area n ++ run_of (row_at area n) k
+    → first_places area m ≡ first_rows area n ++ row_run (row_at area n) k
 first_places-more area n zero m few is =
     let same : m ≡ n * area.w = omega (arith, is) in
     ap (first_places area) same ∙ sym (append-nil (first_rows area n))
@@ -119,16 +119,16 @@ first_places-more area n (suc k) m few is =
     (zero-add (n * area.w + k))
     ∙ (ap (λ (places : List Place). places ++ nth_place area (n * area.w + k) ∷ [])
     (first_places-more area n k (n * area.w + k) (omega (arith, few)) refl)
-    ∙ (ap (λ (p : Place). first_rows area n ++ run_of (row_at area n) k ++ p ∷ [])
+    ∙ (ap (λ (p : Place). first_rows area n ++ row_run (row_at area n) k ++ p ∷ [])
     (nth-along area n k (omega (arith, few)))
-    ∙ (append_assoc (first_rows area n) (run_of (row_at area n) k)
+    ∙ (append_assoc (first_rows area n) (row_run (row_at area n) k)
     (along (row_at area n) k ∷ [])
     ∙ ap (λ (places : List Place). first_rows area n ++ places)
     (sym (run-suc (row_at area n) k))))))
 
 -- one row more
 pub rows-more : (area : Area) (n : ℕ)
-    → first_rows area (n + 1) ≡ first_rows area n ++ run_of (row_at area n) area.w
+    → first_rows area (n + 1) ≡ first_rows area n ++ row_run (row_at area n) area.w
 rows-more area n =
     first_places-more area n area.w ((n + 1) * area.w) (omega arith)
     (omega arith)
@@ -137,20 +137,20 @@ pub rows-all : (area : Area) → first_rows area area.h ≡ places_in area
 rows-all area = first_places-all area
 
 -- one row more is written
-pub row_step : (d e f : Desk) (glyph : Place → ℕ) (area : Area) (n : ℕ)
-    → e ≡ desk_after_all d (write_each glyph (first_rows area n))
-    → f ≡ desk_after_all e (write_each glyph (run_of (row_at area n) area.w))
-    → f ≡ desk_after_all d (write_each glyph (first_rows area (n + 1)))
+pub row_step : (d e f : Slate) (glyph : Place → ℕ) (area : Area) (n : ℕ)
+    → e ≡ slate_after_all d (write_each glyph (first_rows area n))
+    → f ≡ slate_after_all e (write_each glyph (row_run (row_at area n) area.w))
+    → f ≡ slate_after_all d (write_each glyph (first_rows area (n + 1)))
 row_step d e f glyph area n before left =
-    write_each-append d e f glyph (first_rows area n) (run_of (row_at area n) area.w) before left
-    ∙ ap (λ (places : List Place). desk_after_all d (write_each glyph places))
+    write_each-append d e f glyph (first_rows area n) (row_run (row_at area n) area.w) before left
+    ∙ ap (λ (places : List Place). slate_after_all d (write_each glyph places))
     (sym (rows-more area n))
 
-pub all_rows : (d e : Desk) (glyph : Place → ℕ) (area : Area) (n : ℕ)
-    → e ≡ desk_after_all d (write_each glyph (first_rows area n)) → n ≡ area.h
-    → e ≡ desk_after_all d (write_each glyph (places_in area))
+pub all_rows : (d e : Slate) (glyph : Place → ℕ) (area : Area) (n : ℕ)
+    → e ≡ slate_after_all d (write_each glyph (first_rows area n)) → n ≡ area.h
+    → e ≡ slate_after_all d (write_each glyph (places_in area))
 all_rows d e glyph area n before end =
-    before ∙ ap (λ (places : List Place). desk_after_all d (write_each glyph places))
+    before ∙ ap (λ (places : List Place). slate_after_all d (write_each glyph places))
     (ap (first_rows area) end ∙ rows-all area)
 
 -- ---- the places that pass a test
@@ -165,14 +165,14 @@ pushed keeps xs p b is = filter-append keeps xs (p ∷ [])
     one false is = rw is refl
 
 filter-more : (keeps : Place → Bool) (at : Place) (n : ℕ) (b : Bool) → keeps (along at n) ≡ b
-    → filter keeps (run_of at (suc n)) ≡ filter keeps (run_of at n) ++ cond b (along at n ∷ []) []
+    → filter keeps (row_run at (suc n)) ≡ filter keeps (row_run at n) ++ cond b (along at n ∷ []) []
 filter-more keeps at n b is =
     ap (λ (places : List Place). filter keeps places) (run-suc at n)
-    ∙ pushed keeps (run_of at n) (along at n) b is
+    ∙ pushed keeps (row_run at n) (along at n) b is
 
 -- a run whose first places pass, whose next ones don't, and whose last ones do
 filter-front : (keeps : Place → Bool) (at : Place) (n : ℕ)
-    → ((i : ℕ) → i < n → keeps (along at i) ≡ true) → filter keeps (run_of at n) ≡ run_of at n
+    → ((i : ℕ) → i < n → keeps (along at i) ≡ true) → filter keeps (row_run at n) ≡ row_run at n
 filter-front keeps at zero all = refl
 filter-front keeps at (suc n) all =
     filter-more keeps at n true (all n (omega arith))
@@ -183,15 +183,15 @@ filter-front keeps at (suc n) all =
 filter-middle : (keeps : Place → Bool) (at : Place) (a n m : ℕ) → m ≡ a + n
     → ((i : ℕ) → i < a → keeps (along at i) ≡ true)
     → ((i : ℕ) → a ≤ i → i < m → keeps (along at i) ≡ false)
-    → filter keeps (run_of at m) ≡ run_of at a
+    → filter keeps (row_run at m) ≡ row_run at a
 filter-middle keeps at a zero m is front none =
     let same : m ≡ a = omega (arith, is) in
-    ap (λ (k : ℕ). filter keeps (run_of at k)) same ∙ filter-front keeps at a front
+    ap (λ (k : ℕ). filter keeps (row_run at k)) same ∙ filter-front keeps at a front
 filter-middle keeps at a (suc n) m is front none =
     let next : m ≡ suc (a + n) = omega (arith, is) in
-    ap (λ (k : ℕ). filter keeps (run_of at k)) next
+    ap (λ (k : ℕ). filter keeps (row_run at k)) next
     ∙ (filter-more keeps at (a + n) false (none (a + n) (omega arith) (omega (arith, is)))
-    ∙ (append-nil (filter keeps (run_of at (a + n)))
+    ∙ (append-nil (filter keeps (row_run at (a + n)))
     ∙ filter-middle keeps at a n (a + n) refl front
     (λ i from below. none i from (omega (arith, below, is)))))
 
@@ -199,54 +199,54 @@ pub filter-run : (keeps : Place → Bool) (at : Place) (a b n m : ℕ) → m ≡
     → ((i : ℕ) → i < a → keeps (along at i) ≡ true)
     → ((i : ℕ) → a ≤ i → i < b → keeps (along at i) ≡ false)
     → ((i : ℕ) → b ≤ i → i < m → keeps (along at i) ≡ true)
-    → filter keeps (run_of at m) ≡ run_of at a ++ run_of (along at b) n
+    → filter keeps (row_run at m) ≡ row_run at a ++ row_run (along at b) n
 unfolding place_by
 filter-run keeps at a b zero m is below front none back =
     let same : m ≡ b = omega (arith, is) in
-    ap (λ (k : ℕ). filter keeps (run_of at k)) same
+    ap (λ (k : ℕ). filter keeps (row_run at k)) same
     ∙ (filter-middle keeps at a (b - a) b (omega (arith, below)) front none
-    ∙ sym (append-nil (run_of at a)))
+    ∙ sym (append-nil (row_run at a)))
 filter-run keeps at a b (suc n) m is below front none back =
     let next : m ≡ suc (b + n) = omega (arith, is) in
     let column : at.x + (b + n) ≡ at.x + b + n = omega arith in
-    ap (λ (k : ℕ). filter keeps (run_of at k)) next
+    ap (λ (k : ℕ). filter keeps (row_run at k)) next
     ∙ (filter-more keeps at (b + n) true (back (b + n) (omega arith) (omega (arith, is)))
     ∙ (ap (λ (places : List Place). places ++ along at (b + n) ∷ [])
     (filter-run keeps at a b n (b + n) refl below front none
     (λ i from few. back i from (omega (arith, few, is))))
-    ∙ (append_assoc (run_of at a) (run_of (along at b) n) (along at (b + n) ∷ [])
-    ∙ ap (λ (places : List Place). run_of at a ++ places)
-    (ap (λ (x : ℕ). run_of (along at b) n ++ place_by at.y x ∷ []) column
+    ∙ (append_assoc (row_run at a) (row_run (along at b) n) (along at (b + n) ∷ [])
+    ∙ ap (λ (places : List Place). row_run at a ++ places)
+    (ap (λ (x : ℕ). row_run (along at b) n ++ place_by at.y x ∷ []) column
     ∙ sym (run-suc (along at b) n)))))
 
 -- ---- what is read of a row and of an area
 
 pub length-read : (f : Place → ℕ) (xs : List ℕ) (at : Place) (n : ℕ)
-    → length (xs ++ map f (run_of at n)) ≡ length xs + n
+    → length (xs ++ map f (row_run at n)) ≡ length xs + n
 length-read f xs at n =
     omega (
       arith,
-      length-append xs (map f (run_of at n)),
-      length-map (run_of at n) f,
+      length-append xs (map f (row_run at n)),
+      length-map (row_run at n) f,
       length-run at n,
     )
 
 pub read-more : (f : Place → ℕ) (xs ys zs : List ℕ) (at : Place) (n g : ℕ)
-    → ys ≡ xs ++ map f (run_of at n) → zs ≡ ys ++ g ∷ [] → g ≡ f (along at n)
-    → zs ≡ xs ++ map f (run_of at (n + 1))
+    → ys ≡ xs ++ map f (row_run at n) → zs ≡ ys ++ g ∷ [] → g ≡ f (along at n)
+    → zs ≡ xs ++ map f (row_run at (n + 1))
 read-more f xs ys zs at n g before pushed glyph =
     (rw (before, glyph) at pushed)
-    ∙ (append_assoc xs (map f (run_of at n)) (f (along at n) ∷ [])
+    ∙ (append_assoc xs (map f (row_run at n)) (f (along at n) ∷ [])
     ∙ ap (λ (rest : List ℕ). xs ++ rest)
-    (sym (ap (map f) (run-more at n) ∙ map-append f (run_of at n) (along at n ∷ []))))
+    (sym (ap (map f) (run-more at n) ∙ map-append f (row_run at n) (along at n ∷ []))))
 
 pub rows-read : (f : Place → ℕ) (ys zs : List ℕ) (area : Area) (n : ℕ)
-    → ys ≡ map f (first_rows area n) → zs ≡ ys ++ map f (run_of (row_at area n) area.w)
+    → ys ≡ map f (first_rows area n) → zs ≡ ys ++ map f (row_run (row_at area n) area.w)
     → zs ≡ map f (first_rows area (n + 1))
 rows-read f ys zs area n before more =
     (rw before at more)
     ∙ sym (ap (map f) (rows-more area n)
-    ∙ map-append f (first_rows area n) (run_of (row_at area n) area.w))
+    ∙ map-append f (first_rows area n) (row_run (row_at area n) area.w))
 
 pub length-rows_read : (f : Place → ℕ) (area : Area) (n : ℕ)
     → length (map f (first_rows area n)) ≡ n * area.w
@@ -262,22 +262,22 @@ row-fits h n w below =
     omega (arith, all, more)
 
 pub all-read : (s : State) (xs : List ℕ) (area : Area) (n : ℕ) → n ≡ area.h
-    → xs ≡ map (glyph_at s) (first_rows area n)
+    → xs ≡ map (state_glyph s) (first_rows area n)
     → xs ≡ (block_of (sheet_of s) area).cells
 unfolding by_place
 all-read s xs area n end read =
-    read ∙ (ap (λ (k : ℕ). map (glyph_at s) (first_rows area k)) end
-    ∙ map-map (glyph_at s) (nth_place area) (range_with_len 0 (area.h * area.w)))
+    read ∙ (ap (λ (k : ℕ). map (state_glyph s) (first_rows area k)) end
+    ∙ map-map (state_glyph s) (nth_place area) (range_with_len 0 (area.h * area.w)))
 
 -- ---- a block's rows
 
 -- the glyphs of a row of a block are those that stand in its places
 pub write-row : (cells : List ℕ) (area : Area) (n width first : ℕ) → first ≡ n * width
-    → write_each (λ p. slice_index cells (first + (p.x - area.x))) (run_of (row_at area n) area.w)
-    ≡ write_each (glyph_from (rows_of width cells) (corner_of area)) (run_of (row_at area n) area.w)
+    → write_each (λ p. slice_index cells (first + (p.x - area.x))) (row_run (row_at area n) area.w)
+    ≡ write_each (glyph_from (rows_of_width width cells) (corner_of area)) (row_run (row_at area n) area.w)
 write-row cells area n width first is =
     write_each-same (λ p. slice_index cells (first + (p.x - area.x)))
-    (glyph_from (rows_of width cells) (corner_of area)) (row_at area n) area.w
+    (glyph_from (rows_of_width width cells) (corner_of area)) (row_at area n) area.w
     (λ i below.
     let row : n ≡ 0 + (area.y + n - area.y) = omega arith in
     let column : first + (area.x + i - area.x) ≡ n * width + (0 + (area.x + i - area.x)) =
@@ -303,7 +303,7 @@ is-in other at is = ap not (test-between other at is)
 -- a row that lies above or below the area
 pub row-beside : (area other : Area) (n : ℕ)
     → crosses other (area.y + n) ≡ false
-    → row_outside area n other ≡ run_of (row_at area n) area.w
+    → row_outside area n other ≡ row_run (row_at area n) area.w
 row-beside area other n out =
     filter-front (λ at. not (is_in_area other at)) (row_at area n) area.w
     (λ i below. not-in other (along (row_at area n) i)
@@ -317,8 +317,8 @@ pub row-across : (area other : Area) (n left right : ℕ) → crosses other (are
     → left ≡ min (max other.x area.x) (area.x + area.w)
     → right ≡ min (max (other.x + other.w) area.x) (area.x + area.w)
     → row_outside area n other
-    ≡ run_of (row_at area n) (left - area.x)
-    ++ run_of (record { y = area.y + n; x = right }) (area.x + area.w - right)
+    ≡ row_run (row_at area n) (left - area.x)
+    ++ row_run (record { y = area.y + n; x = right }) (area.x + area.w - right)
 unfolding place_by
 row-across area other n left right is left_is right_is =
     let rows : (nat_le other.y (area.y + n) ≡ true)
@@ -337,8 +337,8 @@ row-across area other n left right is left_is right_is =
     }))
     (λ i from below. not-in other (along (row_at area n) i)
     (λ is. absurd (omega (arith, is.right, from, below, right_is))))
-    ∙ ap (λ (x : ℕ). run_of (row_at area n) (left - area.x)
-    ++ run_of (place_by (area.y + n) x) (area.x + area.w - right)) column
+    ∙ ap (λ (x : ℕ). row_run (row_at area n) (left - area.x)
+    ++ row_run (place_by (area.y + n) x) (area.x + area.w - right)) column
 
 -- one row more of the places outside
 pub rows-outside : (area other : Area) (n : ℕ)
@@ -347,19 +347,19 @@ pub rows-outside : (area other : Area) (n : ℕ)
 rows-outside area other n =
     ap (λ (places : List Place). filter (λ at. not (is_in_area other at)) places) (rows-more area n)
     ∙ filter-append (λ at. not (is_in_area other at)) (first_rows area n)
-    (run_of (row_at area n) area.w)
+    (row_run (row_at area n) area.w)
 
-pub outside_step : (d e f : Desk) (glyph : Place → ℕ) (area other : Area) (n : ℕ)
-    → e ≡ desk_after_all d
+pub outside_step : (d e f : Slate) (glyph : Place → ℕ) (area other : Area) (n : ℕ)
+    → e ≡ slate_after_all d
     (write_each glyph (filter (λ at. not (is_in_area other at)) (first_rows area n)))
-    → f ≡ desk_after_all e (write_each glyph (row_outside area n other))
-    → f ≡ desk_after_all d
+    → f ≡ slate_after_all e (write_each glyph (row_outside area n other))
+    → f ≡ slate_after_all d
     (write_each glyph (filter (λ at. not (is_in_area other at)) (first_rows area (n + 1))))
 outside_step d e f glyph area other n before left =
     write_each-append d e f glyph
     (filter (λ at. not (is_in_area other at)) (first_rows area n)) (row_outside area n other)
     before left
-    ∙ ap (λ (places : List Place). desk_after_all d (write_each glyph places))
+    ∙ ap (λ (places : List Place). slate_after_all d (write_each glyph places))
     (sym (rows-outside area other n))
 
 pub outside_count : (area other : Area) (n : ℕ)
@@ -381,7 +381,7 @@ all-outside area other n end =
 
 -- those of a row, from a column on
 pub row-cut : (d to : Size) (n x : ℕ) → x ≡ (if nat_lt n to.h then min to.w d.w else 0)
-    → row_outside (whole d) n (whole to) ≡ run_of (record { y = n; x = x }) (d.w - x)
+    → row_outside (whole d) n (whole to) ≡ row_run (record { y = n; x = x }) (d.w - x)
 unfolding place_by
 row-cut d to n x is =
     let wide : x ≤ d.w = elim (cases_lt n to.h) [
@@ -408,7 +408,7 @@ row-cut d to n x is =
     let few : n < to.h = omega (arith, inside.bottom) in
     let kept = rw (lt-ltb n to.h few) at is in
     absurd (omega (arith, inside.right, from, below, kept))))
-    ∙ ap (λ (p : Place). run_of p (d.w - x))
+    ∙ ap (λ (p : Place). row_run p (d.w - x))
     (ap (λ (y : ℕ). place_by y (0 + x)) (zero-add n) ∙ ap (place_by n) (zero-add x))
 
 pub no-rows : (area other : Area) (n : ℕ) → n ≡ 0
@@ -434,4 +434,4 @@ none-cut d to (suc n) few wide =
     ∙ (ap (λ (places : List Place). places ++ row_outside (whole d) n (whole to))
     (none-cut d to n (omega (arith, few)) wide)
     ∙ (row-cut d to n d.w kept
-    ∙ ap (run_of (record { y = n; x = d.w })) nothing)))
+    ∙ ap (row_run (record { y = n; x = d.w })) nothing)))

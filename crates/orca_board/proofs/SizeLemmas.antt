@@ -16,9 +16,9 @@ use Rattle.orca_base.specs.Grids.{Size, IsSize, Sheet, IsSheet, IsInside, by_pla
 use Rattle.orca_base.specs.MarkSet.{MarkSet, no_marks}
 use Rattle.orca_base.proofs.PlaceFacts.{index-apart, index_of-below, inside-is_inside, is_inside-inside, is_place-same}
 use Rattle.orca_base.proofs.SheetFacts.{index-by_place, glyph_at-sheet_by, same-by_place, sheet-same, IsSheet-resize}
-use Rattle.orca_op.specs.Desk.{Desk, IsDesk, is_listed}
-use Rattle.orca_op.specs.State.{State, blank_marks, glyph_at, sheet_of}
-use Rattle.orca_board.specs.Board.{IsEmptyOutside, KeepsBoard, glyph_in, marks_in}
+use Rattle.orca_op.specs.Slate.{Slate, IsSlate, is_listed}
+use Rattle.orca_op.specs.State.{State, blank_marks, state_glyph, sheet_of}
+use Rattle.orca_board.specs.Board.{IsEmptyOutside, KeepsBoard, cell_in, cell_marks}
 use Rattle.orca_board.specs.Sizes.{is_size, with_sheet}
 use Rattle.orca_board.proofs.BoardLemmas.{inside-largest}
 
@@ -32,16 +32,16 @@ resize-same g sheet =
 
 -- cells of the largest grid that are empty outside a grid are those of the grid in another size
 pub cells-resize : (d to : Size) (cells : List ℕ) → IsSize d → IsSize to → IsEmptyOutside d cells
-    → by_place to (glyph_in cells) ≡ (sheet_after_resize (sheet_by d (glyph_in cells)) to).cells
+    → by_place to (cell_in cells) ≡ (sheet_after_resize (sheet_by d (cell_in cells)) to).cells
 cells-resize d to cells size other outside =
-    same-by_place to (glyph_in cells)
-    (λ at. if is_inside d at then glyph_on (sheet_by d (glyph_in cells)) at else empty) 0 other
+    same-by_place to (cell_in cells)
+    (λ at. if is_inside d at then glyph_on (sheet_by d (cell_in cells)) at else empty) 0 other
     (λ at inside. each at inside (is_inside d at) refl)
   where
     each : (at : Place) → IsInside to at → (b : Bool) → is_inside d at ≡ b
-        → glyph_in cells at ≡ (if b then glyph_on (sheet_by d (glyph_in cells)) at else empty)
+        → cell_in cells at ≡ (if b then glyph_on (sheet_by d (cell_in cells)) at else empty)
     each at inside true is =
-        sym (glyph_at-sheet_by d (glyph_in cells) at (inside-is_inside d at is))
+        sym (glyph_at-sheet_by d (cell_in cells) at (inside-is_inside d at is))
     each at inside false is = outside at (inside-largest to at other inside) is
 
 -- a place of a grid of another size holds what it held
@@ -51,11 +51,11 @@ glyph-resize g to at inside there =
     glyph_at-sheet_by to (λ at. if is_inside g.dims at then glyph_on g at else empty) at there
     ∙ (rw (is_inside-inside g.dims at inside) refl)
 
--- a desk in another size
-IsDesk-resize : (d : Desk) (to : Size) → IsDesk d → IsSize to → is_size to d.scan.dims ≡ false
+-- a slate in another size
+IsSlate-resize : (d : Slate) (to : Size) → IsSlate d → IsSize to → is_size to d.scan.dims ≡ false
     → ((at : Place) → IsInside d.began.dims at → is_inside to at ≡ false → is_listed d.listed at
     ≡ true)
-    → IsDesk (record d {
+    → IsSlate (record d {
       scan = record d.scan {
         dims = to;
         cells = (sheet_after_resize (sheet_of d.scan) to).cells;
@@ -64,19 +64,19 @@ IsDesk-resize : (d : Desk) (to : Size) → IsDesk d → IsSize to → is_size to
         events = [];
       };
     })
-IsDesk-resize d to desk size other listed = record {
+IsSlate-resize d to slate size other listed = record {
   state = record {
-    sheet = IsSheet-resize (sheet_of d.scan) to desk.state.sheet size;
+    sheet = IsSheet-resize (sheet_of d.scan) to slate.state.sheet size;
     marks = length-replicate (cells_of to) no_marks;
-    vars = desk.state.vars;
-    glyphs = desk.state.glyphs;
+    vars = slate.state.vars;
+    glyphs = slate.state.glyphs;
     events = omega arith;
   };
-  began = desk.began;
-  inside = desk.inside;
-  once = desk.once;
+  began = slate.began;
+  inside = slate.inside;
+  once = slate.once;
   kept = λ at in_began absent.
-      let before = desk.kept at in_began absent in
+      let before = slate.kept at in_began absent in
       let there : IsInside to at =
       inside-is_inside to at (stays at (is_inside to at) refl (listed at in_began) absent) in
       (there, glyph-resize (sheet_of d.scan) to at before.0 there ∙ before.1);
@@ -91,23 +91,23 @@ IsDesk-resize d to desk size other listed = record {
 -- the state in another size, by the parts of a board
 pub sized : (d to : Size) (cells : List ℕ) (marks new : List MarkSet) (vars : List ℕ)
     (events : List Event)
-    → IsSize d → IsSize to → by_place to (marks_in new) ≡ blank_marks to → IsEmptyOutside d cells
+    → IsSize d → IsSize to → by_place to (cell_marks new) ≡ blank_marks to → IsEmptyOutside d cells
     → is_size to d ≡ false
     → ◌≡◌ {A = State} (record {
       dims = to;
-      cells = by_place to (glyph_in cells);
+      cells = by_place to (cell_in cells);
       marks = by_place to
-          (marks_in new);
+          (cell_marks new);
       vars = vars;
       events = [];
     })
     (with_sheet (record {
       dims = d;
-      cells = by_place d (glyph_in cells);
+      cells = by_place d (cell_in cells);
       marks = marks;
       vars = vars;
       events = events;
-    }) (sheet_after_resize (sheet_by d (glyph_in cells)) to))
+    }) (sheet_after_resize (sheet_by d (cell_in cells)) to))
 sized d to cells marks new vars events size other_size none outside other =
     rw (other, cells-resize d to cells size other_size outside, none) refl
 
@@ -131,12 +131,12 @@ unsized s to sheet is =
     (sym (resize-same (sheet_of s) sheet)))
 
 -- what the parts of a board keep in another size
-pub keeps-resize : (d : Desk) (to : Size) (known : List Change) (cells : List ℕ)
+pub keeps-resize : (d : Slate) (to : Size) (known : List Change) (cells : List ℕ)
     (marks new : List MarkSet) (bits : List ℕ) (room more : ℕ)
     → KeepsBoard d known cells marks bits room → IsSize to → length new ≡ MAX_CELLS
-    → by_place to (marks_in new) ≡ blank_marks to → is_size to d.scan.dims ≡ false
-    → d.scan.cells ≡ by_place d.scan.dims (glyph_in cells)
-    → ((at : Place) → IsInside d.scan.dims at → is_inside to at ≡ false → glyph_at d.scan at
+    → by_place to (cell_marks new) ≡ blank_marks to → is_size to d.scan.dims ≡ false
+    → d.scan.cells ≡ by_place d.scan.dims (cell_in cells)
+    → ((at : Place) → IsInside d.scan.dims at → is_inside to at ≡ false → state_glyph d.scan at
     ≡ empty)
     → ((at : Place) → IsInside d.began.dims at → is_inside to at ≡ false → is_listed d.listed at
     ≡ true)
@@ -144,20 +144,20 @@ pub keeps-resize : (d : Desk) (to : Size) (known : List Change) (cells : List �
     → KeepsBoard (record d {
       scan = record d.scan {
         dims = to;
-        cells = by_place to (glyph_in cells);
-        marks = by_place to (marks_in new);
+        cells = by_place to (cell_in cells);
+        marks = by_place to (cell_marks new);
         events = [];
       };
     }) known cells new bits more
 keeps-resize d to known cells marks new bits room more kept size long none other is cut listed
     grows =
-    let here : (sheet_after_resize (sheet_of d.scan) to).cells ≡ by_place to (glyph_in cells) =
+    let here : (sheet_after_resize (sheet_of d.scan) to).cells ≡ by_place to (cell_in cells) =
     ap (λ (xs : List ℕ). (sheet_after_resize (record { dims = d.scan.dims; cells = xs }) to).cells)
-    is ∙ sym (cells-resize d.scan.dims to cells kept.lists.desk.state.sheet.size size
+    is ∙ sym (cells-resize d.scan.dims to cells kept.lists.slate.state.sheet.size size
     kept.outside) in
     rw (← here, none) (record {
       lists = record {
-        desk = IsDesk-resize d to kept.lists.desk size other listed;
+        slate = IsSlate-resize d to kept.lists.slate size other listed;
         changes =
             kept.lists.changes;
       };
@@ -169,11 +169,11 @@ keeps-resize d to known cells marks new bits room more kept size long none other
     })
   where
     each : (at : Place) → IsInside largest at → is_inside to at ≡ false → (b : Bool)
-        → is_inside d.scan.dims at ≡ b → glyph_in cells at ≡ empty
+        → is_inside d.scan.dims at ≡ b → cell_in cells at ≡ empty
     each at inside past true here =
         let there : IsInside d.scan.dims at = inside-is_inside d.scan.dims at here in
         sym (ap (λ (xs : List ℕ). slice_index xs (index_of d.scan.dims at)) is
-        ∙ index-by_place d.scan.dims (glyph_in cells) at 0 there) ∙ cut at there past
+        ∙ index-by_place d.scan.dims (cell_in cells) at 0 there) ∙ cut at there past
     each at inside past false here = kept.outside at inside here
 
 -- ---- changes that are put back
@@ -187,8 +187,8 @@ listed_more places at q = list_any-append (is_place q) places (at ∷ [])
 pub restored-old : (cells : List ℕ) (places : List Place) (at q : Place) (glyph : ℕ)
     (old : Place → ℕ)
     → length cells ≡ MAX_CELLS → IsInside largest at → IsInside largest q → glyph ≡ old at
-    → (is_listed places q ≡ true → glyph_in cells q ≡ old q) → is_listed (places ++ at ∷ []) q
-    ≡ true → glyph_in (set cells (index_of largest at) glyph) q ≡ old q
+    → (is_listed places q ≡ true → cell_in cells q ≡ old q) → is_listed (places ++ at ∷ []) q
+    ≡ true → cell_in (set cells (index_of largest at) glyph) q ≡ old q
 restored-old cells places at q glyph old whole here there is before listed =
     elim (cases_Bool (is_place q at)) [
       | inl same ↦
@@ -210,7 +210,7 @@ restored-old cells places at q glyph old whole here there is before listed =
 pub restored-other : (cells : List ℕ) (places : List Place) (at q : Place) (glyph : ℕ)
     → IsInside largest at → IsInside largest q
     → is_listed (places ++ at ∷ []) q ≡ false → (is_listed places q ≡ false)
-    × (glyph_in (set cells (index_of largest at) glyph) q ≡ glyph_in cells q)
+    × (cell_in (set cells (index_of largest at) glyph) q ≡ cell_in cells q)
 restored-other cells places at q glyph here there absent =
     let parts = or_parts (is_listed places q) (is_place q at || false)
     (sym (listed_more places at q) ∙ absent) in (

@@ -18,12 +18,12 @@ use Rattle.orca_base.specs.declared.place.Spot.{Spot}
 use Rattle.orca_base.specs.Glyphs.{bang, empty}
 use Rattle.orca_op.specs.State.{State, has_bang, peek}
 use Rattle.orca_op.specs.Deeds.{Deed, Mark, after, marks_after, span_deeds}
-use Rattle.orca_op.specs.Desk.{Desk, desk_after, desk_after_all, list_after}
-use Rattle.orca_op.proofs.LawFacts.{desk_after_all-append}
-use Rattle.orca_board.specs.Board.{IsEmptyOutside, glyph_in, marks_in}
+use Rattle.orca_op.specs.Slate.{Slate, slate_after, slate_after_all, list_after}
+use Rattle.orca_op.proofs.LawFacts.{slate_after_all-append}
+use Rattle.orca_board.specs.Board.{IsEmptyOutside, cell_in, cell_marks}
 use Rattle.orca_board.proofs.LargestLemmas.{peek-none, peek-some}
 use Rattle.orca_board.specs.Listing.{ListsChanges}
-use Rattle.orca_board.proofs.DeskLemmas.{lists-mark}
+use Rattle.orca_board.proofs.SlateLemmas.{lists-mark}
 
 -- the place is one of n in a row
 abbrev pub is_among : ℕ → ℕ → ℕ → Place → Bool
@@ -32,7 +32,7 @@ is_among y x n at = (at.y == y) && (nat_le x at.x && nat_lt at.x (x + n))
 -- the marks of a place, and those that are added to the places of a span
 abbrev pub span_marks : List MarkSet → ℕ → ℕ → ℕ → MarkSet → Place → MarkSet
 span_marks plane y x n marks at =
-    if is_among y x n at then all_marks (marks_in plane at) marks else marks_in plane at
+    if is_among y x n at then all_marks (cell_marks plane at) marks else cell_marks plane at
 
 among_none : (y x : ℕ) (at : Place) → is_among y x 0 at ≡ false
 among_none y x at = grind (arith, nat_tests)
@@ -47,7 +47,7 @@ among_other : (y x n : ℕ) (at : Place) → is_place at (record { y = y; x = x 
     → is_among y x (n + 1) at ≡ is_among y x n at
 among_other y x n at other = grind (arith, nat_tests)
 
--- ---- the desk after the marks of a span
+-- ---- the slate after the marks of a span
 
 -- one place more
 span_more : (d : Size) (plane : List MarkSet) (y x n : ℕ) (marks : MarkSet) → IsSize d
@@ -86,17 +86,17 @@ marked_if : (s : State) (at : Place) (marks : MarkSet) (inside : Bool)
 marked_if s at marks true = refl
 marked_if s at marks false = refl
 
--- the desk after them
-pub marked_span : (d : Desk) (plane : List MarkSet) (at : Place) (y x n : ℕ) (marks : MarkSet)
-    → IsSize d.scan.dims → d.scan.marks ≡ by_place d.scan.dims (marks_in plane)
-    → desk_after_all d (span_deeds at y x n marks)
+-- the slate after them
+pub marked_span : (d : Slate) (plane : List MarkSet) (at : Place) (y x n : ℕ) (marks : MarkSet)
+    → IsSize d.scan.dims → d.scan.marks ≡ by_place d.scan.dims (cell_marks plane)
+    → slate_after_all d (span_deeds at y x n marks)
     ≡ record d {
       scan = record d.scan
           { marks = by_place d.scan.dims (span_marks plane (at.y + y) (at.x + x) n marks) };
     }
 unfolding after list_after
 marked_span d plane at y x zero marks size is =
-    let none = same-by_place d.scan.dims (marks_in plane)
+    let none = same-by_place d.scan.dims (cell_marks plane)
     (span_marks plane (at.y + y) (at.x + x) 0 marks) no_marks size
     (λ q inside. rw (among_none (at.y + y) (at.x + x) q) refl) in
     ap (λ (m : List MarkSet). record d { scan = record d.scan { marks = m } }) (is ∙ none)
@@ -107,19 +107,19 @@ marked_span d plane at y x (suc n) marks size is =
     (is_inside d.scan.dims (record { y = at.y + y; x = at.x + x + n })) refl in
     let before = marked_span d plane at y x n marks size is in
     let last : Deed = Mark (off at (pos y) (pos (n + x))) marks in
-    desk_after_all-append d (span_deeds at y x n marks) (last ∷ [])
-    ∙ (ap (λ (e : Desk). desk_after e last) before
+    slate_after_all-append d (span_deeds at y x n marks) (last ∷ [])
+    ∙ (ap (λ (e : Slate). slate_after e last) before
     ∙ rw (column, marked_if) (ap (λ (m : List MarkSet). record d
     { scan = record d.scan { marks = m } }) (rw next at more)))
 
 -- its changes stay
-pub lists-span : (d : Desk) (at : Place) (y x n : ℕ) (marks : MarkSet) (known : List Change)
-    → ListsChanges d known → ListsChanges (desk_after_all d (span_deeds at y x n marks)) known
+pub lists-span : (d : Slate) (at : Place) (y x n : ℕ) (marks : MarkSet) (known : List Change)
+    → ListsChanges d known → ListsChanges (slate_after_all d (span_deeds at y x n marks)) known
 lists-span d at y x zero marks known lists = lists
 lists-span d at y x (suc n) marks known lists =
-    rw (desk_after_all-append d (span_deeds at y x n marks)
+    rw (slate_after_all-append d (span_deeds at y x n marks)
     (Mark (off at (pos y) (pos (n + x))) marks ∷ []))
-    (lists-mark (desk_after_all d (span_deeds at y x n marks)) _ (off at (pos y) (pos (n + x)))
+    (lists-mark (slate_after_all d (span_deeds at y x n marks)) _ (off at (pos y) (pos (n + x)))
     marks known (lists-span d at y x n marks known lists) refl)
 
 -- the numbers of a span in the largest grid, as far as the grid's edge
@@ -135,12 +135,12 @@ pub span_plane : (d : Size) (plane new : List MarkSet) (y x n count first : ℕ)
     → ((i : ℕ) → get_or new i no_marks ≡
     (if nat_le first i && nat_lt i (first + count) then all_marks (get_or plane i no_marks)
     marks else get_or plane i no_marks))
-    → by_place d (marks_in new) ≡ by_place d (span_marks plane y x n marks)
+    → by_place d (cell_marks new) ≡ by_place d (span_marks plane y x n marks)
 span_plane d plane new y x n count first marks size wide number few each =
-    same-by_place d (marks_in new) (span_marks plane y x n marks) no_marks size
+    same-by_place d (cell_marks new) (span_marks plane y x n marks) no_marks size
     (λ q inside.
     each (index_of largest q)
-    ∙ ap (λ (b : Bool). if b then all_marks (marks_in plane q) marks else marks_in plane q)
+    ∙ ap (λ (b : Bool). if b then all_marks (cell_marks plane q) marks else cell_marks plane q)
     (among_number d.w y x n count first q inside.column size.few_columns wide number few))
 
 -- a span that begins outside the grid
@@ -149,32 +149,32 @@ beyond_none : (h w y x n : ℕ) (at : Place) → at.y < h → at.x < w → (y < 
 beyond_none h w y x n at row column beyond = grind (arith, nat_tests)
 
 pub span_beyond : (d : Size) (plane : List MarkSet) (y x n : ℕ) (marks : MarkSet) → IsSize d
-    → (y < d.h → d.w ≤ x) → by_place d (marks_in plane) ≡ by_place d (span_marks plane y x n marks)
+    → (y < d.h → d.w ≤ x) → by_place d (cell_marks plane) ≡ by_place d (span_marks plane y x n marks)
 span_beyond d plane y x n marks size beyond =
-    same-by_place d (marks_in plane) (span_marks plane y x n marks) no_marks size
+    same-by_place d (cell_marks plane) (span_marks plane y x n marks) no_marks size
     (λ q inside. rw (beyond_none d.h d.w y x n q inside.row inside.column beyond) refl)
 
--- the desk of a board after the marks of a span
-pub spanned : (d : Desk) (plane new : List MarkSet) (at : Place) (y x n : ℕ) (marks : MarkSet)
-    → IsSize d.scan.dims → d.scan.marks ≡ by_place d.scan.dims (marks_in plane)
-    → by_place d.scan.dims (marks_in new) ≡ by_place d.scan.dims
+-- the slate of a board after the marks of a span
+pub spanned : (d : Slate) (plane new : List MarkSet) (at : Place) (y x n : ℕ) (marks : MarkSet)
+    → IsSize d.scan.dims → d.scan.marks ≡ by_place d.scan.dims (cell_marks plane)
+    → by_place d.scan.dims (cell_marks new) ≡ by_place d.scan.dims
     (span_marks plane (at.y + y) (at.x + x) n marks)
-    → record d { scan = record d.scan { marks = by_place d.scan.dims (marks_in new) } }
-    ≡ desk_after_all d (span_deeds at y x n marks)
+    → record d { scan = record d.scan { marks = by_place d.scan.dims (cell_marks new) } }
+    ≡ slate_after_all d (span_deeds at y x n marks)
 spanned d plane new at y x n marks size is same =
     ap (λ (m : List MarkSet). record d { scan = record d.scan { marks = m } }) same
     ∙ sym (marked_span d plane at y x n marks size is)
 
-pub lists-spanned : (d : Desk) (plane new : List MarkSet) (at : Place) (y x n : ℕ) (marks : MarkSet)
+pub lists-spanned : (d : Slate) (plane new : List MarkSet) (at : Place) (y x n : ℕ) (marks : MarkSet)
     (known : List Change)
-    → IsSize d.scan.dims → d.scan.marks ≡ by_place d.scan.dims (marks_in plane)
-    → by_place d.scan.dims (marks_in new) ≡ by_place d.scan.dims
+    → IsSize d.scan.dims → d.scan.marks ≡ by_place d.scan.dims (cell_marks plane)
+    → by_place d.scan.dims (cell_marks new) ≡ by_place d.scan.dims
     (span_marks plane (at.y + y) (at.x + x) n marks) → ListsChanges d known
     → ListsChanges (record d {
-      scan = record d.scan { marks = by_place d.scan.dims (marks_in new) };
+      scan = record d.scan { marks = by_place d.scan.dims (cell_marks new) };
     }) known
 lists-spanned d plane new at y x n marks known size is same lists =
-    subst (λ (e : Desk). ListsChanges e known)
+    subst (λ (e : Slate). ListsChanges e known)
     (sym (spanned d plane new at y x n marks size is same))
     (lists-span d at y x n marks known lists)
 
@@ -182,7 +182,7 @@ lists-spanned d plane new at y x n marks known size is same lists =
 
 -- a cell of the largest grid is what its spot shows
 pub peek_cell : (s : State) (cells : List ℕ) (spot : Spot) (y x i read : ℕ) → IsSize s.dims
-    → s.cells ≡ by_place s.dims (glyph_in cells) → IsEmptyOutside s.dims cells
+    → s.cells ≡ by_place s.dims (cell_in cells) → IsEmptyOutside s.dims cells
     → length cells ≡ MAX_CELLS
     → spot.y ≡ pos y → spot.x ≡ pos x → y < MAX_ROWS → x < MAX_COLUMNS → i ≡ y * MAX_COLUMNS + x
     → read ≡ get_or cells i read → read ≡ peek s spot
@@ -237,7 +237,7 @@ holds_other glyph byte other = grind (arith, nat_tests)
 
 -- a cell of the row
 pub peek_right : (s : State) (cells : List ℕ) (at : Place) (k first i read : ℕ) → IsSize s.dims
-    → s.cells ≡ by_place s.dims (glyph_in cells) → IsEmptyOutside s.dims cells
+    → s.cells ≡ by_place s.dims (cell_in cells) → IsEmptyOutside s.dims cells
     → length cells ≡ MAX_CELLS
     → IsInside s.dims at → at.x + k < MAX_COLUMNS → first ≡ at.y * MAX_COLUMNS + at.x → i ≡ first
     + k → read ≡ get_or cells i read → read ≡ peek s (right at k)
@@ -247,7 +247,7 @@ peek_right s cells at k first i read size is outside whole inside wide number st
 
 -- a cell as a list shows it
 cell_shown : (s : State) (cells : List ℕ) (spot : Spot) (y x i : ℕ) → IsSize s.dims
-    → s.cells ≡ by_place s.dims (glyph_in cells) → IsEmptyOutside s.dims cells
+    → s.cells ≡ by_place s.dims (cell_in cells) → IsEmptyOutside s.dims cells
     → length cells ≡ MAX_CELLS
     → spot.y ≡ pos y → spot.x ≡ pos x → y < MAX_ROWS → x < MAX_COLUMNS → i ≡ y * MAX_COLUMNS + x
     → slice_index cells i ≡ peek s spot
@@ -258,7 +258,7 @@ cell_shown s cells spot y x i size is outside whole row column high wide number 
 
 -- a cell of the row
 pub cell_right : (s : State) (cells : List ℕ) (at : Place) (k first : ℕ) → IsSize s.dims
-    → s.cells ≡ by_place s.dims (glyph_in cells) → IsEmptyOutside s.dims cells
+    → s.cells ≡ by_place s.dims (cell_in cells) → IsEmptyOutside s.dims cells
     → length cells ≡ MAX_CELLS
     → IsInside s.dims at → at.x + k < MAX_COLUMNS → first ≡ at.y * MAX_COLUMNS + at.x
     → slice_index cells (first + k) ≡ peek s (right at k)
@@ -271,7 +271,7 @@ cell_right s cells at k first size is outside whole inside wide number =
 
 -- a bang at the left, and at the right, where the row goes on
 bang_left : (s : State) (cells : List ℕ) (at : Place) (i : ℕ) → IsSize s.dims
-    → s.cells ≡ by_place s.dims (glyph_in cells) → IsEmptyOutside s.dims cells
+    → s.cells ≡ by_place s.dims (cell_in cells) → IsEmptyOutside s.dims cells
     → length cells ≡ MAX_CELLS
     → at.y < MAX_ROWS → at.x < MAX_COLUMNS → i ≡ at.y * MAX_COLUMNS + at.x
     → ((slice_index cells (i - 1) == bang) && nat_lt 0 at.x) ≡ (peek s (left at 1) == bang)
@@ -286,7 +286,7 @@ bang_left s cells at i size is outside whole high wide number = elim (cases_lt 0
 ]
 
 bang_right : (s : State) (cells : List ℕ) (at : Place) (i : ℕ) → IsSize s.dims
-    → s.cells ≡ by_place s.dims (glyph_in cells) → IsEmptyOutside s.dims cells
+    → s.cells ≡ by_place s.dims (cell_in cells) → IsEmptyOutside s.dims cells
     → length cells ≡ MAX_CELLS
     → at.y < MAX_ROWS → at.x < MAX_COLUMNS → i ≡ at.y * MAX_COLUMNS + at.x
     → ((slice_index cells (i + 1) == bang) && nat_lt at.x (MAX_COLUMNS - 1))
@@ -307,7 +307,7 @@ bang_right s cells at i size is outside whole high wide number =
 
 -- the four cells beside one in neither the first nor the last row
 pub bang_inner : (s : State) (cells : List ℕ) (at : Place) (i : ℕ) → IsSize s.dims
-    → s.cells ≡ by_place s.dims (glyph_in cells) → IsEmptyOutside s.dims cells
+    → s.cells ≡ by_place s.dims (cell_in cells) → IsEmptyOutside s.dims cells
     → length cells ≡ MAX_CELLS
     → 0 < at.y → at.y + 1 < MAX_ROWS → at.x < MAX_COLUMNS → i ≡ at.y * MAX_COLUMNS + at.x
     → ((slice_index cells (i - MAX_COLUMNS) == bang)

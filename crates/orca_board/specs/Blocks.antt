@@ -1,4 +1,4 @@
--- Edits of a block of cells on a desk: the places that each writes, in order, and the desk that it
+-- Edits of a block of cells on a slate: the places that each writes, in order, and the slate that it
 -- leaves.
 use Rattle.std.specs.Prelude.{ℕ, ◌+◌, ◌/◌, ◌≤◌, Bool, ◌&&◌, nat_le, nat_lt, not, List, [], ◌∷◌, ◌++◌, length, map, filter, Some}
 use Rattle.std.specs.List.{range_with_len}
@@ -9,7 +9,7 @@ use Rattle.orca_base.specs.Areas.{area_in, corner_of, size_of}
 use Rattle.orca_base.specs.Edits.{is_in_area, moved, origin}
 use Rattle.orca_base.specs.Grids.{Size, Sheet, by_place, glyph_at, here, place_of}
 use Rattle.orca_op.specs.Deeds.{Deed, Write}
-use Rattle.orca_op.specs.Desk.{Desk, list_with}
+use Rattle.orca_op.specs.Slate.{Slate, list_with}
 
 -- the places are listed in order
 abbrev pub list_each : Size → List Place → List Place → List Place
@@ -18,8 +18,8 @@ list_each began listed (at ∷ more) = list_each began (list_with began listed (
 
 -- what a block edit leaves: the glyphs of a grid of the same size, and the written places listed in
 -- order
-abbrev pub desk_after_edit : Desk → Sheet → List Place → Desk
-desk_after_edit d g places = record {
+abbrev pub slate_after_edit : Slate → Sheet → List Place → Slate
+slate_after_edit d g places = record {
   scan = record d.scan { cells = g.cells };
   began = d.began;
   listed = list_each d.began.dims d.listed places;
@@ -34,8 +34,8 @@ abbrev pub places_in : Area → List Place
 places_in area = by_place (size_of area) (moved origin (corner_of area))
 
 -- `count` places of a row, the first of which is `at`
-abbrev pub run_of : Place → ℕ → List Place
-run_of at count = map (λ i. record { y = at.y; x = at.x + i }) (range_with_len 0 count)
+abbrev pub row_run : Place → ℕ → List Place
+row_run at count = map (λ i. record { y = at.y; x = at.x + i }) (range_with_len 0 count)
 
 -- the part, inside a grid of size d, of a block of a size whose first place is `to`
 abbrev pub image : Size → Place → Size → Area
@@ -60,7 +60,7 @@ crosses area y = nat_le area.y y && nat_lt y (area.y + area.h)
 -- those of them that stand in one row
 abbrev pub row_outside : Area → ℕ → Area → List Place
 row_outside area row other = filter (λ at. not (is_in_area other at))
-    (run_of (record { y = area.y + row; x = area.x }) area.w)
+    (row_run (record { y = area.y + row; x = area.x }) area.w)
 
 -- Move writes the places of the area outside its image, which become empty, and then each place of
 -- the image
@@ -73,8 +73,8 @@ abbrev pub write_each : (Place → ℕ) → List Place → List Deed
 write_each glyph places = map (λ at. Write (here at) (glyph at)) places
 
 -- rows of this width, one after the other
-abbrev pub rows_of : ℕ → List ℕ → Sheet
-rows_of width cells =
+abbrev pub rows_of_width : ℕ → List ℕ → Sheet
+rows_of_width width cells =
     record { dims = record { h = length cells / width; w = width }; cells = cells }
 
 -- the glyph that such rows have for a place, where they begin at `corner`

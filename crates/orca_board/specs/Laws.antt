@@ -5,7 +5,7 @@ use Rattle.orca_base.specs.declared.area.Area.{Area}
 use Rattle.orca_base.specs.declared.place.Place.{Place}
 use Rattle.orca_base.specs.Areas.{IsArea}
 use Rattle.orca_base.specs.Grids.{Size, Sheet, IsInside, cells_of, is_place}
-use Rattle.orca_op.specs.Desk.{desk_of_sheet, residue}
+use Rattle.orca_op.specs.Slate.{slate_of_sheet, residue}
 use Rattle.orca_board.specs.Blocks.{fill_places, list_each, put_places, shift_places}
 use Rattle.orca_board.specs.Sizes.{cut_places}
 
@@ -44,4 +44,4 @@ CutLaw =
 
 -- nothing is left to clear as a frame begins
 abbrev pub BeginLaw : Type 0
-BeginLaw = (g : Sheet) → residue (desk_of_sheet g) ≡ 0
+BeginLaw = (g : Sheet) → residue (slate_of_sheet g) ≡ 0

@@ -5,7 +5,7 @@ use Rattle.orca_base.specs.declared.change.Change.{Change}
 use Rattle.orca_base.specs.declared.limits.TheConstants.{MAX_CELLS}
 use Rattle.orca_base.specs.declared.place.Place.{Place}
 use Rattle.orca_base.specs.Grids.{Size, IsInside, index_of, is_inside, largest}
-use Rattle.orca_op.specs.Desk.{Desk, IsDesk, changes_of, is_listed}
+use Rattle.orca_op.specs.Slate.{Slate, IsSlate, changes_of, is_listed}
 
 -- the size at the last `begin`, and the changes since, in the order in which their places were
 -- first written
@@ -36,7 +36,7 @@ pub record IsFlagged (changes : List Change) (flags : List Bool) (room : ℕ) : 
   pub inside : All (IsInside largest) (places_of changes)
   pub roomy : MAX_CELLS ≤ room
 
--- the changes are those of a desk
-pub record ListsChanges (d : Desk) (known : List Change) : Type 0 where
-  pub desk : IsDesk d
+-- the changes are those of a slate
+pub record ListsChanges (d : Slate) (known : List Change) : Type 0 where
+  pub slate : IsSlate d
   pub changes : known ≡ changes_of d

@@ -1,10 +1,10 @@
--- What a change of size leaves of a desk.
+-- What a change of size leaves of a slate.
 use Rattle.std.specs.Prelude.{◌==◌, Bool, ◌&&◌, List, [], if◌then◌else◌}
 use Rattle.orca_base.specs.declared.area.Area.{Area}
 use Rattle.orca_base.specs.declared.place.Place.{Place}
 use Rattle.orca_base.specs.Edits.{sheet_after_resize}
 use Rattle.orca_base.specs.Grids.{Size, Sheet}
-use Rattle.orca_op.specs.Desk.{Desk}
+use Rattle.orca_op.specs.Slate.{Slate}
 use Rattle.orca_op.specs.State.{State, sheet_of, blank_marks}
 use Rattle.orca_board.specs.Blocks.{list_each, places_outside}
 
@@ -27,13 +27,13 @@ abbrev pub cut_places : Size → Size → List Place
 cut_places d to = places_outside (whole d) (whole to)
 
 -- Resize: the common part stays, new places are empty, and the places that are cut off are listed
-abbrev pub desk_after_resize : Desk → Size → Desk
-desk_after_resize d to = record {
+abbrev pub slate_after_resize : Slate → Size → Slate
+slate_after_resize d to = record {
   scan = with_sheet d.scan (sheet_after_resize (sheet_of d.scan) to);
   began = d.began;
   listed = list_each d.began.dims d.listed (cut_places d.scan.dims to);
 }
 
 -- the grid of the last `begin`, and no changes
-abbrev pub desk_reverted : Desk → Desk
-desk_reverted d = record { scan = with_sheet d.scan d.began; began = d.began; listed = [] }
+abbrev pub slate_reverted : Slate → Slate
+slate_reverted d = record { scan = with_sheet d.scan d.began; began = d.began; listed = [] }

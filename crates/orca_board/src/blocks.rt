@@ -6,9 +6,9 @@ ghost use Rattle.orca_base.specs.Edits.{block_of, sheet_after_fill, sheet_after_
 ghost use Rattle.orca_base.specs.Glyphs.{empty};
 ghost use Rattle.orca_base.specs.Grids.{IsInside, IsSize};
 ghost use Rattle.orca_base.specs.declared.limits.TheConstants.{MAX_COLUMNS};
-ghost use Rattle.orca_op.specs.Desk.{desk_after_all};
-ghost use Rattle.orca_op.specs.State.{glyph_at, sheet_of};
-ghost use Rattle.orca_board.specs.Blocks.{IsInLargest, crosses, desk_after_edit, run_of, places_in, image, fill_places, put_places, places_outside, row_outside, shift_places, write_each, rows_of, glyph_from};
+ghost use Rattle.orca_op.specs.Slate.{slate_after_all};
+ghost use Rattle.orca_op.specs.State.{state_glyph, sheet_of};
+ghost use Rattle.orca_board.specs.Blocks.{IsInLargest, crosses, slate_after_edit, row_run, places_in, image, fill_places, put_places, places_outside, row_outside, shift_places, write_each, rows_of_width, glyph_from};
 ghost use Rattle.orca_board.specs.Sizes.{cut_places};
 
 use orca_base::{Area, Block, Dims, Glyph, Place, Steps};
@@ -49,11 +49,11 @@ fn read_run<B: Bench, L: Ledger>(
     into: &mut Vec<Glyph>,
     steps: &mut Steps<L>,
 )
-    requires row { at.y < (B.desk bench.now).scan.dims.h }
-    requires fits { at.x + count ≤ (B.desk bench.now).scan.dims.w }
+    requires row { at.y < (B.slate bench.now).scan.dims.h }
+    requires fits { at.x + count ≤ (B.slate bench.now).scan.dims.w }
     requires room { length into.old.items + count ≤ vec_capacity into.old }
     ensures glyphs { into.new.items
-        ≡ into.old.items ++ map (glyph_at (B.desk bench.now).scan) (run_of at count) }
+        ≡ into.old.items ++ map (state_glyph (B.slate bench.now).scan) (row_run at count) }
     ensures capacity { vec_capacity into.new ≡ vec_capacity into.old }
     ensures steps { steps.new ≡ steps.old + count }
 {
@@ -74,10 +74,10 @@ fn read_area<B: Bench, L: Ledger>(
     into: &mut Vec<Glyph>,
     steps: &mut Steps<L>,
 )
-    requires area { IsArea (B.desk bench.now).scan.dims area }
+    requires area { IsArea (B.slate bench.now).scan.dims area }
     requires fits { IsInLargest area }
     requires room { area.h * area.w ≤ vec_capacity into.old }
-    ensures glyphs { into.new.items ≡ (block_of (sheet_of (B.desk bench.now).scan) area).cells }
+    ensures glyphs { into.new.items ≡ (block_of (sheet_of (B.slate bench.now).scan) area).cells }
     ensures capacity { vec_capacity into.new ≡ vec_capacity into.old }
     ensures steps { steps.new ≡ steps.old + area.h * area.w }
 {
@@ -96,8 +96,8 @@ fn fill_run<B: Bench, L: Ledger>(
     steps: &mut Steps<L>,
 )
     requires { at.x + count ≤ MAX_COLUMNS }
-    ensures desk { B.desk bench.new
-        ≡ desk_after_all (B.desk bench.old) (write_each (λ place. glyph) (run_of at count)) }
+    ensures slate { B.slate bench.new
+        ≡ slate_after_all (B.slate bench.old) (write_each (λ place. glyph) (row_run at count)) }
     ensures steps { steps.new ≡ steps.old + count }
 {
     for i in 0..count {
@@ -120,9 +120,9 @@ fn write_run<B: Bench, L: Ledger>(
 )
     requires fits { at.x + count ≤ MAX_COLUMNS }
     requires glyphs { first + count ≤ length glyphs.now }
-    ensures desk { B.desk bench.new ≡ desk_after_all (B.desk bench.old)
+    ensures slate { B.slate bench.new ≡ slate_after_all (B.slate bench.old)
         (write_each (λ place. slice_index glyphs.now (first + (place.x - at.x)))
-        (run_of at count)) }
+        (row_run at count)) }
     ensures steps { steps.new ≡ steps.old + count }
 {
     for i in 0..count {
@@ -137,7 +137,7 @@ fn write_run<B: Bench, L: Ledger>(
 /// Empties the places of a grid that another size cuts off: the columns and the rows beyond it. Where
 /// the other size has as many columns, it goes over the rows beyond alone.
 pub(crate) fn cut<B: Bench, L: Ledger>(bench: &mut B, dims: Dims, to: Dims, steps: &mut Steps<L>)
-    ensures desk { B.desk bench.new ≡ desk_after_all (B.desk bench.old)
+    ensures slate { B.slate bench.new ≡ slate_after_all (B.slate bench.old)
         (write_each (λ place. empty) (cut_places dims to)) }
     ensures steps { steps.new ≡ steps.old + length (cut_places dims to) }
     ensures size { IsSize to }
@@ -168,7 +168,7 @@ fn clear_row_outside<B: Bench, L: Ledger>(
     requires row { row < area.h }
     requires area { IsInLargest area }
     requires other { IsInLargest other }
-    ensures desk { B.desk bench.new ≡ desk_after_all (B.desk bench.old) (write_each
+    ensures slate { B.slate bench.new ≡ slate_after_all (B.slate bench.old) (write_each
         (λ place. empty) (row_outside area row other)) }
     ensures steps { steps.new ≡ steps.old + length (row_outside area row other) }
 {
@@ -192,7 +192,7 @@ fn clear_row_outside<B: Bench, L: Ledger>(
 fn clear_outside<B: Bench, L: Ledger>(bench: &mut B, area: Area, other: Area, steps: &mut Steps<L>)
     requires area { IsInLargest area }
     requires other { IsInLargest other }
-    ensures desk { B.desk bench.new ≡ desk_after_all (B.desk bench.old)
+    ensures slate { B.slate bench.new ≡ slate_after_all (B.slate bench.old)
         (write_each (λ place. empty) (places_outside area other)) }
     ensures steps { steps.new ≡ steps.old + length (places_outside area other) }
 {
@@ -213,8 +213,8 @@ fn write_block<B: Bench, L: Ledger>(
     requires area { IsInLargest area }
     requires columns { area.w ≤ width }
     requires rows { area.h * width ≤ length cells.now }
-    ensures desk { B.desk bench.new ≡ desk_after_all (B.desk bench.old)
-        (write_each (glyph_from (rows_of width cells.now) (corner_of area)) (places_in area)) }
+    ensures slate { B.slate bench.new ≡ slate_after_all (B.slate bench.old)
+        (write_each (glyph_from (rows_of_width width cells.now) (corner_of area)) (places_in area)) }
     ensures steps { steps.new ≡ steps.old + area.h * area.w }
 {
     for row in 0..area.h {
@@ -230,9 +230,9 @@ pub(crate) fn fill<B: Bench, L: Ledger>(
     glyph: Glyph,
     steps: &mut Steps<L>,
 )
-    requires { IsArea (B.desk bench.old).scan.dims area }
-    ensures desk { B.desk bench.new ≡ desk_after_edit (B.desk bench.old)
-        (sheet_after_fill (sheet_of (B.desk bench.old).scan) area glyph) (fill_places area) }
+    requires { IsArea (B.slate bench.old).scan.dims area }
+    ensures slate { B.slate bench.new ≡ slate_after_edit (B.slate bench.old)
+        (sheet_after_fill (sheet_of (B.slate bench.old).scan) area glyph) (fill_places area) }
     ensures steps { steps.new ≡ steps.old + area.h * area.w }
 {
     let dims = bench.dims();
@@ -249,12 +249,12 @@ pub(crate) fn put<B: Bench, L: Ledger>(
     block: &Block,
     steps: &mut Steps<L>,
 )
-    requires { IsInside (B.desk bench.old).scan.dims to }
-    ensures desk { B.desk bench.new ≡ desk_after_edit (B.desk bench.old)
-        (sheet_after_put (sheet_of (B.desk bench.old).scan) to block.now)
-        (put_places (B.desk bench.old).scan.dims to block.now.dims) }
+    requires { IsInside (B.slate bench.old).scan.dims to }
+    ensures slate { B.slate bench.new ≡ slate_after_edit (B.slate bench.old)
+        (sheet_after_put (sheet_of (B.slate bench.old).scan) to block.now)
+        (put_places (B.slate bench.old).scan.dims to block.now.dims) }
     ensures steps { steps.new
-        ≡ steps.old + length (put_places (B.desk bench.old).scan.dims to block.now.dims) }
+        ≡ steps.old + length (put_places (B.slate bench.old).scan.dims to block.now.dims) }
 {
     let area = image(bench.dims(), to, block.h(), block.w());
     write_block(bench, area, block.cells(), block.w(), steps);
@@ -270,14 +270,14 @@ pub(crate) fn shift<B: Bench, L: Ledger>(
     scratch: &mut Vec<Glyph>,
     steps: &mut Steps<L>,
 )
-    requires area { IsArea (B.desk bench.old).scan.dims area }
-    requires to { IsInside (B.desk bench.old).scan.dims to }
+    requires area { IsArea (B.slate bench.old).scan.dims area }
+    requires to { IsInside (B.slate bench.old).scan.dims to }
     requires room { area.h * area.w ≤ vec_capacity scratch.old }
-    ensures desk { B.desk bench.new ≡ desk_after_edit (B.desk bench.old)
-        (sheet_after_move (sheet_of (B.desk bench.old).scan) area to)
-        (shift_places (B.desk bench.old).scan.dims area to) }
+    ensures slate { B.slate bench.new ≡ slate_after_edit (B.slate bench.old)
+        (sheet_after_move (sheet_of (B.slate bench.old).scan) area to)
+        (shift_places (B.slate bench.old).scan.dims area to) }
     ensures steps { steps.new ≡ steps.old + area.h * area.w
-        + length (shift_places (B.desk bench.old).scan.dims area to) }
+        + length (shift_places (B.slate bench.old).scan.dims area to) }
     ensures room { vec_capacity scratch.new ≡ vec_capacity scratch.old }
 {
     let target = image(bench.dims(), to, area.h, area.w);

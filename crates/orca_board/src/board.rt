@@ -3,9 +3,9 @@ ghost use Rattle.orca_base.specs.declared.limits.TheConstants.{MAX_CELLS, MAX_EV
 ghost use Rattle.orca_base.specs.Areas.{IsArea};
 ghost use Rattle.orca_base.specs.Edits.{sheet_after_fill, sheet_after_put, sheet_after_move};
 ghost use Rattle.orca_base.specs.Grids.{IsInside, cells_of};
-ghost use Rattle.orca_board.specs.Blocks.{desk_after_edit, fill_places, put_places, shift_places};
-ghost use Rattle.orca_board.specs.Sizes.{cut_places, desk_after_resize, desk_reverted};
-ghost use Rattle.orca_op.specs.Desk.{changes_of, desk_of_sheet, residue};
+ghost use Rattle.orca_board.specs.Blocks.{slate_after_edit, fill_places, put_places, shift_places};
+ghost use Rattle.orca_board.specs.Sizes.{cut_places, slate_after_resize, slate_reverted};
+ghost use Rattle.orca_op.specs.Slate.{changes_of, slate_of_sheet, residue};
 ghost use Rattle.orca_op.specs.State.{sheet_of};
 
 use crate::blocks;
@@ -29,9 +29,9 @@ pub struct Board {
 impl Model for Board {
     ghost use Rattle.std.specs.Prelude.{◌≤◌, vec_capacity};
     ghost use Rattle.orca_base.specs.declared.limits.TheConstants.{MAX_CELLS, MAX_EVENTS};
-    ghost use Rattle.orca_op.specs.Desk.{Desk};
+    ghost use Rattle.orca_op.specs.Slate.{Slate};
 
-    ghost Value = { Desk };
+    ghost Value = { Slate };
 
     ghost view = { λ b. b.field };
 
@@ -42,7 +42,7 @@ impl Board {
     /// A board with the grid's size and glyphs, as after `begin`. It takes at once all the room that it
     /// will need, for the largest grid. [`Memory`] where that room is refused.
     pub fn start(alloc: Global, grid: &Grid) -> Result<Board, Memory>
-        ensures { IfOk result (λ board. board ≡ desk_of_sheet grid.now) }
+        ensures { IfOk result (λ board. board ≡ slate_of_sheet grid.now) }
     {
         Ok(Board {
             field: Field::start(alloc, grid)?,
@@ -54,7 +54,7 @@ impl Board {
     /// for each cell of the old grid and of the new one.
     pub fn load<L: Ledger>(&mut self, dims: Dims, cells: &[Glyph], steps: &mut Steps<L>)
         requires { length cells.now ≡ dims.h * dims.w }
-        ensures desk { self.new ≡ desk_of_sheet (record { dims = dims; cells = cells.now }) }
+        ensures slate { self.new ≡ slate_of_sheet (record { dims = dims; cells = cells.now }) }
         ensures clear { residue self.new ≡ 0 }
         ensures steps { steps.new ≡ steps.old + cells_of self.old.scan.dims + cells_of dims }
     {
@@ -64,7 +64,7 @@ impl Board {
     /// Writes the glyph to each place of an area of the grid. It counts a step for each.
     pub fn fill<L: Ledger>(&mut self, area: Area, glyph: Glyph, steps: &mut Steps<L>)
         requires { IsArea self.old.scan.dims area }
-        ensures desk { self.new ≡ desk_after_edit self.old
+        ensures slate { self.new ≡ slate_after_edit self.old
             (sheet_after_fill (sheet_of self.old.scan) area glyph) (fill_places area) }
         ensures steps { steps.new ≡ steps.old + area.h * area.w }
         ensures residue { residue self.new + steps.old ≤ residue self.old + steps.new }
@@ -76,7 +76,7 @@ impl Board {
     /// a step for each place that it writes.
     pub fn put<L: Ledger>(&mut self, to: Place, block: &Block, steps: &mut Steps<L>)
         requires { IsInside self.old.scan.dims to }
-        ensures desk { self.new ≡ desk_after_edit self.old
+        ensures slate { self.new ≡ slate_after_edit self.old
             (sheet_after_put (sheet_of self.old.scan) to block.now)
             (put_places self.old.scan.dims to block.now.dims) }
         ensures steps { steps.new
@@ -92,7 +92,7 @@ impl Board {
     pub fn shift<L: Ledger>(&mut self, area: Area, to: Place, steps: &mut Steps<L>)
         requires area { IsArea self.old.scan.dims area }
         requires to { IsInside self.old.scan.dims to }
-        ensures desk { self.new ≡ desk_after_edit self.old
+        ensures slate { self.new ≡ slate_after_edit self.old
             (sheet_after_move (sheet_of self.old.scan) area to)
             (shift_places self.old.scan.dims area to) }
         ensures steps { steps.new ≡ steps.old + area.h * area.w
@@ -107,7 +107,7 @@ impl Board {
     /// Gives the grid another size: the common part stays, and new places are empty. Where the size changes,
     /// nothing is marked any more, and there is no event. It counts a step for each place that is cut off.
     pub fn set_dims<L: Ledger>(&mut self, dims: Dims, steps: &mut Steps<L>)
-        ensures desk { self.new ≡ desk_after_resize self.old dims }
+        ensures slate { self.new ≡ slate_after_resize self.old dims }
         ensures steps { steps.new ≡ steps.old + length (cut_places self.old.scan.dims dims) }
         ensures residue { residue self.new + steps.old ≤ residue self.old + steps.new }
     {
@@ -118,7 +118,7 @@ impl Board {
     /// any more, and there is no event. It counts a step for each change, and for each place that the size of
     /// the last `begin` cuts off.
     pub fn revert<L: Ledger>(&mut self, steps: &mut Steps<L>)
-        ensures desk { self.new ≡ desk_reverted self.old }
+        ensures slate { self.new ≡ slate_reverted self.old }
         ensures steps { steps.new ≡ steps.old
             + length (cut_places self.old.scan.dims self.old.began.dims) + length self.old.listed }
         ensures residue { residue self.new + steps.old ≤ residue self.old + steps.new }
@@ -162,7 +162,7 @@ impl Look for Board {
 }
 
 impl Bench for Board {
-    ghost desk = { λ b. b };
+    ghost slate = { λ b. b };
 
     fn dims(&self) -> Dims {
         Bench::dims(&self.field)

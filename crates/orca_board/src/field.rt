@@ -3,15 +3,15 @@ ghost use Rattle.orca_base.specs.Edits.{sheet_after_resize};
 ghost use Rattle.orca_base.specs.Grids.{IsInside, IsSize, above, below, by_place, cells_of, is_inside, largest, left, place_in, right};
 ghost use Rattle.orca_base.specs.declared.place.Place.{Place};
 ghost use Rattle.orca_board.specs.Listing.{places_of};
-ghost use Rattle.orca_board.specs.Sizes.{cut_places, desk_after_resize, desk_reverted, with_sheet};
+ghost use Rattle.orca_board.specs.Sizes.{cut_places, slate_after_resize, slate_reverted, with_sheet};
 ghost use Rattle.orca_base.specs.Glyphs.{AreGlyphs, IsGlyph, bang, empty};
 ghost use Rattle.orca_base.specs.MarkSet.{is_marked};
 ghost use Rattle.orca_base.specs.declared.limits.TheConstants.{MAX_CELLS, MAX_COLUMNS};
 ghost use Rattle.orca_board.specs.declared.field.TheConstants.{GROUP};
-ghost use Rattle.orca_board.specs.Board.{AreLive, IsEmptyOutside, glyph_in, marks_in};
+ghost use Rattle.orca_board.specs.Board.{AreLive, IsEmptyOutside, cell_in, cell_marks};
 ghost use Rattle.orca_op.specs.Live.{has_bit};
-ghost use Rattle.orca_op.specs.Desk.{changes_of, desk_of_sheet, is_listed};
-ghost use Rattle.orca_op.specs.State.{glyph_at, has_bang, peek, sheet_of};
+ghost use Rattle.orca_op.specs.Slate.{changes_of, slate_of_sheet, is_listed};
+ghost use Rattle.orca_op.specs.State.{state_glyph, has_bang, peek, sheet_of};
 
 use crate::blocks;
 use crate::listing::Listing;
@@ -43,15 +43,15 @@ pub(crate) struct Field {
 
 impl Model for Field {
     ghost use Rattle.std.specs.Prelude.{vec_capacity};
-    ghost use Rattle.orca_op.specs.Desk.{Desk};
+    ghost use Rattle.orca_op.specs.Slate.{Slate};
 
-    ghost Value = { Desk };
+    ghost Value = { Slate };
 
-    ghost use Rattle.orca_board.specs.Board.{desk_of, KeepsBoard};
+    ghost use Rattle.orca_board.specs.Board.{slate_of, KeepsBoard};
 
-    ghost view = { desk_of };
+    ghost view = { slate_of };
 
-    ghost invariant = { λ b. KeepsBoard (desk_of b) b.listing.changes
+    ghost invariant = { λ b. KeepsBoard (slate_of b) b.listing.changes
         b.cells.items b.marks b.live (vec_capacity b.events) };
 }
 
@@ -59,7 +59,7 @@ impl Field {
     /// A field with the grid's size and glyphs, as after `begin`. It takes at once all the room that it
     /// will need, for the largest grid. [`Memory`] where that room is refused.
     pub fn start(alloc: Global, grid: &Grid) -> Result<Field, Memory>
-        ensures { IfOk result (λ field. field ≡ desk_of_sheet grid.now) }
+        ensures { IfOk result (λ field. field ≡ slate_of_sheet grid.now) }
     {
         let dims = Look::dims(grid);
         let mut cells = Vec::new(alloc);
@@ -85,7 +85,7 @@ impl Field {
     /// for each cell of the old grid and of the new one.
     pub fn load<L: Ledger>(&mut self, dims: Dims, cells: &[Glyph], steps: &mut Steps<L>)
         requires { length cells.now ≡ dims.h * dims.w }
-        ensures desk { self.new ≡ desk_of_sheet (record { dims = dims; cells = cells.now }) }
+        ensures slate { self.new ≡ slate_of_sheet (record { dims = dims; cells = cells.now }) }
         ensures steps { steps.new ≡ steps.old + cells_of self.old.scan.dims + cells_of dims }
     {
         steps.count_many(self.dims.cells());
@@ -103,7 +103,7 @@ impl Field {
     /// Gives the grid another size: the common part stays, and new places are empty. Where the size changes,
     /// nothing is marked any more, and there is no event. It counts a step for each place that is cut off.
     pub fn set_dims<L: Ledger>(&mut self, dims: Dims, steps: &mut Steps<L>)
-        ensures desk { self.new ≡ desk_after_resize self.old dims }
+        ensures slate { self.new ≡ slate_after_resize self.old dims }
         ensures steps { steps.new ≡ steps.old + length (cut_places self.old.scan.dims dims) }
     {
         let old = self.dims;
@@ -115,7 +115,7 @@ impl Field {
     /// any more, and there is no event. It counts a step for each change, and for each place that the size of
     /// the last `begin` cuts off.
     pub fn revert<L: Ledger>(&mut self, steps: &mut Steps<L>)
-        ensures desk { self.new ≡ desk_reverted self.old }
+        ensures slate { self.new ≡ slate_reverted self.old }
         ensures steps { steps.new ≡ steps.old
             + length (cut_places self.old.scan.dims self.old.began.dims) + length self.old.listed }
     {
@@ -136,7 +136,7 @@ impl Field {
     fn take_dims(&mut self, dims: Dims)
         requires size { IsSize dims }
         requires empty { (at : Place) → IsInside self.old.scan.dims at → is_inside dims at ≡ false
-            → glyph_at self.old.scan at ≡ empty }
+            → state_glyph self.old.scan at ≡ empty }
         requires listed { (at : Place) → IsInside self.old.began.dims at → is_inside dims at ≡ false
             → is_listed self.old.listed at ≡ true }
         ensures { self.new ≡ record self.old {
@@ -259,7 +259,7 @@ fn lay(cells: &mut [Glyph], live: &mut LiveBits, dims: Dims, glyphs: &[Glyph])
     requires size { length glyphs.now ≡ dims.h * dims.w }
     ensures whole { length cells.new ≡ MAX_CELLS }
     ensures glyphs { AreGlyphs glyphs.now }
-    ensures inside { by_place dims (glyph_in cells.new) ≡ glyphs.now }
+    ensures inside { by_place dims (cell_in cells.new) ≡ glyphs.now }
     ensures outside { IsEmptyOutside dims cells.new }
     ensures live { AreLive cells.new live.new }
 {
@@ -337,10 +337,10 @@ fn restore<L: Ledger>(
     ensures whole { length cells.new ≡ MAX_CELLS }
     ensures olds { (old : Place → ℕ) → All (λ change. change.old ≡ old change.at) changes.now
         → (at : Place) → IsInside largest at → is_listed (places_of changes.now) at ≡ true
-        → glyph_in cells.new at ≡ old at }
+        → cell_in cells.new at ≡ old at }
     ensures others { (at : Place) → IsInside largest at
         → is_listed (places_of changes.now) at ≡ false
-        → glyph_in cells.new at ≡ glyph_in cells.old at }
+        → cell_in cells.new at ≡ cell_in cells.old at }
     ensures live { AreLive cells.new live.new }
     ensures steps { steps.new ≡ steps.old + length changes.now }
 {
@@ -474,7 +474,7 @@ fn in_largest(spot: Spot) -> Option<Place>
 
 /// Counts a step for each place of a grid that is marked.
 fn count_marked<L: Ledger>(marks: &MarkPlane, dims: Dims, steps: &mut Steps<L>)
-    ensures { steps.new ≡ steps.old + count_by is_marked (by_place dims (marks_in marks.now)) }
+    ensures { steps.new ≡ steps.old + count_by is_marked (by_place dims (cell_marks marks.now)) }
 {
     for n in 0..dims.cells() {
         if !marks.at(dims.place(n)).is_empty() {
@@ -484,7 +484,7 @@ fn count_marked<L: Ledger>(marks: &MarkPlane, dims: Dims, steps: &mut Steps<L>)
 }
 
 impl Bench for Field {
-    ghost desk = { λ b. b };
+    ghost slate = { λ b. b };
 
     fn dims(&self) -> Dims {
         self.dims
@@ -500,7 +500,7 @@ impl Bench for Field {
         }
     }
 
-    #[tactic(auto, unfolding(orca_op::specs::Deeds::after, orca_op::specs::Desk::list_after))]
+    #[tactic(auto, unfolding(orca_op::specs::Deeds::after, orca_op::specs::Slate::list_after))]
     fn write<L: Ledger>(&mut self, at: Spot, glyph: Glyph, steps: &mut Steps<L>) {
         steps.count_one();
         if let Some(place) = self.dims.holds(at) {
@@ -511,7 +511,7 @@ impl Bench for Field {
         }
     }
 
-    #[tactic(auto, unfolding(orca_op::specs::Deeds::after, orca_op::specs::Desk::list_after))]
+    #[tactic(auto, unfolding(orca_op::specs::Deeds::after, orca_op::specs::Slate::list_after))]
     fn mark<L: Ledger>(&mut self, at: Spot, marks: Marks, steps: &mut Steps<L>) {
         steps.count_one();
         // Marks outside the grid are never looked at.
@@ -535,13 +535,13 @@ impl Bench for Field {
         self.vars[usize::from(index)]
     }
 
-    #[tactic(auto, unfolding(orca_op::specs::Deeds::after, orca_op::specs::Desk::list_after))]
+    #[tactic(auto, unfolding(orca_op::specs::Deeds::after, orca_op::specs::Slate::list_after))]
     fn set_var<L: Ledger>(&mut self, index: u8, glyph: Glyph, steps: &mut Steps<L>) {
         steps.count_one();
         glyph.put(&mut self.vars, usize::from(index));
     }
 
-    #[tactic(auto, unfolding(orca_op::specs::Deeds::after, orca_op::specs::Desk::list_after))]
+    #[tactic(auto, unfolding(orca_op::specs::Deeds::after, orca_op::specs::Slate::list_after))]
     fn emit<L: Ledger>(&mut self, event: Event, steps: &mut Steps<L>) {
         steps.count_one();
         self.events.push_reserved(event);
@@ -607,7 +607,7 @@ impl Bench for Field {
 
     // It stands apart, so that the walk of a row keeps its registers.
     #[inline(never)]
-    #[tactic(auto, unfolding(orca_op::specs::Desk::residue))]
+    #[tactic(auto, unfolding(orca_op::specs::Slate::residue))]
     fn begin<L: Ledger>(&mut self, steps: &mut Steps<L>) {
         let dims = self.dims;
         steps.count_one();

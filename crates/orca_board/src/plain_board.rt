@@ -2,7 +2,7 @@ ghost use Rattle.std.specs.Prelude.{◌≤◌, ◌≡◌, ◌+◌, ◌*◌, leng
 ghost use Rattle.orca_base.specs.Glyphs.{AreGlyphs};
 ghost use Rattle.orca_base.specs.Grids.{cells_of};
 ghost use Rattle.orca_base.specs.MarkSet.{is_marked, no_marks};
-ghost use Rattle.orca_op.specs.Desk.{changes_of, desk_of_sheet};
+ghost use Rattle.orca_op.specs.Slate.{changes_of, slate_of_sheet};
 ghost use Rattle.orca_op.specs.State.{sheet_of};
 
 use crate::listing::Listing;
@@ -30,15 +30,15 @@ pub struct PlainBoard {
 
 impl Model for PlainBoard {
     ghost use Rattle.std.specs.Prelude.{vec_capacity};
-    ghost use Rattle.orca_op.specs.Desk.{Desk};
+    ghost use Rattle.orca_op.specs.Slate.{Slate};
 
-    ghost Value = { Desk };
+    ghost Value = { Slate };
 
-    ghost use Rattle.orca_board.specs.PlainBoard.{desk_of, KeepsDesk};
+    ghost use Rattle.orca_board.specs.PlainBoard.{plain_slate_of, KeepsSlate};
 
-    ghost view = { desk_of };
+    ghost view = { plain_slate_of };
 
-    ghost invariant = { λ b. KeepsDesk (desk_of b) b.listing.changes
+    ghost invariant = { λ b. KeepsSlate (plain_slate_of b) b.listing.changes
         (vec_capacity b.cells) (vec_capacity b.marks) (vec_capacity b.events) };
 }
 
@@ -46,7 +46,7 @@ impl PlainBoard {
     /// A board with the grid's size and glyphs, as after `begin`. It takes at once all the room that it
     /// will need, for the largest grid. [`Memory`] where that room is refused.
     pub fn start(alloc: Global, grid: &Grid) -> Result<PlainBoard, Memory>
-        ensures { IfOk result (λ board. board ≡ desk_of_sheet grid.now) }
+        ensures { IfOk result (λ board. board ≡ slate_of_sheet grid.now) }
     {
         let dims = Look::dims(grid);
         let mut cells = Vec::with_capacity(alloc, MAX_CELLS)?;
@@ -71,7 +71,7 @@ impl PlainBoard {
     /// for each of its cells, and takes no memory.
     pub fn load<L: Ledger>(&mut self, dims: Dims, cells: &[Glyph], steps: &mut Steps<L>)
         requires { length cells.now ≡ dims.h * dims.w }
-        ensures desk { self.new ≡ desk_of_sheet (record { dims = dims; cells = cells.now }) }
+        ensures slate { self.new ≡ slate_of_sheet (record { dims = dims; cells = cells.now }) }
         ensures steps { steps.new ≡ steps.old + cells_of dims }
     {
         let places = dims.cells();
@@ -168,7 +168,7 @@ fn count_changes<L: Ledger>(changes: &[Change], steps: &mut Steps<L>)
 }
 
 impl Bench for PlainBoard {
-    ghost desk = { λ b. b };
+    ghost slate = { λ b. b };
 
     fn dims(&self) -> Dims {
         self.dims
@@ -183,7 +183,7 @@ impl Bench for PlainBoard {
         }
     }
 
-    #[tactic(auto, unfolding(orca_op::specs::Deeds::after, orca_op::specs::Desk::list_after))]
+    #[tactic(auto, unfolding(orca_op::specs::Deeds::after, orca_op::specs::Slate::list_after))]
     fn write<L: Ledger>(&mut self, at: Spot, glyph: Glyph, steps: &mut Steps<L>) {
         steps.count_one();
         if let Some(place) = self.dims.holds(at) {
@@ -193,7 +193,7 @@ impl Bench for PlainBoard {
         }
     }
 
-    #[tactic(auto, unfolding(orca_op::specs::Deeds::after, orca_op::specs::Desk::list_after))]
+    #[tactic(auto, unfolding(orca_op::specs::Deeds::after, orca_op::specs::Slate::list_after))]
     fn mark<L: Ledger>(&mut self, at: Spot, marks: Marks, steps: &mut Steps<L>) {
         steps.count_one();
         if let Some(place) = self.dims.holds(at) {
@@ -217,19 +217,19 @@ impl Bench for PlainBoard {
         self.vars[usize::from(index)]
     }
 
-    #[tactic(auto, unfolding(orca_op::specs::Deeds::after, orca_op::specs::Desk::list_after))]
+    #[tactic(auto, unfolding(orca_op::specs::Deeds::after, orca_op::specs::Slate::list_after))]
     fn set_var<L: Ledger>(&mut self, index: u8, glyph: Glyph, steps: &mut Steps<L>) {
         steps.count_one();
         glyph.put(&mut self.vars, usize::from(index));
     }
 
-    #[tactic(auto, unfolding(orca_op::specs::Deeds::after, orca_op::specs::Desk::list_after))]
+    #[tactic(auto, unfolding(orca_op::specs::Deeds::after, orca_op::specs::Slate::list_after))]
     fn emit<L: Ledger>(&mut self, event: Event, steps: &mut Steps<L>) {
         steps.count_one();
         self.events.push_reserved(event);
     }
 
-    #[tactic(auto, unfolding(orca_op::specs::Desk::residue))]
+    #[tactic(auto, unfolding(orca_op::specs::Slate::residue))]
     fn begin<L: Ledger>(&mut self, steps: &mut Steps<L>) {
         steps.count_one();
         count_marked(&self.marks, steps);

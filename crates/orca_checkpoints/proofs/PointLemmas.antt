@@ -10,7 +10,7 @@ use Rattle.std.proofs.lemmas.Nat.{div-add-mod', div-mul-add, le-div, mod-mul-add
 use Rattle.orca_base.specs.declared.limits.TheConstants.{MAX_CHECKPOINTS}
 use Rattle.orca_base.specs.Grids.{IsSheet}
 use Rattle.orca_checkpoints.specs.Laws.{AreOf, points_after}
-use Rattle.orca_checkpoints.specs.Points.{ArePoints, Point, Points, best_of, every_second, is_due, next_moment, points_dropped, points_kept}
+use Rattle.orca_checkpoints.specs.Points.{ArePoints, Point, Points, best_of, every_second, is_point_due, next_moment, points_dropped, points_kept}
 
 -- ---- multiples
 
@@ -148,7 +148,7 @@ some-spacing at len peak c are = omega (arith, are.apart)
 
 -- a checkpoint that is due is that of the next moment
 pub due-next : (at : ℕ → Point) (len peak : ℕ) (c : Points) → AreOf at len peak c
-    → is_due c (len + 1) ≡ true → len + 1 ≡ next_moment c
+    → is_point_due c (len + 1) ≡ true → len + 1 ≡ next_moment c
 due-next at len peak c are due =
     elim (next-multiple len c.spacing (some-spacing at len peak c are)) [
       | inl next ↦ next.is ∙ ap (λ (n : ℕ). n * c.spacing) (sym are.reach)

@@ -2,7 +2,7 @@
 use Rattle.std.specs.Prelude.{ℕ, ◌+◌, ◌*◌, ◌/◌, ◌==◌, ◌<◌, ◌≤◌, ◌≡◌, ◌⊎◌, true, if◌then◌else◌, length, Some, slice_get}
 use Rattle.orca_base.specs.declared.limits.TheConstants.{FIRST_SPACING, MAX_CHECKPOINTS}
 use Rattle.orca_base.specs.Grids.{Sheet}
-use Rattle.orca_checkpoints.specs.Points.{ArePoints, Point, Points, best_of, is_due, next_moment, points_at_start, points_dropped, points_kept}
+use Rattle.orca_checkpoints.specs.Points.{ArePoints, Point, Points, best_of, is_point_due, next_moment, points_at_start, points_dropped, points_kept}
 
 -- the checkpoints of a history of so many entries, which once had `peak`: each is what the function
 -- gives to its moment, they reach as far as the history, and the spacing is that of the start or at
@@ -22,14 +22,14 @@ StartLaw =
 -- the checkpoints once the history has come to so many entries: that of this moment is kept where
 -- it is due
 abbrev pub points_after : Points → ℕ → Point → Points
-points_after c len p = if is_due c len then points_kept c p else c
+points_after c len p = if is_point_due c len then points_kept c p else c
 
 -- one entry more
 abbrev pub NextLaw : Type 0
 NextLaw =
     (at new : ℕ → Point) (len peak most : ℕ) (c : Points) → AreOf at len peak c
     → ((k : ℕ) → k ≤ len → new k ≡ at k) → peak ≤ most → len + 1 ≤ most
-    → (is_due c (len + 1) ≡ true → len + 1 ≡ next_moment c)
+    → (is_point_due c (len + 1) ≡ true → len + 1 ≡ next_moment c)
     × AreOf new (len + 1) most (points_after c (len + 1) (new (len + 1)))
 
 -- fewer entries

@@ -30,8 +30,8 @@ points_at_start sheet = record {
 }
 
 -- a checkpoint is due where the spacing divides the moment
-abbrev pub is_due : Points → ℕ → Bool
-is_due c moment = moment % c.spacing == 0
+abbrev pub is_point_due : Points → ℕ → Bool
+is_point_due c moment = moment % c.spacing == 0
 
 -- the next moment that is due
 abbrev pub next_moment : Points → ℕ

@@ -1,6 +1,6 @@
 ghost use Rattle.std.specs.Prelude.{ℕ, ◌≡◌, ◌+◌, ◌*◌, ◌<◌, ◌≤◌, length, slice_get, slice_index_or, Some, IfOk};
 ghost use Rattle.orca_base.specs.Grids.{IsSheet, cells_of};
-ghost use Rattle.orca_checkpoints.specs.Points.{ArePoints, Point, best_of, is_due, next_moment, points_at_start, points_dropped, points_kept};
+ghost use Rattle.orca_checkpoints.specs.Points.{ArePoints, Point, best_of, is_point_due, next_moment, points_at_start, points_dropped, points_kept};
 
 use crate::slot::{Checkpoint, Slot};
 use orca_base::limits::{FIRST_SPACING, MAX_CHECKPOINTS};
@@ -50,7 +50,7 @@ impl Checkpoints {
 
     /// Whether a checkpoint is to be kept as the history comes to so many entries.
     pub fn due(&self, len: u32) -> bool
-        ensures due { result ≡ is_due self.now len }
+        ensures due { result ≡ is_point_due self.now len }
         ensures points { ArePoints self.now }
     {
         len % self.spacing == 0

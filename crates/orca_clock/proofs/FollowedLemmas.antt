@@ -28,9 +28,9 @@ use Rattle.orca_sync.specs.Clocks.{Pulse, beat_in, beats_from, heed}
 use Rattle.orca_sync.specs.declared.follower.Beat.{Beat}
 use Rattle.orca_sync.specs.declared.follower.Beat.TheVariants as beat
 use Rattle.orca_trace.specs.Calls.{Poll}
-use Rattle.orca_clock.specs.Clocked.{frame_course}
-use Rattle.orca_clock.specs.Followers.{Followed, beat_course, byte_course, follow_course, follow_finish, follow_part}
-use Rattle.orca_clock.specs.Laws.{TellsAtEnd, bytes_before, commands_of, heard_in}
+use Rattle.orca_clock.specs.Clocked.{clock_frame_course}
+use Rattle.orca_clock.specs.Followers.{Followed, beat_course, clock_byte_course, follow_course, follow_finish, follow_part}
+use Rattle.orca_clock.specs.Laws.{TellsAtEnd, bytes_before, commands_of_beat, heard_in}
 use Rattle.orca_clock.proofs.GoingLemmas.{has_ended, onward_ends, onward_first, onward_none}
 use Rattle.orca_clock.proofs.MidiLemmas.{end_commands, handed_commands}
 use Rattle.orca_clock.proofs.TellingLemmas.{command_told, end_told}
@@ -58,18 +58,18 @@ machine_by commands m = fold (λ n c. (obey n c).machine) m commands
 -- these beats were played
 pub record HasPlayed {R : Type 0} (s : Concert R) (beats : List Beat) (acts : List Act)
     (t : Concert R) : Type 0 where
-  pub commands : commands_in acts ≡ flat_map commands_of beats
-  pub machine : t.standing.machine ≡ machine_by (flat_map commands_of beats) s.standing.machine
+  pub commands : commands_in acts ≡ flat_map commands_of_beat beats
+  pub machine : t.standing.machine ≡ machine_by (flat_map commands_of_beat beats) s.standing.machine
 
 played_both : {R : Type 0} {r s t : Concert R} (b c : List Beat) (xs ys : List Act)
     → HasPlayed r b xs s → HasPlayed s c ys t → HasPlayed r (b ++ c) (xs ++ ys) t
 played_both {r = r} b c xs ys first second = record {
   commands = rw (commands_in-append, first.commands, second.commands, flat_map-append) refl;
   machine = second.machine
-      ∙ (ap (machine_by (flat_map commands_of c)) first.machine
+      ∙ (ap (machine_by (flat_map commands_of_beat c)) first.machine
       ∙ rw (flat_map-append)
-      (sym (fold-append (λ n d. (obey n d).machine) r.standing.machine (flat_map commands_of b)
-      (flat_map commands_of c))));
+      (sym (fold-append (λ n d. (obey n d).machine) r.standing.machine (flat_map commands_of_beat b)
+      (flat_map commands_of_beat c))));
 }
 
 -- whether an answer brings bytes of the first hand
@@ -90,7 +90,7 @@ LeftBy {R} m polls =
     → HasPlayed s.concert (beats_from s.pulse (heard_in polls)) c.acts c.state.concert
 
 module _ {R : Type 0} (m : Manner R) (tells : TellsAtEnd m) where
-  command_played : (c : Command) (b : Beat) (s : Concert R) → commands_of b ≡ c ∷ []
+  command_played : (c : Command) (b : Beat) (s : Concert R) → commands_of_beat b ≡ c ∷ []
       → beat_in b ≡ b ∷ []
       → let d = command_course m 0 c s in HasPlayed s (beat_in b) d.acts d.state
   command_played c b s is once =
@@ -104,9 +104,9 @@ module _ {R : Type 0} (m : Manner R) (tells : TellsAtEnd m) where
 
   frame_by : (s : Concert R) (full : Bool)
       → nat_le s.standing.machine.limit (length s.standing.machine.history) ≡ full
-      → (frame_course m s).ending ≡ None
-      → HasPlayed s (beat.Frame ∷ []) (frame_course m s).acts (frame_course m s).state
-  unfolding frame_course
+      → (clock_frame_course m s).ending ≡ None
+      → HasPlayed s (beat.Frame ∷ []) (clock_frame_course m s).acts (clock_frame_course m s).state
+  unfolding clock_frame_course
   frame_by s true is = rw is (λ goes. absurd cc)
   frame_by s false is = rw is (λ goes. command_played command.Frame beat.Frame s refl refl)
 
@@ -120,8 +120,8 @@ module _ {R : Type 0} (m : Manner R) (tells : TellsAtEnd m) where
 
   frame_ends : (s : Concert R) (full : Bool)
       → nat_le s.standing.machine.limit (length s.standing.machine.history) ≡ full
-      → EndsFull (frame_course m s)
-  unfolding frame_course
+      → EndsFull (clock_frame_course m s)
+  unfolding clock_frame_course
   frame_ends s true is = rw is (λ stop ends. cc)
   frame_ends s false is =
       let none = (command_told m tells command.Frame s).ending in rw is (λ stop ends. absurd cc)
@@ -136,45 +136,45 @@ module _ {R : Type 0} (m : Manner R) (tells : TellsAtEnd m) where
 
   -- ---- bytes
 
-  byte_played : (byte : ℕ) (s : Followed R) → (byte_course m byte s).ending ≡ None
-      → HasPlayed s.concert (beat_in (heed s.pulse byte).beat) (byte_course m byte s).acts
-      (byte_course m byte s).state.concert
-  unfolding byte_course mapped
+  byte_played : (byte : ℕ) (s : Followed R) → (clock_byte_course m byte s).ending ≡ None
+      → HasPlayed s.concert (beat_in (heed s.pulse byte).beat) (clock_byte_course m byte s).acts
+      (clock_byte_course m byte s).state.concert
+  unfolding clock_byte_course mapped
   byte_played byte s goes = beat_played (heed s.pulse byte).beat s.concert goes
 
   pub bytes_played : (bytes : List ℕ) (s : Followed R)
-      → (each (byte_course m) bytes s).ending ≡ None
-      → let c = each (byte_course m) bytes s in
+      → (each (clock_byte_course m) bytes s).ending ≡ None
+      → let c = each (clock_byte_course m) bytes s in
       HasPlayed s.concert (beats_from s.pulse bytes) c.acts c.state.concert
       × (c.state.pulse ≡ pulse_after s.pulse bytes)
-  unfolding each beats_from byte_course mapped
+  unfolding each beats_from clock_byte_course mapped
   bytes_played [] s goes = (record { commands = refl; machine = refl }, refl)
   bytes_played (x ∷ xs) s goes =
-      let c = byte_course m x s in
-      let both = onward_none c (each (byte_course m) xs) goes in
+      let c = clock_byte_course m x s in
+      let both = onward_none c (each (clock_byte_course m) xs) goes in
       let more = bytes_played xs c.state both.1 in
       let beats = beats_from s.pulse (x ∷ xs) in
       subst (λ d. HasPlayed s.concert beats d.acts d.state.concert
       × (d.state.pulse ≡ pulse_after s.pulse (x ∷ xs)))
-      (sym (onward_goes c (each (byte_course m) xs) both.0)) (
+      (sym (onward_goes c (each (clock_byte_course m) xs) both.0)) (
         played_both (beat_in (heed s.pulse x).beat) (beats_from (heed s.pulse x).pulse xs) c.acts _
             (byte_played x s both.0) more.0,
         more.1,
       )
 
-  pub bytes_end : (bytes : List ℕ) (s : Followed R) → EndsFull (each (byte_course m) bytes s)
-  unfolding each byte_course mapped
+  pub bytes_end : (bytes : List ℕ) (s : Followed R) → EndsFull (each (clock_byte_course m) bytes s)
+  unfolding each clock_byte_course mapped
   bytes_end [] s = λ stop ends. absurd cc
   bytes_end (x ∷ xs) s =
-      onward_ends (λ stop. stop ≡ Full) (byte_course m x s) (each (byte_course m) xs)
+      onward_ends (λ stop. stop ≡ Full) (clock_byte_course m x s) (each (clock_byte_course m) xs)
       (beat_ends (heed s.pulse x).beat s.concert) (λ t. bytes_end xs t)
 
   -- ---- polls
 
   -- bytes of the first hand came, and did not end it
   hand_played : (bytes : List ℕ) (wait : Poll) (polls : List Poll) (s : Followed R)
-      (end : Option Stop) → LeftBy m polls → (each (byte_course m) bytes s).ending ≡ end
-      → let c = each (byte_course m) bytes s in
+      (end : Option Stop) → LeftBy m polls → (each (clock_byte_course m) bytes s).ending ≡ end
+      → let c = each (clock_byte_course m) bytes s in
       let d = onward_by (option_map Stopped end) (record {
         acts = Await wait ∷ c.acts;
         bill = 0 + c.bill;
@@ -184,7 +184,7 @@ module _ {R : Type 0} (m : Manner R) (tells : TellsAtEnd m) where
       d.ending ≡ Some (Stopped Left)
       → HasPlayed s.concert (beats_from s.pulse (bytes ++ heard_in polls)) d.acts d.state.concert
   hand_played bytes wait polls s None later is left =
-      let c = each (byte_course m) bytes s in
+      let c = each (clock_byte_course m) bytes s in
       let first = bytes_played bytes s is in
       let more = later c.state left in
       let both = played_both (beats_from s.pulse bytes) (beats_from c.state.pulse (heard_in polls))
@@ -206,7 +206,7 @@ module _ {R : Type 0} (m : Manner R) (tells : TellsAtEnd m) where
       d.state.concert
   unfolding heard follow_course mapped onward beats_from
   poll_played (answer.Bytes hand count at) bytes wait polls s true later is =
-      rw is (hand_played bytes wait polls s (each (byte_course m) bytes s).ending later refl)
+      rw is (hand_played bytes wait polls s (each (clock_byte_course m) bytes s).ending later refl)
   poll_played (answer.Bytes hand count at) bytes wait polls s false later is =
       rw is (λ left. let more = later s left in
       record { commands = more.commands; machine = more.machine })
@@ -242,9 +242,9 @@ module _ {R : Type 0} (m : Manner R) (tells : TellsAtEnd m) where
   -- a whole performance that its player has left: all beats were played, and then every note ended
   pub follow_played : (polls : List Poll) (s : Followed R)
       → let c = performance (follow_part m) s polls in c.ending ≡ Some (Stopped Left)
-      → (commands_in c.acts ≡ flat_map commands_of (beats_from s.pulse (heard_in polls)))
+      → (commands_in c.acts ≡ flat_map commands_of_beat (beats_from s.pulse (heard_in polls)))
       × (c.state.concert.standing.machine ≡ machine_closed (machine_by
-      (flat_map commands_of (beats_from s.pulse (heard_in polls))) s.concert.standing.machine))
+      (flat_map commands_of_beat (beats_from s.pulse (heard_in polls))) s.concert.standing.machine))
   unfolding begun opened onward mapped follow_finish
   follow_played polls s left =
       let c = attended (follow_part m) polls s in

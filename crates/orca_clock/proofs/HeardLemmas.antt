@@ -28,9 +28,9 @@ use Rattle.orca_sync.specs.Clocks.{beat_in, beats_from, heed}
 use Rattle.orca_sync.specs.declared.follower.Beat.{Beat}
 use Rattle.orca_sync.specs.declared.follower.Beat.TheVariants as beat
 use Rattle.orca_trace.specs.Calls.{Poll}
-use Rattle.orca_clock.specs.Clocked.{end_course, frame_course, last_text_course}
-use Rattle.orca_clock.specs.Followers.{Followed, beat_course, byte_course, follow_course, follow_finish, follow_part}
-use Rattle.orca_clock.specs.Laws.{AreDone, TellsAtEnd, bytes_before, commands_of, heard_in}
+use Rattle.orca_clock.specs.Clocked.{end_course, clock_frame_course, last_text_course}
+use Rattle.orca_clock.specs.Followers.{Followed, beat_course, clock_byte_course, follow_course, follow_finish, follow_part}
+use Rattle.orca_clock.specs.Laws.{AreDone, TellsAtEnd, bytes_before, commands_of_beat, heard_in}
 use Rattle.orca_clock.proofs.FollowedLemmas.{EndsFull, beat_ends, beats_from-append, bytes_end, bytes_played, is_first_hand, pulse_after}
 use Rattle.orca_clock.proofs.MidiLemmas.{end_commands, handed_commands}
 use Rattle.orca_clock.proofs.TellingLemmas.{close_told, command_told}
@@ -71,7 +71,7 @@ abbrev HeardBy : {R : Type 0} → Manner R → List Poll → Type 0
 HeardBy {R} m polls =
     (s : Followed R) → let c = each (polled (follow_part m)) polls s in
     AreDone (Stopped Full) c.ending (commands_in c.acts)
-    (flat_map commands_of (beats_from s.pulse (heard_in polls)))
+    (flat_map commands_of_beat (beats_from s.pulse (heard_in polls)))
 
 -- ---- bytes
 
@@ -87,9 +87,9 @@ module _ {R : Type 0} (m : Manner R) (tells : TellsAtEnd m) where
 
   frame_heard : (s : Concert R) (full : Bool)
       → nat_le s.standing.machine.limit (length s.standing.machine.history) ≡ full
-      → let d = frame_course m s in
+      → let d = clock_frame_course m s in
       AreDone Full d.ending (commands_in d.acts) (command.Frame ∷ [])
-  unfolding frame_course
+  unfolding clock_frame_course
   frame_heard s true is = rw is (record {
     left = command.Frame ∷ [];
     splits = refl;
@@ -99,7 +99,7 @@ module _ {R : Type 0} (m : Manner R) (tells : TellsAtEnd m) where
 
   beat_heard : (b : Beat) (s : Concert R)
       → let d = beat_course m b s in
-      AreDone Full d.ending (commands_in d.acts) (flat_map commands_of (beat_in b))
+      AreDone Full d.ending (commands_in d.acts) (flat_map commands_of_beat (beat_in b))
   unfolding beat_course
   beat_heard beat.Nothing s = done_all Full None [] [] refl
   beat_heard beat.Frame s =
@@ -118,24 +118,24 @@ module _ {R : Type 0} (m : Manner R) (tells : TellsAtEnd m) where
       rw (is, same) (done_only Full (commands_in c.acts) a b (rw (is, same) at first))
 
   bytes_heard : (bytes : List ℕ) (s : Followed R)
-      → let c = each (byte_course m) bytes s in
+      → let c = each (clock_byte_course m) bytes s in
       AreDone Full c.ending (commands_in c.acts)
-      (flat_map commands_of (beats_from s.pulse bytes))
-  unfolding each onward beats_from byte_course mapped
+      (flat_map commands_of_beat (beats_from s.pulse bytes))
+  unfolding each onward beats_from clock_byte_course mapped
   bytes_heard [] s = done_all Full None [] [] refl
   bytes_heard (x ∷ xs) s =
-      let c = byte_course m x s in
-      rw (flat_map-append commands_of (beat_in (heed s.pulse x).beat)
+      let c = clock_byte_course m x s in
+      rw (flat_map-append commands_of_beat (beat_in (heed s.pulse x).beat)
       (beats_from (heed s.pulse x).pulse xs))
-      (bytes_then c.ending c (each (byte_course m) xs) _ _ refl
+      (bytes_then c.ending c (each (clock_byte_course m) xs) _ _ refl
       (beat_ends m tells (heed s.pulse x).beat s.concert)
       (beat_heard (heed s.pulse x).beat s.concert) (bytes_heard xs c.state))
 
   -- ---- polls
 
   hand_heard : (bytes : List ℕ) (wait : Poll) (polls : List Poll) (s : Followed R)
-      (end : Option Stop) → HeardBy m polls → (each (byte_course m) bytes s).ending ≡ end
-      → let c = each (byte_course m) bytes s in
+      (end : Option Stop) → HeardBy m polls → (each (clock_byte_course m) bytes s).ending ≡ end
+      → let c = each (clock_byte_course m) bytes s in
       let d = onward_by (option_map Stopped end) (record {
         acts = Await wait ∷ c.acts;
         bill = 0 + c.bill;
@@ -143,49 +143,49 @@ module _ {R : Type 0} (m : Manner R) (tells : TellsAtEnd m) where
         ending = option_map Stopped c.ending;
       }) (each (polled (follow_part m)) polls) in
       AreDone (Stopped Full) d.ending (commands_in d.acts)
-      (flat_map commands_of (beats_from s.pulse (bytes ++ heard_in polls)))
+      (flat_map commands_of_beat (beats_from s.pulse (bytes ++ heard_in polls)))
   hand_heard bytes wait polls s None later is =
-      let c = each (byte_course m) bytes s in
+      let c = each (clock_byte_course m) bytes s in
       let first = bytes_heard bytes s in
       let pulse = (bytes_played m tells bytes s is).1 in
       let all = done_all (Stopped Full) None (commands_in (Await wait ∷ c.acts))
-      (flat_map commands_of (beats_from s.pulse bytes))
+      (flat_map commands_of_beat (beats_from s.pulse bytes))
       (sym (append-nil (commands_in c.acts))
       ∙ (ap (λ left. commands_in c.acts ++ left) (sym (first.none (λ ends. absurd cc)))
       ∙ first.splits)) in
       rw (
         beats_from-append,
         ← pulse,
-        flat_map-append commands_of (beats_from s.pulse bytes)
+        flat_map-append commands_of_beat (beats_from s.pulse bytes)
             (beats_from c.state.pulse (heard_in polls)),
       )
       (done_twice (Stopped Full) _ (Await wait ∷ c.acts) _ _ _ all (later c.state))
   hand_heard bytes wait polls s (Some stop) later is =
-      let c = each (byte_course m) bytes s in
+      let c = each (clock_byte_course m) bytes s in
       let full : stop ≡ Full = bytes_end m tells bytes s stop is in
       let first = bytes_heard bytes s in
       let ended : AreDone (Stopped Full) (Some (Stopped Full)) (commands_in c.acts)
-      (flat_map commands_of (beats_from s.pulse bytes)) =
+      (flat_map commands_of_beat (beats_from s.pulse bytes)) =
       record { left = first.left; splits = first.splits; none = λ other. absurd (other refl) } in
       rw (
         is,
         full,
         beats_from-append,
-        flat_map-append commands_of (beats_from s.pulse bytes)
+        flat_map-append commands_of_beat (beats_from s.pulse bytes)
             (beats_from (pulse_after s.pulse bytes) (heard_in polls)),
       )
       (done_only (Stopped Full) (commands_in c.acts)
-      (flat_map commands_of (beats_from s.pulse bytes)) _ ended)
+      (flat_map commands_of_beat (beats_from s.pulse bytes)) _ ended)
 
   poll_heard : (a : Answer) (bytes : List ℕ) (wait : Poll) (polls : List Poll) (s : Followed R)
       (first : Bool) → HeardBy m polls → is_first_hand a ≡ first
       → let d = onward (joined {E = Ending} (course (Await wait ∷ []) 0 s)
       (heard (follow_part m) a bytes s)) (each (polled (follow_part m)) polls) in
       AreDone (Stopped Full) d.ending (commands_in d.acts)
-      (flat_map commands_of (beats_from s.pulse (bytes_before bytes a (heard_in polls))))
+      (flat_map commands_of_beat (beats_from s.pulse (bytes_before bytes a (heard_in polls))))
   unfolding heard follow_course mapped onward beats_from
   poll_heard (answer.Bytes hand count at) bytes wait polls s true later is =
-      rw is (hand_heard bytes wait polls s (each (byte_course m) bytes s).ending later refl)
+      rw is (hand_heard bytes wait polls s (each (clock_byte_course m) bytes s).ending later refl)
   poll_heard (answer.Bytes hand count at) bytes wait polls s false later is = rw is (later s)
   poll_heard (answer.Due at) bytes wait polls s first later is = later s
   poll_heard answer.End bytes wait polls s first later is =
@@ -224,7 +224,7 @@ module _ {R : Type 0} (m : Manner R) (tells : TellsAtEnd m) where
   attended_heard : (polls : List Poll) (s : Followed R)
       → let c = attended (follow_part m) polls s in
       AreDone (Stopped Full) c.ending (commands_in c.acts)
-      (flat_map commands_of (beats_from s.pulse (heard_in polls)))
+      (flat_map commands_of_beat (beats_from s.pulse (heard_in polls)))
   unfolding attended onward
   attended_heard polls s =
       spent_heard polls s (each (polled (follow_part m)) polls s).ending
@@ -271,7 +271,7 @@ module _ {R : Type 0} (m : Manner R) (tells : TellsAtEnd m) where
   pub follow_heard : (polls : List Poll) (s : Followed R)
       → let c = performance (follow_part m) s polls in
       AreDone (Stopped Full) c.ending (commands_in c.acts)
-      (flat_map commands_of (beats_from s.pulse (heard_in polls)))
+      (flat_map commands_of_beat (beats_from s.pulse (heard_in polls)))
   unfolding performance lastly begun opened onward mapped
   follow_heard polls s =
       last_heard (begun (follow_part m) s polls).ending (begun (follow_part m) s polls) _ refl

@@ -10,7 +10,7 @@ use Rattle.orca_base.specs.declared.limits.TheConstants.{MAX_POLLS}
 use Rattle.orca_base.specs.declared.command.Command.TheVariants as command
 use Rattle.orca_base.specs.declared.port.Port.TheVariants as port
 use Rattle.orca_base.specs.Ranges.{IsSendable}
-use Rattle.orca_concert.specs.Concerts.{concert, handed_of}
+use Rattle.orca_concert.specs.Concerts.{concert_with, handed_of}
 use Rattle.orca_concert.specs.Manners.{Manner}
 use Rattle.orca_course.specs.Acts.{Act, commands_in, gives}
 use Rattle.orca_course.specs.Acts.Act.{Await, Give, Obey, Stand}
@@ -31,14 +31,14 @@ use Rattle.orca_rig.specs.declared.inbox.Answer.TheVariants as answer
 use Rattle.orca_sync.specs.Clocks.{beat_in, beats_from}
 use Rattle.orca_sync.specs.Leading.{clocked_at, plays}
 use Rattle.orca_sync.specs.RealTime.{timing_clock}
-use Rattle.orca_sync.specs.Together.{MayMove, Move, beat_of, bytes_of, moved}
+use Rattle.orca_sync.specs.Together.{MayMove, Move, beat_of, bytes_of_move, moved_by}
 use Rattle.orca_sync.specs.Together.Move.{Clock, Toggle}
 use Rattle.orca_sync.specs.declared.follower.Beat.TheVariants as beat
 use Rattle.orca_sync.proofs.LeadLaws.{step}
 use Rattle.orca_trace.specs.Calls.{Poll}
-use Rattle.orca_clock.specs.Clocked.{frame_course}
+use Rattle.orca_clock.specs.Clocked.{clock_frame_course}
 use Rattle.orca_clock.specs.Laws.{TellsAtEnd, midi_bytes_in}
-use Rattle.orca_clock.specs.Leaders.{Led, clocked_course, due_course, key_course, lead_course, lead_part, quit, toggle_course, with_metronome}
+use Rattle.orca_clock.specs.Leaders.{Led, clocked_course, clock_due_course, lead_key_course, lead_course, lead_part, quit, toggle_course, with_metronome}
 use Rattle.orca_clock.proofs.GoingLemmas.{each_holds, onward_holds}
 use Rattle.orca_clock.proofs.MidiLemmas.{handed_commands, handed_no_clock, midi_bytes-append}
 use Rattle.orca_clock.proofs.TellingLemmas.{Goes, command_told}
@@ -114,20 +114,20 @@ led_both r s t xs ys first second ready =
 
 -- a move gives its bytes, and its beat is so many frames
 moved_beats : {R : Type 0} (s : Led R) (move : Move) (bytes : List ℕ) (frames : ℕ)
-    → MayMove s.metronome move → bytes ≡ bytes_of s.metronome move
+    → MayMove s.metronome move → bytes ≡ bytes_of_move s.metronome move
     → beat_in (beat_of s.metronome move) ≡ replicate frames beat.Frame → (rest : List ℕ)
     → beats_from s.metronome.pulse (bytes ++ rest)
-    ≡ replicate frames beat.Frame ++ beats_from (moved s.metronome move).pulse rest
+    ≡ replicate frames beat.Frame ++ beats_from (moved_by s.metronome move).pulse rest
 moved_beats s move bytes frames may is played rest =
     rw is
     (step s.metronome move rest may
-    ∙ ap (λ beats. beats ++ beats_from (moved s.metronome move).pulse rest) played)
+    ∙ ap (λ beats. beats ++ beats_from (moved_by s.metronome move).pulse rest) played)
 
 -- a move without a frame
 moved_still : {R : Type 0} (s : Led R) (move : Move) (acts : List Act) → MayMove s.metronome move
-    → midi_bytes_in acts ≡ bytes_of s.metronome move → beat_of s.metronome move ≡ beat.Nothing
+    → midi_bytes_in acts ≡ bytes_of_move s.metronome move → beat_of s.metronome move ≡ beat.Nothing
     → commands_in acts ≡ []
-    → Leads s acts (record { concert = s.concert; metronome = moved s.metronome move })
+    → Leads s acts (record { concert = s.concert; metronome = moved_by s.metronome move })
 moved_still s move acts may bytes still none ready = record {
   frames = 0;
   commands = none;
@@ -152,7 +152,7 @@ module _ {R : Type 0} (m : Manner R) (tells : TellsAtEnd m) (lawful : IsLawful r
       let t = standing_after s.concert.standing o in
       Leads s (clock_act ∷ Stand s.concert.standing
       ∷ Obey command.Frame ∷ gives (handed_of m.hands o.messages) ++ Stand t ∷ [])
-      (record { concert = concert t s.concert.kept; metronome = clocked_at at s.metronome })
+      (record { concert = concert_with t s.concert.kept; metronome = clocked_at at s.metronome })
   unfolding midi_sent
   frame_led at s runs first room ready =
       let o = obey (machine_of s) command.Frame in
@@ -187,8 +187,8 @@ module _ {R : Type 0} (m : Manner R) (tells : TellsAtEnd m) (lawful : IsLawful r
       Goes (clocked_course m s.metronome s.concert)
       (clock_act ∷ Stand s.concert.standing
       ∷ Obey command.Frame ∷ gives (handed_of m.hands o.messages) ++ Stand t ∷ [])
-      (concert t s.concert.kept)
-  unfolding clocked_course frame_course onward
+      (concert_with t s.concert.kept)
+  unfolding clocked_course clock_frame_course onward
   frame_clocked s first room =
       let told = command_told m tells command.Frame s.concert in
       rw (first, room) (record {
@@ -210,23 +210,23 @@ module _ {R : Type 0} (m : Manner R) (tells : TellsAtEnd m) (lawful : IsLawful r
   full_clocked : (s : Led R) → plays s.metronome ≡ true
       → nat_le (machine_of s).limit (length (machine_of s).history) ≡ true
       → (clocked_course m s.metronome s.concert).ending ≡ Some Full
-  unfolding clocked_course frame_course onward
+  unfolding clocked_course clock_frame_course onward
   full_clocked s first full = rw (first, full) refl
 
   due_runs : (at : ℕ) (s : Led R) → s.metronome.pulse.runs ≡ true
-      → due_course m at s
+      → clock_due_course m at s
       ≡ with_metronome (clocked_at at s.metronome) (clocked_course m s.metronome s.concert)
-  unfolding due_course
+  unfolding clock_due_course
   due_runs at s is = rw is refl
 
-  due_paused : (at : ℕ) (s : Led R) → s.metronome.pulse.runs ≡ false → due_course m at s ≡ still s
-  unfolding due_course
+  due_paused : (at : ℕ) (s : Led R) → s.metronome.pulse.runs ≡ false → clock_due_course m at s ≡ still s
+  unfolding clock_due_course
   due_paused at s is = rw is refl
 
   due_led : (at : ℕ) (s : Led R) (runs first full : Bool) → s.metronome.pulse.runs ≡ runs
       → plays s.metronome ≡ first
       → nat_le (machine_of s).limit (length (machine_of s).history) ≡ full
-      → LeadsUnless Full s (due_course m at s)
+      → LeadsUnless Full s (clock_due_course m at s)
   unfolding mapped midi_sent
   due_led at s false first full off counts room = rw (due_paused at s off) (λ other. led_none s)
   due_led at s true false full on counts room =
@@ -245,17 +245,17 @@ module _ {R : Type 0} (m : Manner R) (tells : TellsAtEnd m) (lawful : IsLawful r
   -- ---- answers
 
   key_by : (at byte : ℕ) (s : Led R) (pauses leaves : Bool) → (byte == space) ≡ pauses
-      → (byte == quit) ≡ leaves → Leads s (key_course at byte s).acts (key_course at byte s).state
-  unfolding key_course toggle_course mapped midi_sent
+      → (byte == quit) ≡ leaves → Leads s (lead_key_course at byte s).acts (lead_key_course at byte s).state
+  unfolding lead_key_course toggle_course mapped midi_sent
   key_by at byte s true leaves is other =
       rw is (moved_still s (Toggle at) (toggle_course at s).acts tt refl refl refl)
   key_by at byte s false true is other = rw (is, other) (led_none s)
   key_by at byte s false false is other = rw (is, other) (led_none s)
 
   keys_led : (at : ℕ) (bytes : List ℕ) (s : Led R)
-      → LeadsUnless Full s (each (key_course at) bytes s)
+      → LeadsUnless Full s (each (lead_key_course at) bytes s)
   keys_led at bytes s =
-      each_holds (λ s acts t. Leads s acts t) Full led_both (key_course at) led_none
+      each_holds (λ s acts t. Leads s acts t) Full led_both (lead_key_course at) led_none
       (λ byte s other. key_by at byte s (byte == space) (byte == quit) refl refl) bytes s
 
   hand_led : (hand count at : ℕ) (bytes : List ℕ) (s : Led R) (first : Bool) → (hand == 0) ≡ first

@@ -2,7 +2,7 @@
 use Rattle.std.proofs.Common.{◌≡◌, List, [], ◌∷◌, ◌++◌, refl, ◌∙◌, append-nil}
 use Rattle.std.specs.Prelude.{None}
 use Rattle.orca_base.specs.declared.command.Command.{Command}
-use Rattle.orca_concert.specs.Concerts.{Concert, close_course, command_course, concert, final_course, handed_of}
+use Rattle.orca_concert.specs.Concerts.{Concert, close_course, command_course, concert_with, final_course, handed_of}
 use Rattle.orca_concert.specs.Manners.{Manner}
 use Rattle.orca_course.specs.Acts.{Act, commands_in, gives}
 use Rattle.orca_course.specs.Acts.Act.{Obey, Stand}
@@ -39,7 +39,7 @@ module _ {R : Type 0} (m : Manner R) (tells : TellsAtEnd m) where
       → let o = obey s.standing.machine c in
       let t = standing_after s.standing o in
       Goes (command_course m 0 c s)
-      (Obey c ∷ gives (handed_of m.hands o.messages) ++ Stand t ∷ []) (concert t s.kept)
+      (Obey c ∷ gives (handed_of m.hands o.messages) ++ Stand t ∷ []) (concert_with t s.kept)
   unfolding command_course onward mapped
   command_told c s =
       let o = obey s.standing.machine c in
@@ -50,7 +50,7 @@ module _ {R : Type 0} (m : Manner R) (tells : TellsAtEnd m) where
   pub close_told : (s : Concert R)
       → let t = standing_closed s.standing in
       Goes (close_course m s)
-      (gives (handed_of m.hands (ends (notes_of s.standing))) ++ Stand t ∷ []) (concert t s.kept)
+      (gives (handed_of m.hands (ends (notes_of s.standing))) ++ Stand t ∷ []) (concert_with t s.kept)
   unfolding close_course onward mapped
   close_told s =
       rw (tells.close (ends (notes_of s.standing)) s.kept)
@@ -61,8 +61,8 @@ module _ {R : Type 0} (m : Manner R) (tells : TellsAtEnd m) where
   unfolding end_course last_text_course final_course afterwards mapped
   end_told s =
       let text = m.final s.standing s.kept in
-      let closing = close_course m (concert s.standing text.state) in
-      let told = close_told (concert s.standing text.state) in
+      let closing = close_course m (concert_with s.standing text.state) in
+      let told = close_told (concert_with s.standing text.state) in
       record {
         commands = end_commands _ text.acts closing.acts [] refl
             (tells.commands s.standing s.kept)

@@ -35,7 +35,7 @@ use Rattle.orca_sync.specs.declared.follower.Beat.TheVariants as beat
 use Rattle.orca_sync.proofs.ClockLaws.{others_drop}
 use Rattle.orca_sync.proofs.LeadLaws.{drops}
 use Rattle.orca_trace.specs.Calls.{Poll}
-use Rattle.orca_clock.specs.Laws.{FollowsBytes, HeedsClock, LeadsFollower, TellsAtEnd, commands_of, heard_in, midi_bytes_in, opened as opened_grid}
+use Rattle.orca_clock.specs.Laws.{FollowsBytes, HeedsClock, FollowerIsLed, TellsAtEnd, commands_of_beat, heard_in, midi_bytes_in, opened_concert as opened_grid}
 use Rattle.orca_clock.specs.Clocked.{end_course}
 use Rattle.orca_clock.specs.Followers.{follow_at_start, follow_part}
 use Rattle.orca_clock.specs.Leaders.{Led, lead_at_start, lead_finish, lead_open, lead_part}
@@ -58,9 +58,9 @@ heeds_clock m s polls others tells left also alike =
     let beats : beats_from stopped (heard_in polls) ≡ beats_from stopped (heard_in others) =
     sym (others_drop stopped (heard_in polls))
     ∙ (ap (beats_from stopped) alike ∙ others_drop stopped (heard_in others)) in (
-      first.0 ∙ (ap (flat_map commands_of) beats ∙ sym second.0),
+      first.0 ∙ (ap (flat_map commands_of_beat) beats ∙ sym second.0),
       first.1
-          ∙ (ap (λ bs. machine_closed (machine_by (flat_map commands_of bs) s.standing.machine))
+          ∙ (ap (λ bs. machine_closed (machine_by (flat_map commands_of_beat bs) s.standing.machine))
           beats
           ∙ sym second.1),
     )
@@ -169,12 +169,12 @@ frames_same (suc frames) m n first second same =
     (rw (a.piece, b.piece) (apply-same (piece_of m) (piece_of n) entry.Frame same))
 
 frames_by : (frames : ℕ) (m : MachineState)
-    → machine_by (flat_map commands_of (replicate frames beat.Frame)) m ≡ machine_after frames m
+    → machine_by (flat_map commands_of_beat (replicate frames beat.Frame)) m ≡ machine_after frames m
 frames_by zero m = refl
 frames_by (suc frames) m = frames_by frames (obey m command.Frame).machine
 
 frames_commands : (frames : ℕ)
-    → flat_map commands_of (replicate frames beat.Frame) ≡ replicate frames command.Frame
+    → flat_map commands_of_beat (replicate frames beat.Frame) ≡ replicate frames command.Frame
 frames_commands zero = refl
 frames_commands (suc frames) = ap (λ commands. command.Frame ∷ commands) (frames_commands frames)
 
@@ -207,7 +207,7 @@ ready_at_start sheet seed limit is = record {
 closed_same : (m : MachineState) → silence (piece_of (machine_closed m)) ≡ silence (piece_of m)
 closed_same m = silence-closes m.opened m.seed m.history (length m.history) m.closed
 
-pub leads_follower : LeadsFollower
+pub leads_follower : FollowerIsLed
 leads_follower lawful m n tells others sheet seed limit other bpm at kept spare tally count polls
     heard is room ends left heard_all =
     let s = lead_at_start bpm at (opened_grid sheet seed limit kept tally) in
@@ -226,7 +226,7 @@ leads_follower lawful m n tells others sheet seed limit other bpm at kept spare 
     let machine : follow.state.concert.standing.machine
     ≡ machine_closed (machine_after led.frames new) =
     played.1
-    ∙ (ap (λ beats. machine_closed (machine_by (flat_map commands_of beats) start)) beats
+    ∙ (ap (λ beats. machine_closed (machine_by (flat_map commands_of_beat beats) start)) beats
     ∙ ap machine_closed (frames_by led.frames new)) in
     let frames = frames_same led.frames new old
     (rw obeyed (record { closed = omega arith; room = omega (arith, led.room, room) }))
@@ -241,7 +241,7 @@ leads_follower lawful m n tells others sheet seed limit other bpm at kept spare 
     ∙ ap (λ m. silence (piece_of m)) (sym led.machine)))) in
     record {
       commands = played.0
-          ∙ (ap (flat_map commands_of) beats
+          ∙ (ap (flat_map commands_of_beat) beats
           ∙ ap (λ commands. command.Reset ∷ commands)
           (frames_commands led.frames ∙ sym led.commands));
       frames = rw led.commands

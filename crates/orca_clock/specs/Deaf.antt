@@ -23,9 +23,9 @@ use Rattle.orca_sync.specs.Clocks.{heed}
 use Rattle.orca_sync.specs.Leading.{Metronome}
 use Rattle.orca_sync.specs.declared.follower.Beat.{Beat}
 use Rattle.orca_sync.specs.declared.follower.Beat.TheVariants as beat
-use Rattle.orca_clock.specs.Clocked.{end_course, frame_course, last_text_course}
-use Rattle.orca_clock.specs.Followers.{Followed, beat_course, byte_course, follow_course, follow_finish, follow_part}
-use Rattle.orca_clock.specs.Leaders.{Led, clocked_course, due_course, key_course, lead_course, lead_finish, lead_open, lead_part, toggle_course}
+use Rattle.orca_clock.specs.Clocked.{end_course, clock_frame_course, last_text_course}
+use Rattle.orca_clock.specs.Followers.{Followed, beat_course, clock_byte_course, follow_course, follow_finish, follow_part}
+use Rattle.orca_clock.specs.Leaders.{Led, clocked_course, clock_due_course, lead_key_course, lead_course, lead_finish, lead_open, lead_part, toggle_course}
 
 -- ---- what both share
 
@@ -53,8 +53,8 @@ close_deaf m s quiet =
     (quiet.close messages s.kept).deaf
 
 frame_deaf : {R : Type 0} (m : Manner R) (s : Concert R) → IsQuiet m
-    → AreDeaf (frame_course m s).acts
-unfolding frame_course
+    → AreDeaf (clock_frame_course m s).acts
+unfolding clock_frame_course
 frame_deaf m s quiet = grind (arith, command_deaf m command.Frame s quiet)
 
 text_deaf : {R : Type 0} (m : Manner R) (ending : Ending) (s : Concert R) → IsQuiet m
@@ -84,14 +84,14 @@ beat_deaf m beat.Frame s quiet = frame_deaf m s quiet
 beat_deaf m beat.Restart s quiet = command_deaf m command.Reset s quiet
 
 byte_deaf : {R : Type 0} (m : Manner R) (byte : ℕ) (s : Followed R) → IsQuiet m
-    → AreDeaf (byte_course m byte s).acts
-unfolding byte_course mapped
+    → AreDeaf (clock_byte_course m byte s).acts
+unfolding clock_byte_course mapped
 byte_deaf m byte s quiet = beat_deaf m (heed s.pulse byte).beat s.concert quiet
 
 bytes_deaf : {R : Type 0} (m : Manner R) (bytes : List ℕ) (s : Followed R) → IsQuiet m
-    → AreDeaf (each (byte_course m) bytes s).acts
+    → AreDeaf (each (clock_byte_course m) bytes s).acts
 bytes_deaf m bytes s quiet =
-    each-holds (λ s xs t. AreDeaf xs) (byte_course m) (λ s. tt)
+    each-holds (λ s xs t. AreDeaf xs) (clock_byte_course m) (λ s. tt)
     (λ r s t xs ys first second. AreDeaf-append xs ys first second)
     (λ byte s. byte_deaf m byte s quiet) bytes s
 
@@ -120,19 +120,19 @@ unfolding clocked_course onward
 clocked_deaf m metronome s quiet = grind (arith, frame_deaf m s quiet)
 
 due_if : {R : Type 0} (m : Manner R) (at : ℕ) (s : Led R) (runs : Bool) → IsQuiet m
-    → s.metronome.pulse.runs ≡ runs → AreDeaf (due_course m at s).acts
-unfolding due_course mapped
+    → s.metronome.pulse.runs ≡ runs → AreDeaf (clock_due_course m at s).acts
+unfolding clock_due_course mapped
 due_if m at s true quiet is = rw is (clocked_deaf m _ s.concert quiet)
 due_if m at s false quiet is = rw is tt
 
-key_deaf : {R : Type 0} (at byte : ℕ) (s : Led R) → AreDeaf (key_course at byte s).acts
-unfolding key_course toggle_course mapped
+key_deaf : {R : Type 0} (at byte : ℕ) (s : Led R) → AreDeaf (lead_key_course at byte s).acts
+unfolding lead_key_course toggle_course mapped
 key_deaf at byte s = grind arith
 
 keys_deaf : {R : Type 0} (at : ℕ) (bytes : List ℕ) (s : Led R)
-    → AreDeaf (each (key_course at) bytes s).acts
+    → AreDeaf (each (lead_key_course at) bytes s).acts
 keys_deaf at bytes s =
-    each-holds (λ s xs t. AreDeaf xs) (key_course at) (λ s. tt)
+    each-holds (λ s xs t. AreDeaf xs) (lead_key_course at) (λ s. tt)
     (λ r s t xs ys first second. AreDeaf-append xs ys first second)
     (λ byte s. key_deaf at byte s) bytes s
 

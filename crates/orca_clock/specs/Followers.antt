@@ -18,7 +18,7 @@ use Rattle.orca_rig.specs.declared.inbox.Answer.TheVariants as answer
 use Rattle.orca_sync.specs.Clocks.{Pulse, heed, stopped}
 use Rattle.orca_sync.specs.declared.follower.Beat.{Beat}
 use Rattle.orca_sync.specs.declared.follower.Beat.TheVariants as beat
-use Rattle.orca_clock.specs.Clocked.{end_course, frame_course}
+use Rattle.orca_clock.specs.Clocked.{end_course, clock_frame_course}
 use Rattle.orca_clock.specs.declared.follow.Follow.{Follow}
 
 -- ---- states
@@ -45,10 +45,10 @@ abbrev pub follow_stance : {R : Type 0} → Manner R → Stance (Followed R)
 follow_stance m = record { standing = λ s. Some s.concert.standing; hands = m.hands }
 
 -- this was done of a course
-abbrev pub Did : {M R : Type 0} → Ghosts M → (r : ReportGhosts R)
+abbrev pub FollowDid : {M R : Type 0} → Ghosts M → (r : ReportGhosts R)
     → (Followed r.Kept → Course (Followed r.Kept) Stop) → Follow M R → World
     → Result (Option Stop) NoMemory → Follow M R → World → Type 0
-Did g r c p x result q y =
+FollowDid g r c p x result q y =
     Does (follow_stance r.manner) (c (follow_state g r p)) (follow_state g r p)
     (owing (g.residue p.stage.machine) x) result (follow_state g r q)
     (owing (g.residue q.stage.machine) y)
@@ -58,7 +58,7 @@ Did g r c p x result q y =
 -- what the clock asks for: the session begins anew, or a frame is played
 unfoldable pub beat_course : {R : Type 0} → Manner R → Beat → Concert R → Course (Concert R) Stop
 beat_course m beat.Nothing s = still s
-beat_course m beat.Frame s = frame_course m s
+beat_course m beat.Frame s = clock_frame_course m s
 beat_course m beat.Restart s = command_course m 0 command.Reset s
 
 -- what is done with the session alone, and the pulse after it
@@ -66,8 +66,8 @@ abbrev pub with_pulse : {R : Type 0} → Pulse → Course (Concert R) Stop → C
 with_pulse pulse c = mapped (λ t. record { concert = t; pulse = pulse }) (λ end. end) c
 
 -- a byte: its beat is played
-unfoldable pub byte_course : {R : Type 0} → Manner R → ℕ → Followed R → Course (Followed R) Stop
-byte_course m byte s =
+unfoldable pub clock_byte_course : {R : Type 0} → Manner R → ℕ → Followed R → Course (Followed R) Stop
+clock_byte_course m byte s =
     with_pulse (heed s.pulse byte).pulse (beat_course m (heed s.pulse byte).beat s.concert)
 
 -- ---- a performance
@@ -77,7 +77,7 @@ byte_course m byte s =
 unfoldable pub follow_course : {R : Type 0} → Manner R → Answer → List ℕ → Followed R
     → Course (Followed R) Stop
 follow_course m (answer.Bytes hand count at) bytes s =
-    if hand == 0 then each (byte_course m) bytes s else still s
+    if hand == 0 then each (clock_byte_course m) bytes s else still s
 follow_course m (answer.Due at) bytes s = still s
 follow_course m answer.End bytes s = still s
 follow_course m answer.Failed bytes s = still s

@@ -8,7 +8,7 @@ use Rattle.orca_base.specs.declared.command.Command.TheVariants as command
 use Rattle.orca_base.specs.declared.command.Reply.{Reply}
 use Rattle.orca_base.specs.declared.command.Rule.{Rule}
 use Rattle.orca_base.specs.declared.message.Message.{Message}
-use Rattle.orca_concert.specs.Concerts.{Concert, concert}
+use Rattle.orca_concert.specs.Concerts.{Concert, concert_with}
 use Rattle.orca_concert.specs.Manners.{Manner}
 use Rattle.orca_course.specs.Acts.{Act, commands_in, given}
 use Rattle.orca_course.specs.Courses.{Course, still}
@@ -52,10 +52,10 @@ abbrev pub midi_bytes_in : List Act → List ℕ
 midi_bytes_in acts = flat_map (λ message. message) (midi_sent (given acts))
 
 -- the commands of a beat
-abbrev pub commands_of : Beat → List Command
-commands_of beat.Nothing = []
-commands_of beat.Frame = command.Frame ∷ []
-commands_of beat.Restart = command.Reset ∷ []
+abbrev pub commands_of_beat : Beat → List Command
+commands_of_beat beat.Nothing = []
+commands_of_beat beat.Frame = command.Frame ∷ []
+commands_of_beat beat.Restart = command.Reset ∷ []
 
 -- ---- performances
 
@@ -68,9 +68,9 @@ pub record TellsAtEnd {R : Type 0} (m : Manner R) : Type 0 where
   pub close : (messages : List Message) (r : R) → m.close messages r ≡ still r
 
 -- an opened grid, with a seed and the most entries of a history
-abbrev pub opened : Sheet → ℕ → ℕ → Kept → Tally → Concert (Unit {0})
-opened sheet seed limit kept tally =
-    concert (standing (machine_at_start sheet seed limit) kept tally) tt
+abbrev pub opened_concert : Sheet → ℕ → ℕ → Kept → Tally → Concert (Unit {0})
+opened_concert sheet seed limit kept tally =
+    concert_with (standing (machine_at_start sheet seed limit) kept tally) tt
 
 -- the piece at last
 abbrev pub last_piece : Concert (Unit {0}) → Piece
@@ -92,7 +92,7 @@ FollowsBytes =
     (m : Manner (Unit {0})) (s : Concert (Unit {0})) (polls : List Poll) → TellsAtEnd m
     → let c = performance (follow_part m) (follow_at_start s) polls in
     AreDone (Stopped Full) c.ending (commands_in c.acts)
-    (flat_map commands_of (beats_from stopped (heard_in polls)))
+    (flat_map commands_of_beat (beats_from stopped (heard_in polls)))
 
 -- whatever other bytes stand between those of the clock: the same commands, and the same session at
 -- last
@@ -118,13 +118,13 @@ pub record IsLed (lead : Course (Led (Unit {0})) Ending)
 -- a leader plays an opened grid, and a follower the same grid with the same seed and at least one
 -- entry more of room, for its Reset. It hears exactly the bytes that the leader gives to its MIDI
 -- port, notes and all. Both go on until their players leave
-abbrev pub LeadsFollower : Type 0
-LeadsFollower =
+abbrev pub FollowerIsLed : Type 0
+FollowerIsLed =
     IsLawful rule → (m n : Manner (Unit {0})) → TellsAtEnd m → TellsAtEnd n
     → (sheet : Sheet) (seed limit other bpm at : ℕ) (kept spare : Kept) (tally count : Tally)
     (polls heard : List Poll) → IsSheet sheet → limit < other
-    → let s = lead_at_start bpm at (opened sheet seed limit kept tally) in
-    let t = follow_at_start (opened sheet seed other spare count) in
+    → let s = lead_at_start bpm at (opened_concert sheet seed limit kept tally) in
+    let t = follow_at_start (opened_concert sheet seed other spare count) in
     let lead = performance (lead_part m) s polls in
     let follow = performance (follow_part n) t heard in
     lead.ending ≡ Some (Stopped Left) → follow.ending ≡ Some (Stopped Left)

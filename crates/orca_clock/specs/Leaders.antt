@@ -18,7 +18,7 @@ use Rattle.orca_rig.specs.declared.inbox.Answer.{Answer}
 use Rattle.orca_rig.specs.declared.inbox.Answer.TheVariants as answer
 use Rattle.orca_sync.specs.Leading.{Metronome, clocked_at, due_of, metronome_from, plays, toggle_byte, toggled_at}
 use Rattle.orca_sync.specs.RealTime.{start, stop, timing_clock}
-use Rattle.orca_clock.specs.Clocked.{clock_course, end_course, frame_course}
+use Rattle.orca_clock.specs.Clocked.{clock_course, end_course, clock_frame_course}
 use Rattle.orca_clock.specs.declared.lead.Lead.{Lead}
 
 -- ---- states
@@ -41,10 +41,10 @@ abbrev pub lead_stance : {R : Type 0} → Manner R → Stance (Led R)
 lead_stance m = record { standing = λ s. Some s.concert.standing; hands = m.hands }
 
 -- this was done of a course
-abbrev pub Did : {M R : Type 0} → Ghosts M → (r : ReportGhosts R)
+abbrev pub LeadDid : {M R : Type 0} → Ghosts M → (r : ReportGhosts R)
     → (Led r.Kept → Course (Led r.Kept) Stop) → Lead M R → World
     → Result (Option Stop) NoMemory → Lead M R → World → Type 0
-Did g r c p x result q y =
+LeadDid g r c p x result q y =
     Does (lead_stance r.manner) (c (lead_state g r p)) (lead_state g r p)
     (owing (g.residue p.stage.machine) x) result (lead_state g r q)
     (owing (g.residue q.stage.machine) y)
@@ -62,11 +62,11 @@ unfoldable pub clocked_course : {R : Type 0} → Manner R → Metronome → Conc
     → Course (Concert R) Stop
 clocked_course m metronome s =
     onward (clock_course timing_clock s)
-    (λ t. if plays metronome then frame_course m t else still t)
+    (λ t. if plays metronome then clock_frame_course m t else still t)
 
 -- a clock is due, unless it is paused
-unfoldable pub due_course : {R : Type 0} → Manner R → ℕ → Led R → Course (Led R) Stop
-due_course m at s =
+unfoldable pub clock_due_course : {R : Type 0} → Manner R → ℕ → Led R → Course (Led R) Stop
+clock_due_course m at s =
     if s.metronome.pulse.runs
     then with_metronome (clocked_at at s.metronome) (clocked_course m s.metronome s.concert)
     else still s
@@ -83,8 +83,8 @@ abbrev pub quit : ℕ
 quit = 17
 
 -- the space bar pauses or goes on, and Ctrl-Q ends the performance; all other bytes are dropped
-unfoldable pub key_course : {R : Type 0} → ℕ → ℕ → Led R → Course (Led R) Stop
-key_course at byte s =
+unfoldable pub lead_key_course : {R : Type 0} → ℕ → ℕ → Led R → Course (Led R) Stop
+lead_key_course at byte s =
     if byte == space then toggle_course at s
     else (if byte == quit then ended Left s else still s)
 
@@ -98,8 +98,8 @@ lead_open s = with_metronome s.metronome (clock_course start s.concert)
 unfoldable pub lead_course : {R : Type 0} → Manner R → Answer → List ℕ → Led R
     → Course (Led R) Stop
 lead_course m (answer.Bytes hand count at) bytes s =
-    if hand == 0 then each (key_course at) bytes s else still s
-lead_course m (answer.Due at) bytes s = due_course m at s
+    if hand == 0 then each (lead_key_course at) bytes s else still s
+lead_course m (answer.Due at) bytes s = clock_due_course m at s
 lead_course m answer.End bytes s = still s
 lead_course m answer.Failed bytes s = still s
 

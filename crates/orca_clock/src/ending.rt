@@ -1,7 +1,7 @@
 //! The end of a performance by a clock.
 
 ghost use Rattle.orca_course.specs.Doing.{goes_of};
-ghost use Rattle.orca_concert.specs.Stages.{Plays};
+ghost use Rattle.orca_concert.specs.Stages.{StageDid};
 ghost use Rattle.orca_clock.specs.Clocked.{end_course, last_text_course};
 
 use orca_concert::{Report, Stage, close};
@@ -16,7 +16,7 @@ fn tell_last<M: Machine, R: Report, H: House>(
     desk: &mut Desk<H>,
     ending: Ending,
 ) -> Result<Option<Stop>, NoMemory>
-    ensures { Plays M.Machine.own R.Report.own (last_text_course R.manner ending)
+    ensures { StageDid M.Machine.own R.Report.own (last_text_course R.manner ending)
         stage.old desk.old result stage.new desk.new }
 {
     let Ending::Stopped(stop) = ending else {
@@ -35,7 +35,7 @@ pub(crate) fn end<M: Machine, R: Report, H: House>(
     desk: &mut Desk<H>,
     ending: Ending,
 ) -> Result<(), NoMemory>
-    ensures { Plays M.Machine.own R.Report.own (end_course R.manner ending)
+    ensures { StageDid M.Machine.own R.Report.own (end_course R.manner ending)
         stage.old desk.old (goes_of result) stage.new desk.new }
 {
     tell_last(stage, desk, ending)?;

@@ -3,8 +3,8 @@
 ghost use Rattle.std.specs.Prelude.{◌≡◌};
 ghost use Rattle.orca_course.specs.Courses.{each};
 ghost use Rattle.orca_course.specs.Doing.{goes_of};
-ghost use Rattle.orca_concert.specs.Stages.{Plays, concert_at};
-ghost use Rattle.orca_clock.specs.Followers.{Did, beat_course, byte_course, follow_at_start, follow_course, follow_finish, follow_state};
+ghost use Rattle.orca_concert.specs.Stages.{StageDid, concert_at};
+ghost use Rattle.orca_clock.specs.Followers.{FollowDid, beat_course, clock_byte_course, follow_at_start, follow_course, follow_finish, follow_state};
 
 use crate::ending::end;
 use crate::frame::do_frame;
@@ -85,7 +85,7 @@ fn do_beat<M: Machine, R: Report, H: House>(
     desk: &mut Desk<H>,
     beat: Beat,
 ) -> Result<Option<Stop>, NoMemory>
-    ensures { Plays M.Machine.own R.Report.own (beat_course R.manner beat)
+    ensures { StageDid M.Machine.own R.Report.own (beat_course R.manner beat)
         stage.old desk.old result stage.new desk.new }
 {
     match beat {
@@ -101,7 +101,7 @@ fn do_byte<M: Machine, R: Report, H: House>(
     desk: &mut Desk<H>,
     byte: u8,
 ) -> Result<Option<Stop>, NoMemory>
-    ensures { Did M.Machine.own R.Report.own (byte_course R.manner byte)
+    ensures { FollowDid M.Machine.own R.Report.own (clock_byte_course R.manner byte)
         follow.old desk.old result follow.new desk.new }
 {
     let beat = follow.follower.byte(byte);
@@ -115,7 +115,7 @@ fn do_bytes<M: Machine, R: Report, H: House>(
     desk: &mut Desk<H>,
     bytes: &[u8],
 ) -> Result<Option<Stop>, NoMemory>
-    ensures { Did M.Machine.own R.Report.own (each (byte_course R.manner) bytes.now)
+    ensures { FollowDid M.Machine.own R.Report.own (each (clock_byte_course R.manner) bytes.now)
         follow.old desk.old result follow.new desk.new }
 {
     for byte in bytes {
@@ -134,7 +134,7 @@ fn hear<M: Machine, R: Report, H: House>(
     answer: Answer,
     bytes: &[u8],
 ) -> Result<Option<Stop>, NoMemory>
-    ensures { Did M.Machine.own R.Report.own (follow_course R.manner answer bytes.now)
+    ensures { FollowDid M.Machine.own R.Report.own (follow_course R.manner answer bytes.now)
         follow.old desk.old result follow.new desk.new }
 {
     match answer {
@@ -154,7 +154,7 @@ fn finish<M: Machine, R: Report, H: House>(
     desk: &mut Desk<H>,
     ending: Ending,
 ) -> Result<(), NoMemory>
-    ensures { Did M.Machine.own R.Report.own (follow_finish R.manner ending)
+    ensures { FollowDid M.Machine.own R.Report.own (follow_finish R.manner ending)
         follow.old desk.old (goes_of result) follow.new desk.new }
 {
     end(&mut follow.stage, desk, ending)

@@ -1,7 +1,7 @@
 //! A frame that is due.
 
-ghost use Rattle.orca_concert.specs.Stages.{Plays};
-ghost use Rattle.orca_clock.specs.Clocked.{frame_course};
+ghost use Rattle.orca_concert.specs.Stages.{StageDid};
+ghost use Rattle.orca_clock.specs.Clocked.{clock_frame_course};
 
 use orca_base::Command;
 use orca_concert::{Report, Stage};
@@ -10,12 +10,12 @@ use orca_edit::Machine;
 use orca_rig::House;
 
 /// Plays a frame that is due; a full history ends the performance.
-#[tactic(auto, using(orca_course::proofs::WorldLemmas::called_still), unfolding(crate::specs::Clocked::frame_course))]
+#[tactic(auto, using(orca_course::proofs::WorldLemmas::called_still), unfolding(crate::specs::Clocked::clock_frame_course))]
 pub(crate) fn do_frame<M: Machine, R: Report, H: House>(
     stage: &mut Stage<M, R>,
     desk: &mut Desk<H>,
 ) -> Result<Option<Stop>, NoMemory>
-    ensures { Plays M.Machine.own R.Report.own (frame_course R.manner)
+    ensures { StageDid M.Machine.own R.Report.own (clock_frame_course R.manner)
         stage.old desk.old result stage.new desk.new }
 {
     if stage.machine.limit() <= stage.machine.moments() {

@@ -5,7 +5,7 @@ ghost use Rattle.orca_base.specs.declared.limits.TheConstants.{MAX_BPM};
 ghost use Rattle.orca_course.specs.Courses.{each};
 ghost use Rattle.orca_course.specs.Doing.{goes_of};
 ghost use Rattle.orca_concert.specs.Stages.{concert_at};
-ghost use Rattle.orca_clock.specs.Leaders.{Did, due_course, key_course, lead_at_start, lead_course, lead_finish, lead_open, lead_state, toggle_course};
+ghost use Rattle.orca_clock.specs.Leaders.{LeadDid, clock_due_course, lead_key_course, lead_at_start, lead_course, lead_finish, lead_open, lead_state, toggle_course};
 
 use crate::ending::end;
 use crate::frame::do_frame;
@@ -95,7 +95,7 @@ fn open<M: Machine, R: Report, H: House>(
     lead: &mut Lead<M, R>,
     desk: &mut Desk<H>,
 ) -> Result<(), NoMemory>
-    ensures { Did M.Machine.own R.Report.own lead_open
+    ensures { LeadDid M.Machine.own R.Report.own lead_open
         lead.old desk.old (goes_of result) lead.new desk.new }
 {
     give_byte(&lead.stage, desk, START)
@@ -103,13 +103,13 @@ fn open<M: Machine, R: Report, H: House>(
 
 /// Does what a due moment brings: a clock is given, and the frame is played that it begins, if it begins
 /// one. Nothing is due while it is paused.
-#[tactic(auto, using(orca_course::proofs::WorldLemmas::called_still), unfolding(crate::specs::Leaders::due_course))]
+#[tactic(auto, using(orca_course::proofs::WorldLemmas::called_still), unfolding(crate::specs::Leaders::clock_due_course))]
 fn do_due<M: Machine, R: Report, H: House>(
     lead: &mut Lead<M, R>,
     desk: &mut Desk<H>,
     at: u64,
 ) -> Result<Option<Stop>, NoMemory>
-    ensures { Did M.Machine.own R.Report.own (due_course R.manner at)
+    ensures { LeadDid M.Machine.own R.Report.own (clock_due_course R.manner at)
         lead.old desk.old result lead.new desk.new }
 {
     if lead.leader.due_at().is_none() {
@@ -129,7 +129,7 @@ fn toggle<M: Machine, R: Report, H: House>(
     desk: &mut Desk<H>,
     at: u64,
 ) -> Result<(), NoMemory>
-    ensures { Did M.Machine.own R.Report.own (toggle_course at)
+    ensures { LeadDid M.Machine.own R.Report.own (toggle_course at)
         lead.old desk.old (goes_of result) lead.new desk.new }
 {
     let byte = lead.leader.toggle(at);
@@ -137,14 +137,14 @@ fn toggle<M: Machine, R: Report, H: House>(
 }
 
 /// Does what a key asks for that came at a moment.
-#[tactic(auto, using(orca_course::proofs::WorldLemmas::called_still), unfolding(crate::specs::Leaders::key_course))]
+#[tactic(auto, using(orca_course::proofs::WorldLemmas::called_still), unfolding(crate::specs::Leaders::lead_key_course))]
 fn do_key<M: Machine, R: Report, H: House>(
     lead: &mut Lead<M, R>,
     desk: &mut Desk<H>,
     at: u64,
     byte: u8,
 ) -> Result<Option<Stop>, NoMemory>
-    ensures { Did M.Machine.own R.Report.own (key_course at byte)
+    ensures { LeadDid M.Machine.own R.Report.own (lead_key_course at byte)
         lead.old desk.old result lead.new desk.new }
 {
     match byte {
@@ -165,7 +165,7 @@ fn do_keys<M: Machine, R: Report, H: House>(
     at: u64,
     bytes: &[u8],
 ) -> Result<Option<Stop>, NoMemory>
-    ensures { Did M.Machine.own R.Report.own (each (key_course at) bytes.now)
+    ensures { LeadDid M.Machine.own R.Report.own (each (lead_key_course at) bytes.now)
         lead.old desk.old result lead.new desk.new }
 {
     for byte in bytes {
@@ -184,7 +184,7 @@ fn hear<M: Machine, R: Report, H: House>(
     answer: Answer,
     bytes: &[u8],
 ) -> Result<Option<Stop>, NoMemory>
-    ensures { Did M.Machine.own R.Report.own (lead_course R.manner answer bytes.now)
+    ensures { LeadDid M.Machine.own R.Report.own (lead_course R.manner answer bytes.now)
         lead.old desk.old result lead.new desk.new }
 {
     match answer {
@@ -205,7 +205,7 @@ fn finish<M: Machine, R: Report, H: House>(
     desk: &mut Desk<H>,
     ending: Ending,
 ) -> Result<(), NoMemory>
-    ensures { Did M.Machine.own R.Report.own (lead_finish R.manner ending)
+    ensures { LeadDid M.Machine.own R.Report.own (lead_finish R.manner ending)
         lead.old desk.old (goes_of result) lead.new desk.new }
 {
     end(&mut lead.stage, desk, ending)?;

@@ -9,7 +9,7 @@ use Rattle.orca_base.specs.declared.message.Message.{Message}
 use Rattle.orca_edit.specs.Machines.{Acts, Closes, obeyed}
 use Rattle.orca_edit.specs.Obeying.{MachineState, obey}
 use Rattle.orca_edit.specs.Prices.{Kept, bill, charge, kept_after}
-use Rattle.orca_notes.specs.Device.{Plays, midi}
+use Rattle.orca_notes.specs.Device.{Plays, midi_messages}
 use Rattle.orca_notes.specs.Sound.{ends}
 use Rattle.orca_send.specs.Sending.{sends_of}
 use Rattle.orca_course.specs.Acts.{gives}
@@ -27,15 +27,15 @@ use Rattle.orca_course.proofs.CourseLemmas.{onward_longer}
 use Rattle.orca_course.proofs.DoingLemmas.{answered_same, does_acts, does_begun, does_cut, does_joined, does_mapped, does_none, does_then, rests_mute}
 use Rattle.orca_course.proofs.FollowLemmas.{Follows-front, accompanies_twice, follows_gives, keys_after_gives}
 use Rattle.orca_course.proofs.WorldLemmas.{made_none, made_obey, made_stand, made_twice, made_within, wants_longer}
-use Rattle.orca_concert.specs.Concerts.{Concert, answer_of, close_course, command_course, concert, handed_of, obeyed_course, reported, stance_of, with_kept}
+use Rattle.orca_concert.specs.Concerts.{Concert, answer_of, close_course, command_course, concert_with, handed_of, obeyed_course, reported, stance_of, with_kept}
 use Rattle.orca_concert.specs.Manners.{Manner}
 use Rattle.orca_concert.proofs.ChargeLemmas.{charge_most}
 
 -- ---- messages
 
 -- the MIDI messages of a command's messages
-midi_sent-sends_of : (messages : List Message) → midi_sent (sends_of messages) ≡ midi messages
-unfolding midi_sent midi
+midi_sent-sends_of : (messages : List Message) → midi_sent (sends_of messages) ≡ midi_messages messages
+unfolding midi_sent midi_messages
 midi_sent-sends_of [] = refl
 midi_sent-sends_of (x ∷ messages) = grind (arith, midi_sent-sends_of messages)
 
@@ -58,13 +58,13 @@ accompanies_handed false s t messages plays on = absurd cc
 abbrev pub handed_course : {R : Type 0} → Manner R → Standing → List Message → R
     → Course (Concert R) Stop
 handed_course m t messages kept =
-    course (gives (handed_of m.hands messages) ++ Stand t ∷ []) 0 (concert t kept)
+    course (gives (handed_of m.hands messages) ++ Stand t ∷ []) 0 (concert_with t kept)
 
 module _ {R : Type 0} (m : Manner R) {s t : Standing} {messages : List Message} (kept : R)
     (plays : Plays (notes_of s) messages (notes_of t)) {x y : World} where
   pub handed_done : Calls {T = Unit {0}} (gives (handed_of m.hands messages)) (Ok tt) x y
-      → Does (stance_of m) (handed_course m t messages kept) (concert s kept) x (Ok None)
-      (concert t kept) y
+      → Does (stance_of m) (handed_course m t messages kept) (concert_with s kept) x (Ok None)
+      (concert_with t kept) y
   handed_done calls =
       let sends = gives (handed_of m.hands messages) in
       does_acts
@@ -79,7 +79,7 @@ module _ {R : Type 0} (m : Manner R) {s t : Standing} {messages : List Message} 
   -- or a send was refused memory
   pub handed_cut : (u : Concert R) (e : NoMemory) → e ≢ Elsewhere
       → Calls {T = Unit {0}} (gives (handed_of m.hands messages)) (Err e) x y
-      → Does (stance_of m) (handed_course m t messages kept) (concert s kept) x (Err e) u y
+      → Does (stance_of m) (handed_course m t messages kept) (concert_with s kept) x (Err e) u y
   handed_cut u InSend other cut =
       let begun = cut.called in
       let left = begun.left ++ Stand t ∷ [] in
@@ -113,7 +113,7 @@ module _ {R : Type 0} (m : Manner R) (line : ℕ) (command : Command) (s : Conce
   -- the session was refused memory: nothing was done
   pub command_given_up : (e : NoMemory) → Err e ≡ answer_of acted
       → Does (stance_of m) (command_course m line command s) s x (Err e)
-      (concert (standing new after s.standing.tally) s.kept) y
+      (concert_with (standing new after s.standing.tally) s.kept) y
   unfolding command_course kept_after
   command_given_up e is =
       let o = obey s.standing.machine command in
@@ -149,7 +149,7 @@ module _ {R : Type 0} (m : Manner R) (line : ℕ) (command : Command) (s : Conce
       → Does (nowhere (Some (standing_after s.standing (obeyed answer new messages))) m.hands)
       (m.done line answer messages s.kept) s.kept z result kept w
       → Does (stance_of m) (command_course m line command s) s x result
-      (concert (standing new after (tally_after s.standing.tally answer messages)) kept) w
+      (concert_with (standing new after (tally_after s.standing.tally answer messages)) kept) w
   unfolding command_course kept_after
   command_done {answer = answer} is calls told =
       let t = standing_after s.standing (obeyed answer new messages) in
@@ -158,7 +158,7 @@ module _ {R : Type 0} (m : Manner R) (line : ℕ) (command : Command) (s : Conce
       rw (obeys, keep)
       (does_then (λ u. reported (m.done line answer messages u.kept) u)
       (obeyed_done is (handed_done m s.kept acts.plays calls))
-      (reported_done m (m.done line answer messages s.kept) (concert t s.kept) told))
+      (reported_done m (m.done line answer messages s.kept) (concert_with t s.kept) told))
 
   -- a send of a message was refused memory
   pub command_cut : {answer : Result Reply Rule} → Ok answer ≡ answer_of acted → (u : Concert R)
@@ -187,14 +187,14 @@ module _ {R : Type 0} (m : Manner R) (s : Concert R) {new : MachineState} {messa
       → Does (nowhere (Some (standing_closed s.standing)) m.hands) (m.close messages s.kept) s.kept
       y result kept z
       → Does (stance_of m) (close_course m s) s x result
-      (concert (standing new s.standing.kept s.standing.tally) kept) z
+      (concert_with (standing new s.standing.kept s.standing.tally) kept) z
   unfolding close_course
   close_done calls told =
       let notes = ends (notes_of s.standing) in
       rw closes.machine
       (does_then (λ t. reported (m.close notes t.kept) t)
       (handed_done m s.kept (closes_play s.standing closes) (rw closes.ended at calls))
-      (reported_done m (m.close notes s.kept) (concert (standing_closed s.standing) s.kept)
+      (reported_done m (m.close notes s.kept) (concert_with (standing_closed s.standing) s.kept)
       (rw closes.ended at told)))
 
   pub close_cut : (u : Concert R) (e : NoMemory) → e ≢ Elsewhere

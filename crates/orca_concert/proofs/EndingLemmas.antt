@@ -117,7 +117,7 @@ frames-end P Room m line (suc n) s frames some room =
     let c = command_course m line command.Frame s in
     onward-kind (λ end. IfSome (after_cue end) P) (order_course m line (Do command.Frame) s)
     (each (order_course m line) (replicate n (Do command.Frame)))
-    (halts-end P c.state.standing.tally.note c.ending played.ends)
+    (halts-end P c.state.standing.tally.refusal c.ending played.ends)
     (λ on. frames-end P Room m line n c.state frames played.room
     (omega (arith, room, played.longer, played.limit)))
 

@@ -32,12 +32,12 @@ pub record Concert (R : Type 0) : Type 0 where
   pub standing : Standing
   pub kept : R
 
-abbrev pub concert : {R : Type 0} → Standing → R → Concert R
-concert standing kept = record { standing = standing; kept = kept }
+abbrev pub concert_with : {R : Type 0} → Standing → R → Concert R
+concert_with standing kept = record { standing = standing; kept = kept }
 
 -- the same, but for what the report has kept
 abbrev pub with_kept : {R : Type 0} → Concert R → R → Concert R
-with_kept s kept = concert s.standing kept
+with_kept s kept = concert_with s.standing kept
 
 -- a run stands where its session does
 abbrev pub stance_of : {R : Type 0} → Manner R → Stance (Concert R)
@@ -59,7 +59,7 @@ abbrev pub obeyed_course : {R : Type 0} → Manner R → Command → Obeyed → 
 obeyed_course m command o s =
     let t = standing_after s.standing o in
     course (Obey command ∷ gives (handed_of m.hands o.messages) ++ Stand t ∷ [])
-    (bill s.standing.machine s.standing.kept command) (concert t s.kept)
+    (bill s.standing.machine s.standing.kept command) (concert_with t s.kept)
 
 -- and then the report is told
 abbrev pub told_course : {R : Type 0} → Manner R → ℕ → Command → Obeyed → Concert R
@@ -95,7 +95,7 @@ halt_of (Some rule) None = Some Dropped
 halt_of None None = None
 
 abbrev pub halted : {R : Type 0} → Course (Concert R) Stop → Course (Concert R) Halt
-halted c = mapped (λ s. s) (halt_of c.state.standing.tally.note) c
+halted c = mapped (λ s. s) (halt_of c.state.standing.tally.refusal) c
 
 -- an order, once
 unfoldable pub order_course : {R : Type 0} → Manner R → ℕ → Order → Concert R
@@ -132,7 +132,7 @@ abbrev pub silenced_course : {R : Type 0} → Manner R → Concert R → Course 
 silenced_course m s =
     course (gives (handed_of m.hands (ends (notes_of s.standing)))
     ++ Stand (standing_closed s.standing) ∷ [])
-    0 (concert (standing_closed s.standing) s.kept)
+    0 (concert_with (standing_closed s.standing) s.kept)
 
 -- the close: every note ends, and the report is told
 unfoldable pub close_course : {R : Type 0} → Manner R → Concert R → Course (Concert R) Stop

@@ -8,7 +8,7 @@ ghost use Rattle.orca_course.specs.Worlds.{Calls};
 ghost use Rattle.orca_notes.specs.Sound.{ends};
 ghost use Rattle.orca_send.specs.Sending.{sends_of};
 ghost use Rattle.orca_concert.specs.Concerts.{close_course, command_at, concert_course, cue_course, cues_course, final_course, handed_of, last_course, order_course, saved_course};
-ghost use Rattle.orca_concert.specs.Stages.{Plays, standing_of};
+ghost use Rattle.orca_concert.specs.Stages.{StageDid, standing_of};
 
 use crate::halt::Halt;
 use crate::sending::hand_messages;
@@ -28,7 +28,7 @@ pub fn play<M: Machine, S: Source, R: Report, H: House>(
     source: &mut S,
     desk: &mut Desk<H>,
 ) -> Result<Option<Stop>, NoMemory>
-    ensures { Plays M.Machine.own R.Report.own (concert_course R.manner (S.left source.old))
+    ensures { StageDid M.Machine.own R.Report.own (concert_course R.manner (S.left source.old))
         stage.old desk.old result stage.new desk.new }
 {
     let end = do_cues(stage, source, desk)?;
@@ -55,12 +55,12 @@ fn do_order<M: Machine, R: Report, H: House>(
     line: u32,
     order: Order,
 ) -> Result<Option<Halt>, NoMemory>
-    ensures { Plays M.Machine.own R.Report.own (order_course R.manner line order)
+    ensures { StageDid M.Machine.own R.Report.own (order_course R.manner line order)
         stage.old desk.old result stage.new desk.new }
 {
     let command = command_at(order, &stage.machine);
     let end = stage.do_command(desk, line, &command)?;
-    match (end, stage.tally.note) {
+    match (end, stage.tally.refusal) {
         (Some(stop), _) => Ok(Some(Halt::Ended(stop))),
         (None, Some(_)) => Ok(Some(Halt::Dropped)),
         (None, None) => Ok(None),
@@ -73,7 +73,7 @@ fn do_cue<M: Machine, R: Report, H: House>(
     desk: &mut Desk<H>,
     cue: Cue,
 ) -> Result<Option<Stop>, NoMemory>
-    ensures { Plays M.Machine.own R.Report.own (cue_course R.manner cue)
+    ensures { StageDid M.Machine.own R.Report.own (cue_course R.manner cue)
         stage.old desk.old result stage.new desk.new }
 {
     for _time in 0..cue.times {
@@ -92,7 +92,7 @@ fn do_cues<M: Machine, S: Source, R: Report, H: House>(
     source: &mut S,
     desk: &mut Desk<H>,
 ) -> Result<Option<Stop>, NoMemory>
-    ensures { Plays M.Machine.own R.Report.own (cues_course R.manner (S.left source.old))
+    ensures { StageDid M.Machine.own R.Report.own (cues_course R.manner (S.left source.old))
         stage.old desk.old result stage.new desk.new }
 {
     while let Some(cue) = source.next() {
@@ -110,7 +110,7 @@ fn finish<M: Machine, R: Report, H: House>(
     desk: &mut Desk<H>,
     end: Option<Stop>,
 ) -> Result<Option<Stop>, NoMemory>
-    ensures { Plays M.Machine.own R.Report.own (last_course R.manner end)
+    ensures { StageDid M.Machine.own R.Report.own (last_course R.manner end)
         stage.old desk.old result stage.new desk.new }
 {
     let end = tell_last(stage, desk, end)?;
@@ -125,7 +125,7 @@ fn tell_last<M: Machine, R: Report, H: House>(
     desk: &mut Desk<H>,
     end: Option<Stop>,
 ) -> Result<Option<Stop>, NoMemory>
-    ensures { Plays M.Machine.own R.Report.own (final_course R.manner end)
+    ensures { StageDid M.Machine.own R.Report.own (final_course R.manner end)
         stage.old desk.old result stage.new desk.new }
 {
     match end {
@@ -139,7 +139,7 @@ pub fn close<M: Machine, R: Report, H: House>(
     stage: &mut Stage<M, R>,
     desk: &mut Desk<H>,
 ) -> Result<Option<Stop>, NoMemory>
-    ensures { Plays M.Machine.own R.Report.own (close_course R.manner)
+    ensures { StageDid M.Machine.own R.Report.own (close_course R.manner)
         stage.old desk.old result stage.new desk.new }
 {
     stage.messages.clear();
@@ -156,7 +156,7 @@ fn save<M: Machine, R: Report, H: House>(
     desk: &mut Desk<H>,
     end: Option<Stop>,
 ) -> Result<Option<Stop>, NoMemory>
-    ensures { Plays M.Machine.own R.Report.own (saved_course R.manner end)
+    ensures { StageDid M.Machine.own R.Report.own (saved_course R.manner end)
         stage.old desk.old result stage.new desk.new }
 {
     match end {

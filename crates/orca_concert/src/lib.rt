@@ -10,6 +10,6 @@ mod sending;
 mod stage;
 
 pub use concert::{close, close_early, play};
-pub use report::{Report, Turn};
+pub use report::{Outcome, Report};
 pub use sending::{print_messages, say, send_messages};
 pub use stage::Stage;

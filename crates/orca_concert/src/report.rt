@@ -11,7 +11,7 @@ use orca_rig::House;
 
 /// A command that was done, with all that may be printed of it.
 #[derive(Drop)]
-pub struct Turn<'a> {
+pub struct Outcome<'a> {
     /// The line that it stands on, counted from 1; 0 where there is no script.
     pub line: u32,
     /// What was done, or the rule that refused it.
@@ -39,12 +39,12 @@ pub trait Report: Drop {
     fn done<H: House>(
         &mut self,
         desk: &mut Desk<H>,
-        turn: &Turn<'_>,
+        outcome: &Outcome<'_>,
     ) -> Result<Option<Stop>, NoMemory>
-        requires in_range { All HasDataInRange turn.now.messages.now }
-        requires few_values { All CarriesFewValues turn.now.messages.now }
+        requires in_range { All HasDataInRange outcome.now.messages.now }
+        requires few_values { All CarriesFewValues outcome.now.messages.now }
         ensures { (at : Option Standing) (hands : Bool) → Does (nowhere at hands)
-            (manner.done turn.now.line turn.now.answer turn.now.messages.now (kept self.old))
+            (manner.done outcome.now.line outcome.now.answer outcome.now.messages.now (kept self.old))
             (kept self.old) desk.old result (kept self.new) desk.new };
 
     /// All commands were done, and the run stands so.

@@ -1,10 +1,10 @@
 ghost use Rattle.std.specs.Prelude.{◌≡◌, IfOk};
 ghost use Rattle.orca_course.specs.Standings.{tally_at_start};
 ghost use Rattle.orca_concert.specs.Concerts.{answer_of, command_course};
-ghost use Rattle.orca_concert.specs.Stages.{Plays};
+ghost use Rattle.orca_concert.specs.Stages.{StageDid};
 
 use crate::sending::hand_messages;
-use crate::{Report, Turn};
+use crate::{Outcome, Report};
 use orca_base::{Command, Fault, Memory, Reply, Rule};
 use orca_course::{Desk, NoMemory, Stop, Tally};
 use orca_edit::Machine;
@@ -49,7 +49,7 @@ impl<M: Machine, R: Report> Stage<M, R> {
         line: u32,
         command: &Command,
     ) -> Result<Option<Stop>, NoMemory>
-        ensures { Plays M.Machine.own R.Report.own (command_course R.manner line command.now)
+        ensures { StageDid M.Machine.own R.Report.own (command_course R.manner line command.now)
             self.old desk.old result self.new desk.new }
     {
         self.report.is_quiet();
@@ -59,12 +59,12 @@ impl<M: Machine, R: Report> Stage<M, R> {
         let messages = self.messages.as_slice();
         hand_messages(desk, self.report.hands(), messages)?;
         self.tally.count(answer, messages);
-        let turn = Turn {
+        let outcome = Outcome {
             line,
             answer,
             messages,
         };
-        self.report.done(desk, &turn)
+        self.report.done(desk, &outcome)
     }
 }
 

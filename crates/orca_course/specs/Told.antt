@@ -39,7 +39,7 @@ listened_after (Listen name hands start ∷ acts) before =
 listened_after (_ ∷ acts) before = listened_after acts before
 
 -- a poll, without the number of sends before it
-abbrev pub uncounted : arrived.Poll → Poll
+abbrev pub uncounted : arrived.LoggedPoll → Poll
 uncounted p = record { until = p.until; answer = p.answer; bytes = p.bytes }
 
 -- the number of sends before each poll, after so many
@@ -63,7 +63,7 @@ pub record Tells (handed : Option (List Sent)) (attached : Option (List Attached
   pub asks : IfSome asked (λ told. told ≡ asked_in (done_in calls))
   pub heard : IfSome log (IsLogOf (done_in calls))
   pub counts : IfSome handed (λ told. IfSome log (λ kept. length told < 2 ^ 64
-      → map (λ (p : arrived.Poll). p.sent) kept.polls ≡ counts_in 0 (done_in calls)))
+      → map (λ (p : arrived.LoggedPoll). p.sent) kept.polls ≡ counts_in 0 (done_in calls)))
 
 -- ---- what is recorded
 

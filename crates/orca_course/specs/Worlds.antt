@@ -166,14 +166,14 @@ pub record Calls {T : Type 0} (acts : List Act) (result : Result T NoMemory) (x 
   pub called : WereCalled acts result x y
 
 -- the text that a load gives, if it gives one
-abbrev pub text_of : Result (Option (Vec ℕ Global)) NoMemory → Option (List ℕ)
-text_of (Ok text) = option_map (λ bytes. bytes.items) text
-text_of (Err refused) = None
+abbrev pub loaded_text : Result (Option (Vec ℕ Global)) NoMemory → Option (List ℕ)
+loaded_text (Ok text) = option_map (λ bytes. bytes.items) text
+loaded_text (Err refused) = None
 
 -- the moment at which an inbox listens, if it does
-abbrev pub start_of : Result (Option ℕ) NoMemory → Option ℕ
-start_of (Ok start) = start
-start_of (Err refused) = None
+abbrev pub listen_moment : Result (Option ℕ) NoMemory → Option ℕ
+listen_moment (Ok start) = start
+listen_moment (Err refused) = None
 
 -- a poll was made, with this answer and these bytes
 pub record Polled (until : Option ℕ) (answer : Answer) (bytes : List ℕ) (x y : World) : Type 0 where

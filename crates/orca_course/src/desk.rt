@@ -11,7 +11,7 @@ ghost use Rattle.orca_course.specs.Acts.{given};
 ghost use Rattle.orca_course.specs.Acts.Act.{Append, Attach, Give, Listen, Load, Save};
 ghost use Rattle.orca_course.specs.Answered.{done_in};
 ghost use Rattle.orca_course.specs.Told.{IsLogOf, Records, Tells, asked_in, attached_in};
-ghost use Rattle.orca_course.specs.Worlds.{Called, LeavesInbox, Made, Polled, Sated, has_ended, has_failed, has_listened, is_unstored, owing, start_of, text_of};
+ghost use Rattle.orca_course.specs.Worlds.{Called, LeavesInbox, Made, Polled, Sated, has_ended, has_failed, has_listened, is_unstored, owing, listen_moment, loaded_text};
 
 use crate::NoMemory;
 use crate::polling::arrived;
@@ -192,8 +192,8 @@ impl<H: House> Desk<H> {
 
     /// The bytes of the file of that name; none if its load fails, which is recorded.
     pub fn load(&mut self, alloc: Global, name: &str) -> Result<Option<Vec<u8>>, NoMemory>
-        ensures called { Called result (Load name.now (text_of result)) self.old self.new }
-        ensures short { IfSome (text_of result) (λ text. length text ≤ MAX_FILE_BYTES) }
+        ensures called { Called result (Load name.now (loaded_text result)) self.old self.new }
+        ensures short { IfSome (loaded_text result) (λ text. length text ≤ MAX_FILE_BYTES) }
         ensures inbox { LeavesInbox self.old self.new }
     {
         let mut text = Vec::new(alloc);
@@ -242,7 +242,7 @@ impl<H: House> Desk<H> {
         requires fresh { has_listened self.old ≡ false }
         requires some { 1 ≤ hands }
         requires few { hands ≤ MAX_HANDS }
-        ensures called { Called result (Listen name.now hands (start_of result)) self.old self.new }
+        ensures called { Called result (Listen name.now hands (listen_moment result)) self.old self.new }
         ensures open { has_ended self.new ≡ has_ended self.old }
     {
         let answer = self.inbox.listen_hands(name, hands);

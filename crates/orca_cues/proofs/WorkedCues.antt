@@ -3,8 +3,8 @@ use Rattle.std.specs.Prelude.{◌≡◌, ℕ, List, [], ◌∷◌, ◌++◌, Ok,
 use Rattle.orca_base.specs.declared.command.Command.TheVariants.{Frame, Undo, Write}
 use Rattle.orca_base.specs.Ascii.{line_feed}
 use Rattle.orca_base.specs.Grids.{Size, by_place}
-use Rattle.orca_script.specs.Grammar.{forms, line_command, values_by, words_of}
-use Rattle.orca_script.specs.LineValues.{command_of}
+use Rattle.orca_script.specs.Grammar.{line_forms, line_command, values_by, words_of}
+use Rattle.orca_script.specs.LineValues.{command_named}
 use Rattle.orca_script.specs.Reading.{reading, step}
 use Rattle.orca_base.specs.Numbers.{number_of}
 use Rattle.orca_cues.specs.Made.{made_word, made_glyph, made_sheet, made_write, made_turn}
@@ -18,7 +18,7 @@ song =
     codes "# a song" ++ line_feed ∷ line_feed ∷ codes "undo " ++ line_feed ∷ codes "write 0 7 *"
 
 song_read : script_of song ≡ Ok (cue_on 3 Undo ∷ cue_on 4 (Write 0 7 42) ∷ [])
-unfolding first_fault cues_of reading line_command forms words_of values_by number_of command_of
+unfolding first_fault cues_of reading line_command line_forms words_of values_by number_of command_named
 song_read = refl
 
 -- the first refused line decides, and what stands before it doesn't matter
@@ -26,7 +26,7 @@ abbrev faulty : List ℕ
 faulty = codes "frame" ++ line_feed ∷ codes "frme" ++ line_feed ∷ codes "write 0 0"
 
 faulty_refused : script_of faulty ≡ Err (record { line = 2; column = 3 })
-unfolding first_fault reading line_command forms words_of values_by number_of step
+unfolding first_fault reading line_command line_forms words_of values_by number_of step
 faulty_refused = refl
 
 -- the first word of the seed 0, and its glyph

@@ -20,12 +20,12 @@ use Rattle.orca_cues.specs.declared.source.Order.TheVariants.{Do, RewindHalf}
 
 -- ---- one line
 
-abbrev pub bang : ℕ
-bang = 33
+abbrev pub exclamation : ℕ
+exclamation = 33
 
 -- a text whose first byte is `!` is of format 2, and every other one of format 1
 abbrev pub is_format_2 : List ℕ → Bool
-is_format_2 text = slice_index text 0 == bang
+is_format_2 text = slice_index text 0 == exclamation
 
 -- what a line is read as, of a text of format 2 or 1, and the first or another. The first line of
 -- format 2 gives a seed, and asks for nothing

@@ -13,8 +13,8 @@ use Rattle.orca_edge.specs.declared.hands.State.{State}
 use Rattle.orca_edge.specs.declared.hands.State.TheVariants as state
 use Rattle.orca_edge.specs.declared.hands.Piece.{Piece}
 use Rattle.orca_edge.specs.declared.hands.Piece.TheVariants as piece
-use Rattle.orca_edge.specs.declared.hands.Turn.{Turn}
-use Rattle.orca_edge.specs.declared.hands.Turn.TheVariants as turn
+use Rattle.orca_edge.specs.declared.hands.Glance.{Glance}
+use Rattle.orca_edge.specs.declared.hands.Glance.TheVariants as turn
 use Rattle.orca_rig.specs.Arrived.{MayAnswer, moment_after}
 
 -- what a read gave, by its result: no byte is the end, a read that would wait or that a signal
@@ -67,7 +67,7 @@ hand_bytes hand answer.End filled = []
 hand_bytes hand answer.Failed filled = []
 
 -- the bytes of a hand that a turn answers
-abbrev pub turn_bytes : ℕ → Turn → List ℕ → List ℕ
+abbrev pub turn_bytes : ℕ → Glance → List ℕ → List ℕ
 turn_bytes hand (turn.Answered answer) filled = hand_bytes hand answer filled
 turn_bytes hand turn.Nothing filled = []
 turn_bytes hand turn.Again filled = []
@@ -81,11 +81,11 @@ AreHeard {S} remaining old new came =
     (remaining (slice_index_or new hand other).stream) (came hand))
 
 -- a turn answers what a poll may answer, at the moment of the turn
-abbrev pub IsTurn : Option ℕ → ℕ → Turn → Type 0
-IsTurn due now (turn.Answered answer) =
+abbrev pub IsHandTurn : Option ℕ → ℕ → Glance → Type 0
+IsHandTurn due now (turn.Answered answer) =
     MayAnswer due now answer × (moment_after answer now ≡ now)
-IsTurn due now turn.Nothing = Unit {0}
-IsTurn due now turn.Again = Unit {0}
+IsHandTurn due now turn.Nothing = Unit {0}
+IsHandTurn due now turn.Again = Unit {0}
 
 -- how the stream of a hand stands
 abbrev pub is_open : State → Bool
@@ -99,7 +99,7 @@ is_broken state.Ended = false
 is_broken state.Broken = true
 
 -- nothing yet while a hand is open; after that a failure if one has broken, and else the end
-abbrev pub last_turn : {S : Type 0} → List (Hand S) → Turn
+abbrev pub last_turn : {S : Type 0} → List (Hand S) → Glance
 last_turn hands =
     if list_any (λ hand. is_open hand.state) hands then turn.Nothing
     else (if list_any (λ hand. is_broken hand.state) hands then turn.Answered answer.Failed
@@ -107,18 +107,18 @@ last_turn hands =
 
 -- the turn in which a hand gave this piece: the bytes are answered, and the hands are read again
 -- only where a signal came
-abbrev pub turn_of : {S : Type 0} → Piece → ℕ → ℕ → List (Hand S) → Turn
-turn_of (piece.Bytes count) hand now hands = turn.Answered (answer.Bytes hand count now)
-turn_of piece.Nothing hand now hands = turn.Nothing
-turn_of piece.Interrupted hand now hands = turn.Again
-turn_of piece.End hand now hands = last_turn hands
-turn_of piece.Broken hand now hands = last_turn hands
+abbrev pub hand_turn : {S : Type 0} → Piece → ℕ → ℕ → List (Hand S) → Glance
+hand_turn (piece.Bytes count) hand now hands = turn.Answered (answer.Bytes hand count now)
+hand_turn piece.Nothing hand now hands = turn.Nothing
+hand_turn piece.Interrupted hand now hands = turn.Again
+hand_turn piece.End hand now hands = last_turn hands
+hand_turn piece.Broken hand now hands = last_turn hands
 
 -- a turn tells what a read of this hand gave, and the hand stands as after that; where there is no
 -- such hand it has failed
-abbrev pub Tells : {S : Type 0} → List (Hand S) → List (Hand S) → ℕ → ℕ → Turn → Type 0
-Tells {S} old new hand now told =
-    (hand < length old → (piece : Piece) × (told ≡ turn_of piece hand now new)
+abbrev pub TellsRead : {S : Type 0} → List (Hand S) → List (Hand S) → ℕ → ℕ → Glance → Type 0
+TellsRead {S} old new hand now told =
+    (hand < length old → (piece : Piece) × (told ≡ hand_turn piece hand now new)
     × ((other : Hand S) → (slice_index_or new hand other).state
     ≡ state_after (slice_index_or old hand other).state piece))
     × (length old ≤ hand → told ≡ turn.Answered answer.Failed)
@@ -136,8 +136,8 @@ IsNextAfter answer.End next hands = Unit {0}
 IsNextAfter answer.Failed next hands = Unit {0}
 
 -- whether an answer is a moment that has come
-abbrev pub is_due : Answer → Bool
-is_due (answer.Bytes hand count at) = false
-is_due (answer.Due at) = true
-is_due answer.End = false
-is_due answer.Failed = false
+abbrev pub is_moment : Answer → Bool
+is_moment (answer.Bytes hand count at) = false
+is_moment (answer.Due at) = true
+is_moment answer.End = false
+is_moment answer.Failed = false

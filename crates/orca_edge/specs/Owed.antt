@@ -3,7 +3,7 @@ use Rattle.std.specs.Prelude.{ℕ, ◌≡◌, ◌≤◌, ◌<◌, Bool, true, fa
 use Rattle.std.specs.Int.{bit_at}
 use Rattle.orca_base.specs.declared.limits.TheConstants.{MAX_CHANNEL, MAX_DATA}
 use Rattle.orca_base.specs.MidiBytes.{note_off_bytes}
-use Rattle.orca_notes.specs.Device.{Turn, Starts, Ends, Neither, turn_of}
+use Rattle.orca_notes.specs.Device.{KeyEffect, Starts, Ends, Neither, effect_of}
 use Rattle.orca_edge.specs.declared.owed.Voice.{Voice}
 
 -- a channel and a key of MIDI
@@ -24,15 +24,15 @@ abbrev pub OwesNone : List ℕ → Type 0
 OwesNone owed = (voice : Voice) → IsVoice voice → is_owed owed voice ≡ false
 
 -- whether a turn ends a voice
-abbrev pub ends : Turn → Voice → Bool
-ends (Starts other) voice = false
-ends (Ends other) voice = other.channel == voice.channel && other.key == voice.key
-ends Neither voice = false
+abbrev pub is_end_of : KeyEffect → Voice → Bool
+is_end_of (Starts other) voice = false
+is_end_of (Ends other) voice = other.channel == voice.channel && other.key == voice.key
+is_end_of Neither voice = false
 
 -- a message was not taken: the end that it is, if it is one, is owed too
 abbrev pub IsMissed : List ℕ → List ℕ → List ℕ → Type 0
 IsMissed before after bytes = (voice : Voice) → IsVoice voice
-    → is_owed after voice ≡ (is_owed before voice || ends (turn_of bytes) voice)
+    → is_owed after voice ≡ (is_owed before voice || is_end_of (effect_of bytes) voice)
 
 -- the end of a voice was taken, and is owed no more
 abbrev pub IsPaid : List ℕ → List ℕ → Voice → Type 0

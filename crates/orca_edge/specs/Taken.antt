@@ -68,5 +68,5 @@ abbrev pub fresh_start : List ℕ
 fresh_start = 24 ∷ 27 ∷ codes "[?1l"
 
 -- the bytes of a painting: after one that was given up they begin so
-abbrev pub painting_bytes : Bool → List ℕ → List ℕ
-painting_bytes is_torn bytes = if is_torn then fresh_start ++ bytes else bytes
+abbrev pub painting_after : Bool → List ℕ → List ℕ
+painting_after is_torn bytes = if is_torn then fresh_start ++ bytes else bytes

@@ -6,7 +6,7 @@ ghost use Rattle.std.specs.Option.{option_map_or};
 ghost use Rattle.std.specs.Io.KnownBytes.{Consumes};
 ghost use Rattle.orca_base.specs.declared.limits.TheConstants.{ARRIVAL_BYTES};
 ghost use Rattle.orca_rig.specs.Arrived.{MayAnswer};
-ghost use Rattle.orca_edge.specs.Heard.{IsPieceOf, IsPiece, piece_bytes, hand_bytes, turn_bytes, AreHeard, IsTurn, IsNext, IsNextAfter, Tells, state_after, turn_of, is_open, is_broken, last_turn};
+ghost use Rattle.orca_edge.specs.Heard.{IsPieceOf, IsPiece, piece_bytes, hand_bytes, turn_bytes, AreHeard, IsHandTurn, IsNext, IsNextAfter, TellsRead, state_after, hand_turn, is_open, is_broken, last_turn};
 
 use crate::moments::{FOREVER, Wait, Watch, has_come, milliseconds, wait_of};
 use crate::whole::{TRIES, status_of};
@@ -84,7 +84,7 @@ pub(crate) enum Piece {
 
 /// What one turn gave.
 #[derive(Clone, Copy)]
-pub(crate) enum Turn {
+pub(crate) enum Glance {
     /// The answer of the poll.
     Answered(Answer),
     /// The hand that was read has nothing yet.
@@ -186,12 +186,12 @@ impl<S: Read> Hands<S> {
         due: Option<u64>,
         now: u64,
         bytes: &mut [u8; ARRIVAL_BYTES],
-    ) -> Turn
-        ensures turn { IsTurn due now result }
+    ) -> Glance
+        ensures turn { IsHandTurn due now result }
         ensures due { option_map_or (λ moment. nat_le moment now) due false ≡ true
-            → result ≡ Turn.Answered (Answer.Due now) }
+            → result ≡ Glance.Answered (Answer.Due now) }
         ensures told { option_map_or (λ moment. nat_le moment now) due false ≡ false
-            → Tells self.old.hands.items self.new.hands.items self.old.next now result }
+            → TellsRead self.old.hands.items self.new.hands.items self.old.next now result }
         ensures next { option_map_or (λ moment. nat_le moment now) due false ≡ false
             → IsNext self.old.next self.new.next (length self.old.hands.items) }
         ensures waits { option_map_or (λ moment. nat_le moment now) due false ≡ true
@@ -200,43 +200,43 @@ impl<S: Read> Hands<S> {
             (λ hand. turn_bytes hand result bytes.new) }
     {
         if has_come(due, now) {
-            return Turn::Answered(Answer::Due { at: now });
+            return Glance::Answered(Answer::Due { at: now });
         }
         let number = self.next;
         self.next = hand_after(number, self.hands.len());
         let Some(hand) = self.hands.get_mut(usize::from(number)) else {
-            return Turn::Answered(Answer::Failed);
+            return Glance::Answered(Answer::Failed);
         };
         let piece = hand.hear(bytes);
         self.turn_of(piece, number, now)
     }
 
     /// The turn in which this hand gave the piece.
-    fn turn_of(&self, piece: Piece, hand: u8, now: u64) -> Turn
-        ensures { result ≡ turn_of piece hand now self.now.hands.items }
+    fn turn_of(&self, piece: Piece, hand: u8, now: u64) -> Glance
+        ensures { result ≡ hand_turn piece hand now self.now.hands.items }
     {
         match piece {
-            Piece::Bytes(count) => Turn::Answered(Answer::Bytes {
+            Piece::Bytes(count) => Glance::Answered(Answer::Bytes {
                 hand,
                 count,
                 at: now,
             }),
-            Piece::Nothing => Turn::Nothing,
-            Piece::Interrupted => Turn::Again,
+            Piece::Nothing => Glance::Nothing,
+            Piece::Interrupted => Glance::Again,
             Piece::End | Piece::Broken => self.last_turn(),
         }
     }
 
     /// What a turn gives whose hand brings nothing any more: the last answer, once no hand is open.
-    fn last_turn(&self) -> Turn
+    fn last_turn(&self) -> Glance
         ensures { result ≡ last_turn self.now.hands.items }
     {
         if self.is_open() {
-            Turn::Nothing
+            Glance::Nothing
         } else if self.has_broken() {
-            Turn::Answered(Answer::Failed)
+            Glance::Answered(Answer::Failed)
         } else {
-            Turn::Answered(Answer::End)
+            Glance::Answered(Answer::End)
         }
     }
 
@@ -277,9 +277,9 @@ impl<S: Read + AsRawFd> Hands<S> {
                 return Answer::Failed;
             };
             match self.turn(due, now, bytes) {
-                Turn::Answered(answer) => return answer,
-                Turn::Again => unread = self.len(),
-                Turn::Nothing => unread = unread.saturating_sub(1),
+                Glance::Answered(answer) => return answer,
+                Glance::Again => unread = self.len(),
+                Glance::Nothing => unread = unread.saturating_sub(1),
             }
             // A wait for events comes only after a round in which no hand had anything.
             if unread == 0 {

@@ -3,8 +3,8 @@
 ghost use Rattle.std.specs.Prelude.{◌≡◌, ◌↔◌, ◌≤◌, false, IsNone, IfSome};
 ghost use Rattle.std.specs.Option.{option_map_or};
 ghost use Rattle.orca_base.specs.declared.limits.TheConstants.{MAX_CHANNEL, MAX_DATA};
-ghost use Rattle.orca_notes.specs.Device.{turn_of};
-ghost use Rattle.orca_edge.specs.Owed.{IsVoice, OwesNone, IsMissed, IsPaid, IsFirst, is_one, ends};
+ghost use Rattle.orca_notes.specs.Device.{effect_of};
+ghost use Rattle.orca_edge.specs.Owed.{IsVoice, OwesNone, IsMissed, IsPaid, IsFirst, is_one, is_end_of};
 
 use orca_base::limits::{MAX_CHANNEL, MAX_DATA};
 
@@ -72,7 +72,7 @@ impl Owed {
 /// The voice that a message ends, if any: Note Off does, and Note On at velocity 0.
 fn ended_by(bytes: &[u8]) -> Option<Voice>
     ensures voice { IfSome result IsVoice }
-    ensures ended { (voice : Voice) → IsVoice voice → ends (turn_of bytes.now) voice
+    ensures ended { (voice : Voice) → IsVoice voice → is_end_of (effect_of bytes.now) voice
         ≡ option_map_or (λ one. is_one one voice) result false }
 {
     let [status, key, velocity] = bytes else {

@@ -2,7 +2,7 @@ ghost use Rattle.std.specs.Prelude.{◌≡◌, ◌≢◌, ◌≤◌, ◌<◌, �
 ghost use Rattle.std.specs.Option.{option_map};
 ghost use Rattle.orca_rig.specs.Outside.{Rose};
 ghost use Rattle.orca_rig.specs.Arrived.{moment_after, is_ending};
-ghost use Rattle.orca_edge.specs.Heard.{is_due};
+ghost use Rattle.orca_edge.specs.Heard.{is_moment};
 ghost use Rattle.orca_edge.specs.Names.{names_file, file_and_address, are_of_files, is_of_file};
 ghost use Rattle.orca_base.specs.declared.limits.TheConstants.{MAX_HANDS};
 
@@ -152,7 +152,7 @@ where
     /// Keeps what was answered.
     fn keep(&mut self, answer: Answer)
         ensures last { self.new.clock.last ≡ moment_after answer self.old.clock.last }
-        ensures due { self.new.was_due ≡ is_due answer }
+        ensures due { self.new.was_due ≡ is_moment answer }
         ensures ended { self.new.ended ≡ is_ending answer }
         ensures listened { self.new.listened ≡ self.old.listened }
         ensures count { self.old.failed ≤ self.new.failed }

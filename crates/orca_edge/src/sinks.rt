@@ -5,7 +5,7 @@ ghost use Rattle.std.specs.Io.{WritesAtMost};
 ghost use Rattle.std.specs.Io.KnownBytes.{Appends, WriteAppends};
 ghost use Rattle.orca_base.specs.declared.limits.TheConstants.{WIRE_BYTES};
 ghost use Rattle.orca_edge.specs.Owed.{OwesNone, IsFirst};
-ghost use Rattle.orca_edge.specs.Taken.{HasToo, HasStill, HasEnds, HasInTurn, HasMissed, holdings, painting_bytes};
+ghost use Rattle.orca_edge.specs.Taken.{HasToo, HasStill, HasEnds, HasInTurn, HasMissed, holdings, painting_after};
 
 use crate::owed::{Owed, Voice};
 use crate::room::{Gate, Patience};
@@ -262,7 +262,7 @@ impl Output {
         bytes: &[u8],
     ) -> io::Result<()>
         ensures painted { OnOk result (Appends (W.contents to.old) (W.contents to.new)
-            (painting_bytes self.old.is_torn bytes.now)) }
+            (painting_after self.old.is_torn bytes.now)) }
         ensures whole { OnOk result (self.new.is_torn ≡ false) }
         ensures torn { OnErr result (self.new.is_torn ≡ true) }
     {

@@ -16,7 +16,7 @@ use Rattle.orca_op.specs.First.{NonePasses}
 use Rattle.orca_op.proofs.FirstFacts.{first_where-found, first_where-missing}
 use Rattle.orca_edit.specs.Obeying.{MachineState, piece_of}
 use Rattle.orca_edit.specs.Pieces.{Piece}
-use Rattle.orca_edit.specs.Prices.{fits_from, least_first, of_entry, piece_at, total, touched}
+use Rattle.orca_edit.specs.Prices.{fits_from, least_first, of_entry, moment_piece, total, touched}
 use Rattle.orca_edit.specs.Pricing.{AgreeUpTo, touched_from}
 use Rattle.orca_edit.proofs.PriceLemmas.{of_entry-agree, of_entry-at, piece_at-agree, piece_at-end, touched-same}
 
@@ -169,7 +169,7 @@ touched_from-next : (n : ℕ) (m s : MachineState) (entry : Entry) (first : ℕ)
     → slice_get s.history n ≡ Some entry → length s.history ≡ n + 1 → first ≤ n
     → touched_from s first
     ≡ map (of_entry touched m) (range_with_len first (n - first))
-    ++ touched (piece_at m n) entry ∷ []
+    ++ touched (moment_piece m n) entry ∷ []
 touched_from-next n m s entry first agree is long within =
     let many : length s.history - first ≡ n - first + 1 = omega (arith, long, within) in
     ap (λ (k : ℕ). map (of_entry touched s) (range_with_len first k)) many
@@ -180,7 +180,7 @@ touched_from-next n m s entry first agree is long within =
     (omega (arith, low, high, within)))))
     ∙ ap (λ (x : ℕ). map (of_entry touched m) (range_with_len first (n - first)) ++ x ∷ [])
     (of_entry-at touched s n entry is
-    ∙ touched-same (piece_at s n) (piece_at m n) entry
+    ∙ touched-same (moment_piece s n) (moment_piece m n) entry
     (sym (piece_at-agree n n m s agree (omega arith))))))
 
 pub touched_from-more : (m s : MachineState) (entry : Entry) (first : ℕ) → m.opened ≡ s.opened

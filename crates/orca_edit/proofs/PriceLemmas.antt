@@ -15,7 +15,7 @@ use Rattle.orca_base.specs.Grids.{Sheet}
 use Rattle.orca_edit.specs.Machines.{obeyed}
 use Rattle.orca_edit.specs.Obeying.{MachineState, Obeyed, obey, piece_of}
 use Rattle.orca_edit.specs.Pieces.{Piece, piece_after, silence}
-use Rattle.orca_edit.specs.Prices.{Kept, bill, bill_of, change_price, charge, kept_after, kept_by, of_entry, piece_at, price, total, touched}
+use Rattle.orca_edit.specs.Prices.{Kept, bill, bill_of, change_price, charge, kept_after, kept_by, of_entry, moment_piece, price, total, touched}
 use Rattle.orca_edit.specs.Pricing.{AgreeUpTo, IgnoresNotesOf}
 use Rattle.orca_edit.proofs.FoldLemmas.{silence-closes}
 
@@ -57,7 +57,7 @@ price-same = silent-number price price-silence
 
 -- ---- totals
 
-pub piece_at-end : (m : MachineState) → piece_at m (length m.history) ≡ piece_of m
+pub piece_at-end : (m : MachineState) → moment_piece m (length m.history) ≡ piece_of m
 piece_at-end m =
     ap (λ (h : List Entry). piece_after m.opened m.seed h m.closed)
     (take_all (length m.history) m.history (omega arith))
@@ -95,12 +95,12 @@ total-none f m n =
     ap (λ (k : ℕ). sum_by (of_entry f m) (range_with_len n k)) none
 
 pub of_entry-at : (f : Piece → Entry → ℕ) (m : MachineState) (n : ℕ) (entry : Entry)
-    → slice_get m.history n ≡ Some entry → of_entry f m n ≡ f (piece_at m n) entry
+    → slice_get m.history n ≡ Some entry → of_entry f m n ≡ f (moment_piece m n) entry
 of_entry-at f m n entry is =
-    ap (λ (e : Option Entry). option_map_or (f (piece_at m n)) e 0) is
+    ap (λ (e : Option Entry). option_map_or (f (moment_piece m n)) e 0) is
 
 pub total-one : (f : Piece → Entry → ℕ) (m : MachineState) (n : ℕ) (entry : Entry)
-    → slice_get m.history n ≡ Some entry → total f m n (n + 1) ≡ f (piece_at m n) entry
+    → slice_get m.history n ≡ Some entry → total f m n (n + 1) ≡ f (moment_piece m n) entry
 unfolding total
 total-one f m n entry is =
     let one : n + 1 - n ≡ 1 = omega arith in
@@ -110,7 +110,7 @@ total-one f m n entry is =
 -- ---- sessions that agree
 
 pub piece_at-agree : (n moment : ℕ) (m s : MachineState) → AgreeUpTo n m s → moment ≤ n
-    → silence (piece_at m moment) ≡ silence (piece_at s moment)
+    → silence (moment_piece m moment) ≡ silence (moment_piece s moment)
 piece_at-agree n moment m s agree within =
     let same : take moment m.history ≡ take moment s.history =
     sym (take-take moment n m.history within)
@@ -135,14 +135,14 @@ of_entry-agree f ignores n i m s agree below =
     sym (slice_get-first m.history n i below)
     ∙ (ap (λ (h : List Entry). slice_get h i) agree.entries
     ∙ slice_get-first s.history n i below) in
-    ap (λ (e : Option Entry). option_map_or (f (piece_at m i)) e 0) same
+    ap (λ (e : Option Entry). option_map_or (f (moment_piece m i)) e 0) same
     ∙ at_both (slice_get s.history i)
   where
     at_both : (e : Option Entry)
-        → option_map_or (f (piece_at m i)) e 0 ≡ option_map_or (f (piece_at s i)) e 0
+        → option_map_or (f (moment_piece m i)) e 0 ≡ option_map_or (f (moment_piece s i)) e 0
     at_both None = refl
     at_both (Some entry) =
-        ignores (piece_at m i) (piece_at s i) entry
+        ignores (moment_piece m i) (moment_piece s i) entry
         (piece_at-agree n i m s agree (omega (arith, below)))
 
 -- sums of numbers that are the same

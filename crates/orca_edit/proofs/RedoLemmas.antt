@@ -13,7 +13,7 @@ use Rattle.orca_base.specs.declared.command.Entry.TheVariants.{Fill, Put, Move, 
 use Rattle.orca_base.specs.Histories.{done_of, group_of, is_edit, last_edit}
 use Rattle.orca_edit.specs.Editing.{AllFit}
 use Rattle.orca_edit.specs.Folding.{begins_anew}
-use Rattle.orca_edit.specs.Obeying.{MachineState, accept, history_redone, jump, obey, piece_of, redo, rule_against}
+use Rattle.orca_edit.specs.Obeying.{MachineState, accept, history_redone, jump_to, obey, piece_of, redo, rule_against}
 use Rattle.orca_edit.specs.Pieces.{Piece, apply, fold_entries, opened_piece, silence}
 use Rattle.orca_edit.proofs.FitLemmas.{AllFit-same}
 use Rattle.orca_edit.proofs.FoldLemmas.{fold_entries-append, fold_entries-same, silence-piece_after}
@@ -150,7 +150,7 @@ group-undone entries tail i last anew =
 -- ---- an undo and a redo
 
 undone : (m : MachineState) (i : ℕ) → rule_against m Undo ≡ None → last_edit m.history ≡ Some i
-    → obey m Undo ≡ jump m i
+    → obey m Undo ≡ jump_to m i
 unfolding obey accept
 undone m i allowed last = rw (allowed, last) refl
 
@@ -195,8 +195,8 @@ folds-back p entries i =
     ∙ ap (λ (es : List Entry). silence (fold_entries p es)) (take-append-drop i entries))))
 
 back : (m : MachineState) (i : ℕ) → last_edit m.history ≡ Some i → begins_anew m.tail ≡ true
-    → silence (piece_of (redo (jump m i).machine).machine) ≡ silence (piece_of m)
-unfolding redo jump
+    → silence (piece_of (redo (jump_to m i).machine).machine) ≡ silence (piece_of m)
+unfolding redo jump_to
 back m i last anew =
     rw (history-back m i last anew)
     (silence-piece_after m.opened m.seed
@@ -210,7 +210,7 @@ pub redoes_undo : (m : MachineState) → begins_anew m.tail ≡ true → rule_ag
 redoes_undo m anew allowed again =
     undoes_some m (last_edit m.history) refl allowed _ (λ i last.
     let undo = undone m i allowed last in
-    let free : rule_against (jump m i).machine Redo ≡ None =
+    let free : rule_against (jump_to m i).machine Redo ≡ None =
     ap (λ o. rule_against o.machine Redo) (sym undo) ∙ again
     in
-    rw undo (rw (redone (jump m i).machine free) (back m i last anew)))
+    rw undo (rw (redone (jump_to m i).machine free) (back m i last anew)))

@@ -22,9 +22,9 @@ use Rattle.orca_board.specs.Laws.{AreAllListed, CutLaw, FillLaw, PutLaw, ShiftLa
 use Rattle.orca_board.specs.Sizes.{cut_places, whole}
 use Rattle.orca_board.proofs.BlockPlaces.{inside-places_in, test-between, is_listed-places_in, is_listed-places_outside, length-places_in}
 use Rattle.orca_op.specs.Deeds.{Deed, Mark, Write, Set, Emit}
-use Rattle.orca_op.specs.Desk.{is_listed, list_after, list_after_all, list_with}
+use Rattle.orca_op.specs.Slate.{is_listed, list_after, list_after_all, list_with}
 use Rattle.orca_op.specs.Scan.{places, scan, scan_deeds, written_places}
-use Rattle.orca_op.proofs.DeskFacts.{All-list_with, IsDistinct-list_with, IsEquivalence-is_place}
+use Rattle.orca_op.proofs.SlateFacts.{All-list_with, IsDistinct-list_with, IsEquivalence-is_place}
 use Rattle.orca_op.proofs.VisitFacts.{dims_after_places}
 use Rattle.orca_op.specs.Rules.{rule}
 use Rattle.orca_edit.specs.Editing.{FitsIn, IsGridEdit, steps_of}

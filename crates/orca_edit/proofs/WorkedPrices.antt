@@ -12,7 +12,7 @@ use Rattle.orca_base.specs.Grids.{Sheet, by_place}
 use Rattle.orca_base.specs.Glyphs.{is_operator, needs_bang, value, cased, from_value}
 use Rattle.orca_notes.specs.Sound.{happens, sound}
 use Rattle.orca_op.specs.Deeds.{after}
-use Rattle.orca_op.specs.Desk.{list_after}
+use Rattle.orca_op.specs.Slate.{list_after}
 use Rattle.orca_op.specs.First.{first_where}
 use Rattle.orca_op.specs.Kinds.{kind_of}
 use Rattle.orca_op.specs.MotionRules.{move_to}
@@ -20,7 +20,7 @@ use Rattle.orca_op.specs.Rules.{rule}
 use Rattle.orca_op.specs.Scan.{busy, scan, visit_deeds, is_idle, written_places}
 use Rattle.orca_op.specs.State.{has_bang, holds, peek}
 use Rattle.orca_op.specs.ValueRules.{value_or}
-use Rattle.orca_edit.specs.Obeying.{MachineState, machine_at_start, rule_against, entry_of, taken_area, jump, redo, accept, obey}
+use Rattle.orca_edit.specs.Obeying.{MachineState, machine_at_start, rule_against, entry_of, taken_area, jump_to, redo, accept, obey}
 use Rattle.orca_edit.specs.Pieces.{apply, piece_after}
 use Rattle.orca_edit.specs.Prices.{Kept, best_moment, bill, charge, kept_after, kept_at_start, least_first, spaced, total}
 use Rattle.orca_edit.proofs.GridRows.{grid}
@@ -63,7 +63,7 @@ lines_of m k (c ∷ cs) =
     ∷ lines_of o.machine kept cs
 
 account : ℕ → Sheet → List Command → List Line
-unfolding obey accept rule_against entry_of taken_area jump redo apply piece_after by_place
+unfolding obey accept rule_against entry_of taken_area jump_to redo apply piece_after by_place
     scan busy written_places list_after visit_deeds is_idle is_operator needs_bang has_bang peek
     holds rule kind_of after value_or value cased from_value move_to sound happens
     bill charge kept_after least_first first_where total

@@ -19,7 +19,7 @@ use Rattle.orca_op.specs.Rules.{rule}
 use Rattle.orca_op.specs.Scan.{scan, visit_deeds, is_idle}
 use Rattle.orca_op.specs.State.{has_bang, peek}
 use Rattle.orca_op.specs.ValueRules.{value_or}
-use Rattle.orca_edit.specs.Obeying.{MachineState, machine_at_start, machine_closed, piece_of, rule_against, entry_of, taken_area, jump, accept, obey}
+use Rattle.orca_edit.specs.Obeying.{MachineState, machine_at_start, machine_closed, piece_of, rule_against, entry_of, taken_area, jump_to, accept, obey}
 use Rattle.orca_edit.specs.Pieces.{apply, piece_after}
 use Rattle.orca_edit.proofs.GridRows.{grid}
 
@@ -52,7 +52,7 @@ record Seen : Type 0 where
 
 -- what is seen of a session after commands
 seen_after : MachineState → List Command → Seen
-unfolding obey accept rule_against entry_of taken_area jump apply piece_after by_place
+unfolding obey accept rule_against entry_of taken_area jump_to apply piece_after by_place
     scan visit_deeds is_idle is_operator needs_bang has_bang peek rule kind_of after
     value_or value note_of note_number sound happens
 seen_after m cs =

@@ -9,9 +9,9 @@ use Rattle.orca_base.specs.Areas.{IsArea}
 use Rattle.orca_base.specs.Edits.{sheet_after_fill, sheet_after_put, sheet_after_move}
 use Rattle.orca_base.specs.Glyphs.{IsGlyph, AreGlyphs}
 use Rattle.orca_base.specs.Grids.{Size, Sheet, IsSize, IsInside, cells_of}
-use Rattle.orca_board.specs.Blocks.{desk_after_edit, fill_places, put_places, shift_places}
-use Rattle.orca_board.specs.Sizes.{cut_places, desk_after_resize}
-use Rattle.orca_op.specs.Desk.{Desk}
+use Rattle.orca_board.specs.Blocks.{slate_after_edit, fill_places, put_places, shift_places}
+use Rattle.orca_board.specs.Sizes.{cut_places, slate_after_resize}
+use Rattle.orca_op.specs.Slate.{Slate}
 use Rattle.orca_op.specs.State.{sheet_of}
 use Rattle.orca_edit.specs.Obeying.{names_outside, names_empty_block, names_bad_size, wants_clip}
 use Rattle.orca_edit.specs.Pieces.{Piece, apply}
@@ -62,18 +62,18 @@ WritesGlyphs (Fill area glyph) = IsGlyph glyph
 WritesGlyphs (Put at block) = IsBlock block
 WritesGlyphs _ = Unit {0}
 
--- the desk that a grid edit leaves
-abbrev pub desk_with : Desk → Entry → Desk
-desk_with d (Fill area glyph) =
-    desk_after_edit d (sheet_after_fill (sheet_of d.scan) area glyph) (fill_places area)
-desk_with d (Put at block) =
-    desk_after_edit d (sheet_after_put (sheet_of d.scan) at block)
+-- the slate that a grid edit leaves
+abbrev pub slate_with : Slate → Entry → Slate
+slate_with d (Fill area glyph) =
+    slate_after_edit d (sheet_after_fill (sheet_of d.scan) area glyph) (fill_places area)
+slate_with d (Put at block) =
+    slate_after_edit d (sheet_after_put (sheet_of d.scan) at block)
     (put_places d.scan.dims at block.dims)
-desk_with d (Move area to) =
-    desk_after_edit d (sheet_after_move (sheet_of d.scan) area to)
+slate_with d (Move area to) =
+    slate_after_edit d (sheet_after_move (sheet_of d.scan) area to)
     (shift_places d.scan.dims area to)
-desk_with d (Resize dims) = desk_after_resize d dims
-desk_with d _ = d
+slate_with d (Resize dims) = slate_after_resize d dims
+slate_with d _ = d
 
 -- the steps of a grid edit: one for each place that it reads, writes or cuts off
 abbrev pub steps_of : Size → Entry → ℕ

@@ -216,8 +216,8 @@ refuse m rule = record { answer = Err rule; machine = m; messages = [] }
 
 -- an undo or a rewind keeps the first entries, ends every note, and puts what it cuts off before the
 -- tail
-unfoldable pub jump : MachineState → ℕ → Obeyed
-jump m moment = record {
+unfoldable pub jump_to : MachineState → ℕ → Obeyed
+jump_to m moment = record {
   answer = Ok (Jumped moment);
   machine = record m {
     history = take moment m.history ++ entry.Hush ∷ [];
@@ -264,8 +264,8 @@ carry_out m c clip (Some e) = extend m c clip e
 
 -- what is done with a command against which no rule stands
 unfoldable pub accept : MachineState → Command → Obeyed
-accept m command.Undo = option_map_or (jump m) (last_edit m.history) (refuse m NothingToUndo)
-accept m (command.Rewind moment) = jump m moment
+accept m command.Undo = option_map_or (jump_to m) (last_edit m.history) (refuse m NothingToUndo)
+accept m (command.Rewind moment) = jump_to m moment
 accept m command.Redo = redo m
 accept m c =
     carry_out m c (clip_after m.clip (piece_of m).sheet (taken_area (piece_of m).sheet.dims c))

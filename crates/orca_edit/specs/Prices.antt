@@ -48,12 +48,12 @@ price p entry = change_price p entry
 -- ---- many entries
 
 -- the piece of a moment: that after the first so many entries
-abbrev pub piece_at : MachineState → ℕ → Piece
-piece_at m moment = piece_after m.opened m.seed (take moment m.history) m.closed
+abbrev pub moment_piece : MachineState → ℕ → Piece
+moment_piece m moment = piece_after m.opened m.seed (take moment m.history) m.closed
 
 -- a number of an entry at its moment
 abbrev pub of_entry : (Piece → Entry → ℕ) → MachineState → ℕ → ℕ
-of_entry f m n = option_map_or (f (piece_at m n)) (slice_get m.history n) 0
+of_entry f m n = option_map_or (f (moment_piece m n)) (slice_get m.history n) 0
 
 -- the sum of such numbers over the entries from one moment up to another
 unfoldable pub total : (Piece → Entry → ℕ) → MachineState → ℕ → ℕ → ℕ
@@ -109,8 +109,8 @@ jumped m k moment = pushed m (record k { first = min k.first moment })
 
 -- after a redo of so many entries, which led to this machine: its last entry alone has a patch. The
 -- history had each length from the one before it up to the one after it
-abbrev pub redone : MachineState → Kept → ℕ → Kept
-redone m k group =
+abbrev pub kept_redone : MachineState → Kept → ℕ → Kept
+kept_redone m k group =
     let n = length m.history in
     record {
       first = n - 1;
@@ -123,7 +123,7 @@ abbrev pub kept_by : Reply → MachineState → Kept → Kept
 kept_by Edited m k = pushed m k
 kept_by (Framed tick) m k = pushed m k
 kept_by (Jumped moment) m k = jumped m k moment
-kept_by (Redone group) m k = redone m k group
+kept_by (Redone group) m k = kept_redone m k group
 kept_by Copied m k = k
 
 -- after a command, by its answer; one that was refused, or had no memory, changes nothing
@@ -136,7 +136,7 @@ kept_after m k c (Err fault) = k
 -- the cells of the grid of a moment, if a checkpoint of it is due
 abbrev pub kept_cells : ℕ → MachineState → ℕ → ℕ
 kept_cells spacing m moment =
-    if moment % spacing == 0 then cells_of (piece_at m moment).sheet.dims else 0
+    if moment % spacing == 0 then cells_of (moment_piece m moment).sheet.dims else 0
 
 -- the cells of the new grid, if a checkpoint of it is due
 abbrev pub new_cells : ℕ → MachineState → ℕ
@@ -153,7 +153,7 @@ undo_price m moment = COMMAND_PRICE + total change_price m moment (length m.hist
 -- loading a checkpoint, and going on from there entry by entry
 abbrev pub load_price : MachineState → ℕ → ℕ → ℕ
 load_price m from moment =
-    COMMAND_PRICE + cells_of (piece_of m).sheet.dims + cells_of (piece_at m from).sheet.dims
+    COMMAND_PRICE + cells_of (piece_of m).sheet.dims + cells_of (moment_piece m from).sheet.dims
     + total price m from moment
 
 -- a jump to a moment, from this machine

@@ -12,13 +12,13 @@ use Rattle.orca_base.specs.Grids.{IsSize}
 use Rattle.orca_base.specs.Histories.{few_touched, worn_of}
 use Rattle.orca_board.specs.Blocks.{fill_places, put_places, shift_places}
 use Rattle.orca_board.specs.Sizes.{cut_places}
-use Rattle.orca_op.specs.Desk.{desk_of_sheet}
+use Rattle.orca_op.specs.Slate.{slate_of_sheet}
 use Rattle.orca_op.specs.Scan.{written_places}
-use Rattle.orca_edit.specs.Editing.{FitsIn, IsGridEdit, desk_with, steps_of}
+use Rattle.orca_edit.specs.Editing.{FitsIn, IsGridEdit, slate_with, steps_of}
 use Rattle.orca_edit.specs.Machines.{obeyed}
 use Rattle.orca_edit.specs.Obeying.{MachineState, obey, piece_of}
 use Rattle.orca_edit.specs.Pieces.{Piece, apply, next_frame, silence}
-use Rattle.orca_edit.specs.Prices.{Kept, bill_of, charge, kept_after, kept_by, least_first, of_entry, piece_at, price, total, touched}
+use Rattle.orca_edit.specs.Prices.{Kept, bill_of, charge, kept_after, kept_by, least_first, of_entry, moment_piece, price, total, touched}
 
 -- ---- notes
 
@@ -31,7 +31,7 @@ IgnoresNotesOf f =
 
 -- the last moment is the piece as it stands
 abbrev pub EndsAtPiece : Type 0
-EndsAtPiece = (m : MachineState) → piece_at m (length m.history) ≡ piece_of m
+EndsAtPiece = (m : MachineState) → moment_piece m (length m.history) ≡ piece_of m
 
 -- a total splits at a moment
 abbrev pub TotalsSplit : Type 0
@@ -43,7 +43,7 @@ TotalsSplit =
 abbrev pub TotalsOne : Type 0
 TotalsOne =
     (f : Piece → Entry → ℕ) (m : MachineState) (n : ℕ) (entry : Entry)
-    → slice_get m.history n ≡ Some entry → total f m n (n + 1) ≡ f (piece_at m n) entry
+    → slice_get m.history n ≡ Some entry → total f m n (n + 1) ≡ f (moment_piece m n) entry
 
 -- the total of no entry
 abbrev pub TotalsNone : Type 0
@@ -59,7 +59,7 @@ pub record AgreeUpTo (n : ℕ) (m s : MachineState) : Type 0 where
 abbrev pub PiecesAgree : Type 0
 PiecesAgree =
     (n moment : ℕ) (m s : MachineState) → AgreeUpTo n m s → moment ≤ n
-    → silence (piece_at m moment) ≡ silence (piece_at s moment)
+    → silence (moment_piece m moment) ≡ silence (moment_piece s moment)
 
 -- and the same totals, of numbers that don't depend on notes
 abbrev pub TotalsAgree : Type 0
@@ -88,7 +88,7 @@ KeepsSize _ = Unit {0}
 abbrev pub ListsPlaces : Type 0
 ListsPlaces =
     (p : Piece) (entry : Entry) → IsGridEdit entry → FitsIn p.sheet.dims entry
-    → (desk_with (desk_of_sheet p.sheet) entry).listed ≡ listed_by p entry
+    → (slate_with (slate_of_sheet p.sheet) entry).listed ≡ listed_by p entry
 
 -- an entry that changes no size touches exactly these places
 abbrev pub TouchesListed : Type 0

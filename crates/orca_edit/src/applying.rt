@@ -1,7 +1,7 @@
 ghost use Rattle.std.specs.Prelude.{◌≡◌, ◌+◌, ◌≤◌};
-ghost use Rattle.orca_edit.specs.Editing.{FitsIn, IsGridEdit, desk_with, steps_of};
+ghost use Rattle.orca_edit.specs.Editing.{FitsIn, IsGridEdit, slate_with, steps_of};
 ghost use Rattle.orca_edit.specs.Pieces.{Piece, apply, regrid};
-ghost use Rattle.orca_op.specs.Desk.{residue};
+ghost use Rattle.orca_op.specs.Slate.{residue};
 ghost use Rattle.orca_op.specs.State.{sheet_of};
 
 use orca_base::{Entry, Steps};
@@ -14,7 +14,7 @@ use std::sync::ledger::Ledger;
 pub fn apply<L: Ledger>(board: &mut Board, entry: &Entry, steps: &mut Steps<L>)
     requires edit { IsGridEdit entry.now }
     requires fits { FitsIn board.old.scan.dims entry.now }
-    ensures desk { board.new ≡ desk_with board.old entry.now }
+    ensures slate { board.new ≡ slate_with board.old entry.now }
     ensures sheet { (p : Piece) → p.sheet ≡ sheet_of board.old.scan
         → sheet_of board.new.scan ≡ (apply p entry.now).piece.sheet }
     // The tick, the notes and the seed stay, and there is no message.

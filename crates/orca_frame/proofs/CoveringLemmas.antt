@@ -12,7 +12,7 @@ use Rattle.orca_base.specs.declared.place.Spot.{Spot}
 use Rattle.orca_base.specs.Glyphs.{is_operator, needs_bang}
 use Rattle.orca_base.specs.Grids.{Size, Sheet, IsSheet, IsInside, place_of, place_in, index_of}
 use Rattle.orca_base.specs.MarkSet.{MarkSet, no_marks, all_marks}
-use Rattle.orca_op.specs.State.{State, glyph_at, marks_at, has_bang}
+use Rattle.orca_op.specs.State.{State, state_glyph, marks_at, has_bang}
 use Rattle.orca_base.specs.Grids.{here}
 use Rattle.orca_op.specs.Deeds.{Deed, Mark as mark_deed, Write, Set, Emit, after, after_all, marks_after, cells_after}
 use Rattle.orca_op.specs.Laws.{IsLawful, Every, AnyDeed, Covers, IsCovered}
@@ -191,8 +191,8 @@ covered_deeds : (rules : Rules) (s : State) (at : Place) (now : Now) → IsLawfu
     → Every (IsCovered at (visit_deeds rules s at now)) (visit_deeds rules s at now)
 unfolding visit_deeds
 covered_deeds rules s at now lawful =
-    covered_if at (is_idle s at) (rules (glyph_at s at) s at now)
-    (lawful.covered (glyph_at s at) s at now)
+    covered_if at (is_idle s at) (rules (state_glyph s at) s at now)
+    (lawful.covered (state_glyph s at) s at now)
 
 -- a place is still, or holds the glyph that it held when the frame began
 IsKept : Sheet → State → ℕ → Type 0
@@ -248,11 +248,11 @@ not_still : (s : State) (at : Place) → is_idle s at ≡ false
     → IsTrue ((marks_at s at).lock || (marks_at s at).sleep) → ⊥
 unfolding is_idle
 not_still s at idle still =
-    free (is_operator (glyph_at s at)) (marks_at s at).lock (marks_at s at).sleep
-    (needs_bang (glyph_at s at) && not (has_bang s at)) idle still
+    free (is_operator (state_glyph s at)) (marks_at s at).lock (marks_at s at).sleep
+    (needs_bang (state_glyph s at) && not (has_bang s at)) idle still
 
 kept_glyph : (g : Sheet) (s : State) (at : Place) → is_idle s at ≡ false
-    → IsKept g s (index_of s.dims at) → glyph_at s at ≡ slice_index g.cells (index_of s.dims at)
+    → IsKept g s (index_of s.dims at) → state_glyph s at ≡ slice_index g.cells (index_of s.dims at)
 unfolding IsKept
 kept_glyph g s at idle (inl still) = absurd (not_still s at idle still)
 kept_glyph g s at idle (inr same) = same
@@ -264,5 +264,5 @@ covering rules lawful g now n sheet below idle =
     let number : index_of s.dims at ≡ n = subst (λ (d : Size). index_of d at ≡ n)
     (sym (dims_after_places rules n g now)) (index-place_of g.dims n) in
     let kept : IsKept g s n = kept_scanned rules n g now lawful sheet n (omega arith) below in
-    subst (λ (i : ℕ). glyph_at s at ≡ slice_index g.cells i) number
+    subst (λ (i : ℕ). state_glyph s at ≡ slice_index g.cells i) number
     (kept_glyph g s at idle (rw number kept))

@@ -1,5 +1,5 @@
 pub mod CoveringLemmas
-pub mod DeskLemmas
+pub mod SlateLemmas
 pub mod FrameLemmas
 pub mod MarkLemmas
 pub mod RangeLemmas

@@ -9,15 +9,15 @@ use Rattle.orca_base.specs.declared.place.Place.{Place}
 use Rattle.orca_base.specs.Glyphs.{is_operator, needs_bang}
 use Rattle.orca_base.specs.Grids.{Size, Sheet, place_of, place_in, index_of, is_inside}
 use Rattle.orca_base.specs.MarkSet.{MarkSet, is_marked, all_marks}
-use Rattle.orca_op.specs.State.{State, glyph_at, marks_at, has_bang}
+use Rattle.orca_op.specs.State.{State, state_glyph, marks_at, has_bang}
 use Rattle.orca_op.specs.Deeds.{Deed, Mark, Write, Set, Emit, after, marks_after}
-use Rattle.orca_op.specs.Desk.{Desk, desk_after, desk_after_all, list_after, list_with, residue, is_listed}
+use Rattle.orca_op.specs.Slate.{Slate, slate_after, slate_after_all, list_after, list_with, residue, is_listed}
 use Rattle.orca_op.specs.Laws.{IsLawful}
 use Rattle.orca_op.specs.Rules.{rule}
 use Rattle.orca_op.specs.Scan.{Rules, visit_deeds, is_idle, state_after_places, busy_of}
-use Rattle.orca_op.proofs.DeskFacts.{count-blank}
-use Rattle.orca_frame.specs.Frames.{desk_after_places}
-use Rattle.orca_frame.proofs.DeskLemmas.{desk_suc}
+use Rattle.orca_op.proofs.SlateFacts.{count-blank}
+use Rattle.orca_frame.specs.Frames.{slate_after_places}
+use Rattle.orca_frame.proofs.SlateLemmas.{slate_suc}
 
 count_one : (b : Bool) → 0 + (if b then 1 else 0) ≤ 1
 count_one true = omega arith
@@ -58,7 +58,7 @@ listed_more began listed (Some at) =
     listed_if (is_inside began at && not (is_listed listed at)) listed at
 
 -- a deed raises the residue by at most one
-residue_done : (d : Desk) (deed : Deed) → residue (desk_after d deed) ≤ residue d + 1
+residue_done : (d : Slate) (deed : Deed) → residue (slate_after d deed) ≤ residue d + 1
 unfolding residue after list_after
 residue_done d (Mark at m) = omega (arith, marked_more d.scan (place_in d.scan.dims at) m)
 residue_done d (Write at glyph) =
@@ -66,11 +66,11 @@ residue_done d (Write at glyph) =
 residue_done d (Set variable glyph) = omega arith
 residue_done d (Emit event) = omega arith
 
-pub residue_all_done : (d : Desk) (deeds : List Deed)
-    → residue (desk_after_all d deeds) ≤ residue d + length deeds
+pub residue_all_done : (d : Slate) (deeds : List Deed)
+    → residue (slate_after_all d deeds) ≤ residue d + length deeds
 residue_all_done d [] = omega arith
 residue_all_done d (deed ∷ deeds) =
-    omega (arith, residue_all_done (desk_after d deed) deeds, residue_done d deed)
+    omega (arith, residue_all_done (slate_after d deed) deeds, residue_done d deed)
 
 few_if : (idle : Bool) (deeds : List Deed) → length deeds ≤ MAX_DEEDS
     → length (if idle then [] else deeds) ≤ MAX_DEEDS
@@ -86,28 +86,28 @@ few_busy false lock sleep waits deeds few = omega arith
 -- a visit has deeds only where the place holds an operator
 few_deeds : (rules : Rules) (s : State) (at : Place) (now : Now) → IsLawful rules
     → length (visit_deeds rules s at now) ≤ MAX_DEEDS *
-    (if is_operator (glyph_at s at) then 1 else 0)
+    (if is_operator (state_glyph s at) then 1 else 0)
 unfolding visit_deeds is_idle
 few_deeds rules s at now lawful =
-    few_busy (is_operator (glyph_at s at)) (marks_at s at).lock (marks_at s at).sleep
-    (needs_bang (glyph_at s at) && not (has_bang s at))
-    (rules (glyph_at s at) s at now) (lawful.few_deeds (glyph_at s at) s at now)
+    few_busy (is_operator (state_glyph s at)) (marks_at s at).lock (marks_at s at).sleep
+    (needs_bang (state_glyph s at) && not (has_bang s at))
+    (rules (state_glyph s at) s at now) (lawful.few_deeds (state_glyph s at) s at now)
 
 -- the residue is at most the deeds of the busy places
-pub residue_desk : (n : ℕ) (g : Sheet) (now : Now) → IsLawful rule
-    → residue (desk_after_places n g now) ≤ MAX_DEEDS * busy_of n g now
+pub residue_slate : (n : ℕ) (g : Sheet) (now : Now) → IsLawful rule
+    → residue (slate_after_places n g now) ≤ MAX_DEEDS * busy_of n g now
 unfolding residue
-residue_desk zero g now lawful = omega (arith, count-blank (g.dims.h * g.dims.w))
-residue_desk (suc n) g now lawful =
+residue_slate zero g now lawful = omega (arith, count-blank (g.dims.h * g.dims.w))
+residue_slate (suc n) g now lawful =
     let deeds = visit_deeds rule (state_after_places rule n g now) (place_of g.dims n) now in
-    let more : residue (desk_after_places (suc n) g now) ≤ residue (desk_after_places n g now)
+    let more : residue (slate_after_places (suc n) g now) ≤ residue (slate_after_places n g now)
     + length deeds =
-    subst (λ (d : Desk). residue d ≤ residue (desk_after_places n g now) + length deeds)
-    (desk_suc n g now) (residue_all_done (desk_after_places n g now) deeds) in
+    subst (λ (d : Slate). residue d ≤ residue (slate_after_places n g now) + length deeds)
+    (slate_suc n g now) (residue_all_done (slate_after_places n g now) deeds) in
     omega (
       arith,
       more,
-      residue_desk n g now lawful,
+      residue_slate n g now lawful,
       few_deeds rule
           (state_after_places rule n g now) (place_of g.dims n) now lawful,
     )

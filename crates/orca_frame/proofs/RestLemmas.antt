@@ -7,11 +7,11 @@ use Rattle.orca_base.specs.Glyphs.{is_operator}
 use Rattle.orca_base.specs.Grids.{Sheet, IsSheet, index_of, place_of}
 use Rattle.orca_base.proofs.PlaceFacts.{index_of-place_of}
 use Rattle.orca_op.specs.Deeds.{Deed}
-use Rattle.orca_op.specs.Desk.{Desk, list_after_all}
+use Rattle.orca_op.specs.Slate.{Slate, list_after_all}
 use Rattle.orca_op.specs.Rules.{rule}
 use Rattle.orca_op.specs.Scan.{state_after_places, scan_deeds, scan, written_places, busy, busy_of, places}
 use Rattle.orca_op.specs.State.{State, fresh}
-use Rattle.orca_op.proofs.DeskFacts.{residue-of_sheet}
+use Rattle.orca_op.proofs.SlateFacts.{residue-of_sheet}
 use Rattle.orca_frame.specs.Skips.{HoldsNone, IsInert, IsAtRest}
 use Rattle.orca_frame.proofs.SkipLemmas.{state-skip, deeds-skip, busy-skip}
 
@@ -44,9 +44,9 @@ unfolding busy
 busy-rest g now none =
     ap (λ (n : ℕ). busy_of n g now) (sym (zero-add (places g))) ∙ busy-skip 0 (places g) g now none
 
-desk_by_parts : (d : Desk) (s : State) (g : Sheet) (at : List Place) → d.scan ≡ s → d.began ≡ g
+slate_by_parts : (d : Slate) (s : State) (g : Sheet) (at : List Place) → d.scan ≡ s → d.began ≡ g
     → d.listed ≡ at → d ≡ record { scan = s; began = g; listed = at }
-desk_by_parts d s g at scan began listed =
+slate_by_parts d s g at scan began listed =
     ap (λ (t : State). record { scan = t; began = d.began; listed = d.listed }) scan
     ∙ ap (λ (b : Sheet). record { scan = s; began = b; listed = d.listed }) began
     ∙ ap (λ (l : List Place). record { scan = s; began = g; listed = l }) listed
@@ -57,7 +57,7 @@ at_rest g now sheet inert =
     let clear = residue-of_sheet g in
     let idle = busy-rest g now none in
     record {
-      same = λ d framed. desk_by_parts d (fresh g) g []
+      same = λ d framed. slate_by_parts d (fresh g) g []
           (framed.scan ∙ scan-rest g now none) framed.began
           (framed.listed ∙ written-rest g now none);
       steps = rw (clear, idle) (omega arith);

@@ -10,14 +10,14 @@ use Rattle.orca_base.specs.Glyphs.{is_operator}
 use Rattle.orca_base.specs.Grids.{Size, Sheet, IsInside, cells_of, place_of}
 use Rattle.orca_base.proofs.PlaceFacts.{place_of-index_of, index_of-below}
 use Rattle.orca_op.specs.Deeds.{Deed, after_all}
-use Rattle.orca_op.specs.Desk.{Desk, desk_after_all, list_after_all, residue}
+use Rattle.orca_op.specs.Slate.{Slate, slate_after_all, list_after_all, residue}
 use Rattle.orca_op.specs.Live.{is_live, HasNoLive}
 use Rattle.orca_op.specs.Rules.{rule}
 use Rattle.orca_op.specs.Scan.{Rules, visit_deeds, is_idle, state_after_visit, state_after_places, scan_deeds, busy, busy_of}
-use Rattle.orca_op.specs.State.{State, sheet_of, glyph_at}
-use Rattle.orca_frame.specs.Frames.{desk_after_places, most_steps}
+use Rattle.orca_op.specs.State.{State, sheet_of, state_glyph}
+use Rattle.orca_frame.specs.Frames.{slate_after_places, most_steps}
 use Rattle.orca_frame.specs.Skips.{HoldsNone}
-use Rattle.orca_frame.proofs.FrameLemmas.{dims_desk, inside_desk, visit_desk, busy_more}
+use Rattle.orca_frame.proofs.FrameLemmas.{dims_slate, inside_slate, visit_slate, busy_more}
 
 idle_if : (operator lock sleep waits : Bool) (deeds : List Deed) → operator ≡ false
     → (if not operator || lock || sleep || waits then [] else deeds) ≡ []
@@ -26,9 +26,9 @@ idle_if false lock sleep waits deeds none = refl
 
 -- a place that holds no operator has no deeds
 no_deeds : (rules : Rules) (s : State) (at : Place) (now : Now)
-    → is_operator (glyph_at s at) ≡ false → visit_deeds rules s at now ≡ []
+    → is_operator (state_glyph s at) ≡ false → visit_deeds rules s at now ≡ []
 unfolding visit_deeds is_idle
-no_deeds rules s at now none = idle_if _ _ _ _ (rules (glyph_at s at) s at now) none
+no_deeds rules s at now none = idle_if _ _ _ _ (rules (state_glyph s at) s at now) none
 
 after_none : (s : State) (deeds : List Deed) → deeds ≡ [] → after_all s deeds ≡ s
 after_none s deeds none = ap (after_all s) none
@@ -70,15 +70,15 @@ busy-skip n (suc many) g now none =
     let at = place_of g.dims (n + many) in
     let less : HoldsNone rule n many g now = λ i below. none i (omega arith) in
     let before : busy_of (n + many) g now ≡ busy_of n g now = busy-skip n many g now less in
-    let here : is_operator (glyph_at (state_after_places rule (n + many) g now) at) ≡ false =
-    ap (λ (t : State). is_operator (glyph_at t at)) (state-skip rule n many g now less)
+    let here : is_operator (state_glyph (state_after_places rule (n + many) g now) at) ≡ false =
+    ap (λ (t : State). is_operator (state_glyph t at)) (state-skip rule n many g now less)
     ∙ none many (omega arith) in
     let next : n + suc many ≡ suc (n + many) = omega arith in
     rw (next, here) (omega (arith, before))
 
-desk-skip : (n many : ℕ) (g : Sheet) (now : Now) → HoldsNone rule n many g now
-    → desk_after_places (n + many) g now ≡ desk_after_places n g now
-desk-skip n many g now none =
+slate-skip : (n many : ℕ) (g : Sheet) (now : Now) → HoldsNone rule n many g now
+    → slate_after_places (n + many) g now ≡ slate_after_places n g now
+slate-skip n many g now none =
     ap (λ (s : State). record {
       scan = s;
       began = g;
@@ -104,37 +104,37 @@ not_live : (inside operator : Bool) → inside ≡ true → (inside && operator)
 not_live true operator is none = none
 not_live false operator is none = cc
 
-none_in_row : (d : Desk) (g : Sheet) (now : Now) (row from to : ℕ)
-    → d ≡ desk_after_places (row * g.dims.w + from) g now → row < g.dims.h → to ≤ g.dims.w
+none_in_row : (d : Slate) (g : Sheet) (now : Now) (row from to : ℕ)
+    → d ≡ slate_after_places (row * g.dims.w + from) g now → row < g.dims.h → to ≤ g.dims.w
     → HasNoLive d.scan row from to → HoldsNone rule (row * g.dims.w + from) (to - from) g now
 none_in_row d g now row from to is high wide none i below =
     let x : ℕ = from + i in
     let inside : x < g.dims.w = omega arith in
     let here = row_place g.dims row x high inside in
     let number : row * g.dims.w + from + i ≡ row * g.dims.w + x = omega arith in
-    let same : d.scan.dims ≡ g.dims = dims_desk d (row * g.dims.w + from) g now is in
+    let same : d.scan.dims ≡ g.dims = dims_slate d (row * g.dims.w + from) g now is in
     let column : nat_lt x d.scan.dims.w ≡ true = ap (λ (e : Size). nat_lt x e.w) same
     ∙ lt-ltb x g.dims.w inside in
-    let dead : is_operator (glyph_at d.scan (record { y = row; x = x })) ≡ false =
+    let dead : is_operator (state_glyph d.scan (record { y = row; x = x })) ≡ false =
     not_live _ _ column (none x (omega arith) (omega arith)) in
-    ap (λ (m : ℕ). is_operator (glyph_at (state_after_places rule (row * g.dims.w + from) g now)
+    ap (λ (m : ℕ). is_operator (state_glyph (state_after_places rule (row * g.dims.w + from) g now)
     (place_of g.dims m))) number
     ∙ (ap (λ (p : Place). is_operator
-    (glyph_at (state_after_places rule (row * g.dims.w + from) g now) p)) (sym here)
-    ∙ (ap (λ (e : Desk). is_operator (glyph_at e.scan (record { y = row; x = x }))) (sym is)
+    (state_glyph (state_after_places rule (row * g.dims.w + from) g now) p)) (sym here)
+    ∙ (ap (λ (e : Slate). is_operator (state_glyph e.scan (record { y = row; x = x }))) (sym is)
     ∙ dead))
 
 -- the columns up to the next live one are passed over
-pub pass_over : (d : Desk) (g : Sheet) (now : Now) (row from to : ℕ)
-    → d ≡ desk_after_places (row * g.dims.w + from) g now → row < g.dims.h → from ≤ to
+pub pass_over : (d : Slate) (g : Sheet) (now : Now) (row from to : ℕ)
+    → d ≡ slate_after_places (row * g.dims.w + from) g now → row < g.dims.h → from ≤ to
     → to ≤ g.dims.w → HasNoLive d.scan row from to
-    → (d ≡ desk_after_places (row * g.dims.w + to) g now)
+    → (d ≡ slate_after_places (row * g.dims.w + to) g now)
     × (busy_of (row * g.dims.w + to) g now ≡ busy_of (row * g.dims.w + from) g now)
 pass_over d g now row from to is high grows wide none =
     let passed = none_in_row d g now row from to is high wide none in
     let number : row * g.dims.w + from + (to - from) ≡ row * g.dims.w + to = omega arith in (
-      is ∙ (sym (desk-skip (row * g.dims.w + from) (to - from) g now passed)
-          ∙ ap (λ (m : ℕ). desk_after_places m g now) number),
+      is ∙ (sym (slate-skip (row * g.dims.w + from) (to - from) g now passed)
+          ∙ ap (λ (m : ℕ). slate_after_places m g now) number),
       ap (λ (m : ℕ). busy_of m g now) (sym number) ∙ busy-skip (row * g.dims.w + from) (to - from) g
           now passed,
     )
@@ -148,31 +148,31 @@ live_operator true operator live = live
 live_operator false operator live = cc
 
 -- a live column lies in the row, and holds an operator
-pub live_column : (d : Desk) (g : Sheet) (n : ℕ) (now : Now) (row x : ℕ)
-    → d ≡ desk_after_places n g now → IsTrue (is_live d.scan row x) → x < g.dims.w
+pub live_column : (d : Slate) (g : Sheet) (n : ℕ) (now : Now) (row x : ℕ)
+    → d ≡ slate_after_places n g now → IsTrue (is_live d.scan row x) → x < g.dims.w
 live_column d g n now row x is live =
     let inside : nat_lt x d.scan.dims.w ≡ true = live_inside _ _ live in
-    let same : d.scan.dims ≡ g.dims = dims_desk d n g now is in
+    let same : d.scan.dims ≡ g.dims = dims_slate d n g now is in
     subst (λ (e : Size). x < e.w) same (ltb-true x d.scan.dims.w inside)
 
 pub live_glyph : (s : State) (row x : ℕ) → IsTrue (is_live s row x)
-    → IsTrue (is_operator (glyph_at s (record { y = row; x = x })))
+    → IsTrue (is_operator (state_glyph s (record { y = row; x = x })))
 live_glyph s row x live = live_operator _ _ live
 
 -- ---- one operator of a row more
 
 -- what is known where the walk of a row found its next operator
-pub record Finds (d : Desk) (g : Sheet) (now : Now) (row from x : ℕ) : Type 0 where
+pub record Finds (d : Slate) (g : Sheet) (now : Now) (row from x : ℕ) : Type 0 where
   pub after : from ≤ x
   pub column : x < g.dims.w
   pub inside : IsInside d.scan.dims (record { y = row; x = x })
-  pub operator : IsTrue (is_operator (glyph_at d.scan (record { y = row; x = x })))
+  pub operator : IsTrue (is_operator (state_glyph d.scan (record { y = row; x = x })))
   pub below : row * g.dims.w + x < cells_of g.dims
-  pub reached : d ≡ desk_after_places (row * g.dims.w + x) g now
+  pub reached : d ≡ slate_after_places (row * g.dims.w + x) g now
   pub busy : busy_of (row * g.dims.w + x) g now ≡ busy_of (row * g.dims.w + from) g now
 
-pub finds : (d : Desk) (g : Sheet) (now : Now) (row from x : ℕ)
-    → d ≡ desk_after_places (row * g.dims.w + from) g now → row < g.dims.h
+pub finds : (d : Slate) (g : Sheet) (now : Now) (row from x : ℕ)
+    → d ≡ slate_after_places (row * g.dims.w + from) g now → row < g.dims.h
     → from ≤ x → IsTrue (is_live d.scan row x) → HasNoLive d.scan row from x
     → Finds d g now row from x
 finds d g now row from x is high after live none =
@@ -183,7 +183,7 @@ finds d g now row from x is high after live none =
     record {
       after = after;
       column = column;
-      inside = inside_desk d (row * g.dims.w + from) g now at is here;
+      inside = inside_slate d (row * g.dims.w + from) g now at is here;
       operator = live_glyph d.scan row x live;
       below = index_of-below g.dims at here;
       reached = passed.0;
@@ -191,47 +191,47 @@ finds d g now row from x is high after live none =
     }
 
 -- and where it was visited
-pub record Visited (e : Desk) (g : Sheet) (now : Now) (row from x : ℕ) : Type 0 where
-  pub reached : e ≡ desk_after_places (row * g.dims.w + (x + 1)) g now
+pub record Visited (e : Slate) (g : Sheet) (now : Now) (row from x : ℕ) : Type 0 where
+  pub reached : e ≡ slate_after_places (row * g.dims.w + (x + 1)) g now
   pub busy : busy_of (row * g.dims.w + (x + 1)) g now ≡ busy_of (row * g.dims.w + from) g now + 1
 
-pub visited : (d e : Desk) (g : Sheet) (now : Now) (row from x : ℕ) → Finds d g now row from x
+pub visited : (d e : Slate) (g : Sheet) (now : Now) (row from x : ℕ) → Finds d g now row from x
     → row < g.dims.h
-    → e ≡ desk_after_all d (visit_deeds rule d.scan (record { y = row; x = x }) now)
+    → e ≡ slate_after_all d (visit_deeds rule d.scan (record { y = row; x = x }) now)
     → Visited e g now row from x
 visited d e g now row from x finds high done =
     let n : ℕ = row * g.dims.w + x in
     let at : Place = record { y = row; x = x } in
     let here : at ≡ place_of g.dims n = row_place g.dims row x high finds.column in
     let next : row * g.dims.w + (x + 1) ≡ n + 1 = omega arith in
-    let one : (if is_operator (glyph_at d.scan at) then 1 else 0) ≡ 1 = rw finds.operator refl in
+    let one : (if is_operator (state_glyph d.scan at) then 1 else 0) ≡ 1 = rw finds.operator refl in
     record {
-      reached = visit_desk d e n g now at finds.reached here done
-          ∙ ap (λ (m : ℕ). desk_after_places m g now) (sym next);
+      reached = visit_slate d e n g now at finds.reached here done
+          ∙ ap (λ (m : ℕ). slate_after_places m g now) (sym next);
       busy = rw next (busy_more d n g now at finds.reached here
           ∙ (ap (λ m. busy_of n g now + m) one ∙ ap (λ m. m + 1) finds.busy));
     }
 
 -- the columns up to the next operator, or to the end of the row, are passed over
-pub next_reached : (d : Desk) (g : Sheet) (now : Now) (row from : ℕ) (found : Option ℕ)
-    → d ≡ desk_after_places (row * g.dims.w + from) g now → row < g.dims.h → from ≤ g.dims.w
+pub next_reached : (d : Slate) (g : Sheet) (now : Now) (row from : ℕ) (found : Option ℕ)
+    → d ≡ slate_after_places (row * g.dims.w + from) g now → row < g.dims.h → from ≤ g.dims.w
     → IfSome found (λ x. (from ≤ x) × IsTrue (is_live d.scan row x))
     → HasNoLive d.scan row from (unwrap_or found d.scan.dims.w)
-    → (d ≡ desk_after_places (row * g.dims.w + unwrap_or found g.dims.w) g now)
+    → (d ≡ slate_after_places (row * g.dims.w + unwrap_or found g.dims.w) g now)
     × (busy_of (row * g.dims.w + unwrap_or found g.dims.w) g now
     ≡ busy_of (row * g.dims.w + from) g now)
 next_reached d g now row from (Some x) is high inside live none =
     let found = finds d g now row from x is high live.0 live.1 none in (found.reached, found.busy)
 next_reached d g now row from None is high inside live none =
     let width : d.scan.dims.w ≡ g.dims.w =
-    ap (λ (e : Size). e.w) (dims_desk d (row * g.dims.w + from) g now is) in
+    ap (λ (e : Size). e.w) (dims_slate d (row * g.dims.w + from) g now is) in
     let all : HasNoLive d.scan row from g.dims.w = λ x low below. none x low
     (omega (arith, below, width)) in
     pass_over d g now row from g.dims.w is high inside (omega arith) all
 
 -- the operator that the walk of a row has found
-pub held : (d : Desk) (g : Sheet) (now : Now) (row : ℕ) (found : Option ℕ) (x : ℕ) → found ≡ Some x
-    → d ≡ desk_after_places (row * g.dims.w + unwrap_or found g.dims.w) g now → row < g.dims.h
+pub held : (d : Slate) (g : Sheet) (now : Now) (row : ℕ) (found : Option ℕ) (x : ℕ) → found ≡ Some x
+    → d ≡ slate_after_places (row * g.dims.w + unwrap_or found g.dims.w) g now → row < g.dims.h
     → IfSome found (λ x. IsTrue (is_live d.scan row x)) → Finds d g now row x x
 held d g now row found x is reached high live =
     finds d g now row x x (rw is at reached) high (omega arith) (rw is at live)
@@ -250,7 +250,7 @@ later_of s row from w None few live = few
 later_of s row from w (Some x) few live = live.0
 
 -- the steps of all rows
-pub steps_of_rows : (d : Desk) (rows : ℕ) (now : Now) (first last : ℕ) → rows ≡ d.scan.dims.h
+pub steps_of_rows : (d : Slate) (rows : ℕ) (now : Now) (first last : ℕ) → rows ≡ d.scan.dims.h
     → last ≤ first + 1 + residue d + rows + MAX_VISIT_STEPS * busy_of (rows * d.scan.dims.w)
     (sheet_of d.scan) now
     → last ≤ first + most_steps d now

@@ -11,7 +11,7 @@ use Rattle.orca_op.specs.State.{State, fresh}
 use Rattle.orca_op.specs.Deeds.{Deed, Mark, Write, Set, Emit, after_all}
 use Rattle.orca_base.specs.Grids.{is_inside, is_place}
 use Rattle.orca_base.proofs.PlaceFacts.{is_place-same}
-use Rattle.orca_op.specs.Desk.{list_with, list_after, list_after_all}
+use Rattle.orca_op.specs.Slate.{list_with, list_after, list_after_all}
 use Rattle.orca_op.proofs.LawFacts.{after_all-append}
 use Rattle.orca_op.specs.Laws.{AnyDeed}
 use Rattle.orca_op.specs.Rules.{rule}

@@ -6,14 +6,14 @@ use Rattle.orca_base.specs.declared.place.Place.{Place}
 use Rattle.orca_base.specs.Grids.{Sheet, IsSheet, place_of}
 use Rattle.orca_base.specs.MarkSet.{has_mark}
 use Rattle.orca_op.specs.Scan.{Rules, is_idle, state_after_places, places}
-use Rattle.orca_op.specs.State.{State, glyph_at, marks_at}
+use Rattle.orca_op.specs.State.{State, state_glyph, marks_at}
 
 -- a place that isn't idle when the scan reaches it holds the glyph that it held as the frame began
 abbrev pub IsCovering : Rules → Type 0
 IsCovering rules =
     (g : Sheet) (now : Now) (n : ℕ) → IsSheet g → n < places g
     → is_idle (state_after_places rules n g now) (place_of g.dims n) ≡ false
-    → glyph_at (state_after_places rules n g now) (place_of g.dims n) ≡ slice_index g.cells n
+    → state_glyph (state_after_places rules n g now) (place_of g.dims n) ≡ slice_index g.cells n
 
 -- every mark that a place has in the first state it has in the second
 abbrev pub KeepsMarks : State → State → Type 0

@@ -3,16 +3,16 @@ use Rattle.std.specs.Prelude.{ℕ, ◌+◌, ◌<◌, ◌≡◌, false, slice_ind
 use Rattle.orca_base.specs.declared.now.Now.{Now}
 use Rattle.orca_base.specs.Glyphs.{is_operator}
 use Rattle.orca_base.specs.Grids.{Sheet, place_of}
-use Rattle.orca_op.specs.Desk.{Desk, desk_of_sheet}
+use Rattle.orca_op.specs.Slate.{Slate, slate_of_sheet}
 use Rattle.orca_op.specs.Scan.{Rules, state_after_places, places}
-use Rattle.orca_op.specs.State.{glyph_at}
+use Rattle.orca_op.specs.State.{state_glyph}
 use Rattle.orca_frame.specs.Frames.{IsFramed, most_steps}
 
 -- after n places were visited, none of the next `many` holds an operator
 abbrev pub HoldsNone : Rules → ℕ → ℕ → Sheet → Now → Type 0
 HoldsNone rules n many g now =
     (i : ℕ) → i < many
-    → is_operator (glyph_at (state_after_places rules n g now) (place_of g.dims (n + i))) ≡ false
+    → is_operator (state_glyph (state_after_places rules n g now) (place_of g.dims (n + i))) ≡ false
 
 -- the scan changes nothing over places that hold no operator, so a walk may pass over them
 abbrev pub IsSkipping : Rules → Type 0
@@ -27,5 +27,5 @@ IsInert g = (n : ℕ) → n < places g → is_operator (slice_index g.cells n) �
 -- a grid at rest: where a frame has just begun on it, the next one changes nothing, and takes no
 -- more steps than one for each row and one for `begin`
 pub record IsAtRest (g : Sheet) (now : Now) : Type 0 where
-  pub same : (d : Desk) → IsFramed (desk_of_sheet g) d now → d ≡ desk_of_sheet g
-  pub steps : most_steps (desk_of_sheet g) now ≡ g.dims.h + 1
+  pub same : (d : Slate) → IsFramed (slate_of_sheet g) d now → d ≡ slate_of_sheet g
+  pub steps : most_steps (slate_of_sheet g) now ≡ g.dims.h + 1

@@ -1,10 +1,10 @@
 ghost use Rattle.std.specs.Prelude.{◌≡◌, ◌+◌, ◌*◌, ◌<◌, ◌≤◌, length, Some};
 ghost use Rattle.orca_base.specs.declared.limits.TheConstants.{MAX_STEPS};
 ghost use Rattle.orca_base.specs.Grids.{IsInside};
-ghost use Rattle.orca_op.specs.Desk.{HasRoom, desk_after_all};
+ghost use Rattle.orca_op.specs.Slate.{HasEventRoom, slate_after_all};
 ghost use Rattle.orca_op.specs.Kinds.{kind_of};
 ghost use Rattle.orca_op.specs.Rules.{rule};
-ghost use Rattle.orca_op.specs.State.{glyph_at};
+ghost use Rattle.orca_op.specs.State.{state_glyph};
 
 use ops_grid::{Generator, Konkat, Push, Query, ReadAt, Track, Variable, WriteAt};
 use ops_io::{ControlChange, Midi, Mono, OscMessage, PitchBend, UdpText};
@@ -27,11 +27,11 @@ pub(crate) fn act<B: Bench, L: Ledger>(
     now: Now,
     steps: &mut Steps<L>,
 )
-    requires inside { IsInside (B.desk bench.old).scan.dims at }
-    requires holds { glyph ≡ glyph_at (B.desk bench.old).scan at }
-    requires room { HasRoom (B.desk bench.old) }
-    ensures deeds { B.desk bench.new ≡ desk_after_all (B.desk bench.old)
-        (rule glyph (B.desk bench.old).scan at now) }
+    requires inside { IsInside (B.slate bench.old).scan.dims at }
+    requires holds { glyph ≡ state_glyph (B.slate bench.old).scan at }
+    requires room { HasEventRoom (B.slate bench.old) }
+    ensures deeds { B.slate bench.new ≡ slate_after_all (B.slate bench.old)
+        (rule glyph (B.slate bench.old).scan at now) }
     ensures steps { steps.new ≤ steps.old + MAX_STEPS }
     ensures later { steps.old ≤ steps.new }
 {

@@ -1,5 +1,5 @@
 ghost use Rattle.std.specs.Prelude.{◌+◌, ◌≤◌};
-ghost use Rattle.orca_op.specs.Desk.{residue};
+ghost use Rattle.orca_op.specs.Slate.{residue};
 ghost use Rattle.orca_op.specs.Scan.{places};
 ghost use Rattle.orca_op.specs.State.{sheet_of};
 ghost use Rattle.orca_frame.specs.Frames.{IsFramed, most_plain_steps};
@@ -18,10 +18,10 @@ use std::sync::ledger::Ledger;
 /// variables, and the events in the order in which they were emitted, each of which can be played. Each
 /// place that a deed wrote is listed, once.
 pub fn frame_plain<B: Bench, L: Ledger>(bench: &mut B, now: Now, steps: &mut Steps<L>)
-    ensures framed { IsFramed (B.desk bench.old) (B.desk bench.new) now }
-    ensures most { steps.new ≤ steps.old + most_plain_steps (B.desk bench.old) now }
-    ensures least { steps.old + 1 + residue (B.desk bench.old)
-        + places (sheet_of (B.desk bench.old).scan) ≤ steps.new }
+    ensures framed { IsFramed (B.slate bench.old) (B.slate bench.new) now }
+    ensures most { steps.new ≤ steps.old + most_plain_steps (B.slate bench.old) now }
+    ensures least { steps.old + 1 + residue (B.slate bench.old)
+        + places (sheet_of (B.slate bench.old).scan) ≤ steps.new }
 {
     // Neither call does anything when the program runs. The first gives the proof the laws of the operator
     // table: how many deeds and events a visit has at most, and that its events can be played. The second

@@ -4,7 +4,7 @@ ghost use Rattle.orca_base.specs.Grids.{IsSheet};
 ghost use Rattle.orca_op.specs.Rules.{rule};
 ghost use Rattle.orca_op.specs.Scan.{busy_of};
 ghost use Rattle.orca_frame.specs.Covering.{IsCovering};
-ghost use Rattle.orca_frame.specs.Frames.{IsFramed, desk_after_places, most_steps};
+ghost use Rattle.orca_frame.specs.Frames.{IsFramed, slate_after_places, most_steps};
 
 use crate::laws::table_laws;
 use crate::visit::visit_operator;
@@ -20,9 +20,9 @@ use std::sync::ledger::Ledger;
 /// last frame marked or wrote, and [`MAX_VISIT_STEPS`](orca_base::limits::MAX_VISIT_STEPS) for each operator
 /// that the scan reaches.
 pub fn frame<B: Walk, L: Ledger>(board: &mut B, now: Now, steps: &mut Steps<L>)
-    ensures framed { IsFramed (B.desk board.old) (B.desk board.new) now }
-    ensures most { steps.new ≤ steps.old + most_steps (B.desk board.old) now }
-    ensures least { steps.old + (B.desk board.old).scan.dims.h + 1 ≤ steps.new }
+    ensures framed { IsFramed (B.slate board.old) (B.slate board.new) now }
+    ensures most { steps.new ≤ steps.old + most_steps (B.slate board.old) now }
+    ensures least { steps.old + (B.slate board.old).scan.dims.h + 1 ≤ steps.new }
 
     // The covering law: whatever it works on stood there when the frame began.
     ensures covering { IsCovering rule }
@@ -38,13 +38,13 @@ pub fn frame<B: Walk, L: Ledger>(board: &mut B, now: Now, steps: &mut Steps<L>)
 /// Visits the operators of a row, each where the walk finds it. The grid of the last `begin` is the one that
 /// the frame began with.
 fn walk_row<B: Walk, L: Ledger>(board: &mut B, row: u16, now: Now, steps: &mut Steps<L>)
-    requires sheet { IsSheet (B.desk board.old).began }
-    requires row { row < (B.desk board.old).began.dims.h }
-    requires reached { let g = (B.desk board.old).began in
-        B.desk board.old ≡ desk_after_places (row * g.dims.w) g now }
-    ensures reached { let g = (B.desk board.old).began in
-        B.desk board.new ≡ desk_after_places ((row + 1) * g.dims.w) g now }
-    ensures most { let g = (B.desk board.old).began in
+    requires sheet { IsSheet (B.slate board.old).began }
+    requires row { row < (B.slate board.old).began.dims.h }
+    requires reached { let g = (B.slate board.old).began in
+        B.slate board.old ≡ slate_after_places (row * g.dims.w) g now }
+    ensures reached { let g = (B.slate board.old).began in
+        B.slate board.new ≡ slate_after_places ((row + 1) * g.dims.w) g now }
+    ensures most { let g = (B.slate board.old).began in
         steps.new + MAX_VISIT_STEPS * busy_of (row * g.dims.w) g now
         ≤ steps.old + 1 + MAX_VISIT_STEPS * busy_of ((row + 1) * g.dims.w) g now }
     ensures least { steps.old + 1 ≤ steps.new }

@@ -3,10 +3,10 @@ ghost use Rattle.orca_base.specs.declared.limits.TheConstants.{MAX_STEPS};
 ghost use Rattle.orca_base.specs.Glyphs.{is_operator, needs_bang};
 ghost use Rattle.orca_base.specs.Grids.{IsInside};
 ghost use Rattle.orca_frame.specs.Frames.{looks};
-ghost use Rattle.orca_op.specs.Desk.{HasRoom, desk_after_all};
+ghost use Rattle.orca_op.specs.Slate.{HasEventRoom, slate_after_all};
 ghost use Rattle.orca_op.specs.Rules.{rule};
 ghost use Rattle.orca_op.specs.Scan.{visit_deeds};
-ghost use Rattle.orca_op.specs.State.{has_bang, glyph_at, marks_at};
+ghost use Rattle.orca_op.specs.State.{has_bang, state_glyph, marks_at};
 
 use crate::act::act;
 use orca_base::{Glyph, Mark, Now, Place, Steps};
@@ -16,12 +16,12 @@ use std::sync::ledger::Ledger;
 /// Visits a place: does nothing where it is idle, and else the deeds of its operator.
 #[tactic(auto, using(orca_op::proofs::HereFacts::peek_here), unfolding(orca_op::specs::Scan::visit_deeds, orca_op::specs::Scan::is_idle))]
 pub(crate) fn visit<B: Bench, L: Ledger>(bench: &mut B, at: Place, now: Now, steps: &mut Steps<L>)
-    requires inside { IsInside (B.desk bench.old).scan.dims at }
-    requires room { HasRoom (B.desk bench.old) }
-    ensures deeds { B.desk bench.new
-        ≡ desk_after_all (B.desk bench.old) (visit_deeds rule (B.desk bench.old).scan at now) }
+    requires inside { IsInside (B.slate bench.old).scan.dims at }
+    requires room { HasEventRoom (B.slate bench.old) }
+    ensures deeds { B.slate bench.new
+        ≡ slate_after_all (B.slate bench.old) (visit_deeds rule (B.slate bench.old).scan at now) }
     ensures steps { steps.new ≤ steps.old + looks
-        + MAX_STEPS * (if is_operator (glyph_at (B.desk bench.old).scan at) then 1 else 0) }
+        + MAX_STEPS * (if is_operator (state_glyph (B.slate bench.old).scan at) then 1 else 0) }
     ensures later { steps.old + 1 ≤ steps.new }
 {
     let glyph = bench.peek(at.here(), steps);
@@ -39,11 +39,11 @@ pub(crate) fn visit_operator<B: Bench, L: Ledger>(
     now: Now,
     steps: &mut Steps<L>,
 )
-    requires inside { IsInside (B.desk bench.old).scan.dims at }
-    requires operator { IsTrue (is_operator (glyph_at (B.desk bench.old).scan at)) }
-    requires room { HasRoom (B.desk bench.old) }
-    ensures deeds { B.desk bench.new
-        ≡ desk_after_all (B.desk bench.old) (visit_deeds rule (B.desk bench.old).scan at now) }
+    requires inside { IsInside (B.slate bench.old).scan.dims at }
+    requires operator { IsTrue (is_operator (state_glyph (B.slate bench.old).scan at)) }
+    requires room { HasEventRoom (B.slate bench.old) }
+    ensures deeds { B.slate bench.new
+        ≡ slate_after_all (B.slate bench.old) (visit_deeds rule (B.slate bench.old).scan at now) }
     ensures steps { steps.new ≤ steps.old + looks + MAX_STEPS }
     ensures later { steps.old ≤ steps.new }
 {
@@ -60,9 +60,9 @@ pub(crate) fn visit_operator<B: Bench, L: Ledger>(
 /// Whether a place is locked or asleep.
 #[tactic(auto, using(orca_op::proofs::HereFacts::marked_here))]
 fn is_still<B: Bench, L: Ledger>(bench: &B, at: Place, steps: &mut Steps<L>) -> bool
-    requires { IsInside (B.desk bench.now).scan.dims at }
-    ensures still { result ≡ ((marks_at (B.desk bench.now).scan at).lock
-        || (marks_at (B.desk bench.now).scan at).sleep) }
+    requires { IsInside (B.slate bench.now).scan.dims at }
+    ensures still { result ≡ ((marks_at (B.slate bench.now).scan at).lock
+        || (marks_at (B.slate bench.now).scan at).sleep) }
     ensures steps { steps.new ≡ steps.old + 1 }
 {
     let marks = bench.marked_here(at, steps);
@@ -71,7 +71,7 @@ fn is_still<B: Bench, L: Ledger>(bench: &B, at: Place, steps: &mut Steps<L>) -> 
 
 /// Whether a glyph waits for a bang.
 fn waits<B: Bench, L: Ledger>(bench: &B, at: Place, glyph: Glyph, steps: &mut Steps<L>) -> bool
-    ensures waits { result ≡ (needs_bang glyph && not (has_bang (B.desk bench.now).scan at)) }
+    ensures waits { result ≡ (needs_bang glyph && not (has_bang (B.slate bench.now).scan at)) }
     ensures steps { steps.new ≤ steps.old + 4 }
     ensures later { steps.old ≤ steps.new }
 {

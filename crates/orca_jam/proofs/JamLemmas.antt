@@ -24,7 +24,7 @@ use Rattle.orca_jam.specs.declared.answers.JamFault.{JamFault}
 use Rattle.orca_jam.specs.declared.answers.JamReply.{JamReply}
 use Rattle.orca_jam.specs.declared.denial.Denial.{Denial}
 use Rattle.orca_jam.specs.declared.player.Player.{Player}
-use Rattle.orca_term.specs.Editing.{area_of, editor_after, rect_of, slid}
+use Rattle.orca_term.specs.Editing.{area_of, editor_after, selection_rect, slid}
 use Rattle.orca_term.specs.declared.around.Around.{Around}
 use Rattle.orca_term.specs.declared.editor.Editor.{Editor}
 use Rattle.orca_term.specs.declared.editor.Wish.{Wish}
@@ -37,13 +37,13 @@ use Rattle.std.proofs.lemmas.Bool.Decides.{nat_tests}
 use Rattle.std.proofs.lemmas.List.{get_or-set_other, get_or-set_same, length-set, set-get_or, set-set}
 use Rattle.orca_jam.specs.declared.owner.Owner.{Owner}
 use Rattle.orca_edit.specs.Machines.{Acts}
-use Rattle.orca_edit.specs.Obeying.{MachineState, Obeyed, accept, carry_out, jump, obey, piece_of, redo, refuse, rule_against}
+use Rattle.orca_edit.specs.Obeying.{MachineState, Obeyed, accept, carry_out, jump_to, obey, piece_of, redo, refuse, rule_against}
 
 -- ---- what a machine does with a command, by its kind
 
 accept-cases : (m : MachineState) (c : Command) (P : Obeyed → Type 0)
     → ((clip : Option Sheet) (e : Option Entry) → P (carry_out m c clip e))
-    → ((moment : ℕ) → P (jump m moment)) → P (redo m) → ((rule : Rule) → P (refuse m rule))
+    → ((moment : ℕ) → P (jump_to m moment)) → P (redo m) → ((rule : Rule) → P (refuse m rule))
     → P (accept m c)
 unfolding accept
 accept-cases m command.Frame P carried jumped redone refused = carried _ _
@@ -59,7 +59,7 @@ accept-cases m command.Reset P carried jumped redone refused = carried _ _
 accept-cases m command.Undo P carried jumped redone refused =
     by (last_edit m.history)
   where
-    by : (last : Option ℕ) → P (option_map_or (jump m) last (refuse m NothingToUndo))
+    by : (last : Option ℕ) → P (option_map_or (jump_to m) last (refuse m NothingToUndo))
     by (Some i) = jumped i
     by None = refused NothingToUndo
 accept-cases m (command.Rewind moment) P carried jumped redone refused = jumped moment
@@ -67,7 +67,7 @@ accept-cases m command.Redo P carried jumped redone refused = redone
 
 obey-cases : (m : MachineState) (c : Command) (P : Obeyed → Type 0)
     → ((clip : Option Sheet) (e : Option Entry) → P (carry_out m c clip e))
-    → ((moment : ℕ) → P (jump m moment)) → P (redo m) → ((rule : Rule) → P (refuse m rule))
+    → ((moment : ℕ) → P (jump_to m moment)) → P (redo m) → ((rule : Rule) → P (refuse m rule))
     → P (obey m c)
 unfolding obey
 obey-cases m c P carried jumped redone refused = by (rule_against m c)
@@ -84,7 +84,7 @@ carried-limit m c clip None = refl
 carried-limit m c clip (Some e) = refl
 
 obey-limit : (m : MachineState) (c : Command) → (obey m c).machine.limit ≡ m.limit
-unfolding jump redo
+unfolding jump_to redo
 obey-limit m c =
     obey-cases m c (λ o. o.machine.limit ≡ m.limit) (carried-limit m c) (λ moment. refl) refl
     (λ rule. refl)
@@ -104,7 +104,7 @@ carried-ok m c clip None rule is = absurd (ok-err _ _ is)
 carried-ok m c clip (Some e) rule is = absurd (ok-err _ _ is)
 
 obey-refused : (m : MachineState) (c : Command) → AsBefore m (obey m c)
-unfolding jump redo
+unfolding jump_to redo
 obey-refused m c =
     obey-cases m c (AsBefore m) (carried-ok m c) (λ moment rule is. absurd (ok-err _ _ is))
     (λ rule is. absurd (ok-err _ _ is)) (λ refused rule is. (refl, refl))
@@ -183,12 +183,12 @@ no_redo c hand (key.Arrow Slide side by) a shared =
   where
     slides : (at : ℕ × ℕ)
         → is_redo (if at.0 == (player_at c hand).editor.y && at.1 == (player_at c hand).editor.x
-        then wish.Nothing else wish.Do (command.Move (rect_of (player_at c hand).editor) at.0 at.1))
+        then wish.Nothing else wish.Do (command.Move (selection_rect (player_at c hand).editor) at.0 at.1))
         ≡ false
     slides at = either (at.0 == (player_at c hand).editor.y && at.1 == (player_at c hand).editor.x)
       where
         either : (b : Bool) → is_redo (if b then wish.Nothing
-            else wish.Do (command.Move (rect_of (player_at c hand).editor) at.0 at.1)) ≡ false
+            else wish.Do (command.Move (selection_rect (player_at c hand).editor) at.0 at.1)) ≡ false
         either true = refl
         either false = refl
 no_redo c hand (key.Glyph glyph) a shared = refl

@@ -15,7 +15,7 @@ use Rattle.orca_base.specs.declared.place.Place.{Place}
 use Rattle.orca_base.specs.Grids.{Sheet}
 use Rattle.orca_base.specs.Histories.{is_edit, last_edit}
 use Rattle.orca_edit.specs.Machines.{is_jump}
-use Rattle.orca_edit.specs.Obeying.{MachineState, Obeyed, accept, carry_out, clip_after, entry_of, jump, obey, piece_of, place, rule_against, taken_area}
+use Rattle.orca_edit.specs.Obeying.{MachineState, Obeyed, accept, carry_out, clip_after, entry_of, jump_to, obey, piece_of, place, rule_against, taken_area}
 use Rattle.orca_jam.specs.Crews.{CrewState, denial_of}
 use Rattle.orca_jam.specs.Denials.{not_yours}
 use Rattle.orca_jam.specs.Laws.{AreOwners, KeepsOwners, UndoSpares, edits_of_others, is_of_other}
@@ -93,9 +93,9 @@ added-alike h o e w are is =
     ∙ (ap (λ (edit : Bool). map is_edit h ++ edit ∷ []) is ∙ sym entries))
 
 jump-keeps : (m : MachineState) (o : List Owner) (hand : ℕ) (c : Command) (n : ℕ)
-    → AreOwners m.history o → is_jump c ≡ true → obey m c ≡ jump m n
+    → AreOwners m.history o → is_jump c ≡ true → obey m c ≡ jump_to m n
     → let after = (obey m c).machine.history in AreOwners after (owned hand c (length after) o)
-unfolding jump
+unfolding jump_to
 jump-keeps m o hand c n are is jumps =
     rw (jumps, jumped hand c n m.history o are is)
     (added-alike (take n m.history) (take n o) Hush nobodys (first-owners n m.history o are) refl)
@@ -230,12 +230,12 @@ spared hand (e ∷ h) (w ∷ o) i are last own =
 -- ---- an undo
 
 undone : (m : MachineState) (i : ℕ) → rule_against m command.Undo ≡ None
-    → last_edit m.history ≡ Some i → obey m command.Undo ≡ jump m i
+    → last_edit m.history ≡ Some i → obey m command.Undo ≡ jump_to m i
 unfolding obey accept
 undone m i allowed last = rw (allowed, last) refl
 
 rewound : (m : MachineState) (moment : ℕ) → rule_against m (command.Rewind moment) ≡ None
-    → obey m (command.Rewind moment) ≡ jump m moment
+    → obey m (command.Rewind moment) ≡ jump_to m moment
 unfolding obey accept
 rewound m moment allowed = rw allowed refl
 
@@ -269,11 +269,11 @@ own c hand shared denied some =
 
 undo-at : (m : MachineState) (c : CrewState) (hand i : ℕ) → AreOwners m.history c.owners
     → last_edit m.history ≡ Some i → last_editor c.owners ≡ Some hand
-    → obey m command.Undo ≡ jump m i
+    → obey m command.Undo ≡ jump_to m i
     → let after = (obey m command.Undo).machine.history in
     edits_of_others hand after (owned hand command.Undo (length after) c.owners)
     ≡ edits_of_others hand m.history c.owners
-unfolding jump
+unfolding jump_to
 undo-at m c hand i are last mine jumps =
     rw (jumps, jumped hand command.Undo i m.history c.owners are refl)
     (spared hand m.history c.owners i are last mine)

@@ -8,7 +8,7 @@ use Rattle.std.proofs.lemmas.List.Elements.{All-get_or}
 use Rattle.orca_base.specs.declared.limits.TheConstants.{MAX_HANDS}
 use Rattle.orca_base.specs.Grids.{Size}
 use Rattle.orca_jam.specs.Crews.{CrewState, crew_at_start, fitted_crew, fitted_player, new_player, with_player}
-use Rattle.orca_jam.specs.Seats.{IsCrew, crew_of}
+use Rattle.orca_jam.specs.Seats.{IsCrew, seated_crew}
 use Rattle.orca_jam.specs.declared.crew.Crew.TheInside.{Inside}
 use Rattle.orca_jam.specs.declared.owner.Owner.{Owner}
 use Rattle.orca_jam.specs.declared.player.Player.{Player}
@@ -23,17 +23,17 @@ pub hands-of : (c : Inside) → IsCrew c → length (take c.hands c.players) ≡
 hands-of c had = length-take-le c.hands c.players (omega (arith, had.few, had.seats))
 
 -- another player at a seat
-pub seated : (c : Inside) (hand : ℕ) (p : Player) → IsCrew c → hand < length (crew_of c).players
-    → crew_of (record c { players = set c.players hand p }) ≡ with_player hand p (crew_of c)
+pub seated : (c : Inside) (hand : ℕ) (p : Player) → IsCrew c → hand < length (seated_crew c).players
+    → seated_crew (record c { players = set c.players hand p }) ≡ with_player hand p (seated_crew c)
 seated c hand p had there =
-    ap (λ (ps : List Player). record (crew_of c) { players = ps })
+    ap (λ (ps : List Player). record (seated_crew c) { players = ps })
     (take-set-lt c.hands c.players hand p (omega (arith, there, hands-of c had)))
 
 -- each player is fitted
 pub fitted : (c : Inside) (d : Size)
-    → crew_of (record c { players = map (fitted_player d) c.players }) ≡ fitted_crew d (crew_of c)
+    → seated_crew (record c { players = map (fitted_player d) c.players }) ≡ fitted_crew d (seated_crew c)
 fitted c d =
-    ap (λ (ps : List Player). record (crew_of c) { players = ps })
+    ap (λ (ps : List Player). record (seated_crew c) { players = ps })
     (take-map (fitted_player d) c.hands c.players)
 
 -- what holds of all players holds of one

@@ -53,8 +53,8 @@ pub record IsJam (m : MachineState) (c : CrewState) : Type 0 where
   pub inside : AreInside m c
 
 -- what a key is told
-abbrev pub around_at : MachineState → Editor → ScreenSize → Around
-around_at m e screen =
+abbrev pub around_in : MachineState → Editor → ScreenSize → Around
+around_in m e screen =
     let at : Place = record { y = e.y; x = e.x } in
     record {
       dims = (piece_of m).sheet.dims;
@@ -74,20 +74,20 @@ crew_after hand command m c = crew_in m (took_by hand command (length m.history)
 -- ---- answers
 
 -- what a denied key is told
-abbrev pub fault_of : Denial → JamFault
-fault_of denial.LeaderOnly = refused.LeaderOnly
-fault_of (denial.NotYours hand) = refused.NotYours hand
+abbrev pub fault_of_denial : Denial → JamFault
+fault_of_denial denial.LeaderOnly = refused.LeaderOnly
+fault_of_denial (denial.NotYours hand) = refused.NotYours hand
 
 -- what becomes of a wish that is no command
-abbrev pub reply_of : Wish → JamReply
-reply_of wish.Nothing = became.Moved
-reply_of (wish.Do command) = became.Moved
-reply_of wish.Toggle = became.Toggle
-reply_of wish.Save = became.Save
-reply_of wish.Quit = became.Quit
-reply_of (wish.Slower beats) = became.Slower beats
-reply_of (wish.Faster beats) = became.Faster beats
-reply_of (wish.Redraw size) = became.Redraw size
+abbrev pub wish_reply : Wish → JamReply
+wish_reply wish.Nothing = became.Moved
+wish_reply (wish.Do command) = became.Moved
+wish_reply wish.Toggle = became.Toggle
+wish_reply wish.Save = became.Save
+wish_reply wish.Quit = became.Quit
+wish_reply (wish.Slower beats) = became.Slower beats
+wish_reply (wish.Faster beats) = became.Faster beats
+wish_reply (wish.Redraw size) = became.Redraw size
 
 -- why nothing becomes of a command
 abbrev pub failed_of : Command → Fault → JamFault
@@ -95,9 +95,9 @@ failed_of command (fault.Refused rule) = refused.Refused command rule
 failed_of command fault.Memory = refused.Memory
 
 -- what becomes of a command
-abbrev pub answer_of : Command → Result Reply Fault → Result JamReply JamFault
-answer_of command (Ok reply) = Ok (became.Acted command reply)
-answer_of command (Err fault) = Err (failed_of command fault)
+abbrev pub command_reply : Command → Result Reply Fault → Result JamReply JamFault
+command_reply command (Ok reply) = Ok (became.Acted command reply)
+command_reply command (Err fault) = Err (failed_of command fault)
 
 -- ---- a key
 
@@ -116,10 +116,10 @@ AfterCommand s hand command c (Ok reply) t messages = t.crew ≡ crew_after hand
 AfterCommand s hand command c (Err fault) t messages = IsAsBefore s t messages
 
 -- the machine did a command of a hand, whose editor has followed the key
-pub record IsDone (s : JamState) (hand : ℕ) (command : Command) (c : CrewState)
+pub record IsActed (s : JamState) (hand : ℕ) (command : Command) (c : CrewState)
     (answer : Result JamReply JamFault) (t : JamState) (messages : List Message) : Type 0 where
   pub reply : Result Reply Fault
-  pub told : answer ≡ answer_of command reply
+  pub told : answer ≡ command_reply command reply
   pub acts : Acts s.machine command reply t.machine messages
   pub kept : t.kept ≡ kept_after s.machine s.kept command reply
   pub after : AfterCommand s hand command c reply t messages
@@ -127,7 +127,7 @@ pub record IsDone (s : JamState) (hand : ℕ) (command : Command) (c : CrewState
 -- the editor has followed the key, and all else is as before
 pub record IsMoved (s : JamState) (w : Wish) (c : CrewState) (answer : Result JamReply JamFault)
     (t : JamState) (messages : List Message) : Type 0 where
-  pub told : answer ≡ Ok (reply_of w)
+  pub told : answer ≡ Ok (wish_reply w)
   pub machine : t.machine ≡ s.machine
   pub kept : t.kept ≡ s.kept
   pub crew : t.crew ≡ c
@@ -136,19 +136,19 @@ pub record IsMoved (s : JamState) (w : Wish) (c : CrewState) (answer : Result Ja
 -- what is done of a wish of a hand
 abbrev pub Wished : JamState → ℕ → CrewState → Wish → Result JamReply JamFault → JamState
     → List Message → Type 0
-Wished s hand c (wish.Do command) answer t messages = IsDone s hand command c answer t messages
+Wished s hand c (wish.Do command) answer t messages = IsActed s hand command c answer t messages
 Wished s hand c w answer t messages = IsMoved s w c answer t messages
 
 -- what is done of a key of a hand
 abbrev pub Answered : JamState → ℕ → CrewState → Result Wish Denial → Result JamReply JamFault
     → JamState → List Message → Type 0
 Answered s hand c (Err denial) answer t messages =
-    (answer ≡ Err (fault_of denial)) × IsAsBefore s t messages
+    (answer ≡ Err (fault_of_denial denial)) × IsAsBefore s t messages
 Answered s hand c (Ok w) answer t messages = Wished s hand c w answer t messages
 
 -- what a key of a hand is told
 abbrev pub around_of : JamState → ℕ → Around
-around_of s hand = around_at s.machine (player_at s.crew hand).editor s.screen
+around_of s hand = around_in s.machine (player_at s.crew hand).editor s.screen
 
 -- what became of a key of a hand
 abbrev pub Jams : JamState → ℕ → Key → Result JamReply JamFault → JamState → List Message

@@ -5,8 +5,8 @@ use Rattle.orca_jam.specs.Crews.{CrewState}
 use Rattle.orca_jam.specs.declared.crew.Crew.TheInside.{Inside}
 
 -- the players of the hands that there are
-abbrev pub crew_of : Inside → CrewState
-crew_of c = record {
+abbrev pub seated_crew : Inside → CrewState
+seated_crew c = record {
   alone = c.alone;
   players = take c.hands c.players;
   owners = c.owners.items;

@@ -1,7 +1,7 @@
 //! What becomes of a key.
 
 ghost use Rattle.std.specs.Prelude.{◌≡◌};
-ghost use Rattle.orca_jam.specs.Jamming.{failed_of, fault_of, reply_of};
+ghost use Rattle.orca_jam.specs.Jamming.{failed_of, fault_of_denial, wish_reply};
 
 use crate::Denial;
 use orca_base::{Command, Fault, Reply, Rule};
@@ -56,7 +56,7 @@ pub enum JamFault {
 
 /// What a denied key is told.
 pub(crate) fn denied(denial: Denial) -> JamFault
-    ensures { result ≡ fault_of denial }
+    ensures { result ≡ fault_of_denial denial }
 {
     match denial {
         Denial::LeaderOnly => JamFault::LeaderOnly,
@@ -66,7 +66,7 @@ pub(crate) fn denied(denial: Denial) -> JamFault
 
 /// What becomes of a wish that is no command.
 pub(crate) fn moved(wish: &Wish) -> JamReply
-    ensures { result ≡ reply_of wish.now }
+    ensures { result ≡ wish_reply wish.now }
 {
     match wish {
         Wish::Nothing | Wish::Do(_) => JamReply::Moved,

@@ -41,9 +41,9 @@ impl Model for Crew {
 
     ghost Value = { CrewState };
 
-    ghost use Rattle.orca_jam.specs.Seats.{IsCrew, crew_of};
+    ghost use Rattle.orca_jam.specs.Seats.{IsCrew, seated_crew};
 
-    ghost view = { crew_of };
+    ghost view = { seated_crew };
 
     ghost invariant = { IsCrew };
 }

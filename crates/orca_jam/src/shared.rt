@@ -7,7 +7,7 @@ ghost use Rattle.orca_edit.specs.Machines.{Acts};
 ghost use Rattle.orca_edit.specs.Obeying.{piece_of};
 ghost use Rattle.orca_edit.specs.Prices.{charge, kept_after};
 ghost use Rattle.orca_jam.specs.Crews.{player_at};
-ghost use Rattle.orca_jam.specs.Jamming.{AreInside, IsJam, Jams, Wished, around_at, crew_after, crew_in, jam_price, before, jam_state, wish_price};
+ghost use Rattle.orca_jam.specs.Jamming.{AreInside, IsJam, Jams, Wished, around_in, crew_after, crew_in, jam_price, before, jam_state, wish_price};
 ghost use Rattle.orca_term.specs.declared.editor.Wish.TheVariants as wishes;
 ghost use Rattle.orca_term.specs.Editing.{area_of};
 
@@ -33,7 +33,7 @@ pub struct Shared<M> {
 /// What a key is told.
 fn around<M: Machine>(machine: &M, editor: &Editor, screen: ScreenSize) -> Around
     requires inside { IsArea (piece_of (M.machine machine.now)).sheet.dims (area_of editor.now) }
-    ensures { result ≡ around_at (M.machine machine.now) editor.now screen }
+    ensures { result ≡ around_in (M.machine machine.now) editor.now screen }
 {
     machine.is_shown();
     let at = Place {

@@ -11,7 +11,7 @@ use Rattle.orca_course.proofs.PerformanceLemmas.{attended_done}
 use Rattle.orca_trace.specs.Calls.{Poll}
 use Rattle.orca_rig.specs.declared.inbox.Answer.{Answer}
 use Rattle.orca_rig.specs.declared.inbox.Answer.TheVariants as answer
-use Rattle.orca_live.specs.Carrying.{Along, Begins, Carries, Silences, finish_carried, heard_carried, looks_same, onward_carried, open_carried}
+use Rattle.orca_live.specs.Carrying.{Along, BeginsJournal, Carries, Silences, finish_carried, heard_carried, looks_same, onward_carried, open_carried}
 use Rattle.orca_live.specs.Performing.{live_part}
 use Rattle.orca_live.specs.States.{LiveState}
 
@@ -20,7 +20,7 @@ abbrev pub Awaits : (LiveState → List Act → LiveState → Type 0) → Type 0
 Awaits holds = (poll : Poll) (s : LiveState) → holds s (Await poll ∷ []) s
 
 module _ {holds : LiveState → List Act → LiveState → Type 0} (carry : Carries holds)
-    (awaits : Awaits holds) (begins : Begins holds) where
+    (awaits : Awaits holds) (begins : BeginsJournal holds) where
   answered_carried : (a : Answer) (bytes : List ℕ) (s : LiveState)
       → Along holds (heard live_part a bytes s) s
   unfolding heard mapped

@@ -15,7 +15,7 @@ use Rattle.orca_concert.specs.Concerts.{command_course as obey_course}
 use Rattle.orca_course.specs.Acts.{Act, commands_in}
 use Rattle.orca_course.specs.Courses.{Course, each, ended, lastly, lastly_by, mapped, onward, onward_by, still}
 use Rattle.orca_course.specs.Performers.{attended, begun, finished, heard, opened, performance, polled}
-use Rattle.orca_course.specs.Standings.{note_of, standing_closed}
+use Rattle.orca_course.specs.Standings.{refusal_of, standing_closed}
 use Rattle.orca_course.specs.declared.ending.Ending.{Ending}
 use Rattle.orca_course.specs.declared.ending.Ending.TheVariants.{Stopped}
 use Rattle.orca_course.specs.declared.ending.Stop.{Stop}
@@ -43,8 +43,8 @@ use Rattle.orca_term.specs.declared.keys.Pending.{Pending}
 use Rattle.orca_live.specs.Carrying.{Carries, heard_carried, open_carried}
 use Rattle.orca_live.specs.Items.{ByteOf, FrameDue, HeardItem, items_by, items_of}
 use Rattle.orca_live.specs.Laws.{ItemsDecide, PlayAlike}
-use Rattle.orca_live.specs.Performing.{answer_course, answered_at, byte_course, command_course, denied_course, due_course, fired, frame_course, header_course, heard_course, if_named, item_course, journal_course, key_course, lines_course, live_part, lull_course, open_course, owning, painted_course, press_course, read_course, save_course, struck_course, struck_where, update_course, wish_course, write_course}
-use Rattle.orca_live.specs.States.{LiveState, around_at, dims_at, fitted, hands_of, is_full, is_hand, leader_at}
+use Rattle.orca_live.specs.Performing.{answer_course, answered_at, byte_course, hand_course, denied_course, due_course, fired, frame_course, header_course, heard_course, if_named, item_course, journal_course, key_course, lines_course, live_part, lull_course, open_course, owning, painted_course, press_course, read_course, save_course, struck_course, struck_where, update_course, wish_course, write_course}
+use Rattle.orca_live.specs.States.{LiveState, around_at, dims_at, fitted, hands_in, is_full, is_hand, leader_at}
 use Rattle.orca_live.proofs.GivenLemmas.{commands_before, core, core_fitted, finish_closes, open_aside, plain, players_twice, update_aside}
 
 -- ---- the number of hands
@@ -58,8 +58,8 @@ pub owning_hands : (who : ℕ) (c : Command) (refused : Option Rule) (n : ℕ) (
 owning_hands who c refused n crew = grind arith
 
 hands_command : (who : ℕ) (c : Command) (s : LiveState)
-    → KeepsHands s (command_course who c s).acts (command_course who c s).state
-unfolding command_course obey_course onward mapped
+    → KeepsHands s (hand_course who c s).acts (hand_course who c s).state
+unfolding hand_course obey_course onward mapped
 hands_command who c s =
     ap (λ (players : List Player). length players) (owning_hands who c _ _ s.crew)
 
@@ -173,7 +173,7 @@ either_core false s t same = sym same
 
 wish_plain : (hand : ℕ) (w : Wish) (s : LiveState)
     → told (wish_course hand w s) ≡ told (wish_course hand w (plain s))
-unfolding wish_course save_course command_course obey_course onward mapped
+unfolding wish_course save_course hand_course obey_course onward mapped
 wish_plain hand wish.Nothing s = refl
 wish_plain hand (wish.Do command) s = refl
 wish_plain hand wish.Toggle s =
@@ -285,7 +285,7 @@ each_steady f steady (n ∷ ns) s =
 lull_steady : Steady lull_course
 unfolding lull_course
 lull_steady s =
-    each_steady (λ hand. item_course hand Due) (λ hand. item_steady hand Due) (hands_of s) s
+    each_steady (λ hand. item_course hand Due) (λ hand. item_steady hand Due) (hands_in s) s
     ∙ ap (λ (hands : ℕ). told (each (λ hand. item_course hand Due) (range_with_len 0 hands) (core s)))
     (sym (same_hands s))
 
@@ -332,23 +332,23 @@ owned_twice d who c refused n crew =
 abbrev frame_told : LiveState → CrewState → Told
 frame_told s crew =
     let c : Course LiveState Stop =
-    onward (command_course NOBODY Frame s) (λ (t : LiveState). still (fired t)) in
+    onward (hand_course NOBODY Frame s) (λ (t : LiveState). still (fired t)) in
     record (told c) { state = record (plain c.state) { crew = crew } }
 
 -- so an editor that fits it goes on to do so
 frame_by : (full : Bool)
     → Steady (λ s. if full then ended Full s
-    else onward (command_course NOBODY Frame s) (λ t. still (fired t)))
-unfolding command_course obey_course onward mapped
+    else onward (hand_course NOBODY Frame s) (λ t. still (fired t)))
+unfolding hand_course obey_course onward mapped
 frame_by true s = ap (quiet true) (sym (core_fitted s))
 frame_by false s =
     let o = obey s.standing.machine Frame in
-    let crew = owning NOBODY Frame (note_of o.answer) (length o.machine.history) in
+    let crew = owning NOBODY Frame (refusal_of o.answer) (length o.machine.history) in
     ap (frame_told s)
     (ap (λ (d : Size). fitted_crew d (crew s.crew)) (frame_dims s.standing.machine)
-    ∙ (owned_fitted (dims_at s) NOBODY Frame (note_of o.answer) (length o.machine.history) s.crew
+    ∙ (owned_fitted (dims_at s) NOBODY Frame (refusal_of o.answer) (length o.machine.history) s.crew
     ∙ sym (ap (λ (d : Size). fitted_crew d (crew (fitted s).crew)) (frame_dims s.standing.machine)
-    ∙ owned_twice (dims_at s) NOBODY Frame (note_of o.answer) (length o.machine.history) s.crew)))
+    ∙ owned_twice (dims_at s) NOBODY Frame (refusal_of o.answer) (length o.machine.history) s.crew)))
 
 frame_steady : Steady frame_course
 unfolding frame_course

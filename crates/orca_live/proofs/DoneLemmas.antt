@@ -9,7 +9,7 @@ use Rattle.std.specs.Option.{option_map, option_map_or}
 use Rattle.orca_base.specs.declared.command.Command.{Command}
 use Rattle.orca_base.specs.declared.port.Port.TheVariants as port
 use Rattle.orca_base.specs.MarkSet.{MarkSet}
-use Rattle.orca_concert.specs.Concerts.{Concert, concert, close_course as silence_course, command_course as obey_course, stance_of}
+use Rattle.orca_concert.specs.Concerts.{Concert, concert_with, close_course as silence_course, command_course as obey_course, stance_of}
 use Rattle.orca_course.specs.Courses.{Course, each, mapped, onward, still, course}
 use Rattle.orca_course.specs.Doing.{Does, goes_of}
 use Rattle.orca_course.specs.Worlds.{World, Called, owing, Calls, Made, Sated}
@@ -32,7 +32,7 @@ use Rattle.orca_term.specs.Picture.{IsPrintable}
 use Rattle.orca_term.specs.Viewing.{Seen, painting_bytes}
 use Rattle.orca_term.specs.declared.cell.Cell.{Cell}
 use Rattle.orca_term.specs.declared.cell.ScreenSize.{ScreenSize}
-use Rattle.orca_live.specs.Performing.{additions, close_course, command_course, denied_course, lull_course, lines_course, noted, obeyed, of_session, owning, item_course, key_course, press_course, read_course, struck_course, telling, wish_course, paint_course, painted_course, picture_at, preview_course, redrawn, show_course, view_sends}
+use Rattle.orca_live.specs.Performing.{additions, hush_course, hand_course, denied_course, lull_course, lines_course, noted, obeyed_by, of_session, owning, item_course, key_course, press_course, read_course, struck_course, telling, wish_course, paint_course, painted_course, picture_at, preview_course, redrawn, show_course, view_sends}
 use Rattle.orca_live.specs.Quiet.{silent_manner}
 use Rattle.orca_live.specs.States.{LiveState, live_stance, around_at, fitted, piece_at}
 
@@ -55,8 +55,8 @@ redrawn_did d size s last x same none =
 -- a course of it that never ends
 session_did : (c : Concert (Unit {0}) → Course (Concert (Unit {0})) Stop) (s : LiveState)
     (t : Concert (Unit {0})) {x y : World} (result : Result (Option Stop) NoMemory)
-    → (c (concert s.standing tt)).ending ≡ None
-    → Does (stance_of silent_manner) (c (concert s.standing tt)) (concert s.standing tt) x result t y
+    → (c (concert_with s.standing tt)).ending ≡ None
+    → Does (stance_of silent_manner) (c (concert_with s.standing tt)) (concert_with s.standing tt) x result t y
     → Does live_stance (of_session c s) s x (goes_of result) (record s { standing = t.standing }) y
 session_did c s t (Ok end) goes did =
     rw (sym (sym did.did.ending ∙ goes))
@@ -72,17 +72,17 @@ pub command_did : (who : ℕ) (command : Command) (s : LiveState) (t : Concert (
     (end : Option Stop)
     → given ≡ option_map (λ commands. commands ++ command ∷ []) s.given
     → lines ≡ noted s.setting.journal command s.unwritten
-    → crew ≡ owning who command t.standing.tally.note (length t.standing.machine.history) s.crew
+    → crew ≡ owning who command t.standing.tally.refusal (length t.standing.machine.history) s.crew
     → Does (stance_of silent_manner)
-    (obey_course silent_manner 0 command (concert s.standing tt)) (concert s.standing tt) x
+    (obey_course silent_manner 0 command (concert_with s.standing tt)) (concert_with s.standing tt) x
     (Ok end) t y
-    → Does live_stance (command_course who command s) s x (Ok None)
+    → Does live_stance (hand_course who command s) s x (Ok None)
     (record s { standing = t.standing; crew = crew; given = given; unwritten = lines }) y
-unfolding command_course obey_course onward mapped
+unfolding hand_course obey_course onward mapped
 command_did who command s t given lines crew end kept waits owns did =
     let goes : end ≡ None = sym did.did.ending in
     let all = does_mapped {part = stance_of silent_manner} {whole = live_stance}
-    (λ (u : Concert (Unit {0})). obeyed who command s u.standing) (λ end. end) (Ok end) refl
+    (λ (u : Concert (Unit {0})). obeyed_by who command s u.standing) (λ end. end) (Ok end) refl
     (λ u. refl) did in
     rw (kept, waits, owns) (does_from s refl (rw goes at all))
 
@@ -90,11 +90,11 @@ command_did who command s t given lines crew end kept waits owns did =
 pub command_cut : (who : ℕ) (command : Command) (s : LiveState) (t : Concert (Unit {0}))
     (given : Option (List Command)) (lines : List ℕ) {x y : World} (e : NoMemory)
     → Does (stance_of silent_manner)
-    (obey_course silent_manner 0 command (concert s.standing tt)) (concert s.standing tt) x
+    (obey_course silent_manner 0 command (concert_with s.standing tt)) (concert_with s.standing tt) x
     (Err e) t y
-    → Does live_stance (command_course who command s) s x (Err e)
+    → Does live_stance (hand_course who command s) s x (Err e)
     (record s { standing = t.standing; given = given; unwritten = lines }) y
-unfolding command_course obey_course onward mapped
+unfolding hand_course obey_course onward mapped
 command_cut who command s t given lines e did =
     let with : Concert (Unit {0}) → LiveState = λ (u : Concert (Unit {0})).
     record s { standing = u.standing; given = given; unwritten = lines } in
@@ -106,10 +106,10 @@ command_cut who command s t given lines e did =
 -- every note was ended
 pub close_did : (s : LiveState) (t : Concert (Unit {0})) {x y : World}
     (result : Result (Option Stop) NoMemory)
-    → Does (stance_of silent_manner) (silence_course silent_manner (concert s.standing tt))
-    (concert s.standing tt) x result t y
-    → Does live_stance (close_course s) s x (goes_of result) (record s { standing = t.standing }) y
-unfolding close_course silence_course onward mapped
+    → Does (stance_of silent_manner) (silence_course silent_manner (concert_with s.standing tt))
+    (concert_with s.standing tt) x result t y
+    → Does live_stance (hush_course s) s x (goes_of result) (record s { standing = t.standing }) y
+unfolding hush_course silence_course onward mapped
 close_did s t result did = session_did (silence_course silent_manner) s t result refl did
 
 -- ---- keys and items

@@ -18,7 +18,7 @@ use Rattle.orca_edit.specs.Machines.{preview_of}
 use Rattle.orca_jam.specs.Crews.{fitted_player}
 use Rattle.orca_jam.specs.declared.player.Player.{Player}
 use Rattle.orca_term.specs.declared.cell.Cell.{Cell}
-use Rattle.orca_live.specs.Performing.{additions, close_course, command_course, finish_course, header_course, if_named, journal_course, last_course, last_grid_course, last_script_course, lines_course, open_course, paint_course, painted_course, preview_course, save_course, script_course, show_course, update_course, view_sends, write_course}
+use Rattle.orca_live.specs.Performing.{additions, hush_course, hand_course, finish_course, header_course, if_named, journal_course, saves_course, last_grid_course, last_script_course, lines_course, open_course, paint_course, painted_course, preview_course, save_course, script_course, show_course, update_course, view_sends, write_course}
 use Rattle.orca_live.specs.States.{LiveState, dims_at, fitted, piece_at}
 
 -- ---- the commands of acts
@@ -36,8 +36,8 @@ handed_commands (sent ∷ sends) t = handed_commands sends t
 
 -- a command is given once
 pub command_once : (who : ℕ) (command : Command) (s : LiveState)
-    → commands_in (command_course who command s).acts ≡ command ∷ []
-unfolding command_course obey_course onward mapped
+    → commands_in (hand_course who command s).acts ≡ command ∷ []
+unfolding hand_course obey_course onward mapped
 command_once who command s = simp handed_commands
 
 views_commands : (bytes : List ℕ) (cells : List Cell)
@@ -145,8 +145,8 @@ pub open_aside : (s : LiveState) → IsAside s (open_course s)
 unfolding open_course
 open_aside s = aside_then s (journal_course s) (paint_course []) (journal_aside s) (paint_aside [])
 
-last_aside : (s : LiveState) → IsAside s (last_course s)
-unfolding last_course last_grid_course last_script_course save_course script_course
+last_aside : (s : LiveState) → IsAside s (saves_course s)
+unfolding saves_course last_grid_course last_script_course save_course script_course
 last_aside s =
     aside_then s (if_named s.setting.save save_course s)
     (λ t. if_named t.setting.script script_course t)
@@ -164,18 +164,18 @@ pub record Closes (s : LiveState) (acts : List Act) (t : LiveState) : Type 0 whe
   pub standing : t.standing ≡ standing_closed s.standing
 
 -- it goes on after the close
-close_goes : (s : LiveState) → (close_course s).ending ≡ None
-unfolding close_course silence_course onward mapped
+close_goes : (s : LiveState) → (hush_course s).ending ≡ None
+unfolding hush_course silence_course onward mapped
 close_goes s = refl
 
 -- those of a close, and then others without a command
 closes_with : (s : LiveState) (acts : List Act) → commands_in acts ≡ []
-    → Closes s ((close_course s).acts ++ acts) (close_course s).state
-unfolding close_course silence_course onward mapped
+    → Closes s ((hush_course s).acts ++ acts) (hush_course s).state
+unfolding hush_course silence_course onward mapped
 closes_with s acts none = record {
   commands = λ before.
-      commands_before before ((close_course s).acts ++ acts)
-      (commands_before (close_course s).acts acts none ∙ simp handed_commands);
+      commands_before before ((hush_course s).acts ++ acts)
+      (commands_before (hush_course s).acts acts none ∙ simp handed_commands);
   given = refl;
   standing = refl;
 }
@@ -183,11 +183,11 @@ closes_with s acts none = record {
 pub finish_closes : (s : LiveState) → Closes s (finish_course s).acts (finish_course s).state
 unfolding finish_course
 finish_closes s =
-    let c = close_course s in
+    let c = hush_course s in
     let t = c.state in
-    let after = aside_then t (write_course t) last_course (write_aside t) last_aside in
+    let after = aside_then t (write_course t) saves_course (write_aside t) last_aside in
     let closes = closes_with s _ after.commands in
-    rw (onward_goes c (λ t. onward (write_course t) last_course) (close_goes s)) (record {
+    rw (onward_goes c (λ t. onward (write_course t) saves_course) (close_goes s)) (record {
       commands = closes.commands;
       given = ap (λ (u : LiveState). u.given) after.same ∙ closes.given;
       standing = ap (λ (u : LiveState). u.standing) after.same ∙ closes.standing;

@@ -33,8 +33,8 @@ use Rattle.orca_term.specs.declared.keys.Pending.{Pending}
 use Rattle.orca_trace.specs.Calls.{Poll}
 use Rattle.orca_live.specs.Hands.{EachIsHeard, items_for, pending_after}
 use Rattle.orca_live.specs.Items.{ByteOf, HeardItem, items_by, items_of}
-use Rattle.orca_live.specs.Performing.{answer_course, answered_at, byte_course, command_course, denied_course, due_course, fired, frame_course, heard_course, item_course, key_course, live_part, lull_course, open_course, press_course, read_course, save_course, struck_course, struck_where, update_course, wish_course}
-use Rattle.orca_live.specs.States.{LiveState, Setting, around_at, dims_at, fitted, hands_of, is_full, is_hand, leader_at}
+use Rattle.orca_live.specs.Performing.{answer_course, answered_at, byte_course, hand_course, denied_course, due_course, fired, frame_course, heard_course, item_course, key_course, live_part, lull_course, open_course, press_course, read_course, save_course, struck_course, struck_where, update_course, wish_course}
+use Rattle.orca_live.specs.States.{LiveState, Setting, around_at, dims_at, fitted, hands_in, is_full, is_hand, leader_at}
 use Rattle.orca_live.proofs.CuttingLaw.{keys_fitted, owning_hands}
 use Rattle.orca_live.proofs.GivenLemmas.{core, open_aside, update_aside}
 use Rattle.orca_live.proofs.ScriptLaw.{obeys_commands}
@@ -127,7 +127,7 @@ either_reads hand false r s t first second = second
 
 wish_reads : (hand other : ℕ) (w : Wish) (s : LiveState)
     → Reads hand [] s (wish_course other w s).state
-unfolding wish_course save_course command_course obey_course onward mapped
+unfolding wish_course save_course hand_course obey_course onward mapped
 wish_reads hand other wish.Nothing s = reads_none hand s
 wish_reads hand other (wish.Do command) s =
     reads_same hand s _ refl (owning_hands other command _ _ s.crew)
@@ -235,8 +235,8 @@ item_reads hand other item s there =
 frame_reads : (hand : ℕ) (full : Bool) (s : LiveState)
     → Reads hand [] s
     (if full then ended Full s
-    else onward (command_course NOBODY Frame s) (λ (t : LiveState). still (fired t))).state
-unfolding command_course obey_course onward mapped
+    else onward (hand_course NOBODY Frame s) (λ (t : LiveState). still (fired t))).state
+unfolding hand_course obey_course onward mapped
 frame_reads hand true s = reads_none hand s
 frame_reads hand false s = reads_same hand s _ refl (owning_hands NOBODY Frame _ _ s.crew)
 
@@ -306,7 +306,7 @@ module _ (hand n : ℕ) (there : nat_lt hand n ≡ true) where
   unfolding lull_course
   heeds_lull s are goes =
       let some = heeds_each (λ other. given hand other Due) (λ other. item_course other Due)
-      (λ other. heeds_item other Due) (hands_of s) s are goes in
+      (λ other. heeds_item other Due) (hands_in s) s are goes in
       let below = ltb-true hand (length s.crew.players) (there_at s are) in
       rw (dues_once hand 0 (length s.crew.players) (omega arith) (omega arith)) at some
 

@@ -29,9 +29,9 @@ use Rattle.orca_script.specs.Runs.{printed_header}
 use Rattle.orca_term.specs.Viewing.{painting_bytes}
 use Rattle.orca_term.specs.declared.cell.Cell.{Cell}
 use Rattle.orca_trace.specs.Calls.{Poll}
-use Rattle.orca_live.specs.Carrying.{Carries, IsSaved, answer_carried, finish_carried, first_carried, heard_carried}
+use Rattle.orca_live.specs.Carrying.{Carries, IsSavedName, answer_carried, finish_carried, first_carried, heard_carried}
 use Rattle.orca_live.specs.Journals.{IsApart, JournalsPerformance, held_after, journal_text}
-use Rattle.orca_live.specs.Performing.{additions, answer_course, close_course, command_course, denied_course, finish_course, header_course, heard_course, if_named, journal_course, last_course, last_grid_course, last_script_course, lines_course, live_part, noted, open_course, paint_course, painted_course, picture_at, preview_course, save_course, script_course, show_course, update_course, view_sends, write_course}
+use Rattle.orca_live.specs.Performing.{additions, answer_course, hush_course, hand_course, denied_course, finish_course, header_course, heard_course, if_named, journal_course, saves_course, last_grid_course, last_script_course, lines_course, live_part, noted, open_course, paint_course, painted_course, picture_at, preview_course, save_course, script_course, show_course, update_course, view_sends, write_course}
 use Rattle.orca_live.specs.States.{LiveState, Setting}
 
 -- ---- acts after acts
@@ -185,7 +185,7 @@ apart_by : (name other grid : List ℕ) (save script : Option (List ℕ)) → na
     → bytes_eq other name ≡ false
 apart_by name other grid save script first second third saved = grind (arith, bytes_eq-Decides)
 
-other_name : (name other : List ℕ) (set : Setting) → IsApart name set → IsSaved other set
+other_name : (name other : List ℕ) (set : Setting) → IsApart name set → IsSavedName other set
     → bytes_eq other name ≡ false
 other_name name other set apart saved =
     apart_by name other set.grid set.save set.script apart.grid apart.save apart.script saved
@@ -248,8 +248,8 @@ module _ (name : List ℕ) (set : Setting) (kept : set.journal ≡ Some name)
       )
 
   writes_command : (who : ℕ) (command : Command) (s : LiveState)
-      → Writes name set s (command_course who command s).acts (command_course who command s).state
-  unfolding command_course obey_course onward mapped
+      → Writes name set s (hand_course who command s).acts (hand_course who command s).state
+  unfolding hand_course obey_course onward mapped
   writes_command who command s is =
       let o = obey s.standing.machine command in (
         is,
@@ -268,8 +268,8 @@ module _ (name : List ℕ) (set : Setting) (kept : set.journal ≡ Some name)
   writes_denied hand denial s is = (is, λ held given waits. waits)
 
   writes_close : (s : LiveState)
-      → Writes name set s (close_course s).acts (close_course s).state
-  unfolding close_course silence_course onward mapped
+      → Writes name set s (hush_course s).acts (hush_course s).state
+  unfolding hush_course silence_course onward mapped
   writes_close s is = (
     is,
     λ held given waits.
@@ -277,7 +277,7 @@ module _ (name : List ℕ) (set : Setting) (kept : set.journal ≡ Some name)
         (handed_of true (ends (notes_of s.standing))) (standing_closed s.standing) waits,
   )
 
-  writes_save : (other bytes : List ℕ) (s : LiveState) → IsSaved other s.setting
+  writes_save : (other bytes : List ℕ) (s : LiveState) → IsSavedName other s.setting
       → Writes name set s (Save other bytes ∷ []) s
   writes_save other bytes s saved is = (
     is,
@@ -464,7 +464,7 @@ module _ (name : List ℕ) (set : Setting) (kept : set.journal ≡ Some name)
 
   -- at the end nothing waits
   finish_written : (s : LiveState) → s.setting ≡ set → (finish_course s).state.unwritten ≡ []
-  unfolding finish_course close_course silence_course write_course lines_course last_course last_grid_course last_script_course save_course script_course onward mapped
+  unfolding finish_course hush_course silence_course write_course lines_course saves_course last_grid_course last_script_course save_course script_course onward mapped
   finish_written s is = rw (is, kept) (grind arith)
 
   last_written : (end : Option Ending) (c : Course LiveState Ending) → c.state.setting ≡ set

@@ -15,8 +15,8 @@ use Rattle.orca_term.specs.Keys.{Byte, Due, Item}
 use Rattle.orca_term.specs.declared.editor.Wish.{Wish}
 use Rattle.orca_term.specs.declared.editor.Wish.TheVariants as wish
 use Rattle.orca_term.specs.declared.keys.Key.{Key}
-use Rattle.orca_live.specs.Performing.{answer_course, answered_at, byte_course, command_course, denied_course, due_course, frame_course, heard_course, item_course, key_course, live_part, lull_course, press_course, read_course, save_course, struck_course, struck_where, update_course, wish_course}
-use Rattle.orca_live.specs.States.{LiveState, fitted, hands_of, is_full, is_hand}
+use Rattle.orca_live.specs.Performing.{answer_course, answered_at, byte_course, hand_course, denied_course, due_course, frame_course, heard_course, item_course, key_course, live_part, lull_course, press_course, read_course, save_course, struck_course, struck_where, update_course, wish_course}
+use Rattle.orca_live.specs.States.{LiveState, fitted, hands_in, is_full, is_hand}
 use Rattle.orca_live.proofs.GivenLemmas.{finish_closes, open_aside, update_aside}
 
 -- what a full history at the frame of an answer would need
@@ -28,7 +28,7 @@ AtFull Q a s = Unit {0}
 module _ (P : Stop → Type 0) (left : P Left) where
   -- a key ends it by leaving alone
   wish_leaves : (hand : ℕ) (w : Wish) (s : LiveState) → IfSome (wish_course hand w s).ending P
-  unfolding wish_course save_course command_course obey_course onward mapped
+  unfolding wish_course save_course hand_course obey_course onward mapped
   wish_leaves hand wish.Quit s = left
   wish_leaves hand _ s = tt
 
@@ -65,12 +65,12 @@ module _ (P : Stop → Type 0) (left : P Left) where
   unfolding lull_course
   lull_leaves s =
       each-kind (λ end. IfSome end P) (λ hand. item_course hand Due) tt
-      (λ hand t. item_leaves hand Due t) (hands_of s) s
+      (λ hand t. item_leaves hand Due t) (hands_in s) s
 
   -- a frame ends it where the history is full
   frame_ends : (full : Bool) (s : LiveState) → is_full s ≡ full → (full ≡ true → P Full)
       → IfSome (frame_course s).ending P
-  unfolding frame_course command_course obey_course onward mapped
+  unfolding frame_course hand_course obey_course onward mapped
   frame_ends true s is ends = rw is (ends refl)
   frame_ends false s is ends = rw is tt
 

@@ -13,7 +13,7 @@ use Rattle.orca_course.specs.Acts.{Act, gives}
 use Rattle.orca_course.specs.Acts.Act.{Show, Stand}
 use Rattle.orca_course.specs.Courses.{Course, each, ended, mapped, onward, onward_by, still}
 use Rattle.orca_course.specs.Performers.{attended, begun, heard, opened, polled}
-use Rattle.orca_course.specs.Standings.{Standing, note_of, standing_after}
+use Rattle.orca_course.specs.Standings.{Standing, refusal_of, standing_after}
 use Rattle.orca_course.specs.declared.ending.Ending.{Ending}
 use Rattle.orca_course.specs.declared.ending.Stop.{Stop}
 use Rattle.orca_course.specs.declared.ending.Stop.TheVariants.{Full}
@@ -41,8 +41,8 @@ use Rattle.orca_term.specs.declared.keys.Pending.TheVariants.{Nothing, Lone, Seq
 use Rattle.orca_trace.specs.Calls.{Poll}
 use Rattle.orca_live.specs.Hands.{HandsShare, HasOwners, giver, owners_after, owners_given}
 use Rattle.orca_live.specs.Laws.{so_far}
-use Rattle.orca_live.specs.Performing.{additions, answer_course, answered_at, byte_course, command_course, denied_course, due_course, fired, frame_course, header_course, heard_course, if_named, item_course, journal_course, key_course, lines_course, live_part, lull_course, open_course, owning, paint_course, painted_course, picture_at, press_course, preview_course, read_course, save_course, show_course, struck_course, struck_where, update_course, view_sends, wish_course, write_course}
-use Rattle.orca_live.specs.States.{LiveState, around_at, fitted, hands_of, is_full, is_hand, leader_at, piece_at}
+use Rattle.orca_live.specs.Performing.{additions, answer_course, answered_at, byte_course, hand_course, denied_course, due_course, fired, frame_course, header_course, heard_course, if_named, item_course, journal_course, key_course, lines_course, live_part, lull_course, open_course, owning, paint_course, painted_course, picture_at, press_course, preview_course, read_course, save_course, show_course, struck_course, struck_where, update_course, view_sends, wish_course, write_course}
+use Rattle.orca_live.specs.States.{LiveState, around_at, fitted, hands_in, is_full, is_hand, leader_at, piece_at}
 use Rattle.orca_live.proofs.OwningLaw.{led, owning_obeyed, owns_by, owns_same, owns_so_far, spares_allowed, spares_key}
 
 -- ---- acts of a hand
@@ -113,7 +113,7 @@ given_by who c s (Some rule) is other has =
     let m = s.standing.machine in
     let own : List Owner = owned who c (length (obey m c).machine.history) s.crew.owners in
     ap (λ (o : Obeyed).
-    (owning who c (note_of o.answer) (length o.machine.history) s.crew).owners)
+    (owning who c (refusal_of o.answer) (length o.machine.history) s.crew).owners)
     (refused_by m c rule is)
     ∙ sym (ap (λ (against : Option Rule). option_map_or (λ rule. s.crew.owners) against own) is)
 
@@ -126,8 +126,8 @@ handed_owners who [] at ys m owners = refl
 handed_owners who (sent ∷ sends) at ys m owners = handed_owners who sends at ys m owners
 
 names_command : (who : ℕ) (c : Command) (s : LiveState) → c ≢ command.Redo
-    → Names who s (command_course who c s).acts (command_course who c s).state
-unfolding command_course obey_course onward mapped
+    → Names who s (hand_course who c s).acts (hand_course who c s).state
+unfolding hand_course obey_course onward mapped
 names_command who c s other has =
     let m = s.standing.machine in
     let o = obey m c in
@@ -244,17 +244,17 @@ names_lull : (who : ℕ) (s : LiveState) → Names who s (lull_course s).acts (l
 unfolding lull_course item_course
 names_lull who s =
     each-holds (Names who) (λ hand. item_course hand Due) (names_none who) (names_twice who)
-    (λ hand t. escape_by who hand t (is_hand hand t)) (hands_of s) s
+    (λ hand t. escape_by who hand t (is_hand hand t)) (hands_in s) s
 
 frame_by : (full : Bool) (s : LiveState)
     → let c : Course LiveState Stop =
     if full then ended Full s
-    else onward (command_course NOBODY command.Frame s) (λ (t : LiveState). still (fired t)) in
+    else onward (hand_course NOBODY command.Frame s) (λ (t : LiveState). still (fired t)) in
     Names NOBODY s c.acts c.state
 unfolding onward
 frame_by true s = names_none NOBODY s
 frame_by false s =
-    let c = command_course NOBODY command.Frame s in
+    let c = hand_course NOBODY command.Frame s in
     let next : LiveState → Course LiveState Stop = λ (t : LiveState). still (fired t) in
     names_onward NOBODY s c.ending c next (names_command NOBODY command.Frame s (λ same. cc))
     (λ t. names_same NOBODY t (fired t) refl refl)

@@ -17,9 +17,9 @@ use Rattle.orca_base.specs.MarkSet.{MarkSet}
 use Rattle.orca_concert.specs.Concerts.{command_course as obey_course}
 use Rattle.orca_course.specs.Acts.{Act}
 use Rattle.orca_course.specs.Courses.{Course, mapped, onward}
-use Rattle.orca_course.specs.Standings.{note_of, standing_after}
+use Rattle.orca_course.specs.Standings.{refusal_of, standing_after}
 use Rattle.orca_course.specs.declared.ending.Stop.{Stop}
-use Rattle.orca_edit.specs.Obeying.{MachineState, Obeyed, Test, accept, adds_entry, block_tests, carry_out, clip_after, entry_of, first_standing, has_no_room, jump, obey, piece_of, redoes_nothing, refuse, rewinds_too_far, rule_against, taken_area, test, undoes_nothing}
+use Rattle.orca_edit.specs.Obeying.{MachineState, Obeyed, Test, accept, adds_entry, block_tests, carry_out, clip_after, entry_of, first_standing, has_no_room, jump_to, obey, piece_of, redoes_nothing, refuse, rewinds_too_far, rule_against, taken_area, test, undoes_nothing}
 use Rattle.orca_jam.specs.Crews.{CrewState, denial_of, struck_by}
 use Rattle.orca_jam.specs.Laws.{edits_of_others}
 use Rattle.orca_jam.specs.declared.denial.Denial.{Denial}
@@ -31,7 +31,7 @@ use Rattle.orca_live.specs.Carrying.{Carries}
 use Rattle.orca_live.proofs.Carried.{begun_carried}
 use Rattle.orca_live.specs.Hands.{HasOwners, StartsWithOwners}
 use Rattle.orca_live.specs.Laws.{so_far}
-use Rattle.orca_live.specs.Performing.{command_course, denied_course, header_course, if_named, journal_course, key_course, lines_course, obeyed, owning, painted_course, struck_course, struck_where, wish_course, write_course}
+use Rattle.orca_live.specs.Performing.{hand_course, denied_course, header_course, if_named, journal_course, key_course, lines_course, obeyed_by, owning, painted_course, struck_course, struck_where, wish_course, write_course}
 use Rattle.orca_live.specs.States.{LiveState, around_at, fitted}
 
 -- ---- the rules
@@ -105,7 +105,7 @@ edit_below (e ∷ h) i is =
 
 -- what an accepted command makes of a session
 record IsTaken (m : MachineState) (o : Obeyed) : Type 0 where
-  pub note : note_of o.answer ≡ None
+  pub note : refusal_of o.answer ≡ None
   pub limit : o.machine.limit ≡ m.limit
   pub fits : length m.history ≤ m.limit → length o.machine.history ≤ m.limit
 
@@ -132,8 +132,8 @@ taken_entered m c allowed adds is =
     (taken_entry m c (clip_after m.clip (piece_of m).sheet (taken_area d c)) (entry_of d m.clip c)
     (has_room m c allowed adds))
 
-taken_jump : (m : MachineState) (i : ℕ) → i < length m.history → IsTaken m (jump m i)
-unfolding jump
+taken_jump : (m : MachineState) (i : ℕ) → i < length m.history → IsTaken m (jump_to m i)
+unfolding jump_to
 taken_jump m i below = record {
   note = refl;
   limit = refl;
@@ -147,7 +147,7 @@ taken_jump m i below = record {
 
 taken_undo : (m : MachineState) (last : Option ℕ) → last_edit m.history ≡ last
     → rule_against m command.Undo ≡ None
-    → IsTaken m (option_map_or (jump m) last (refuse m NothingToUndo))
+    → IsTaken m (option_map_or (jump_to m) last (refuse m NothingToUndo))
 unfolding rule_against
 taken_undo m (Some i) is allowed = taken_jump m i (edit_below m.history i is)
 taken_undo m None is allowed = absurd (none-some NothingToUndo (sym allowed ∙ rw is refl))
@@ -192,13 +192,13 @@ pub owning_obeyed : (who : ℕ) (c : Command) (s : LiveState) → HasOwners s
     → rule_against s.standing.machine c ≡ None → c ≢ command.Redo
     → let o = obey s.standing.machine c in
     let n = length o.machine.history in
-    owning who c (note_of o.answer) n s.crew
+    owning who c (refusal_of o.answer) n s.crew
     ≡ record s.crew { owners = owned who c n s.crew.owners }
 owning_obeyed who c s has allowed other =
     let m = s.standing.machine in
     let o = obey m c in
     let is = taken_obeyed m c allowed other in
-    owning_taken who c (note_of o.answer) (length o.machine.history) s.crew is.note has.shared
+    owning_taken who c (refusal_of o.answer) (length o.machine.history) s.crew is.note has.shared
     (omega (arith, is.fits has.fits, has.room))
 
 -- ---- steps
@@ -223,7 +223,7 @@ owns_same s t standing crew has =
 
 -- where a command leads
 abbrev pub led : ℕ → Command → LiveState → Obeyed → LiveState
-led who c s o = obeyed who c s (standing_after s.standing o)
+led who c s o = obeyed_by who c s (standing_after s.standing o)
 
 owns_accepted : (who : ℕ) (c : Command) (s : LiveState) → HasOwners s
     → rule_against s.standing.machine c ≡ None → c ≢ command.Redo
@@ -263,8 +263,8 @@ owns_by who c s (Some rule) is other has =
 
 owns_command : (who : ℕ) (c : Command) (s : LiveState)
     → (s.crew.alone ≡ false → c ≢ command.Redo)
-    → Owns s (command_course who c s).acts (command_course who c s).state
-unfolding command_course obey_course onward mapped
+    → Owns s (hand_course who c s).acts (hand_course who c s).state
+unfolding hand_course obey_course onward mapped
 owns_command who c s may has =
     owns_by who c s (rule_against s.standing.machine c) refl (may has.shared) has
 
@@ -323,8 +323,8 @@ Spares hand s t =
 pub spares_allowed : (hand : ℕ) (s : LiveState) → HasOwners s
     → denial_of s.crew hand key.Undo ≡ None
     → rule_against s.standing.machine command.Undo ≡ None
-    → Spares hand s (command_course hand command.Undo s).state
-unfolding command_course obey_course onward mapped
+    → Spares hand s (hand_course hand command.Undo s).state
+unfolding hand_course obey_course onward mapped
 spares_allowed hand s has granted allowed =
     let m = s.standing.machine in
     let is = owning_obeyed hand command.Undo s has allowed (λ same. cc) in
@@ -336,8 +336,8 @@ spares_allowed hand s has granted allowed =
 spares_by : (hand : ℕ) (s : LiveState) (rule : Option Rule)
     → rule_against s.standing.machine command.Undo ≡ rule → HasOwners s
     → denial_of s.crew hand key.Undo ≡ None
-    → Spares hand s (command_course hand command.Undo s).state
-unfolding command_course obey_course onward mapped obey
+    → Spares hand s (hand_course hand command.Undo s).state
+unfolding hand_course obey_course onward mapped obey
 spares_by hand s None is has granted = spares_allowed hand s has granted is
 spares_by hand s (Some rule) is has granted =
     let m = s.standing.machine in

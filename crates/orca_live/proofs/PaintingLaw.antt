@@ -24,7 +24,7 @@ use Rattle.orca_term.proofs.Views.{shown_bytes}
 use Rattle.orca_live.specs.Carrying.{Carries}
 use Rattle.orca_live.proofs.Carried.{performance_carried}
 use Rattle.orca_live.specs.Paintings.{ShowsPerformance, ShowsPictures, viewed, views_in}
-use Rattle.orca_live.specs.Performing.{additions, close_course, command_course, denied_course, header_course, if_named, journal_course, lines_course, live_part, painted_course, picture_at, view_sends, write_course}
+use Rattle.orca_live.specs.Performing.{additions, hush_course, hand_course, denied_course, header_course, if_named, journal_course, lines_course, live_part, painted_course, picture_at, view_sends, write_course}
 use Rattle.orca_live.specs.States.{LiveState}
 
 -- ---- acts after acts
@@ -106,8 +106,8 @@ handed_shows d after t (message ∷ messages) sent seen =
     (rw (sym (append-nil _) ∙ no_views message, append-nil sent) seen)
 
 displays_command : (who : ℕ) (command : Command) (s : LiveState)
-    → Displays s (command_course who command s).acts (command_course who command s).state
-unfolding command_course obey_course onward mapped
+    → Displays s (hand_course who command s).acts (hand_course who command s).state
+unfolding hand_course obey_course onward mapped
 displays_command who command s d sent seen =
     let o = obey s.standing.machine command in
     handed_shows d (λ e sent. IsSeen e s.screen s.shown sent) (standing_after s.standing o)
@@ -118,8 +118,8 @@ displays_denied : (hand : ℕ) (denial : Denial) (s : LiveState)
 unfolding denied_course
 displays_denied hand denial s d sent seen = rw append-nil seen
 
-displays_close : (s : LiveState) → Displays s (close_course s).acts (close_course s).state
-unfolding close_course silence_course onward mapped
+displays_close : (s : LiveState) → Displays s (hush_course s).acts (hush_course s).state
+unfolding hush_course silence_course onward mapped
 displays_close s d sent seen =
     handed_shows d (λ e sent. IsSeen e s.screen s.shown sent) (standing_closed s.standing)
     (ends (notes_of s.standing)) sent seen

@@ -4,7 +4,7 @@ use Rattle.std.specs.Prelude.{◌==◌, Option, Some, None, option_and_then}
 use Rattle.std.proofs.lemmas.Bool.{and_parts}
 use Rattle.std.proofs.lemmas.Bool.Decides.{nat_tests}
 use Rattle.orca_base.specs.declared.limits.TheConstants.{MAX_COLUMNS}
-use Rattle.orca_term.specs.Keys.{Item, Byte, Due, arrow_in, arrow_key, arrow_keys, button_key, edges, ended_key, found_in, further_keys, further_sequence, key_at_end, key_of, key_of_numbers, key_of_sequence, lone_keys, mouse_key, mouse_sequence, numbered_edges, numbered_keys, numbers_in, paged_key, pages, plain_key, plain_sequence, shifted_keys, sides, turn, wheel}
+use Rattle.orca_term.specs.Keys.{Item, Byte, Due, arrow_in, arrow_key, arrow_keys, button_key, edges, ended_key, found_in, further_keys, further_sequence, key_at_end, key_of, key_of_numbers, key_of_sequence, lone_keys, mouse_key, mouse_sequence, numbered_edges, numbered_keys, numbers_in, paged_key, pages, plain_key, plain_sequence, shifted_keys, arrow_sides, turn, wheel}
 use Rattle.orca_term.specs.declared.keys.Key.{Key}
 use Rattle.orca_term.specs.declared.keys.Key.TheVariants as key
 use Rattle.orca_term.specs.declared.keys.Pending.{Pending}
@@ -80,7 +80,7 @@ in_other : (table : List (ℕ × Side)) (n m by : ℕ) → IsOther (arrow_in tab
 in_other table n m by = other_then (arrow_key m by) (found_in table n) (arrow_other m by)
 
 ended_other : (last m : ℕ) → IsOther (ended_key last m)
-ended_other last m = grind (arith, in_other sides last m 1, in_other edges last m MAX_COLUMNS)
+ended_other last m = grind (arith, in_other arrow_sides last m 1, in_other edges last m MAX_COLUMNS)
 
 paged_other : (n m : ℕ) → IsOther (paged_key n m)
 paged_other n m =

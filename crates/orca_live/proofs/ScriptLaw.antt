@@ -8,12 +8,12 @@ use Rattle.orca_base.specs.declared.command.Command.TheVariants as command
 use Rattle.orca_base.specs.declared.command.Reply.{Reply}
 use Rattle.orca_base.specs.declared.command.Rule.{Rule}
 use Rattle.orca_base.specs.MarkSet.{MarkSet}
-use Rattle.orca_concert.specs.Concerts.{Concert, after_cue, command_course as obey_course, concert, cue_course, cues_course, halt_of, order_course}
+use Rattle.orca_concert.specs.Concerts.{Concert, after_cue, command_course as obey_course, concert_with, cue_course, cues_course, halt_of, order_course}
 use Rattle.orca_concert.specs.Manners.{Manner}
 use Rattle.orca_course.specs.Acts.{Act, commands_in}
 use Rattle.orca_course.specs.Courses.{Course, each, lastly, lastly_by, mapped, onward}
 use Rattle.orca_course.specs.Performers.{begun, finished, performance}
-use Rattle.orca_course.specs.Standings.{Standing, note_of}
+use Rattle.orca_course.specs.Standings.{Standing, refusal_of}
 use Rattle.orca_course.specs.declared.ending.Ending.{Ending}
 use Rattle.orca_course.specs.declared.ending.Stop.{Stop}
 use Rattle.orca_course.proofs.ActLemmas.{commands_in-append}
@@ -31,7 +31,7 @@ use Rattle.orca_live.proofs.Carried.{begun_carried}
 use Rattle.orca_live.specs.Hands.{after_commands}
 use Rattle.orca_live.specs.Journals.{LeadsBack}
 use Rattle.orca_live.specs.Laws.{GoesOn, Replays, ReplaysScript, replayed, so_far}
-use Rattle.orca_live.specs.Performing.{additions, command_course, denied_course, header_course, if_named, journal_course, lines_course, live_part, painted_course, write_course}
+use Rattle.orca_live.specs.Performing.{additions, hand_course, denied_course, header_course, if_named, journal_course, lines_course, live_part, painted_course, write_course}
 use Rattle.orca_live.specs.States.{LiveState}
 use Rattle.orca_live.proofs.GivenLemmas.{command_once, finish_closes, paint_commands}
 
@@ -76,8 +76,8 @@ keeps_twice r s t xs ys first second =
     ∙ simp (commands_in-append, kept_twice, after_commands-append))
 
 keeps_command : (who : ℕ) (command : Command) (s : LiveState)
-    → Keeps s (command_course who command s).acts (command_course who command s).state
-unfolding command_course obey_course onward mapped
+    → Keeps s (hand_course who command s).acts (hand_course who command s).state
+unfolding hand_course obey_course onward mapped
 keeps_command who command s = ap (λ commands. after commands s) (sym (command_once who command s))
 
 keeps_denied : (hand : ℕ) (denial : Denial) (s : LiveState)
@@ -134,7 +134,7 @@ ran over c = (c.state.standing.machine, over c.ending)
 order_by : (answer : Result Reply Rule) (end : Option Stop)
     (c : Course (Concert (Unit {0})) _)
     (next : Concert (Unit {0}) → Course (Concert (Unit {0})) _) (more : MachineState)
-    → end ≡ None → c.ending ≡ halt_of (note_of answer) end
+    → end ≡ None → c.ending ≡ halt_of (refusal_of answer) end
     → ran after_cue (next c.state) ≡ (more, None)
     → ((rule : Rule) → answer ≡ Err rule → more ≡ c.state.standing.machine)
     → ran after_cue (onward c next) ≡ (more, None)
@@ -207,7 +207,7 @@ module _ (m : Manner (Unit {0})) (goes : GoesOn m) where
       → replayed m commands s ≡ after_commands commands s.machine
   replayed_machine commands s =
       ap (λ (x : MachineState × Option Stop). x.0)
-      (cues_replay (lines_behind 0 commands) 2 (concert s tt))
+      (cues_replay (lines_behind 0 commands) 2 (concert_with s tt))
       ∙ ap (λ list. after_commands list s.machine) (behind_same commands 0)
 
 -- ---- a performance
@@ -258,6 +258,6 @@ pub leads_back : LeadsBack
 leads_back polls s m goes =
     let commands = commands_in (so_far s polls).acts in
     ap (λ (x : MachineState × Option Stop). x.0)
-    (cues_replay m goes (map asks.Do commands) 2 (concert s.standing tt))
+    (cues_replay m goes (map asks.Do commands) 2 (concert_with s.standing tt))
     ∙ (ap (λ list. after_commands list s.standing.machine) (lines_same commands)
     ∙ sym (obeys_commands s polls))

@@ -39,9 +39,9 @@ use Rattle.orca_term.specs.declared.editor.Wish.TheVariants as wish
 use Rattle.orca_term.specs.declared.keys.Key.{Key}
 use Rattle.orca_trace.specs.Calls.{Poll}
 use Rattle.orca_live.specs.Items.{ByteOf, FrameDue, HeardItem, items_by, items_of}
-use Rattle.orca_live.specs.Performing.{answer_course, answered_at, byte_course, close_course, command_course, due_course, finish_course, fired, frame_course, header_course, heard_course, if_named, item_course, journal_course, key_course, last_course, last_grid_course, last_script_course, lines_course, live_part, lull_course, open_course, owning, paint_course, painted_course, press_course, preview_course, read_course, save_course, script_course, show_course, struck_course, struck_where, update_course, wish_course, write_course}
+use Rattle.orca_live.specs.Performing.{answer_course, answered_at, byte_course, hush_course, hand_course, due_course, finish_course, fired, frame_course, header_course, heard_course, if_named, item_course, journal_course, key_course, saves_course, last_grid_course, last_script_course, lines_course, live_part, lull_course, open_course, owning, paint_course, painted_course, press_course, preview_course, read_course, save_course, script_course, show_course, struck_course, struck_where, update_course, wish_course, write_course}
 use Rattle.orca_live.specs.Solo.{HasNoRedo, IsSolo, PlaysAlone, as_alone, redo_byte}
-use Rattle.orca_live.specs.States.{LiveState, around_at, dims_at, fitted, hands_of, is_full, is_hand, leader_at, piece_at}
+use Rattle.orca_live.specs.States.{LiveState, around_at, dims_at, fitted, hands_in, is_full, is_hand, leader_at, piece_at}
 use Rattle.orca_live.proofs.RedoKey.{IsOther, IsSpared, is_redo, turn_other}
 
 -- ---- courses
@@ -155,10 +155,10 @@ owning_lone : (who : ℕ) (command : Command) (refused : Option Rule) (n : ℕ) 
 owning_lone who command refused n c = grind arith
 
 command_agrees : (who : ℕ) (command : Command) → IsOwn who command
-    → Alike (command_course who command)
-unfolding command_course obey_course onward mapped
+    → Alike (hand_course who command)
+unfolding hand_course obey_course onward mapped
 command_agrees who command own s solo =
-    let c = command_course who command s in
+    let c = hand_course who command s in
     record {
       same =
           ap (λ (crew : CrewState). record c { state = record c.state { crew = crew } })
@@ -251,7 +251,7 @@ frame_agrees s solo =
 lull_agrees : Alike lull_course
 unfolding lull_course
 lull_agrees s solo =
-    each_agrees (λ (hand : ℕ). item_course hand Due) (hands_of s)
+    each_agrees (λ (hand : ℕ). item_course hand Due) (hands_in s)
     (λ k hand at. item_agrees _ Due (λ is. tt)) s solo
 
 due_agrees : Alike due_course
@@ -397,8 +397,8 @@ begun_agrees polls none s solo =
 
 -- ---- the end
 
-close_agrees : Alike close_course
-unfolding close_course silence_course onward mapped
+close_agrees : Alike hush_course
+unfolding hush_course silence_course onward mapped
 close_agrees s solo = agreed _ solo
 
 grid_agrees : Alike last_grid_course
@@ -411,15 +411,15 @@ unfolding last_script_course script_course
 script_agrees s solo =
     named_agrees s.setting.script script_course (λ name t one. agreed _ one) s solo
 
-last_agrees : Alike last_course
-unfolding last_course
+last_agrees : Alike saves_course
+unfolding saves_course
 last_agrees s solo = onward_agrees last_script_course (grid_agrees s solo) (λ on. script_agrees)
 
 finish_agrees : Alike finish_course
 unfolding finish_course
 finish_agrees s solo =
-    onward_agrees (λ (t : LiveState). onward (write_course t) last_course) (close_agrees s solo)
-    (λ on t one. onward_agrees last_course (write_agrees t one) (λ on. last_agrees))
+    onward_agrees (λ (t : LiveState). onward (write_course t) saves_course) (close_agrees s solo)
+    (λ on t one. onward_agrees saves_course (write_agrees t one) (λ on. last_agrees))
 
 finished_agrees : (end : Option Ending) (c : Course LiveState Ending) → IsSolo c.state.crew
     → Agrees (lastly_by end c (finished live_part)) (lastly_by end (lone c) (finished live_part))

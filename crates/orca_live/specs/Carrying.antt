@@ -28,8 +28,8 @@ use Rattle.orca_term.specs.declared.cell.ScreenSize.{ScreenSize}
 use Rattle.orca_term.specs.declared.editor.Wish.{Wish}
 use Rattle.orca_term.specs.declared.editor.Wish.TheVariants as wish
 use Rattle.orca_term.specs.declared.keys.Key.{Key}
-use Rattle.orca_live.specs.Performing.{answer_course, answered_at, byte_course, close_course, command_course, denied_course, due_course, finish_course, fired, frame_course, heard_course, if_named, item_course, journal_course, key_course, last_course, last_grid_course, last_script_course, lull_course, open_course, paced, paint_course, painted_course, press_course, preview_course, read_course, save_course, script_course, show_course, struck_course, struck_where, update_course, toggled, wish_course, write_course}
-use Rattle.orca_live.specs.States.{LiveState, Setting, around_at, dims_at, fitted, hands_of, is_full, is_hand, key_name, leader_at, piece_at}
+use Rattle.orca_live.specs.Performing.{answer_course, answered_at, byte_course, hush_course, hand_course, denied_course, due_course, finish_course, fired, frame_course, heard_course, if_named, item_course, journal_course, key_course, saves_course, last_grid_course, last_script_course, lull_course, open_course, paced, paint_course, painted_course, press_course, preview_course, read_course, save_course, script_course, show_course, struck_course, struck_where, update_course, toggled, wish_course, write_course}
+use Rattle.orca_live.specs.States.{LiveState, Setting, around_at, dims_at, fitted, hands_in, is_full, is_hand, key_name, leader_at, piece_at}
 
 -- two states are the same to the session, to the terminal, to the script and to the journal, and
 -- have as many hands, of which only the keys and the editors may differ
@@ -68,8 +68,8 @@ looks_fitted s =
     (length-map s.crew.players (fitted_player (dims_at s)))
 
 -- a name that the grid or the script is saved under: by the key, or at the end
-abbrev pub IsSaved : List ℕ → Setting → Type 0
-IsSaved name set = (name ≡ key_name set) ⊎ (set.save ≡ Some name) ⊎ (set.script ≡ Some name)
+abbrev pub IsSavedName : List ℕ → Setting → Type 0
+IsSavedName name set = (name ≡ key_name set) ⊎ (set.save ≡ Some name) ⊎ (set.script ≡ Some name)
 
 -- what holds of each step, and of two in turn
 pub record Carries (holds : LiveState → List Act → LiveState → Type 0) : Type 0 where
@@ -79,10 +79,10 @@ pub record Carries (holds : LiveState → List Act → LiveState → Type 0) : T
   -- hands that share a session do nothing again that was taken back
   pub command : (who : ℕ) (command : Command) (s : LiveState)
       → (s.crew.alone ≡ false → command ≢ Redo)
-      → holds s (command_course who command s).acts (command_course who command s).state
+      → holds s (hand_course who command s).acts (hand_course who command s).state
   pub denied : (hand : ℕ) (denial : Denial) (s : LiveState)
       → holds s (denied_course hand denial s).acts s
-  pub save : (name bytes : List ℕ) (s : LiveState) → IsSaved name s.setting
+  pub save : (name bytes : List ℕ) (s : LiveState) → IsSavedName name s.setting
       → holds s (Save name bytes ∷ []) s
   pub write : (s : LiveState) → holds s (write_course s).acts (write_course s).state
   pub paint : (marks : List MarkSet) (s : LiveState)
@@ -222,7 +222,7 @@ frame_carried : {holds : LiveState → List Act → LiveState → Type 0} → Ca
 unfolding frame_course onward
 frame_carried {holds = holds} carry s =
     let next : LiveState → Course LiveState Stop = λ (t : LiveState). still (fired t) in
-    let c = command_course NOBODY Frame s in
+    let c = hand_course NOBODY Frame s in
     if_carried holds s (is_full s) (ended Full s) (onward c next) (carry.none s s (looks_same s))
     (onward_carried carry s c.ending c next
     (carry.command NOBODY Frame s (λ shared. plays_on))
@@ -233,7 +233,7 @@ lull_carried : {holds : LiveState → List Act → LiveState → Type 0} → Car
 unfolding lull_course
 lull_carried {holds = holds} carry s =
     each-holds holds (λ hand. item_course hand Due) (λ t. carry.none t t (looks_same t)) carry.both
-    (λ hand t. item_carried carry hand Due t) (hands_of s) s
+    (λ hand t. item_carried carry hand Due t) (hands_in s) s
 
 due_carried : {holds : LiveState → List Act → LiveState → Type 0} → Carries holds
     → (s : LiveState) → Along holds (due_course s) s
@@ -306,8 +306,8 @@ script_carried carry None s is = carry.none s s (looks_same s)
 script_carried carry (Some name) s is = carry.save name _ s (inr (inr is))
 
 last_carried : {holds : LiveState → List Act → LiveState → Type 0} → Carries holds
-    → (s : LiveState) → Along holds (last_course s) s
-unfolding last_course last_grid_course last_script_course onward
+    → (s : LiveState) → Along holds (saves_course s) s
+unfolding saves_course last_grid_course last_script_course onward
 last_carried carry s =
     let c = last_grid_course s in
     onward_carried carry s c.ending c last_script_course (grid_carried carry s.setting.save s refl)
@@ -315,31 +315,31 @@ last_carried carry s =
 
 -- it holds of a close too
 abbrev pub Silences : (LiveState → List Act → LiveState → Type 0) → Type 0
-Silences holds = (s : LiveState) → Along holds (close_course s) s
+Silences holds = (s : LiveState) → Along holds (hush_course s) s
 
 pub finish_carried : {holds : LiveState → List Act → LiveState → Type 0} → Carries holds
     → Silences holds → (s : LiveState) → Along holds (finish_course s) s
 unfolding finish_course onward
 finish_carried carry silences s =
-    let c = close_course s in
+    let c = hush_course s in
     let next : LiveState → Course LiveState Stop =
-    λ (t : LiveState). onward_by (write_course t).ending (write_course t) last_course in
+    λ (t : LiveState). onward_by (write_course t).ending (write_course t) saves_course in
     onward_carried carry s c.ending c next (silences s)
-    (λ t. onward_carried carry t (write_course t).ending (write_course t) last_course
+    (λ t. onward_carried carry t (write_course t).ending (write_course t) saves_course
     (carry.write t) (last_carried carry))
 
 -- ---- the start
 
 -- it holds of the start of a journal too
-abbrev pub Begins : (LiveState → List Act → LiveState → Type 0) → Type 0
-Begins holds = (s : LiveState) → Along holds (journal_course s) s
+abbrev pub BeginsJournal : (LiveState → List Act → LiveState → Type 0) → Type 0
+BeginsJournal holds = (s : LiveState) → Along holds (journal_course s) s
 
 pub first_carried : {holds : LiveState → List Act → LiveState → Type 0} → Carries holds
     → (s : LiveState) → Along holds (paint_course [] s) s
 first_carried carry s = paint_carried carry [] s
 
 pub open_carried : {holds : LiveState → List Act → LiveState → Type 0} → Carries holds
-    → Begins holds → (s : LiveState) → Along holds (open_course s) s
+    → BeginsJournal holds → (s : LiveState) → Along holds (open_course s) s
 unfolding open_course onward
 open_carried carry begins s =
     let c = journal_course s in

@@ -16,7 +16,7 @@ use Rattle.orca_edit.specs.Obeying.{obey}
 use Rattle.orca_jam.specs.declared.denial.Denial.{Denial}
 use Rattle.orca_notes.specs.Sound.{ends}
 use Rattle.orca_term.specs.Viewing.{painting_bytes}
-use Rattle.orca_live.specs.Performing.{additions, close_course, command_course, denied_course, header_course, if_named, journal_course, lines_course, live_part, painted_course, picture_at, view_sends, write_course}
+use Rattle.orca_live.specs.Performing.{additions, hush_course, hand_course, denied_course, header_course, if_named, journal_course, lines_course, live_part, painted_course, picture_at, view_sends, write_course}
 use Rattle.orca_live.specs.States.{LiveState}
 use Rattle.orca_live.specs.Carrying.{Carries, finish_carried, heard_carried, open_carried}
 
@@ -32,8 +32,8 @@ deaf_views [] acts deaf = deaf
 deaf_views (byte ∷ bytes) acts deaf = deaf
 
 command_deaf : (who : ℕ) (command : Command) (s : LiveState)
-    → AreDeaf (command_course who command s).acts
-unfolding command_course obey_course onward mapped
+    → AreDeaf (hand_course who command s).acts
+unfolding hand_course obey_course onward mapped
 command_deaf who command s =
     let o = obey s.standing.machine command in
     deaf_handed (handed_of true o.messages) (Stand (standing_after s.standing o) ∷ []) tt
@@ -43,8 +43,8 @@ denied_deaf : (hand : ℕ) (denial : Denial) (s : LiveState)
 unfolding denied_course
 denied_deaf hand denial s = tt
 
-close_deaf : (s : LiveState) → AreDeaf (close_course s).acts
-unfolding close_course silence_course onward mapped
+close_deaf : (s : LiveState) → AreDeaf (hush_course s).acts
+unfolding hush_course silence_course onward mapped
 close_deaf s =
     deaf_handed (handed_of true (ends (notes_of s.standing)))
     (Stand (standing_closed s.standing) ∷ []) tt

@@ -21,7 +21,7 @@ use Rattle.orca_term.specs.declared.keys.Pending.{Pending}
 use Rattle.orca_trace.specs.Calls.{Poll}
 use Rattle.orca_live.specs.Items.{ByteOf, FrameDue, HeardItem, items_of}
 use Rattle.orca_live.specs.Laws.{so_far}
-use Rattle.orca_live.specs.Performing.{command_course, key_course}
+use Rattle.orca_live.specs.Performing.{hand_course, key_course}
 use Rattle.orca_live.specs.Starting.{live_at_start}
 use Rattle.orca_live.specs.States.{LiveState, Setting, is_hand, moments_at}
 
@@ -105,14 +105,14 @@ owners_after who (_ ∷ acts) machine owners = owners_after who acts machine own
 -- hands that share a session keep whose each entry is, wherever they stand: what came of the bytes
 -- of a hand is this hand's, and a frame of the clock is nobody's. So an undo that is neither denied
 -- to a hand nor refused leaves every edit of every other hand, in order
-pub record SharesFairly (s : LiveState) : Type 0 where
+pub record SharesSession (s : LiveState) : Type 0 where
   pub owners : (polls : List Poll) → HasOwners (so_far s polls).state
   pub names : (polls : List Poll)
       → let c = so_far s polls in
       c.state.crew.owners ≡ owners_after NOBODY c.acts s.standing.machine s.crew.owners
   pub spares : (polls : List Poll) (hand : ℕ)
       → let t = (so_far s polls).state in
-      let u = (command_course hand command.Undo t).state in
+      let u = (hand_course hand command.Undo t).state in
       denial_of t.crew hand key.Undo ≡ None → rule_against t.standing.machine command.Undo ≡ None
       → edits_of_others hand u.standing.machine.history u.crew.owners
       ≡ edits_of_others hand t.standing.machine.history t.crew.owners
@@ -124,4 +124,4 @@ pub record SharesFairly (s : LiveState) : Type 0 where
       ≡ edits_of_others hand t.standing.machine.history t.crew.owners
 
 abbrev pub HandsShare : Type 0
-HandsShare = (s : LiveState) → HasOwners s → SharesFairly s
+HandsShare = (s : LiveState) → HasOwners s → SharesSession s

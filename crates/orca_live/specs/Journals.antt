@@ -4,7 +4,7 @@ use Rattle.std.specs.List.{flat_map}
 use Rattle.std.specs.Option.{option_map}
 use Rattle.std.specs.Str.{bytes_eq}
 use Rattle.orca_base.specs.declared.command.Command.{Command}
-use Rattle.orca_concert.specs.Concerts.{concert, cues_course}
+use Rattle.orca_concert.specs.Concerts.{concert_with, cues_course}
 use Rattle.orca_concert.specs.Manners.{Manner}
 use Rattle.orca_course.specs.Acts.{Act, commands_in}
 use Rattle.orca_course.specs.Acts.Act.{Append, Await, Save}
@@ -80,13 +80,13 @@ JournalsAreScripts =
     → IsScriptOf seed commands (journal_text seed commands)
 
 -- the session to which a script of these commands leads, one on each line, before its close
-abbrev pub redone : Manner (Unit {0}) → List Command → Standing → MachineState
-redone m commands s =
-    (cues_course m (cues_asking 2 (map Do commands)) (concert s tt)).state.standing.machine
+abbrev pub led_back : Manner (Unit {0}) → List Command → Standing → MachineState
+led_back m commands s =
+    (cues_course m (cues_asking 2 (map Do commands)) (concert_with s tt)).state.standing.machine
 
 -- done again, the commands of a performance so far lead to its session as it stands
 abbrev pub LeadsBack : Type 0
 LeadsBack =
     (polls : List Poll) (s : LiveState) (m : Manner (Unit {0})) → GoesOn m
-    → redone m (commands_in (so_far s polls).acts) s.standing
+    → led_back m (commands_in (so_far s polls).acts) s.standing
     ≡ (so_far s polls).state.standing.machine

@@ -5,7 +5,7 @@ use Rattle.orca_base.specs.declared.command.Command.{Command}
 use Rattle.orca_base.specs.declared.command.Reply.{Reply}
 use Rattle.orca_base.specs.declared.command.Rule.{Rule}
 use Rattle.orca_base.specs.declared.message.Message.{Message}
-use Rattle.orca_concert.specs.Concerts.{concert, cues_course}
+use Rattle.orca_concert.specs.Concerts.{concert_with, cues_course}
 use Rattle.orca_concert.specs.Manners.{Manner}
 use Rattle.orca_course.specs.Acts.{Act, commands_in}
 use Rattle.orca_course.specs.Courses.{Course}
@@ -25,21 +25,21 @@ abbrev pub so_far : LiveState → List Poll → Course LiveState Ending
 so_far s polls = begun live_part s polls
 
 -- the whole of it
-abbrev pub whole : LiveState → List Poll → Course LiveState Ending
-whole s polls = performance live_part s polls
+abbrev pub whole_performance : LiveState → List Poll → Course LiveState Ending
+whole_performance s polls = performance live_part s polls
 
 -- the answers do not break off
 abbrev pub HasEnded : Course LiveState Ending → Type 0
 HasEnded c = c.ending ≢ None
 
 -- more answers only add acts
-pub record Extends (c d : Course LiveState Ending) : Type 0 where
+pub record AppendsActs (c d : Course LiveState Ending) : Type 0 where
   pub tail : List Act
   pub acts : d.acts ≡ c.acts ++ tail
 
 abbrev pub OnlyAppends : Type 0
 OnlyAppends =
-    (polls more : List Poll) (s : LiveState) → Extends (so_far s polls) (so_far s (polls ++ more))
+    (polls more : List Poll) (s : LiveState) → AppendsActs (so_far s polls) (so_far s (polls ++ more))
 
 -- two states with the same setting, session, hands, screen and kept commands; moments, the pace and
 -- what is shown may differ
@@ -62,8 +62,8 @@ ItemsDecide =
     (polls others : List Poll) (s t : LiveState)
     → let hands = length s.crew.players in
     items_of hands polls ≡ items_of hands others → AreAlike s t
-    → HasEnded (whole s polls) → HasEnded (whole t others)
-    → PlayAlike (whole s polls) (whole t others)
+    → HasEnded (whole_performance s polls) → HasEnded (whole_performance t others)
+    → PlayAlike (whole_performance s polls) (whole_performance t others)
 
 -- what is printed of commands does not end the run
 abbrev pub GoesOn : Manner (Unit {0}) → Type 0
@@ -74,7 +74,7 @@ GoesOn m =
 -- the session to which the saved script of these commands leads
 abbrev pub replayed : Manner (Unit {0}) → List Command → Standing → MachineState
 replayed m commands s =
-    (cues_course m (cues_asking 2 (lines_behind 0 commands)) (concert s tt)).state.standing.machine
+    (cues_course m (cues_asking 2 (lines_behind 0 commands)) (concert_with s tt)).state.standing.machine
 
 -- the commands of a performance are kept, and their script, done again and closed, leads to the
 -- same session, whatever is printed of it
@@ -86,5 +86,5 @@ pub record Replays (c : Course LiveState Ending) (s : LiveState) : Type 0 where
 -- so it is for every performance that ends, if no command was kept before
 abbrev pub ReplaysScript : Type 0
 ReplaysScript =
-    (polls : List Poll) (s : LiveState) → s.given ≡ Some [] → HasEnded (whole s polls)
-    → Replays (whole s polls) s
+    (polls : List Poll) (s : LiveState) → s.given ≡ Some [] → HasEnded (whole_performance s polls)
+    → Replays (whole_performance s polls) s

@@ -7,7 +7,7 @@ use Rattle.orca_base.specs.declared.command.Command.TheVariants.{Frame}
 use Rattle.orca_base.specs.declared.command.Rule.{Rule}
 use Rattle.orca_base.specs.declared.port.Port.TheVariants as port
 use Rattle.orca_base.specs.MarkSet.{MarkSet}
-use Rattle.orca_concert.specs.Concerts.{Concert, concert, close_course as silence_course, command_course as obey_course}
+use Rattle.orca_concert.specs.Concerts.{Concert, concert_with, close_course as silence_course, command_course as obey_course}
 use Rattle.orca_course.specs.Acts.{Act}
 use Rattle.orca_course.specs.Acts.Act.{Append, Give, Save, Screen, Show}
 use Rattle.orca_course.specs.Courses.{Course, course, each, ended, joined, mapped, onward, still}
@@ -36,7 +36,7 @@ use Rattle.orca_term.specs.declared.editor.Wish.{Wish}
 use Rattle.orca_term.specs.declared.editor.Wish.TheVariants as wish
 use Rattle.orca_term.specs.declared.keys.Key.{Key}
 use Rattle.orca_live.specs.Quiet.{silent_manner}
-use Rattle.orca_live.specs.States.{LiveState, around_at, fitted, hands_of, is_full, is_hand, key_name, leader_at, line_at, live_stance, piece_at, until_at}
+use Rattle.orca_live.specs.States.{LiveState, around_at, fitted, hands_in, is_full, is_hand, key_name, leader_at, status_line_at, live_stance, piece_at, until_at}
 
 -- what is done under a name, if there is one
 abbrev pub if_named : Option (List ℕ) → (List ℕ → LiveState → Course LiveState Stop) → LiveState
@@ -50,7 +50,7 @@ if_named (Some name) next s = next name s
 abbrev pub of_session : (Concert (Unit {0}) → Course (Concert (Unit {0})) Stop) → LiveState
     → Course LiveState Stop
 of_session c s =
-    mapped (λ t. record s { standing = t.standing }) (λ end. end) (c (concert s.standing tt))
+    mapped (λ t. record s { standing = t.standing }) (λ end. end) (c (concert_with s.standing tt))
 
 -- the lines that wait for the journal after a command, if one is kept: its canonical line is last
 abbrev pub noted : Option (List ℕ) → Command → List ℕ → List ℕ
@@ -71,17 +71,17 @@ owning who command (Some rule) n c = c
 owning who command None n c = if nat_le n c.room then took_by who command n c else c
 
 -- a command of a hand, or of nobody, is kept, and led the session there
-abbrev pub obeyed : ℕ → Command → LiveState → Standing → LiveState
-obeyed who command s at = record (keeping_command command s) {
+abbrev pub obeyed_by : ℕ → Command → LiveState → Standing → LiveState
+obeyed_by who command s at = record (keeping_command command s) {
   standing = at;
-  crew = owning who command at.tally.note (length at.machine.history) s.crew;
+  crew = owning who command at.tally.refusal (length at.machine.history) s.crew;
 }
 
 -- a command of a hand, or of nobody, is done
-unfoldable pub command_course : ℕ → Command → LiveState → Course LiveState Stop
-command_course who command s =
-    mapped (λ t. obeyed who command s t.standing) (λ end. end)
-    (obey_course silent_manner 0 command (concert s.standing tt))
+unfoldable pub hand_course : ℕ → Command → LiveState → Course LiveState Stop
+hand_course who command s =
+    mapped (λ t. obeyed_by who command s t.standing) (λ end. end)
+    (obey_course silent_manner 0 command (concert_with s.standing tt))
 
 -- the grid is saved under this name
 unfoldable pub save_course : List ℕ → LiveState → Course LiveState Stop
@@ -136,7 +136,7 @@ redrawn d s = course (Screen d ∷ []) 0 (record s { screen = d; shown = None })
 -- what a key of a hand asks for, once its editor has changed
 unfoldable pub wish_course : ℕ → Wish → LiveState → Course LiveState Stop
 wish_course hand wish.Nothing s = still s
-wish_course hand (wish.Do command) s = command_course hand command s
+wish_course hand (wish.Do command) s = hand_course hand command s
 wish_course hand wish.Toggle s = still (toggled s)
 wish_course hand wish.Save s = save_course (key_name s.setting) s
 wish_course hand wish.Quit s = ended Left s
@@ -196,12 +196,12 @@ fired s = record s { pace = record s.pace { due = due_after s.pace s.at } }
 unfoldable pub frame_course : LiveState → Course LiveState Stop
 frame_course s =
     if is_full s then ended Full s
-    else onward (command_course NOBODY Frame s) (λ t. still (fired t))
+    else onward (hand_course NOBODY Frame s) (λ t. still (fired t))
 
 -- nothing came for a while: an ESC of each hand that stands alone is a key, in the order of the
 -- hands
 unfoldable pub lull_course : LiveState → Course LiveState Stop
-lull_course s = each (λ hand. item_course hand Due) (hands_of s) s
+lull_course s = each (λ hand. item_course hand Due) (hands_in s) s
 
 -- a frame is due: nothing came for a while, and then the frame is played
 unfoldable pub due_course : LiveState → Course LiveState Stop
@@ -217,7 +217,7 @@ view_sends bytes = Give (record { port = port.View; bytes = bytes }) ∷ []
 -- the picture of the first hand, with these marks
 abbrev pub picture_at : List MarkSet → LiveState → List Cell
 picture_at marks s =
-    picture s.screen (scene_of (piece_at s).sheet marks (leader_at s)) (line_at s)
+    picture s.screen (scene_of (piece_at s).sheet marks (leader_at s)) (status_line_at s)
 
 -- the picture with these marks is painted, where the editors are fitted to the grid
 unfoldable pub painted_course : List MarkSet → LiveState → Course LiveState Stop
@@ -263,8 +263,8 @@ heard_course answer bytes s = onward (answer_course answer bytes s) update_cours
 -- ---- the end
 
 -- every note ends
-unfoldable pub close_course : LiveState → Course LiveState Stop
-close_course s = of_session (silence_course silent_manner) s
+unfoldable pub hush_course : LiveState → Course LiveState Stop
+hush_course s = of_session (silence_course silent_manner) s
 
 -- the grid is saved at the end, if it has a name
 unfoldable pub last_grid_course : LiveState → Course LiveState Stop
@@ -275,13 +275,13 @@ unfoldable pub last_script_course : LiveState → Course LiveState Stop
 last_script_course s = if_named s.setting.script script_course s
 
 -- what is saved at the end
-unfoldable pub last_course : LiveState → Course LiveState Stop
-last_course s = onward (last_grid_course s) last_script_course
+unfoldable pub saves_course : LiveState → Course LiveState Stop
+saves_course s = onward (last_grid_course s) last_script_course
 
 -- the end, however it came: every note ends, then the commands of the last answer are written, and
 -- then the grid and the script are saved
 unfoldable pub finish_course : LiveState → Course LiveState Stop
-finish_course s = onward (close_course s) (λ t. onward (write_course t) last_course)
+finish_course s = onward (hush_course s) (λ t. onward (write_course t) saves_course)
 
 -- ---- a performance
 

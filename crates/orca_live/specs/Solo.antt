@@ -7,7 +7,7 @@ use Rattle.orca_jam.specs.Crews.{CrewState}
 use Rattle.orca_jam.specs.Laws.{AreLeaders}
 use Rattle.orca_trace.specs.Calls.{Poll}
 use Rattle.orca_live.specs.Items.{ByteOf, HeardItem, items_of}
-use Rattle.orca_live.specs.Laws.{whole}
+use Rattle.orca_live.specs.Laws.{whole_performance}
 use Rattle.orca_live.specs.States.{LiveState}
 
 -- the same hands as if they played alone: of these no owners are kept
@@ -40,4 +40,4 @@ abbrev pub PlaysAlone : Type 0
 PlaysAlone =
     (s : LiveState) (polls : List Poll) → IsSolo s.crew
     → HasNoRedo (items_of (length s.crew.players) polls)
-    → PlaysSame (whole s polls) (whole (as_alone s) polls)
+    → PlaysSame (whole_performance s polls) (whole_performance (as_alone s) polls)

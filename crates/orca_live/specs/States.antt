@@ -94,9 +94,9 @@ abbrev pub live_stance : Stance LiveState
 live_stance = record { standing = λ s. Some s.standing; hands = true }
 
 -- this was done of a course
-abbrev pub Did : {M : Type 0} → Ghosts M → (LiveState → Course LiveState Stop) → Live M → World
+abbrev pub LiveDid : {M : Type 0} → Ghosts M → (LiveState → Course LiveState Stop) → Live M → World
     → Result (Option Stop) NoMemory → Live M → World → Type 0
-Did g c l x result m y =
+LiveDid g c l x result m y =
     Does live_stance (c (live_state g l)) (live_state g l) (owing (g.residue l.stage.machine) x)
     result (live_state g m) (owing (g.residue m.stage.machine) y)
 
@@ -117,8 +117,8 @@ abbrev pub is_hand : ℕ → LiveState → Bool
 is_hand hand s = nat_lt hand (length s.crew.players)
 
 -- the hands, in their order
-abbrev pub hands_of : LiveState → List ℕ
-hands_of s = range_with_len 0 (length s.crew.players)
+abbrev pub hands_in : LiveState → List ℕ
+hands_in s = range_with_len 0 (length s.crew.players)
 
 -- the editor of a hand
 abbrev pub editor_at : ℕ → LiveState → Editor
@@ -149,12 +149,12 @@ abbrev pub is_full : LiveState → Bool
 is_full s = nat_le s.standing.machine.limit (moments_at s)
 
 -- what the status line tells besides the first hand's editor
-abbrev pub line_at : LiveState → StatusLine
-line_at s = record {
+abbrev pub status_line_at : LiveState → StatusLine
+status_line_at s = record {
   tick = (piece_at s).tick;
   moments = moments_at s;
   sounding = length (notes_of s.standing);
-  note = s.standing.tally.note;
+  refusal = s.standing.tally.refusal;
   tempo = s.pace.bpm;
 }
 

@@ -1,7 +1,7 @@
 //! What a due moment does.
 
 ghost use Rattle.orca_live.specs.Performing.{due_course, frame_course, item_course, lull_course};
-ghost use Rattle.orca_live.specs.States.{Did};
+ghost use Rattle.orca_live.specs.States.{LiveDid};
 ghost use Rattle.orca_term.specs.Keys.{Due};
 
 use crate::Live;
@@ -18,7 +18,7 @@ fn do_frame<M: Machine, H: House>(
     live: &mut Live<'_, M>,
     desk: &mut Desk<H>,
 ) -> Result<Option<Stop>, NoMemory>
-    ensures { Did M.Machine.own frame_course live.old desk.old result live.new desk.new }
+    ensures { LiveDid M.Machine.own frame_course live.old desk.old result live.new desk.new }
 {
     if live.is_full() {
         return Ok(Some(Stop::Full));
@@ -35,7 +35,7 @@ fn do_item<M: Machine, H: House>(
     desk: &mut Desk<H>,
     hand: u8,
 ) -> Result<Option<Stop>, NoMemory>
-    ensures { Did M.Machine.own (item_course hand Due) live.old desk.old result live.new desk.new }
+    ensures { LiveDid M.Machine.own (item_course hand Due) live.old desk.old result live.new desk.new }
 {
     if hand >= live.crew.hands() {
         return Ok(None);
@@ -50,7 +50,7 @@ fn do_lull<M: Machine, H: House>(
     live: &mut Live<'_, M>,
     desk: &mut Desk<H>,
 ) -> Result<Option<Stop>, NoMemory>
-    ensures { Did M.Machine.own lull_course live.old desk.old result live.new desk.new }
+    ensures { LiveDid M.Machine.own lull_course live.old desk.old result live.new desk.new }
 {
     for hand in 0..live.crew.hands() {
         if let Some(stop) = do_item(live, desk, hand)? {
@@ -65,7 +65,7 @@ pub(crate) fn do_due<M: Machine, H: House>(
     live: &mut Live<'_, M>,
     desk: &mut Desk<H>,
 ) -> Result<Option<Stop>, NoMemory>
-    ensures { Did M.Machine.own due_course live.old desk.old result live.new desk.new }
+    ensures { LiveDid M.Machine.own due_course live.old desk.old result live.new desk.new }
 {
     if let Some(stop) = do_lull(live, desk)? {
         return Ok(Some(stop));

@@ -5,7 +5,7 @@ ghost use Rattle.std.specs.Option.{option_map};
 ghost use Rattle.orca_course.specs.Doing.{goes_of};
 ghost use Rattle.orca_course.specs.Worlds.{Calls};
 ghost use Rattle.orca_live.specs.Performing.{additions, header_course, journal_course, lines_course, noted, write_course};
-ghost use Rattle.orca_live.specs.States.{Did};
+ghost use Rattle.orca_live.specs.States.{LiveDid};
 
 use crate::Live;
 use orca_base::Command;
@@ -36,7 +36,7 @@ pub(crate) fn begin_journal<M: Machine, H: House>(
     live: &mut Live<'_, M>,
     desk: &mut Desk<H>,
 ) -> Result<(), NoMemory>
-    ensures { Did M.Machine.own journal_course
+    ensures { LiveDid M.Machine.own journal_course
         live.old desk.old (goes_of result) live.new desk.new }
 {
     match live.setting.journal {
@@ -53,7 +53,7 @@ fn save_header<M: Machine, H: House>(
     desk: &mut Desk<H>,
     name: &str,
 ) -> Result<(), NoMemory>
-    ensures { Did M.Machine.own (header_course name.now)
+    ensures { LiveDid M.Machine.own (header_course name.now)
         live.old desk.old (goes_of result) live.new desk.new }
 {
     live.text.clear();
@@ -69,7 +69,7 @@ pub(crate) fn write_journal<M: Machine, H: House>(
     live: &mut Live<'_, M>,
     desk: &mut Desk<H>,
 ) -> Result<(), NoMemory>
-    ensures { Did M.Machine.own write_course
+    ensures { LiveDid M.Machine.own write_course
         live.old desk.old (goes_of result) live.new desk.new }
 {
     match live.setting.journal {
@@ -86,7 +86,7 @@ fn write_lines<M: Machine, H: House>(
     desk: &mut Desk<H>,
     name: &str,
 ) -> Result<(), NoMemory>
-    ensures { Did M.Machine.own (lines_course name.now)
+    ensures { LiveDid M.Machine.own (lines_course name.now)
         live.old desk.old (goes_of result) live.new desk.new }
 {
     let answer = add(desk, name, live.unwritten.as_slice());

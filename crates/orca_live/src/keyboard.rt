@@ -9,8 +9,8 @@ ghost use Rattle.orca_term.specs.Pacing.{faster, retimed, slower};
 ghost use Rattle.orca_term.specs.Picture.{screen_inside};
 ghost use Rattle.orca_course.specs.Doing.{goes_of};
 ghost use Rattle.orca_course.specs.Worlds.{Called};
-ghost use Rattle.orca_live.specs.Performing.{byte_course, command_course, owning, press_course, struck_course, telling, wish_course};
-ghost use Rattle.orca_live.specs.States.{Did, around_at, dims_at, editor_at, fitted, live_state};
+ghost use Rattle.orca_live.specs.Performing.{byte_course, hand_course, owning, press_course, struck_course, telling, wish_course};
+ghost use Rattle.orca_live.specs.States.{LiveDid, around_at, dims_at, editor_at, fitted, live_state};
 
 use crate::Live;
 use crate::journal::note;
@@ -38,10 +38,10 @@ fn keep(given: &mut Option<Vec<Command>>, command: &Command) -> Result<(), NoMem
 
 /// Keeps whose the entries are after a command of a hand, unless a rule refused it, as far as there is
 /// room.
-fn own(crew: &mut Crew, who: u8, command: &Command, note: Option<Rule>, moments: u32)
-    ensures { crew.new ≡ owning who command.now note moments crew.old }
+fn own(crew: &mut Crew, who: u8, command: &Command, refused: Option<Rule>, moments: u32)
+    ensures { crew.new ≡ owning who command.now refused moments crew.old }
 {
-    if note.is_some() {
+    if refused.is_some() {
         return;
     }
     if crew.has_room(moments) {
@@ -57,14 +57,20 @@ pub(crate) fn do_command<M: Machine, H: House>(
     who: u8,
     command: &Command,
 ) -> Result<(), NoMemory>
-    ensures { Did M.Machine.own (command_course who command.now)
+    ensures { LiveDid M.Machine.own (hand_course who command.now)
         live.old desk.old (goes_of result) live.new desk.new }
 {
     keep(&mut live.given, command)?;
     note(live.setting.journal, command, &mut live.unwritten)?;
     live.stage.do_command(desk, 0, command)?;
     let moments = live.stage.machine.moments();
-    own(&mut live.crew, who, command, live.stage.tally.note, moments);
+    own(
+        &mut live.crew,
+        who,
+        command,
+        live.stage.tally.refusal,
+        moments,
+    );
     Ok(())
 }
 
@@ -101,7 +107,7 @@ fn do_wish<M: Machine, H: House>(
     hand: u8,
     wish: &Wish,
 ) -> Result<Option<Stop>, NoMemory>
-    ensures { Did M.Machine.own (wish_course hand wish.now)
+    ensures { LiveDid M.Machine.own (wish_course hand wish.now)
         live.old desk.old result live.new desk.new }
 {
     match wish {
@@ -190,7 +196,7 @@ fn strike<M: Machine, H: House>(
     requires hand { hand < length live.old.crew.players }
     requires inside { let s = live_state M.Machine.own live.old in
         IsArea (dims_at s) (area_of (editor_at hand s)) }
-    ensures { Did M.Machine.own (struck_course hand key)
+    ensures { LiveDid M.Machine.own (struck_course hand key)
         live.old desk.old result live.new desk.new }
 {
     let around = around(live, hand);
@@ -212,7 +218,7 @@ pub(crate) fn press<M: Machine, H: House>(
     key: Option<Key>,
 ) -> Result<Option<Stop>, NoMemory>
     requires hand { hand < length live.old.crew.players }
-    ensures { Did M.Machine.own (press_course hand key) live.old desk.old result live.new desk.new }
+    ensures { LiveDid M.Machine.own (press_course hand key) live.old desk.old result live.new desk.new }
 {
     match key {
         None => Ok(None),
@@ -231,7 +237,7 @@ fn do_byte<M: Machine, H: House>(
     hand: u8,
     byte: u8,
 ) -> Result<Option<Stop>, NoMemory>
-    ensures { Did M.Machine.own (byte_course hand byte) live.old desk.old result live.new desk.new }
+    ensures { LiveDid M.Machine.own (byte_course hand byte) live.old desk.old result live.new desk.new }
 {
     if hand >= live.crew.hands() {
         return Ok(None);
@@ -248,7 +254,7 @@ pub(crate) fn do_bytes<M: Machine, H: House>(
     hand: u8,
     bytes: &[u8],
 ) -> Result<Option<Stop>, NoMemory>
-    ensures { Did M.Machine.own (each (byte_course hand) bytes.now)
+    ensures { LiveDid M.Machine.own (each (byte_course hand) bytes.now)
         live.old desk.old result live.new desk.new }
 {
     for byte in bytes {

@@ -2,7 +2,7 @@ ghost use Rattle.std.specs.Prelude.{◌≡◌, ◌≤◌, IfOk};
 ghost use Rattle.orca_base.specs.declared.limits.TheConstants.{MAX_SCREEN_COLUMNS, MAX_SCREEN_ROWS, MIN_SCREEN_COLUMNS, MIN_SCREEN_ROWS};
 ghost use Rattle.orca_concert.specs.Stages.{standing_of};
 ghost use Rattle.orca_live.specs.Starting.{live_at_start};
-ghost use Rattle.orca_live.specs.States.{is_full, line_at, live_state, setting_in, until_at};
+ghost use Rattle.orca_live.specs.States.{is_full, status_line_at, live_state, setting_in, until_at};
 
 use crate::{Setting, Silent};
 use orca_base::{Command, Memory};
@@ -70,13 +70,13 @@ impl<'a, M: Machine> Live<'a, M> {
 
     /// What the status line tells besides the first hand's editor.
     pub(crate) fn line(&self) -> StatusLine
-        ensures { result ≡ line_at (live_state M.Machine.own self.now) }
+        ensures { result ≡ status_line_at (live_state M.Machine.own self.now) }
     {
         StatusLine {
             tick: self.stage.machine.tick(),
             moments: self.stage.machine.moments(),
             sounding: self.stage.machine.notes().len() as u32,
-            note: self.stage.tally.note,
+            refusal: self.stage.tally.refusal,
             tempo: self.pacer.tempo(),
         }
     }

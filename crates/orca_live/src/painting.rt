@@ -4,7 +4,7 @@ ghost use Rattle.std.specs.Prelude.{[]};
 ghost use Rattle.orca_course.specs.Doing.{goes_of};
 ghost use Rattle.orca_course.specs.Worlds.{Calls};
 ghost use Rattle.orca_live.specs.Performing.{paint_course, painted_course, show_course, view_sends};
-ghost use Rattle.orca_live.specs.States.{Did};
+ghost use Rattle.orca_live.specs.States.{LiveDid};
 
 use crate::Live;
 use crate::keyboard::fit;
@@ -30,7 +30,7 @@ pub(crate) fn paint_first<M: Machine, H: House>(
     live: &mut Live<'_, M>,
     desk: &mut Desk<H>,
 ) -> Result<(), NoMemory>
-    ensures { Did M.Machine.own (paint_course [])
+    ensures { LiveDid M.Machine.own (paint_course [])
         live.old desk.old (goes_of result) live.new desk.new }
 {
     fit(live);
@@ -51,7 +51,7 @@ pub(crate) fn paint_first<M: Machine, H: House>(
 
 /// Paints the picture, with the marks that the session shows.
 fn paint<M: Machine, H: House>(live: &mut Live<'_, M>, desk: &mut Desk<H>) -> Result<(), NoMemory>
-    ensures { Did M.Machine.own (paint_course (M.marks live.old.stage.machine))
+    ensures { LiveDid M.Machine.own (paint_course (M.marks live.old.stage.machine))
         live.old desk.old (goes_of result) live.new desk.new }
 {
     fit(live);
@@ -73,7 +73,7 @@ pub(crate) fn show<M: Machine, H: House>(
     live: &mut Live<'_, M>,
     desk: &mut Desk<H>,
 ) -> Result<(), NoMemory>
-    ensures { Did M.Machine.own show_course live.old desk.old (goes_of result) live.new desk.new }
+    ensures { LiveDid M.Machine.own show_course live.old desk.old (goes_of result) live.new desk.new }
 {
     desk.preview(&mut live.stage.machine);
     paint(live, desk)

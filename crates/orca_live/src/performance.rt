@@ -1,8 +1,8 @@
 //! What a player does with the answers of an inbox.
 
 ghost use Rattle.orca_course.specs.Doing.{goes_of};
-ghost use Rattle.orca_live.specs.Performing.{answer_course, close_course, finish_course, heard_course, last_course, open_course, update_course};
-ghost use Rattle.orca_live.specs.States.{Did};
+ghost use Rattle.orca_live.specs.Performing.{answer_course, hush_course, finish_course, heard_course, saves_course, open_course, update_course};
+ghost use Rattle.orca_live.specs.States.{LiveDid};
 
 use crate::Live;
 use crate::clock::do_due;
@@ -56,7 +56,7 @@ impl<'a, M: Machine> Performer for Live<'a, M> {
 /// Begins the journal, and paints the first picture.
 #[tactic(auto, using(orca_course::proofs::DoingLemmas::does_cut, orca_course::proofs::DoingLemmas::goes_err), unfolding(crate::specs::Performing::open_course))]
 fn open<M: Machine, H: House>(live: &mut Live<'_, M>, desk: &mut Desk<H>) -> Result<(), NoMemory>
-    ensures { Did M.Machine.own open_course live.old desk.old (goes_of result) live.new desk.new }
+    ensures { LiveDid M.Machine.own open_course live.old desk.old (goes_of result) live.new desk.new }
 {
     begin_journal(live, desk)?;
     paint_first(live, desk)
@@ -70,7 +70,7 @@ fn do_answer<M: Machine, H: House>(
     answer: Answer,
     bytes: &[u8],
 ) -> Result<Option<Stop>, NoMemory>
-    ensures { Did M.Machine.own (answer_course answer bytes.now)
+    ensures { LiveDid M.Machine.own (answer_course answer bytes.now)
         live.old desk.old result live.new desk.new }
 {
     match answer {
@@ -89,7 +89,7 @@ fn do_answer<M: Machine, H: House>(
 /// Brings the journal and then the picture up to date.
 #[tactic(auto, using(orca_course::proofs::DoingLemmas::does_cut, orca_course::proofs::DoingLemmas::goes_err), unfolding(crate::specs::Performing::update_course))]
 fn update<M: Machine, H: House>(live: &mut Live<'_, M>, desk: &mut Desk<H>) -> Result<(), NoMemory>
-    ensures { Did M.Machine.own update_course live.old desk.old (goes_of result) live.new desk.new }
+    ensures { LiveDid M.Machine.own update_course live.old desk.old (goes_of result) live.new desk.new }
 {
     write_journal(live, desk)?;
     show(live, desk)
@@ -104,7 +104,7 @@ fn hear<M: Machine, H: House>(
     answer: Answer,
     bytes: &[u8],
 ) -> Result<Option<Stop>, NoMemory>
-    ensures { Did M.Machine.own (heard_course answer bytes.now)
+    ensures { LiveDid M.Machine.own (heard_course answer bytes.now)
         live.old desk.old result live.new desk.new }
 {
     if let Some(stop) = do_answer(live, desk, answer, bytes)? {
@@ -119,19 +119,19 @@ fn do_close<M: Machine, H: House>(
     live: &mut Live<'_, M>,
     desk: &mut Desk<H>,
 ) -> Result<(), NoMemory>
-    ensures { Did M.Machine.own close_course live.old desk.old (goes_of result) live.new desk.new }
+    ensures { LiveDid M.Machine.own hush_course live.old desk.old (goes_of result) live.new desk.new }
 {
     close(&mut live.stage, desk)?;
     Ok(())
 }
 
 /// Saves the grid and the script.
-#[tactic(auto, using(orca_course::proofs::DoingLemmas::does_cut, orca_course::proofs::DoingLemmas::goes_err), unfolding(crate::specs::Performing::last_course))]
+#[tactic(auto, using(orca_course::proofs::DoingLemmas::does_cut, orca_course::proofs::DoingLemmas::goes_err), unfolding(crate::specs::Performing::saves_course))]
 fn save_last<M: Machine, H: House>(
     live: &mut Live<'_, M>,
     desk: &mut Desk<H>,
 ) -> Result<(), NoMemory>
-    ensures { Did M.Machine.own last_course live.old desk.old (goes_of result) live.new desk.new }
+    ensures { LiveDid M.Machine.own saves_course live.old desk.old (goes_of result) live.new desk.new }
 {
     save_last_grid(live, desk)?;
     save_last_script(live, desk)
@@ -140,7 +140,7 @@ fn save_last<M: Machine, H: House>(
 /// Ends every note, writes what still waits to the journal, and then saves the grid and the script.
 #[tactic(auto, using(orca_course::proofs::DoingLemmas::does_cut, orca_course::proofs::DoingLemmas::goes_err), unfolding(crate::specs::Performing::finish_course))]
 fn finish<M: Machine, H: House>(live: &mut Live<'_, M>, desk: &mut Desk<H>) -> Result<(), NoMemory>
-    ensures { Did M.Machine.own finish_course live.old desk.old (goes_of result) live.new desk.new }
+    ensures { LiveDid M.Machine.own finish_course live.old desk.old (goes_of result) live.new desk.new }
 {
     do_close(live, desk)?;
     write_journal(live, desk)?;

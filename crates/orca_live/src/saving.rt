@@ -4,7 +4,7 @@ ghost use Rattle.std.specs.Prelude.{◌≡◌, [], OnOk};
 ghost use Rattle.std.specs.Option.{option_map};
 ghost use Rattle.orca_course.specs.Doing.{goes_of};
 ghost use Rattle.orca_live.specs.Performing.{last_grid_course, last_script_course, save_course, script_course, script_text};
-ghost use Rattle.orca_live.specs.States.{Did};
+ghost use Rattle.orca_live.specs.States.{LiveDid};
 
 use crate::Live;
 use orca_base::{Command, Memory};
@@ -21,7 +21,7 @@ pub(crate) fn save_grid<M: Machine, H: House>(
     desk: &mut Desk<H>,
     name: &str,
 ) -> Result<(), NoMemory>
-    ensures { Did M.Machine.own (save_course name.now)
+    ensures { LiveDid M.Machine.own (save_course name.now)
         live.old desk.old (goes_of result) live.new desk.new }
 {
     live.stage.machine.is_shown();
@@ -36,7 +36,7 @@ pub(crate) fn save_last_grid<M: Machine, H: House>(
     live: &mut Live<'_, M>,
     desk: &mut Desk<H>,
 ) -> Result<(), NoMemory>
-    ensures { Did M.Machine.own last_grid_course
+    ensures { LiveDid M.Machine.own last_grid_course
         live.old desk.old (goes_of result) live.new desk.new }
 {
     match live.setting.save {
@@ -52,7 +52,7 @@ fn save_script<M: Machine, H: House>(
     desk: &mut Desk<H>,
     name: &str,
 ) -> Result<(), NoMemory>
-    ensures { Did M.Machine.own (script_course name.now)
+    ensures { LiveDid M.Machine.own (script_course name.now)
         live.old desk.old (goes_of result) live.new desk.new }
 {
     live.text.clear();
@@ -66,7 +66,7 @@ pub(crate) fn save_last_script<M: Machine, H: House>(
     live: &mut Live<'_, M>,
     desk: &mut Desk<H>,
 ) -> Result<(), NoMemory>
-    ensures { Did M.Machine.own last_script_course
+    ensures { LiveDid M.Machine.own last_script_course
         live.old desk.old (goes_of result) live.new desk.new }
 {
     match live.setting.script {

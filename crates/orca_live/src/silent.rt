@@ -1,7 +1,7 @@
 ghost use Rattle.orca_live.specs.Quiet.{silent_is_quiet, silent_manner};
 
 use orca_base::Message;
-use orca_concert::{Report, Turn};
+use orca_concert::{Outcome, Report};
 use orca_course::{Desk, NoMemory, Stop, Tally};
 use orca_edit::Machine;
 use orca_rig::House;
@@ -21,7 +21,11 @@ impl Report for Silent {
         true
     }
 
-    fn done<H: House>(&mut self, _: &mut Desk<H>, _: &Turn<'_>) -> Result<Option<Stop>, NoMemory> {
+    fn done<H: House>(
+        &mut self,
+        _: &mut Desk<H>,
+        _: &Outcome<'_>,
+    ) -> Result<Option<Stop>, NoMemory> {
         Ok(None)
     }
 

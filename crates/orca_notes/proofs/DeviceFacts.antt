@@ -4,13 +4,13 @@ use Rattle.std.proofs.lemmas.List.Elements.{filter_map-append}
 use Rattle.std.proofs.lemmas.List.Sums.{fold-append}
 use Rattle.orca_base.specs.declared.message.Message.{Message}
 use Rattle.orca_base.specs.MidiBytes.{midi_bytes_of}
-use Rattle.orca_notes.specs.Device.{Voice, Turn, Neither, turn_of, keys_after, device, Suits, IsFair, Leads, midi}
+use Rattle.orca_notes.specs.Device.{Voice, KeyEffect, Neither, effect_of, keys_after, device, Suits, IsFair, Leads, midi_messages}
 
 -- a device goes on where it stands
 pub device-append : (on : List Voice) (xs ys : List (List ℕ))
     → device on (xs ++ ys) ≡ device (device on xs) ys
 unfolding device
-device-append on xs ys = fold-append (λ on message. keys_after on (turn_of message)) on xs ys
+device-append on xs ys = fold-append (λ on message. keys_after on (effect_of message)) on xs ys
 
 -- messages are fair where their beginning is, and their rest after it
 pub IsFair-append : (on : List Voice) (xs ys : List (List ℕ))
@@ -18,11 +18,11 @@ pub IsFair-append : (on : List Voice) (xs ys : List (List ℕ))
 unfolding device IsFair
 IsFair-append on [] ys first rest = rest
 IsFair-append on (x ∷ xs) ys first rest =
-    (first.0, IsFair-append (keys_after on (turn_of x)) xs ys first.1 rest)
+    (first.0, IsFair-append (keys_after on (effect_of x)) xs ys first.1 rest)
 
 -- the MIDI messages of two lists
-pub midi-append : (xs ys : List Message) → midi (xs ++ ys) ≡ midi xs ++ midi ys
-unfolding midi
+pub midi-append : (xs ys : List Message) → midi_messages (xs ++ ys) ≡ midi_messages xs ++ midi_messages ys
+unfolding midi_messages
 midi-append xs ys = filter_map-append midi_bytes_of xs ys
 
 -- no messages leave the keys as they are
@@ -41,8 +41,8 @@ Leads-append on middle after xs ys first rest = record {
 }
 
 -- a message, and then others that go on where it leads
-pub Leads-cons : (on after : List Voice) (message : List ℕ) (turn : Turn) (messages : List (List ℕ))
-    → turn_of message ≡ turn → Suits on turn → Leads (keys_after on turn) messages after
+pub Leads-cons : (on after : List Voice) (message : List ℕ) (turn : KeyEffect) (messages : List (List ℕ))
+    → effect_of message ≡ turn → Suits on turn → Leads (keys_after on turn) messages after
     → Leads on (message ∷ messages) after
 unfolding device IsFair
 Leads-cons on after message turn messages e suits rest = record {
@@ -52,7 +52,7 @@ Leads-cons on after message turn messages e suits rest = record {
 
 -- a message that neither starts nor ends a key leaves the keys as they are
 pub Leads-neither : (on : List Voice) (message : List ℕ)
-    → turn_of message ≡ Neither → Leads on (message ∷ []) on
+    → effect_of message ≡ Neither → Leads on (message ∷ []) on
 unfolding keys_after
 Leads-neither on message neither = Leads-cons on on message Neither [] neither tt (Leads-none on)
 

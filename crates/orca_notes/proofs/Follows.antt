@@ -11,8 +11,8 @@ use Rattle.orca_base.specs.declared.event.Event.TheVariants as event
 use Rattle.orca_base.specs.declared.message.Message.{Message}
 use Rattle.orca_base.specs.declared.message.Message.TheVariants as message
 use Rattle.orca_base.specs.Ranges.{AreInRange, IsPlayable, IsSendable}
-use Rattle.orca_notes.specs.Device.{Voice, is_same, is_on, voice_of, voices, IsChord, Leads, Plays, midi}
-use Rattle.orca_notes.specs.Sound.{Sounds, sounds_of, is_due, is_cut_by, ends, stop, start, say, happens, sound}
+use Rattle.orca_notes.specs.Device.{Voice, is_same, is_on, voice_of, voices, IsChord, Leads, Plays, midi_messages}
+use Rattle.orca_notes.specs.Sound.{Sounds, sounds_of, is_due, is_cut_by, ends, note_stop, note_start, say, happens, sound}
 use Rattle.orca_notes.proofs.Voices.{same_from_true}
 use Rattle.orca_notes.proofs.Chords.{IsChord-filter, IsChord-push, is_on-filter}
 use Rattle.orca_notes.proofs.DeviceFacts.{Leads-none}
@@ -33,7 +33,7 @@ Follows-append before s notes messages so_far chord more = record {
 }
 
 stop-follows : (before : List Note) (test : Note → Bool) (s : Sounds)
-    → Follows before s → Follows before (stop test s)
+    → Follows before s → Follows before (note_stop test s)
 stop-follows before test s so_far =
     let left : Note → Bool = λ note. not (test note) in
     Follows-append before s (filter left s.notes) (ends (filter test s.notes)) so_far
@@ -41,7 +41,7 @@ stop-follows before test s so_far =
 
 -- one message that can be sent
 Plays-one : (before after : List Note) (m : Message) → IsSendable m
-    → Leads (voices before) (midi (m ∷ [])) (voices after) → Plays before (m ∷ []) after
+    → Leads (voices before) (midi_messages (m ∷ [])) (voices after) → Plays before (m ∷ []) after
 Plays-one before after m sendable keys = record {
   keys = keys;
   sendable = All-push IsSendable [] m (All-nil IsSendable) sendable;
@@ -50,8 +50,8 @@ Plays-one before after m sendable keys = record {
 start-follows : (before : List Note) (note : Note) (velocity : ℕ) (s : Sounds)
     → AreInRange note.channel note.key velocity → MIN_VELOCITY ≤ velocity
     → is_on (voices s.notes) (voice_of note) ≡ false
-    → Follows before s → Follows before (start note velocity s)
-unfolding midi
+    → Follows before s → Follows before (note_start note velocity s)
+unfolding midi_messages
 start-follows before note velocity s low loud absent so_far =
     let m = message.On note.channel note.key velocity in
     let on_now = Leads-on (voices s.notes) (voice_of note) velocity low.channel_low loud absent in
@@ -60,7 +60,7 @@ start-follows before note velocity s low loud absent so_far =
     (Plays-one s.notes (s.notes ++ note ∷ []) m (low, loud) (rw map-append on_now))
 
 say-follows : (before : List Note) (m : Message) (s : Sounds)
-    → IsSendable m → Leads (voices s.notes) (midi (m ∷ [])) (voices s.notes)
+    → IsSendable m → Leads (voices s.notes) (midi_messages (m ∷ [])) (voices s.notes)
     → Follows before s → Follows before (say m s)
 say-follows before m s sendable keys so_far =
     Follows-append before s s.notes (m ∷ []) so_far so_far.chord
@@ -88,11 +88,11 @@ absent-after_cut channel key mono notes =
 
 happens-follows : (before : List Note) (tick : ℕ) (s : Sounds) (e : Event)
     → IsPlayable e → Follows before s → Follows before (happens tick s e)
-unfolding happens midi
+unfolding happens midi_messages
 happens-follows before tick s (event.Note channel key velocity length mono) low so_far =
     let note : Note = record { channel = channel; key = key; due = tick + length } in
     let cut = is_cut_by channel key mono in
-    start-follows before note velocity (stop cut s) low.0 low.1
+    start-follows before note velocity (note_stop cut s) low.0 low.1
     (absent-after_cut channel key mono s.notes) (stop-follows before cut s so_far)
 happens-follows before tick s (event.Control channel control value) low so_far =
     say-follows before (message.Control channel control value) s low
@@ -120,6 +120,6 @@ unfolding sound
 sound-follows notes tick events chord low =
     let first : Follows notes (sounds_of notes []) =
     record { chord = chord; plays = Plays-none notes } in
-    fold-follows notes tick (stop (is_due tick) (sounds_of notes [])) events
+    fold-follows notes tick (note_stop (is_due tick) (sounds_of notes [])) events
     (recursion_from_All IsPlayable events low)
     (stop-follows notes (is_due tick) (sounds_of notes []) first)

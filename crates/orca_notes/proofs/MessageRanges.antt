@@ -11,7 +11,7 @@ use Rattle.orca_base.specs.EventRanges.{IsInRange, IsMessageInRange}
 use Rattle.orca_base.specs.Ranges.{IsPlayable, IsSendable, HasFewValues, CarriesFewValues}
 use Rattle.orca_base.proofs.RangeFacts.{IsPlayable-in_range}
 use Rattle.orca_notes.specs.Device.{IsChord}
-use Rattle.orca_notes.specs.Sound.{Sounds, sounds_of, is_due, is_cut_by, ends, stop, happens, sound}
+use Rattle.orca_notes.specs.Sound.{Sounds, sounds_of, is_due, is_cut_by, ends, note_stop, happens, sound}
 use Rattle.orca_notes.proofs.Follows.{Follows, sound-follows}
 use Rattle.orca_notes.proofs.PlayFacts.{Plays-ends}
 
@@ -62,7 +62,7 @@ sound-hold : (P : Message → Type 0) → HoldsOfNotes P
     → All (HoldsOfEvent P) events → All P (sound notes tick events).messages
 unfolding sound
 sound-hold P of_notes notes tick events holds =
-    fold-hold P of_notes tick (stop (is_due tick) (sounds_of notes [])) events
+    fold-hold P of_notes tick (note_stop (is_due tick) (sounds_of notes [])) events
     (recursion_from_All (HoldsOfEvent P) events holds)
     (ends-hold P of_notes (filter (is_due tick) notes))
 

@@ -6,7 +6,7 @@ use Rattle.orca_base.specs.declared.note.Note.{Note}
 use Rattle.orca_base.specs.declared.message.Message.{Message}
 use Rattle.orca_base.specs.declared.message.Message.TheVariants as message
 use Rattle.orca_base.specs.Ranges.{IsSendable}
-use Rattle.orca_notes.specs.Device.{voices, IsChord, Plays, midi}
+use Rattle.orca_notes.specs.Device.{voices, IsChord, Plays, midi_messages}
 use Rattle.orca_notes.specs.Sound.{ends}
 use Rattle.orca_notes.proofs.Chords.{IsNote, voices-in_range}
 use Rattle.orca_notes.proofs.DeviceFacts.{Leads-none, Leads-append, midi-append}
@@ -14,7 +14,7 @@ use Rattle.orca_notes.proofs.Turns.{Leads-ends}
 
 -- no messages leave the notes as they are
 pub Plays-none : (notes : List Note) → Plays notes [] notes
-unfolding midi
+unfolding midi_messages
 Plays-none notes = record { keys = Leads-none (voices notes); sendable = All-nil IsSendable }
 
 -- messages, and then others that go on where these lead
@@ -23,7 +23,7 @@ pub Plays-append : (before middle after : List Note) (xs ys : List Message)
 Plays-append before middle after xs ys first rest = record {
   keys =
       rw (midi-append xs ys)
-      (Leads-append (voices before) (voices middle) (voices after) (midi xs) (midi ys)
+      (Leads-append (voices before) (voices middle) (voices after) (midi_messages xs) (midi_messages ys)
       first.keys rest.keys);
   sendable = All-append IsSendable xs ys first.sendable rest.sendable;
 }

@@ -5,7 +5,7 @@ use Rattle.std.proofs.lemmas.Bool.{and_from, and_left, or_from, or_right, not_fr
 use Rattle.orca_base.specs.declared.limits.TheConstants.{MAX_CHANNEL, MIN_VELOCITY}
 use Rattle.orca_base.specs.declared.note.Note.{Note}
 use Rattle.orca_base.specs.MidiBytes.{status, voice_message, note_on_bytes, note_off_bytes}
-use Rattle.orca_notes.specs.Device.{Voice, is_same, is_on, voice_of, voices, Starts, Ends, Neither, turn_of, keys_without, keys_after, Leads, midi}
+use Rattle.orca_notes.specs.Device.{Voice, is_same, is_on, voice_of, voices, Starts, Ends, Neither, effect_of, keys_without, keys_after, Leads, midi_messages}
 use Rattle.orca_notes.specs.Sound.{ends}
 use Rattle.orca_notes.proofs.Voices.{IsInRange, keys_without-absent, keys_without-middle, distinct-middle, is_on-middle}
 use Rattle.orca_notes.proofs.DeviceFacts.{Leads-none, Leads-cons, Leads-neither}
@@ -13,7 +13,7 @@ use Rattle.orca_notes.proofs.DeviceFacts.{Leads-none, Leads-cons, Leads-neither}
 -- ---- one message
 
 turn_of-on : (channel key velocity : ℕ) → channel ≤ MAX_CHANNEL → MIN_VELOCITY ≤ velocity
-    → turn_of (note_on_bytes channel key velocity)
+    → effect_of (note_on_bytes channel key velocity)
     ≡ Starts (record { channel = channel; key = key })
 turn_of-on channel key velocity low loud =
     let kind : eqb (status 9 channel / 16) 9 ≡ true = eq-eqb _ _ (omega arith) in
@@ -24,7 +24,7 @@ turn_of-on channel key velocity low loud =
     ∙ ap (λ n. Starts (record { channel = n; key = key })) same
 
 turn_of-off : (channel key : ℕ) → channel ≤ MAX_CHANNEL
-    → turn_of (note_off_bytes channel key) ≡ Ends (record { channel = channel; key = key })
+    → effect_of (note_off_bytes channel key) ≡ Ends (record { channel = channel; key = key })
 turn_of-off channel key low =
     let not_on : eqb (status 8 channel / 16) 9 ≡ false = ne_eqb _ _ (λ e. absurd (omega arith)) in
     let kind : eqb (status 8 channel / 16) 8 ≡ true = eq-eqb _ _ (omega arith) in
@@ -34,7 +34,7 @@ turn_of-off channel key low =
     ∙ ap (λ n. Ends (record { channel = n; key = key })) same)
 
 turn_of-other : (kind channel first second : ℕ) → 9 < kind
-    → turn_of (voice_message kind channel first second) ≡ Neither
+    → effect_of (voice_message kind channel first second) ≡ Neither
 turn_of-other kind channel first second other =
     let not_on : eqb (status kind channel / 16) 9 ≡ false =
     ne_eqb _ _ (λ e. absurd (omega arith)) in
@@ -69,15 +69,15 @@ Leads-other on kind channel first second other =
 
 ends-case : (b : Bool) (front : List Voice) (note : Note) (rest taken left : List Note)
     → IsInRange (voice_of note) → IsDistinct is_same (front ++ voice_of note ∷ voices rest)
-    → Leads (front ++ voices rest) (midi (ends taken)) (front ++ voices left)
-    → Leads ((front ++ voice_of note ∷ []) ++ voices rest) (midi (ends taken))
+    → Leads (front ++ voices rest) (midi_messages (ends taken)) (front ++ voices left)
+    → Leads ((front ++ voice_of note ∷ []) ++ voices rest) (midi_messages (ends taken))
     ((front ++ voice_of note ∷ []) ++ voices left)
-    → Leads (front ++ voice_of note ∷ voices rest) (midi (ends (cond b (note ∷ taken) taken)))
+    → Leads (front ++ voice_of note ∷ voices rest) (midi_messages (ends (cond b (note ∷ taken) taken)))
     (front ++ voices (cond (not b) (note ∷ left) left))
-unfolding midi
+unfolding midi_messages
 ends-case true front note rest taken left low distinct gone stays =
     let v = voice_of note in
-    Leads-off _ _ v (midi (ends taken)) low.0 (is_on-middle front v (voices rest))
+    Leads-off _ _ v (midi_messages (ends taken)) low.0 (is_on-middle front v (voices rest))
     (rw (keys_without-middle front v (voices rest) distinct) gone)
 ends-case false front note rest taken left low distinct gone stays =
     let v = voice_of note in
@@ -89,9 +89,9 @@ ends-case false front note rest taken left low distinct gone stays =
 
 ends-from : (test : Note → Bool) (front : List Voice) (rest : List Note)
     → AllByRecursion IsInRange (voices rest) → IsDistinct is_same (front ++ voices rest)
-    → Leads (front ++ voices rest) (midi (ends (filter test rest)))
+    → Leads (front ++ voices rest) (midi_messages (ends (filter test rest)))
     (front ++ voices (filter (λ note. not (test note)) rest))
-unfolding midi
+unfolding midi_messages
 ends-from test front [] low distinct = Leads-none (front ++ [])
 ends-from test front (note ∷ rest) low distinct =
     let v = voice_of note in
@@ -105,6 +105,6 @@ ends-from test front (note ∷ rest) low distinct =
 -- where some notes of a chord end, the others are on
 pub Leads-ends : (test : Note → Bool) (notes : List Note)
     → AllByRecursion IsInRange (voices notes) → IsDistinct is_same (voices notes)
-    → Leads (voices notes) (midi (ends (filter test notes)))
+    → Leads (voices notes) (midi_messages (ends (filter test notes)))
     (voices (filter (λ note. not (test note)) notes))
 Leads-ends test notes low distinct = ends-from test [] notes low distinct

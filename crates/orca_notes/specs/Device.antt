@@ -36,14 +36,14 @@ pub record IsChord (notes : List Note) : Type 0 where
   pub distinct : IsDistinct is_same (voices notes)
 
 -- what a MIDI message does to a device
-pub data Turn : Type 0 where
-  Starts : (voice : Voice) → Turn
-  Ends : (voice : Voice) → Turn
-  Neither : Turn
+pub data KeyEffect : Type 0 where
+  Starts : (voice : Voice) → KeyEffect
+  Ends : (voice : Voice) → KeyEffect
+  Neither : KeyEffect
 
 -- the high four bits of a status byte are 9 for note on and 8 for note off, and the low four are
 -- the channel; a note on with velocity 0 is a note off
-abbrev pub voice_turn : ℕ → ℕ → ℕ → Turn
+abbrev pub voice_turn : ℕ → ℕ → ℕ → KeyEffect
 voice_turn status key velocity =
     let voice : Voice = record { channel = status % 16; key = key } in
     if status / 16 == 9 && not (velocity == 0) then Starts voice
@@ -51,26 +51,26 @@ voice_turn status key velocity =
 
 -- what the bytes of one message do; a message of one byte, F8 to FF, and all others do neither.
 -- Only messages in range are modelled, and none of these is a channel mode message
-abbrev pub turn_of : List ℕ → Turn
-turn_of (status ∷ key ∷ velocity ∷ []) = voice_turn status key velocity
-turn_of _ = Neither
+abbrev pub effect_of : List ℕ → KeyEffect
+effect_of (status ∷ key ∷ velocity ∷ []) = voice_turn status key velocity
+effect_of _ = Neither
 
 -- the keys without one that goes off
 abbrev pub keys_without : List Voice → Voice → List Voice
 keys_without on voice = filter (λ other. not (is_same voice other)) on
 
 -- the keys that are on after a turn, the last one that went on being the last
-unfoldable pub keys_after : List Voice → Turn → List Voice
+unfoldable pub keys_after : List Voice → KeyEffect → List Voice
 keys_after on (Starts voice) = keys_without on voice ++ voice ∷ []
 keys_after on (Ends voice) = keys_without on voice
 keys_after on Neither = on
 
 -- the keys that are on after these messages
 unfoldable pub device : List Voice → List (List ℕ) → List Voice
-device on messages = fold (λ on message. keys_after on (turn_of message)) on messages
+device on messages = fold (λ on message. keys_after on (effect_of message)) on messages
 
 -- the turn starts no key that is on, and ends none that is off
-abbrev pub Suits : List Voice → Turn → Type 0
+abbrev pub Suits : List Voice → KeyEffect → Type 0
 Suits on (Starts voice) = is_on on voice ≡ false
 Suits on (Ends voice) = is_on on voice ≡ true
 Suits on Neither = Unit {0}
@@ -79,11 +79,11 @@ Suits on Neither = Unit {0}
 unfoldable pub IsFair : List Voice → List (List ℕ) → Type 0
 IsFair on [] = Unit {0}
 IsFair on (message ∷ messages) =
-    Suits on (turn_of message) × IsFair (keys_after on (turn_of message)) messages
+    Suits on (effect_of message) × IsFair (keys_after on (effect_of message)) messages
 
 -- the MIDI messages among these, in order
-unfoldable pub midi : List Message → List (List ℕ)
-midi messages = filter_map midi_bytes_of messages
+unfoldable pub midi_messages : List Message → List (List ℕ)
+midi_messages messages = filter_map midi_bytes_of messages
 
 -- a device whose keys that are on are these has exactly those on when it has read the messages, and
 -- none of them starts a key that is on, or ends one that is off
@@ -94,5 +94,5 @@ pub record Leads (on : List Voice) (messages : List (List ℕ)) (after : List Vo
 -- the messages lead a device from the keys of the notes before to those of the notes after, and
 -- each can be sent
 pub record Plays (before : List Note) (messages : List Message) (after : List Note) : Type 0 where
-  pub keys : Leads (voices before) (midi messages) (voices after)
+  pub keys : Leads (voices before) (midi_messages messages) (voices after)
   pub sendable : All IsSendable messages

@@ -38,15 +38,15 @@ abbrev pub ends : List Note → List Message
 ends notes = map (λ note. message.Off note.channel note.key) notes
 
 -- the notes that pass the test end, and leave the list
-abbrev pub stop : (Note → Bool) → Sounds → Sounds
-stop test s = record {
+abbrev pub note_stop : (Note → Bool) → Sounds → Sounds
+note_stop test s = record {
   notes = filter (λ note. not (test note)) s.notes;
   messages = s.messages ++ ends (filter test s.notes);
 }
 
 -- a note starts: it gives its On, and stands last
-abbrev pub start : Note → ℕ → Sounds → Sounds
-start note velocity s = record {
+abbrev pub note_start : Note → ℕ → Sounds → Sounds
+note_start note velocity s = record {
   notes = s.notes ++ note ∷ [];
   messages = s.messages ++ message.On note.channel note.key velocity ∷ [];
 }
@@ -59,7 +59,7 @@ say m s = record { notes = s.notes; messages = s.messages ++ m ∷ [] }
 unfoldable pub happens : ℕ → Sounds → Event → Sounds
 happens tick s (event.Note channel key velocity length mono) =
     let note : Note = record { channel = channel; key = key; due = tick + length } in
-    start note velocity (stop (is_cut_by channel key mono) s)
+    note_start note velocity (note_stop (is_cut_by channel key mono) s)
 happens tick s (event.Control channel control value) =
     say (message.Control channel control value) s
 happens tick s (event.Bend channel lsb msb) = say (message.Bend channel lsb msb) s
@@ -68,4 +68,4 @@ happens tick s (event.Osc path values) = say (message.Osc path values) s
 
 -- a frame: the notes that are due end, and then the events happen in order
 unfoldable pub sound : List Note → ℕ → List Event → Sounds
-sound notes tick events = fold (happens tick) (stop (is_due tick) (sounds_of notes [])) events
+sound notes tick events = fold (happens tick) (note_stop (is_due tick) (sounds_of notes [])) events

@@ -3,7 +3,7 @@ use Rattle.std.specs.Prelude.{ℕ, zero, suc, ◌+◌, ◌<◌, ◌≤◌, ◌�
 use Rattle.std.proofs.Common.{inl, inr, arith, ap, subst, ◌∙◌, sym, zero-add, suc-add}
 use Rattle.std.proofs.lemmas.Bool.{both_ways}
 use Rattle.std.proofs.Math.Nat.{eq-or-lt_of_le}
-use Rattle.orca_op.specs.First.{first_where, NonePasses, IsCounted}
+use Rattle.orca_op.specs.First.{first_where, NonePasses, IsWithin}
 
 -- a number that passes, where none before it does, is the first
 pub first_where-found : (test : ℕ → Bool) (from many i : ℕ) → from ≤ i → i < from + many
@@ -52,15 +52,15 @@ first_where-some test from (suc many) i low high here =
     ]
 
 range_if : (here : Bool) (later : Option ℕ) (from many : ℕ)
-    → IfSome later (IsCounted (from + 1) many)
-    → IfSome (if here then Some from else later) (IsCounted from (suc many))
+    → IfSome later (IsWithin (from + 1) many)
+    → IfSome (if here then Some from else later) (IsWithin from (suc many))
 range_if true later from many within = (omega arith, omega arith)
 range_if false None from many within = within
 range_if false (Some i) from many within = (omega arith, omega arith)
 
 -- the first is one of the numbers that are tested
 pub first_where-range : (test : ℕ → Bool) (from many : ℕ)
-    → IfSome (first_where test from many) (IsCounted from many)
+    → IfSome (first_where test from many) (IsWithin from many)
 unfolding first_where
 first_where-range test from zero = tt
 first_where-range test from (suc many) =

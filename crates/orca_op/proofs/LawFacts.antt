@@ -15,8 +15,8 @@ use Rattle.orca_base.specs.Grids.{IsInside, place_in}
 use Rattle.orca_base.proofs.PlaceFacts.{inside-place_in}
 use Rattle.orca_base.proofs.SheetFacts.{IsGlyph-index, IsGlyph-glyph_at}
 use Rattle.orca_op.specs.State.{State, IsState, sheet_of, peek, var_at, glyph_in}
-use Rattle.orca_op.specs.Deeds.{Deed, Mark, Write, Set, Emit, after, after_all, each}
-use Rattle.orca_op.specs.Desk.{Desk, desk_after, desk_after_all}
+use Rattle.orca_op.specs.Deeds.{Deed, Mark, Write, Set, Emit, after, after_all, each_below}
+use Rattle.orca_op.specs.Slate.{Slate, slate_after, slate_after_all}
 use Rattle.orca_op.specs.ValueRules.{value_or}
 use Rattle.orca_op.specs.Laws.{is_emit, Every, AnyDeed, EmitsInRange}
 
@@ -46,7 +46,7 @@ IsGlyph-var_at s n whole below = IsGlyph-index s.vars n whole.glyphs (omega (ari
 
 -- at most `size` deeds for each of n numbers
 pub length-each : (n size : ℕ) (deeds : ℕ → List Deed) → ((i : ℕ) → length (deeds i) ≤ size)
-    → length (each n deeds) ≤ n * size
+    → length (each_below n deeds) ≤ n * size
 length-each zero size deeds bound = omega arith
 length-each (suc n) size deeds bound =
     let front = length-each n size deeds bound in
@@ -59,10 +59,10 @@ count_by-append p xs ys = sum_by-append (λ x. if p x then 1 else 0) xs ys
 
 -- no event for any number
 pub no_event-each : (n : ℕ) (deeds : ℕ → List Deed) → ((i : ℕ) → count_by is_emit (deeds i) ≡ 0)
-    → count_by is_emit (each n deeds) ≡ 0
+    → count_by is_emit (each_below n deeds) ≡ 0
 no_event-each zero deeds none = refl
 no_event-each (suc n) deeds none =
-    rw (count_by-append is_emit (each n deeds) (deeds n), no_event-each n deeds none, none n) refl
+    rw (count_by-append is_emit (each_below n deeds) (deeds n), no_event-each n deeds none, none n) refl
 
 pub Every-append : (P : Deed → Type 0) (xs ys : List Deed) → Every P xs → Every P ys
     → Every P (xs ++ ys)
@@ -71,11 +71,11 @@ Every-append P (x ∷ xs) ys first second = (first.0, Every-append P xs ys first
 
 -- what holds of the deeds of each number holds of all of them
 pub Every-each : (P : Deed → Type 0) (n : ℕ) (deeds : ℕ → List Deed)
-    → ((i : ℕ) → i < n → Every P (deeds i)) → Every P (each n deeds)
+    → ((i : ℕ) → i < n → Every P (deeds i)) → Every P (each_below n deeds)
 Every-each P zero deeds all = tt
 Every-each P (suc n) deeds all =
     let front = Every-each P n deeds (λ i below. all i (omega arith)) in
-    Every-append P (each n deeds) (deeds n) front (all n (omega arith))
+    Every-append P (each_below n deeds) (deeds n) front (all n (omega arith))
 
 pub AnyDeed-left : (P : Deed → Type 0) (xs ys : List Deed) → AnyDeed P xs → AnyDeed P (xs ++ ys)
 AnyDeed-left P [] ys some = absurd some
@@ -88,58 +88,58 @@ AnyDeed-right P (x ∷ xs) ys some = inr (AnyDeed-right P xs ys some)
 
 -- a deed of some number is among all of them
 pub AnyDeed-each : (P : Deed → Type 0) (n i : ℕ) (deeds : ℕ → List Deed) → i < n
-    → AnyDeed P (deeds i) → AnyDeed P (each n deeds)
+    → AnyDeed P (deeds i) → AnyDeed P (each_below n deeds)
 AnyDeed-each P zero i deeds below some = absurd (omega arith)
 AnyDeed-each P (suc n) i deeds below some =
     let at_most : i ≤ n = omega arith in
     elim (eq-or-lt_of_le at_most) [
       | inl same ↦
           let last = subst (λ (k : ℕ). AnyDeed P (deeds k)) same some in
-          AnyDeed-right P (each n deeds) (deeds n) last
-      | inr less ↦ AnyDeed-left P (each n deeds) (deeds n) (AnyDeed-each P n i deeds less some)
+          AnyDeed-right P (each_below n deeds) (deeds n) last
+      | inr less ↦ AnyDeed-left P (each_below n deeds) (deeds n) (AnyDeed-each P n i deeds less some)
     ]
 
 -- deeds one after another
-pub desk_after_all-append : (d : Desk) (xs ys : List Deed)
-    → desk_after_all d (xs ++ ys) ≡ desk_after_all (desk_after_all d xs) ys
-desk_after_all-append d [] ys = refl
-desk_after_all-append d (x ∷ xs) ys = desk_after_all-append (desk_after d x) xs ys
+pub slate_after_all-append : (d : Slate) (xs ys : List Deed)
+    → slate_after_all d (xs ++ ys) ≡ slate_after_all (slate_after_all d xs) ys
+slate_after_all-append d [] ys = refl
+slate_after_all-append d (x ∷ xs) ys = slate_after_all-append (slate_after d x) xs ys
 
 -- deeds one after another add up
-pub ruleset added_up = (desk_after_all-append)
+pub ruleset added_up = (slate_after_all-append)
 
 pub after_all-append : (s : State) (xs ys : List Deed)
     → after_all s (xs ++ ys) ≡ after_all (after_all s xs) ys
 after_all-append s [] ys = refl
 after_all-append s (x ∷ xs) ys = after_all-append (after s x) xs ys
 
--- the state of a desk after deeds is the state after them
-pub scan-desk_after_all : (d : Desk) (deeds : List Deed)
-    → (desk_after_all d deeds).scan ≡ after_all d.scan deeds
-scan-desk_after_all d [] = refl
-scan-desk_after_all d (deed ∷ deeds) = scan-desk_after_all (desk_after d deed) deeds
+-- the state of a slate after deeds is the state after them
+pub scan-slate_after_all : (d : Slate) (deeds : List Deed)
+    → (slate_after_all d deeds).scan ≡ after_all d.scan deeds
+scan-slate_after_all d [] = refl
+scan-slate_after_all d (deed ∷ deeds) = scan-slate_after_all (slate_after d deed) deeds
 
 -- the deeds of one number more
-pub each-more : (n : ℕ) (deeds : ℕ → List Deed) → each (n + 1) deeds ≡ each n deeds ++ deeds n
+pub each-more : (n : ℕ) (deeds : ℕ → List Deed) → each_below (n + 1) deeds ≡ each_below n deeds ++ deeds n
 each-more n deeds = rw add-one refl
 
 -- the deeds of one number more come after those of the numbers before
-pub desk_after_all-each_more : (d : Desk) (n : ℕ) (deeds : ℕ → List Deed)
-    → desk_after_all d (each (n + 1) deeds)
-    ≡ desk_after_all (desk_after_all d (each n deeds)) (deeds n)
-desk_after_all-each_more d n deeds =
-    rw (each-more n deeds, desk_after_all-append d (each n deeds) (deeds n)) refl
+pub slate_after_all-each_more : (d : Slate) (n : ℕ) (deeds : ℕ → List Deed)
+    → slate_after_all d (each_below (n + 1) deeds)
+    ≡ slate_after_all (slate_after_all d (each_below n deeds)) (deeds n)
+slate_after_all-each_more d n deeds =
+    rw (each-more n deeds, slate_after_all-append d (each_below n deeds) (deeds n)) refl
 
 -- the same deeds for each number below n
 pub each-same : (n : ℕ) (deeds others : ℕ → List Deed) → ((i : ℕ) → i < n → deeds i ≡ others i)
-    → each n deeds ≡ each n others
+    → each_below n deeds ≡ each_below n others
 each-same zero deeds others same = refl
 each-same (suc n) deeds others same =
     rw (each-same n deeds others (λ i below. same i (omega arith)), same n (omega arith)) refl
 
 -- deeds by a number that is the same for each number below n
 pub each-by : (n : ℕ) (deeds : ℕ → ℕ → List Deed) (f h : ℕ → ℕ) → ((i : ℕ) → i < n → f i ≡ h i)
-    → each n (λ i. deeds i (f i)) ≡ each n (λ i. deeds i (h i))
+    → each_below n (λ i. deeds i (f i)) ≡ each_below n (λ i. deeds i (h i))
 each-by n deeds f h same =
     each-same n (λ i. deeds i (f i)) (λ i. deeds i (h i)) (λ i below. rw (same i below) refl)
 

@@ -1,4 +1,4 @@
-pub mod DeskFacts
+pub mod SlateFacts
 pub mod FirstFacts
 pub mod HereFacts
 pub mod LawFacts

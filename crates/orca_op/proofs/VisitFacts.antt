@@ -12,7 +12,7 @@ use Rattle.orca_op.specs.Deeds.{Deed}
 use Rattle.orca_op.specs.Laws.{EmitsInRange, Every, IsLawful, WritesGlyph, is_emit}
 use Rattle.orca_op.specs.Rules.{rule}
 use Rattle.orca_op.specs.Scan.{Rules, is_idle, places, state_after_places, visit_deeds}
-use Rattle.orca_op.specs.State.{IsState, State, glyph_at, sheet_of}
+use Rattle.orca_op.specs.State.{IsState, State, state_glyph, sheet_of}
 use Rattle.orca_op.proofs.LawFacts.{in_range-after_all}
 use Rattle.orca_op.proofs.StateFacts.{IsState-after_all, IsState-fresh, dims_after_all, events_after_all}
 
@@ -31,22 +31,22 @@ pub writes_glyphs : (s : State) (at : Place) (now : Now) → IsLawful rule → I
     → IsInside s.dims at → Every WritesGlyph (visit_deeds rule s at now)
 unfolding visit_deeds
 writes_glyphs s at now lawful state inside =
-    every_if WritesGlyph (is_idle s at) (rule (glyph_at s at) s at now)
-    (lawful.glyphs (glyph_at s at) s at now state
+    every_if WritesGlyph (is_idle s at) (rule (state_glyph s at) s at now)
+    (lawful.glyphs (state_glyph s at) s at now state
     (IsGlyph-glyph_at (sheet_of s) at state.sheet inside))
 
 pub sends_in_range : (s : State) (at : Place) (now : Now) → IsLawful rule → IsState s
     → Every EmitsInRange (visit_deeds rule s at now)
 unfolding visit_deeds
 sends_in_range s at now lawful state =
-    every_if EmitsInRange (is_idle s at) (rule (glyph_at s at) s at now)
-    (lawful.events (glyph_at s at) s at now state)
+    every_if EmitsInRange (is_idle s at) (rule (state_glyph s at) s at now)
+    (lawful.events (state_glyph s at) s at now state)
 
 pub sends_one : (s : State) (at : Place) (now : Now) → IsLawful rule
     → count_by is_emit (visit_deeds rule s at now) ≤ 1
 unfolding visit_deeds
-sends_one s at now lawful = few_if (is_idle s at) (rule (glyph_at s at) s at now)
-    (lawful.one_event (glyph_at s at) s at now)
+sends_one s at now lawful = few_if (is_idle s at) (rule (state_glyph s at) s at now)
+    (lawful.one_event (state_glyph s at) s at now)
 
 -- no visit changes the size
 pub dims_after_places : (rules : Rules) (n : ℕ) (g : Sheet) (now : Now)

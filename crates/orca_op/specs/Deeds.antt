@@ -60,10 +60,10 @@ abbrev pub show_at : Spot → Deed
 show_at at = Mark at (with_mark no_marks Output)
 
 -- the deeds of the numbers from 0 below n, in order
-abbrev pub each : ℕ → (ℕ → List Deed) → List Deed
-each zero deeds = []
-each (suc n) deeds = each n deeds ++ deeds n
+abbrev pub each_below : ℕ → (ℕ → List Deed) → List Deed
+each_below zero deeds = []
+each_below (suc n) deeds = each_below n deeds ++ deeds n
 
 -- n places of a row, y rows below a place, get marks: the first of them lies x columns to its right
 abbrev pub span_deeds : Place → ℕ → ℕ → ℕ → MarkSet → List Deed
-span_deeds at y x n marks = each n (λ i. Mark (off at (pos y) (pos (i + x))) marks ∷ [])
+span_deeds at y x n marks = each_below n (λ i. Mark (off at (pos y) (pos (i + x))) marks ∷ [])

@@ -8,7 +8,7 @@ use Rattle.orca_base.specs.declared.place.Place.{Place}
 use Rattle.orca_base.specs.Glyphs.{empty, is_digit, is_upper, is_lower, value, note_number}
 use Rattle.orca_op.specs.State.{State, peek, has_bang}
 use Rattle.orca_base.specs.Grids.{here, right}
-use Rattle.orca_op.specs.Deeds.{Deed, Emit, input_at, param_at, show_at, each}
+use Rattle.orca_op.specs.Deeds.{Deed, Emit, input_at, param_at, show_at, each_below}
 use Rattle.orca_op.specs.ValueRules.{value_or}
 use Rattle.orca_op.specs.First.{first_where}
 use Rattle.orca_op.specs.MotionRules.{lock_deeds}
@@ -28,7 +28,7 @@ port s at k = peek s (right at k)
 
 -- n ports are read, the first being `from`
 abbrev pub inputs : Place → ℕ → ℕ → List Deed
-inputs at from n = each n (λ i. input_at (right at (i + from)) ∷ [])
+inputs at from n = each_below n (λ i. input_at (right at (i + from)) ∷ [])
 
 -- the glyphs of n ports, the first being `from`
 abbrev pub ports : State → Place → ℕ → ℕ → List ℕ
@@ -36,8 +36,8 @@ ports s at from zero = []
 ports s at from (suc n) = ports s at from n ++ port s at (n + from) ∷ []
 
 -- the key of an octave and a note number
-abbrev pub key_of : ℕ → ℕ → ℕ
-key_of octave number = min MAX_DATA (12 * min MAX_OCTAVE (value octave) + number)
+abbrev pub midi_key : ℕ → ℕ → ℕ
+midi_key octave number = min MAX_DATA (12 * min MAX_OCTAVE (value octave) + number)
 
 -- the velocity of a glyph: the loudest where it is missing
 abbrev pub velocity_of : ℕ → ℕ
@@ -52,7 +52,7 @@ abbrev pub note_with : Bool → ℕ → ℕ → ℕ → ℕ → Option ℕ → O
 note_with mono channel octave velocity frames None = None
 note_with mono channel octave velocity frames (Some number) =
     if (octave == empty) || (not (velocity == empty) && (value velocity == 0)) then None
-    else Some (Note (channel_of channel) (key_of octave number)
+    else Some (Note (channel_of channel) (midi_key octave number)
     (velocity_of velocity) (value_or frames 1) mono)
 
 -- the note of the ports channel, octave, note, velocity and length

@@ -11,5 +11,5 @@ abbrev pub NonePasses : (ℕ → Bool) → ℕ → ℕ → Type 0
 NonePasses test from to = (k : ℕ) → from ≤ k → k < to → test k ≡ false
 
 -- the number is one of the `many` from `from` on
-abbrev pub IsCounted : ℕ → ℕ → ℕ → Type 0
-IsCounted from many i = (from ≤ i) × (i < from + many)
+abbrev pub IsWithin : ℕ → ℕ → ℕ → Type 0
+IsWithin from many i = (from ≤ i) × (i < from + many)

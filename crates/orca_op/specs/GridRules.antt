@@ -6,7 +6,7 @@ use Rattle.orca_base.specs.declared.place.Spot.{Spot}
 use Rattle.orca_base.specs.Glyphs.{empty, value}
 use Rattle.orca_op.specs.State.{State, peek, var_at}
 use Rattle.orca_base.specs.Grids.{off, below, left, right}
-use Rattle.orca_op.specs.Deeds.{Deed, Write, Set, input_at, param_at, output_at, far_at, lock_at, each}
+use Rattle.orca_op.specs.Deeds.{Deed, Write, Set, input_at, param_at, output_at, far_at, lock_at, each_below}
 use Rattle.orca_op.specs.ValueRules.{value_or}
 
 -- the spot x to the right and y + 1 rows below
@@ -30,7 +30,7 @@ generator g s at now =
     let y = value (peek s (left at 2)) in
     let length = value (peek s (left at 1)) in
     param_at (left at 3) ∷ param_at (left at 2) ∷ param_at (left at 1)
-    ∷ each length (λ i. generate_one at y x i (peek s (right at (i + 1))))
+    ∷ each_below length (λ i. generate_one at y x i (peek s (right at (i + 1))))
 
 -- X: the glyph at its right is written at the target
 abbrev pub write_at : ℕ → State → Place → Now → List Deed
@@ -65,7 +65,7 @@ query g s at now =
     let y = value (peek s (left at 2)) in
     let length = value (peek s (left at 1)) in
     param_at (left at 3) ∷ param_at (left at 2) ∷ param_at (left at 1)
-    ∷ each length (λ i. query_one at y x length i (peek s (source at y (x + i))))
+    ∷ each_below length (λ i. query_one at y x length i (peek s (source at y (x + i))))
 
 -- T: the glyph that the key chooses of those at its right is written below
 abbrev pub track : ℕ → State → Place → Now → List Deed
@@ -74,7 +74,7 @@ track g s at now =
     let length = value_or (peek s (left at 1)) 1 in
     let chosen = right at (key % length + 1) in
     param_at (left at 2) ∷ param_at (left at 1)
-    ∷ each length (λ i. lock_at (right at (i + 1)) ∷ [])
+    ∷ each_below length (λ i. lock_at (right at (i + 1)) ∷ [])
     ++ input_at chosen ∷ output_at (below at) ∷ Write (below at) (peek s chosen) ∷ []
 
 -- P: the glyph at its right is written at the place below that the key chooses
@@ -84,7 +84,7 @@ push g s at now =
     let length = value_or (peek s (left at 1)) 1 in
     let chosen = off at (pos 1) (pos (key % length)) in
     param_at (left at 2) ∷ param_at (left at 1)
-    ∷ each length (λ i. lock_at (off at (pos 1) (pos i)) ∷ [])
+    ∷ each_below length (λ i. lock_at (off at (pos 1) (pos i)) ∷ [])
     ++ input_at (right at 1) ∷ output_at chosen ∷ Write chosen (peek s (right at 1)) ∷ []
 
 -- V: sets the variable that is named at its left; where none is, writes below it the one that is
@@ -115,5 +115,5 @@ abbrev pub konkat : ℕ → State → Place → Now → List Deed
 konkat g s at now =
     let name : ℕ → ℕ = λ i. peek s (right at (i + 1)) in
     param_at (left at 1)
-    ∷ each (value_or (peek s (left at 1)) 1)
+    ∷ each_below (value_or (peek s (left at 1)) 1)
     (λ i. konkat_one at i (name i) (var_at s (value (name i))))

@@ -1,6 +1,6 @@
 pub mod State
 pub mod Deeds
-pub mod Desk
+pub mod Slate
 pub mod Kinds
 pub mod First
 pub mod ValueRules

@@ -3,12 +3,12 @@ use Rattle.std.specs.Prelude.{ℕ, ◌+◌, ◌-◌, ◌*◌, ◌^◌, ◌/◌, 
 use Rattle.std.specs.Int.{bit_at}
 use Rattle.orca_base.specs.declared.limits.TheConstants.{WORD_COLUMNS}
 use Rattle.orca_base.specs.Glyphs.{is_operator}
-use Rattle.orca_op.specs.State.{State, glyph_at}
+use Rattle.orca_op.specs.State.{State, state_glyph}
 use Rattle.orca_op.specs.First.{first_where, NonePasses}
 
 -- the column lies in the grid, and its place of the row holds an operator
 abbrev pub is_live : State → ℕ → ℕ → Bool
-is_live s row x = nat_lt x s.dims.w && is_operator (glyph_at s (record { y = row; x = x }))
+is_live s row x = nat_lt x s.dims.w && is_operator (state_glyph s (record { y = row; x = x }))
 
 -- a column's bit is set: of the word that it stands in, counted from the least significant bit
 abbrev pub has_bit : List ℕ → ℕ → Bool

@@ -7,7 +7,7 @@ use Rattle.orca_base.specs.declared.place.Spot.{Spot}
 use Rattle.orca_base.specs.Glyphs.{empty, bang}
 use Rattle.orca_op.specs.State.{State, peek, holds}
 use Rattle.orca_base.specs.Grids.{above, below, down, here, left, right}
-use Rattle.orca_op.specs.Deeds.{Deed, Write, input_at, param_at, output_at, lock_at, sleep_at, each}
+use Rattle.orca_op.specs.Deeds.{Deed, Write, input_at, param_at, output_at, lock_at, sleep_at, each_below}
 use Rattle.orca_op.specs.First.{first_where}
 
 -- a mover goes on to the target where that is an empty place of the grid, and becomes a bang
@@ -43,17 +43,17 @@ abbrev pub halt : ℕ → State → Place → Now → List Deed
 halt g s at now = param_at (below at) ∷ []
 
 -- `#`, which begins a comment and ends it
-abbrev pub hash : ℕ
-hash = 35
+abbrev pub commented : ℕ
+commented = 35
 
 -- how many places a comment locks: up to and with the next `#`, and at most its reach
 unfoldable pub comment_length : State → Place → ℕ
 comment_length s at =
-    unwrap_or (first_where (λ i. peek s (right at i) == hash) 1 COMMENT_REACH) COMMENT_REACH
+    unwrap_or (first_where (λ i. peek s (right at i) == commented) 1 COMMENT_REACH) COMMENT_REACH
 
 -- n places to the right are locked
 abbrev pub lock_deeds : Place → ℕ → List Deed
-lock_deeds at n = each n (λ i. lock_at (right at (i + 1)) ∷ [])
+lock_deeds at n = each_below n (λ i. lock_at (right at (i + 1)) ∷ [])
 
 -- `#`: locks the places to its right
 abbrev pub comment : ℕ → State → Place → Now → List Deed
@@ -66,7 +66,7 @@ chain_end g s beyond = first_where (λ i. not (peek s (beyond i) == g)) 1 JUMP_R
 
 -- the first n places beyond a jumper are put to sleep
 abbrev pub sleep_deeds : (ℕ → Spot) → ℕ → List Deed
-sleep_deeds beyond n = each n (λ k. sleep_at (beyond (k + 1)) ∷ [])
+sleep_deeds beyond n = each_below n (λ k. sleep_at (beyond (k + 1)) ∷ [])
 
 -- a chain of jumpers hands the glyph of its source on to the place beyond its end
 abbrev pub jump_by : ℕ → State → Spot → (ℕ → Spot) → Option ℕ → List Deed

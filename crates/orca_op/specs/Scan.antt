@@ -4,17 +4,17 @@ use Rattle.orca_base.specs.declared.now.Now.{Now}
 use Rattle.orca_base.specs.declared.place.Place.{Place}
 use Rattle.orca_base.specs.Glyphs.{is_operator, needs_bang}
 use Rattle.orca_base.specs.Grids.{Sheet, cells_of, place_of}
-use Rattle.orca_op.specs.State.{State, fresh, glyph_at, marks_at, has_bang}
+use Rattle.orca_op.specs.State.{State, fresh, state_glyph, marks_at, has_bang}
 use Rattle.orca_op.specs.Deeds.{Deed, after_all}
-use Rattle.orca_op.specs.Desk.{list_after_all}
+use Rattle.orca_op.specs.Slate.{list_after_all}
 use Rattle.orca_op.specs.Rules.{rule}
 
 -- a place is idle where it holds no operator, is locked or asleep, or holds a lower-case letter
 -- without a bang
 unfoldable pub is_idle : State → Place → Bool
 is_idle s at =
-    not (is_operator (glyph_at s at)) || (marks_at s at).lock || (marks_at s at).sleep
-    || (needs_bang (glyph_at s at) && not (has_bang s at))
+    not (is_operator (state_glyph s at)) || (marks_at s at).lock || (marks_at s at).sleep
+    || (needs_bang (state_glyph s at) && not (has_bang s at))
 
 -- a rule for each glyph
 abbrev pub Rules : Type 0
@@ -22,7 +22,7 @@ Rules = ℕ → State → Place → Now → List Deed
 
 -- the deeds of a visit: none where the place is idle, else those of the rule of its glyph
 unfoldable pub visit_deeds : Rules → State → Place → Now → List Deed
-visit_deeds rules s at now = if is_idle s at then [] else rules (glyph_at s at) s at now
+visit_deeds rules s at now = if is_idle s at then [] else rules (state_glyph s at) s at now
 
 -- the state after a visit
 abbrev pub state_after_visit : Rules → State → Place → Now → State
@@ -46,7 +46,7 @@ abbrev pub busy_of : ℕ → Sheet → Now → ℕ
 busy_of zero g now = 0
 busy_of (suc n) g now =
     let reached = state_after_places rule n g now in
-    busy_of n g now + (if is_operator (glyph_at reached (place_of g.dims n)) then 1 else 0)
+    busy_of n g now + (if is_operator (state_glyph reached (place_of g.dims n)) then 1 else 0)
 
 abbrev pub places : Sheet → ℕ
 places g = cells_of g.dims

@@ -42,8 +42,8 @@ fresh g = record {
 }
 
 -- the glyph of a place
-abbrev pub glyph_at : State → Place → ℕ
-glyph_at s at = glyph_on (sheet_of s) at
+abbrev pub state_glyph : State → Place → ℕ
+state_glyph s at = glyph_on (sheet_of s) at
 
 -- the marks of a place
 abbrev pub marks_at : State → Place → MarkSet
@@ -51,7 +51,7 @@ marks_at s at = slice_index_or s.marks (index_of s.dims at) no_marks
 
 abbrev pub glyph_in : State → Option Place → ℕ
 glyph_in s None = empty
-glyph_in s (Some at) = glyph_at s at
+glyph_in s (Some at) = state_glyph s at
 
 abbrev pub marks_in : State → Option Place → MarkSet
 marks_in s None = no_marks

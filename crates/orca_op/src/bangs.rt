@@ -8,7 +8,7 @@ use std::sync::ledger::Ledger;
 /// Whether a bang stands next to a place: above it, below it, at its left or at its right.
 #[tactic(auto, unfolding(crate::specs::State::has_bang))]
 pub fn has_bang<B: Bench, L: Ledger>(bench: &B, at: Place, steps: &mut Steps<L>) -> bool
-    ensures bang { result ≡ has_bang (B.desk bench.now).scan at }
+    ensures bang { result ≡ has_bang (B.slate bench.now).scan at }
     ensures steps { steps.new ≡ steps.old + 4 }
 {
     let above = bench.peek(at.above(), steps);

@@ -57,12 +57,12 @@ impl Cursor {
         row: u16,
         steps: &mut Steps<L>,
     ) -> Option<u16>
-        requires row { row < (B.desk bench.now).scan.dims.h }
+        requires row { row < (B.slate bench.now).scan.dims.h }
         requires start { self.old ≡ 0 }
-        ensures least { result ≡ next_live (B.desk bench.now).scan row self.old }
+        ensures least { result ≡ next_live (B.slate bench.now).scan row self.old }
         ensures found { IfSome result (λ x.
-            (self.old ≤ x) × IsTrue (is_live (B.desk bench.now).scan row x)) }
-        ensures passed { let s = (B.desk bench.now).scan in
+            (self.old ≤ x) × IsTrue (is_live (B.slate bench.now).scan row x)) }
+        ensures passed { let s = (B.slate bench.now).scan in
             HasNoLive s row self.old (unwrap_or result s.dims.w) }
         ensures behind { IfSome result (λ x. self.new ≡ x + 1) }
         ensures steps { steps.new ≡ steps.old + 1 }
@@ -83,12 +83,12 @@ impl Cursor {
         row: u16,
         steps: &mut Steps<L>,
     ) -> Option<u16>
-        requires row { row < (B.desk bench.now).scan.dims.h }
-        requires column { self.old ≤ (B.desk bench.now).scan.dims.w }
-        ensures least { result ≡ next_live (B.desk bench.now).scan row self.old }
+        requires row { row < (B.slate bench.now).scan.dims.h }
+        requires column { self.old ≤ (B.slate bench.now).scan.dims.w }
+        ensures least { result ≡ next_live (B.slate bench.now).scan row self.old }
         ensures found { IfSome result (λ x.
-            (self.old ≤ x) × IsTrue (is_live (B.desk bench.now).scan row x)) }
-        ensures passed { let s = (B.desk bench.now).scan in
+            (self.old ≤ x) × IsTrue (is_live (B.slate bench.now).scan row x)) }
+        ensures passed { let s = (B.slate bench.now).scan in
             HasNoLive s row self.old (unwrap_or result s.dims.w) }
         ensures behind { IfSome result (λ x. self.new ≡ x + 1) }
         ensures steps { steps.new ≡ steps.old + 1 }

@@ -15,12 +15,12 @@ pub fn next_live<B: Walk, L: Ledger>(
     from: u16,
     steps: &mut Steps<L>,
 ) -> Option<u16>
-    requires row { row < (B.desk bench.now).scan.dims.h }
-    requires column { from ≤ (B.desk bench.now).scan.dims.w }
-    ensures least { result ≡ next_live (B.desk bench.now).scan row from }
+    requires row { row < (B.slate bench.now).scan.dims.h }
+    requires column { from ≤ (B.slate bench.now).scan.dims.w }
+    ensures least { result ≡ next_live (B.slate bench.now).scan row from }
     ensures found { IfSome result (λ x.
-        (from ≤ x) × IsTrue (is_live (B.desk bench.now).scan row x)) }
-    ensures passed { let s = (B.desk bench.now).scan in
+        (from ≤ x) × IsTrue (is_live (B.slate bench.now).scan row x)) }
+    ensures passed { let s = (B.slate bench.now).scan in
         HasNoLive s row from (unwrap_or result s.dims.w) }
     ensures steps { steps.new ≡ steps.old + 1 }
 {

@@ -5,9 +5,9 @@ ghost use Rattle.orca_base.specs.declared.place.Place.{Place};
 ghost use Rattle.orca_base.specs.Grids.{IsInside};
 ghost use Rattle.orca_op.specs.declared.kind.Kind.{Kind};
 ghost use Rattle.orca_op.specs.Kinds.{kind_of};
-ghost use Rattle.orca_op.specs.State.{State, glyph_at};
+ghost use Rattle.orca_op.specs.State.{State, state_glyph};
 ghost use Rattle.orca_op.specs.Deeds.{Deed};
-ghost use Rattle.orca_op.specs.Desk.{Desk, HasRoom, desk_after_all};
+ghost use Rattle.orca_op.specs.Slate.{Slate, HasEventRoom, slate_after_all};
 ghost use Rattle.orca_op.specs.Laws.{IsLawful};
 ghost use Rattle.orca_op.specs.Rules.{rule_of};
 
@@ -30,12 +30,12 @@ pub trait Operator {
         now: Now,
         steps: &mut Steps<L>,
     )
-        requires inside { IsInside (B.desk bench.old).scan.dims at }
-        requires holds { glyph ≡ glyph_at (B.desk bench.old).scan at }
+        requires inside { IsInside (B.slate bench.old).scan.dims at }
+        requires holds { glyph ≡ state_glyph (B.slate bench.old).scan at }
         requires served { kind_of glyph ≡ Some kind }
-        requires room { HasRoom (B.desk bench.old) }
-        ensures deeds { B.desk bench.new ≡ desk_after_all (B.desk bench.old)
-            (rule_of kind glyph (B.desk bench.old).scan at now) }
+        requires room { HasEventRoom (B.slate bench.old) }
+        ensures deeds { B.slate bench.new ≡ slate_after_all (B.slate bench.old)
+            (rule_of kind glyph (B.slate bench.old).scan at now) }
         ensures steps { steps.new ≤ steps.old + MAX_STEPS }
         ensures later { steps.old ≤ steps.new };
 

@@ -1,5 +1,5 @@
 ghost use Rattle.std.specs.Prelude.{◌≡◌, ◌+◌, ◌<◌};
-ghost use Rattle.orca_op.specs.Desk.{IsDesk};
+ghost use Rattle.orca_op.specs.Slate.{IsSlate};
 ghost use Rattle.orca_op.specs.Live.{IsLiveRow, IsSummary, is_live};
 
 use crate::Bench;
@@ -21,9 +21,9 @@ pub struct LiveRow<'a> {
 pub trait Walk: Bench {
     /// A row as the grid stands now. It counts one step, for the words and the summary together.
     fn live_words<L: Ledger>(&self, row: u16, steps: &mut Steps<L>) -> LiveRow<'_>
-        requires { row < (Self.desk self.now).scan.dims.h }
-        ensures live { IsLiveRow (Self.desk self.now).scan row result.words.now }
-        ensures summary { IsSummary (is_live (Self.desk self.now).scan row) result.summary }
-        ensures desk { IsDesk (Self.desk self.now) }
+        requires { row < (Self.slate self.now).scan.dims.h }
+        ensures live { IsLiveRow (Self.slate self.now).scan row result.words.now }
+        ensures summary { IsSummary (is_live (Self.slate self.now).scan row) result.summary }
+        ensures slate { IsSlate (Self.slate self.now) }
         ensures steps { steps.new ≡ steps.old + 1 };
 }

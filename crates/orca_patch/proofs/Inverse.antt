@@ -1,4 +1,4 @@
--- The patch of what a desk lists gives back the grid of the last `begin`.
+-- The patch of what a slate lists gives back the grid of the last `begin`.
 use Rattle.std.proofs.Common.{◌≡◌, ℕ, List, [], ◌∷◌, refl, ap, sym, ◌∙◌, inl, inr, map}
 use Rattle.std.specs.Prelude.{All, if◌then◌else◌}
 use Rattle.std.specs.List.{IsDistinct}
@@ -8,8 +8,8 @@ use Rattle.orca_base.specs.declared.place.Place.{Place}
 use Rattle.orca_base.specs.Grids.{Sheet, IsSheet, IsInside, glyph_at as glyph_on, is_place}
 use Rattle.orca_base.proofs.PlaceFacts.{is_inside-inside, is_place-same}
 use Rattle.orca_base.proofs.SheetFacts.{sheet-same}
-use Rattle.orca_op.specs.Desk.{Desk, IsDesk, changes_of, is_listed}
-use Rattle.orca_op.specs.State.{glyph_at, sheet_of}
+use Rattle.orca_op.specs.Slate.{Slate, IsSlate, changes_of, is_listed}
+use Rattle.orca_op.specs.State.{state_glyph, sheet_of}
 use Rattle.orca_board.specs.Listing.{places_of}
 use Rattle.orca_patch.specs.Patches.{CoversCut, before_of, no_change, old_glyph, sheet_before}
 
@@ -33,38 +33,38 @@ old_glyph-map glyph (p ∷ places) at other = elim (cases_Bool (is_place at p)) 
 ]
 
 -- each place of the last `begin` holds its glyph of then
-back : (d : Desk) (at : Place) → IsDesk d → IsInside d.began.dims at
-    → glyph_on d.began at ≡ old_glyph (changes_of d) at (glyph_at d.scan at)
-back d at desk inside =
-    sym (old_glyph-map (glyph_on d.began) d.listed at (glyph_at d.scan at)
+back : (d : Slate) (at : Place) → IsSlate d → IsInside d.began.dims at
+    → glyph_on d.began at ≡ old_glyph (changes_of d) at (state_glyph d.scan at)
+back d at slate inside =
+    sym (old_glyph-map (glyph_on d.began) d.listed at (state_glyph d.scan at)
     ∙ elim (cases_Bool (is_listed d.listed at)) [
       | inl present ↦ rw present refl
-      | inr absent ↦ rw absent (desk.kept at inside absent).1
+      | inr absent ↦ rw absent (slate.kept at inside absent).1
     ])
 
-pub sheet-back : (d : Desk) (tick : ℕ) → IsDesk d
+pub sheet-back : (d : Slate) (tick : ℕ) → IsSlate d
     → sheet_before (before_of d tick) (sheet_of d.scan) ≡ d.began
-sheet-back d tick desk =
-    sym (sheet-same d.began (λ at. old_glyph (changes_of d) at (glyph_at d.scan at))
-    desk.began.size desk.began.whole (λ at inside. back d at desk inside))
+sheet-back d tick slate =
+    sym (sheet-same d.began (λ at. old_glyph (changes_of d) at (state_glyph d.scan at))
+    slate.began.size slate.began.whole (λ at inside. back d at slate inside))
 
 -- a place of the last `begin` that lies outside the grid now is listed
-pub covers-cut : (d : Desk) (tick : ℕ) → IsDesk d → CoversCut (before_of d tick) d.scan.dims
-covers-cut d tick desk at inside out =
+pub covers-cut : (d : Slate) (tick : ℕ) → IsSlate d → CoversCut (before_of d tick) d.scan.dims
+covers-cut d tick slate at inside out =
     ap (λ (places : List Place). is_listed places at) (places-map (glyph_on d.began) d.listed)
     ∙ elim (cases_Bool (is_listed d.listed at)) [
       | inl present ↦ present
       | inr absent ↦
-          let there = (desk.kept at inside absent).0 in
+          let there = (slate.kept at inside absent).0 in
           absurd (both_ways _ out (is_inside-inside d.scan.dims at there))
     ]
 
--- what a desk lists makes a patch
-pub inside-listed : (d : Desk) → IsDesk d → All (IsInside d.began.dims) (places_of (changes_of d))
-inside-listed d desk = rw (places-map (glyph_on d.began) d.listed) desk.inside
+-- what a slate lists makes a patch
+pub inside-listed : (d : Slate) → IsSlate d → All (IsInside d.began.dims) (places_of (changes_of d))
+inside-listed d slate = rw (places-map (glyph_on d.began) d.listed) slate.inside
 
-pub once-listed : (d : Desk) → IsDesk d → IsDistinct is_place (places_of (changes_of d))
-once-listed d desk = rw (places-map (glyph_on d.began) d.listed) desk.once
+pub once-listed : (d : Slate) → IsSlate d → IsDistinct is_place (places_of (changes_of d))
+once-listed d slate = rw (places-map (glyph_on d.began) d.listed) slate.once
 
 -- a patch of no change
 pub sheet-no_change : (g : Sheet) (tick : ℕ) → IsSheet g

@@ -1,4 +1,4 @@
--- The desk on which a patch was undone.
+-- The slate on which a patch was undone.
 use Rattle.std.proofs.Common.{◌≡◌, ℕ, ◌+◌, ◌<◌, ◌≤◌, Bool, true, false, List, [], ◌∷◌, ◌++◌, length, get_or, take, refl, arith, ap, sym, ◌∙◌, subst, inl, inr, map}
 use Rattle.std.specs.Prelude.{All, if◌then◌else◌}
 use Rattle.std.specs.List.{AllByRecursion, IsDistinct}
@@ -13,16 +13,16 @@ use Rattle.orca_base.specs.Grids.{Size, Sheet, IsSize, IsInside, cells_of, glyph
 use Rattle.orca_base.proofs.PlaceFacts.{is_place-refl}
 use Rattle.orca_base.proofs.SheetFacts.{glyph_at-sheet_by, length-by_place}
 use Rattle.orca_op.specs.Deeds.{Deed, Write}
-use Rattle.orca_op.specs.Desk.{Desk, desk_after, desk_after_all, is_listed, residue}
-use Rattle.orca_op.proofs.LawFacts.{desk_after_all-append}
+use Rattle.orca_op.specs.Slate.{Slate, slate_after, slate_after_all, is_listed, residue}
+use Rattle.orca_op.proofs.LawFacts.{slate_after_all-append}
 use Rattle.orca_op.specs.State.{State, blank_marks, sheet_of}
-use Rattle.orca_op.proofs.DeskFacts.{IsEquivalence-is_place}
-use Rattle.orca_board.specs.Blocks.{desk_after_edit, list_each, write_each}
+use Rattle.orca_op.proofs.SlateFacts.{IsEquivalence-is_place}
+use Rattle.orca_board.specs.Blocks.{slate_after_edit, list_each, write_each}
 use Rattle.orca_board.specs.Listing.{places_of}
-use Rattle.orca_board.specs.Sizes.{cut_places, desk_after_resize, is_size, with_sheet}
+use Rattle.orca_board.specs.Sizes.{cut_places, slate_after_resize, is_size, with_sheet}
 use Rattle.orca_board.proofs.BlockLemmas.{after_writes}
 use Rattle.orca_board.proofs.ResidueLemmas.{count-with_sheet, length-list_each}
-use Rattle.orca_patch.specs.Patches.{Before, IsPatch, CoversCut, desk_before, old_glyph, sheet_before}
+use Rattle.orca_patch.specs.Patches.{Before, IsPatch, CoversCut, slate_before, old_glyph, sheet_before}
 
 -- ---- the listed places are written
 
@@ -31,17 +31,17 @@ abbrev pub writes_of : List Change → List Deed
 writes_of changes = map (λ change. Write (here change.at) change.old) changes
 
 -- one more is written
-pub step : (d e f : Desk) (changes : List Change) (n : ℕ) (change : Change) (spot : Spot)
+pub step : (d e f : Slate) (changes : List Change) (n : ℕ) (change : Change) (spot : Spot)
     → n < length changes → change ≡ get_or changes n change
-    → e ≡ desk_after_all d (writes_of (take n changes)) → spot ≡ here change.at
-    → f ≡ desk_after e (Write spot change.old)
-    → f ≡ desk_after_all d (writes_of (take (n + 1) changes))
+    → e ≡ slate_after_all d (writes_of (take n changes)) → spot ≡ here change.at
+    → f ≡ slate_after e (Write spot change.old)
+    → f ≡ slate_after_all d (writes_of (take (n + 1) changes))
 step d e f changes n change spot below item before is deed =
     let write : Change → Deed = λ c. Write (here c.at) c.old in
     (rw (before, is) at deed)
-    ∙ sym (ap (desk_after_all d) (map_more write changes n change below
+    ∙ sym (ap (slate_after_all d) (map_more write changes n change below
     ∙ ap (λ (c : Change). writes_of (take n changes) ++ write c ∷ []) (sym item))
-    ∙ desk_after_all-append d (writes_of (take n changes)) (write change ∷ []))
+    ∙ slate_after_all-append d (writes_of (take n changes)) (write change ∷ []))
 
 -- a change is found where it was, once another place stands before it
 found : (change : Change) (changes some : List Change) (other : ℕ)
@@ -108,14 +108,14 @@ holds b g at covers inside = elim (cases_Bool (is_listed (places_of b.changes) a
 ]
 
 -- the writes leave the grid before, where they follow the change of size
-written : (b : Before) (e : Desk) (g : Sheet) → IsPatch b → CoversCut b g.dims
+written : (b : Before) (e : Slate) (g : Sheet) → IsPatch b → CoversCut b g.dims
     → sheet_of e.scan ≡ sheet_after_resize g b.dims
-    → desk_after_all e (writes_of b.changes)
-    ≡ desk_after_edit e (sheet_before b g) (places_of b.changes)
+    → slate_after_all e (writes_of b.changes)
+    ≡ slate_after_edit e (sheet_before b g) (places_of b.changes)
 written b e g patch covers is =
     let size : e.scan.dims ≡ b.dims = ap (λ (s : Sheet). s.dims) is in
     let glyph : Place → ℕ = λ at. old_glyph b.changes at 0 in
-    ap (desk_after_all e) (writes-each glyph b.changes (finds b.changes 0 patch.once))
+    ap (slate_after_all e) (writes-each glyph b.changes (finds b.changes 0 patch.once))
     ∙ (after_writes e glyph (places_of b.changes)
     (λ at. old_glyph b.changes at (glyph_on g at)) (subst IsSize (sym size) patch.size)
     (subst (λ (s : Sheet). length s.cells ≡ cells_of s.dims) (sym is)
@@ -124,7 +124,7 @@ written b e g patch covers is =
     (λ at inside.
     ap (λ (s : Sheet). if is_listed (places_of b.changes) at then glyph at else glyph_on s at) is
     ∙ holds b g at covers (subst (λ (d : Size). IsInside d at) size inside))
-    ∙ ap (λ (d : Size). desk_after_edit e (sheet_by d (λ at. old_glyph b.changes at
+    ∙ ap (λ (d : Size). slate_after_edit e (sheet_by d (λ at. old_glyph b.changes at
     (glyph_on g at))) (places_of b.changes)) size)
 
 -- ---- the change of size before
@@ -151,19 +151,19 @@ sheet-with_sheet s g = rw either (by (is_size g.dims s.dims))
     by false = refl
 
 -- the patch is undone
-pub undone : (b : Before) (d e : Desk) (n : ℕ) → IsPatch b → CoversCut b d.scan.dims
-    → e ≡ desk_after_all (desk_after_resize d b.dims) (writes_of (take n b.changes))
-    → length b.changes ≤ n → e ≡ desk_before b d
+pub undone : (b : Before) (d e : Slate) (n : ℕ) → IsPatch b → CoversCut b d.scan.dims
+    → e ≡ slate_after_all (slate_after_resize d b.dims) (writes_of (take n b.changes))
+    → length b.changes ≤ n → e ≡ slate_before b d
 undone b d e n patch covers is all =
-    is ∙ (ap (λ (changes : List Change). desk_after_all (desk_after_resize d b.dims)
+    is ∙ (ap (λ (changes : List Change). slate_after_all (slate_after_resize d b.dims)
     (writes_of changes)) (take_all n b.changes all)
-    ∙ written b (desk_after_resize d b.dims) (sheet_of d.scan) patch covers
+    ∙ written b (slate_after_resize d b.dims) (sheet_of d.scan) patch covers
     (sheet-with_sheet d.scan (sheet_after_resize (sheet_of d.scan) b.dims)))
 
--- the grid of that desk
-pub sheet-desk_before : (b : Before) (d : Desk)
-    → sheet_of (desk_before b d).scan ≡ sheet_before b (sheet_of d.scan)
-sheet-desk_before b d =
+-- the grid of that slate
+pub sheet-slate_before : (b : Before) (d : Slate)
+    → sheet_of (slate_before b d).scan ≡ sheet_before b (sheet_of d.scan)
+sheet-slate_before b d =
     let size = ap (λ (s : Sheet). s.dims)
     (sheet-with_sheet d.scan (sheet_after_resize (sheet_of d.scan) b.dims)) in
     ap (λ (dims : Size). record { dims = dims; cells = (sheet_before b (sheet_of d.scan)).cells })
@@ -171,11 +171,11 @@ sheet-desk_before b d =
 
 -- ---- what is left to clear
 
-pub residue-desk_before : (b : Before) (d : Desk)
-    → residue (desk_before b d)
+pub residue-slate_before : (b : Before) (d : Slate)
+    → residue (slate_before b d)
     ≤ residue d + length (cut_places d.scan.dims b.dims) + length b.changes
 unfolding residue
-residue-desk_before b d =
+residue-slate_before b d =
     omega (
       arith,
       count-with_sheet d.scan (sheet_after_resize (sheet_of d.scan) b.dims),

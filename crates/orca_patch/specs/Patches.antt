@@ -1,14 +1,14 @@
--- What was before a change, and what going back makes of a grid and of a desk.
+-- What was before a change, and what going back makes of a grid and of a slate.
 use Rattle.std.specs.Prelude.{ℕ, ◌≡◌, true, false, if◌then◌else◌, List, [], ◌∷◌, All}
 use Rattle.std.specs.List.{IsDistinct}
 use Rattle.orca_base.specs.declared.change.Change.{Change}
 use Rattle.orca_base.specs.declared.place.Place.{Place}
 use Rattle.orca_base.specs.Grids.{Size, IsSize, Sheet, IsSheet, IsInside, glyph_at, is_inside, is_place, sheet_by}
-use Rattle.orca_op.specs.Desk.{Desk, IsDesk, changes_of, is_listed}
+use Rattle.orca_op.specs.Slate.{Slate, IsSlate, changes_of, is_listed}
 use Rattle.orca_op.specs.State.{sheet_of}
-use Rattle.orca_board.specs.Blocks.{desk_after_edit}
+use Rattle.orca_board.specs.Blocks.{slate_after_edit}
 use Rattle.orca_board.specs.Listing.{places_of}
-use Rattle.orca_board.specs.Sizes.{desk_after_resize}
+use Rattle.orca_board.specs.Sizes.{slate_after_resize}
 
 -- the size and the tick before a change, and the old glyph of each place that it wrote or cut off
 pub record Before : Type 0 where
@@ -38,36 +38,36 @@ CoversCut b d =
     (at : Place) → IsInside b.dims at → is_inside d at ≡ false
     → is_listed (places_of b.changes) at ≡ true
 
--- the patch of what a desk lists, at a tick
-abbrev pub before_of : Desk → ℕ → Before
+-- the patch of what a slate lists, at a tick
+abbrev pub before_of : Slate → ℕ → Before
 before_of d tick = record { dims = d.began.dims; tick = tick; changes = changes_of d }
 
--- going back on a desk: the size before, and then each listed place is written
-abbrev pub desk_before : Before → Desk → Desk
-desk_before b d =
-    desk_after_edit (desk_after_resize d b.dims) (sheet_before b (sheet_of d.scan))
+-- going back on a slate: the size before, and then each listed place is written
+abbrev pub slate_before : Before → Slate → Slate
+slate_before b d =
+    slate_after_edit (slate_after_resize d b.dims) (sheet_before b (sheet_of d.scan))
     (places_of b.changes)
 
--- the inverse law: the patch of what a desk lists makes of its grid the grid of the last `begin`,
+-- the inverse law: the patch of what a slate lists makes of its grid the grid of the last `begin`,
 -- and each place that was cut off is listed in it
 abbrev pub InverseLaw : Type 0
 InverseLaw =
-    (d : Desk) (tick : ℕ) → IsDesk d
+    (d : Slate) (tick : ℕ) → IsSlate d
     → (sheet_before (before_of d tick) (sheet_of d.scan) ≡ d.began)
     × CoversCut (before_of d tick) d.scan.dims
 
--- the grid before, where the patch is that of what a desk lists, and the grid is the desk's: that of
+-- the grid before, where the patch is that of what a slate lists, and the grid is the slate's: that of
 -- the last `begin`
 abbrev pub GoesBack : Before → Sheet → Sheet → Type 0
 GoesBack patch now before =
-    (d : Desk) (tick : ℕ) → IsDesk d → patch ≡ before_of d tick → now ≡ sheet_of d.scan
+    (d : Slate) (tick : ℕ) → IsSlate d → patch ≡ before_of d tick → now ≡ sheet_of d.scan
     → before ≡ d.began
 
--- what a desk lists makes a patch: its places lie in the grid of the last `begin`, and none stands
+-- what a slate lists makes a patch: its places lie in the grid of the last `begin`, and none stands
 -- twice
 abbrev pub ListedLaw : Type 0
 ListedLaw =
-    (d : Desk) → IsDesk d
+    (d : Slate) → IsSlate d
     → All (IsInside d.began.dims) (places_of (changes_of d))
     × IsDistinct is_place (places_of (changes_of d))
 

@@ -1,11 +1,11 @@
 ghost use Rattle.std.specs.Prelude.{◌≡◌, ◌+◌, ◌≤◌, [], All, IfOk, IsOk, length};
 ghost use Rattle.std.specs.List.{IsDistinct};
 ghost use Rattle.orca_base.specs.Grids.{IsInside, cells_of, is_place};
-ghost use Rattle.orca_op.specs.Desk.{residue};
+ghost use Rattle.orca_op.specs.Slate.{residue};
 ghost use Rattle.orca_op.specs.State.{sheet_of};
 ghost use Rattle.orca_board.specs.Listing.{places_of};
 ghost use Rattle.orca_board.specs.Sizes.{cut_places};
-ghost use Rattle.orca_patch.specs.Patches.{CoversCut, GoesBack, IsPatch, desk_before, no_change, sheet_before};
+ghost use Rattle.orca_patch.specs.Patches.{CoversCut, GoesBack, IsPatch, slate_before, no_change, sheet_before};
 
 use orca_base::limits::INLINE_CHANGES;
 use orca_base::{Change, Dims, Memory, Steps};
@@ -85,7 +85,7 @@ impl Patch {
     pub fn undo_on<L: Ledger>(&self, board: &mut Board, steps: &mut Steps<L>) -> u32
         requires { CoversCut self.now board.old.scan.dims }
         ensures tick { result ≡ self.now.tick }
-        ensures desk { board.new ≡ desk_before self.now board.old }
+        ensures slate { board.new ≡ slate_before self.now board.old }
         ensures sheet { sheet_of board.new.scan ≡ sheet_before self.now (sheet_of board.old.scan) }
 
         // The patch of a board's changes gives its grid of the last `begin` back, whatever was done.

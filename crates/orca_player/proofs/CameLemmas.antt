@@ -18,8 +18,8 @@ use Rattle.orca_notes.specs.Sound.{ends}
 use Rattle.orca_trace.specs.Calls.{Poll}
 use Rattle.orca_term.specs.Picture.{IsScreen}
 use Rattle.orca_words.specs.Requests.{Setup}
-use Rattle.orca_player.specs.Doing.{Came, CameBy, IsBlamed, IsWhole, KeepsTake, ReadsBack, WasRefused, status_at}
-use Rattle.orca_player.specs.Outlines.{Brought, Outline, after, attaches, listening, loading, nothing, plain, stopped}
+use Rattle.orca_player.specs.Doing.{Came, CameBy, IsBlamed, IsWholeRun, KeepsTake, ReadsBack, WasRefused, status_at}
+use Rattle.orca_player.specs.Outlines.{Brought, Outline, preceded, attach_acts, listening, loading, nothing, plain_outline, stopped_run}
 use Rattle.orca_player.specs.Takes.{saves_in}
 use Rattle.orca_player.specs.declared.status.Status.{Status}
 use Rattle.orca_player.specs.declared.status.Status.TheVariants.{FileFault, Memory}
@@ -57,12 +57,12 @@ calls-front : (xs ys : List Act) → AreCalls (xs ++ ys) → AreCalls xs
 calls-front [] ys calls = tt
 calls-front (act ∷ xs) ys calls = grind (arith, calls-front xs ys)
 
-pub attaches-calls : (setup : Setup) → AreCalls (attaches setup)
+pub attaches-calls : (setup : Setup) → AreCalls (attach_acts setup)
 attaches-calls setup = grind arith
 
 -- ---- one of the ways
 
-pub came_whole : {o : Outline} {x y : World} {status : Status} → IsWhole o x status y
+pub came_whole : {o : Outline} {x y : World} {status : Status} → IsWholeRun o x status y
     → Came o x status y
 came_whole whole = record { came = inl whole }
 
@@ -86,7 +86,7 @@ came_none o x = came_still o (made_none x)
 
 -- what matters of an outline is its course, and whether it hands out
 pub came_plain : (o : Outline) {x y : World} {status : Status}
-    → Came (plain o.hands o.course) x status y → Came o x status y
+    → Came (plain_outline o.hands o.course) x status y → Came o x status y
 came_plain o came = record {
   came = elim came.came [
     | inl whole ↦ inl (search whole)
@@ -107,7 +107,7 @@ pub record Before (acts : List Act) (x y : World) : Type 0 where
   pub sated : Sated x y
 
 whole_after : {acts : List Act} (o : Outline) {x y z : World} {status : Status} → Before acts x y
-    → IsWhole o y status z → IsWhole (after acts o) x status z
+    → IsWholeRun o y status z → IsWholeRun (preceded acts o) x status z
 whole_after {acts = acts} o {x = x} {y = y} {z = z} before whole =
     let bare = calls_bare acts before.calls in
     record {
@@ -137,7 +137,7 @@ unsaid_after left x y z none (inl all) = inl all
 unsaid_after left x y z none (inr unsent) = inr (unsent_after left x y z none unsent)
 
 refused_after : {acts : List Act} (o : Outline) {x y z : World} → Before acts x y
-    → WasRefused o y z → WasRefused (after acts o) x z
+    → WasRefused o y z → WasRefused (preceded acts o) x z
 refused_after {acts = acts} o {x = x} {y = y} {z = z} before refused =
     let bare = calls_bare acts before.calls in
     elim refused [
@@ -175,7 +175,7 @@ refused_after {acts = acts} o {x = x} {y = y} {z = z} before refused =
     ]
 
 pub came_after : {acts : List Act} (o : Outline) {x y z : World} {status : Status}
-    → Before acts x y → Came o y status z → Came (after acts o) x status z
+    → Before acts x y → Came o y status z → Came (preceded acts o) x status z
 came_after o before more = record {
   came = elim more.came [
     | inl whole ↦ inl (whole_after o before whole)
@@ -185,7 +185,7 @@ came_after o before more = record {
 
 -- memory was refused to these calls
 pub came_cut : (acts : List Act) (o : Outline) {x y : World} {e : NoMemory} → AreCalls acts
-    → AreBegun acts e x y → Came (after acts o) x Memory y
+    → AreBegun acts e x y → Came (preceded acts o) x Memory y
 came_cut acts o calls cut =
     let bare = calls_bare cut.done
     (calls-front cut.done cut.left (subst AreCalls cut.splits calls)) in
@@ -219,9 +219,9 @@ came_bare o planned ends none mute done blamed = came_whole (record {
 })
 
 pub came_stopped : (planned : Status) (x : World) → IsBlamed planned x x
-    → Came (stopped planned) x (status_at planned x) x
+    → Came (stopped_run planned) x (status_at planned x) x
 came_stopped planned x blamed =
-    came_bare (stopped planned) planned refl refl tt (made_none x, refl) blamed
+    came_bare (stopped_run planned) planned refl refl tt (made_none x, refl) blamed
 
 -- ---- which calls
 
@@ -249,7 +249,7 @@ listened did = record {
 }
 
 pub attached : {T : Type 0} {done : T} (setup : Setup) {x y : World}
-    → Calls (attaches setup) (Ok done) x y → Before (attaches setup) x y
+    → Calls (attach_acts setup) (Ok done) x y → Before (attach_acts setup) x y
 attached setup {x = x} calls =
     let made = calls.called.0 in
     record {
@@ -283,7 +283,7 @@ by b kind came = record {
 
 -- one that neither paints nor saves
 pub kind_plain : {hands : Bool} {c : Course (Option Standing) Status} {status : Status}
-    → polls_in c.acts ≡ [] → IsKind (plain hands c) [] status
+    → polls_in c.acts ≡ [] → IsKind (plain_outline hands c) [] status
 kind_plain polls = record {
   polls = polls;
   few = omega arith;
@@ -310,12 +310,12 @@ by_memory idle came =
 
 -- a run ends as planned after these calls
 pub by_failed : {o : Brought → Outline} (acts : List Act) (planned : Status) {x y : World}
-    → o nothing ≡ after acts (stopped planned) → AreMute (acts ++ [])
+    → o nothing ≡ preceded acts (stopped_run planned) → AreMute (acts ++ [])
     → polls_in (acts ++ []) ≡ [] → Made (acts ++ []) 0 x y × Sated x y → IsBlamed planned x y
     → CameBy o x (status_at planned y) y
 by_failed acts planned is mute polls done blamed =
     by nothing (rw is (kind_plain polls))
-    (rw is (came_bare (after acts (stopped planned)) planned refl refl mute done blamed))
+    (rw is (came_bare (preceded acts (stopped_run planned)) planned refl refl mute done blamed))
 
 -- the load of a file failed
 pub by_unloaded : {T : Type 0} {done : T} {o : Brought → Outline} {name : List ℕ}
@@ -337,7 +337,7 @@ by_unread next is called = by_memory (rw is (refl, tt)) (came_still _ called.cal
 -- calls by what was brought, and then the rest
 pub by_after : {acts : List Act} {o : Brought → Outline} {more : Outline} {x y z : World}
     {status : Status} (b : Brought) → Before acts x y → IsKind more b.polls status
-    → Came more y status z → o b ≡ after acts more → CameBy o x status z
+    → Came more y status z → o b ≡ preceded acts more → CameBy o x status z
 by_after {acts = acts} {more = more} b before kind came is =
     let bare = calls_bare acts before.calls in
     by b (rw is (record {
@@ -354,7 +354,7 @@ kind_of did = assumption did
 
 -- the same calls, whatever was brought
 pub by_later : {acts : List Act} {o : Brought → Outline} {x y z : World} {status : Status}
-    → Before acts x y → CameBy o y status z → CameBy (λ b. after acts (o b)) x status z
+    → Before acts x y → CameBy o y status z → CameBy (λ b. preceded acts (o b)) x status z
 by_later before did = by_after did.brought before (kind_of did) did.came refl
 
 -- the same, where the hands that are listened for are known by another name

@@ -5,9 +5,9 @@ use Rattle.orca_base.specs.Ascii.{space}
 use Rattle.orca_base.specs.declared.command.Command.{Command}
 use Rattle.orca_base.specs.declared.command.Command.TheVariants as command
 use Rattle.orca_base.specs.Ports.{Sent}
-use Rattle.orca_clock.specs.Clocked.{end_course, frame_course, last_text_course}
-use Rattle.orca_clock.specs.Followers.{Followed, beat_course, byte_course, follow_course, follow_finish, follow_part}
-use Rattle.orca_clock.specs.Leaders.{Led, clocked_course, due_course, key_course, lead_course, lead_finish, lead_open, lead_part, quit, toggle_course}
+use Rattle.orca_clock.specs.Clocked.{end_course, clock_frame_course, last_text_course}
+use Rattle.orca_clock.specs.Followers.{Followed, beat_course, clock_byte_course, follow_course, follow_finish, follow_part}
+use Rattle.orca_clock.specs.Leaders.{Led, clocked_course, clock_due_course, lead_key_course, lead_course, lead_finish, lead_open, lead_part, quit, toggle_course}
 use Rattle.orca_concert.specs.Concerts.{Concert, close_course, command_course, final_course, handed_of}
 use Rattle.orca_concert.specs.Manners.{Manner}
 use Rattle.orca_concert.proofs.EndingLemmas.{Ends}
@@ -43,8 +43,8 @@ module _ {R : Type 0} (m : Manner R) (P : Stop → Type 0) (left : P Left) (full
   unfolding command_course onward mapped
   command_ends c s = ends 0 _ _ s.kept
 
-  frame_ends : (s : Concert R) → IfSome (frame_course m s).ending P
-  unfolding frame_course
+  frame_ends : (s : Concert R) → IfSome (clock_frame_course m s).ending P
+  unfolding clock_frame_course
   frame_ends s = grind (arith, full, command_ends command.Frame s)
 
   -- ---- a follower
@@ -55,15 +55,15 @@ module _ {R : Type 0} (m : Manner R) (P : Stop → Type 0) (left : P Left) (full
   beat_ends beat.Frame s = frame_ends s
   beat_ends beat.Restart s = command_ends command.Reset s
 
-  byte_ends : (byte : ℕ) (s : Followed R) → IfSome (byte_course m byte s).ending P
-  unfolding byte_course mapped
+  byte_ends : (byte : ℕ) (s : Followed R) → IfSome (clock_byte_course m byte s).ending P
+  unfolding clock_byte_course mapped
   byte_ends byte s = beat_ends (heed s.pulse byte).beat s.concert
 
   pub follow_ends : (a : Answer) (bytes : List ℕ) (s : Followed R)
       → IfSome (follow_course m a bytes s).ending P
   unfolding follow_course
   follow_ends (answer.Bytes hand count at) bytes s =
-      grind (arith, each-kind (λ end. IfSome end P) (byte_course m) tt byte_ends bytes s)
+      grind (arith, each-kind (λ end. IfSome end P) (clock_byte_course m) tt byte_ends bytes s)
   follow_ends (answer.Due at) bytes s = tt
   follow_ends answer.End bytes s = tt
   follow_ends answer.Failed bytes s = tt
@@ -76,20 +76,20 @@ module _ {R : Type 0} (m : Manner R) (P : Stop → Type 0) (left : P Left) (full
   clocked_ends metronome s = grind (arith, frame_ends s)
 
   due_ends : (at : ℕ) (s : Led R) (runs : Bool) → s.metronome.pulse.runs ≡ runs
-      → IfSome (due_course m at s).ending P
-  unfolding due_course mapped clocked_course
+      → IfSome (clock_due_course m at s).ending P
+  unfolding clock_due_course mapped clocked_course
   due_ends at s true is = rw is (clocked_ends s.metronome s.concert)
   due_ends at s false is = rw is tt
 
-  key_ends : (at byte : ℕ) (s : Led R) → IfSome (key_course at byte s).ending P
-  unfolding key_course toggle_course mapped
+  key_ends : (at byte : ℕ) (s : Led R) → IfSome (lead_key_course at byte s).ending P
+  unfolding lead_key_course toggle_course mapped
   key_ends at byte s = grind (arith, left)
 
   pub lead_ends : (a : Answer) (bytes : List ℕ) (s : Led R)
       → IfSome (lead_course m a bytes s).ending P
   unfolding lead_course
   lead_ends (answer.Bytes hand count at) bytes s =
-      grind (arith, each-kind (λ end. IfSome end P) (key_course at) tt (key_ends at) bytes s)
+      grind (arith, each-kind (λ end. IfSome end P) (lead_key_course at) tt (key_ends at) bytes s)
   lead_ends (answer.Due at) bytes s = due_ends at s s.metronome.pulse.runs refl
   lead_ends answer.End bytes s = tt
   lead_ends answer.Failed bytes s = tt
@@ -175,14 +175,14 @@ end_closes ending s =
 
 -- a byte asks for its beat, and no moment is waited for
 abbrev follow_step : Item → Followed (Unit {0}) → Told (Followed (Unit {0}))
-follow_step (Byte byte) s = told (λ t. t) (byte_course state_manner byte s)
+follow_step (Byte byte) s = told (λ t. t) (clock_byte_course state_manner byte s)
 follow_step Due s = quiet false s
 
 pub follow_by_items : ByItems (follow_part state_manner) (λ s. s)
 unfolding follow_course follow_finish mapped
 follow_by_items = record {
   step = follow_step;
-  byte = λ at byte s. byte_course state_manner byte s;
+  byte = λ at byte s. clock_byte_course state_manner byte s;
   last = λ s. Some (standing_closed s.concert.standing);
   hears = λ hand count at bytes s. refl;
   bytes = λ at byte s. refl;
@@ -201,13 +201,13 @@ abbrev pub lead_core : Led (Unit {0}) → Led (Unit {0})
 lead_core s = record s { metronome = record s.metronome { pace = still_pace } }
 
 abbrev lead_step : Item → Led (Unit {0}) → Told (Led (Unit {0}))
-lead_step (Byte byte) s = told lead_core (key_course 0 byte s)
-lead_step Due s = told lead_core (due_course state_manner 0 s)
+lead_step (Byte byte) s = told lead_core (lead_key_course 0 byte s)
+lead_step Due s = told lead_core (clock_due_course state_manner 0 s)
 
 due_core : (at : ℕ) (s : Led (Unit {0})) (runs : Bool) → s.metronome.pulse.runs ≡ runs
-    → told lead_core (due_course state_manner at s)
-    ≡ told lead_core (due_course state_manner 0 (lead_core s))
-unfolding due_course mapped clocked_course
+    → told lead_core (clock_due_course state_manner at s)
+    ≡ told lead_core (clock_due_course state_manner 0 (lead_core s))
+unfolding clock_due_course mapped clocked_course
 due_core at s true is = rw is refl
 due_core at s false is = rw is refl
 
@@ -227,15 +227,15 @@ key_if at s false true = refl
 key_if at s false false = refl
 
 key_core : (at byte : ℕ) (s : Led (Unit {0}))
-    → told lead_core (key_course at byte s) ≡ told lead_core (key_course 0 byte (lead_core s))
-unfolding key_course
+    → told lead_core (lead_key_course at byte s) ≡ told lead_core (lead_key_course 0 byte (lead_core s))
+unfolding lead_key_course
 key_core at byte s = key_if at s (byte == space) (byte == quit)
 
 pub lead_by_items : ByItems (lead_part state_manner) lead_core
 unfolding lead_open lead_course lead_finish end_course onward mapped
 lead_by_items = record {
   step = lead_step;
-  byte = key_course;
+  byte = lead_key_course;
   last = λ s. Some (standing_closed s.concert.standing);
   hears = λ hand count at bytes s. refl;
   bytes = key_core;

@@ -6,7 +6,7 @@ use Rattle.orca_base.specs.Grids.{Sheet}
 use Rattle.orca_base.specs.Ports.{Sent}
 use Rattle.orca_clock.specs.Followers.{Followed}
 use Rattle.orca_clock.specs.Leaders.{Led}
-use Rattle.orca_concert.specs.Concerts.{Concert, concert as concert_at, concert_course, handed_of}
+use Rattle.orca_concert.specs.Concerts.{Concert, concert_with, concert_course, handed_of}
 use Rattle.orca_concert.specs.Manners.{IsQuiet, Manner}
 use Rattle.orca_concert.proofs.DeafLemmas.{concert_is_deaf}
 use Rattle.orca_course.specs.Acts.{Act, gives, polls_in, stand_after}
@@ -188,8 +188,8 @@ pub polls-concert : {R : Type 0} (m : Manner R) (r : R) (cues : List Cue) (s : S
     → IsQuiet m → polls_in (concert m r cues s).course.acts ≡ []
 unfolding concert opening mapped
 polls-concert m r cues s quiet =
-    polls-deaf (concert_course m cues (concert_at s r)).acts
-    (concert_is_deaf m quiet cues (concert_at s r))
+    polls-deaf (concert_course m cues (concert_with s r)).acts
+    (concert_is_deaf m quiet cues (concert_with s r))
 
 -- and the inbox does not fail
 pub lost-concert : {R : Type 0} (m : Manner R) (cues : List Cue) (s : Concert R) {bill : ℕ}

@@ -16,9 +16,9 @@ use Rattle.orca_course.proofs.WorldLemmas.{AreSafe, failed_made, lost_made, made
 use Rattle.orca_notes.specs.Sound.{ends}
 use Rattle.orca_live.specs.Paintings.{ShowsPerformance}
 use Rattle.orca_words.specs.Requests.{Request, request_of}
-use Rattle.orca_player.specs.Doing.{Came, CameSo, ClosesEarly, IsBlamed, IsWhole, Said, SaidSo, WasRefused, status_at, CameBy}
+use Rattle.orca_player.specs.Doing.{Came, CameSo, ClosesEarly, IsBlamed, IsWholeRun, Said, SaidSo, WasRefused, status_at, CameBy}
 use Rattle.orca_player.specs.Outlines.{Outline, Heard, asked_outline, outline}
-use Rattle.orca_player.specs.Running.{EndsAs, IsDone, IsLast, Went, IsCaused, Ran}
+use Rattle.orca_player.specs.Running.{EndsAs, WasDone, IsLast, Went, IsCaused, Ran}
 use Rattle.orca_player.specs.Statuses.{fault_sends, status_sends, status_text}
 use Rattle.orca_player.specs.declared.status.Status.{Status}
 use Rattle.orca_player.specs.declared.status.Status.TheVariants.{Done, Memory, Usage}
@@ -77,8 +77,8 @@ said_none x = record {
 
 -- ---- how it ended
 
-done_by : {o : Outline} {x y : World} {status : Status} → IsWhole o x status y
-    → IsDone o x status y
+done_by : {o : Outline} {x y : World} {status : Status} → IsWholeRun o x status y
+    → WasDone o x status y
 done_by {o = o} {x = x} {y = y} whole = record {
   ends = rw (whole.ending, whole.settles) (grind (arith, whole.blamed));
   made = whole.made;
@@ -89,7 +89,7 @@ done_by {o = o} {x = x} {y = y} whole = record {
 }
 
 went_done : {o : Outline} {x y : World} (status : Status) → status ≢ Memory
-    → IsDone o x status y → Went o x status y
+    → WasDone o x status y → Went o x status y
 unfolding Went
 went_done status other done = grind arith
 
@@ -109,7 +109,7 @@ pub record Over (o : Outline) (x : World) (result : Status) (z : World) : Type 0
   pub line : Made (gives said) 0 over z
 
 -- memory was refused to the line, after all was done
-closed_whole : {o : Outline} {x y : World} {status : Status} → IsWhole o x status y
+closed_whole : {o : Outline} {x y : World} {status : Status} → IsWholeRun o x status y
     → ClosesEarly o x y
 closed_whole {o = o} {x = x} {y = y} whole =
     let all = sym (append-nil o.course.acts) in
@@ -178,7 +178,7 @@ caused_at : (planned : Status) (x y z : World) → IsSound x → IsBlamed planne
 caused_at planned x y z sound blamed lost unstored failed still = grind arith
 
 caused_whole : {o : Outline} {x y z : World} {status : Status} → IsSound x
-    → IsWhole o x status y → Said status status y z → IsCaused status z
+    → IsWholeRun o x status y → Said status status y z → IsCaused status z
 caused_whole {x = x} {y = y} {z = z} sound whole said =
     rw whole.settles (caused_at whole.planned x y z sound whole.blamed
     (lost_made said.made ∙ lost-gives said.said (is_lost y))

@@ -12,7 +12,7 @@ use Rattle.orca_jam.specs.declared.crew.TheConstants.{LEADER}
 use Rattle.orca_jam.specs.declared.owner.Owner.{Owner}
 use Rattle.orca_live.specs.Hands.{EachIsHeard, HandsShare, HasOwners, StartsWithOwners}
 use Rattle.orca_live.specs.Items.{items_of}
-use Rattle.orca_live.specs.Laws.{whole}
+use Rattle.orca_live.specs.Laws.{whole_performance}
 use Rattle.orca_live.specs.Solo.{HasNoRedo, PlaysAlone, PlaysSame, as_alone}
 use Rattle.orca_live.specs.States.{LiveState}
 use Rattle.orca_trace.specs.Calls.{Poll}
@@ -44,7 +44,7 @@ no_owner = All-nil (λ (owner : Owner). owner.edit ≡ true → owner.hand ≡ L
 
 -- performances that do the same
 same_played : (u : LiveState) (polls : List Poll)
-    → PlaysSame (whole u polls) (whole (as_alone u) polls)
+    → PlaysSame (whole_performance u polls) (whole_performance (as_alone u) polls)
     → played u polls ≡ played (as_alone u) polls
 unfolding opening mapped
 same_played u polls same = rw (same.acts, same.bill, same.ending, same.state) refl

@@ -20,7 +20,7 @@ use Rattle.orca_trace.specs.Calls.{Poll}
 use Rattle.orca_words.specs.Recordings.{HasOwnJournal, OwnsJournals}
 use Rattle.orca_words.specs.Requests.{Perform, Performance, Play, Setup}
 use Rattle.orca_player.specs.Laws.{KeepsJournals}
-use Rattle.orca_player.specs.Outlines.{Brought, Heard, Outline, attaches, grid_outline, hands_of, listening, live_outline, live_start, loading, opening, outline, performed, request_outline, setting_of, start_of, stopped, work_outline}
+use Rattle.orca_player.specs.Outlines.{Brought, Heard, Outline, attach_acts, grid_outline, hands_of, listening, live_outline, live_start, loading, opening, outline, performed, request_outline, setting_of, start_of, stopped_run, work_outline}
 use Rattle.orca_player.specs.declared.status.Status.{Status}
 use Rattle.orca_player.specs.declared.status.Status.TheVariants.{FileFault, InboxFault}
 use Rattle.orca_player.proofs.CameLemmas.{AreCalls, attaches-calls}
@@ -132,7 +132,7 @@ kept_live law setup play polls s name journal own at =
 -- what is not there ends the run, and the rest keeps the journal
 kept_or : {A : Type 0} (name : List ℕ) (seed : ℕ) (status : Status) (found : Option A)
     (next : A → Outline) → ((a : A) → Kept name seed (next a))
-    → Kept name seed (option_map_or next found (stopped status))
+    → Kept name seed (option_map_or next found (stopped_run status))
 kept_or name seed status None next kept = tt
 kept_or name seed status (Some a) next kept = kept a
 
@@ -152,7 +152,7 @@ kept_request : JournalsPerformance → (setup : Setup) (play : Performance) (h :
     → Kept name setup.seed (request_outline (Perform setup (Play play)) h)
 unfolding request_outline performed loading
 kept_request law setup play h name journal own =
-    kept_by name setup.seed _ _ (attaches setup) _ (attaches-calls setup)
+    kept_by name setup.seed _ _ (attach_acts setup) _ (attaches-calls setup)
     (kept_by name setup.seed _ _ (Load setup.grid h.grid ∷ []) _ tt
     (kept_or name setup.seed FileFault h.grid _
     (λ text. kept_grid law setup play h.brought (grid_text text) name journal own)))

@@ -6,9 +6,9 @@ use Rattle.std.specs.Option.{option_map, option_map_or}
 use Rattle.orca_base.specs.declared.command.Command.TheVariants as command
 use Rattle.orca_base.specs.Grids.{IsSheet, Sheet}
 use Rattle.orca_clock.specs.Followers.{Followed, follow_part}
-use Rattle.orca_clock.specs.Laws.{AreDone, FollowsBytes, HeedsClock, LeadsFollower, TellsAtEnd, commands_of, heard_in, midi_bytes_in}
+use Rattle.orca_clock.specs.Laws.{AreDone, FollowsBytes, HeedsClock, FollowerIsLed, TellsAtEnd, commands_of_beat, heard_in, midi_bytes_in}
 use Rattle.orca_clock.specs.Leaders.{Led, lead_part}
-use Rattle.orca_concert.specs.Concerts.{concert as concert_at}
+use Rattle.orca_concert.specs.Concerts.{concert_with}
 use Rattle.orca_course.specs.Acts.{Act, commands_in, polls_in}
 use Rattle.orca_course.specs.Acts.Act.{Listen, Load}
 use Rattle.orca_course.specs.Courses.{mapped}
@@ -28,8 +28,8 @@ use Rattle.orca_reports.specs.Manners.{state_manner}
 use Rattle.orca_sync.specs.Clocks.{beats_from, stopped}
 use Rattle.orca_sync.specs.RealTime.{is_clock}
 use Rattle.orca_words.specs.Requests.{Follow, Lead, Leading, Setup, Work}
-use Rattle.orca_player.specs.Clocks.{AskFor, DoesAll, IsLed, KeepsTime, PlayAlike}
-use Rattle.orca_player.specs.Outlines.{Brought, Heard, Outline, after, attaches, follow_outline, follow_start, grid_outline, is_too_long, lead_outline, lead_start, listening, loading, opening, outline, performed, performed_outline, request_outline, start_of, status_of_ending, stopped as stopped_outline, work_outline}
+use Rattle.orca_player.specs.Clocks.{AskFor, DoesAll, RunIsLed, KeepsTime, RunsAlike}
+use Rattle.orca_player.specs.Outlines.{Brought, Heard, Outline, preceded, attach_acts, follow_outline, follow_start, grid_outline, is_too_long, lead_outline, lead_start, listening, loading, opening, outline, performed, performed_outline, request_outline, start_of, status_of_ending, stopped_run as stopped_outline, work_outline}
 use Rattle.orca_player.specs.declared.live.TheConstants.{ALONE}
 use Rattle.orca_player.specs.declared.status.Status.{Status}
 use Rattle.orca_player.specs.declared.status.Status.TheVariants.{Done, FileFault, GridRefused, HistoryFull, InboxFault}
@@ -65,7 +65,7 @@ Opened p from h o = Opens p from h o ⊎ IsClosed o
 
 -- calls before it change nothing of that
 opened_after : {S : Type 0} {p : Part S} {from : Sheet → ℕ → S} {h : Heard} (acts : List Act)
-    (o : Outline) → AreCalls acts → Opened p from h o → Opened p from h (after acts o)
+    (o : Outline) → AreCalls acts → Opened p from h o → Opened p from h (preceded acts o)
 unfolding midi_sent
 opened_after acts o calls (inl opens) =
     let bare = calls_bare acts calls in
@@ -140,7 +140,7 @@ module _ {S : Type 0} (p : Part S) (from : Sheet → ℕ → S) (setup : Setup) 
   unfolding outline request_outline performed loading
   opened_by words h asks =
       rw (asks, short)
-      (opened_after (attaches setup) (after (Load setup.grid h.grid ∷ []) _) (attaches-calls setup)
+      (opened_after (attach_acts setup) (preceded (Load setup.grid h.grid ∷ []) _) (attaches-calls setup)
       (opened_after (Load setup.grid h.grid ∷ []) _ tt (loaded_by h h.grid refl)))
 
 -- ---- followers and leaders
@@ -204,12 +204,12 @@ beats_kept : FollowsBytes → (words : List (List ℕ)) (setup : Setup) (address
     → let o = outline words h in
     polls_in o.course.acts ≡ h.brought.polls
     → AreDone HistoryFull o.course.ending (commands_in o.course.acts)
-    (flat_map commands_of (beats_from stopped (heard_in h.brought.polls)))
+    (flat_map commands_of_beat (beats_from stopped (heard_in h.brought.polls)))
 unfolding beats_from
 beats_kept law words setup address h asks hears =
     elim (follow_opened words setup address h asks) [
       | inl opens ↦
-          let done = law state_manner (concert_at (start_of setup opens.sheet) tt) h.brought.polls tells in
+          let done = law state_manner (concert_with (start_of setup opens.sheet) tt) h.brought.polls tells in
           record {
             left = done.left;
             splits = ap (λ commands. commands ++ done.left) opens.commands ∙ done.splits;
@@ -222,7 +222,7 @@ beats_kept law words setup address h asks hears =
             left = [];
             splits = append-nil (commands_in (outline words h).course.acts)
                 ∙ (closed.commands
-                ∙ sym (ap (λ polls. flat_map commands_of (beats_from stopped (heard_in polls))) none));
+                ∙ sym (ap (λ polls. flat_map commands_of_beat (beats_from stopped (heard_in polls))) none));
             none = λ other. refl;
           }
     ]
@@ -231,13 +231,13 @@ bytes_kept : HeedsClock → (words : List (List ℕ)) (setup : Setup) (address :
     (h k : Heard) → AskFor words setup (Follow address) → k.grid ≡ h.grid
     → DoesAll (outline words h) → DoesAll (outline words k)
     → filter is_clock (heard_in h.brought.polls) ≡ filter is_clock (heard_in k.brought.polls)
-    → PlayAlike (outline words h) (outline words k)
+    → RunsAlike (outline words h) (outline words k)
 bytes_kept law words setup address h k asks grid all others same =
     let one = opens_all (follow_opened words setup address h asks) all in
     let two = opens_all (follow_opened words setup address k asks) others in
     let sheet : one.sheet ≡ two.sheet =
     same_sheet one.read two.read (ap (option_map grid_text) (sym grid)) in
-    let alike = law state_manner (concert_at (start_of setup two.sheet) tt) h.brought.polls
+    let alike = law state_manner (concert_with (start_of setup two.sheet) tt) h.brought.polls
     k.brought.polls tells
     (rw sheet at (left_by _ (sym one.ending ∙ all))) (left_by _ (sym two.ending ∙ others)) same in
     record {
@@ -246,13 +246,13 @@ bytes_kept law words setup address h k asks grid all others same =
           ∙ (ap Some alike.1 ∙ sym (ap (option_map (λ s. s.machine)) two.stands));
     }
 
-leads_kept : IsLawful rule → LeadsFollower → (words others : List (List ℕ)) (setup other : Setup)
+leads_kept : IsLawful rule → FollowerIsLed → (words others : List (List ℕ)) (setup other : Setup)
     (address : List ℕ) (lead : Leading) (h k : Heard) → AskFor words setup (Follow address)
     → AskFor others other (Lead lead)
     → option_map grid_text h.grid ≡ option_map grid_text k.grid → setup.seed ≡ other.seed
     → other.limit < setup.limit → DoesAll (outline words h) → DoesAll (outline others k)
     → heard_in h.brought.polls ≡ midi_bytes_in (outline others k).course.acts
-    → IsLed (outline others k) (outline words h)
+    → RunIsLed (outline others k) (outline words h)
 leads_kept lawful law words others setup other address lead h k asks leads grid seed room all most
     hears =
     let one = opens_all (follow_opened words setup address h asks) all in
@@ -275,7 +275,7 @@ leads_kept lawful law words others setup other address lead h k asks leads grid 
           ∙ sym (ap (λ at. option_map (λ p. p.tick) (option_map (λ s. piece_of s.machine) at)) two.stands));
     }
 
-pub keeps_time : IsLawful rule → FollowsBytes → HeedsClock → LeadsFollower
+pub keeps_time : IsLawful rule → FollowsBytes → HeedsClock → FollowerIsLed
     → (words : List (List ℕ)) → KeepsTime words
 keeps_time lawful beats bytes leads words = record {
   beats = beats_kept beats words;

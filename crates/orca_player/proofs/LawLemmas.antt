@@ -7,7 +7,7 @@ use Rattle.orca_base.specs.declared.command.Command.{Command}
 use Rattle.orca_base.specs.Grids.{Sheet}
 use Rattle.orca_clock.specs.Followers.{follow_part}
 use Rattle.orca_clock.specs.Leaders.{lead_part}
-use Rattle.orca_concert.specs.Concerts.{concert as concert_at}
+use Rattle.orca_concert.specs.Concerts.{concert_with}
 use Rattle.orca_course.specs.Acts.{Act, commands_in, ArePrintable}
 use Rattle.orca_course.specs.Courses.{mapped}
 use Rattle.orca_course.specs.Performers.{Part, performance}
@@ -32,7 +32,7 @@ use Rattle.orca_term.specs.Picture.{IsScreen}
 use Rattle.orca_term.specs.declared.cell.ScreenSize.{ScreenSize}
 use Rattle.orca_player.specs.Doing.{ReadsBack}
 use Rattle.orca_player.specs.Laws.{CutsAlike, EndAlike, HasEnd, HearAlike, IsReplayed, ReplaysAlike, hands_heard}
-use Rattle.orca_player.specs.Outlines.{Brought, Heard, Outline, Script, after, asked_outline, attaches, concert, follow_outline, follow_start, grid_outline, lead_outline, lead_start, listening, live_outline, live_start, loading, made_outline, migrated, opening, outline, performed, performed_outline, reading, request_outline, script_kept, script_outline, standing_at, start_of, status_of_ending, stopped, work_outline}
+use Rattle.orca_player.specs.Outlines.{Brought, Heard, Outline, Script, preceded, asked_outline, attach_acts, concert, follow_outline, follow_start, grid_outline, lead_outline, lead_start, listening, live_outline, live_start, loading, made_outline, migrated, opening, outline, performed, performed_outline, reading_outline, request_outline, script_kept, script_outline, standing_at, start_of, status_of_ending, stopped_run, work_outline}
 use Rattle.orca_player.specs.declared.live.TheConstants.{ALONE}
 use Rattle.orca_player.specs.declared.status.Status.TheVariants.{FileFault}
 use Rattle.orca_player.proofs.CameLemmas.{attaches-calls, calls_bare, AreCalls}
@@ -85,7 +85,7 @@ Sized o = IfSome o.screen IsScreen
 shown_listened : ShowsPerformance → (address : List ℕ) (hands : ℕ) (setup : Setup)
     (play : Performance) (at : ℕ) (polls : List Poll) (s : Standing)
     → Sized (live_outline setup play polls s at)
-    → Shown (after (Listen address hands (Some at) ∷ []) (live_outline setup play polls s at))
+    → Shown (preceded (Listen address hands (Some at) ∷ []) (live_outline setup play polls s at))
 unfolding live_outline opening mapped
 shown_listened law address hands setup play at polls s sized =
     show_calls (Listen address hands (Some at) ∷ []) _ tt
@@ -97,13 +97,13 @@ shown_listened law address hands setup play at polls s sized =
 shown_grid : ShowsPerformance → (setup : Setup) (work : Work) (b : Brought)
     (read : Result Sheet GridRefusal) → Sized (grid_outline setup work b read)
     → Shown (grid_outline setup work b read)
-unfolding grid_outline work_outline listening loading script_outline reading concert follow_outline lead_outline opening
+unfolding grid_outline work_outline listening loading script_outline reading_outline concert follow_outline lead_outline opening
 shown_grid law setup work b read sized = grind (arith, shown_listened law)
 
 shown_loaded : ShowsPerformance → (setup : Setup) (work : Work) (b : Brought)
     (grid : Option (List ℕ))
     → let o = option_map_or (λ text. grid_outline setup work b (grid_text text)) grid
-    (stopped FileFault) in
+    (stopped_run FileFault) in
     Sized o → Shown o
 shown_loaded law setup work b None = λ sized. tt
 shown_loaded law setup work b (Some text) = shown_grid law setup work b (grid_text text)
@@ -117,13 +117,13 @@ shown_performed : ShowsPerformance → (setup : Setup) (work : Work) (h : Heard)
     → Sized (performed setup work h) → Shown (performed setup work h)
 unfolding performed loading
 shown_performed law setup work h sized =
-    shown_by _ (attaches setup) _ (attaches-calls setup)
+    shown_by _ (attach_acts setup) _ (attaches-calls setup)
     (shown_by _ (Load setup.grid h.grid ∷ []) _ tt
     (shown_loaded law setup work h.brought h.grid sized))
 
 shown_outline : ShowsPerformance → (words : List (List ℕ)) (h : Heard) → Sized (outline words h)
     → Shown (outline words h)
-unfolding outline request_outline loading migrated reading made_outline concert opening
+unfolding outline request_outline loading migrated reading_outline made_outline concert opening
 shown_outline law words h sized = grind (arith, shown_performed law)
 
 shown_some : (screen : Option ScreenSize) (acts begun left : List Act)
@@ -168,8 +168,8 @@ alike_none o = λ ends others. record { commands = refl; standing = refl; given 
 alike_by : {S : Type 0} (p : Part S) (core : S → S) (by : ByItems p core) (address : List ℕ)
     (hands a b : ℕ) (s : Standing) (polls others : List Poll) (u v : S)
     → items_of ALONE polls ≡ items_of ALONE others → core u ≡ core v
-    → Alike (after (Listen address hands (Some a) ∷ []) (performed_outline p s u polls))
-    (after (Listen address hands (Some b) ∷ []) (performed_outline p s v others))
+    → Alike (preceded (Listen address hands (Some a) ∷ []) (performed_outline p s u polls))
+    (preceded (Listen address hands (Some b) ∷ []) (performed_outline p s v others))
 unfolding opening mapped
 alike_by p core by address hands a b s polls others u v items same = λ ends other_ends.
     let alike = items_alike p core by polls others u v items same
@@ -229,8 +229,8 @@ work_alike cutting setup (Lead lead) sheet script _ _ polls others cut = absurd 
 work_alike cutting setup _ sheet script a b polls others cut = alike_none _
 
 commands_attached : (setup : Setup) (more : List Act)
-    → commands_in (attaches setup ++ more) ≡ commands_in more
-commands_attached setup = (calls_bare (attaches setup) (attaches-calls setup)).commands
+    → commands_in (attach_acts setup ++ more) ≡ commands_in more
+commands_attached setup = (calls_bare (attach_acts setup) (attaches-calls setup)).commands
 
 asked_alike : ItemsDecide → (request : Option Request) (grid script : Option (List ℕ))
     (a b : Option ℕ) (polls others : List Poll) → AreCut (hands_heard request) a b polls others
@@ -270,11 +270,11 @@ replay_state : (script : Script) (sheet : Sheet) (seed limit : ℕ)
     → machine_of (script_outline sheet seed limit (printed_script script.seed script.commands))
     ≡ Some (machine_closed
     (replayed replay_manner script.commands (standing_at sheet script.seed limit)))
-unfolding script_outline reading concert opening mapped
+unfolding script_outline reading_outline concert opening mapped
 replay_state script sheet seed limit reads gives =
     rw (gives, reads) (ap (λ (s : Standing). Some s.machine)
     (concert-standing replay_manner (cues_asking 2 (lines_behind 0 script.commands))
-    (concert_at (standing_at sheet script.seed limit) tt)))
+    (concert_with (standing_at sheet script.seed limit) tt)))
 
 -- a performance is replayed from where it began
 record IsPlayed (setup : Setup) (script : Script) (o : Outline) (replay : Setup → Outline)

@@ -7,7 +7,7 @@ use Rattle.orca_base.specs.declared.limits.TheConstants.{MAX_POLLS}
 use Rattle.orca_base.specs.Grids.{Sheet}
 use Rattle.orca_clock.specs.Followers.{follow_part}
 use Rattle.orca_clock.specs.Leaders.{lead_part}
-use Rattle.orca_concert.specs.Concerts.{concert as concert_at, concert_course, cues_course}
+use Rattle.orca_concert.specs.Concerts.{concert_with, concert_course, cues_course}
 use Rattle.orca_concert.specs.Manners.{Manner}
 use Rattle.orca_concert.proofs.EndingLemmas.{Closes, Ends, Frames, concert-ends, cues-end, frames-cue}
 use Rattle.orca_course.specs.Courses.{mapped}
@@ -33,8 +33,8 @@ use Rattle.orca_rig.specs.declared.inbox.Answer.TheVariants as answer
 use Rattle.orca_trace.specs.Calls.{Poll}
 use Rattle.orca_wav.specs.declared.limits.TheConstants.{MAX_WAVE_BYTES, SAMPLE_BYTES}
 use Rattle.orca_words.specs.Requests.{Events, Follow, Lead, Performance, Play, Recording, Replay, Request, Run, Setup, Smf, Wav, Work, request_of}
-use Rattle.orca_player.specs.Outlines.{Brought, Heard, Outline, concert, follow_outline, follow_start, grid_outline, is_too_long, lead_outline, lead_start, listening, live_outline, live_start, loading, made_outline, migrated, opening, outline, performed, performed_outline, reading, request_outline, script_outline, standing_at, start_of, status_of_end, status_of_ending, wave_bytes, work_outline}
-use Rattle.orca_player.specs.Ready.{CanDo, HasRoom, IsReady, NeverFull}
+use Rattle.orca_player.specs.Outlines.{Brought, Heard, Outline, concert, follow_outline, follow_start, grid_outline, is_too_long, lead_outline, lead_start, listening, live_outline, live_start, loading, made_outline, migrated, opening, outline, performed, performed_outline, reading_outline, request_outline, script_outline, standing_at, start_of, status_of_end, status_of_ending, wave_bytes, work_outline}
+use Rattle.orca_player.specs.Ready.{CanDo, HasFrameRoom, IsReady, NeverFull}
 use Rattle.orca_player.specs.declared.status.Status.{Status}
 use Rattle.orca_player.specs.declared.status.Status.TheVariants.{Done, FileFault, InboxFault, Usage}
 use Rattle.orca_player.proofs.ClockLemmas.{follow_ends_well, lead_ends_well}
@@ -54,18 +54,18 @@ FineOutline o = IfSome o.course.ending IsFine
 
 -- a run of commands ends without a refusal, if none of the ways in which it can end early comes
 concert_fine : {R : Type 0} {P : Stop → Type 0} (m : Manner R) (r : R) (cues : List Cue)
-    (s : Standing) → Closes P m → IfSome (cues_course m cues (concert_at s r)).ending P
-    → ((stop : Stop) → P stop → (concert_course m cues (concert_at s r)).ending ≢ Some stop)
+    (s : Standing) → Closes P m → IfSome (cues_course m cues (concert_with s r)).ending P
+    → ((stop : Stop) → P stop → (concert_course m cues (concert_with s r)).ending ≢ Some stop)
     → FineOutline (concert m r cues s)
 unfolding concert opening mapped
 concert_fine m r cues s closes ends never =
-    let kind = concert-ends m cues (concert_at s r) closes ends in
+    let kind = concert-ends m cues (concert_with s r) closes ends in
     grind (arith, kind, never)
 
 goes_fine : {R : Type 0} (m : Manner R) (r : R) (cues : List Cue) (s : Standing)
     → Closes Never m → Ends Never m → FineOutline (concert m r cues s)
 goes_fine m r cues s closes ends =
-    concert_fine m r cues s closes (cues-end Never m cues (concert_at s r) ends)
+    concert_fine m r cues s closes (cues-end Never m cues (concert_with s r) ends)
     (λ stop off is. off)
 
 -- so many frames, of which none ends the run
@@ -75,7 +75,7 @@ frames_fine : {R : Type 0} (Room : ℕ → R → Type 0) (m : Manner R) (r : R) 
 frames_fine Room m r n limit seed sheet closes frames some room =
     let s = standing_at sheet seed limit in
     concert_fine m r (frames_cue n) s closes
-    (frames-cue Never Room m n (concert_at s r) frames some (omega (arith, room)))
+    (frames-cue Never Room m n (concert_with s r) frames some (omega (arith, room)))
     (λ stop off is. off)
 
 -- ---- scripts
@@ -99,14 +99,14 @@ performed_fine p s u polls ends = grind (arith, ends)
 
 -- where the history has room for the frame of an answer, none is full there
 room_at : (Q : Type 0) (s : LiveState) (before more : List Poll) (poll : Poll) (a : Answer)
-    → HasRoom s (before ++ poll ∷ more) → (so_far s before).ending ≡ None → poll.answer ≡ a
+    → HasFrameRoom s (before ++ poll ∷ more) → (so_far s before).ending ≡ None → poll.answer ≡ a
     → AtFull Q a (so_far s before).state
 room_at Q s before more poll (answer.Due at) room goes is = λ full.
     let off = room before poll more at refl is goes in absurd (grind (arith, off, full))
 room_at Q s before more poll _ room goes is = tt
 
 live_fine : (setup : Setup) (play : Performance) (at : ℕ) (polls : List Poll) (s : Standing)
-    → turns_of polls < MAX_POLLS → HasRoom (live_start setup play at s) polls
+    → turns_of polls < MAX_POLLS → HasFrameRoom (live_start setup play at s) polls
     → FineOutline (live_outline setup play polls s at)
 unfolding live_outline
 live_fine setup play at polls s few room =
@@ -115,7 +115,7 @@ live_fine setup play at polls s few room =
     (performance_in (λ stop. stop ≡ Left) refl live_part u polls (live_ends_well.opens u)
     (λ before poll more is goes.
     heard_ends (λ stop. stop ≡ Left) refl poll.answer poll.bytes _
-    (room_at _ u before more poll poll.answer (subst (HasRoom u) is room) goes refl)) few)
+    (room_at _ u before more poll poll.answer (subst (HasFrameRoom u) is room) goes refl)) few)
 
 follow_fine : (polls : List Poll) (s : Standing) → turns_of polls < MAX_POLLS
     → NeverFull (follow_part state_manner) (follow_start s) polls
@@ -148,7 +148,7 @@ wave_room out wave short =
 work_fine : (setup : Setup) (work : Work) (sheet : Sheet) (b : Brought)
     → is_too_long work ≡ false → CanDo setup work sheet b
     → FineOutline (work_outline setup work sheet b)
-unfolding work_outline loading script_outline reading listening
+unfolding work_outline loading script_outline reading_outline listening
 work_fine setup (Run frames) sheet b short ready =
     frames_fine AnyRoom run_manner tt frames setup.limit setup.seed sheet (assumption)
     (λ line tick n messages r some. (tt, tt)) tt ready
@@ -159,7 +159,7 @@ work_fine setup (Smf song) sheet b short ready =
     let s = start_of setup sheet in
     let r = recording_at_start song.out song.bpm song.frames in
     concert_fine smf_manner r (frames_cue song.frames) s (smf-closes IsLong refl)
-    (frames-cue IsLong AnyRoom smf_manner song.frames (concert_at s r) smf-frames tt
+    (frames-cue IsLong AnyRoom smf_manner song.frames (concert_with s r) smf-frames tt
     (omega (arith, ready.0)))
     (λ stop long is. ready.1 (is ∙ ap Some long))
 work_fine setup (Wav wave) sheet b short ready =
@@ -173,7 +173,7 @@ work_fine setup (Lead lead) sheet b short ready = grind (arith, lead_fine)
 pub outline_fine : (words : List (List ℕ)) (h : Heard)
     → IsSomeAnd (request_of words) (λ request. IsReady request h)
     → IfSome (outline words h).course.ending IsFine
-unfolding outline request_outline performed loading grid_outline migrated reading made_outline
+unfolding outline request_outline performed loading grid_outline migrated reading_outline made_outline
 outline_fine words h ready = grind (arith, work_fine, make_fine)
 
 -- ---- only words that ask for nothing are blamed
@@ -187,5 +187,5 @@ ending-other end = grind arith
 
 pub request-other : (request : Request) (h : Heard)
     → IfSome (request_outline request h).course.ending (λ status. status ≢ Usage)
-unfolding request_outline performed loading grid_outline work_outline listening script_outline reading migrated made_outline concert live_outline follow_outline lead_outline opening mapped
+unfolding request_outline performed loading grid_outline work_outline listening script_outline reading_outline migrated made_outline concert live_outline follow_outline lead_outline opening mapped
 request-other request h = grind (arith, end-other, ending-other)

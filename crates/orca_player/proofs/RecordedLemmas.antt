@@ -3,7 +3,7 @@ use Rattle.std.proofs.Common.{◌≡◌, ◌≢◌, ℕ, ◌≤◌, List, [], �
 use Rattle.std.specs.Prelude.{Some, None}
 use Rattle.orca_base.specs.declared.limits.TheConstants.{MAX_HISTORY}
 use Rattle.orca_base.specs.Grids.{IsSheet, Sheet}
-use Rattle.orca_concert.specs.Concerts.{Concert, concert as concert_at, concert_course}
+use Rattle.orca_concert.specs.Concerts.{Concert, concert_with, concert_course}
 use Rattle.orca_concert.specs.Manners.{Manner}
 use Rattle.orca_concert.proofs.EndingLemmas.{Closes, Ends, concert-ends, cues-end}
 use Rattle.orca_course.specs.Acts.{Act}
@@ -17,7 +17,7 @@ use Rattle.orca_cues.specs.declared.source.Cue.{Cue}
 use Rattle.orca_edit.specs.Prices.{kept_at_start}
 use Rattle.orca_op.specs.Laws.{IsLawful}
 use Rattle.orca_op.specs.Rules.{rule}
-use Rattle.orca_reports.specs.Runs.{Opened, calls_in}
+use Rattle.orca_reports.specs.Runs.{Opened, outside_calls}
 use Rattle.orca_reports.specs.SavedSongs.{SongIsSaved, SongIsTune}
 use Rattle.orca_reports.specs.SavedWaves.{WaveIsSaved}
 use Rattle.orca_reports.specs.Songs.{recording_at_start, smf_manner}
@@ -34,11 +34,11 @@ abbrev IsNoLeave : Stop → Type 0
 IsNoLeave stop = stop ≢ Left
 
 -- the saves are those among the calls
-saves-calls_in : (acts : List Act) → saves_in (calls_in acts) ≡ saves_in acts
+saves-calls_in : (acts : List Act) → saves_in (outside_calls acts) ≡ saves_in acts
 saves-calls_in [] = refl
 saves-calls_in (act ∷ acts) = grind (arith, saves-calls_in acts)
 
-one_save : (acts : List Act) (out bytes : List ℕ) → calls_in acts ≡ Save out bytes ∷ []
+one_save : (acts : List Act) (out bytes : List ℕ) → outside_calls acts ≡ Save out bytes ∷ []
     → saves_in acts ≡ Save out bytes ∷ []
 one_save acts out bytes is = sym (saves-calls_in acts) ∙ ap saves_in is
 
@@ -57,7 +57,7 @@ pub smf_keeps : SongIsSaved → SongIsTune → IsLawful rule → (setup : Setup)
 unfolding work_outline concert opening mapped
 smf_keeps saved tune lawful setup song sheet is fast few = λ ends.
     let o : Opened = record { sheet = sheet; seed = setup.seed; limit = setup.limit } in
-    let s = concert_at (start_of setup sheet)
+    let s = concert_with (start_of setup sheet)
     (recording_at_start song.out song.bpm song.frames) in
     let none = goes_on smf_manner (frames_cue song.frames) s (smf-closes IsNoLeave (λ same. cc))
     (λ line answer messages r. grind (arith, recorded-ends IsNoLeave)) ends in (
@@ -72,7 +72,7 @@ pub wav_keeps : WaveIsSaved → IsLawful rule → (setup : Setup) (wave : Record
 unfolding work_outline concert opening mapped
 wav_keeps saved lawful setup wave sheet is = λ ends.
     let o : Opened = record { sheet = sheet; seed = setup.seed; limit = setup.limit } in
-    let s = concert_at (start_of setup sheet) (wave_at_start wave.out wave.bpm) in
+    let s = concert_with (start_of setup sheet) (wave_at_start wave.out wave.bpm) in
     one_save (concert_course wav_manner (frames_cue wave.frames) s).acts wave.out _
     (saved lawful wave.out wave.bpm wave.frames o kept_at_start tally_at_start is
     (goes_on wav_manner (frames_cue wave.frames) s (assumption)

@@ -18,7 +18,7 @@ use Rattle.orca_reports.specs.Quiet.{quiet-events, quiet-make, quiet-replay, qui
 use Rattle.orca_script.specs.Runs.{ScriptReadsBack, printed_script}
 use Rattle.orca_words.specs.Requests.{Migration, Request, Setup, Work}
 use Rattle.orca_player.specs.Doing.{Came, CameBy, KeepsTake, ReadsBack, refused_status, status_at}
-use Rattle.orca_player.specs.Outlines.{after, asked_outline, attaches, concert, grid_outline, listening, loading, made_outline, migrated, nothing, opening, performed, reading, recorded, request_outline, saved, script_in, stopped, work_outline}
+use Rattle.orca_player.specs.Outlines.{preceded, asked_outline, attach_acts, concert, grid_outline, listening, loading, made_outline, migrated, nothing, opening, performed, reading_outline, recorded_outline, request_outline, saved, script_in, stopped_run, work_outline}
 use Rattle.orca_player.specs.Takes.{Take}
 use Rattle.orca_player.specs.declared.status.Status.{Status}
 use Rattle.orca_player.specs.declared.status.Status.TheVariants.{Done, FileFault, GridRefused, Memory}
@@ -35,8 +35,8 @@ kind_concert m r cues s quiet = kind_plain (polls-concert m r cues s quiet)
 
 pub by_recorded : {R : Type 0} (take : Take) (m : Manner R) (r : R) (cues : List Cue)
     (s : Standing) {x y : World} {status : Status} → IsQuiet m
-    → KeepsTake (recorded take (concert m r cues s)) → Came (concert m r cues s) x status y
-    → CameBy (λ b. recorded take (concert m r cues s)) x status y
+    → KeepsTake (recorded_outline take (concert m r cues s)) → Came (concert m r cues s) x status y
+    → CameBy (λ b. recorded_outline take (concert m r cues s)) x status y
 unfolding concert opening
 by_recorded take m r cues s quiet keeps came =
     by nothing (record {
@@ -45,11 +45,11 @@ by_recorded take m r cues s quiet keeps came =
       sized = tt;
       reads = λ other. tt;
       takes = λ other. keeps;
-    }) (came_plain (recorded take (concert m r cues s)) came)
+    }) (came_plain (recorded_outline take (concert m r cues s)) came)
 
 pub kind_read : {status : Status} (read : Result (List Cue) ScriptFault) (s : Standing)
-    → IsKind (reading (λ cues. concert replay_manner tt cues s) read) [] status
-unfolding reading
+    → IsKind (reading_outline (λ cues. concert replay_manner tt cues s) read) [] status
+unfolding reading_outline
 kind_read (Err fault) s = kind_plain refl
 kind_read (Ok cues) s = kind_concert replay_manner tt cues s quiet-replay
 
@@ -91,7 +91,7 @@ pub script_saved : {T : Type 0} {done : T} (m : Migration) (text bytes : List �
     → IsOk (any_script_of text) → IsPrinted m text bytes
     → Called (Ok done) (Save m.out bytes) x y
     → Came (migrated m text) x (status_at Done y) y
-unfolding migrated reading
+unfolding migrated reading_outline
 script_saved m text bytes ok printed called =
     let found = cues_in (any_script_of text) ok in
     let did = (rw (printed found.0 found.1) at called).called in
@@ -103,13 +103,13 @@ pub script_reads : (m : Migration) (text : List ℕ)
     → ((cues : List Cue) → any_script_of text ≡ Ok cues
     → ScriptReadsBack (unwrap_or (seed_in text) m.seed) (commands_of_cues cues))
     → IfSome (migrated m text).given ReadsBack
-unfolding migrated reading
+unfolding migrated reading_outline
 script_reads m text back = grind arith
 
 pub kind_moved : {status : Status} (m : Migration) (text : List ℕ)
     → (status ≢ Memory → IfSome (migrated m text).given ReadsBack)
     → IsKind (migrated m text) [] status
-unfolding migrated reading
+unfolding migrated reading_outline
 kind_moved m text reads = record {
   polls = grind arith;
   few = omega arith;
@@ -122,17 +122,17 @@ kind_moved m text reads = record {
 
 -- memory was refused to an attach
 pub attach_cut : (setup : Setup) (work : Work) {e : NoMemory} {x y : World}
-    → AreBegun (attaches setup) e x y
+    → AreBegun (attach_acts setup) e x y
     → CameBy (λ b. performed setup work (record { grid = None; brought = b })) x Memory y
 unfolding performed loading
 attach_cut setup work cut =
     let calls = attaches-calls setup in
-    by_memory ((calls_bare (attaches setup) calls).polls _, tt)
-    (came_cut (attaches setup) (after (Load setup.grid None ∷ []) (stopped FileFault)) calls cut)
+    by_memory ((calls_bare (attach_acts setup) calls).polls _, tt)
+    (came_cut (attach_acts setup) (preceded (Load setup.grid None ∷ []) (stopped_run FileFault)) calls cut)
 
 -- the ports were attached
 pub by_grid : {T : Type 0} {done : T} (setup : Setup) (work : Work) (grid : Option (List ℕ))
-    {x y z : World} {status : Status} → Calls (attaches setup) (Ok done) x y
+    {x y z : World} {status : Status} → Calls (attach_acts setup) (Ok done) x y
     → CameBy (λ b. loading setup.grid grid (λ text. grid_outline setup work b (grid_text text))) y
     status z
     → (grid : Option (List ℕ))

@@ -4,7 +4,7 @@ use Rattle.std.specs.Prelude.{◌≡◌, ◌<◌, ℕ, List, ◌∷◌, All, Opt
 use Rattle.std.specs.List.{filter, flat_map}
 use Rattle.std.specs.Option.{option_map}
 use Rattle.orca_base.specs.declared.command.Command.TheVariants as command
-use Rattle.orca_clock.specs.Laws.{AreDone, commands_of, heard_in, midi_bytes_in}
+use Rattle.orca_clock.specs.Laws.{AreDone, commands_of_beat, heard_in, midi_bytes_in}
 use Rattle.orca_course.specs.Acts.{commands_in, polls_in}
 use Rattle.orca_edit.specs.Obeying.{MachineState, piece_of}
 use Rattle.orca_edit.specs.Pieces.{Piece}
@@ -27,23 +27,23 @@ DoesAll o = o.course.ending ≡ Some Done
 abbrev pub last_machine : Outline → Option MachineState
 last_machine o = option_map (λ s. s.machine) o.course.state
 
-abbrev pub last_piece : Outline → Option Piece
-last_piece o = option_map (λ s. piece_of s.machine) o.course.state
+abbrev pub run_piece : Outline → Option Piece
+run_piece o = option_map (λ s. piece_of s.machine) o.course.state
 
 -- the same commands, and the same session at last
-pub record PlayAlike (o p : Outline) : Type 0 where
+pub record RunsAlike (o p : Outline) : Type 0 where
   pub commands : commands_in o.course.acts ≡ commands_in p.course.acts
   pub machine : last_machine o ≡ last_machine p
 
 -- one run begins anew once, and then plays the frames of another, and no more. It ends with the grid
 -- and the tick of that
-pub record IsLed (lead follow : Outline) : Type 0 where
+pub record RunIsLed (lead follow : Outline) : Type 0 where
   pub commands : commands_in follow.course.acts ≡ command.Reset ∷ commands_in lead.course.acts
   pub frames : All (λ c. c ≡ command.Frame) (commands_in lead.course.acts)
-  pub grid : option_map (λ p. p.sheet) (last_piece follow)
-      ≡ option_map (λ p. p.sheet) (last_piece lead)
-  pub tick : option_map (λ p. p.tick) (last_piece follow)
-      ≡ option_map (λ p. p.tick) (last_piece lead)
+  pub grid : option_map (λ p. p.sheet) (run_piece follow)
+      ≡ option_map (λ p. p.sheet) (run_piece lead)
+  pub tick : option_map (λ p. p.tick) (run_piece follow)
+      ≡ option_map (λ p. p.tick) (run_piece lead)
 
 pub record KeepsTime (words : List (List ℕ)) : Type 0 where
   -- a run that follows does the commands of all bytes that it heard, however they were cut into
@@ -53,13 +53,13 @@ pub record KeepsTime (words : List (List ℕ)) : Type 0 where
       → let o = outline words h in
       polls_in o.course.acts ≡ h.brought.polls
       → AreDone HistoryFull o.course.ending (commands_in o.course.acts)
-      (flat_map commands_of (beats_from stopped (heard_in h.brought.polls)))
+      (flat_map commands_of_beat (beats_from stopped (heard_in h.brought.polls)))
   -- whatever other bytes stand between those of the clock
   pub bytes : (setup : Setup) (address : List ℕ) (h k : Heard)
       → AskFor words setup (Follow address)
       → k.grid ≡ h.grid → DoesAll (outline words h) → DoesAll (outline words k)
       → filter is_clock (heard_in h.brought.polls) ≡ filter is_clock (heard_in k.brought.polls)
-      → PlayAlike (outline words h) (outline words k)
+      → RunsAlike (outline words h) (outline words k)
   -- one that hears exactly the MIDI bytes of a run that leads, and then the end, on the same grid with
   -- the same seed, and with room for one entry more
   pub leads : (others : List (List ℕ)) (setup other : Setup) (address : List ℕ) (lead : Leading)
@@ -67,4 +67,4 @@ pub record KeepsTime (words : List (List ℕ)) : Type 0 where
       → option_map grid_text h.grid ≡ option_map grid_text k.grid → setup.seed ≡ other.seed
       → other.limit < setup.limit → DoesAll (outline words h) → DoesAll (outline others k)
       → heard_in h.brought.polls ≡ midi_bytes_in (outline others k).course.acts
-      → IsLed (outline others k) (outline words h)
+      → RunIsLed (outline others k) (outline words h)

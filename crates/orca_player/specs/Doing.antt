@@ -13,7 +13,7 @@ use Rattle.orca_script.specs.Runs.{ScriptReadsBack}
 use Rattle.orca_term.specs.Picture.{IsScreen}
 use Rattle.orca_player.specs.Outlines.{Brought, Outline, Script}
 use Rattle.orca_player.specs.Statuses.{status_sends}
-use Rattle.orca_player.specs.Takes.{IsKept}
+use Rattle.orca_player.specs.Takes.{IsTaken}
 use Rattle.orca_player.specs.declared.status.Status.{Status}
 use Rattle.orca_player.specs.declared.status.Status.TheVariants.{Done, Usage, GridRefused, OutFault, FileFault, ScriptRefused, InboxFault, Memory}
 
@@ -23,7 +23,7 @@ ReadsBack script = ScriptReadsBack script.seed script.commands
 
 -- a run that is recorded, and that ends as planned, saves one file, and that of what it is recorded as
 abbrev pub KeepsTake : Outline → Type 0
-KeepsTake o = o.course.ending ≡ Some Done → IfSome o.take (λ take. IsKept take o.course.acts)
+KeepsTake o = o.course.ending ≡ Some Done → IfSome o.take (λ take. IsTaken take o.course.acts)
 
 -- ---- all of it
 
@@ -52,7 +52,7 @@ IsBlamed Memory x y = ⊥
 IsBlamed planned x y = is_lost y ≡ is_lost x
 
 -- all of an outline was done, and it ends with no note that sounds
-pub record IsWhole (o : Outline) (x : World) (status : Status) (y : World) : Type 0 where
+pub record IsWholeRun (o : Outline) (x : World) (status : Status) (y : World) : Type 0 where
   pub planned : Status
   pub ending : o.course.ending ≡ Some planned
   pub settles : status ≡ status_at planned y
@@ -109,7 +109,7 @@ WasRefused o x y = StopsInSend o x y ⊎ (ClosesEarly o x y ⊎ RefusedEarly o x
 
 -- all of an outline was done, or memory was refused
 abbrev pub CameSo : Outline → World → Status → World → Type 0
-CameSo o x status y = IsWhole o x status y ⊎ ((status ≡ Memory) × WasRefused o x y)
+CameSo o x status y = IsWholeRun o x status y ⊎ ((status ≡ Memory) × WasRefused o x y)
 
 -- a record, so that its arguments are found wherever one is cited
 pub record Came (o : Outline) (x : World) (status : Status) (y : World) : Type 0 where

@@ -2,7 +2,7 @@
 -- of the others, and one hand that could share it does what one does that plays alone.
 use Rattle.std.specs.Prelude.{◌≡◌, ◌≢◌, ℕ, List, Some, None}
 use Rattle.orca_base.specs.Grids.{Sheet}
-use Rattle.orca_live.specs.Hands.{HearsEach, SharesFairly as SharesSession}
+use Rattle.orca_live.specs.Hands.{HearsEach, SharesSession}
 use Rattle.orca_live.specs.Items.{items_of}
 use Rattle.orca_live.specs.Solo.{HasNoRedo}
 use Rattle.orca_words.specs.Requests.{Performance, Play, Setup}

@@ -9,7 +9,7 @@ use Rattle.orca_base.specs.declared.command.Command.{Command}
 use Rattle.orca_base.specs.Grids.{Sheet, Size}
 use Rattle.orca_clock.specs.Followers.{Followed, follow_at_start, follow_part}
 use Rattle.orca_clock.specs.Leaders.{Led, lead_at_start, lead_part}
-use Rattle.orca_concert.specs.Concerts.{concert as concert_at, concert_course, stance_of}
+use Rattle.orca_concert.specs.Concerts.{concert_with, concert_course, stance_of}
 use Rattle.orca_concert.specs.Manners.{Manner}
 use Rattle.orca_course.specs.Acts.{Act}
 use Rattle.orca_course.specs.Acts.Act.{Attach, Listen, Load, Save, Stand}
@@ -82,20 +82,20 @@ pub record Outline : Type 0 where
   pub take : Option Take
 
 -- without these
-abbrev pub plain : Bool → Course (Option Standing) Status → Outline
-plain hands c = record { hands = hands; course = c; screen = None; given = None; take = None }
+abbrev pub plain_outline : Bool → Course (Option Standing) Status → Outline
+plain_outline hands c = record { hands = hands; course = c; screen = None; given = None; take = None }
 
 -- nothing more is done, and the run ends so
-abbrev pub stopped : Status → Outline
-stopped status = plain true (ended status None)
+abbrev pub stopped_run : Status → Outline
+stopped_run status = plain_outline true (ended status None)
 
 -- acts before the session is opened, and then the rest of a run
-abbrev pub after : List Act → Outline → Outline
-after acts o = record o { course = joined (course {S = Option Standing} {E = Status} acts 0 None) o.course }
+abbrev pub preceded : List Act → Outline → Outline
+preceded acts o = record o { course = joined (course {S = Option Standing} {E = Status} acts 0 None) o.course }
 
 -- it is recorded as this
-abbrev pub recorded : Take → Outline → Outline
-recorded take o = record o { take = Some take }
+abbrev pub recorded_outline : Take → Outline → Outline
+recorded_outline take o = record o { take = Some take }
 
 -- ---- a list of commands
 
@@ -107,7 +107,7 @@ standing_at sheet seed limit = standing (machine_at_start sheet seed limit) kept
 unfoldable pub opening : {S E : Type 0} → Stance S → (Option E → Option Status) → Standing
     → Course S E → Outline
 opening v g s c =
-    plain v.hands (joined (course {E = Status} (Stand s ∷ []) 0 (Some s)) (mapped v.standing g c))
+    plain_outline v.hands (joined (course {E = Status} (Stand s ∷ []) 0 (Some s)) (mapped v.standing g c))
 
 abbrev pub status_of_stop : Stop → Status
 status_of_stop Left = Done
@@ -124,24 +124,24 @@ status_of_end (Some stop) = status_of_stop stop
 unfoldable pub concert : {R : Type 0} → Manner R → R → List Cue → Standing → Outline
 concert m r cues s =
     opening (stance_of m) (λ end. Some (status_of_end end)) s
-    (concert_course m cues (concert_at s r))
+    (concert_course m cues (concert_with s r))
 
 -- ---- files
 
 -- a file is loaded, and its text decides what comes next; one that can't be loaded ends the run
 unfoldable pub loading : List ℕ → Option (List ℕ) → (List ℕ → Outline) → Outline
 loading name text next =
-    after (Load name text ∷ []) (option_map_or next text (stopped FileFault))
+    preceded (Load name text ∷ []) (option_map_or next text (stopped_run FileFault))
 
 -- every line of a script is read before anything is done by it
-unfoldable pub reading : (List Cue → Outline) → Result (List Cue) ScriptFault → Outline
-reading next (Err fault) = stopped (ScriptRefused fault.line fault.column)
-reading next (Ok cues) = next cues
+unfoldable pub reading_outline : (List Cue → Outline) → Result (List Cue) ScriptFault → Outline
+reading_outline next (Err fault) = stopped_run (ScriptRefused fault.line fault.column)
+reading_outline next (Ok cues) = next cues
 
 -- a script may give the seed
 unfoldable pub script_outline : Sheet → ℕ → ℕ → List ℕ → Outline
 script_outline sheet seed limit text =
-    reading (λ cues. concert replay_manner tt cues
+    reading_outline (λ cues. concert replay_manner tt cues
     (standing_at sheet (unwrap_or (seed_in text) seed) limit)) (any_script_of text)
 
 -- ---- a script in format 2
@@ -155,11 +155,11 @@ script_in seed text cues =
 abbrev pub saved : List ℕ → Script → Outline
 saved out script =
     let text = printed_script script.seed script.commands in
-    record (after (Save out text ∷ []) (stopped Done)) { given = Some script }
+    record (preceded (Save out text ∷ []) (stopped_run Done)) { given = Some script }
 
 unfoldable pub migrated : Migration → List ℕ → Outline
 migrated m text =
-    reading (λ cues. saved m.out (script_in m.seed text cues)) (any_script_of text)
+    reading_outline (λ cues. saved m.out (script_in m.seed text cues)) (any_script_of text)
 
 -- ---- a performance
 
@@ -177,7 +177,7 @@ performed_outline p s u polls =
 -- starts; one that can't listen ends the run
 unfoldable pub listening : List ℕ → ℕ → Option ℕ → (ℕ → Outline) → Outline
 listening address hands start next =
-    after (Listen address hands start ∷ []) (option_map_or next start (stopped InboxFault))
+    preceded (Listen address hands start ∷ []) (option_map_or next start (stopped_run InboxFault))
 
 -- ---- a player
 
@@ -238,7 +238,7 @@ followed m s polls = performed_outline (follow_part m) s.concert.standing s poll
 
 -- no clock has started it so far
 abbrev pub follow_start : Standing → Followed (Unit {0})
-follow_start s = follow_at_start (concert_at s tt)
+follow_start s = follow_at_start (concert_with s tt)
 
 -- the same from its start
 unfoldable pub follow_outline : List Poll → Standing → Outline
@@ -250,7 +250,7 @@ led m s polls = performed_outline (lead_part m) s.concert.standing s polls
 
 -- with so many beats a minute, from a moment on
 abbrev pub lead_start : ℕ → ℕ → Standing → Led (Unit {0})
-lead_start bpm at s = lead_at_start bpm at (concert_at s tt)
+lead_start bpm at s = lead_at_start bpm at (concert_with s tt)
 
 -- the same from its start
 unfoldable pub lead_outline : ℕ → List Poll → Standing → ℕ → Outline
@@ -270,12 +270,12 @@ work_outline setup (Events frames) sheet b =
     concert events_manner tt (frames_cue frames) (start_of setup sheet)
 work_outline setup (Smf song) sheet b =
     let s = start_of setup sheet in
-    recorded (Song song.out (song_of song.bpm song.frames s.machine))
+    recorded_outline (Song song.out (song_of song.bpm song.frames s.machine))
     (concert smf_manner (recording_at_start song.out song.bpm song.frames) (frames_cue song.frames)
     s)
 work_outline setup (Wav wave) sheet b =
     let s = start_of setup sheet in
-    recorded (Wave wave.out (wave_of wave.bpm wave.frames s.machine))
+    recorded_outline (Wave wave.out (wave_of wave.bpm wave.frames s.machine))
     (concert wav_manner (wave_at_start wave.out wave.bpm) (frames_cue wave.frames) s)
 work_outline setup (Replay name) sheet b =
     loading name b.script (script_outline sheet setup.seed setup.limit)
@@ -290,36 +290,36 @@ work_outline setup (Lead lead) sheet b =
 
 -- a text that is no grid ends the run
 unfoldable pub grid_outline : Setup → Work → Brought → Result Sheet GridRefusal → Outline
-grid_outline setup work b (Err refusal) = stopped (GridRefused refusal)
+grid_outline setup work b (Err refusal) = stopped_run (GridRefused refusal)
 grid_outline setup work b (Ok sheet) = work_outline setup work sheet b
 
 -- a port is attached to its name, if it has one
-abbrev pub attaches_to : Port → Option (List ℕ) → List Act
-attaches_to port None = []
-attaches_to port (Some name) = Attach (record { port = port; name = name }) ∷ []
+abbrev pub attach_act : Port → Option (List ℕ) → List Act
+attach_act port None = []
+attach_act port (Some name) = Attach (record { port = port; name = name }) ∷ []
 
 -- the ports are attached in this order
-abbrev pub attaches : Setup → List Act
-attaches setup =
-    attaches_to port.Midi setup.midi
-    ++ (attaches_to port.Udp setup.udp ++ attaches_to port.Osc setup.osc)
+abbrev pub attach_acts : Setup → List Act
+attach_acts setup =
+    attach_act port.Midi setup.midi
+    ++ (attach_act port.Udp setup.udp ++ attach_act port.Osc setup.osc)
 
 -- ---- words
 
 -- the size that two numbers give
-abbrev pub size_of : Workload → Size
-size_of load = record { h = load.height; w = load.width }
+abbrev pub made_size : Workload → Size
+made_size load = record { h = load.height; w = load.width }
 
 -- a generated grid, and its commands
 unfoldable pub made_outline : Workload → Outline
 made_outline load =
-    concert make_manner tt (made_cues load.seed (size_of load) load.frames)
-    (standing_at (made_sheet load.seed (size_of load)) load.seed DEFAULT_HISTORY)
+    concert make_manner tt (made_cues load.seed (made_size load) load.frames)
+    (standing_at (made_sheet load.seed (made_size load)) load.seed DEFAULT_HISTORY)
 
 -- the ports are attached, the grid is loaded, and the work is done
 unfoldable pub performed : Setup → Work → Heard → Outline
 performed setup work h =
-    after (attaches setup)
+    preceded (attach_acts setup)
     (loading setup.grid h.grid (λ text. grid_outline setup work h.brought (grid_text text)))
 
 -- the bytes of the samples of a wave
@@ -336,11 +336,11 @@ unfoldable pub request_outline : Request → Heard → Outline
 request_outline (Make load) h = made_outline load
 request_outline (Migrate m) h = loading m.script h.brought.script (migrated m)
 request_outline (Perform setup work) h =
-    if is_too_long work then stopped WavTooLong else performed setup work h
+    if is_too_long work then stopped_run WavTooLong else performed setup work h
 
 -- words that ask for nothing are refused
 abbrev pub asked_outline : Option Request → Heard → Outline
-asked_outline None h = stopped Usage
+asked_outline None h = stopped_run Usage
 asked_outline (Some request) h = request_outline request h
 
 -- what a run with these words does

@@ -5,7 +5,7 @@ use Rattle.orca_base.specs.declared.limits.TheConstants.{MAX_POLLS}
 use Rattle.orca_base.specs.Grids.{Sheet}
 use Rattle.orca_clock.specs.Followers.{follow_part}
 use Rattle.orca_clock.specs.Leaders.{lead_part}
-use Rattle.orca_concert.specs.Concerts.{concert as concert_at, concert_course}
+use Rattle.orca_concert.specs.Concerts.{concert_with, concert_course}
 use Rattle.orca_course.specs.Performers.{Part, performance}
 use Rattle.orca_course.specs.declared.ending.Ending.TheVariants.{Stopped}
 use Rattle.orca_course.specs.declared.ending.Stop.TheVariants.{Full, SongTooLong}
@@ -33,8 +33,8 @@ abbrev pub before_frame : ℕ → LiveState → LiveState
 before_frame at s = (lull_course (answered_at at s)).state
 
 -- wherever a frame is due, the history has room for it
-abbrev pub HasRoom : LiveState → List Poll → Type 0
-HasRoom s polls =
+abbrev pub HasFrameRoom : LiveState → List Poll → Type 0
+HasFrameRoom s polls =
     (before : List Poll) (poll : Poll) (others : List Poll) (at : ℕ)
     → polls ≡ before ++ poll ∷ others → poll.answer ≡ answer.Due at
     → (so_far s before).ending ≡ None
@@ -47,7 +47,7 @@ NeverFull p s polls = (performance p s polls).ending ≢ Some (Stopped Full)
 -- a song of these frames does not end the run since it is too long
 abbrev pub SongFits : Setup → Recording → Sheet → Type 0
 SongFits setup song sheet =
-    (concert_course smf_manner (frames_cue song.frames) (concert_at (start_of setup sheet)
+    (concert_course smf_manner (frames_cue song.frames) (concert_with (start_of setup sheet)
     (recording_at_start song.out song.bpm song.frames))).ending ≢ Some SongTooLong
 
 -- what the work needs on an opened grid. The frames of a run, of its events, of a song and of a wave
@@ -61,7 +61,7 @@ CanDo setup (Wav wave) sheet b = wave.frames ≤ setup.limit
 CanDo setup (Replay name) sheet b = IfSome b.script IsScript
 CanDo setup (Play play) sheet b =
     (turns_of b.polls < MAX_POLLS)
-    × IfSome b.start (λ at. HasRoom (live_start setup play at (start_of setup sheet)) b.polls)
+    × IfSome b.start (λ at. HasFrameRoom (live_start setup play at (start_of setup sheet)) b.polls)
 CanDo setup (Follow address) sheet b =
     (turns_of b.polls < MAX_POLLS)
     × IfSome b.start (λ at. NeverFull (follow_part state_manner)

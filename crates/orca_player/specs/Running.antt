@@ -44,7 +44,7 @@ IsCaused ended y = is_lost y ≡ false
 -- all of an outline was done. A device that was sent all MIDI messages follows the run: no key is
 -- started that is on or ended that is off, wherever the run stands the keys that are on are those of
 -- the notes that sound, and at the end none is
-pub record IsDone (o : Outline) (x : World) (status : Status) (y : World) : Type 0 where
+pub record WasDone (o : Outline) (x : World) (status : Status) (y : World) : Type 0 where
   pub ends : IsSomeAnd o.course.ending (λ planned. EndsAs planned status)
   pub made : Made o.course.acts o.course.bill x y
   pub sated : Sated x y
@@ -55,7 +55,7 @@ pub record IsDone (o : Outline) (x : World) (status : Status) (y : World) : Type
 -- what was done of an outline, by the status
 unfoldable pub Went : Outline → World → Status → World → Type 0
 Went o x Memory y = WasRefused o x y
-Went o x status y = IsDone o x status y
+Went o x status y = WasDone o x status y
 
 -- the last send: the line of the status; out of memory it is missing if its port refused memory for
 -- a line

@@ -24,18 +24,18 @@ number_of_status SmfTooLong = 11
 number_of_status WavTooLong = 12
 
 -- why a grid text is refused; out of memory is a status of its own
-unfoldable pub refusal_text : GridRefusal → List ℕ
-refusal_text (refusal.BadByte offset) = codes "bad byte at " ++ decimal offset
-refusal_text refusal.NoCells = codes "no cells"
-refusal_text (refusal.TooWide row) = codes "row " ++ decimal row ++ codes " too wide"
-refusal_text refusal.TooHigh = codes "too many rows"
-refusal_text refusal.Memory = []
+unfoldable pub grid_refusal_text : GridRefusal → List ℕ
+grid_refusal_text (refusal.BadByte offset) = codes "bad byte at " ++ decimal offset
+grid_refusal_text refusal.NoCells = codes "no cells"
+grid_refusal_text (refusal.TooWide row) = codes "row " ++ decimal row ++ codes " too wide"
+grid_refusal_text refusal.TooHigh = codes "too many rows"
+grid_refusal_text refusal.Memory = []
 
 -- the line of a status that is no success, without its end
 unfoldable pub status_text : Status → List ℕ
 status_text Done = []
 status_text Usage = codes "usage: orca run|events|replay|make|play|migrate|smf|jam|wav|follow|lead"
-status_text (GridRefused refusal) = codes "grid refused: " ++ refusal_text refusal
+status_text (GridRefused refusal) = codes "grid refused: " ++ grid_refusal_text refusal
 status_text OutFault = codes "output fault"
 status_text FileFault = codes "file fault"
 status_text (ScriptRefused line column) =

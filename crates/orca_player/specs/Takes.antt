@@ -16,6 +16,6 @@ saves_in (Save name bytes ∷ acts) = Save name bytes ∷ saves_in acts
 saves_in (act ∷ acts) = saves_in acts
 
 -- one file is saved, and it is that of the take. A song can be read, and gives exactly this song
-abbrev pub IsKept : Take → List Act → Type 0
-IsKept (Song out tune) acts = (saves_in acts ≡ Save out (file_of tune) ∷ []) × IsTune tune
-IsKept (Wave out bytes) acts = saves_in acts ≡ Save out bytes ∷ []
+abbrev pub IsTaken : Take → List Act → Type 0
+IsTaken (Song out tune) acts = (saves_in acts ≡ Save out (file_of tune) ∷ []) × IsTune tune
+IsTaken (Wave out bytes) acts = saves_in acts ≡ Save out bytes ∷ []

@@ -3,7 +3,7 @@
 ghost use Rattle.std.specs.Prelude.{◌≡◌, ◌≢◌, ◌∷◌, ◌++◌, [], IfOk};
 ghost use Rattle.orca_base.specs.Ascii.{line_feed};
 ghost use Rattle.orca_player.specs.Doing.{Said};
-ghost use Rattle.orca_player.specs.Statuses.{refusal_text, status_text};
+ghost use Rattle.orca_player.specs.Statuses.{grid_refusal_text, status_text};
 
 use crate::Status;
 use orca_base::{Memory, Port};
@@ -67,7 +67,7 @@ fn say_line<H: House>(desk: &mut Desk<H>, status: Status, line: Result<Vec<u8>, 
 }
 
 /// The line of a refused grid.
-#[tactic(auto, unfolding(crate::specs::Statuses::status_text, crate::specs::Statuses::refusal_text))]
+#[tactic(auto, unfolding(crate::specs::Statuses::status_text, crate::specs::Statuses::grid_refusal_text))]
 fn refusal_line(alloc: Global, refusal: GridRefusal) -> Result<Vec<u8>, Memory>
     ensures { IfOk result (λ line. line.items
         ≡ status_text (Status.GridRefused refusal) ++ line_feed ∷ []) }

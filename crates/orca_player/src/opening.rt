@@ -3,7 +3,7 @@
 ghost use Rattle.std.specs.Prelude.{◌≡◌, ◌≤◌};
 ghost use Rattle.orca_base.specs.declared.limits.TheConstants.{MAX_HISTORY};
 ghost use Rattle.orca_course.specs.Worlds.{Calls, LeavesInbox};
-ghost use Rattle.orca_player.specs.Outlines.{attaches, attaches_to};
+ghost use Rattle.orca_player.specs.Outlines.{attach_acts, attach_act};
 ghost use Rattle.orca_words.specs.RequestIn.{setup_in, text_in};
 
 use orca_base::Port;
@@ -31,7 +31,7 @@ pub(crate) struct Opening {
 /// Attaches the ports that have a name, in order: MIDI, UDP, OSC. An attach that fails is recorded,
 /// and the run goes on.
 pub(crate) fn attach_all<H: House>(desk: &mut Desk<H>, setup: &Setup<'_>) -> Result<(), NoMemory>
-    ensures called { Calls (attaches (setup_in setup.now)) result desk.old desk.new }
+    ensures called { Calls (attach_acts (setup_in setup.now)) result desk.old desk.new }
     ensures inbox { LeavesInbox desk.old desk.new }
 {
     attach(desk, Port::Midi, setup.midi)?;
@@ -42,7 +42,7 @@ pub(crate) fn attach_all<H: House>(desk: &mut Desk<H>, setup: &Setup<'_>) -> Res
 /// Attaches a port to its name, if it has one.
 #[tactic(auto, using(orca_course::proofs::WorldLemmas::called_still))]
 fn attach<H: House>(desk: &mut Desk<H>, port: Port, name: Option<&str>) -> Result<(), NoMemory>
-    ensures called { Calls (attaches_to port (text_in name.entry)) result desk.old desk.new }
+    ensures called { Calls (attach_act port (text_in name.entry)) result desk.old desk.new }
     ensures inbox { LeavesInbox desk.old desk.new }
 {
     match name {

@@ -4,7 +4,7 @@ ghost use Rattle.std.specs.Prelude.{◌≤◌, length};
 ghost use Rattle.orca_base.specs.declared.limits.TheConstants.{MAX_FILE_BYTES};
 ghost use Rattle.orca_cues.specs.Scripts.{any_script_of};
 ghost use Rattle.orca_player.specs.Doing.{Came, CameBy};
-ghost use Rattle.orca_player.specs.Outlines.{concert, loading, reading, script_outline, standing_at};
+ghost use Rattle.orca_player.specs.Outlines.{concert, loading, reading_outline, script_outline, standing_at};
 ghost use Rattle.orca_reports.specs.Manners.{replay_manner};
 
 use crate::Status;
@@ -33,10 +33,10 @@ pub(crate) fn replay<H: House>(opening: &mut Opening, name: &str, desk: &mut Des
 }
 
 /// Reads all lines of a script, and then does its commands.
-#[tactic(auto, unfolding(crate::specs::Outlines::reading))]
+#[tactic(auto, unfolding(crate::specs::Outlines::reading_outline))]
 fn follow<H: House>(opening: &Opening, text: &[u8], desk: &mut Desk<H>) -> Status
     requires short { length text.now ≤ MAX_FILE_BYTES }
-    ensures { Came (reading (λ cues. concert replay_manner tt cues
+    ensures { Came (reading_outline (λ cues. concert replay_manner tt cues
         (standing_at opening.now.grid opening.now.seed opening.now.limit)) (any_script_of text.now))
         desk.old result desk.new }
 {

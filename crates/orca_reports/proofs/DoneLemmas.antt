@@ -29,8 +29,8 @@ use Rattle.orca_wav.specs.declared.limits.TheConstants.{HEADER_BYTES, MAX_WAVE_B
 use Rattle.orca_wav.specs.Header.{header_bytes}
 use Rattle.orca_wav.specs.Rendering.{Rendering, next_bytes, rendering_of}
 use Rattle.orca_reports.specs.Asides.{mute_lines}
-use Rattle.orca_reports.specs.Songs.{Recording, added, finished, loss, reached_in, recorded, whole_size, with_song}
-use Rattle.orca_reports.specs.Waves.{Wave, frame_course, framed, heard, next_size, wave_file}
+use Rattle.orca_reports.specs.Songs.{SongSoFar, added, song_finished, loss, reached_in, recorded, whole_size, with_song}
+use Rattle.orca_reports.specs.Waves.{Wave, samples_course, framed, heard_message, next_size, wave_file}
 
 -- memory was refused before anything was given
 pub unsaid : {R : Type 0} {at : Option Standing} {hands : Bool} {c : Course R Stop} {r s : R}
@@ -56,7 +56,7 @@ printed label messages result calls =
 
 -- messages were added
 pub recorded_done : {at : Option Standing} {hands : Bool} (tick : ℕ) (messages : List Message)
-    (r : Recording) {x : World} {song : Option Recorded} {end : Option Stop}
+    (r : SongSoFar) {x : World} {song : Option Recorded} {end : Option Stop}
     → song ≡ fold (added tick) r.song messages → end ≡ loss r.song song
     → Does (nowhere at hands) (recorded tick messages r) r x (Ok end) (with_song r song) x
 unfolding recorded
@@ -80,18 +80,18 @@ short_of {file = file} {e = e} {n = n} too_long =
     ]
 
 -- the file was saved
-pub finished_done : {at : Option Standing} {hands : Bool} (s : Recorded) (r : Recording)
+pub finished_done : {at : Option Standing} {hands : Bool} (s : Recorded) (r : SongSoFar)
     {x y : World} {T : Type 0} {done : T} (file : List ℕ) → whole_size s r.end ≤ MAX_TRACK_BYTES
     → file ≡ smf s.tempo s.list (reached_in s r.end) → Called (Ok done) (Save r.out file) x y
-    → Does (nowhere at hands) (finished s r) r x (Ok None) (with_song r None) y
+    → Does (nowhere at hands) (song_finished s r) r x (Ok None) (with_song r None) y
 finished_done s r file short is called =
     rw (le-ltb MAX_TRACK_BYTES (whole_size s r.end) short)
     (does_call (rw is at called) (rests_mute _ _ _ _ tt refl))
 
 -- the track was too long
-pub finished_long : {at : Option Standing} {hands : Bool} (s : Recorded) (r : Recording) {x : World}
+pub finished_long : {at : Option Standing} {hands : Bool} (s : Recorded) (r : SongSoFar) {x : World}
     → MAX_TRACK_BYTES < whole_size s r.end
-    → Does (nowhere at hands) (finished s r) r x (Ok (Some SongTooLong)) (with_song r None) x
+    → Does (nowhere at hands) (song_finished s r) r x (Ok (Some SongTooLong)) (with_song r None) x
 finished_long s r {x = x} long =
     rw (lt-ltb MAX_TRACK_BYTES (whole_size s r.end) long) (does_end SongTooLong x refl)
 
@@ -131,9 +131,9 @@ saved_done w {done = done} {x = x} {y = y} samples given file count is whole cal
 -- a frame was rendered, if there was room
 pub framed_is : (messages : List Message) (w : Wave) (now new : Rendering) (file into : List ℕ)
     → next_size w ≤ MAX_WAVE_BYTES → w.bytes ≡ drop HEADER_BYTES file
-    → HEADER_BYTES ≤ length file → now ≡ fold heard w.rendering messages
+    → HEADER_BYTES ≤ length file → now ≡ fold heard_message w.rendering messages
     → new ≡ rendering_of (now.samples + w.frame) now.voices → into ≡ file ++ next_bytes now w.frame
-    → wave_of w.out w.frame new (drop HEADER_BYTES into) ≡ (frame_course messages w).state
+    → wave_of w.out w.frame new (drop HEADER_BYTES into) ≡ (samples_course messages w).state
 unfolding framed
 framed_is messages w now new file into short bytes room hears later rendered =
     rw (

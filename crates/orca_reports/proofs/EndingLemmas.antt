@@ -8,8 +8,8 @@ use Rattle.orca_course.specs.declared.ending.Stop.{Stop}
 use Rattle.orca_course.specs.declared.ending.Stop.TheVariants.{SongTooLong}
 use Rattle.orca_wav.specs.declared.limits.TheConstants.{MAX_WAVE_BYTES, SAMPLE_BYTES}
 use Rattle.orca_wav.specs.Rendering.{Rendering}
-use Rattle.orca_reports.specs.Songs.{Recording as SongSoFar, recorded as recorded_course, smf_manner}
-use Rattle.orca_reports.specs.Waves.{Wave as WaveSoFar, framed, heard, next_size, wav_manner}
+use Rattle.orca_reports.specs.Songs.{SongSoFar, recorded as recorded_course, smf_manner}
+use Rattle.orca_reports.specs.Waves.{Wave as WaveSoFar, framed, heard_message, next_size, wav_manner}
 
 -- no report of these ends a run
 abbrev pub Never : Stop → Type 0
@@ -47,10 +47,10 @@ WaveRoom n w = SAMPLE_BYTES * (w.rendering.samples + n * w.frame) ≤ MAX_WAVE_B
 
 -- messages add no sample
 fold-samples : (messages : List Message) (s : Rendering)
-    → (fold heard s messages).samples ≡ s.samples
-unfolding heard
+    → (fold heard_message s messages).samples ≡ s.samples
+unfolding heard_message
 fold-samples [] s = refl
-fold-samples (m ∷ messages) s = fold-samples messages (heard s m) ∙ grind arith
+fold-samples (m ∷ messages) s = fold-samples messages (heard_message s m) ∙ grind arith
 
 framed-room : (n : ℕ) (messages : List Message) (w : WaveSoFar)
     → SAMPLE_BYTES * ((w.rendering.samples + w.frame) + n * w.frame) ≤ MAX_WAVE_BYTES

@@ -9,7 +9,7 @@ use Rattle.orca_base.specs.declared.command.Rule.{Rule}
 use Rattle.orca_base.specs.declared.command.Rule.TheVariants.{HistoryFull}
 use Rattle.orca_base.specs.declared.message.Message.{Message}
 use Rattle.orca_base.specs.Grids.{IsSheet}
-use Rattle.orca_concert.specs.Concerts.{Concert, after_cue, command_course, concert, concert_course, cue_course, cues_course, final_course, halt_of, last_course, order_course, saved_course}
+use Rattle.orca_concert.specs.Concerts.{Concert, after_cue, command_course, concert_with, concert_course, cue_course, cues_course, final_course, halt_of, last_course, order_course, saved_course}
 use Rattle.orca_concert.specs.Manners.{Manner}
 use Rattle.orca_course.specs.Acts.{Act}
 use Rattle.orca_course.specs.Acts.Act.{Obey, Screen, Show, Stand}
@@ -28,19 +28,19 @@ use Rattle.orca_edit.proofs.FrameLemmas.{ArePlayed, IsAt, all_of, frame_refused,
 use Rattle.orca_notes.proofs.Chords.{IsChord-nil}
 use Rattle.orca_op.specs.Laws.{IsLawful}
 use Rattle.orca_op.specs.Rules.{rule}
-use Rattle.orca_reports.specs.Runs.{Opened, calls_in, frames_run, session_of}
+use Rattle.orca_reports.specs.Runs.{Opened, outside_calls, frames_run, opened_session}
 
 -- ---- an opened grid
 
-opened_at : (o : Opened) → IsAt 0 (session_of o)
+opened_at : (o : Opened) → IsAt 0 (opened_session o)
 unfolding piece_after
 opened_at o = record { at = refl; closed = omega arith }
 
 pub run_plays : IsLawful rule → (n : ℕ) (o : Opened) → IsSheet o.sheet → n ≤ o.limit
-    → ArePlayed [] (all_of n (session_of o))
+    → ArePlayed [] (all_of n (opened_session o))
 unfolding piece_after
 run_plays lawful n o sheet few =
-    frames_play lawful n 0 (session_of o) (opened_at o) (omega arith)
+    frames_play lawful n 0 (opened_session o) (opened_at o) (omega arith)
     (record { sheet = sheet; chord = IsChord-nil })
 
 -- ---- a whole run
@@ -49,7 +49,7 @@ run_plays lawful n o sheet few =
 pub record Records {R : Type 0} (m : Manner R) : Type 0 where
   pub hands : m.hands ≡ false
   pub calls : (line tick : ℕ) (messages : List Message) (r : R)
-      → calls_in (m.done line (Ok (Framed tick)) messages r).acts ≡ []
+      → outside_calls (m.done line (Ok (Framed tick)) messages r).acts ≡ []
   pub full : (line : ℕ) (messages : List Message) (r : R)
       → (m.done line (Err HistoryFull) messages r).ending ≢ None
 
@@ -61,7 +61,7 @@ Goes m tick (messages ∷ frames) r s =
     (c.ending ≡ None) × Goes m (tick + 1) frames c.state s
 
 -- acts without a call, and then others
-no_calls : (xs ys : List Act) → calls_in xs ≡ [] → calls_in (xs ++ ys) ≡ calls_in ys
+no_calls : (xs ys : List Act) → outside_calls xs ≡ [] → outside_calls (xs ++ ys) ≡ outside_calls ys
 no_calls [] ys none = refl
 no_calls (Obey command ∷ xs) ys none = no_calls xs ys none
 no_calls (Stand s ∷ xs) ys none = no_calls xs ys none
@@ -88,7 +88,7 @@ pub record HasRun {R : Type 0} (m : Manner R) (tick n : ℕ) (s : Concert R) (ac
   pub kept : Goes m tick (frames_of n s.standing.machine) s.kept stands.kept
   pub room : n ≤ s.standing.machine.limit - length s.standing.machine.history
   pub goes : (last_course m None stands).ending ≡ None
-  pub calls : calls_in acts ≡ calls_in (last_course m None stands).acts
+  pub calls : outside_calls acts ≡ outside_calls (last_course m None stands).acts
 
 -- a run of so many frames
 abbrev run_of : {R : Type 0} → Manner R → ℕ → Concert R → Course (Concert R) Stop
@@ -144,10 +144,10 @@ frames_went m records tick (suc n) s ready goes =
 
 pub frames_ran : {R : Type 0} (m : Manner R) → Records m → (r : R) (n : ℕ) (o : Opened)
     (kept : Kept) (tally : Tally) → (frames_run m r n o kept tally).ending ≡ None
-    → HasRun m 0 n (concert (standing (session_of o) kept tally) r)
+    → HasRun m 0 n (concert_with (standing (opened_session o) kept tally) r)
     (frames_run m r n o kept tally).acts
 unfolding concert_course cues_course
 frames_ran m records r n o kept tally goes =
-    let s = concert (standing (session_of o) kept tally) r in
+    let s = concert_with (standing (opened_session o) kept tally) r in
     let one = each-one (cue_course m) (record { line = 0; times = n; order = Do command.Frame }) s in
     rw one (frames_went m records 0 n s (opened_at o) (rw one at goes))

@@ -25,10 +25,10 @@ use Rattle.orca_notes.specs.Sound.{ends}
 use Rattle.orca_smf.specs.declared.limits.TheConstants.{MAX_DELTA, MAX_TRACK_BYTES}
 use Rattle.orca_smf.specs.declared.timed.Timed.{Timed}
 use Rattle.orca_smf.specs.Recording.{Recorded}
-use Rattle.orca_smf.specs.Songs.{AreMessages, IsVoice, Tune, delta, end_event, file_of, last_tick, opening, track}
-use Rattle.orca_reports.specs.Runs.{Opened, calls_in, session_of}
+use Rattle.orca_smf.specs.Songs.{AreMessages, IsSongMessage, Tune, delta, end_event, file_of, last_tick, track_opening, track_bytes}
+use Rattle.orca_reports.specs.Runs.{Opened, outside_calls, opened_session}
 use Rattle.orca_reports.specs.SavedSongs.{SongIsSaved, SongIsTune, song_of, song_run, timed_frames}
-use Rattle.orca_reports.specs.Songs.{Recording, added, added_by, if_short, least_size, reached, reached_in, recorded, recording_at_start, smf_manner, whole_size, with_message}
+use Rattle.orca_reports.specs.Songs.{SongSoFar, added, added_by, if_short, least_size, reached, reached_in, recorded, recording_at_start, smf_manner, whole_size, with_message}
 use Rattle.orca_reports.specs.Ticks.{TicksAreKept, timed_by, timed_of, with_messages}
 use Rattle.orca_reports.proofs.FrameLemmas.{Goes, Records, frames_ran, run_plays}
 
@@ -85,11 +85,11 @@ end_size : (tick : ℕ) → length (end_event tick tick) ≡ 4
 unfolding delta
 end_size tick = let none : tick - tick ≡ 0 = omega arith in rw none
 
-least_is : (s : Recorded) → least_size s ≡ length (opening s.tempo s.list) + 4
+least_is : (s : Recorded) → least_size s ≡ length (track_opening s.tempo s.list) + 4
 least_is s =
     let tick = last_tick 0 s.list in
-    length-append (opening s.tempo s.list) (end_event tick tick)
-    ∙ ap (λ n. length (opening s.tempo s.list) + n) (end_size tick)
+    length-append (track_opening s.tempo s.list) (end_event tick tick)
+    ∙ ap (λ n. length (track_opening s.tempo s.list) + n) (end_size tick)
 
 -- a song with the message at the tick that is reached
 abbrev pushed : Recorded → ℕ → List ℕ → Recorded
@@ -97,7 +97,7 @@ pushed s tick bytes = with_messages s (timed_by tick (Some bytes))
 
 pub too_long : {P : Type 0} (s : Recorded) (last tick now : ℕ) (bytes : List ℕ)
     → now ≡ reached last tick → last ≡ last_tick 0 s.list
-    → (P ↔ (MAX_TRACK_BYTES < length (opening s.tempo (pushed s now bytes).list) + 4))
+    → (P ↔ (MAX_TRACK_BYTES < length (track_opening s.tempo (pushed s now bytes).list) + 4))
     → P ↔ (MAX_TRACK_BYTES < least_size (with_message s tick bytes))
 too_long s last tick now bytes is same iff =
     rw (is, same) at (rw (← least_is (pushed s now bytes)) at iff)
@@ -112,11 +112,11 @@ smf_records = record {
   full = λ line messages r is. absurd cc;
 }
 
-abbrev recording : List ℕ → ℕ → Recorded → Recording
+abbrev recording : List ℕ → ℕ → Recorded → SongSoFar
 recording out end s = record { out = out; end = end; song = Some s }
 
 frames_kept : (out : List ℕ) (end tick : ℕ) (frames : List (List Message)) (u : Recorded)
-    (s : Recording) → last_tick 0 u.list ≤ tick → tick + length frames ≤ MAX_DELTA
+    (s : SongSoFar) → last_tick 0 u.list ≤ tick → tick + length frames ≤ MAX_DELTA
     → Goes smf_manner tick frames (recording out end u) s
     → let v = with_messages u (timed_frames tick frames) in
     (s ≡ recording out end v) × (last_tick 0 v.list ≤ tick + length frames)
@@ -138,15 +138,15 @@ frames_kept out end tick (messages ∷ frames) u s low high goes =
 record Saves (out : List ℕ) (t : Tune) (calls : List Act) : Type 0 where
   saved : calls ≡ Save out (file_of t) ∷ []
   later : last_tick 0 t.list ≤ t.end
-  short : length (track t.tempo t.list t.end) ≤ MAX_TRACK_BYTES
+  short : length (track_bytes t.tempo t.list t.end) ≤ MAX_TRACK_BYTES
 
-song_finishes : (out : List ℕ) (end : ℕ) (u : Recorded) (s : Concert Recording)
+song_finishes : (out : List ℕ) (end : ℕ) (u : Recorded) (s : Concert SongSoFar)
     (messages : List Message) → ends (notes_of s.standing) ≡ messages
     → s.kept ≡ recording out end u → last_tick 0 u.list ≤ end → end ≤ MAX_DELTA
     → (last_course smf_manner None s).ending ≡ None
     → let list = u.list ++ timed_of end messages in
     Saves out (record { tempo = u.tempo; list = list; end = end })
-    (calls_in (last_course smf_manner None s).acts)
+    (outside_calls (last_course smf_manner None s).acts)
 unfolding last_course final_course close_course saved_course recorded afterwards keeping onward mapped
 song_finishes out end u s messages close kept low high goes =
     let v = with_messages u (timed_of end messages) in
@@ -170,9 +170,9 @@ song_is_saved : (out : List ℕ) (bpm frames : ℕ) (o : Opened) (kept : Kept) (
     → o.limit ≤ MAX_HISTORY
     → let c = song_run out bpm frames o kept tally in
     c.ending ≡ None
-    → (frames ≤ o.limit) × Saves out (song_of bpm frames (session_of o)) (calls_in c.acts)
+    → (frames ≤ o.limit) × Saves out (song_of bpm frames (opened_session o)) (outside_calls c.acts)
 song_is_saved out bpm frames o kept tally most goes =
-    let m = session_of o in
+    let m = opened_session o in
     let list = frames_of frames m in
     let count = frames_count frames m in
     let u : Recorded = record { tempo = MINUTE_MICROSECONDS / bpm; list = [] } in
@@ -195,7 +195,7 @@ songs_are_saved = λ out bpm frames o kept tally most goes.
 -- ---- what can be read
 
 -- the bytes of a message in range
-is_voice : (m : Message) → HasDataInRange m → IfSome (midi_bytes_of m) IsVoice
+is_voice : (m : Message) → HasDataInRange m → IfSome (midi_bytes_of m) IsSongMessage
 is_voice m range = grind arith
 
 -- messages at a tick, and then others
@@ -206,7 +206,7 @@ follow : (tick : ℕ) (messages : List Message) (more : List Timed) (before : �
 follow tick [] more before low few all rest = rest before low
 follow tick (m ∷ messages) more before low few all rest =
     elim (midi_bytes_of m) as
-    (λ bytes. IfSome bytes IsVoice
+    (λ bytes. IfSome bytes IsSongMessage
     → AreMessages before ((timed_by tick bytes ++ timed_of tick messages) ++ more)) [
       | None ↦ λ _. follow tick messages more before low few all.1 rest
       | Some bytes ↦ λ voice. (
@@ -233,7 +233,7 @@ all_follow tick end (messages ∷ frames) close notes before count few all low =
 
 pub songs_are_tunes : SongIsTune
 songs_are_tunes = λ lawful out bpm frames o kept tally sheet slow most goes.
-    let m = session_of o in
+    let m = opened_session o in
     let saved = song_is_saved out bpm frames o kept tally most goes in
     let few : frames ≤ MAX_DELTA = omega (arith, saved.0, most) in
     record {

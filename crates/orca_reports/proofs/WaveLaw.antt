@@ -14,18 +14,18 @@ use Rattle.orca_concert.specs.Concerts.{close_course, final_course, last_course,
 use Rattle.orca_course.specs.Courses.{afterwards, keeping, mapped, onward}
 use Rattle.orca_edit.specs.Frames.{frames_of}
 use Rattle.orca_edit.proofs.FrameLemmas.{ArePlayed, frames_count}
-use Rattle.orca_notes.specs.Device.{Ends, IsFair, Leads, Neither, Starts, Suits, Turn, device, is_on as is_key_on, is_same, keys_after, keys_without, midi, turn_of, voices}
+use Rattle.orca_notes.specs.Device.{Ends, IsFair, Leads, Neither, Starts, Suits, KeyEffect, device, is_on as is_key_on, is_same, keys_after, keys_without, midi_messages, effect_of, voices}
 use Rattle.orca_notes.specs.Device as notes
 use Rattle.orca_notes.proofs.Voices.{keys_without-absent, same_voices}
 use Rattle.orca_wav.specs.declared.voice.Voice.{Voice}
-use Rattle.orca_wav.specs.Rendering.{Rendering, Renders, is_of, is_on, rendering_after}
+use Rattle.orca_wav.specs.Rendering.{Rendering, Renders, is_of, is_voice_on, rendering_after}
 use Rattle.orca_wav.specs.Waves.{TimedMessage, voices_of}
 use Rattle.orca_wav.proofs.Messages.{voices-after}
 use Rattle.orca_wav.proofs.Runs.{Renders-message, Renders-none, Renders-samples}
-use Rattle.orca_reports.specs.Runs.{session_of}
+use Rattle.orca_reports.specs.Runs.{opened_session}
 use Rattle.orca_reports.specs.SavedWaves.{WaveIsSaved}
-use Rattle.orca_reports.specs.Sounding.{AreFair, FramesSound, SoundsAs, played, timed_at, timed_from}
-use Rattle.orca_reports.specs.Waves.{Wave, frame_course, framed, heard, suits, wav_manner, wave_at_start, wave_file}
+use Rattle.orca_reports.specs.Sounding.{AreFair, FramesSound, SoundsAs, wave_played, timed_at, timed_from}
+use Rattle.orca_reports.specs.Waves.{Wave, samples_course, framed, heard_message, suits, wav_manner, wave_at_start, wave_file}
 use Rattle.orca_reports.proofs.FrameLemmas.{Goes, Records, frames_ran, run_plays}
 
 -- ---- the sound of frames
@@ -46,25 +46,25 @@ record IsAt (before later : List TimedMessage) (n : ℕ) (s : Rendering) (bytes 
 
 hears : (before later : List TimedMessage) (n : ℕ) (messages : List Message) (s : Rendering)
     (bytes : List ℕ) → IsAt before (timed_at n messages ++ later) n s bytes
-    → IsAt (before ++ timed_at n messages) later n (fold heard s messages) bytes
-unfolding heard
+    → IsAt (before ++ timed_at n messages) later n (fold heard_message s messages) bytes
+unfolding heard_message
 hears before later n [] s bytes at = rw append-nil at
 hears before later n (m ∷ messages) s bytes at =
-    let is : heard s m ≡ rendering_after s m =
+    let is : heard_message s m ≡ rendering_after s m =
     cond-true (suits s.voices m) (rendering_after s m) s (rw at.renders.voices at.fair.0) in
-    let same : (heard s m).samples ≡ s.samples = rw is (same_samples s m) in
+    let same : (heard_message s m).samples ≡ s.samples = rw is (same_samples s m) in
     rw (← append_assoc before (timed n m ∷ []) (timed_at n messages))
-    (hears (before ++ timed n m ∷ []) later n messages (heard s m) bytes (record {
+    (hears (before ++ timed n m ∷ []) later n messages (heard_message s m) bytes (record {
       fair = at.fair.1;
       renders = rw (← at.samples)
-          (Renders-message before s (heard s m) m bytes is same at.renders);
+          (Renders-message before s (heard_message s m) m bytes is same at.renders);
       samples = same ∙ at.samples;
     }))
 
 frames_from : (before : List TimedMessage) (n count : ℕ) (w : Wave) (frames : List (List Message))
     → n + w.frame * length frames ≡ count
     → IsAt before (timed_from w.frame n frames) n w.rendering w.bytes
-    → SoundsAs (before ++ timed_from w.frame n frames) count (played w frames)
+    → SoundsAs (before ++ timed_from w.frame n frames) count (wave_played w frames)
 unfolding framed
 frames_from before n count w [] is at =
     let same : count ≡ n = omega (arith, is) in
@@ -78,7 +78,7 @@ frames_from before n count w (messages ∷ frames) is at =
     (frames_from (before ++ timed_at n messages) (n + w.frame) count v frames (omega (arith, is))
     (record {
       fair = all.fair;
-      renders = Renders-samples (before ++ timed_at n messages) (fold heard w.rendering messages)
+      renders = Renders-samples (before ++ timed_at n messages) (fold heard_message w.rendering messages)
           v.rendering w.frame w.bytes refl all.renders;
       samples = ap (λ k. k + w.frame) all.samples;
     }))
@@ -106,7 +106,7 @@ turned : (channel number : ℕ) (v : Voice)
 turned channel number v = same_voices.symm (key_of v) (key channel number)
 
 on_is : (channel number : ℕ) (voices : List Voice)
-    → is_on voices channel number ≡ is_key_on (keys_of voices) (key channel number)
+    → is_voice_on voices channel number ≡ is_key_on (keys_of voices) (key channel number)
 on_is channel number [] = refl
 on_is channel number (v ∷ voices) = cc (turned channel number v, on_is channel number voices)
 
@@ -124,14 +124,14 @@ without_is channel number (v ∷ voices) =
 -- ---- the messages of frames are fair
 
 -- what a message does to a device
-abbrev turn_by : Message → Turn
+abbrev turn_by : Message → KeyEffect
 turn_by (message.On channel number velocity) = Starts (key channel number)
 turn_by (message.Off channel number) = Ends (key channel number)
 turn_by _ = Neither
 
-abbrev turn_if : Option (List ℕ) → Turn
+abbrev turn_if : Option (List ℕ) → KeyEffect
 turn_if None = Neither
-turn_if (Some bytes) = turn_of bytes
+turn_if (Some bytes) = effect_of bytes
 
 turn_is : (m : Message) → IsSendable m → turn_if (midi_bytes_of m) ≡ turn_by m
 turn_is m sendable = grind arith
@@ -169,12 +169,12 @@ FairAfter on later =
 
 follow : (n : ℕ) (messages : List Message) (before later : List TimedMessage)
     (after : List notes.Voice) → AllByRecursion IsSendable messages
-    → Leads (keys_of (voices_of before)) (midi messages) after → FairAfter after later
+    → Leads (keys_of (voices_of before)) (midi_messages messages) after → FairAfter after later
     → AreFair before (timed_at n messages ++ later)
-unfolding midi device
+unfolding midi_messages device
 follow n [] before later after all leads fair = fair before leads.device
 follow n (m ∷ messages) before later after all leads fair =
-    let taken = rw (turn_is m all.0) at (took (midi_bytes_of m) (midi messages) _ after leads) in
+    let taken = rw (turn_is m all.0) at (took (midi_bytes_of m) (midi_messages messages) _ after leads) in
     let did = one_fair before n m taken.0 in
     (did.0, follow n messages (before ++ timed n m ∷ []) later after all.1 (rw did.1 taken.1) fair)
 
@@ -198,19 +198,19 @@ wav_records = record {
 }
 
 -- a frame after which the run goes on was rendered
-goes_on : (messages : List Message) (w : Wave) → (frame_course messages w).ending ≡ None
-    → (frame_course messages w).state ≡ framed messages w
+goes_on : (messages : List Message) (w : Wave) → (samples_course messages w).ending ≡ None
+    → (samples_course messages w).state ≡ framed messages w
 goes_on messages w goes = grind arith
 
 frames_played : (tick : ℕ) (frames : List (List Message)) (w v : Wave)
-    → Goes wav_manner tick frames w v → v ≡ played w frames
+    → Goes wav_manner tick frames w v → v ≡ wave_played w frames
 frames_played tick [] w v goes = goes
 frames_played tick (messages ∷ frames) w v goes =
     frames_played (tick + 1) frames (framed messages w) v
     (rw (goes_on messages w goes.0) at goes.1)
 
 -- the name of the file stays
-played_out : (frames : List (List Message)) (w : Wave) → (played w frames).out ≡ w.out
+played_out : (frames : List (List Message)) (w : Wave) → (wave_played w frames).out ≡ w.out
 unfolding framed
 played_out [] w = refl
 played_out (messages ∷ frames) w = played_out frames (framed messages w)
@@ -219,7 +219,7 @@ pub waves_are_saved : WaveIsSaved
 unfolding last_course final_course close_course saved_course afterwards keeping onward mapped wave_file
 waves_are_saved = λ lawful out bpm frames o kept tally sheet goes.
     let w = wave_at_start out bpm in
-    let list = frames_of frames (session_of o) in
+    let list = frames_of frames (opened_session o) in
     let ran = frames_ran wav_manner wav_records w frames o kept tally goes in
     let plays = run_plays lawful frames o sheet (omega (arith, ran.room)) in
     let sounds = frames_sound out bpm list (frames_follow w.frame 0 list _ [] plays [] refl) in
@@ -229,5 +229,5 @@ waves_are_saved = λ lawful out bpm frames o kept tally sheet goes.
       played_out list w,
       sounds.bytes,
       sounds.samples,
-      frames_count frames (session_of o),
+      frames_count frames (opened_session o),
     )

@@ -14,7 +14,7 @@ use Rattle.orca_reports.specs.Manners.{run_manner, events_manner, replay_manner,
 use Rattle.orca_smf.specs.declared.limits.TheConstants.{MAX_TRACK_BYTES}
 use Rattle.orca_smf.specs.Recording.{Recorded}
 use Rattle.orca_smf.specs.Songs.{smf}
-use Rattle.orca_reports.specs.Songs.{Recording, reached_in, recorded, saved_by, smf_manner, smf_report, whole_size, with_song}
+use Rattle.orca_reports.specs.Songs.{SongSoFar, reached_in, recorded, saved_by, smf_manner, smf_report, whole_size, with_song}
 use Rattle.orca_wav.specs.declared.limits.TheConstants.{MAX_WAVE_BYTES}
 use Rattle.orca_reports.specs.Waves.{Wave, framed, next_size, wav_manner, wav_report}
 use Rattle.orca_reports.specs.Asides.{aside_ended, aside_lines, aside_still, aside_text}
@@ -85,22 +85,22 @@ quiet-make = record {
 }
 
 -- a recording does nothing but a save at the end
-aside_finished : (s : Recorded) (r : Recording) (long : Bool)
+aside_finished : (s : Recorded) (r : SongSoFar) (long : Bool)
     → IsAside (if long then ended SongTooLong (with_song r None)
     else course (Save r.out (smf s.tempo s.list (reached_in s r.end)) ∷ []) 0 (with_song r None))
 aside_finished s r true = aside_ended SongTooLong (with_song r None)
 aside_finished s r false = record { mute = tt; deaf = tt }
 
-aside_saved : (song : Option Recorded) (r : Recording) → IsAside (saved_by song r)
+aside_saved : (song : Option Recorded) (r : SongSoFar) → IsAside (saved_by song r)
 aside_saved None r = aside_still r
 aside_saved (Some s) r = aside_finished s r (nat_lt MAX_TRACK_BYTES (whole_size s r.end))
 
-aside_recorded : (tick : ℕ) (messages : List Message) (r : Recording)
+aside_recorded : (tick : ℕ) (messages : List Message) (r : SongSoFar)
     → IsAside (recorded tick messages r)
 unfolding recorded
 aside_recorded tick messages r = record { mute = tt; deaf = tt }
 
-aside_smf : (answer : Result Reply Rule) (messages : List Message) (r : Recording)
+aside_smf : (answer : Result Reply Rule) (messages : List Message) (r : SongSoFar)
     → IsAside (smf_report answer messages r)
 aside_smf (Ok (Framed tick)) messages r = aside_recorded tick messages r
 aside_smf (Ok Edited) messages r = aside_still r

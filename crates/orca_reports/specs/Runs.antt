@@ -1,7 +1,7 @@
 -- A run of frames, from an opened grid to its end, and the calls of it.
 use Rattle.std.specs.Prelude.{ℕ, List, [], ◌∷◌}
 use Rattle.orca_base.specs.Grids.{Sheet}
-use Rattle.orca_concert.specs.Concerts.{Concert, concert, concert_course}
+use Rattle.orca_concert.specs.Concerts.{Concert, concert_with, concert_course}
 use Rattle.orca_concert.specs.Manners.{Manner}
 use Rattle.orca_course.specs.Acts.{Act}
 use Rattle.orca_course.specs.Acts.Act.{Obey, Screen, Show, Stand}
@@ -20,20 +20,20 @@ pub record Opened : Type 0 where
   pub limit : ℕ
 
 -- the session that opens it
-abbrev pub session_of : Opened → MachineState
-session_of o = machine_at_start o.sheet o.seed o.limit
+abbrev pub opened_session : Opened → MachineState
+opened_session o = machine_at_start o.sheet o.seed o.limit
 
 -- so many frames of it, by what a report does
 abbrev pub frames_run : {R : Type 0} → Manner R → R → ℕ → Opened → Kept → Tally
     → Course (Concert R) Stop
 frames_run m r frames o kept tally =
-    concert_course m (frames_cue frames) (concert (standing (session_of o) kept tally) r)
+    concert_course m (frames_cue frames) (concert_with (standing (opened_session o) kept tally) r)
 
 -- the calls among acts, without the marks between them
-abbrev pub calls_in : List Act → List Act
-calls_in [] = []
-calls_in (Obey command ∷ acts) = calls_in acts
-calls_in (Stand s ∷ acts) = calls_in acts
-calls_in (Show cells ∷ acts) = calls_in acts
-calls_in (Screen d ∷ acts) = calls_in acts
-calls_in (act ∷ acts) = act ∷ calls_in acts
+abbrev pub outside_calls : List Act → List Act
+outside_calls [] = []
+outside_calls (Obey command ∷ acts) = outside_calls acts
+outside_calls (Stand s ∷ acts) = outside_calls acts
+outside_calls (Show cells ∷ acts) = outside_calls acts
+outside_calls (Screen d ∷ acts) = outside_calls acts
+outside_calls (act ∷ acts) = act ∷ outside_calls acts

@@ -15,8 +15,8 @@ use Rattle.orca_op.specs.Laws.{IsLawful}
 use Rattle.orca_op.specs.Rules.{rule}
 use Rattle.orca_smf.specs.declared.timed.Timed.{Timed}
 use Rattle.orca_smf.specs.Songs.{IsTune, Tune, file_of}
-use Rattle.orca_reports.specs.Runs.{Opened, calls_in, frames_run, session_of}
-use Rattle.orca_reports.specs.Songs.{Recording, recording_at_start, smf_manner}
+use Rattle.orca_reports.specs.Runs.{Opened, outside_calls, frames_run, opened_session}
+use Rattle.orca_reports.specs.Songs.{SongSoFar, recording_at_start, smf_manner}
 use Rattle.orca_reports.specs.Ticks.{timed_of}
 
 -- the MIDI messages of frames with their ticks, the first frame being that of a tick
@@ -34,7 +34,7 @@ song_of bpm frames m = record {
 }
 
 -- so many frames of an opened grid, recorded as a song
-abbrev pub song_run : List ℕ → ℕ → ℕ → Opened → Kept → Tally → Course (Concert Recording) Stop
+abbrev pub song_run : List ℕ → ℕ → ℕ → Opened → Kept → Tally → Course (Concert SongSoFar) Stop
 song_run out bpm frames o kept tally =
     frames_run smf_manner (recording_at_start out bpm frames) frames o kept tally
 
@@ -45,7 +45,7 @@ SongIsSaved =
     → o.limit ≤ MAX_HISTORY
     → let c = song_run out bpm frames o kept tally in
     c.ending ≡ None
-    → calls_in c.acts ≡ Save out (file_of (song_of bpm frames (session_of o))) ∷ []
+    → outside_calls c.acts ≡ Save out (file_of (song_of bpm frames (opened_session o))) ∷ []
 
 -- and this is a song, so its file can be read, and gives exactly it
 abbrev pub SongIsTune : Type 0
@@ -53,4 +53,4 @@ SongIsTune =
     IsLawful rule → (out : List ℕ) (bpm frames : ℕ) (o : Opened) (kept : Kept) (tally : Tally)
     → IsSheet o.sheet → 4 ≤ bpm → o.limit ≤ MAX_HISTORY
     → let c = song_run out bpm frames o kept tally in
-    c.ending ≡ None → IsTune (song_of bpm frames (session_of o))
+    c.ending ≡ None → IsTune (song_of bpm frames (opened_session o))

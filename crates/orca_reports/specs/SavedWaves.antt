@@ -14,7 +14,7 @@ use Rattle.orca_op.specs.Rules.{rule}
 use Rattle.orca_wav.specs.declared.limits.TheConstants.{SAMPLE_BYTES}
 use Rattle.orca_wav.specs.Header.{header_bytes}
 use Rattle.orca_wav.specs.Waves.{run_bytes}
-use Rattle.orca_reports.specs.Runs.{Opened, calls_in, frames_run, session_of}
+use Rattle.orca_reports.specs.Runs.{Opened, outside_calls, frames_run, opened_session}
 use Rattle.orca_reports.specs.Sounding.{timed_from}
 use Rattle.orca_reports.specs.Waves.{Wave, frame_samples, wav_manner, wave_at_start}
 
@@ -37,4 +37,4 @@ WaveIsSaved =
     IsLawful rule → (out : List ℕ) (bpm frames : ℕ) (o : Opened) (kept : Kept) (tally : Tally)
     → IsSheet o.sheet
     → let c = wave_run out bpm frames o kept tally in
-    c.ending ≡ None → calls_in c.acts ≡ Save out (wave_of bpm frames (session_of o)) ∷ []
+    c.ending ≡ None → outside_calls c.acts ≡ Save out (wave_of bpm frames (opened_session o)) ∷ []

@@ -15,19 +15,19 @@ use Rattle.orca_course.specs.declared.ending.Stop.TheVariants.{Full, SongTooLong
 use Rattle.orca_smf.specs.declared.limits.TheConstants.{MAX_DELTA, MAX_TRACK_BYTES}
 use Rattle.orca_smf.specs.declared.timed.Timed.{Timed}
 use Rattle.orca_smf.specs.Recording.{Recorded}
-use Rattle.orca_smf.specs.Songs.{last_tick, smf, track}
+use Rattle.orca_smf.specs.Songs.{last_tick, smf, track_bytes}
 
 -- the name of the file, the tick of the end, and the song so far, until it is given up or saved
-pub record Recording : Type 0 where
+pub record SongSoFar : Type 0 where
   pub out : List ℕ
   pub end : ℕ
   pub song : Option Recorded
 
-abbrev pub with_song : Recording → Option Recorded → Recording
+abbrev pub with_song : SongSoFar → Option Recorded → SongSoFar
 with_song r song = record r { song = song }
 
 -- so many beats a minute, so many frames, and no message
-abbrev pub recording_at_start : List ℕ → ℕ → ℕ → Recording
+abbrev pub recording_at_start : List ℕ → ℕ → ℕ → SongSoFar
 recording_at_start out bpm frames = record {
   out = out;
   end = frames;
@@ -51,10 +51,10 @@ with_message s tick bytes =
 
 -- the bytes of its track with an end, and with the shortest one, at the tick of its last message
 abbrev pub whole_size : Recorded → ℕ → ℕ
-whole_size s end = length (track s.tempo s.list (reached_in s end))
+whole_size s end = length (track_bytes s.tempo s.list (reached_in s end))
 
 abbrev pub least_size : Recorded → ℕ
-least_size s = length (track s.tempo s.list (last_tick 0 s.list))
+least_size s = length (track_bytes s.tempo s.list (last_tick 0 s.list))
 
 -- a song with the message: none if its track is too long
 abbrev pub if_short : Recorded → Option Recorded
@@ -79,30 +79,30 @@ loss (Some before) None = Some SongTooLong
 loss _ _ = None
 
 -- the messages of a tick are added, in order
-unfoldable pub recorded : ℕ → List Message → Recording → Course Recording Stop
+unfoldable pub recorded : ℕ → List Message → SongSoFar → Course SongSoFar Stop
 recorded tick messages r =
     let song = fold (added tick) r.song messages in
     record { acts = []; bill = 0; state = with_song r song; ending = loss r.song song }
 
 -- the messages of a frame are added; a full history ends the run, and gives the song up
-abbrev pub smf_report : Result Reply Rule → List Message → Recording → Course Recording Stop
+abbrev pub smf_report : Result Reply Rule → List Message → SongSoFar → Course SongSoFar Stop
 smf_report (Ok (Framed tick)) messages r = recorded tick messages r
 smf_report (Err HistoryFull) messages r = ended Full (with_song r None)
 smf_report answer messages r = still r
 
 -- the song is finished and saved; none is saved if its track is too long
-abbrev pub finished : Recorded → Recording → Course Recording Stop
-finished s r =
+abbrev pub song_finished : Recorded → SongSoFar → Course SongSoFar Stop
+song_finished s r =
     if nat_lt MAX_TRACK_BYTES (whole_size s r.end) then ended SongTooLong (with_song r None)
     else
     course (Save r.out (smf s.tempo s.list (reached_in s r.end)) ∷ []) 0 (with_song r None)
 
-abbrev pub saved_by : Option Recorded → Recording → Course Recording Stop
+abbrev pub saved_by : Option Recorded → SongSoFar → Course SongSoFar Stop
 saved_by None r = still r
-saved_by (Some s) r = finished s r
+saved_by (Some s) r = song_finished s r
 
 -- `smf` hands nothing out and prints nothing. The messages of the close have the tick of the end
-abbrev pub smf_manner : Manner Recording
+abbrev pub smf_manner : Manner SongSoFar
 smf_manner = record {
   hands = false;
   done = λ line answer messages r. smf_report answer messages r;

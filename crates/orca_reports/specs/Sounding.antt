@@ -21,8 +21,8 @@ AreFair before (m ∷ later) =
     (suits (voices_of before) m.message ≡ true) × AreFair (before ++ m ∷ []) later
 
 -- a wave after frames
-abbrev pub played : Wave → List (List Message) → Wave
-played w frames = fold (λ w messages. framed messages w) w frames
+abbrev pub wave_played : Wave → List (List Message) → Wave
+wave_played w frames = fold (λ w messages. framed messages w) w frames
 
 -- the samples of fair frames are those of a run with their messages
 pub record SoundsAs (messages : List TimedMessage) (count : ℕ) (w : Wave) : Type 0 where
@@ -34,4 +34,4 @@ FramesSound =
     (out : List ℕ) (bpm : ℕ) (frames : List (List Message))
     → let w = wave_at_start out bpm in
     let messages = timed_from w.frame 0 frames in
-    AreFair [] messages → SoundsAs messages (w.frame * length frames) (played w frames)
+    AreFair [] messages → SoundsAs messages (w.frame * length frames) (wave_played w frames)

@@ -14,7 +14,7 @@ use Rattle.orca_course.specs.declared.ending.Stop.TheVariants.{Full, WaveTooLong
 use Rattle.orca_wav.specs.declared.limits.TheConstants.{MAX_WAVE_BYTES, SAMPLE_BYTES, SLOWEST_FRAME_SAMPLES}
 use Rattle.orca_wav.specs.declared.voice.Voice.{Voice}
 use Rattle.orca_wav.specs.Header.{header_bytes}
-use Rattle.orca_wav.specs.Rendering.{Rendering, is_on, next_bytes, rendering_after, rendering_of}
+use Rattle.orca_wav.specs.Rendering.{Rendering, is_voice_on, next_bytes, rendering_after, rendering_of}
 
 -- the name of the file, the samples of a frame, how many samples there are so far with the voices,
 -- and the bytes of these samples
@@ -38,13 +38,13 @@ wave_at_start out bpm = record {
 
 -- a message suits the voices: it starts none that is there, and ends none that is not
 abbrev pub suits : List Voice → Message → Bool
-suits voices (message.On channel key velocity) = not (is_on voices channel key)
-suits voices (message.Off channel key) = is_on voices channel key
+suits voices (message.On channel key velocity) = not (is_voice_on voices channel key)
+suits voices (message.Off channel key) = is_voice_on voices channel key
 suits voices _ = true
 
 -- after a message; one that does not suit the voices is left out, and those of a run suit them
-unfoldable pub heard : Rendering → Message → Rendering
-heard s m = if suits s.voices m then rendering_after s m else s
+unfoldable pub heard_message : Rendering → Message → Rendering
+heard_message s m = if suits s.voices m then rendering_after s m else s
 
 -- with the samples of a frame more
 abbrev pub sounded : Rendering → Wave → Wave
@@ -57,7 +57,7 @@ sounded s w = record {
 
 -- after a frame: its messages are taken first, and then its samples follow
 unfoldable pub framed : List Message → Wave → Wave
-framed messages w = sounded (fold heard w.rendering messages) w
+framed messages w = sounded (fold heard_message w.rendering messages) w
 
 -- the bytes of the samples, and of those with a frame more
 abbrev pub wave_size : Wave → ℕ
@@ -67,13 +67,13 @@ abbrev pub next_size : Wave → ℕ
 next_size w = SAMPLE_BYTES * (w.rendering.samples + w.frame)
 
 -- a frame ends the run if its samples are too many
-abbrev pub frame_course : List Message → Wave → Course Wave Stop
-frame_course messages w =
+abbrev pub samples_course : List Message → Wave → Course Wave Stop
+samples_course messages w =
     if nat_lt MAX_WAVE_BYTES (next_size w) then ended WaveTooLong w else still (framed messages w)
 
 -- a full history ends the run
 abbrev pub wav_report : Result Reply Rule → List Message → Wave → Course Wave Stop
-wav_report (Ok (Framed tick)) messages w = frame_course messages w
+wav_report (Ok (Framed tick)) messages w = samples_course messages w
 wav_report (Err HistoryFull) messages w = ended Full w
 wav_report answer messages w = still w
 

@@ -1,6 +1,6 @@
 use crate::going::goes;
 use orca_base::{Message, Reply, Rule};
-use orca_concert::{Report, Turn, print_messages};
+use orca_concert::{Outcome, Report, print_messages};
 use orca_course::{Desk, NoMemory, Stop, Tally};
 use orca_edit::Machine;
 use orca_rig::House;
@@ -44,11 +44,11 @@ impl Report for EventsReport {
     fn done<H: House>(
         &mut self,
         desk: &mut Desk<H>,
-        turn: &Turn<'_>,
+        outcome: &Outcome<'_>,
     ) -> Result<Option<Stop>, NoMemory> {
-        match turn.answer {
+        match outcome.answer {
             Ok(Reply::Framed { tick }) => {
-                goes(print_messages(desk, &mut self.line, Label::Tick(tick), turn.messages))
+                goes(print_messages(desk, &mut self.line, Label::Tick(tick), outcome.messages))
             }
             Err(Rule::HistoryFull) => Ok(Some(Stop::Full)),
             Ok(_) | Err(_) => Ok(None),

@@ -1,7 +1,7 @@
 ghost use Rattle.std.specs.Prelude.{◌≡◌, ◌+◌, ◌^◌, ◌<◌, ◌++◌, [], All, IfOk, OnErr, OnOk, fold};
 ghost use Rattle.orca_base.specs.Ranges.{HasDataInRange};
-ghost use Rattle.orca_wav.specs.Rendering.{is_on, next_bytes, rendering_after, rendering_of};
-ghost use Rattle.orca_reports.specs.Waves.{heard, suits};
+ghost use Rattle.orca_wav.specs.Rendering.{is_voice_on, next_bytes, rendering_after, rendering_of};
+ghost use Rattle.orca_reports.specs.Waves.{heard_message, suits};
 
 use orca_base::{Memory, Message};
 use orca_wav::{Voice, Voices};
@@ -50,7 +50,7 @@ impl Listener {
     /// Takes messages, in order.
     pub(crate) fn hear(&mut self, messages: &[Message]) -> Result<(), Memory>
         requires { All HasDataInRange messages.now }
-        ensures heard { OnOk result (self.new ≡ fold heard self.old messages.now) }
+        ensures heard { OnOk result (self.new ≡ fold heard_message self.old messages.now) }
         ensures samples { self.new.samples ≡ self.old.samples }
     {
         for message in messages {
@@ -60,10 +60,10 @@ impl Listener {
     }
 
     /// Takes a message.
-    #[tactic(auto, unfolding(crate::specs::Waves::heard))]
+    #[tactic(auto, unfolding(crate::specs::Waves::heard_message))]
     fn take(&mut self, message: &Message) -> Result<(), Memory>
         requires { HasDataInRange message.now }
-        ensures heard { OnOk result (self.new ≡ heard self.old message.now) }
+        ensures heard { OnOk result (self.new ≡ heard_message self.old message.now) }
         ensures samples { self.new.samples ≡ self.old.samples }
     {
         if !suits(&self.on, message) {
@@ -105,7 +105,7 @@ fn suits(on: &[Voice], message: &Message) -> bool
 
 /// Whether a voice has this channel and key.
 fn has_key(on: &[Voice], channel: u8, key: u8) -> bool
-    ensures { result ≡ is_on on.now channel key }
+    ensures { result ≡ is_voice_on on.now channel key }
 {
     on.iter()
         .any(|voice| voice.channel == channel && voice.key == key)

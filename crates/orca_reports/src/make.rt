@@ -7,7 +7,7 @@ ghost use Rattle.orca_reports.specs.Texts.{figure_line, figures_text, size_line}
 use crate::figures::push_figure;
 use crate::going::goes;
 use orca_base::{Dims, Glyph, Look, Memory, Message};
-use orca_concert::{Report, Turn, say};
+use orca_concert::{Outcome, Report, say};
 use orca_course::{Desk, NoMemory, Stop, Tally};
 use orca_edit::Machine;
 use orca_rig::House;
@@ -46,7 +46,11 @@ impl Report for MakeReport {
         true
     }
 
-    fn done<H: House>(&mut self, _: &mut Desk<H>, _: &Turn<'_>) -> Result<Option<Stop>, NoMemory> {
+    fn done<H: House>(
+        &mut self,
+        _: &mut Desk<H>,
+        _: &Outcome<'_>,
+    ) -> Result<Option<Stop>, NoMemory> {
         Ok(None)
     }
 

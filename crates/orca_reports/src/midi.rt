@@ -1,7 +1,7 @@
 ghost use Rattle.std.specs.Prelude.{◌≡◌, IfSome};
 ghost use Rattle.orca_base.specs.MidiBytes.{midi_bytes_of};
 ghost use Rattle.orca_base.specs.Ranges.{HasDataInRange};
-ghost use Rattle.orca_smf.specs.Songs.{IsVoice};
+ghost use Rattle.orca_smf.specs.Songs.{IsSongMessage};
 
 use orca_base::Message;
 
@@ -9,7 +9,7 @@ use orca_base::Message;
 pub(crate) fn midi_of(message: &Message) -> Option<[u8; 3]>
     requires { HasDataInRange message.now }
     ensures bytes { result ≡ midi_bytes_of message.now }
-    ensures voice { IfSome result IsVoice }
+    ensures voice { IfSome result IsSongMessage }
 {
     match *message {
         Message::On {

@@ -1,6 +1,6 @@
 ghost use Rattle.std.specs.Prelude.{◌≡◌, ◌↔◌, ◌^◌, ◌<◌, [], IfOk, IsErrOf, OnErr, OnOk};
 ghost use Rattle.orca_smf.specs.declared.limits.TheConstants.{MAX_TRACK_BYTES};
-ghost use Rattle.orca_smf.specs.Songs.{IsVoice, smf};
+ghost use Rattle.orca_smf.specs.Songs.{IsSongMessage, smf};
 ghost use Rattle.orca_reports.specs.Songs.{least_size, reached, reached_in, whole_size, with_message};
 
 use orca_base::Memory;
@@ -44,7 +44,7 @@ impl Recorder {
 
     /// Adds a voice message of three bytes at a tick. After a fault all is as before.
     pub(crate) fn add(&mut self, tick: u32, bytes: [u8; 3]) -> Result<(), SmfFault>
-        requires { IsVoice bytes }
+        requires { IsSongMessage bytes }
         ensures added { OnOk result (self.new ≡ with_message self.old tick bytes) }
         ensures err { OnErr result (self.new ≡ self.old) }
         ensures too_long { IsErrOf result SmfFault.TooLong

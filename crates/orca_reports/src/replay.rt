@@ -6,7 +6,7 @@ use crate::figures::push_figure;
 use crate::going::goes;
 use crate::run::write_grid;
 use orca_base::{Memory, Message, Rule};
-use orca_concert::{Report, Turn, say};
+use orca_concert::{Outcome, Report, say};
 use orca_course::{Desk, NoMemory, Stop, Tally};
 use orca_edit::Machine;
 use orca_rig::House;
@@ -49,12 +49,12 @@ impl Report for ReplayReport {
     fn done<H: House>(
         &mut self,
         desk: &mut Desk<H>,
-        turn: &Turn<'_>,
+        outcome: &Outcome<'_>,
     ) -> Result<Option<Stop>, NoMemory> {
-        match turn.answer {
+        match outcome.answer {
             Ok(_) => Ok(None),
             Err(rule) => {
-                write_refusal(&mut self.line, turn.line, rule)?;
+                write_refusal(&mut self.line, outcome.line, rule)?;
                 goes(say(desk, self.line.as_slice()))
             }
         }

@@ -3,7 +3,7 @@ ghost use Rattle.orca_grid.specs.GridText.{text_of};
 
 use crate::going::goes;
 use orca_base::{Look, Memory, Message, Rule};
-use orca_concert::{Report, Turn, say};
+use orca_concert::{Outcome, Report, say};
 use orca_course::{Desk, NoMemory, Stop, Tally};
 use orca_edit::Machine;
 use orca_grid::Grid;
@@ -45,9 +45,9 @@ impl Report for RunReport {
     fn done<H: House>(
         &mut self,
         _: &mut Desk<H>,
-        turn: &Turn<'_>,
+        outcome: &Outcome<'_>,
     ) -> Result<Option<Stop>, NoMemory> {
-        match turn.answer {
+        match outcome.answer {
             Err(Rule::HistoryFull) => Ok(Some(Stop::Full)),
             Ok(_) | Err(_) => Ok(None),
         }

@@ -1,13 +1,13 @@
 ghost use Rattle.std.specs.Prelude.{◌≡◌, ◌≤◌, All, IfOk, OnOk, fold};
 ghost use Rattle.orca_base.specs.Ranges.{HasDataInRange};
-ghost use Rattle.orca_smf.specs.Songs.{IsVoice};
+ghost use Rattle.orca_smf.specs.Songs.{IsSongMessage};
 ghost use Rattle.orca_reports.specs.Songs.{added, loss, recording_at_start, with_bytes};
 
 use crate::midi::midi_of;
 use crate::recorder::Recorder;
 use orca_base::limits::MINUTE_MICROSECONDS;
 use orca_base::{Memory, Message, Reply, Rule};
-use orca_concert::{Report, Turn};
+use orca_concert::{Outcome, Report};
 use orca_course::{Desk, NoMemory, Stop, Tally};
 use orca_edit::Machine;
 use orca_rig::House;
@@ -28,9 +28,9 @@ pub struct SmfReport<'a> {
 }
 
 impl<'a> Model for SmfReport<'a> {
-    ghost use Rattle.orca_reports.specs.Songs.{Recording};
+    ghost use Rattle.orca_reports.specs.Songs.{SongSoFar};
 
-    ghost Value = { Recording };
+    ghost Value = { SongSoFar };
 
     ghost view = { λ r. record { out = r.out.now; end = r.end; song = r.song } };
 }
@@ -57,10 +57,10 @@ impl<'a> SmfReport<'a> {
 }
 
 impl Report for SmfReport<'_> {
-    ghost use Rattle.orca_reports.specs.Songs.{Recording, smf_manner};
+    ghost use Rattle.orca_reports.specs.Songs.{SongSoFar, smf_manner};
     ghost use Rattle.orca_reports.specs.Quiet.{quiet-smf};
 
-    ghost Kept = { Recording };
+    ghost Kept = { SongSoFar };
 
     ghost kept = { λ r. r };
 
@@ -76,10 +76,10 @@ impl Report for SmfReport<'_> {
     fn done<H: House>(
         &mut self,
         _: &mut Desk<H>,
-        turn: &Turn<'_>,
+        outcome: &Outcome<'_>,
     ) -> Result<Option<Stop>, NoMemory> {
-        match turn.answer {
-            Ok(Reply::Framed { tick }) => Ok(record(&mut self.song, tick, turn.messages)?),
+        match outcome.answer {
+            Ok(Reply::Framed { tick }) => Ok(record(&mut self.song, tick, outcome.messages)?),
             Err(Rule::HistoryFull) => {
                 self.song = None;
                 Ok(Some(Stop::Full))
@@ -156,7 +156,7 @@ fn add(song: &mut Option<Recorder>, tick: u32, message: &Message) -> Result<(), 
 
 /// Adds a voice message of three bytes at a tick, if the song was not given up.
 fn add_bytes(song: &mut Option<Recorder>, tick: u32, bytes: [u8; 3]) -> Result<(), Memory>
-    requires { IsVoice bytes }
+    requires { IsSongMessage bytes }
     ensures { OnOk result (song.new ≡ with_bytes tick bytes song.old) }
 {
     let Some(recorder) = song else {

@@ -1,7 +1,7 @@
 use crate::going::goes;
 use crate::replay::write_state;
 use orca_base::Message;
-use orca_concert::{Report, Turn, say};
+use orca_concert::{Outcome, Report, say};
 use orca_course::{Desk, NoMemory, Stop, Tally};
 use orca_edit::Machine;
 use orca_rig::House;
@@ -40,7 +40,11 @@ impl Report for StateReport {
         true
     }
 
-    fn done<H: House>(&mut self, _: &mut Desk<H>, _: &Turn<'_>) -> Result<Option<Stop>, NoMemory> {
+    fn done<H: House>(
+        &mut self,
+        _: &mut Desk<H>,
+        _: &Outcome<'_>,
+    ) -> Result<Option<Stop>, NoMemory> {
         Ok(None)
     }
 

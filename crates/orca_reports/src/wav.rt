@@ -2,11 +2,11 @@ ghost use Rattle.std.specs.Prelude.{◌≡◌, ◌+◌, ◌*◌, ◌≤◌, ◌+
 ghost use Rattle.orca_base.specs.Ranges.{HasDataInRange};
 ghost use Rattle.orca_wav.specs.declared.limits.TheConstants.{MAX_WAVE_BYTES, SAMPLE_BYTES};
 ghost use Rattle.orca_wav.specs.Header.{header_bytes};
-ghost use Rattle.orca_reports.specs.Waves.{frame_course, frame_samples as samples_of_frame, wave_at_start};
+ghost use Rattle.orca_reports.specs.Waves.{samples_course, frame_samples as samples_of_frame, wave_at_start};
 
 use crate::listener::Listener;
 use orca_base::{Memory, Message, Reply, Rule};
-use orca_concert::{Report, Turn};
+use orca_concert::{Outcome, Report};
 use orca_course::{Desk, NoMemory, Stop, Tally};
 use orca_edit::Machine;
 use orca_rig::House;
@@ -93,8 +93,8 @@ impl<'a> WavReport<'a> {
     /// Takes the messages of a frame, and renders its samples. A wave that is too long ends the run.
     fn play(&mut self, messages: &[Message]) -> Result<Option<Stop>, Memory>
         requires { All HasDataInRange messages.now }
-        ensures ending { IfOk result (λ end. end ≡ (frame_course messages.now self.old).ending) }
-        ensures state { OnOk result (self.new ≡ (frame_course messages.now self.old).state) }
+        ensures ending { IfOk result (λ end. end ≡ (samples_course messages.now self.old).ending) }
+        ensures state { OnOk result (self.new ≡ (samples_course messages.now self.old).state) }
     {
         if self.frame > MAX_SAMPLES - self.listener.samples() {
             return Ok(Some(Stop::WaveTooLong));
@@ -125,10 +125,10 @@ impl Report for WavReport<'_> {
     fn done<H: House>(
         &mut self,
         _: &mut Desk<H>,
-        turn: &Turn<'_>,
+        outcome: &Outcome<'_>,
     ) -> Result<Option<Stop>, NoMemory> {
-        match turn.answer {
-            Ok(Reply::Framed { .. }) => Ok(self.play(turn.messages)?),
+        match outcome.answer {
+            Ok(Reply::Framed { .. }) => Ok(self.play(outcome.messages)?),
             Err(Rule::HistoryFull) => Ok(Some(Stop::Full)),
             Ok(_) | Err(_) => Ok(None),
         }

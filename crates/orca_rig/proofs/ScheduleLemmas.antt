@@ -9,7 +9,7 @@ use Rattle.orca_rig.specs.declared.inbox.Answer.TheVariants as answer
 use Rattle.orca_rig.specs.declared.mem_answer.MemAnswer.{MemAnswer}
 use Rattle.orca_rig.specs.declared.mem_answer.MemAnswer.TheVariants.{Bytes, Due}
 use Rattle.orca_rig.specs.Arrived.{MayAnswer, moment_after}
-use Rattle.orca_rig.specs.Schedule.{moment_of, is_in_order, is_arrival, are_arrivals, is_passed_over, awaited, first_turn, IsAnsweredInOrder}
+use Rattle.orca_rig.specs.Schedule.{answer_moment, is_in_order, is_arrival, are_arrivals, is_passed_over, awaited, first_turn, IsAnsweredInOrder}
 
 both : (a b : Bool) → a ≡ true → b ≡ true → (a && b) ≡ true
 both a b first second = rw first second
@@ -22,22 +22,22 @@ at_least_back a b less = grind (arith, nat_tests)
 
 -- the first of answers in order may come now, and the others after it
 pub in_order_head : (first : ℕ) (a : MemAnswer) (answers : List MemAnswer)
-    → is_in_order first (a ∷ answers) ≡ true → first ≤ moment_of a
+    → is_in_order first (a ∷ answers) ≡ true → first ≤ answer_moment a
 in_order_head first a answers ordered =
-    let at = moment_of a in
+    let at = answer_moment a in
     at_least first at (and_parts (nat_le first at) (is_in_order at answers) ordered).0
 
 pub in_order_tail : (first : ℕ) (a : MemAnswer) (answers : List MemAnswer)
-    → is_in_order first (a ∷ answers) ≡ true → is_in_order (moment_of a) answers ≡ true
+    → is_in_order first (a ∷ answers) ≡ true → is_in_order (answer_moment a) answers ≡ true
 in_order_tail first a answers ordered =
-    let at = moment_of a in (and_parts (nat_le first at) (is_in_order at answers) ordered).1
+    let at = answer_moment a in (and_parts (nat_le first at) (is_in_order at answers) ordered).1
 
 -- they are in order after an earlier moment, too
 in_order_earlier : (first later : ℕ) (answers : List MemAnswer) → first ≤ later
     → is_in_order later answers ≡ true → is_in_order first answers ≡ true
 in_order_earlier first later [] less ordered = refl
 in_order_earlier first later (a ∷ answers) less ordered =
-    let at = moment_of a in
+    let at = answer_moment a in
     let head : later ≤ at = in_order_head later a answers ordered in
     both (nat_le first at) (is_in_order at answers) (at_least_back first at (omega arith))
     (in_order_tail later a answers ordered)
@@ -76,7 +76,7 @@ awaited_kept until first [] ordered arrivals =
 awaited_kept until first (a ∷ answers) ordered arrivals =
     let head = in_order_head first a answers ordered in
     let tail = in_order_tail first a answers ordered in
-    let rest = in_order_earlier first (moment_of a) answers head tail in
+    let rest = in_order_earlier first (answer_moment a) answers head tail in
     awaited_step (is_passed_over until a) until first a answers refl ordered arrivals
     (awaited_kept until first answers rest (tail_arrivals a answers arrivals))
 
@@ -124,7 +124,7 @@ may_first until last (Due at) rest buffer ordered arrival awaits =
     (in_order_head last (Due at) rest ordered, due_waited until at awaits)
 
 moment_first : (last : ℕ) (a : MemAnswer) (rest : List MemAnswer) (buffer : List ℕ)
-    → moment_after (first_turn (a ∷ rest) buffer).answer last ≡ moment_of a
+    → moment_after (first_turn (a ∷ rest) buffer).answer last ≡ answer_moment a
 moment_first last (Bytes hand bytes at) rest buffer = refl
 moment_first last (Due at) rest buffer = refl
 

@@ -8,7 +8,7 @@ use Rattle.orca_rig.specs.declared.fault.OutsideFault.TheVariants.{Failed, Memor
 
 -- one poll: the moment that it was asked to wait for, where there was one; the number of sends
 -- before it; its answer; and the bytes that came
-pub record Poll : Type 0 where
+pub record LoggedPoll : Type 0 where
   pub until : Option ℕ
   pub sent : ℕ
   pub answer : Answer
@@ -20,7 +20,7 @@ pub record Log : Type 0 where
   pub name : Option (List ℕ)
   pub hands : Option ℕ
   pub start : Option ℕ
-  pub polls : List Poll
+  pub polls : List LoggedPoll
 
 -- nothing was asked yet
 abbrev pub empty_log : Log
@@ -38,7 +38,7 @@ after_listen (Err Failed) name hands log = with_listen name hands None log
 after_listen (Err Memory) name hands log = log
 
 -- a poll is kept as the last
-abbrev pub after_poll : Poll → Log → Log
+abbrev pub after_poll : LoggedPoll → Log → Log
 after_poll poll log = record log { polls = log.polls ++ poll ∷ [] }
 
 -- how many bytes came with an answer

@@ -3,10 +3,10 @@ use Rattle.std.specs.Prelude.{◌≡◌, ◌+◌, ◌<◌, true, false, map, len
 use Rattle.std.specs.Option.{option_map}
 use Rattle.orca_rig.specs.declared.mem_inbox.Polled.{Polled}
 use Rattle.orca_rig.specs.declared.mem_inbox.MemInbox.TheInside.{Inside}
-use Rattle.orca_rig.specs.Arrived.{Poll, Log}
+use Rattle.orca_rig.specs.Arrived.{LoggedPoll, Log}
 use Rattle.orca_rig.specs.Schedule.{Schedule, is_in_order, are_arrivals}
 
-abbrev pub poll_of : Polled → Poll
+abbrev pub poll_of : Polled → LoggedPoll
 poll_of polled = record {
   until = polled.until;
   sent = polled.sent;
@@ -35,7 +35,7 @@ schedule_of inbox = record {
 
 -- no answer is below the last moment, each arrival has as many bytes as it may, and there is room
 -- for every poll to come: one for each answer, and one for the end
-pub record IsKept (inbox : Inside) : Type 0 where
+pub record IsKeptInbox (inbox : Inside) : Type 0 where
   pub in_order : is_in_order inbox.last inbox.answers.items ≡ true
   pub arrivals : are_arrivals inbox.answers.items ≡ true
   pub room : inbox.ended ≡ false

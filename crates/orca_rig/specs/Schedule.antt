@@ -24,15 +24,15 @@ pub record Schedule : Type 0 where
 abbrev pub calls_of : Log → ℕ
 calls_of log = (if is_some log.name then 1 else 0) + length log.polls
 
-abbrev pub moment_of : MemAnswer → ℕ
-moment_of (Bytes hand bytes at) = at
-moment_of (Due at) = at
+abbrev pub answer_moment : MemAnswer → ℕ
+answer_moment (Bytes hand bytes at) = at
+answer_moment (Due at) = at
 
 -- no moment is below an earlier one, this moment being the first
 abbrev pub is_in_order : ℕ → List MemAnswer → Bool
 is_in_order first [] = true
 is_in_order first (answer ∷ answers) =
-    nat_le first (moment_of answer) && is_in_order (moment_of answer) answers
+    nat_le first (answer_moment answer) && is_in_order (answer_moment answer) answers
 
 -- an arrival has at least one byte, and no more than it holds
 abbrev pub is_arrival : MemAnswer → Bool
@@ -57,13 +57,13 @@ awaited until (answer ∷ answers) =
 
 -- what a poll makes of the answers that are left: its answer, those that are left then, and the
 -- bytes of the buffer
-pub record Turn : Type 0 where
+pub record Served : Type 0 where
   pub answer : Answer
   pub answers : List MemAnswer
   pub bytes : List ℕ
 
 -- the first of these answers is given, and the end where there is none
-abbrev pub first_turn : List MemAnswer → List ℕ → Turn
+abbrev pub first_turn : List MemAnswer → List ℕ → Served
 first_turn [] buffer = record { answer = answer.End; answers = []; bytes = buffer }
 first_turn (Bytes hand bytes at ∷ answers) buffer = record {
   answer = answer.Bytes hand (length bytes) at;
@@ -74,14 +74,14 @@ first_turn (Due at ∷ answers) buffer =
     record { answer = answer.Due at; answers = answers; bytes = buffer }
 
 -- a call that is to fail answers so, and passes nothing over
-abbrev pub turn_of : Bool → Option ℕ → List MemAnswer → List ℕ → Turn
-turn_of true until answers buffer =
+abbrev pub served_after : Bool → Option ℕ → List MemAnswer → List ℕ → Served
+served_after true until answers buffer =
     record { answer = answer.Failed; answers = answers; bytes = buffer }
-turn_of false until answers buffer = first_turn (awaited until answers) buffer
+served_after false until answers buffer = first_turn (awaited until answers) buffer
 
-abbrev pub turn : Schedule → Option ℕ → List ℕ → Turn
-turn inbox until buffer =
-    turn_of (is_to_fail inbox.fail (calls_of inbox.log)) until inbox.answers buffer
+abbrev pub served : Schedule → Option ℕ → List ℕ → Served
+served inbox until buffer =
+    served_after (is_to_fail inbox.fail (calls_of inbox.log)) until inbox.answers buffer
 
 -- answers that may come after this moment are answered in order: the answer may come now, and those
 -- that are left may come after it; an answer that isn't the last is one of them

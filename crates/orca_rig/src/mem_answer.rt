@@ -1,5 +1,5 @@
 ghost use Rattle.std.specs.Prelude.{◌≡◌};
-ghost use Rattle.orca_rig.specs.Schedule.{is_in_order, is_arrival, are_arrivals, is_passed_over, moment_of};
+ghost use Rattle.orca_rig.specs.Schedule.{is_in_order, is_arrival, are_arrivals, is_passed_over, answer_moment};
 
 use orca_base::Wire;
 use orca_base::limits::ARRIVAL_BYTES;
@@ -16,7 +16,7 @@ pub enum MemAnswer {
 impl MemAnswer {
     /// Its moment.
     pub(crate) fn at(&self) -> u64
-        ensures { result ≡ moment_of self.now }
+        ensures { result ≡ answer_moment self.now }
     {
         match self {
             MemAnswer::Bytes { at, .. } => *at,

@@ -3,7 +3,7 @@ ghost use Rattle.std.specs.Option.{option_map, option_to_list};
 ghost use Rattle.orca_rig.specs.Outside.{Rose, last_count};
 ghost use Rattle.orca_rig.specs.Arrived.{empty_log, count_of, after_listen, after_poll, arrived, moment_after, is_ending, MayAnswer};
 ghost use Rattle.orca_rig.specs.InMemory.{is_to_fail};
-ghost use Rattle.orca_rig.specs.Schedule.{Schedule, is_in_order, is_arrival, are_arrivals, awaited, first_turn, turn_of, turn, calls_of, IsAnsweredInOrder};
+ghost use Rattle.orca_rig.specs.Schedule.{Schedule, is_in_order, is_arrival, are_arrivals, awaited, first_turn, served_after, served, calls_of, IsAnsweredInOrder};
 ghost use Rattle.orca_base.specs.declared.limits.TheConstants.{ARRIVAL_BYTES, MAX_HANDS};
 ghost use Rattle.orca_rig.specs.KeptPolls.{poll_of};
 
@@ -42,11 +42,11 @@ impl Model for MemInbox {
 
     ghost Value = { Schedule };
 
-    ghost use Rattle.orca_rig.specs.KeptPolls.{schedule_of, IsKept};
+    ghost use Rattle.orca_rig.specs.KeptPolls.{schedule_of, IsKeptInbox};
 
     ghost view = { schedule_of };
 
-    ghost invariant = { IsKept };
+    ghost invariant = { IsKeptInbox };
 }
 
 impl MemInbox {
@@ -96,7 +96,7 @@ fn answer_next(
 ) -> Answer
     requires { are_arrivals answers.old.items ≡ true }
     ensures turn { record { answer = result; answers = answers.new.items; bytes = bytes.new }
-        ≡ turn_of fails until answers.old.items bytes.old }
+        ≡ served_after fails until answers.old.items bytes.old }
     ensures in_order { (last : ℕ) → is_in_order last answers.old.items ≡ true
         → IsAnsweredInOrder until last answers.old.items result answers.new.items }
     ensures failed { IsTrue fails ↔ (result ≡ Answer.Failed) }
@@ -282,9 +282,9 @@ impl Inbox for MemInbox {
         ensures failed { result ≡ Answer.Failed → Rose self.old.faults self.new.faults }
         ensures steady { result ≢ Answer.Failed → self.new.faults ≡ self.old.faults }
 
-        ensures turn { result ≡ (turn self.old until bytes.old).answer }
-        ensures answers { self.new.answers ≡ (turn self.old until bytes.old).answers }
-        ensures bytes { bytes.new ≡ (turn self.old until bytes.old).bytes }
+        ensures turn { result ≡ (served self.old until bytes.old).answer }
+        ensures answers { self.new.answers ≡ (served self.old until bytes.old).answers }
+        ensures bytes { bytes.new ≡ (served self.old until bytes.old).bytes }
         ensures fail { self.new.fail ≡ self.old.fail }
         ensures counted { result ≡ Answer.Failed
             → self.new.faults ≡ min (self.old.faults + 1) last_count }

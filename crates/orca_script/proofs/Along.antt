@@ -11,8 +11,8 @@ use Rattle.orca_base.specs.Numbers.{is_number}
 use Rattle.orca_base.specs.declared.limits.TheConstants.{MAX_DIGITS}
 use Rattle.orca_script.specs.declared.forms.Kind.{Kind}
 use Rattle.orca_script.specs.declared.forms.Kind.TheVariants.{Number, Glyph, Word}
-use Rattle.orca_script.specs.LineValues.{LineValues, with_number, with_glyph}
-use Rattle.orca_script.specs.Grammar.{is_space, words_of, glyph_of, values_by}
+use Rattle.orca_script.specs.LineValues.{LineValues, adding_number, with_glyph}
+use Rattle.orca_script.specs.Grammar.{is_space, words_of, glyph_word, values_by}
 use Rattle.orca_script.specs.Readers.{values_at_end}
 use Rattle.orca_script.specs.Reading.{Next, Letters, Blank, Digits, state, longer_number, digits_state, word_start, step}
 use Rattle.orca_script.proofs.Digits.{Grows, number_from, number-push, number-grows, value-push, number_of-number, number_of-other}
@@ -96,7 +96,7 @@ module _ (b : ℕ) (bytes : List ℕ) (ih : Agrees bytes) (space : is_space b �
   unfolding step values_by
   digits_space ds kinds values number =
       rw (front_space, append-nil ds, number_of-number ds number, later-space b bytes space, space)
-      (ih.blank kinds (with_number values (digits_value 10 ds)))
+      (ih.blank kinds (adding_number values (digits_value 10 ds)))
 
 -- a glyph is one byte, so a space or the end has to come after it
 glyph_alone : (b : ℕ) (f : List ℕ) (kinds : List Kind) (values : LineValues) (words : List (List ℕ))
@@ -108,7 +108,7 @@ unfolding values_by
 glyph_alone b [] kinds values words glyph = rw glyph refl
 glyph_alone b (c ∷ f) kinds values words glyph = refl
 
-no_glyph : (b : ℕ) (f : List ℕ) → is_glyph b ≡ false → glyph_of (b ∷ f) ≡ None
+no_glyph : (b : ℕ) (f : List ℕ) → is_glyph b ≡ false → glyph_word (b ∷ f) ≡ None
 no_glyph b [] glyph = rw glyph refl
 no_glyph b (c ∷ f) glyph = refl
 

@@ -16,10 +16,10 @@ use Rattle.orca_script.specs.declared.format_2.Line.TheVariants.{Do, Frames}
 use Rattle.orca_script.specs.declared.forms.TheConstants.{FRAMES, HEADER}
 use Rattle.orca_script.specs.declared.forms.Verb.TheVariants.{Frame}
 use Rattle.orca_script.specs.Format2.{IsHeader, IsLine2, LeavesAt, seed_of, header_seed, header_reading, times_of, line_frames, line_asks, reading2}
-use Rattle.orca_script.specs.Grammar.{is_space, words_of, Form, forms, has_no_command, line_command, values_by, values_by_form}
-use Rattle.orca_script.specs.LineValues.{LineValues, none, with_number}
+use Rattle.orca_script.specs.Grammar.{is_space, words_of, LineForm, line_forms, has_no_command, line_command, values_by, values_by_form}
+use Rattle.orca_script.specs.LineValues.{LineValues, none, adding_number}
 use Rattle.orca_script.specs.Readers.{read_number, read_by, or_else_frames, asked_by}
-use Rattle.orca_script.specs.Reading.{Letters, start}
+use Rattle.orca_script.specs.Reading.{Letters, nothing_read}
 use Rattle.orca_script.proofs.Along.{final}
 use Rattle.orca_script.proofs.Laws.{Stops, far, stands_for}
 use Rattle.orca_script.proofs.Reach.{read_on-is, begins, goes_along, IsSound, line_values, final-line}
@@ -32,7 +32,7 @@ abbrev first : LineValues → ℕ
 first values = slice_index values.numbers 0
 
 -- the number of a line by a form
-abbrev number_by : Form → List ℕ → Option ℕ
+abbrev number_by : LineForm → List ℕ → Option ℕ
 number_by form line = option_map first (line_values form line)
 
 ok_or-map : (f : LineValues → ℕ) (o : Option LineValues) (n : ℕ) →
@@ -40,16 +40,16 @@ ok_or-map : (f : LineValues → ℕ) (o : Option LineValues) (n : ℕ) →
 ok_or-map f None n = refl
 ok_or-map f (Some values) n = refl
 
-read_number-is : (form : Form) (line : List ℕ) → IsSound form →
+read_number-is : (form : LineForm) (line : List ℕ) → IsSound form →
     read_number form.word form.kinds line ≡ ok_or (number_by form line) (far form line)
 read_number-is form line sound =
-    ap (result_map_both first (λ count. count)) (read_on-is line 0 (start form)
+    ap (result_map_both first (λ count. count)) (read_on-is line 0 (nothing_read form)
     ∙ (ap (λ n. ok_or (final line (Letters form.word form.kinds) none) n)
     (zero-add (far form line))
     ∙ ap (λ o. ok_or o (far form line)) (final-line form line sound)))
     ∙ ok_or-map first (line_values form line) (far form line)
 
-form_begins : (form : Form) (line : List ℕ) (k : ℕ) → IsSound form → k ≤ far form line →
+form_begins : (form : LineForm) (line : List ℕ) (k : ℕ) → IsSound form → k ≤ far form line →
     (rest : List ℕ) × ((n : ℕ) × (number_by form (take k line ++ rest) ≡ Some n))
 form_begins form line k sound h =
     let found = begins k line (Letters form.word form.kinds) none h in
@@ -62,7 +62,7 @@ some_mapped : (o : Option LineValues) (n : ℕ) → option_map first o ≡ Some 
 some_mapped None n e = absurd (none-some n e)
 some_mapped (Some values) n e = (values, refl)
 
-form_along : (form : Form) (line : List ℕ) (k : ℕ) (rest : List ℕ) (n : ℕ) → IsSound form →
+form_along : (form : LineForm) (line : List ℕ) (k : ℕ) (rest : List ℕ) (n : ℕ) → IsSound form →
     k ≤ length line → number_by form (take k line ++ rest) ≡ Some n → k ≤ far form line
 form_along form line k rest n sound h e =
     let found = some_mapped (line_values form (take k line ++ rest)) n e in
@@ -80,21 +80,21 @@ ok_or_ok (Some y) n x e = cc
 -- ---- the number that comes last
 
 last_number : (o : Option ℕ) →
-    option_map first (option_and_then (λ number. values_by (with_number none number) [] []) o) ≡ o
+    option_map first (option_and_then (λ number. values_by (adding_number none number) [] []) o) ≡ o
 unfolding values_by
 last_number None = refl
 last_number (Some n) = refl
 
 more_words : (o : Option ℕ) (word : List ℕ) (words : List (List ℕ)) →
     option_map first
-    (option_and_then (λ number. values_by (with_number none number) [] (word ∷ words)) o) ≡ None
+    (option_and_then (λ number. values_by (adding_number none number) [] (word ∷ words)) o) ≡ None
 unfolding values_by
 more_words None word words = refl
 more_words (Some n) word words = refl
 
 -- ---- the first line
 
-abbrev header_form : Form
+abbrev header_form : LineForm
 header_form = record { word = HEADER.0.now; kinds = HEADER.1.now; verb = Frame }
 
 header_sound : IsSound header_form
@@ -200,7 +200,7 @@ header_reading-refused line count e =
 
 -- ---- another line
 
-abbrev frames_form : Form
+abbrev frames_form : LineForm
 frames_form = record { word = FRAMES.0.now; kinds = FRAMES.1.now; verb = Frame }
 
 frames_sound : IsSound frames_form
@@ -278,9 +278,9 @@ unfolding reading2
 reading2-nothing line e = rw e refl
 
 -- where a line stops along the forms of the table
-stops_at : (line : List ℕ) (count : ℕ) → read_by forms line (prefix_len is_space line) ≡ Err count →
-    Stops forms line (prefix_len is_space line) count
-stops_at line count e = rw e at (stands_for forms line (prefix_len is_space line) sound_forms)
+stops_at : (line : List ℕ) (count : ℕ) → read_by line_forms line (prefix_len is_space line) ≡ Err count →
+    Stops line_forms line (prefix_len is_space line) count
+stops_at line count e = rw e at (stands_for line_forms line (prefix_len is_space line) sound_forms)
 
 by_command : (o : Option Command) (p : Option ℕ) (command : Command) → o ≡ Some command →
     option_or (option_map Do o) (option_map Frames p) ≡ Some (Do command)
@@ -300,7 +300,7 @@ by_either (Some command) p asked e = inl (command, refl)
 
 -- what is read is what the line asks for
 asked_either : (line : List ℕ) (r : Result Command ℕ) (s : Result ℕ ℕ) (asked : Line) →
-    read_by forms line (prefix_len is_space line) ≡ r →
+    read_by line_forms line (prefix_len is_space line) ≡ r →
     read_number FRAMES.0.now FRAMES.1.now line ≡ s → or_else_frames s r ≡ Ok asked →
     line_asks line ≡ Some asked
 unfolding line_asks line_command
@@ -323,11 +323,11 @@ record Misses (line : List ℕ) (count : ℕ) : Type 0 where
   most : ℕ
   other : ℕ
   same : max most other ≡ count
-  stops : Stops forms line (prefix_len is_space line) most
+  stops : Stops line_forms line (prefix_len is_space line) most
   missed : FramesMissed line other
 
 misses_either : (line : List ℕ) (r : Result Command ℕ) (s : Result ℕ ℕ) (count : ℕ) →
-    read_by forms line (prefix_len is_space line) ≡ r →
+    read_by line_forms line (prefix_len is_space line) ≡ r →
     read_number FRAMES.0.now FRAMES.1.now line ≡ s → or_else_frames s r ≡ Err count →
     Misses line count
 misses_either line (Ok command) s count read other e = absurd cc

@@ -8,30 +8,30 @@ use Rattle.std.specs.List.{AllByRecursion}
 use Rattle.std.proofs.lemmas.Option.{none-some}
 use Rattle.orca_base.specs.Ascii.{space}
 use Rattle.orca_base.specs.declared.command.Command.{Command}
-use Rattle.orca_script.specs.LineValues.{LineValues, none, command_of}
-use Rattle.orca_script.specs.Grammar.{words_of, Form, values_by_form, command_by}
+use Rattle.orca_script.specs.LineValues.{LineValues, none, command_named}
+use Rattle.orca_script.specs.Grammar.{words_of, LineForm, values_by_form, command_by}
 use Rattle.orca_script.specs.Readers.{or_else_read, read_form, read_by}
-use Rattle.orca_script.specs.Reading.{Letters, start, reach, farthest}
+use Rattle.orca_script.specs.Reading.{Letters, nothing_read, reach, farthest}
 use Rattle.orca_script.proofs.Along.{final}
 use Rattle.orca_script.proofs.Reach.{read_on-is, begins, goes_along, IsSound, line_values, final-line}
 
 -- the command of a line by some forms
-abbrev pub line_by : List Form → List ℕ → Option Command
+abbrev pub line_by : List LineForm → List ℕ → Option Command
 line_by table line = if slice_index line 0 == space then None else command_by table (words_of line)
 
 -- the command of a line by one form
-abbrev pub by_form : Form → List ℕ → Option Command
-by_form form line = option_map (command_of form.verb) (line_values form line)
+abbrev pub by_form : LineForm → List ℕ → Option Command
+by_form form line = option_map (command_named form.verb) (line_values form line)
 
-line_by_spaced : (spaced : Bool) (form : Form) (table : List Form) (words : List (List ℕ)) →
+line_by_spaced : (spaced : Bool) (form : LineForm) (table : List LineForm) (words : List (List ℕ)) →
     (if spaced then None else command_by (form ∷ table) words)
-    ≡ option_or (option_map (command_of form.verb)
+    ≡ option_or (option_map (command_named form.verb)
     (if spaced then None else values_by_form form words))
     (if spaced then None else command_by table words)
 line_by_spaced true form table words = refl
 line_by_spaced false form table words = refl
 
-line_by-cons : (form : Form) (table : List Form) (line : List ℕ) →
+line_by-cons : (form : LineForm) (table : List LineForm) (line : List ℕ) →
     line_by (form ∷ table) line ≡ option_or (by_form form line) (line_by table line)
 line_by-cons form table line = line_by_spaced (slice_index line 0 == space) form table
     (words_of line)
@@ -44,12 +44,12 @@ line_by-nil : (line : List ℕ) → line_by [] line ≡ None
 line_by-nil line = none_spaced (slice_index line 0 == space)
 
 -- how many bytes of a line go along a form
-abbrev pub far : Form → List ℕ → ℕ
+abbrev pub far : LineForm → List ℕ → ℕ
 far form line = reach line (Letters form.word form.kinds) none
 
 -- a line has no command by the forms, and so many of its bytes, or at most so many as before, begin
 -- one that has
-pub record Stops (table : List Form) (line : List ℕ) (most count : ℕ) : Type 0 where
+pub record Stops (table : List LineForm) (line : List ℕ) (most count : ℕ) : Type 0 where
   pub none : line_by table line ≡ None
   pub least : most ≤ count
   pub counted : count ≡ farthest table line most
@@ -60,7 +60,7 @@ pub record Stops (table : List Form) (line : List ℕ) (most count : ℕ) : Type
       line_by table (take k line ++ rest) ≡ Some command → k ≤ count
 
 -- what is read is the line's command, or where it stops
-abbrev pub StandsFor : List Form → List ℕ → ℕ → Result Command ℕ → Type 0
+abbrev pub StandsFor : List LineForm → List ℕ → ℕ → Result Command ℕ → Type 0
 StandsFor table line most (Ok command) = line_by table line ≡ Some command
 StandsFor table line most (Err count) = Stops table line most count
 
@@ -69,14 +69,14 @@ ok_or-map : (f : LineValues → Command) (o : Option LineValues) (n : ℕ) →
 ok_or-map f None n = refl
 ok_or-map f (Some values) n = refl
 
-read_form-is : (form : Form) (line : List ℕ) → IsSound form →
+read_form-is : (form : LineForm) (line : List ℕ) → IsSound form →
     read_form form line ≡ ok_or (by_form form line) (far form line)
 read_form-is form line sound =
-    ap (result_map_both (command_of form.verb) (λ count. count)) (read_on-is line 0 (start form)
+    ap (result_map_both (command_named form.verb) (λ count. count)) (read_on-is line 0 (nothing_read form)
     ∙ (ap (λ n. ok_or (final line (Letters form.word form.kinds) none) n)
     (zero-add (far form line))
     ∙ ap (λ o. ok_or o (far form line)) (final-line form line sound)))
-    ∙ ok_or-map (command_of form.verb) (line_values form line) (far form line)
+    ∙ ok_or-map (command_named form.verb) (line_values form line) (far form line)
 
 some_or : (o : Option Command) (command : Command) →
     (c : Command) × (option_or o (Some command) ≡ Some c)
@@ -84,7 +84,7 @@ some_or None command = (command, refl)
 some_or (Some c) command = (c, refl)
 
 -- a form more
-module _ (form : Form) (table : List Form) (line : List ℕ) (sound : IsSound form) where
+module _ (form : LineForm) (table : List LineForm) (line : List ℕ) (sound : IsSound form) where
   by_form-begins : (k : ℕ) → k ≤ far form line →
       (rest : List ℕ) × ((command : Command) × (line_by (form ∷ table) (take k line ++ rest)
       ≡ Some command))
@@ -94,7 +94,7 @@ module _ (form : Form) (table : List Form) (line : List ℕ) (sound : IsSound fo
       sym (final-line form (take k line ++ found.0) sound) ∙ found.1.1 in (
         found.0,
         (
-          command_of form.verb found.1.0,
+          command_named form.verb found.1.0,
           line_by-cons form table (take k line ++ found.0)
               ∙ rw values refl,
         ),
@@ -118,7 +118,7 @@ module _ (form : Form) (table : List Form) (line : List ℕ) (sound : IsSound fo
       (command : Command) →
       Stops table line (max most (far form line)) count → k ≤ length line →
       line_values form (take k line ++ rest) ≡ o →
-      option_or (option_map (command_of form.verb) o) (line_by table (take k line ++ rest))
+      option_or (option_map (command_named form.verb) o) (line_by table (take k line ++ rest))
       ≡ Some command → k ≤ count
   behind_either None most count k rest command stops h values e = stops.behind k rest command h e
   behind_either (Some g) most count k rest command stops h values e =
@@ -154,7 +154,7 @@ module _ (form : Form) (table : List Form) (line : List ℕ) (sound : IsSound fo
   stands_cons None most e h = stands_later most (read_by table line (max most (far form line))) e h
   stands_cons (Some command) most e h = line_by-cons form table line ∙ rw e refl
 
-pub stands_for : (table : List Form) (line : List ℕ) (most : ℕ) → AllByRecursion IsSound table →
+pub stands_for : (table : List LineForm) (line : List ℕ) (most : ℕ) → AllByRecursion IsSound table →
     StandsFor table line most (read_by table line most)
 unfolding read_by
 stands_for [] line most sound = record {

@@ -13,16 +13,16 @@ use Rattle.orca_script.specs.declared.forms.Kind.TheVariants.{Number, Glyph, Wor
 use Rattle.orca_script.specs.declared.forms.Fixed.{Fixed}
 use Rattle.orca_script.specs.declared.forms.Fixed.TheVariants.{Two, Seed}
 use Rattle.orca_script.specs.declared.forms.Verb.{Verb}
-use Rattle.orca_script.specs.LineValues.{LineValues, none, with_number, with_glyph, letters_of}
-use Rattle.orca_script.specs.Grammar.{is_space, words_of, values_by, Form, values_by_form}
+use Rattle.orca_script.specs.LineValues.{LineValues, none, adding_number, with_glyph, letters_of}
+use Rattle.orca_script.specs.Grammar.{is_space, words_of, values_by, LineForm, values_by_form}
 use Rattle.orca_script.specs.Readers.{values_at_end, read_on}
-use Rattle.orca_script.specs.Reading.{Next, Letters, Blank, Digits, State, step, reach}
+use Rattle.orca_script.specs.Reading.{Next, Letters, Blank, Digits, ReadState, step, reach}
 use Rattle.orca_script.proofs.Along.{final, agrees}
 use Rattle.orca_script.proofs.Words.{is_plain, front, later_words, words-plain, words-none, later-plain}
 
 -- reading gives what the bytes give in the end, or how many go along
-read_on_step : (o : Option State) (bytes : List ℕ) (i : ℕ) →
-    ((s : State) → read_on bytes (i + 1) s
+read_on_step : (o : Option ReadState) (bytes : List ℕ) (i : ℕ) →
+    ((s : ReadState) → read_on bytes (i + 1) s
     ≡ ok_or (final bytes s.next s.values) (i + 1 + reach bytes s.next s.values)) →
     option_map_or (read_on bytes (i + 1)) o (Err i)
     ≡ ok_or (option_and_then (λ s. final bytes s.next s.values) o)
@@ -30,7 +30,7 @@ read_on_step : (o : Option State) (bytes : List ℕ) (i : ℕ) →
 read_on_step None bytes i ih = ap (λ n. Err n) (omega arith)
 read_on_step (Some s) bytes i ih = ih s ∙ ap (ok_or (final bytes s.next s.values)) (omega arith)
 
-pub read_on-is : (bytes : List ℕ) (i : ℕ) (s : State) →
+pub read_on-is : (bytes : List ℕ) (i : ℕ) (s : ReadState) →
     read_on bytes i s ≡ ok_or (final bytes s.next s.values) (i + reach bytes s.next s.values)
 unfolding read_on
 read_on-is [] i s = ap (ok_or (values_at_end s.next s.values)) (omega arith)
@@ -81,25 +81,25 @@ unfolding step values_at_end
 completes [] = record {
   gap = λ values. (values, refl);
   digits =
-      λ count value values. (with_number values value, refl);
+      λ count value values. (adding_number values value, refl);
 }
 completes (Number ∷ kinds) = let ih = completes kinds in
     record {
       gap = λ values. ih.digits 1 0 values;
       digits =
-          λ count value values. ih.digits 1 0 (with_number values value);
+          λ count value values. ih.digits 1 0 (adding_number values value);
     }
 completes (Glyph ∷ kinds) = let ih = completes kinds in
     record {
       gap = λ values. ih.gap (with_glyph values 33);
       digits =
-          λ count value values. ih.gap (with_glyph (with_number values value) 33);
+          λ count value values. ih.gap (with_glyph (adding_number values value) 33);
     }
 completes (Word word ∷ kinds) = let ih = completes kinds in
     record {
       gap = λ values. word_end word kinds values (ih.gap values);
-      digits = λ count value values. word_end word kinds (with_number values value)
-          (ih.gap (with_number values value));
+      digits = λ count value values. word_end word kinds (adding_number values value)
+          (ih.gap (adding_number values value));
     }
 
 ends : (next : Next) (values : LineValues) → Ends (ending next) next values
@@ -111,8 +111,8 @@ ends (Blank (Glyph ∷ kinds)) values = (completes kinds).gap (with_glyph values
 ends (Blank (Word word ∷ kinds)) values = word_end word kinds values ((completes kinds).gap values)
 ends (Digits count value kinds) values = (completes kinds).digits count value values
 
-begins_step : (o : Option State) (k : ℕ) (bytes : List ℕ) →
-    ((s : State) → k ≤ reach bytes s.next s.values →
+begins_step : (o : Option ReadState) (k : ℕ) (bytes : List ℕ) →
+    ((s : ReadState) → k ≤ reach bytes s.next s.values →
     (rest : List ℕ) × Ends (take k bytes ++ rest) s.next s.values) →
     suc k ≤ option_map_or (λ s. suc (reach bytes s.next s.values)) o 0 →
     (rest : List ℕ) × ((last : LineValues)
@@ -120,8 +120,8 @@ begins_step : (o : Option State) (k : ℕ) (bytes : List ℕ) →
 begins_step None k bytes ih h = absurd (omega arith)
 begins_step (Some s) k bytes ih h = ih s (omega arith)
 
-along_step : (o : Option State) (k : ℕ) (bytes rest : List ℕ) (last : LineValues) →
-    ((s : State) → final (take k bytes ++ rest) s.next s.values ≡ Some last →
+along_step : (o : Option ReadState) (k : ℕ) (bytes rest : List ℕ) (last : LineValues) →
+    ((s : ReadState) → final (take k bytes ++ rest) s.next s.values ≡ Some last →
     k ≤ reach bytes s.next s.values) →
     option_and_then (λ s. final (take k bytes ++ rest) s.next s.values) o ≡ Some last →
     suc k ≤ option_map_or (λ s. suc (reach bytes s.next s.values)) o 0
@@ -148,12 +148,12 @@ goes_along (suc k) (b ∷ bytes) rest next values last h e =
     (λ s. goes_along k bytes rest s.next s.values last (omega arith)) e
 
 -- a form's word is there, and has no space
-pub record IsSound (form : Form) : Type 0 where
+pub record IsSound (form : LineForm) : Type 0 where
   pub some : 1 ≤ length form.word
   pub plain : is_plain form.word ≡ true
 
 -- what a line gives by a form
-abbrev pub line_values : Form → List ℕ → Option LineValues
+abbrev pub line_values : LineForm → List ℕ → Option LineValues
 line_values form line = if slice_index line 0 == space then None
     else values_by_form form (words_of line)
 
@@ -176,6 +176,6 @@ final_values (b ∷ bytes) word kinds verb some plain =
     (agrees (b ∷ bytes)).letters word kinds none plain
     ∙ values_spaced (is_space b) b bytes word kinds verb some refl
 
-pub final-line : (form : Form) (line : List ℕ) → IsSound form →
+pub final-line : (form : LineForm) (line : List ℕ) → IsSound form →
     final line (Letters form.word form.kinds) none ≡ line_values form line
 final-line form line sound = final_values line form.word form.kinds form.verb sound.some sound.plain

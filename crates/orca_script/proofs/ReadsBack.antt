@@ -16,9 +16,9 @@ use Rattle.orca_base.specs.Glyphs.{is_digit, is_glyph, IsGlyph}
 use Rattle.orca_base.specs.Numbers.{number_of}
 use Rattle.orca_base.specs.declared.command.Command.{Command}
 use Rattle.orca_base.specs.declared.command.Command.TheVariants.{Frame, Write, Fill, Erase, Copy, Cut, Paste, Move, Resize, Reset, Undo, Rewind, Redo}
-use Rattle.orca_script.specs.Canonical.{Line, line, text_of, line_of, sides, canonical, printed, HasValues}
-use Rattle.orca_script.specs.LineValues.{command_of}
-use Rattle.orca_script.specs.Grammar.{is_space, words_of, glyph_of, values_by, forms, has_no_command, line_command}
+use Rattle.orca_script.specs.Canonical.{Line, line_with, line_text, line_of, sides, canonical, printed, HasValues}
+use Rattle.orca_script.specs.LineValues.{command_named}
+use Rattle.orca_script.specs.Grammar.{is_space, words_of, glyph_word, values_by, line_forms, has_no_command, line_command}
 use Rattle.orca_script.specs.Reading.{reading}
 use Rattle.orca_script.proofs.Digits.{number_from, number_of-number, all-append}
 use Rattle.orca_script.proofs.TextLines.{lines-ended}
@@ -103,7 +103,7 @@ later-tail (n ∷ numbers) glyph small visible =
     ∙ ap (λ words. decimal n ∷ words) (later-tail numbers glyph small.1 visible))))
 
 pub words-spaced : (word numbers : List ℕ) (glyph : Option ℕ) → 1 ≤ length word → is_plain word ≡ true →
-    HasValues (line word numbers glyph) → words_of (text_of (line word numbers glyph))
+    HasValues (line_with word numbers glyph) → words_of (line_text (line_with word numbers glyph))
     ≡ word ∷ (map decimal numbers ++ glyph_words glyph)
 words-spaced word numbers glyph some plain values =
     words-front word (tail numbers glyph) some plain
@@ -112,7 +112,7 @@ words-spaced word numbers glyph some plain values =
     ∙ ap (λ words. word ∷ words)
     (later-tail numbers glyph (recursion_from_All _ numbers values.small) values.visible)))
 
-glyph_of-glyph : (g : ℕ) → IsGlyph g → glyph_of (g ∷ []) ≡ Some g
+glyph_of-glyph : (g : ℕ) → IsGlyph g → glyph_word (g ∷ []) ≡ Some g
 glyph_of-glyph g visible = let h : is_glyph g ≡ true =
     and_from _ _ (le-leb 33 g visible.0) (le-leb g 126 visible.1) in rw h refl
 
@@ -124,7 +124,7 @@ number_at l values k h = number_of-decimal (get_or l.numbers k 0) (values.small 
 -- the line of each command is read as the command
 pub reads : (command : Command) → HasValues (line_of command) →
     line_command (canonical command) ≡ Some command
-unfolding line_of line_command forms values_by command_of
+unfolding line_of line_command line_forms values_by command_named
 reads Frame values = rw (words-spaced (codes "frame") [] None (omega arith) refl values) refl
 reads (Write y x glyph) values =
     rw (
@@ -248,7 +248,7 @@ glyph_shown None visible = refl
 glyph_shown (Some g) visible = and_from _ _ (le-leb 32 g (omega (arith, visible.0))) refl
 
 pub spaced_shown : (l : Line) → list_all is_shown l.word ≡ true → HasValues l →
-    list_all is_shown (text_of l) ≡ true
+    list_all is_shown (line_text l) ≡ true
 spaced_shown l word values =
     both_shown l.word (tail l.numbers l.glyph) word
     (both_shown (flat_map (λ number. 32 ∷ decimal number) l.numbers)

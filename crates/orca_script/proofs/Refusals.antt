@@ -7,7 +7,7 @@ use Rattle.std.proofs.lemmas.List.{append-nil}
 use Rattle.std.proofs.lemmas.Option.{none-some}
 use Rattle.orca_base.specs.Ascii.{hash}
 use Rattle.orca_base.specs.declared.command.Command.{Command}
-use Rattle.orca_script.specs.Grammar.{is_space, forms, command_by, line_command, has_no_command, IsRefusedAt}
+use Rattle.orca_script.specs.Grammar.{is_space, line_forms, command_by, line_command, has_no_command, IsRefusedAt}
 use Rattle.orca_script.specs.Readers.{read_by}
 use Rattle.orca_script.specs.Reading.{reading}
 use Rattle.orca_script.proofs.Digits.{all-append}
@@ -16,18 +16,18 @@ use Rattle.orca_script.proofs.Reach.{IsSound}
 use Rattle.orca_script.proofs.Words.{front, later_words, words-none, words-plain}
 
 -- the words of the table
-pub sound_forms : AllByRecursion IsSound forms
-unfolding forms
+pub sound_forms : AllByRecursion IsSound line_forms
+unfolding line_forms
 sound_forms = (record { some = omega arith; plain = refl }, (record { some = omega arith; plain = refl }, (record { some = omega arith; plain = refl }, (record { some = omega arith; plain = refl }, (record { some = omega arith; plain = refl }, (record { some = omega arith; plain = refl }, (record { some = omega arith; plain = refl }, (record { some = omega arith; plain = refl }, (record { some = omega arith; plain = refl }, (record { some = omega arith; plain = refl }, (record { some = omega arith; plain = refl }, (record { some = omega arith; plain = refl }, (record { some = omega arith; plain = refl }, tt)))))))))))))
 
 -- a comment has no command
 command_by-hash : (word : List ℕ) (words : List (List ℕ)) →
-    command_by forms ((35 ∷ word) ∷ words) ≡ None
-unfolding forms
+    command_by line_forms ((35 ∷ word) ∷ words) ≡ None
+unfolding line_forms
 command_by-hash word words = refl
 
-command_by-nil : command_by forms [] ≡ None
-unfolding forms
+command_by-nil : command_by line_forms [] ≡ None
+unfolding line_forms
 command_by-nil = refl
 
 pub no_command : (line : List ℕ) → has_no_command line ≡ true → line_command line ≡ None
@@ -42,9 +42,9 @@ no_command (b ∷ bytes) e =
 
 -- a line that is read has the command
 pub command_read : (line : List ℕ) (most : ℕ) (command : Command) →
-    read_by forms line most ≡ Ok command → line_command line ≡ Some command
+    read_by line_forms line most ≡ Ok command → line_command line ≡ Some command
 unfolding line_command
-command_read line most command e = rw e at (stands_for forms line most sound_forms)
+command_read line most command e = rw e at (stands_for line_forms line most sound_forms)
 
 -- the spaces before any other byte
 blank_step : (spaced : Bool) (k n : ℕ) (all : Bool) → suc k ≤ cond spaced (1 + n) 0 →
@@ -87,12 +87,12 @@ no_command_front (suc k) (b ∷ line) rest some h e none =
     ]
 
 pub refused : (line : List ℕ) (count : ℕ) → has_no_command line ≡ false →
-    read_by forms line (prefix_len is_space line) ≡ Err count → count ≤ length line →
+    read_by line_forms line (prefix_len is_space line) ≡ Err count → count ≤ length line →
     IsRefusedAt line (count + 1)
 unfolding line_command
 refused line count e read within =
-    let stops : Stops forms line (prefix_len is_space line) count =
-    rw read at (stands_for forms line (prefix_len is_space line) sound_forms) in
+    let stops : Stops line_forms line (prefix_len is_space line) count =
+    rw read at (stands_for line_forms line (prefix_len is_space line) sound_forms) in
     record {
       no_line = λ is_line. elim is_line [
         | inl none ↦ both_ways _ e none
@@ -120,15 +120,15 @@ refused line count e read within =
 
 -- where a line is read as its command, and where it is refused
 pub reading-command : (line : List ℕ) (most : ℕ) (command : Command) → has_no_command line ≡ false →
-    read_by forms line most ≡ Ok command → Ok (Some command) ≡ reading line
+    read_by line_forms line most ≡ Ok command → Ok (Some command) ≡ reading line
 unfolding reading
 reading-command line most command e read = rw (e, command_read line most command read) refl
 
 pub reading-refused : (line : List ℕ) (count : ℕ) → has_no_command line ≡ false →
-    read_by forms line (prefix_len is_space line) ≡ Err count → Err (record { column = count + 1 })
+    read_by line_forms line (prefix_len is_space line) ≡ Err count → Err (record { column = count + 1 })
     ≡ reading line
 unfolding reading line_command
 reading-refused line count e read =
-    let stops : Stops forms line (prefix_len is_space line) count =
-    rw read at (stands_for forms line (prefix_len is_space line) sound_forms) in
+    let stops : Stops line_forms line (prefix_len is_space line) count =
+    rw read at (stands_for line_forms line (prefix_len is_space line) sound_forms) in
     rw (e, stops.none, stops.counted) refl

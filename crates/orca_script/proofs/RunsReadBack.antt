@@ -13,9 +13,9 @@ use Rattle.orca_base.specs.declared.command.Command.{Command}
 use Rattle.orca_base.specs.declared.command.Command.TheVariants.{Frame}
 use Rattle.orca_script.specs.declared.format_2.Line.{Line}
 use Rattle.orca_script.specs.declared.format_2.Line.TheVariants.{Do, Frames}
-use Rattle.orca_script.specs.Canonical.{line, text_of, line_of, HasValues}
+use Rattle.orca_script.specs.Canonical.{line_with, line_text, line_of, HasValues}
 use Rattle.orca_script.specs.Format2.{header_seed, header_reading, line_frames, line_asks, reading2}
-use Rattle.orca_script.specs.Grammar.{words_of, forms, line_command}
+use Rattle.orca_script.specs.Grammar.{words_of, line_forms, line_command}
 use Rattle.orca_script.specs.Runs.{header_words, canonical_header, words_asking, canonical2, commands_of, most_frames, short_run, run_of, is_frame, lines_behind, LineReadsBack, ScriptReadsBack, LineHasValues}
 use Rattle.orca_script.proofs.ReadsBack.{number_of-decimal, words-spaced, reads, has_command, one_line, spaced_shown, shown_line}
 use Rattle.orca_script.proofs.RunLines.{names_frame, frame_values}
@@ -75,7 +75,7 @@ behind_valued (command ∷ commands) frames values =
 -- ---- each line is read
 
 frames_asked : (n : ℕ) → n < 2 ^ 32 → line_asks (canonical2 (Frames n)) ≡ Some (Frames n)
-unfolding line_asks line_command line_frames forms
+unfolding line_asks line_command line_frames line_forms
 frames_asked n small =
     rw (
       words-spaced (codes "frames") (n ∷ []) None (omega arith) refl (frames_values n small),
@@ -101,7 +101,7 @@ header_values : (seed : ℕ) → seed < 2 ^ 32 → HasValues (header_words seed)
 header_values seed small = record { small = one_small seed small; visible = tt }
 
 abbrev seed_words : ℕ → List ℕ
-seed_words seed = text_of (line (codes "seed") (seed ∷ []) None)
+seed_words seed = line_text (line_with (codes "seed") (seed ∷ []) None)
 
 header_split : (seed : ℕ) → seed < 2 ^ 32 →
     words_of (canonical_header seed)

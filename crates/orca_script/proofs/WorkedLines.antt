@@ -12,14 +12,14 @@ use Rattle.orca_script.specs.declared.forms.Verb.{Verb}
 use Rattle.orca_script.specs.declared.forms.Verb.TheVariants.{Frame, Write, Fill, Erase, Copy, Cut, Paste, Move, Resize, Reset, Undo, Rewind, Redo}
 use Rattle.orca_script.specs.declared.limits.TheConstants.{MAX_LINE_VALUES}
 use Rattle.orca_script.specs.Format2.{header_seed, header_reading, line_frames, line_asks, reading2}
-use Rattle.orca_script.specs.Grammar.{Form, forms, line_command, values_by, words_of}
-use Rattle.orca_script.specs.LineValues.{letters_of, command_of}
+use Rattle.orca_script.specs.Grammar.{LineForm, line_forms, line_command, values_by, words_of}
+use Rattle.orca_script.specs.LineValues.{letters_of, command_named}
 use Rattle.orca_script.specs.Reading.{step}
 use Rattle.orca_script.specs.Runs.{lines_behind, run_of}
 
 -- ---- the table
 
-abbrev row : List ℕ → List Kind → Verb → Form
+abbrev row : List ℕ → List Kind → Verb → LineForm
 row word kinds verb = record { word = word; kinds = kinds; verb = verb }
 
 abbrev place : List Kind
@@ -28,14 +28,14 @@ place = Number ∷ Number ∷ []
 abbrev block : List Kind
 block = Number ∷ Number ∷ Number ∷ Number ∷ []
 
-forms_are : forms
+forms_are : line_forms
     ≡ row (codes "frame") [] Frame ∷ row (codes "write") (place ++ Glyph ∷ []) Write
     ∷ row (codes "fill") (block ++ Glyph ∷ []) Fill ∷ row (codes "erase") block Erase
     ∷ row (codes "copy") block Copy ∷ row (codes "cut") block Cut ∷ row (codes "paste") place Paste
     ∷ row (codes "move") (block ++ place) Move ∷ row (codes "resize") place Resize
     ∷ row (codes "reset") [] Reset ∷ row (codes "undo") [] Undo
     ∷ row (codes "rewind") (Number ∷ []) Rewind ∷ row (codes "redo") [] Redo ∷ []
-unfolding forms
+unfolding line_forms
 forms_are = refl
 
 -- format 2 has one form more, and its first line
@@ -64,16 +64,16 @@ unfolding header_reading header_seed words_of number_of step
 other_format = refl
 
 frames_are_read : reading2 (codes "frames 12") ≡ Ok (Some (Frames 12))
-unfolding reading2 line_asks line_command line_frames forms words_of values_by number_of
+unfolding reading2 line_asks line_command line_frames line_forms words_of values_by number_of
 frames_are_read = refl
 
 frame_is_read : reading2 (codes "frame") ≡ Ok (Some (Do command.Frame))
-unfolding reading2 line_asks line_command line_frames forms words_of values_by number_of command_of
+unfolding reading2 line_asks line_command line_frames line_forms words_of values_by number_of command_named
 frame_is_read = refl
 
 -- without its number it goes on
 no_number : reading2 (codes "frames") ≡ Err (record { column = 7 })
-unfolding reading2 line_asks line_command line_frames forms words_of values_by number_of step
+unfolding reading2 line_asks line_command line_frames line_forms words_of values_by number_of step
 no_number = refl
 
 -- ---- runs

@@ -16,12 +16,12 @@ pub record Line : Type 0 where
   pub numbers : List ℕ
   pub glyph : Option ℕ
 
-abbrev pub line : List ℕ → List ℕ → Option ℕ → Line
-line word numbers glyph = record { word = word; numbers = numbers; glyph = glyph }
+abbrev pub line_with : List ℕ → List ℕ → Option ℕ → Line
+line_with word numbers glyph = record { word = word; numbers = numbers; glyph = glyph }
 
 -- a word, and its values after it, each after a space
-abbrev pub text_of : Line → List ℕ
-text_of l =
+abbrev pub line_text : Line → List ℕ
+line_text l =
     l.word
     ++ (flat_map (λ number. space ∷ decimal number) l.numbers
     ++ flat_map (λ glyph. space ∷ glyph ∷ []) (option_to_list l.glyph))
@@ -32,23 +32,23 @@ sides rect = rect.y ∷ rect.x ∷ rect.h ∷ rect.w ∷ []
 
 -- the line of a command
 unfoldable pub line_of : Command → Line
-line_of Frame = line (codes "frame") [] None
-line_of (Write y x glyph) = line (codes "write") (y ∷ x ∷ []) (Some glyph)
-line_of (Fill rect glyph) = line (codes "fill") (sides rect) (Some glyph)
-line_of (Erase rect) = line (codes "erase") (sides rect) None
-line_of (Copy rect) = line (codes "copy") (sides rect) None
-line_of (Cut rect) = line (codes "cut") (sides rect) None
-line_of (Paste y x) = line (codes "paste") (y ∷ x ∷ []) None
-line_of (Move rect y x) = line (codes "move") (sides rect ++ y ∷ x ∷ []) None
-line_of (Resize h w) = line (codes "resize") (h ∷ w ∷ []) None
-line_of Reset = line (codes "reset") [] None
-line_of Undo = line (codes "undo") [] None
-line_of (Rewind moment) = line (codes "rewind") (moment ∷ []) None
-line_of Redo = line (codes "redo") [] None
+line_of Frame = line_with (codes "frame") [] None
+line_of (Write y x glyph) = line_with (codes "write") (y ∷ x ∷ []) (Some glyph)
+line_of (Fill rect glyph) = line_with (codes "fill") (sides rect) (Some glyph)
+line_of (Erase rect) = line_with (codes "erase") (sides rect) None
+line_of (Copy rect) = line_with (codes "copy") (sides rect) None
+line_of (Cut rect) = line_with (codes "cut") (sides rect) None
+line_of (Paste y x) = line_with (codes "paste") (y ∷ x ∷ []) None
+line_of (Move rect y x) = line_with (codes "move") (sides rect ++ y ∷ x ∷ []) None
+line_of (Resize h w) = line_with (codes "resize") (h ∷ w ∷ []) None
+line_of Reset = line_with (codes "reset") [] None
+line_of Undo = line_with (codes "undo") [] None
+line_of (Rewind moment) = line_with (codes "rewind") (moment ∷ []) None
+line_of Redo = line_with (codes "redo") [] None
 
 -- the canonical line of a command
 abbrev pub canonical : Command → List ℕ
-canonical command = text_of (line_of command)
+canonical command = line_text (line_of command)
 
 -- the numbers have 32 bits, and the glyph is one
 pub record HasValues (l : Line) : Type 0 where

@@ -10,7 +10,7 @@ use Rattle.orca_script.specs.declared.forms.TheConstants.{FRAMES, HEADER}
 use Rattle.orca_script.specs.declared.format_2.Line.{Line}
 use Rattle.orca_script.specs.declared.format_2.Line.TheVariants.{Do, Frames}
 use Rattle.orca_script.specs.declared.refusal.ScriptRefusal.{ScriptRefusal}
-use Rattle.orca_script.specs.Grammar.{is_space, words_of, forms, has_no_command, line_command}
+use Rattle.orca_script.specs.Grammar.{is_space, words_of, line_forms, has_no_command, line_command}
 use Rattle.orca_script.specs.LineValues.{none}
 use Rattle.orca_script.specs.Reading.{Letters, reach, farthest}
 
@@ -82,4 +82,4 @@ unfoldable pub reading2 : List ℕ → Result (Option Line) ScriptRefusal
 reading2 line =
     if has_no_command line then Ok None
     else option_map_or (λ asked. Ok (Some asked)) (line_asks line)
-    (refused_at (max (farthest forms line (prefix_len is_space line)) (frames_reach line) + 1))
+    (refused_at (max (farthest line_forms line (prefix_len is_space line)) (frames_reach line) + 1))

@@ -12,7 +12,7 @@ use Rattle.orca_script.specs.declared.forms.Kind.{Kind}
 use Rattle.orca_script.specs.declared.forms.Kind.TheVariants.{Number, Glyph, Word}
 use Rattle.orca_script.specs.declared.forms.Verb.{Verb}
 use Rattle.orca_script.specs.declared.forms.TheConstants.{FORMS}
-use Rattle.orca_script.specs.LineValues.{LineValues, none, with_number, with_glyph, letters_of, command_of}
+use Rattle.orca_script.specs.LineValues.{LineValues, none, adding_number, with_glyph, letters_of, command_named}
 
 abbrev pub is_space : ℕ → Bool
 is_space byte = byte == space
@@ -25,48 +25,48 @@ unfoldable pub words_of : List ℕ → List (List ℕ)
 words_of line = filter is_word (slice_split is_space line)
 
 -- a word that is one glyph
-abbrev pub glyph_of : List ℕ → Option ℕ
-glyph_of (byte ∷ []) = if is_glyph byte then Some byte else None
-glyph_of _ = None
+abbrev pub glyph_word : List ℕ → Option ℕ
+glyph_word (byte ∷ []) = if is_glyph byte then Some byte else None
+glyph_word _ = None
 
 -- the values that words give by these kinds, one word for each, after those so far
 unfoldable pub values_by : LineValues → List Kind → List (List ℕ) → Option LineValues
 values_by values [] [] = Some values
 values_by values (Number ∷ kinds) (word ∷ words) =
-    option_and_then (λ number. values_by (with_number values number) kinds words) (number_of word)
+    option_and_then (λ number. values_by (adding_number values number) kinds words) (number_of word)
 values_by values (Glyph ∷ kinds) (word ∷ words) =
-    option_and_then (λ glyph. values_by (with_glyph values glyph) kinds words) (glyph_of word)
+    option_and_then (λ glyph. values_by (with_glyph values glyph) kinds words) (glyph_word word)
 values_by values (Word fixed ∷ kinds) (word ∷ words) =
     if bytes_eq word (letters_of fixed) then values_by values kinds words else None
 values_by values _ _ = None
 
 -- a form of a line: its word, the kinds of its values, and the name of its command
-pub record Form : Type 0 where
+pub record LineForm : Type 0 where
   pub word : List ℕ
   pub kinds : List Kind
   pub verb : Verb
 
 -- the forms of the table
-unfoldable pub forms : List Form
-forms = map (λ row. record { word = row.0.now; kinds = row.1.now; verb = row.2 }) FORMS
+unfoldable pub line_forms : List LineForm
+line_forms = map (λ row. record { word = row.0.now; kinds = row.1.now; verb = row.2 }) FORMS
 
 -- what the words of a line give by a form: the first is the form's word, and the others are its
 -- values
-abbrev pub values_by_form : Form → List (List ℕ) → Option LineValues
+abbrev pub values_by_form : LineForm → List (List ℕ) → Option LineValues
 values_by_form form [] = None
 values_by_form form (word ∷ words) =
     if bytes_eq word form.word then values_by none form.kinds words else None
 
 -- the command of the first of these forms that fits the words
-abbrev pub command_by : List Form → List (List ℕ) → Option Command
+abbrev pub command_by : List LineForm → List (List ℕ) → Option Command
 command_by [] words = None
 command_by (form ∷ others) words =
-    option_or (option_map (command_of form.verb) (values_by_form form words))
+    option_or (option_map (command_named form.verb) (values_by_form form words))
     (command_by others words)
 
 -- the command that a line asks for: no space stands before its first word
 unfoldable pub line_command : List ℕ → Option Command
-line_command line = if slice_index line 0 == space then None else command_by forms (words_of line)
+line_command line = if slice_index line 0 == space then None else command_by line_forms (words_of line)
 
 -- a line without a command: it is empty, it is spaces alone, or it begins with `#`
 abbrev pub has_no_command : List ℕ → Bool

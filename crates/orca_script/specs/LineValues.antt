@@ -22,8 +22,8 @@ pub record LineValues : Type 0 where
 abbrev pub none : LineValues
 none = record { numbers = []; glyph = empty }
 
-abbrev pub with_number : LineValues → ℕ → LineValues
-with_number values number = record values { numbers = values.numbers ++ number ∷ [] }
+abbrev pub adding_number : LineValues → ℕ → LineValues
+adding_number values number = record values { numbers = values.numbers ++ number ∷ [] }
 
 abbrev pub with_glyph : LineValues → ℕ → LineValues
 with_glyph values glyph = record values { glyph = glyph }
@@ -38,21 +38,21 @@ rect_of values = record {
 }
 
 -- the command of a name, made of what the words give
-unfoldable pub command_of : Verb → LineValues → Command
-command_of Frame values = command.Frame
-command_of Write values =
+unfoldable pub command_named : Verb → LineValues → Command
+command_named Frame values = command.Frame
+command_named Write values =
     command.Write (slice_index values.numbers 0) (slice_index values.numbers 1) values.glyph
-command_of Fill values = command.Fill (rect_of values) values.glyph
-command_of Erase values = command.Erase (rect_of values)
-command_of Copy values = command.Copy (rect_of values)
-command_of Cut values = command.Cut (rect_of values)
-command_of Paste values =
+command_named Fill values = command.Fill (rect_of values) values.glyph
+command_named Erase values = command.Erase (rect_of values)
+command_named Copy values = command.Copy (rect_of values)
+command_named Cut values = command.Cut (rect_of values)
+command_named Paste values =
     command.Paste (slice_index values.numbers 0) (slice_index values.numbers 1)
-command_of Move values =
+command_named Move values =
     command.Move (rect_of values) (slice_index values.numbers 4) (slice_index values.numbers 5)
-command_of Resize values =
+command_named Resize values =
     command.Resize (slice_index values.numbers 0) (slice_index values.numbers 1)
-command_of Reset values = command.Reset
-command_of Undo values = command.Undo
-command_of Rewind values = command.Rewind (slice_index values.numbers 0)
-command_of Redo values = command.Redo
+command_named Reset values = command.Reset
+command_named Undo values = command.Undo
+command_named Rewind values = command.Rewind (slice_index values.numbers 0)
+command_named Redo values = command.Redo

@@ -12,9 +12,9 @@ use Rattle.orca_script.specs.declared.format_2.Line.{Line}
 use Rattle.orca_script.specs.declared.format_2.Line.TheVariants.{Do, Frames}
 use Rattle.orca_script.specs.declared.reader.Next.{Next as Held}
 use Rattle.orca_script.specs.declared.reader.Next.TheVariants as held
-use Rattle.orca_script.specs.LineValues.{LineValues, none, with_number, command_of}
-use Rattle.orca_script.specs.Grammar.{is_space, Form, forms}
-use Rattle.orca_script.specs.Reading.{Next, Letters, Blank, Digits, State, state, start, step}
+use Rattle.orca_script.specs.LineValues.{LineValues, none, adding_number, command_named}
+use Rattle.orca_script.specs.Grammar.{is_space, LineForm, line_forms}
+use Rattle.orca_script.specs.Reading.{Next, Letters, Blank, Digits, ReadState, state, nothing_read, step}
 
 -- what comes next, as the reader holds it
 abbrev pub next_of : Held → Next
@@ -29,26 +29,26 @@ values_left (Blank kinds) = length kinds
 values_left (Digits count value kinds) = suc (length kinds)
 
 -- a row of the table
-abbrev pub form_of : Bor (List ℕ) × Bor (List Kind) × Verb → Form
+abbrev pub form_of : Bor (List ℕ) × Bor (List Kind) × Verb → LineForm
 form_of row = record { word = row.0.now; kinds = row.1.now; verb = row.2 }
 
 -- the values where the line ends; none where the form goes on
 unfoldable pub values_at_end : Next → LineValues → Option LineValues
 values_at_end (Letters [] []) values = Some values
 values_at_end (Blank []) values = Some values
-values_at_end (Digits count value []) values = Some (with_number values value)
+values_at_end (Digits count value []) values = Some (adding_number values value)
 values_at_end _ values = None
 
 -- what the bytes after the first i give, or how many bytes go along the form
-unfoldable pub read_on : List ℕ → ℕ → State → Result LineValues ℕ
+unfoldable pub read_on : List ℕ → ℕ → ReadState → Result LineValues ℕ
 read_on [] i s = ok_or (values_at_end s.next s.values) i
 read_on (byte ∷ bytes) i s =
     option_map_or (read_on bytes (i + 1)) (step s.next s.values byte) (Err i)
 
 -- the command of a line by a form; else how many of its bytes go along the form
-abbrev pub read_form : Form → List ℕ → Result Command ℕ
+abbrev pub read_form : LineForm → List ℕ → Result Command ℕ
 read_form form line =
-    result_map_both (command_of form.verb) (λ count. count) (read_on line 0 (start form))
+    result_map_both (command_named form.verb) (λ count. count) (read_on line 0 (nothing_read form))
 
 -- the first number of a line by a form of this word and these kinds; else how many of its bytes go
 -- along the form
@@ -64,7 +64,7 @@ or_else_read others (Err count) = others count
 
 -- the command of the first of these forms that fits the line; else how many of its bytes go along
 -- one of them, or this number if it is larger
-unfoldable pub read_by : List Form → List ℕ → ℕ → Result Command ℕ
+unfoldable pub read_by : List LineForm → List ℕ → ℕ → Result Command ℕ
 read_by [] line most = Err most
 read_by (form ∷ others) line most =
     or_else_read (λ count. read_by others line (max most count)) (read_form form line)
@@ -81,4 +81,4 @@ or_else_frames (Err other) (Err count) = Err (max count other)
 abbrev pub asked_by : List ℕ → Result Line ℕ
 asked_by line =
     or_else_frames (read_number FRAMES.0.now FRAMES.1.now line)
-    (read_by forms line (prefix_len is_space line))
+    (read_by line_forms line (prefix_len is_space line))

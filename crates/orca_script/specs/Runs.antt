@@ -8,7 +8,7 @@ use Rattle.orca_base.specs.declared.command.Command.{Command}
 use Rattle.orca_base.specs.declared.command.Command.TheVariants.{Frame}
 use Rattle.orca_script.specs.declared.format_2.Line.{Line}
 use Rattle.orca_script.specs.declared.format_2.Line.TheVariants.{Do, Frames}
-use Rattle.orca_script.specs.Canonical.{Line as Words, canonical, line, printed, text_of, line_of, HasValues}
+use Rattle.orca_script.specs.Canonical.{Line as Words, canonical, line_with, printed, line_text, line_of, HasValues}
 use Rattle.orca_script.specs.Format2.{header_reading, reading2}
 use Rattle.orca_script.specs.Reading.{reading}
 
@@ -16,10 +16,10 @@ use Rattle.orca_script.specs.Reading.{reading}
 
 -- the words of the first line
 abbrev pub header_words : ℕ → Words
-header_words seed = line (codes "!orca 2 seed") (seed ∷ []) None
+header_words seed = line_with (codes "!orca 2 seed") (seed ∷ []) None
 
 abbrev pub canonical_header : ℕ → List ℕ
-canonical_header seed = text_of (header_words seed)
+canonical_header seed = line_text (header_words seed)
 
 -- what is printed of a seed: the canonical first line and a line feed
 abbrev pub printed_header : ℕ → List ℕ
@@ -28,10 +28,10 @@ printed_header seed = canonical_header seed ++ line_feed ∷ []
 -- the words of another line
 abbrev pub words_asking : Line → Words
 words_asking (Do command) = line_of command
-words_asking (Frames times) = line (codes "frames") (times ∷ []) None
+words_asking (Frames times) = line_with (codes "frames") (times ∷ []) None
 
 abbrev pub canonical2 : Line → List ℕ
-canonical2 asked = text_of (words_asking asked)
+canonical2 asked = line_text (words_asking asked)
 
 -- what is printed of it: its canonical line and a line feed
 abbrev pub printed2 : Line → List ℕ

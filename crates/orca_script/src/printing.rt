@@ -5,7 +5,7 @@ ghost use Rattle.std.specs.List.{flat_map};
 ghost use Rattle.orca_base.specs.Ascii.{line_feed, space};
 ghost use Rattle.std.specs.Fmt.{decimal};
 ghost use Rattle.std.specs.Str.Lines.{lines};
-ghost use Rattle.orca_script.specs.Canonical.{canonical, printed, text_of, line, line_of, sides as sides_of, HasValues, Extends};
+ghost use Rattle.orca_script.specs.Canonical.{canonical, printed, line_text, line_with, line_of, sides as sides_of, HasValues, Extends};
 ghost use Rattle.orca_script.specs.Reading.{reading};
 
 use itoa::Buffer;
@@ -76,8 +76,8 @@ pub(crate) fn push_line(
     into: &mut Vec<u8>,
 ) -> Result<(), Memory>
     ensures ok { OnOk result (into.new.items
-        ≡ into.old.items ++ (text_of (line word.now numbers.now glyph) ++ line_feed ∷ [])) }
-    ensures values { OnOk result (HasValues (line word.now numbers.now glyph)) }
+        ≡ into.old.items ++ (line_text (line_with word.now numbers.now glyph) ++ line_feed ∷ [])) }
+    ensures values { OnOk result (HasValues (line_with word.now numbers.now glyph)) }
     ensures err { OnErr result (Extends into.old.items into.new.items) }
 {
     into.extend_from_slice(word)?;

@@ -3,7 +3,7 @@
 ghost use Rattle.std.specs.Prelude.{◌≡◌, ◌≤◌, ◌<◌, ◌↔◌, ◌∷◌, [], Some, None, Ok, Err, IfErr, IsTrue, length, map, All};
 ghost use Rattle.std.specs.List.{list_all, prefix_len};
 ghost use Rattle.orca_base.specs.declared.command.Command.{Command};
-ghost use Rattle.orca_script.specs.Grammar.{is_space, forms, has_no_command as has_none, line_command, IsRefusedAt};
+ghost use Rattle.orca_script.specs.Grammar.{is_space, line_forms, has_no_command as has_none, line_command, IsRefusedAt};
 ghost use Rattle.orca_script.specs.Readers.{form_of, read_by};
 ghost use Rattle.orca_script.specs.Reading.{reading};
 
@@ -65,9 +65,9 @@ fn leading_spaces(line: &[u8]) -> usize
 
 /// The command that a line asks for; else how many of its bytes are spaces before any other byte, or
 /// go along a form, whichever is more.
-#[tactic(auto, unfolding(crate::specs::Grammar::forms))]
+#[tactic(auto, unfolding(crate::specs::Grammar::line_forms))]
 pub(crate) fn read_command(line: &[u8]) -> Result<Command, usize>
-    ensures read { result ≡ read_by forms line.now (prefix_len is_space line.now) }
+    ensures read { result ≡ read_by line_forms line.now (prefix_len is_space line.now) }
     ensures within { IfErr result (λ count. count ≤ length line.now) }
 {
     read_forms(&FORMS, line)

@@ -34,10 +34,10 @@ pub(crate) struct Reader<'a> {
 impl<'a> Model for Reader<'a> {
     ghost use Rattle.std.specs.Prelude.{◌+◌, ◌≤◌, length};
     ghost use Rattle.orca_script.specs.Readers.{values_left};
-    ghost use Rattle.orca_script.specs.Reading.{State};
+    ghost use Rattle.orca_script.specs.Reading.{ReadState};
     ghost use Rattle.orca_script.specs.declared.limits.TheConstants.{MAX_LINE_VALUES};
 
-    ghost Value = { State };
+    ghost Value = { ReadState };
 
     ghost use Rattle.orca_script.specs.Readers.{next_of};
 

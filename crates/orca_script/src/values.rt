@@ -1,7 +1,7 @@
 //! What the words of a line give.
 
 ghost use Rattle.std.specs.Prelude.{◌≡◌, ◌<◌, [], ◌∷◌, ◌++◌, length, slice_index};
-ghost use Rattle.orca_script.specs.LineValues.{none, with_number, with_glyph, rect_of, command_of};
+ghost use Rattle.orca_script.specs.LineValues.{none, adding_number, with_glyph, rect_of, command_named};
 
 use crate::forms::Verb;
 use crate::limits::MAX_LINE_VALUES;
@@ -43,7 +43,7 @@ impl Values {
     /// Adds a number after the others, where one more fits.
     pub(crate) fn add_number(&mut self, number: u32)
         requires { length self.old.numbers < MAX_LINE_VALUES }
-        ensures { self.new ≡ with_number self.old number }
+        ensures { self.new ≡ adding_number self.old number }
     {
         self.numbers[self.count] = number;
         self.count += 1;
@@ -82,9 +82,9 @@ impl Values {
     }
 
     /// The command of this name.
-    #[tactic(auto, unfolding(crate::specs::LineValues::command_of))]
+    #[tactic(auto, unfolding(crate::specs::LineValues::command_named))]
     pub(crate) fn command(&self, verb: Verb) -> Command
-        ensures { result ≡ command_of verb self.now }
+        ensures { result ≡ command_named verb self.now }
     {
         match verb {
             Verb::Frame => Command::Frame,

@@ -25,13 +25,13 @@ label_of (Tick tick) = decimal tick
 label_of End = codes "end"
 
 -- the label, the port and the bytes
-unfoldable pub line_of : Label → Sent → List ℕ
-line_of label sent =
+unfoldable pub sent_line : Label → Sent → List ℕ
+sent_line label sent =
     label_of label ++ space ∷ port_name sent.port ++ flat_map hex_byte sent.bytes ++ line_feed ∷ []
 
 -- the line of a message, on the text port
 abbrev pub line_sent : Label → Message → Sent
-line_sent label message = record { port = port.Text; bytes = line_of label (sent_of message) }
+line_sent label message = record { port = port.Text; bytes = sent_line label (sent_of message) }
 
 -- a line for each message, in order
 abbrev pub lines_of : Label → List Message → List Sent

@@ -1,7 +1,7 @@
 ghost use Rattle.std.specs.Prelude.{◌≡◌, ◌<◌, ◌++◌, [], ◌∷◌, OnOk, OnErr};
 ghost use Rattle.std.specs.Fmt.{decimal};
 ghost use Rattle.std.specs.List.{flat_map};
-ghost use Rattle.orca_send.specs.Lines.{hex_digit, hex_byte, label_of, line_of};
+ghost use Rattle.orca_send.specs.Lines.{hex_digit, hex_byte, label_of, sent_line};
 
 use itoa::Buffer;
 use orca_base::{Memory, Port};
@@ -18,7 +18,7 @@ pub enum Label {
 /// Makes `line` the line of a message's port and bytes. Where memory is refused, `line` is empty.
 pub fn write_line(line: &mut Vec<u8>, label: Label, port: Port, bytes: &[u8]) -> Result<(), Memory>
     ensures ok { OnOk result (line.new.items
-        ≡ line_of label (record { port = port; bytes = bytes.now })) }
+        ≡ sent_line label (record { port = port; bytes = bytes.now })) }
     ensures err { OnErr result (line.new.items ≡ []) }
 {
     line.clear();
@@ -33,10 +33,10 @@ pub fn write_line(line: &mut Vec<u8>, label: Label, port: Port, bytes: &[u8]) ->
 
 /// Appends the line of a message's port and bytes. Where memory is refused, a part may stand after
 /// what was there.
-#[tactic(auto, unfolding(crate::specs::Lines::line_of))]
+#[tactic(auto, unfolding(crate::specs::Lines::sent_line))]
 fn push_line(line: &mut Vec<u8>, label: Label, port: Port, bytes: &[u8]) -> Result<(), Memory>
     ensures { OnOk result (line.new.items
-        ≡ line.old.items ++ line_of label (record { port = port; bytes = bytes.now })) }
+        ≡ line.old.items ++ sent_line label (record { port = port; bytes = bytes.now })) }
 {
     push_label(line, label)?;
     line.push(b' ')?;

@@ -21,7 +21,7 @@ use Rattle.orca_history.specs.declared.ring.Kept.{Kept}
 use Rattle.orca_history.specs.Trails.{Trail, IsTrail, patch_at, touched_of, trail_jumped, untouched}
 use Rattle.orca_history.proofs.Keeping.{kept-jumped, newest-jumped}
 use Rattle.orca_patch.specs.Patches.{Before}
-use Rattle.orca_session.specs.Past.{PastState, IsPast, Undoes, moment_of, past_jumped, plain, point_at, present, touched_at}
+use Rattle.orca_session.specs.Past.{PastState, IsPast, Undoes, moment_of, past_jumped, plain_machine, point_at, present, touched_at}
 use Rattle.orca_session.proofs.PastLemmas.{undoes-more, undoes-same}
 
 moment-jumped : (p : PastState) (moment : ℕ) (patch : Before) (points : Points) (n : ℕ)
@@ -51,7 +51,7 @@ last-jumped p moment patch points below =
 -- the first entries and their pieces are the same
 agree-jumped : (p : PastState) (moment : ℕ) (patch : Before) (points : Points)
     → moment < length p.trail.entries
-    → AgreeUpTo moment (plain p) (plain (past_jumped p moment patch points))
+    → AgreeUpTo moment (plain_machine p) (plain_machine (past_jumped p moment patch points))
 agree-jumped p moment patch points below =
     let long : length (take moment p.trail.entries) ≡ moment =
     length-take-le moment p.trail.entries (omega (arith, below)) in
@@ -81,7 +81,7 @@ keeps-jumped p moment patch points past within undoes n b below is =
           (ap silence (sym (moment-jumped p moment patch points n (omega (arith, earlier)) within)))
           (ap silence
           (sym (moment-jumped p moment patch points (n + 1) (omega (arith, earlier)) within)))
-          (of_entry-agree touched touched-same moment n (plain p) (plain q)
+          (of_entry-agree touched touched-same moment n (plain_machine p) (plain_machine q)
           (agree-jumped p moment patch points within) earlier)
           (past.patches.each n b (omega (arith, earlier, within))
           (sym (kept-jumped t moment patch n past.trail within earlier) ∙ is))
@@ -107,23 +107,23 @@ keeps-jumped p moment patch points past within undoes n b below is =
 touched-jumped : (p : PastState) (moment : ℕ) (patch : Before) (points : Points) → IsPast p
     → moment < length p.trail.entries
     → touched_of (past_jumped p moment patch points).trail.kept
-    ≡ touched_from (plain (past_jumped p moment patch points)) (min p.trail.first moment)
+    ≡ touched_from (plain_machine (past_jumped p moment patch points)) (min p.trail.first moment)
 touched-jumped p moment patch points past within =
     let first : List Kept = take (moment - p.trail.first) p.trail.kept in
     map-append (λ (k : Kept). k.touched) first (untouched patch ∷ [])
     ∙ (ap (λ (l : List ℕ). l ++ 0 ∷ [])
     (sym (take-map (λ (k : Kept). k.touched) (moment - p.trail.first) p.trail.kept)
     ∙ ap (take (moment - p.trail.first)) past.touched)
-    ∙ sym (touched_from-jumped (plain p) (plain (past_jumped p moment patch points)) moment
+    ∙ sym (touched_from-jumped (plain_machine p) (plain_machine (past_jumped p moment patch points)) moment
     p.trail.first refl refl refl within))
 
 -- a jump wears no patch
 pub first-jumped : (p : PastState) (moment : ℕ) (patch : Before) (points : Points) → IsPast p
     → moment < length p.trail.entries
-    → least_first (plain (past_jumped p moment patch points)) (min p.trail.first moment)
+    → least_first (plain_machine (past_jumped p moment patch points)) (min p.trail.first moment)
     ≡ (past_jumped p moment patch points).trail.first
 first-jumped p moment patch points past within =
-    jump_wears_none (plain p) (plain (past_jumped p moment patch points)) moment p.trail.first
+    jump_wears_none (plain_machine p) (plain_machine (past_jumped p moment patch points)) moment p.trail.first
     refl refl refl within
     (ap few_touched (sym past.touched) ∙ past.trail.few)
 

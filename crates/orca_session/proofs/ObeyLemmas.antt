@@ -18,7 +18,7 @@ use Rattle.orca_base.specs.Grids.{Size, Sheet}
 use Rattle.orca_base.specs.Histories.{group_of, last_edit}
 use Rattle.orca_edit.specs.Editing.{IsGridEdit}
 use Rattle.orca_edit.specs.Machines.{Obeys, is_jump, obeyed}
-use Rattle.orca_edit.specs.Obeying.{MachineState, Test, accept, adds_entry, block_rule, block_tests, carry_out, clip_after, entry_of, extend, first_standing, has_no_room, history_tests, jump, obey, piece_of, redo, redoes_nothing, refuse, reply_of, rule_against, taken_area, test, undoes_nothing, rewinds_too_far}
+use Rattle.orca_edit.specs.Obeying.{MachineState, Test, accept, adds_entry, block_rule, block_tests, carry_out, clip_after, entry_of, extend, first_standing, has_no_room, history_tests, jump_to, obey, piece_of, redo, redoes_nothing, refuse, reply_of, rule_against, taken_area, test, undoes_nothing, rewinds_too_far}
 use Rattle.orca_edit.specs.Pieces.{Piece, apply}
 use Rattle.orca_session.specs.Session.{IsBlockEdit, clip_with}
 
@@ -171,12 +171,12 @@ unfolding accept entry_of taken_area
 obey-reset m allowed = obey-accepted m command.Reset allowed
 
 pub obey-rewind : (m : MachineState) (moment : ℕ) → rule_against m (command.Rewind moment) ≡ None
-    → obey m (command.Rewind moment) ≡ jump m moment
+    → obey m (command.Rewind moment) ≡ jump_to m moment
 unfolding accept
 obey-rewind m moment allowed = obey-accepted m (command.Rewind moment) allowed
 
 pub obey-undo : (m : MachineState) (moment : ℕ) → rule_against m command.Undo ≡ None
-    → last_edit m.history ≡ Some moment → obey m command.Undo ≡ jump m moment
+    → last_edit m.history ≡ Some moment → obey m command.Undo ≡ jump_to m moment
 unfolding accept
 obey-undo m moment allowed is = obey-accepted m command.Undo allowed ∙ rw is refl
 

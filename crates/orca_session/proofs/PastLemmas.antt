@@ -19,7 +19,7 @@ use Rattle.orca_edit.specs.Pricing.{TouchesBothWays}
 use Rattle.orca_edit.proofs.FitLemmas.{AllFit-same, fits-moment}
 use Rattle.orca_edit.proofs.FoldLemmas.{piece_after-closed, piece_after-next, piece_after-zero, seed-fold_entries, silence-closes, silence-piece_after, tick-piece_after}
 use Rattle.orca_history.specs.Trails.{Trail, IsKept, IsTrail, patch_at, trail_at_start}
-use Rattle.orca_op.specs.Desk.{Desk, IsDesk, changes_of}
+use Rattle.orca_op.specs.Slate.{Slate, IsSlate, changes_of}
 use Rattle.orca_op.specs.State.{sheet_of}
 use Rattle.orca_patch.specs.Patches.{Before, CoversCut, before_of, no_change, sheet_before}
 use Rattle.orca_patch.proofs.Inverse.{covers-cut, covers-no_change, sheet-back, sheet-no_change}
@@ -103,16 +103,16 @@ undoes-more patch p q m n more undoes = record {
 }
 
 -- the patch of what a board has changed
-pub undoes-changes : (d : Desk) (tick : ℕ) (before after : Piece) (most : ℕ) → IsDesk d
+pub undoes-changes : (d : Slate) (tick : ℕ) (before after : Piece) (most : ℕ) → IsSlate d
     → d.began ≡ before.sheet → tick ≡ before.tick → sheet_of d.scan ≡ after.sheet
     → length d.listed + length (cut_places after.sheet.dims before.sheet.dims) ≤ most
     → Undoes (before_of d tick) before after most
-undoes-changes d tick before after most desk began same sheet few = record {
+undoes-changes d tick before after most slate began same sheet few = record {
   sheet = ap (λ (g : Sheet). sheet_before (before_of d tick) g) (sym sheet)
-      ∙ (sheet-back d tick desk ∙ began);
+      ∙ (sheet-back d tick slate ∙ began);
   tick = same;
   covers = subst (λ (g : Sheet). CoversCut (before_of d tick) g.dims) sheet
-      (covers-cut d tick desk);
+      (covers-cut d tick slate);
   few = omega (
     arith,
     few,
@@ -239,7 +239,7 @@ pub tick-next : (p : PastState) (n : ℕ) (entry : Entry)
 tick-next p n entry is = sym (ap (λ (s : Piece). s.tick) (next-moment p n entry is))
 
 -- the patch of what a board has changed, from its parts
-pub changes-parts : (d : Desk) (dims : Size) (tick : ℕ) (changes : List Change)
+pub changes-parts : (d : Slate) (dims : Size) (tick : ℕ) (changes : List Change)
     → dims ≡ d.began.dims → changes ≡ changes_of d
     → record { dims = dims; tick = tick; changes = changes } ≡ before_of d tick
 changes-parts d dims tick changes size same =

@@ -18,42 +18,42 @@ use Rattle.orca_base.specs.declared.message.Message.{Message}
 use Rattle.orca_base.specs.Grids.{Size, Sheet, cells_of}
 use Rattle.orca_board.specs.Laws.{BeginLaw}
 use Rattle.orca_board.specs.Sizes.{cut_places}
-use Rattle.orca_edit.specs.Editing.{FitsIn, IsGridEdit, desk_with, steps_of}
+use Rattle.orca_edit.specs.Editing.{FitsIn, IsGridEdit, slate_with, steps_of}
 use Rattle.orca_edit.specs.Machines.{obeyed}
-use Rattle.orca_edit.specs.Obeying.{MachineState, Obeyed, entry_of, jump, obey, piece_of}
+use Rattle.orca_edit.specs.Obeying.{MachineState, Obeyed, entry_of, jump_to, obey, piece_of}
 use Rattle.orca_edit.specs.Pieces.{Piece, apply}
-use Rattle.orca_edit.specs.Prices.{Kept, best_moment, bill_of, change_price, charge, entry_price, fits_from, jump_price, jumped, kept_after, kept_by, kept_cells, least_first, load_price, new_cells, piece_at, price, pushed, redo_price, total, touched, undo_price}
+use Rattle.orca_edit.specs.Prices.{Kept, best_moment, bill_of, change_price, charge, entry_price, fits_from, jump_price, jumped, kept_after, kept_by, kept_cells, least_first, load_price, new_cells, moment_piece, price, pushed, redo_price, total, touched, undo_price}
 use Rattle.orca_edit.specs.Pricing.{AgreeUpTo, IgnoresNotesOf, ListsPlaces, PaysTwice, TouchesBothWays, listed_by}
 use Rattle.orca_edit.proofs.FoldLemmas.{silence-closes}
 use Rattle.orca_edit.proofs.PriceLemmas.{change_price-same, charge-reply, piece_at-agree, price-same, total-agree, touched-same}
-use Rattle.orca_op.specs.Desk.{Desk, desk_at_begin, desk_of_sheet, residue}
+use Rattle.orca_op.specs.Slate.{Slate, slate_at_begin, slate_of_sheet, residue}
 use Rattle.orca_op.specs.State.{sheet_of}
 use Rattle.orca_op.specs.First.{first_where}
-use Rattle.orca_session.specs.Past.{PastState, machine_of, plain}
+use Rattle.orca_session.specs.Past.{PastState, machine_of, plain_machine}
 use Rattle.orca_session.specs.Session.{edit_price}
 use Rattle.orca_session.proofs.PriceLemmas.{no-cut, pays-refused}
 
 -- ---- the machine, and the past alone
 
 agree-plain : (p : PastState) (clip : Option Sheet) (n : ℕ)
-    → AgreeUpTo n (plain p) (machine_of p clip)
+    → AgreeUpTo n (plain_machine p) (machine_of p clip)
 agree-plain p clip n = record { opened = refl; seed = refl; entries = refl }
 
 total-plain : (f : Piece → Entry → ℕ) → IgnoresNotesOf f
     → (p : PastState) (clip : Option Sheet) (from to : ℕ)
-    → total f (plain p) from to ≡ total f (machine_of p clip) from to
+    → total f (plain_machine p) from to ≡ total f (machine_of p clip) from to
 total-plain f ignores p clip from to =
-    total-agree f ignores to from to (plain p) (machine_of p clip) (agree-plain p clip to)
+    total-agree f ignores to from to (plain_machine p) (machine_of p clip) (agree-plain p clip to)
     (omega arith)
 
 size-plain : (p : PastState) (clip : Option Sheet) (n : ℕ)
-    → (piece_at (plain p) n).sheet.dims ≡ (piece_at (machine_of p clip) n).sheet.dims
+    → (moment_piece (plain_machine p) n).sheet.dims ≡ (moment_piece (machine_of p clip) n).sheet.dims
 size-plain p clip n =
     ap (λ (x : Piece). x.sheet.dims)
-    (piece_at-agree n n (plain p) (machine_of p clip) (agree-plain p clip n) (omega arith))
+    (piece_at-agree n n (plain_machine p) (machine_of p clip) (agree-plain p clip n) (omega arith))
 
 present-plain : (p : PastState) (clip : Option Sheet)
-    → (piece_of (plain p)).sheet.dims ≡ (piece_of (machine_of p clip)).sheet.dims
+    → (piece_of (plain_machine p)).sheet.dims ≡ (piece_of (machine_of p clip)).sheet.dims
 present-plain p clip =
     ap (λ (x : Piece). x.sheet.dims)
     (silence-closes p.opened p.seed p.trail.entries 0 p.closed)
@@ -69,37 +69,37 @@ first_where-same f g same from (suc many) =
     (first_where-same f g same (from + 1) many)
 
 first-plain : (p : PastState) (clip : Option Sheet) (first : ℕ)
-    → least_first (plain p) first ≡ least_first (machine_of p clip) first
+    → least_first (plain_machine p) first ≡ least_first (machine_of p clip) first
 unfolding least_first
 first-plain p clip first =
     ap (λ (o : Option ℕ). unwrap_or o (length p.trail.entries))
-    (first_where-same (fits_from (plain p)) (fits_from (machine_of p clip))
+    (first_where-same (fits_from (plain_machine p)) (fits_from (machine_of p clip))
     (λ k. ap (λ (n : ℕ). nat_le n KEPT_TOUCHED)
     (total-plain touched touched-same p clip k (length p.trail.entries)))
     (max first (length p.trail.entries - KEPT_PATCHES))
     (length p.trail.entries - max first (length p.trail.entries - KEPT_PATCHES)))
 
 pub pushed-plain : (p : PastState) (clip : Option Sheet) (k : Kept)
-    → pushed (plain p) k ≡ pushed (machine_of p clip) k
+    → pushed (plain_machine p) k ≡ pushed (machine_of p clip) k
 pushed-plain p clip k =
     ap (λ (f : ℕ). record (pushed (machine_of p clip) k) { first = f })
     (first-plain p clip k.first)
 
 pub jumped-plain : (p : PastState) (clip : Option Sheet) (k : Kept) (moment : ℕ)
-    → jumped (plain p) k moment ≡ jumped (machine_of p clip) k moment
+    → jumped (plain_machine p) k moment ≡ jumped (machine_of p clip) k moment
 jumped-plain p clip k moment = pushed-plain p clip (record k { first = min k.first moment })
 
 cells-plain : (p : PastState) (clip : Option Sheet) (s n : ℕ)
-    → kept_cells s (plain p) n ≡ kept_cells s (machine_of p clip) n
+    → kept_cells s (plain_machine p) n ≡ kept_cells s (machine_of p clip) n
 cells-plain p clip s n =
     ap (λ (d : Size). if n % s == 0 then cells_of d else 0) (size-plain p clip n)
 
 pub new-plain : (p : PastState) (clip : Option Sheet) (s : ℕ)
-    → new_cells s (plain p) ≡ new_cells s (machine_of p clip)
+    → new_cells s (plain_machine p) ≡ new_cells s (machine_of p clip)
 new-plain p clip s = cells-plain p clip s (length p.trail.entries)
 
 undo-plain : (p : PastState) (clip : Option Sheet) (moment : ℕ)
-    → undo_price (plain p) moment ≡ undo_price (machine_of p clip) moment
+    → undo_price (plain_machine p) moment ≡ undo_price (machine_of p clip) moment
 undo-plain p clip moment =
     omega (
       arith,
@@ -107,7 +107,7 @@ undo-plain p clip moment =
     )
 
 load-plain : (p : PastState) (clip : Option Sheet) (from moment : ℕ)
-    → load_price (plain p) from moment ≡ load_price (machine_of p clip) from moment
+    → load_price (plain_machine p) from moment ≡ load_price (machine_of p clip) from moment
 load-plain p clip from moment =
     omega (
       arith,
@@ -117,28 +117,28 @@ load-plain p clip from moment =
     )
 
 pub jump-plain : (p : PastState) (clip : Option Sheet) (k : Kept) (moment : ℕ)
-    → jump_price (plain p) k moment ≡ jump_price (machine_of p clip) k moment
+    → jump_price (plain_machine p) k moment ≡ jump_price (machine_of p clip) k moment
 jump-plain p clip k moment =
     ap (λ (n : ℕ). if nat_le k.first moment then n
-    else load_price (plain p) (best_moment k.spacing moment) moment) (undo-plain p clip moment)
+    else load_price (plain_machine p) (best_moment k.spacing moment) moment) (undo-plain p clip moment)
     ∙ ap (λ (n : ℕ). if nat_le k.first moment then undo_price (machine_of p clip) moment else n)
     (load-plain p clip (best_moment k.spacing moment) moment)
 
 cells-sum : (p : PastState) (clip : Option Sheet) (s from many : ℕ)
-    → sum_by (kept_cells s (plain p)) (range_with_len from many)
+    → sum_by (kept_cells s (plain_machine p)) (range_with_len from many)
     ≡ sum_by (kept_cells s (machine_of p clip)) (range_with_len from many)
 cells-sum p clip s from zero = refl
 cells-sum p clip s from (suc many) =
     omega (
       arith,
-      sum_by-cons (kept_cells s (plain p)) from (range_with_len (from + 1) many),
+      sum_by-cons (kept_cells s (plain_machine p)) from (range_with_len (from + 1) many),
       sum_by-cons (kept_cells s (machine_of p clip)) from (range_with_len (from + 1) many),
       cells-plain p clip s from,
       cells-sum p clip s (from + 1) many,
     )
 
 pub redo-plain : (p : PastState) (clip : Option Sheet) (k : Kept) (group : ℕ)
-    → redo_price (plain p) k group ≡ redo_price (machine_of p clip) k group
+    → redo_price (plain_machine p) k group ≡ redo_price (machine_of p clip) k group
 redo-plain p clip k group =
     omega (
       arith,
@@ -199,24 +199,24 @@ on-both (Err e) both p q = tt
 -- ---- a grid edit
 
 -- the board after a begin has the grid alone, and nothing to clear
-pub begun-clear : BeginLaw → (old new : Desk) (g : Sheet) → new ≡ desk_at_begin old
-    → sheet_of old.scan ≡ g → (new ≡ desk_of_sheet g) × (residue new ≡ 0)
+pub begun-clear : BeginLaw → (old new : Slate) (g : Sheet) → new ≡ slate_at_begin old
+    → sheet_of old.scan ≡ g → (new ≡ slate_of_sheet g) × (residue new ≡ 0)
 begun-clear law old new g is same =
-    let laid : new ≡ desk_of_sheet g = is ∙ ap desk_of_sheet same in
+    let laid : new ≡ slate_of_sheet g = is ∙ ap slate_of_sheet same in
     (laid, ap residue laid ∙ law g)
 
 -- the entry lists its places
-pub edit-lists : ListsPlaces → (p : Piece) (entry : Entry) (begun new : Desk) → IsGridEdit entry
-    → FitsIn p.sheet.dims entry → begun ≡ desk_of_sheet p.sheet → new ≡ desk_with begun entry
+pub edit-lists : ListsPlaces → (p : Piece) (entry : Entry) (begun new : Slate) → IsGridEdit entry
+    → FitsIn p.sheet.dims entry → begun ≡ slate_of_sheet p.sheet → new ≡ slate_with begun entry
     → new.listed ≡ listed_by p entry
 edit-lists law p entry begun new edit fits laid is =
-    ap (λ (d : Desk). d.listed) (is ∙ ap (λ (d : Desk). desk_with d entry) laid)
+    ap (λ (d : Slate). d.listed) (is ∙ ap (λ (d : Slate). slate_with d entry) laid)
     ∙ law p entry edit fits
 
 -- a begin, the edit, and what is left to clear
-pub pays-change : PaysTwice → (p : Piece) (entry : Entry) (old begun new : Desk)
+pub pays-change : PaysTwice → (p : Piece) (entry : Entry) (old begun new : Slate)
     (from mid to : ℕ) → IsGridEdit entry → FitsIn p.sheet.dims entry
-    → begun ≡ desk_of_sheet p.sheet → residue begun ≡ 0 → mid ≡ from + 1 + residue old
+    → begun ≡ slate_of_sheet p.sheet → residue begun ≡ 0 → mid ≡ from + 1 + residue old
     → to ≡ mid + steps_of begun.scan.dims entry → residue new + mid ≤ residue begun + to
     → to + residue new ≤ from + residue old + price p entry
 pays-change pays p entry old begun new from mid to edit fits laid clear first steps grows =
@@ -227,13 +227,13 @@ pays-change pays p entry old begun new from mid to edit fits laid clear first st
       first,
       steps,
       grows,
-      ap (λ (d : Desk). steps_of d.scan.dims entry) laid,
+      ap (λ (d : Slate). steps_of d.scan.dims entry) laid,
     )
 
 -- the same, taken back
 pub pays-taken_back : PaysTwice → TouchesBothWays → (p : Piece) (entry : Entry)
-    (old begun new last : Desk) (size : Size) (from mid to end : ℕ) → IsGridEdit entry
-    → FitsIn p.sheet.dims entry → begun ≡ desk_of_sheet p.sheet → residue begun ≡ 0
+    (old begun new last : Slate) (size : Size) (from mid to end : ℕ) → IsGridEdit entry
+    → FitsIn p.sheet.dims entry → begun ≡ slate_of_sheet p.sheet → residue begun ≡ 0
     → mid ≡ from + 1 + residue old → to ≡ mid + steps_of begun.scan.dims entry
     → residue new + mid ≤ residue begun + to
     → sheet_of new.scan ≡ (apply p entry).piece.sheet → size ≡ p.sheet.dims
@@ -249,7 +249,7 @@ pays-taken_back pays both p entry old begun new last size from mid to end edit f
       steps,
       grows,
       back,
-      ap (λ (d : Desk). steps_of d.scan.dims entry) laid,
+      ap (λ (d : Slate). steps_of d.scan.dims entry) laid,
       ap (λ (g : Sheet). length (cut_places g.dims size)) sheet,
       ap (λ (d : Size). length (cut_places (apply p entry).piece.sheet.dims d)) same,
     )
@@ -263,14 +263,14 @@ pushed-clip m clip k = refl
 -- ---- a jump
 
 jump-reply : (m after : MachineState) (moment : ℕ) (reply : Reply) (messages : List Message)
-    → jump m moment ≡ obeyed (Ok reply) after messages → reply ≡ Jumped moment
-unfolding jump
+    → jump_to m moment ≡ obeyed (Ok reply) after messages → reply ≡ Jumped moment
+unfolding jump_to
 jump-reply m after moment reply messages is =
     let answer : Ok (Jumped moment) ≡ Ok reply = ap (λ (o : Obeyed). o.answer) is in cc
 
 pub kept-jump : (m : MachineState) (k now : Kept) (c : Command) (moment : ℕ) (reply : Reply)
-    (after : MachineState) (messages : List Message) → obey m c ≡ jump m moment
-    → jump m moment ≡ obeyed (Ok reply) after messages → now ≡ jumped after k moment
+    (after : MachineState) (messages : List Message) → obey m c ≡ jump_to m moment
+    → jump_to m moment ≡ obeyed (Ok reply) after messages → now ≡ jumped after k moment
     → now ≡ kept_after m k c (Ok reply)
 kept-jump m k now c moment reply after messages obeys done is =
     kept-done m k now c reply after messages (obeys ∙ done)
@@ -278,8 +278,8 @@ kept-jump m k now c moment reply after messages obeys done is =
     (sym (jump-reply m after moment reply messages done)))
 
 pub charge-jump : (m : MachineState) (k : Kept) (c : Command) (moment : ℕ) (reply : Reply)
-    (after : MachineState) (messages : List Message) (from to : ℕ) → obey m c ≡ jump m moment
-    → jump m moment ≡ obeyed (Ok reply) after messages
+    (after : MachineState) (messages : List Message) (from to : ℕ) → obey m c ≡ jump_to m moment
+    → jump_to m moment ≡ obeyed (Ok reply) after messages
     → to ≤ from + jump_price m k moment + new_cells k.spacing after
     → to ≤ from + charge (Ok reply) m k c
 charge-jump m k c moment reply after messages from to obeys done paid =

@@ -4,14 +4,14 @@ use Rattle.orca_base.specs.declared.command.Entry.{Entry}
 use Rattle.orca_base.specs.declared.command.Entry.TheVariants.{Fill, Put, Move, Resize, Reset, Frame, Hush}
 use Rattle.orca_base.specs.declared.now.Now.{Now}
 use Rattle.orca_base.specs.Grids.{Size, Sheet}
-use Rattle.orca_board.specs.Sizes.{cut_places, desk_reverted}
+use Rattle.orca_board.specs.Sizes.{cut_places, slate_reverted}
 use Rattle.orca_board.proofs.ResidueLemmas.{count-with_sheet}
 use Rattle.orca_edit.specs.Editing.{FitsIn, IsGridEdit, steps_of}
 use Rattle.orca_edit.specs.Pieces.{Piece, apply, next_frame}
 use Rattle.orca_edit.specs.Prices.{preview_price, price}
 use Rattle.orca_edit.specs.Pricing.{PaysTwice, TouchesBothWays}
 use Rattle.orca_frame.specs.Frames.{IsFramed, most_steps}
-use Rattle.orca_op.specs.Desk.{Desk, residue}
+use Rattle.orca_op.specs.Slate.{Slate, residue}
 use Rattle.orca_op.specs.Scan.{busy}
 use Rattle.orca_op.specs.State.{sheet_of}
 
@@ -23,7 +23,7 @@ same-now p now tick seed =
     ∙ ap (λ (s : ℕ). record { tick = now.tick; seed = s }) seed
 
 -- a frame, with what it leaves to clear
-pub pays-frame : (old new : Desk) (now : Now) (p : Piece) (from to : ℕ) → IsFramed old new now
+pub pays-frame : (old new : Slate) (now : Now) (p : Piece) (from to : ℕ) → IsFramed old new now
     → to ≤ from + most_steps old now → p.sheet ≡ sheet_of old.scan → p.tick ≡ now.tick
     → p.seed ≡ now.seed → to + residue new ≤ from + residue old + preview_price p
 pays-frame old new now p from to framed most sheet tick seed =
@@ -44,7 +44,7 @@ is-edit Frame reset frame hush = absurd (frame refl)
 is-edit Hush reset frame hush = absurd (hush refl)
 
 -- a grid edit, with what it leaves to clear
-pub pays-edit : PaysTwice → (old new : Desk) (entry : Entry) (p : Piece) (from to : ℕ)
+pub pays-edit : PaysTwice → (old new : Slate) (entry : Entry) (p : Piece) (from to : ℕ)
     → IsGridEdit entry
     → FitsIn old.scan.dims entry → p.sheet ≡ sheet_of old.scan
     → to ≡ from + steps_of old.scan.dims entry → residue new + from ≤ residue old + to
@@ -58,12 +58,12 @@ pays-edit pays old new entry p from to edit fits sheet steps grows =
 -- ---- going back to the last begin
 
 -- what was listed is not to be cleared any more
-pub residue-back : (d : Desk) → residue (desk_reverted d) + length d.listed ≤ residue d
+pub residue-back : (d : Slate) → residue (slate_reverted d) + length d.listed ≤ residue d
 unfolding residue
 residue-back d = omega (arith, count-with_sheet d.scan d.began)
 
 -- the grid before comes back for what was listed, and for what the size before cuts off
-pub pays-back : (old new : Desk) (size : Size) (from to : ℕ) → new ≡ desk_reverted old
+pub pays-back : (old new : Slate) (size : Size) (from to : ℕ) → new ≡ slate_reverted old
     → old.began.dims ≡ size
     → to ≡ from + length (cut_places old.scan.dims old.began.dims) + length old.listed
     → to + residue new ≤ from + residue old + length (cut_places old.scan.dims size)

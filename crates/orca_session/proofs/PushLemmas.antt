@@ -22,7 +22,7 @@ use Rattle.orca_history.specs.declared.ring.Kept.{Kept}
 use Rattle.orca_history.specs.Trails.{Trail, IsKept, IsTrail, patch_at, touched_of, trail_pushed}
 use Rattle.orca_history.proofs.Keeping.{kept-pushed, newest-pushed}
 use Rattle.orca_patch.specs.Patches.{Before}
-use Rattle.orca_session.specs.Past.{PastState, IsPast, Undoes, moment_of, past_pushed, plain, point_at, present, touched_at}
+use Rattle.orca_session.specs.Past.{PastState, IsPast, Undoes, moment_of, past_pushed, plain_machine, point_at, present, touched_at}
 use Rattle.orca_session.proofs.PastLemmas.{kept-above, silent-present, undoes-same}
 
 -- the first entries stay
@@ -46,7 +46,7 @@ last-pushed p entry newest points =
 
 -- the first entries and their pieces are the same
 agree-pushed : (p : PastState) (entry : Entry) (newest : Kept) (points : Points)
-    → AgreeUpTo (length p.trail.entries) (plain p) (plain (past_pushed p entry newest points))
+    → AgreeUpTo (length p.trail.entries) (plain_machine p) (plain_machine (past_pushed p entry newest points))
 agree-pushed p entry newest points = record {
   opened = refl;
   seed = refl;
@@ -58,8 +58,8 @@ touched-pushed : (p : PastState) (entry : Entry) (newest : Kept) (points : Point
     → n < length p.trail.entries
     → touched_at p n ≡ touched_at (past_pushed p entry newest points) n
 touched-pushed p entry newest points n below =
-    of_entry-agree touched touched-same (length p.trail.entries) n (plain p)
-    (plain (past_pushed p entry newest points)) (agree-pushed p entry newest points) below
+    of_entry-agree touched touched-same (length p.trail.entries) n (plain_machine p)
+    (plain_machine (past_pushed p entry newest points)) (agree-pushed p entry newest points) below
 
 -- the new entry touched what it touches of the piece as it stands
 touched-last : (p : PastState) (entry : Entry) (newest : Kept) (points : Points)
@@ -75,7 +75,7 @@ touched-last p entry newest points =
     touched-same (present p) (moment_of q (length h)) entry
     (silent-present p
     ∙ ap silence (sym (moment-pushed p entry newest points (length h) (omega arith))))
-    ∙ sym (of_entry-at touched (plain q) (length h) entry its)
+    ∙ sym (of_entry-at touched (plain_machine q) (length h) entry its)
 
 -- the patch of the new entry, and those before it
 keeps-pushed : (p : PastState) (entry : Entry) (newest : Kept) (points : Points) → IsPast p
@@ -122,36 +122,36 @@ keeps-pushed p entry newest points past kept undoes n b below is =
 touched-more : (p : PastState) (entry : Entry) (newest : Kept) (points : Points) → IsPast p
     → newest.touched ≡ touched (present p) entry
     → touched_of (p.trail.kept ++ newest ∷ [])
-    ≡ touched_from (plain (past_pushed p entry newest points)) p.trail.first
+    ≡ touched_from (plain_machine (past_pushed p entry newest points)) p.trail.first
 touched-more p entry newest points past same =
-    let now : newest.touched ≡ touched (piece_of (plain p)) entry =
-    same ∙ touched-same (present p) (piece_of (plain p)) entry
+    let now : newest.touched ≡ touched (piece_of (plain_machine p)) entry =
+    same ∙ touched-same (present p) (piece_of (plain_machine p)) entry
     (silence-closes p.opened p.seed p.trail.entries p.closed 0) in
     map-append (λ (k : Kept). k.touched) p.trail.kept (newest ∷ [])
     ∙ (ap (λ (l : List ℕ). l ++ newest.touched ∷ []) past.touched
-    ∙ (ap (λ (n : ℕ). touched_from (plain p) p.trail.first ++ n ∷ []) now
-    ∙ sym (touched_from-more (plain p) (plain (past_pushed p entry newest points)) entry
+    ∙ (ap (λ (n : ℕ). touched_from (plain_machine p) p.trail.first ++ n ∷ []) now
+    ∙ sym (touched_from-more (plain_machine p) (plain_machine (past_pushed p entry newest points)) entry
     p.trail.first refl refl refl (omega (arith, past.trail.each)))))
 
 touched-worn : (p : PastState) (entry : Entry) (newest : Kept) (points : Points) → IsPast p
     → newest.touched ≡ touched (present p) entry
     → touched_of (past_pushed p entry newest points).trail.kept
-    ≡ touched_from (plain (past_pushed p entry newest points))
+    ≡ touched_from (plain_machine (past_pushed p entry newest points))
     (past_pushed p entry newest points).trail.first
 touched-worn p entry newest points past same =
     let all : List Kept = p.trail.kept ++ newest ∷ [] in
     let worn : ℕ = worn_of (touched_of all) in
     sym (drop-map (λ (k : Kept). k.touched) worn all)
     ∙ (ap (drop worn) (touched-more p entry newest points past same)
-    ∙ sym (touched_from-later (plain (past_pushed p entry newest points)) p.trail.first worn))
+    ∙ sym (touched_from-later (plain_machine (past_pushed p entry newest points)) p.trail.first worn))
 
 -- the first entry that is undone by its patch
 pub first-pushed : (p : PastState) (entry : Entry) (newest : Kept) (points : Points) → IsPast p
     → newest.touched ≡ touched (present p) entry
-    → least_first (plain (past_pushed p entry newest points)) p.trail.first
+    → least_first (plain_machine (past_pushed p entry newest points)) p.trail.first
     ≡ (past_pushed p entry newest points).trail.first
 first-pushed p entry newest points past same =
-    first-worn (plain (past_pushed p entry newest points)) p.trail.first
+    first-worn (plain_machine (past_pushed p entry newest points)) p.trail.first
     (omega (arith, past.trail.each, length-append p.trail.entries (entry ∷ [])))
     ∙ ap (λ (l : List ℕ). p.trail.first + worn_of l)
     (sym (touched-more p entry newest points past same))

@@ -19,7 +19,7 @@ use Rattle.orca_edit.proofs.FitLemmas.{AllFit-append, AllFit-parts, AllFit-push,
 use Rattle.orca_edit.proofs.FoldLemmas.{fold_entries-append, fold_entries-same, piece_after-hush, seed-fold_entries, silence-piece_after, tick-fold_entries}
 use Rattle.orca_history.specs.Trails.{Trail, IsTrail, RedoneLaw, patch_at, touched_of, trail_redone}
 use Rattle.orca_patch.specs.Patches.{Before, no_change}
-use Rattle.orca_session.specs.Past.{PastState, IsPast, Undoes, brought_back, moment_of, past_redone, piece_with, plain, point_at, present, redone, touched_at}
+use Rattle.orca_session.specs.Past.{PastState, IsPast, Undoes, brought_back, moment_of, past_redone, piece_with, plain_machine, point_at, present, redone, touched_at}
 use Rattle.orca_session.proofs.PastLemmas.{seed-present, tick-present, undoes-more, undoes-same}
 
 -- ---- a redo
@@ -204,7 +204,7 @@ tail-redone p patch points past some =
 touched-redone : (p : PastState) (patch : Before) (points : Points) → IsPast p
     → 0 < length p.trail.tail
     → touched_of (past_redone p patch points).trail.kept
-    ≡ touched_from (plain (past_redone p patch points))
+    ≡ touched_from (plain_machine (past_redone p patch points))
     (past_redone p patch points).trail.first
 touched-redone p patch points past some =
     let q : PastState = past_redone p patch points in
@@ -217,8 +217,8 @@ touched-redone p patch points past some =
     ∙ ap (λ (e : Entry). Some e)
     (get_or_push (back p) Hush Hush (length (back p ++ Hush ∷ []) - 1)
     (omega (arith, length-append (back p) (Hush ∷ []))))) in
-    sym (touched_from-hush (plain q) its)
-    ∙ ap (touched_from (plain q)) (ap (λ (n : ℕ). n - 1) long)
+    sym (touched_from-hush (plain_machine q) its)
+    ∙ ap (touched_from (plain_machine q)) (ap (λ (n : ℕ). n - 1) long)
 
 pub IsPast-redone : (p : PastState) (patch : Before) (points : Points) → IsPast p
     → 0 < length p.trail.tail → RedoneLaw → Undoes patch (redone p) (redone p) 0

@@ -11,12 +11,12 @@ use Rattle.orca_base.specs.Grids.{Sheet, cells_of}
 use Rattle.orca_base.specs.Histories.{group_of}
 use Rattle.orca_base.proofs.ListFacts.{range-more}
 use Rattle.orca_checkpoints.specs.Laws.{AreOf, points_after}
-use Rattle.orca_checkpoints.specs.Points.{ArePoints, Point, Points, is_due, next_moment, points_dropped}
+use Rattle.orca_checkpoints.specs.Points.{ArePoints, Point, Points, is_point_due, next_moment, points_dropped}
 use Rattle.orca_checkpoints.proofs.PointLemmas.{due-next, next-after, spacing-after}
-use Rattle.orca_edit.specs.Prices.{kept_cells, price, redo_price, redone as kept_redone, spaced, total}
+use Rattle.orca_edit.specs.Prices.{kept_cells, price, redo_price, kept_redone, spaced, total}
 use Rattle.orca_edit.proofs.PriceLemmas.{price-same}
 use Rattle.orca_patch.specs.Patches.{Before}
-use Rattle.orca_session.specs.Past.{IsPast, PastState, brought_back, moment_of, numbers_of, past_redone, piece_with, plain, point_at}
+use Rattle.orca_session.specs.Past.{IsPast, PastState, brought_back, moment_of, numbers_of, past_redone, piece_with, plain_machine, point_at}
 use Rattle.orca_session.proofs.BillLemmas.{total-after}
 use Rattle.orca_session.proofs.RedoLemmas.{entry-with, length-redone, moment-with, points-back, some-entry}
 
@@ -84,11 +84,11 @@ back-start p c past some is =
 
 -- the checkpoint of the next moment is kept if it is due
 pub back-due : (p : PastState) (j m : ℕ) (c : Points) → AreBack p j c
-    → 0 < length p.trail.entries → m ≡ length p.trail.entries + j → is_due c m ≡ true
+    → 0 < length p.trail.entries → m ≡ length p.trail.entries + j → is_point_due c m ≡ true
     → m ≡ next_moment c
 back-due p j m c back some is =
     let next : m ≡ length p.trail.entries - 1 + j + 1 = omega (arith, is, some) in
-    subst (λ (n : ℕ). is_due c n ≡ true → n ≡ next_moment c) (sym next)
+    subst (λ (n : ℕ). is_point_due c n ≡ true → n ≡ next_moment c) (sym next)
     (due-next (point_at (brought_back p)) (length p.trail.entries - 1 + j) (brought_back p).peak c
     back.are)
 
@@ -131,13 +131,13 @@ back-next p j m c new point past back all some within is same kept =
 
 -- the sum of the kept cells with a moment more
 cells-more : (p : PastState) (j : ℕ)
-    → sum_by (kept_cells p.points.spacing (plain (brought_back p)))
+    → sum_by (kept_cells p.points.spacing (plain_machine (brought_back p)))
     (range_with_len (length p.trail.entries) (j + 1))
-    ≡ sum_by (kept_cells p.points.spacing (plain (brought_back p)))
+    ≡ sum_by (kept_cells p.points.spacing (plain_machine (brought_back p)))
     (range_with_len (length p.trail.entries) j)
-    + kept_cells p.points.spacing (plain (brought_back p)) (length p.trail.entries + j)
+    + kept_cells p.points.spacing (plain_machine (brought_back p)) (length p.trail.entries + j)
 cells-more p j =
-    let cells : ℕ → ℕ = kept_cells p.points.spacing (plain (brought_back p)) in
+    let cells : ℕ → ℕ = kept_cells p.points.spacing (plain_machine (brought_back p)) in
     ap (sum_by cells) (range-more (length p.trail.entries) j)
     ∙ sum_by_push cells (range_with_len (length p.trail.entries) j) (length p.trail.entries + j)
 
@@ -145,41 +145,41 @@ cells-more p j =
 pub back-cells : (p : PastState) (j m : ℕ) (c : Points) (g : Sheet) (from to : ℕ) → IsPast p
     → AreBack p j c → m ≡ length p.trail.entries + j
     → g ≡ (moment_of (brought_back p) m).sheet
-    → to ≤ from + (if is_due c m then cells_of g.dims else 0)
-    → to ≤ from + kept_cells p.points.spacing (plain (brought_back p))
+    → to ≤ from + (if is_point_due c m then cells_of g.dims else 0)
+    → to ≤ from + kept_cells p.points.spacing (plain_machine (brought_back p))
     (length p.trail.entries + j)
 back-cells p j m c g from to past back is same most =
     let less = due-through m c.spacing p.points.spacing (cells_of g.dims) (some-spacing p past)
     back.whole in
     let cells : (if m % p.points.spacing == 0 then cells_of g.dims else 0)
-    ≡ kept_cells p.points.spacing (plain (brought_back p)) (length p.trail.entries + j) =
+    ≡ kept_cells p.points.spacing (plain_machine (brought_back p)) (length p.trail.entries + j) =
     ap (λ (x : Sheet). if m % p.points.spacing == 0 then cells_of x.dims else 0) same
-    ∙ ap (kept_cells p.points.spacing (plain (brought_back p))) is in
+    ∙ ap (kept_cells p.points.spacing (plain_machine (brought_back p))) is in
     subst (λ (n : ℕ). to ≤ from + n) cells (omega (arith, most, less))
 
 -- an entry on the way
 pub back-pays : (p : PastState) (j : ℕ) (entry : Entry) (base before mid : ℕ) → IsPast p
     → 0 < length p.trail.tail → j < group_of p.trail.tail
     → slice_get p.trail.tail j ≡ Some entry
-    → before ≤ base + total price (plain (brought_back p)) (length p.trail.entries - 1)
+    → before ≤ base + total price (plain_machine (brought_back p)) (length p.trail.entries - 1)
     (length p.trail.entries - 1 + j)
-    + sum_by (kept_cells p.points.spacing (plain (brought_back p)))
+    + sum_by (kept_cells p.points.spacing (plain_machine (brought_back p)))
     (range_with_len (length p.trail.entries) j)
     → mid ≤ before + price (piece_with p j) entry
-    + kept_cells p.points.spacing (plain (brought_back p)) (length p.trail.entries + j)
-    → mid ≤ base + total price (plain (brought_back p)) (length p.trail.entries - 1)
+    + kept_cells p.points.spacing (plain_machine (brought_back p)) (length p.trail.entries + j)
+    → mid ≤ base + total price (plain_machine (brought_back p)) (length p.trail.entries - 1)
     (length p.trail.entries - 1 + (j + 1))
-    + sum_by (kept_cells p.points.spacing (plain (brought_back p)))
+    + sum_by (kept_cells p.points.spacing (plain_machine (brought_back p)))
     (range_with_len (length p.trail.entries) (j + 1))
 back-pays p j entry base before mid past some below is paid now =
     let n : ℕ = length p.trail.entries - 1 in
     let more : n + j + 1 ≡ n + (j + 1) = omega arith in
-    let its : total price (plain (brought_back p)) n (n + (j + 1))
-    ≡ total price (plain (brought_back p)) n (n + j) + price (piece_with p j) entry =
-    ap (total price (plain (brought_back p)) n) (sym more)
-    ∙ (total-after price (plain (brought_back p)) n (n + j) entry (omega arith)
+    let its : total price (plain_machine (brought_back p)) n (n + (j + 1))
+    ≡ total price (plain_machine (brought_back p)) n (n + j) + price (piece_with p j) entry =
+    ap (total price (plain_machine (brought_back p)) n) (sym more)
+    ∙ (total-after price (plain_machine (brought_back p)) n (n + j) entry (omega arith)
     (entry-with p j below ∙ is)
-    ∙ ap (λ (k : ℕ). total price (plain (brought_back p)) n (n + j) + k)
+    ∙ ap (λ (k : ℕ). total price (plain_machine (brought_back p)) n (n + j) + k)
     (price-same (moment_of (brought_back p) (n + j)) (piece_with p j) entry
     (moment-with p j past some (omega (arith, below))))) in
     omega (arith, paid, now, its, cells-more p j)
@@ -187,18 +187,18 @@ back-pays p j entry base before mid past some below is paid now =
 -- the whole
 pub back-all : (p : PastState) (patch : Before) (points : Points) (base before to : ℕ) → IsPast p
     → 0 < length p.trail.tail
-    → before ≤ base + total price (plain (brought_back p)) (length p.trail.entries - 1)
+    → before ≤ base + total price (plain_machine (brought_back p)) (length p.trail.entries - 1)
     (length p.trail.entries - 1 + group_of p.trail.tail)
-    + sum_by (kept_cells p.points.spacing (plain (brought_back p)))
+    + sum_by (kept_cells p.points.spacing (plain_machine (brought_back p)))
     (range_with_len (length p.trail.entries) (group_of p.trail.tail))
-    → to ≤ before + kept_cells p.points.spacing (plain (brought_back p))
+    → to ≤ before + kept_cells p.points.spacing (plain_machine (brought_back p))
     (length p.trail.entries + group_of p.trail.tail)
-    → to ≤ base + redo_price (plain (past_redone p patch points)) (numbers_of p)
+    → to ≤ base + redo_price (plain_machine (past_redone p patch points)) (numbers_of p)
     (group_of p.trail.tail)
 back-all p patch points base before to past some paid last =
     let n : ℕ = length p.trail.entries in
     let group : ℕ = group_of p.trail.tail in
-    let cells : ℕ → ℕ = kept_cells p.points.spacing (plain (brought_back p)) in
+    let cells : ℕ → ℕ = kept_cells p.points.spacing (plain_machine (brought_back p)) in
     let long : length (past_redone p patch points).trail.entries ≡ n + group =
     length-redone p patch points past some in
     let first : n ≡ length (past_redone p patch points).trail.entries - group =
@@ -213,8 +213,8 @@ back-all p patch points base before to past some paid last =
       last,
       cells-more p group,
       ap (λ (k : ℕ). sum_by cells (range_with_len k (group + 1))) first,
-      ap (λ (k : ℕ). total price (plain (brought_back p)) k (n - 1 + group)) from,
-      ap (total price (plain (brought_back p))
+      ap (λ (k : ℕ). total price (plain_machine (brought_back p)) k (n - 1 + group)) from,
+      ap (total price (plain_machine (brought_back p))
           (length (past_redone p patch points).trail.entries - group - 1)) end,
     )
 
@@ -222,7 +222,7 @@ back-all p patch points base before to past some paid last =
 pub back-numbers : (p : PastState) (patch : Before) (points : Points) → IsPast p
     → 0 < length p.trail.tail → AreBack p (group_of p.trail.tail + 1) points
     → numbers_of (past_redone p patch points)
-    ≡ kept_redone (plain (past_redone p patch points)) (numbers_of p) (group_of p.trail.tail)
+    ≡ kept_redone (plain_machine (past_redone p patch points)) (numbers_of p) (group_of p.trail.tail)
 back-numbers p patch points past some back =
     let n : ℕ = length p.trail.entries in
     let group : ℕ = group_of p.trail.tail in

@@ -17,14 +17,14 @@ use Rattle.orca_base.specs.Histories.{group_of}
 use Rattle.orca_base.specs.Ranges.{CarriesFewValues}
 use Rattle.orca_checkpoints.specs.Points.{Points}
 use Rattle.orca_edit.specs.Machines.{Acts, Obeys, is_jump, obeyed}
-use Rattle.orca_edit.specs.Obeying.{MachineState, jump, piece_of, redo, rule_against}
+use Rattle.orca_edit.specs.Obeying.{MachineState, jump_to, piece_of, redo, rule_against}
 use Rattle.orca_edit.specs.Pieces.{Piece, apply, opened_piece}
 use Rattle.orca_edit.proofs.FoldLemmas.{piece_after-zero}
 use Rattle.orca_history.specs.declared.ring.Kept.{Kept}
 use Rattle.orca_notes.specs.Device.{Plays}
 use Rattle.orca_notes.specs.Sound.{ends}
 use Rattle.orca_notes.proofs.PlayFacts.{Plays-none}
-use Rattle.orca_op.specs.Desk.{Desk, desk_of_sheet}
+use Rattle.orca_op.specs.Slate.{Slate, slate_of_sheet}
 use Rattle.orca_op.specs.State.{sheet_of}
 use Rattle.orca_patch.specs.Patches.{Before}
 use Rattle.orca_session.specs.Past.{PastState, machine_of, past_at_start, past_jumped, past_pushed, past_redone, present}
@@ -38,14 +38,14 @@ pub opened-start : (sheet : Sheet) (seed limit : ℕ)
     → present (past_at_start sheet seed limit) ≡ opened_piece sheet seed
 opened-start sheet seed limit = piece_after-zero sheet seed []
 
-pub keeps-start : (p : PastState) (d : Desk) (notes : List Note) (sheet : Sheet) (seed limit : ℕ)
-    → p ≡ past_at_start sheet seed limit → d ≡ desk_of_sheet sheet → notes ≡ []
+pub keeps-start : (p : PastState) (d : Slate) (notes : List Note) (sheet : Sheet) (seed limit : ℕ)
+    → p ≡ past_at_start sheet seed limit → d ≡ slate_of_sheet sheet → notes ≡ []
     → KeepsSession p d notes 0
 keeps-start p d notes sheet seed limit begun laid silent =
     let piece : present p ≡ opened_piece sheet seed =
     ap present begun ∙ opened-start sheet seed limit in
     record {
-      grid = ap (λ (x : Desk). sheet_of x.scan) laid ∙ sym (ap (λ (x : Piece). x.sheet) piece);
+      grid = ap (λ (x : Slate). sheet_of x.scan) laid ∙ sym (ap (λ (x : Piece). x.sheet) piece);
       sounding = silent ∙ sym (ap (λ (x : Piece). x.notes) piece);
       next = sym (ap (λ (x : Piece). x.tick) piece);
     }
@@ -122,9 +122,9 @@ notes-reset p = refl
 pub jump-parts : (p q : PastState) (clip : Option Sheet) (patch : Before) (points : Points)
     (moment : ℕ) (messages : List Message) → q ≡ past_jumped p moment patch points
     → messages ≡ ends (present p).notes
-    → jump (machine_of p clip) moment
+    → jump_to (machine_of p clip) moment
     ≡ obeyed (Ok (Jumped moment)) (machine_of q clip) messages
-unfolding jump
+unfolding jump_to
 jump-parts p q clip patch points moment messages jumped said =
     ap (λ (x : PastState). obeyed (Ok (Jumped moment)) (machine_of x clip)
     (ends (present p).notes)) (sym jumped)

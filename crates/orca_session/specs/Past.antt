@@ -15,7 +15,7 @@ use Rattle.orca_edit.specs.Prices.{Kept as Numbers, of_entry, touched}
 use Rattle.orca_edit.specs.Pricing.{touched_from}
 use Rattle.orca_history.specs.declared.ring.Kept.{Kept}
 use Rattle.orca_history.specs.Trails.{Trail, IsTrail, patch_at, touched_of, trail_at_start, trail_jumped, trail_pushed, trail_redone}
-use Rattle.orca_op.specs.Desk.{Desk}
+use Rattle.orca_op.specs.Slate.{Slate}
 use Rattle.orca_patch.specs.Patches.{Before, CoversCut, before_of, no_change, sheet_before}
 
 -- the opened grid, the seed, the history with its tail and its patches, the checkpoints, how many
@@ -41,8 +41,8 @@ machine_of p clip = record {
 }
 
 -- the same without a clip, and never closed: its pieces are those of the moments
-abbrev pub plain : PastState → MachineState
-plain p = record {
+abbrev pub plain_machine : PastState → MachineState
+plain_machine p = record {
   opened = p.opened;
   seed = p.seed;
   limit = p.trail.limit;
@@ -73,7 +73,7 @@ point_at p moment = record {
 
 -- how many cells the entry of a moment touched
 abbrev pub touched_at : PastState → ℕ → ℕ
-touched_at p moment = of_entry touched (plain p) moment
+touched_at p moment = of_entry touched (plain_machine p) moment
 
 -- the piece after so many entries of the tail
 abbrev pub piece_with : PastState → ℕ → Piece
@@ -100,9 +100,9 @@ abbrev pub touched_by : Entry → Before → Size → ℕ
 touched_by (Resize dims) patch now = cells_of patch.dims + cells_of now
 touched_by entry patch now = length patch.changes
 
--- what is kept of an entry that was done on a desk since its last `begin`, with the tick before it
-abbrev pub kept_of : Entry → Desk → ℕ → Kept
-kept_of entry d tick = record {
+-- what is kept of an entry that was done on a slate since its last `begin`, with the tick before it
+abbrev pub kept_entry : Entry → Slate → ℕ → Kept
+kept_entry entry d tick = record {
   patch = before_of d tick;
   touched = touched_by entry (before_of d tick) d.scan.dims;
 }
@@ -162,7 +162,7 @@ pub record IsPast (p : PastState) : Type 0 where
   pub fits : AllFit (opened_piece p.opened p.seed) p.trail.entries
   pub tail : AllFit (present p) p.trail.tail
   pub patches : KeepsPatches p
-  pub touched : touched_of p.trail.kept ≡ touched_from (plain p) p.trail.first
+  pub touched : touched_of p.trail.kept ≡ touched_from (plain_machine p) p.trail.first
   pub points : AreOf (point_at p) (length p.trail.entries) p.peak p.points
   pub trail : IsTrail p.trail
   pub closed : p.closed ≤ length p.trail.entries

@@ -11,7 +11,7 @@ use Rattle.orca_base.specs.MarkSet.{MarkSet}
 use Rattle.orca_edit.specs.Obeying.{MachineState, machine_at_start}
 use Rattle.orca_edit.specs.Pieces.{Piece}
 use Rattle.orca_edit.specs.Prices.{Kept, kept_at_start, price}
-use Rattle.orca_op.specs.Desk.{Desk}
+use Rattle.orca_op.specs.Slate.{Slate}
 use Rattle.orca_op.specs.State.{blank_marks, sheet_of}
 use Rattle.orca_session.specs.Past.{PastState, present}
 
@@ -33,7 +33,7 @@ session_at_start sheet seed limit = record {
 }
 
 -- the board, the notes and the tick are those of the piece that the past leaves
-pub record KeepsSession (p : PastState) (d : Desk) (notes : List Note) (tick : ℕ) : Type 0 where
+pub record KeepsSession (p : PastState) (d : Slate) (notes : List Note) (tick : ℕ) : Type 0 where
   pub grid : sheet_of d.scan ≡ (present p).sheet
   pub sounding : notes ≡ (present p).notes
   pub next : tick ≡ (present p).tick

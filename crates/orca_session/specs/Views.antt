@@ -1,5 +1,5 @@
 -- What a contract sees of the parts of a session.
-use Rattle.orca_op.specs.Desk.{residue}
+use Rattle.orca_op.specs.Slate.{residue}
 use Rattle.orca_session.specs.declared.past.Past.TheInside.{Inside as PastInside}
 use Rattle.orca_session.specs.declared.session.Session.TheInside.{Inside as SessionInside}
 use Rattle.orca_session.specs.Past.{PastState, machine_of, numbers_of}

@@ -4,7 +4,7 @@ ghost use Rattle.std.specs.Prelude.{◌≡◌, ◌+◌, ◌<◌, ◌≤◌};
 ghost use Rattle.orca_edit.specs.Editing.{FitsIn};
 ghost use Rattle.orca_edit.specs.Pieces.{Piece, apply};
 ghost use Rattle.orca_edit.specs.Prices.{price};
-ghost use Rattle.orca_op.specs.Desk.{residue};
+ghost use Rattle.orca_op.specs.Slate.{residue};
 ghost use Rattle.orca_op.specs.State.{sheet_of};
 
 use orca_base::limits::MAX_HISTORY;

@@ -3,7 +3,7 @@
 ghost use Rattle.std.specs.Prelude.{◌≡◌, ◌+◌, ◌≤◌, true, length, if◌then◌else◌};
 ghost use Rattle.orca_base.specs.Grids.{cells_of};
 ghost use Rattle.orca_checkpoints.specs.Laws.{points_after};
-ghost use Rattle.orca_checkpoints.specs.Points.{ArePoints, is_due, next_moment};
+ghost use Rattle.orca_checkpoints.specs.Points.{ArePoints, is_point_due, next_moment};
 ghost use Rattle.orca_op.specs.State.{sheet_of};
 ghost use Rattle.orca_session.specs.Past.{touched_by};
 
@@ -23,11 +23,11 @@ pub(crate) fn keep_due<L: Ledger>(
     board: &Board,
     steps: &mut Steps<L>,
 )
-    requires { is_due checkpoints.old len ≡ true → len ≡ next_moment checkpoints.old }
+    requires { is_point_due checkpoints.old len ≡ true → len ≡ next_moment checkpoints.old }
     ensures points { checkpoints.new ≡ points_after checkpoints.old len
         (record { sheet = sheet_of board.now.scan; tick = tick }) }
     ensures steps { steps.new ≤ steps.old
-        + (if is_due checkpoints.old len then cells_of board.now.scan.dims else 0) }
+        + (if is_point_due checkpoints.old len then cells_of board.now.scan.dims else 0) }
     ensures all { ArePoints checkpoints.old }
 {
     if checkpoints.due(len) {

@@ -5,12 +5,12 @@ ghost use Rattle.orca_board.specs.Sizes.{cut_places};
 ghost use Rattle.orca_edit.specs.Editing.{FitsIn};
 ghost use Rattle.orca_edit.specs.Obeying.{first_standing, history_tests};
 ghost use Rattle.orca_edit.specs.Pieces.{apply, silence};
-ghost use Rattle.orca_edit.specs.Prices.{IsSpaced, best_moment, jump_price, jumped, load_price, new_cells, pushed, redo_price, redone as kept_redone, undo_price};
+ghost use Rattle.orca_edit.specs.Prices.{IsSpaced, best_moment, jump_price, jumped, load_price, new_cells, pushed, redo_price, kept_redone, undo_price};
 ghost use Rattle.orca_edit.specs.Pricing.{listed_by};
-ghost use Rattle.orca_op.specs.Desk.{residue};
+ghost use Rattle.orca_op.specs.Slate.{residue};
 ghost use Rattle.orca_op.specs.State.{sheet_of};
 ghost use Rattle.orca_patch.specs.Patches.{no_change};
-ghost use Rattle.orca_session.specs.Past.{kept_of, moment_of, numbers_of, past_at_start, past_closed, past_jumped, past_pushed, past_redone, plain, present, redone};
+ghost use Rattle.orca_session.specs.Past.{kept_entry, moment_of, numbers_of, past_at_start, past_closed, past_jumped, past_pushed, past_redone, plain_machine, present, redone};
 
 use crate::again::{do_again, tick_after};
 use crate::keeping::{keep_due, touched_by};
@@ -142,15 +142,15 @@ impl Past {
         requires tick { tick ≡ (present self.old).tick }
         requires sheet { sheet_of board.old.scan ≡ (apply (present self.old) entry).piece.sheet }
         ensures pushed { OnOk result (self.new
-            ≡ past_pushed self.old entry (kept_of entry board.old tick) self.new.points) }
+            ≡ past_pushed self.old entry (kept_entry entry board.old tick) self.new.points) }
         ensures present { OnOk result
             (present self.new ≡ (apply (present self.old) entry).piece) }
         ensures board { OnOk result (board.new ≡ board.old) }
         ensures early { OnOk result (tick < MAX_HISTORY) }
         ensures numbers { OnOk result
-            (numbers_of self.new ≡ pushed (plain self.new) (numbers_of self.old)) }
+            (numbers_of self.new ≡ pushed (plain_machine self.new) (numbers_of self.old)) }
         ensures steps { OnOk result
-            (steps.new ≤ steps.old + new_cells self.old.points.spacing (plain self.new)) }
+            (steps.new ≤ steps.old + new_cells self.old.points.spacing (plain_machine self.new)) }
         ensures err { OnErr result (self.new ≡ self.old) }
         ensures reverted { OnErr result (sheet_of board.new.scan ≡ (present self.old).sheet) }
         ensures paid { OnErr result (steps.new + residue board.new
@@ -181,14 +181,14 @@ impl Past {
         requires tick { tick ≡ (present self.old).tick }
         requires sheet { sheet_of board.now.scan ≡ (apply (present self.old) entry).piece.sheet }
         ensures pushed { OnOk result (self.new
-            ≡ past_pushed self.old entry (kept_of entry board.now tick) self.new.points) }
+            ≡ past_pushed self.old entry (kept_entry entry board.now tick) self.new.points) }
         ensures present { OnOk result
             (present self.new ≡ (apply (present self.old) entry).piece) }
         ensures early { OnOk result (tick < MAX_HISTORY) }
         ensures numbers { OnOk result
-            (numbers_of self.new ≡ pushed (plain self.new) (numbers_of self.old)) }
+            (numbers_of self.new ≡ pushed (plain_machine self.new) (numbers_of self.old)) }
         ensures steps { OnOk result
-            (steps.new ≤ steps.old + new_cells self.old.points.spacing (plain self.new)) }
+            (steps.new ≤ steps.old + new_cells self.old.points.spacing (plain_machine self.new)) }
         ensures err { OnErr result (self.new ≡ self.old) }
         ensures idle { OnErr result (steps.new ≡ steps.old) }
     {
@@ -214,7 +214,7 @@ impl Past {
         ensures sheet { sheet_of board.new.scan ≡ (moment_of self.now moment).sheet }
         ensures tick { result ≡ (moment_of self.now moment).tick }
         ensures price { steps.new + residue board.new ≤ steps.old + residue board.old
-            + jump_price (plain self.now) (numbers_of self.now) moment }
+            + jump_price (plain_machine self.now) (numbers_of self.now) moment }
     {
         if moment < self.history.first_patch() {
             self.load_on(board, moment, steps)
@@ -231,7 +231,7 @@ impl Past {
         ensures sheet { sheet_of board.new.scan ≡ (moment_of self.now moment).sheet }
         ensures tick { result ≡ (moment_of self.now moment).tick }
         ensures price { steps.new + residue board.new ≤ steps.old + residue board.old
-            + undo_price (plain self.now) moment }
+            + undo_price (plain_machine self.now) moment }
     {
         let mut tick = 0;
         let mut at = self.history.len();
@@ -249,7 +249,7 @@ impl Past {
         ensures sheet { sheet_of board.new.scan ≡ (moment_of self.now moment).sheet }
         ensures tick { result ≡ (moment_of self.now moment).tick }
         ensures price { steps.new + residue board.new ≤ steps.old + residue board.old
-            + load_price (plain self.now) (best_moment self.now.points.spacing moment) moment }
+            + load_price (plain_machine self.now) (best_moment self.now.points.spacing moment) moment }
     {
         let best = self.checkpoints.best(moment);
         board.load(best.dims, best.cells, steps);
@@ -277,10 +277,10 @@ impl Past {
             (no_change board.new.scan.dims result) self.new.points }
         ensures present { present self.new ≡ silence (redone self.old) }
         ensures silent { (present self.old).notes ≡ [] }
-        ensures numbers { numbers_of self.new ≡ kept_redone (plain self.new) (numbers_of self.old)
+        ensures numbers { numbers_of self.new ≡ kept_redone (plain_machine self.new) (numbers_of self.old)
             (group_of self.old.trail.tail) }
         ensures price { steps.new + residue board.new ≤ steps.old + residue board.old
-            + redo_price (plain self.new) (numbers_of self.old) (group_of self.old.trail.tail) }
+            + redo_price (plain_machine self.new) (numbers_of self.old) (group_of self.old.trail.tail) }
     {
         let len = self.history.len();
         let group = self.history.group();
@@ -312,9 +312,9 @@ impl Past {
             (no_change board.now.scan.dims tick) self.new.points }
         ensures present { present self.new ≡ silence (moment_of self.old moment) }
         ensures numbers { numbers_of self.new
-            ≡ jumped (plain self.new) (numbers_of self.old) moment }
+            ≡ jumped (plain_machine self.new) (numbers_of self.old) moment }
         ensures steps { steps.new
-            ≤ steps.old + new_cells self.old.points.spacing (plain self.new) }
+            ≤ steps.old + new_cells self.old.points.spacing (plain_machine self.new) }
     {
         let patch = Patch::empty(self.alloc, Look::dims(board), tick);
         self.history.jump(moment, patch);
@@ -374,7 +374,7 @@ impl Past {
 
     /// What holds of the checkpoints, whatever was done.
     pub fn is_spaced(&self)
-        ensures { IsSpaced (plain self.now) (numbers_of self.now) }
+        ensures { IsSpaced (plain_machine self.now) (numbers_of self.now) }
     {
         let _spacing = self.checkpoints.spacing();
     }

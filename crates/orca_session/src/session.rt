@@ -8,7 +8,7 @@ ghost use Rattle.orca_base.specs.declared.command.Command.TheVariants as command
 ghost use Rattle.orca_edit.specs.Editing.{FitsIn, IsGridEdit};
 ghost use Rattle.orca_base.specs.declared.command.Reply.TheVariants.{Copied, Edited};
 ghost use Rattle.orca_edit.specs.Machines.{Acts, Obeys, obeyed};
-ghost use Rattle.orca_edit.specs.Obeying.{carry_out, clip_after, jump, piece_of, rule_against};
+ghost use Rattle.orca_edit.specs.Obeying.{carry_out, clip_after, jump_to, piece_of, rule_against};
 ghost use Rattle.orca_edit.specs.Prices.{charge, jump_price, jumped, kept_after, kept_by, new_cells, price, pushed};
 ghost use Rattle.orca_notes.specs.Device.{Plays};
 ghost use Rattle.orca_session.specs.Session.{IsBlockEdit, clip_with, edit_price, session_at_start};
@@ -340,7 +340,7 @@ impl Session {
     ) -> Reply
         requires within { moment < length self.old.machine.history }
         requires silent { messages.old ≡ [] }
-        ensures jumped { jump self.old.machine moment
+        ensures jumped { jump_to self.old.machine moment
             ≡ obeyed (Ok result) self.new.machine messages.new }
         ensures plays { Plays (piece_of self.old.machine).notes messages.new
             (piece_of self.new.machine).notes }

@@ -7,7 +7,7 @@ use Rattle.orca_smf.specs.declared.timed.Timed.{Timed}
 use Rattle.orca_smf.specs.declared.track.Track.TheInside.{Inside}
 use Rattle.orca_smf.specs.Front.{front}
 use Rattle.orca_smf.specs.Recording.{Recorded}
-use Rattle.orca_smf.specs.Songs.{AreMessages, Follows, IsVoice, delta, last_tick, messages, opening, smf}
+use Rattle.orca_smf.specs.Songs.{AreMessages, MayFollow, IsSongMessage, delta, last_tick, messages, track_opening, smf}
 use Rattle.orca_smf.specs.Spelling.{messages_at}
 use Rattle.orca_smf.specs.Tracks.{IsTrack, recorded_of}
 use Rattle.orca_smf.proofs.Messages.{are_push, last_push, list_again, messages_push}
@@ -20,7 +20,7 @@ pub record Holds (t : Inside) (list : List Timed) : Type 0 where
   pub spelled : drop FRONT_BYTES t.file.items ≡ messages 0 list
   pub messages : AreMessages 0 list
   pub last : t.last ≡ last_tick 0 list
-  pub short : length (opening t.tempo list) + END_BYTES ≤ MAX_TRACK_BYTES
+  pub short : length (track_opening t.tempo list) + END_BYTES ≤ MAX_TRACK_BYTES
 
 -- they are seen
 held_list : (t : Inside) (list : List Timed) → Holds t list → (recorded_of t).list ≡ list
@@ -41,7 +41,7 @@ held_track t list h =
       messages = subst (AreMessages 0) seen h.messages;
       last = h.last ∙ ap (last_tick 0) seen;
       short =
-          subst (λ (l : List Timed). length (opening t.tempo l) + END_BYTES ≤ MAX_TRACK_BYTES)
+          subst (λ (l : List Timed). length (track_opening t.tempo l) + END_BYTES ≤ MAX_TRACK_BYTES)
           seen h.short;
     }
 
@@ -92,9 +92,9 @@ joins t v tick tail made bytes seen is e d =
 
 -- a track that was seen so, with one more message
 pub held_more : (t u : Inside) (v : Recorded) (m : Timed) (bytes : List ℕ) →
-    Joins t v m.tick m.bytes bytes → Follows (last_tick 0 v.list) m.tick → IsVoice m.bytes →
+    Joins t v m.tick m.bytes bytes → MayFollow (last_tick 0 v.list) m.tick → IsSongMessage m.bytes →
     u.tempo ≡ t.tempo → u.last ≡ m.tick → u.file.items ≡ t.file.items ++ bytes →
-    length (opening t.tempo (v.list ++ m ∷ [])) + END_BYTES ≤ MAX_TRACK_BYTES →
+    length (track_opening t.tempo (v.list ++ m ∷ [])) + END_BYTES ≤ MAX_TRACK_BYTES →
     Holds u (v.list ++ m ∷ [])
 held_more t u v m bytes j f is a b c short = record {
   tempo = rw a j.held.tempo;

@@ -6,13 +6,13 @@ use Rattle.std.proofs.lemmas.List.{length-append}
 use Rattle.std.proofs.lemmas.Option.{cond_some, option_and_then_some}
 use Rattle.orca_smf.specs.declared.limits.TheConstants.{MAX_DELTA}
 use Rattle.orca_smf.specs.declared.timed.Timed.{Timed}
-use Rattle.orca_smf.specs.Songs.{AreMessages, Follows, IsVoice, delta, end_event, last_tick, messages}
+use Rattle.orca_smf.specs.Songs.{AreMessages, MayFollow, IsSongMessage, delta, end_event, last_tick, messages}
 use Rattle.orca_smf.specs.Spelling.{and_more, delta_at, is_status, message_at, messages_at, tick_at, voice_at}
 use Rattle.orca_smf.proofs.Deltas.{IsBytes, IsBytes-behind, delta_again, delta_spelled}
 
 -- ---- ticks
 
-pub tick_again : (before tick : ℕ) (rest : List ℕ) → Follows before tick →
+pub tick_again : (before tick : ℕ) (rest : List ℕ) → MayFollow before tick →
     tick_at before (delta (tick - before) ++ rest) ≡ Some (tick, rest)
 unfolding tick_at
 tick_again before tick rest f =
@@ -22,7 +22,7 @@ tick_again before tick rest f =
 
 -- bytes that begin with the delta time of a tick after another
 pub record TickSpelled (before tick : ℕ) (bytes rest : List ℕ) : Type 0 where
-  pub follows : Follows before tick
+  pub follows : MayFollow before tick
   pub spelled : bytes ≡ delta (tick - before) ++ rest
 
 pub tick_spelled : (before tick : ℕ) (bytes rest : List ℕ) → IsBytes bytes →
@@ -45,7 +45,7 @@ tick_spelled before tick bytes rest f e =
 
 -- ---- messages
 
-voice_again : (tick : ℕ) (bytes rest : List ℕ) → IsVoice bytes →
+voice_again : (tick : ℕ) (bytes rest : List ℕ) → IsSongMessage bytes →
     voice_at tick (bytes ++ rest) ≡ Some (record { tick = tick; bytes = bytes }, rest)
 unfolding voice_at
 voice_again tick [] rest v = absurd (omega (arith, v.three))
@@ -60,7 +60,7 @@ voice_again tick (a ∷ b ∷ c ∷ d ∷ bytes) rest v = absurd (omega (arith, 
 -- bytes that begin with a message of a tick
 pub record VoiceSpelled (m : Timed) (at : ℕ) (bytes rest : List ℕ) : Type 0 where
   pub tick : m.tick ≡ at
-  pub voice : IsVoice m.bytes
+  pub voice : IsSongMessage m.bytes
   pub spelled : bytes ≡ m.bytes ++ rest
 
 voice_spelled : (tick : ℕ) (m : Timed) (bytes rest : List ℕ) →
@@ -73,7 +73,7 @@ voice_spelled tick m (a ∷ b ∷ c ∷ bytes) rest e =
     let n : Timed = record { tick = tick; bytes = a ∷ b ∷ c ∷ [] } in
     let p = cond_some (is_status a && ltb b 128 && ltb c 128) (n, bytes) (m, rest) e in
     let tests = p.0 in
-    let voice : IsVoice (a ∷ b ∷ c ∷ []) = record {
+    let voice : IsSongMessage (a ∷ b ∷ c ∷ []) = record {
       three = refl;
       status = grind (arith, nat_tests, tests);
       no_system = grind (arith, nat_tests, tests);
@@ -85,8 +85,8 @@ voice_spelled tick m (a ∷ b ∷ c ∷ bytes) rest e =
     record { tick = refl; voice = voice; spelled = refl } in
     subst (λ (x : Timed × List ℕ). VoiceSpelled x.0 tick (a ∷ b ∷ c ∷ bytes) x.1) p.1 so
 
-pub message_again : (before : ℕ) (m : Timed) (rest : List ℕ) → Follows before m.tick →
-    IsVoice m.bytes →
+pub message_again : (before : ℕ) (m : Timed) (rest : List ℕ) → MayFollow before m.tick →
+    IsSongMessage m.bytes →
     message_at before (delta (m.tick - before) ++ m.bytes ++ rest) ≡ Some (m, rest)
 unfolding message_at
 message_again before m rest f v =
@@ -98,8 +98,8 @@ message_again before m rest f v =
 
 -- bytes that begin with a message that may come after a tick
 pub record MessageSpelled (before : ℕ) (m : Timed) (bytes rest : List ℕ) : Type 0 where
-  pub follows : Follows before m.tick
-  pub voice : IsVoice m.bytes
+  pub follows : MayFollow before m.tick
+  pub voice : IsSongMessage m.bytes
   pub spelled : bytes ≡ delta (m.tick - before) ++ m.bytes ++ rest
 
 pub message_spelled : (before : ℕ) (m : Timed) (bytes rest : List ℕ) → IsBytes bytes →
@@ -125,7 +125,7 @@ unfolding message_at tick_at delta_at
 none_at_nothing before = refl
 
 -- nor where the track ends
-pub none_at_end : (before end : ℕ) → Follows before end →
+pub none_at_end : (before end : ℕ) → MayFollow before end →
     message_at before (end_event before end) ≡ None
 unfolding message_at voice_at
 none_at_end before end f = rw (tick_again before end (255 ∷ 47 ∷ 0 ∷ []) f) refl
@@ -188,7 +188,7 @@ last_push before [] m = refl
 last_push before (x ∷ list) m = last_push x.tick list m
 
 pub are_push : (before : ℕ) (list : List Timed) (m : Timed) → AreMessages before list →
-    Follows (last_tick before list) m.tick → IsVoice m.bytes → AreMessages before (list ++ m ∷ [])
+    MayFollow (last_tick before list) m.tick → IsSongMessage m.bytes → AreMessages before (list ++ m ∷ [])
 are_push before [] m are f v = (f, v, tt)
 are_push before (x ∷ list) m are f v = (are.0, are.1, are_push x.tick list m are.2 f v)
 
@@ -209,7 +209,7 @@ taken_more bytes list more tick rest m behind f t e added =
     let event = delta (m.tick - last_tick 0 list) ++ m.bytes in
     let at : rest ≡ event ++ behind = s.spelled
     ∙ ap (λ (n : ℕ). delta (m.tick - n) ++ m.bytes ++ behind) t.last in
-    let follows : Follows (last_tick 0 list) m.tick = subst (λ (n : ℕ). Follows n m.tick) t.last
+    let follows : MayFollow (last_tick 0 list) m.tick = subst (λ (n : ℕ). MayFollow n m.tick) t.last
     s.follows in
     let whole : bytes ≡ messages 0 (list ++ m ∷ []) ++ behind =
     t.spelled ∙ ap (λ (r : List ℕ). messages 0 list ++ r) at

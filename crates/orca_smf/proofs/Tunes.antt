@@ -5,7 +5,7 @@ use Rattle.byteorder.specs.Endian.{big_from}
 use Rattle.byteorder.specs.Numbers.{big_number-reads_back}
 use Rattle.orca_smf.specs.declared.timed.Timed.{Timed}
 use Rattle.orca_smf.specs.Front.{front}
-use Rattle.orca_smf.specs.Songs.{AreMessages, Follows, IsTune, Tune, end_event, file_of, last_tick, messages, smf, tempo_event}
+use Rattle.orca_smf.specs.Songs.{AreMessages, MayFollow, IsTune, Tune, end_event, file_of, last_tick, messages, smf, tempo_event}
 use Rattle.orca_smf.specs.Spelling.{HasRead, message_at, messages_at, tick_at}
 use Rattle.orca_smf.proofs.Messages.{messages_again, none_at_end, tick_again}
 
@@ -42,7 +42,7 @@ same_tempo m n s t xs ys hs ht e =
     ∙ big_number-reads_back 3 t ys ht
 
 -- the end that is spelled after messages
-pub same_end : (before m n : ℕ) → Follows before m → Follows before n → end_event before m
+pub same_end : (before m n : ℕ) → MayFollow before m → MayFollow before n → end_event before m
     ≡ end_event before n → m ≡ n
 same_end before m n f g e =
     let p = sym (tick_again before m end_bytes f) ∙ ap (tick_at before) e
@@ -84,7 +84,7 @@ one_tune s t is it e =
     let found = same_messages s.list t.list xs (end_of s.list s.end) (end_of t.list t.end)
     is.messages it.messages (no_more s is) (no_more t it) refl behind in
     let last : last_tick 0 s.list ≡ last_tick 0 t.list = ap (last_tick 0) found.0 in
-    let follows : Follows (last_tick 0 t.list) s.end = subst (λ (n : ℕ). Follows n s.end) last
+    let follows : MayFollow (last_tick 0 t.list) s.end = subst (λ (n : ℕ). MayFollow n s.end) last
     is.end in
     let ends : end_of t.list s.end ≡ end_of t.list t.end =
     ap (λ (n : ℕ). end_event n s.end) (sym last) ∙ found.1 in
@@ -92,7 +92,7 @@ one_tune s t is it e =
 
 -- messages that were taken from those of a song are all of them, and its end comes after
 pub record FoundEnd (t : Tune) (tick : ℕ) (rest : List ℕ) : Type 0 where
-  pub follows : Follows tick t.end
+  pub follows : MayFollow tick t.end
   pub spelled : rest ≡ end_event tick t.end
 
 pub found_end : (t : Tune) (bytes : List ℕ) (list : List Timed) (tick : ℕ) (rest : List ℕ) →
@@ -103,12 +103,12 @@ found_end t bytes list tick rest it e r =
     none (no_more t it) r.spelled e in
     let last : last_tick 0 t.list ≡ tick = ap (last_tick 0) (sym found.0) ∙ sym r.last in
     record {
-      follows = subst (λ (n : ℕ). Follows n t.end) last it.end;
+      follows = subst (λ (n : ℕ). MayFollow n t.end) last it.end;
       spelled = found.1 ∙ ap (λ (n : ℕ). end_event n t.end) last;
     }
 
 -- an end that is spelled is read
-pub end_read : (before end : ℕ) (bytes : List ℕ) → Follows before end → bytes
+pub end_read : (before end : ℕ) (bytes : List ℕ) → MayFollow before end → bytes
     ≡ end_event before end → tick_at before bytes ≡ Some (end, end_bytes)
 end_read before end bytes f e = ap (tick_at before) e ∙ tick_again before end end_bytes f
 
@@ -132,7 +132,7 @@ pub record Sung (bytes : List ℕ) (t : Tune) : Type 0 where
   pub file : bytes ≡ file_of t
 
 pub song_read : (t : Tune) (bytes rest behind : List ℕ) (tick : ℕ) → t.tempo < 2 ^ 24 →
-    Fronted bytes rest t.tempo → HasRead 0 rest t.list tick behind → Follows tick t.end → behind
+    Fronted bytes rest t.tempo → HasRead 0 rest t.list tick behind → MayFollow tick t.end → behind
     ≡ end_event tick t.end → Sung bytes t
 song_read t bytes rest behind tick fits f r follows spelled =
     let ending : behind ≡ end_of t.list t.end = spelled
@@ -145,7 +145,7 @@ song_read t bytes rest behind tick fits f r follows spelled =
       tune = record {
         tempo = fits;
         messages = r.messages;
-        end = subst (λ (n : ℕ). Follows n t.end) r.last follows;
+        end = subst (λ (n : ℕ). MayFollow n t.end) r.last follows;
         short = omega arith;
       };
       file = f.whole ∙ ap (λ (x : List ℕ). front (length x + 7) t.tempo ++ x) parts

@@ -42,22 +42,22 @@ abbrev pub end_event : ℕ → ℕ → List ℕ
 end_event before end = delta (end - before) ++ 255 ∷ 47 ∷ 0 ∷ []
 
 -- the track before its end
-abbrev pub opening : ℕ → List Timed → List ℕ
-opening tempo list = tempo_event tempo ++ messages 0 list
+abbrev pub track_opening : ℕ → List Timed → List ℕ
+track_opening tempo list = tempo_event tempo ++ messages 0 list
 
 -- the track
-abbrev pub track : ℕ → List Timed → ℕ → List ℕ
-track tempo list end = opening tempo list ++ end_event (last_tick 0 list) end
+abbrev pub track_bytes : ℕ → List Timed → ℕ → List ℕ
+track_bytes tempo list end = track_opening tempo list ++ end_event (last_tick 0 list) end
 
 -- the file: the header, and the track after its name and its length
 unfoldable pub smf : ℕ → List Timed → ℕ → List ℕ
 smf tempo list end =
-    let body = track tempo list end in
+    let body = track_bytes tempo list end in
     header ++ track_name ++ bytes_high_first 4 (length body) ++ body
 
 -- what may be a message: a voice message of three bytes. So it is no Program Change and no Channel
 -- Pressure, which begin with 192 to 223 and have two.
-pub record IsVoice (bytes : List ℕ) : Type 0 where
+pub record IsSongMessage (bytes : List ℕ) : Type 0 where
   pub three : length bytes ≡ 3
   pub status : 128 ≤ slice_index bytes 0
   pub no_system : slice_index bytes 0 < 240
@@ -66,7 +66,7 @@ pub record IsVoice (bytes : List ℕ) : Type 0 where
   pub third : slice_index bytes 2 ≤ MAX_DATA
 
 -- a tick may come after another: it is not before it, and the delta time has four bytes at most
-pub record Follows (before tick : ℕ) : Type 0 where
+pub record MayFollow (before tick : ℕ) : Type 0 where
   pub later : before ≤ tick
   pub near : tick ≤ before + MAX_DELTA
   pub fits : tick < 2 ^ 32
@@ -74,7 +74,7 @@ pub record Follows (before tick : ℕ) : Type 0 where
 -- messages that may come after a tick
 abbrev pub AreMessages : ℕ → List Timed → Type 0
 AreMessages before [] = Unit {0}
-AreMessages before (m ∷ ms) = Follows before m.tick × IsVoice m.bytes × AreMessages m.tick ms
+AreMessages before (m ∷ ms) = MayFollow before m.tick × IsSongMessage m.bytes × AreMessages m.tick ms
 
 -- a tempo, messages with their ticks, and the tick of the end
 pub record Tune : Type 0 where
@@ -86,8 +86,8 @@ pub record Tune : Type 0 where
 pub record IsTune (t : Tune) : Type 0 where
   pub tempo : t.tempo < 2 ^ 24
   pub messages : AreMessages 0 t.list
-  pub end : Follows (last_tick 0 t.list) t.end
-  pub short : length (track t.tempo t.list t.end) < 2 ^ 32
+  pub end : MayFollow (last_tick 0 t.list) t.end
+  pub short : length (track_bytes t.tempo t.list t.end) < 2 ^ 32
 
 -- the file of a song
 abbrev pub file_of : Tune → List ℕ

@@ -4,7 +4,7 @@ use Rattle.orca_smf.specs.declared.limits.TheConstants.{MAX_TRACK_BYTES}
 use Rattle.orca_smf.specs.declared.front.TheConstants.{FRONT_BYTES, END_BYTES}
 use Rattle.orca_smf.specs.declared.track.Track.TheInside.{Inside}
 use Rattle.orca_smf.specs.Recording.{Recorded}
-use Rattle.orca_smf.specs.Songs.{AreMessages, last_tick, messages, opening}
+use Rattle.orca_smf.specs.Songs.{AreMessages, last_tick, messages, track_opening}
 use Rattle.orca_smf.specs.Spelling.{messages_at}
 
 -- the tempo is kept, and the messages stand after the room for the front
@@ -21,4 +21,4 @@ pub record IsTrack (t : Inside) : Type 0 where
   pub spelled : drop FRONT_BYTES t.file.items ≡ messages 0 (recorded_of t).list
   pub messages : AreMessages 0 (recorded_of t).list
   pub last : t.last ≡ last_tick 0 (recorded_of t).list
-  pub short : length (opening t.tempo (recorded_of t).list) + END_BYTES ≤ MAX_TRACK_BYTES
+  pub short : length (track_opening t.tempo (recorded_of t).list) + END_BYTES ≤ MAX_TRACK_BYTES

@@ -1,7 +1,7 @@
 //! Reading a song.
 
 ghost use Rattle.std.specs.Prelude.{◌≡◌, ◌≢◌, IfOk, IfNone, IfSome, IsErrOf, MatchResult, ℕ, List, option_map};
-ghost use Rattle.orca_smf.specs.Songs.{Follows, IsTune, Tune, end_event, file_of};
+ghost use Rattle.orca_smf.specs.Songs.{MayFollow, IsTune, Tune, end_event, file_of};
 ghost use Rattle.orca_smf.specs.Spelling.{HasRead, is_status as is_status_byte, message_at, tick_at};
 
 use crate::delta::read_delta;
@@ -69,8 +69,8 @@ fn read_message(last: u32, bytes: &[u8]) -> Option<(Timed, &[u8])>
 
 /// The tick of the end, whose delta time counts from a tick; none exactly if the bytes are no end.
 fn read_end(last: u32, bytes: &[u8]) -> Option<u32>
-    ensures end { IfSome result (λ end. Follows last end × (bytes.now ≡ end_event last end)) }
-    ensures none { IfNone result ((end : ℕ) → Follows last end
+    ensures end { IfSome result (λ end. MayFollow last end × (bytes.now ≡ end_event last end)) }
+    ensures none { IfNone result ((end : ℕ) → MayFollow last end
         → bytes.now ≢ end_event last end) }
 {
     let (end, rest) = read_tick(last, bytes)?;

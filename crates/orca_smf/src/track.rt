@@ -1,5 +1,5 @@
 ghost use Rattle.std.specs.Prelude.{◌≡◌, ◌↔◌, ◌+◌, ◌^◌, ◌<◌, ◌≤◌, [], ◌∷◌, ◌++◌, length, drop, IfOk, IsErrOf, OnOk, OnErr};
-ghost use Rattle.orca_smf.specs.Songs.{IsTune, IsVoice, last_tick, opening, smf, track};
+ghost use Rattle.orca_smf.specs.Songs.{IsTune, IsSongMessage, last_tick, track_opening, smf, track_bytes};
 
 use crate::SmfFault;
 use crate::delta::event_of;
@@ -39,7 +39,7 @@ impl Track {
     /// A track with a tempo, in microseconds for each beat, and no message.
     pub fn start(alloc: Global, tempo: u32) -> Result<Track, Memory>
         requires { tempo < 2 ^ 24 }
-        ensures { IfOk result (λ track. track ≡ record { tempo = tempo; list = [] }) }
+        ensures { IfOk result (λ track_bytes. track_bytes ≡ record { tempo = tempo; list = [] }) }
     {
         let file = Vec::from_slice(alloc, &[0; FRONT_BYTES])?;
         Ok(Track {
@@ -53,14 +53,14 @@ impl Track {
     pub fn add(&mut self, tick: u32, bytes: [u8; 3]) -> Result<(), SmfFault>
         requires later { last_tick 0 self.old.list ≤ tick }
         requires near { tick ≤ last_tick 0 self.old.list + MAX_DELTA }
-        requires voice { IsVoice bytes }
+        requires voice { IsSongMessage bytes }
         ensures added { let list = self.old.list ++ record { tick = tick; bytes = bytes } ∷ [] in
             OnOk result (self.new ≡ record self.old { list = list }) }
         ensures err { OnErr result (self.new ≡ self.old) }
         // The track with this message and the shortest end would be too long.
         ensures too_long { let list = self.old.list ++ record { tick = tick; bytes = bytes } ∷ [] in
             IsErrOf result SmfFault.TooLong
-            ↔ (MAX_TRACK_BYTES < length (opening self.old.tempo list) + END_BYTES) }
+            ↔ (MAX_TRACK_BYTES < length (track_opening self.old.tempo list) + END_BYTES) }
     {
         let event = event_of(tick - self.last, &bytes);
         let event = event.as_slice();
@@ -82,7 +82,7 @@ impl Track {
             (IsTune (record { tempo = self.tempo; list = self.list; end = end })) }
         // The whole track would be too long.
         ensures too_long { IsErrOf result SmfFault.TooLong
-            ↔ (MAX_TRACK_BYTES < length (track self.tempo self.list end)) }
+            ↔ (MAX_TRACK_BYTES < length (track_bytes self.tempo self.list end)) }
     {
         let Track {
             tempo,

@@ -6,7 +6,7 @@ use Rattle.std.proofs.lemmas.List.Elements.{filter-append}
 use Rattle.orca_sync.specs.Clocks.{Pulse, is_first, counted, heed, heeded, beat_in, beats_from}
 use Rattle.orca_sync.specs.Leading.{Metronome, metronome_from, toggled_at, toggle_byte}
 use Rattle.orca_sync.specs.RealTime.{is_clock, stop, timing_clock}
-use Rattle.orca_sync.specs.Together.{Move, MayMove, moved, bytes_of, beat_of, AreMoves, bytes_in, beats_in, LeadsFollower}
+use Rattle.orca_sync.specs.Together.{Move, MayMove, moved_by, bytes_of_move, beat_of, AreMoves, bytes_in, beats_in, LeadsFollower}
 use Rattle.orca_sync.specs.Together.Move.{Clock, Toggle}
 use Rattle.orca_sync.specs.declared.follower.Beat.TheVariants.{Nothing, Frame, Restart}
 use Rattle.orca_sync.proofs.ClockLaws.{others_drop}
@@ -32,13 +32,13 @@ toggle_if m at false is = rw is refl
 
 -- a move, and what comes after it
 pub step : (m : Metronome) (move : Move) (rest : List ℕ) → MayMove m move
-    → beats_from m.pulse (bytes_of m move ++ rest)
-    ≡ beat_in (beat_of m move) ++ beats_from (moved m move).pulse rest
+    → beats_from m.pulse (bytes_of_move m move ++ rest)
+    ≡ beat_in (beat_of m move) ++ beats_from (moved_by m move).pulse rest
 unfolding beats_from
 step m (Clock at messages) rest may =
     rw (clock_heeded m.pulse may.0)
     (ap (λ beats. beat_in (beat_of m (Clock at messages)) ++ beats)
-    (drops (moved m (Clock at messages)).pulse messages rest may.1))
+    (drops (moved_by m (Clock at messages)).pulse messages rest may.1))
 step m (Toggle at) rest may = rw (toggle_if m at m.pulse.runs refl) refl
 
 -- all of them, and the stop
@@ -48,8 +48,8 @@ unfolding heed beats_from
 steps m [] may = refl
 steps m (move ∷ moves) may =
     rw append_assoc
-    (step m move (bytes_in (moved m move) moves ++ stop ∷ []) may.0
-    ∙ ap (λ beats. beat_in (beat_of m move) ++ beats) (steps (moved m move) moves may.1))
+    (step m move (bytes_in (moved_by m move) moves ++ stop ∷ []) may.0
+    ∙ ap (λ beats. beat_in (beat_of m move) ++ beats) (steps (moved_by m move) moves may.1))
 
 pub leads_follower : LeadsFollower
 unfolding heed beats_from

@@ -18,14 +18,14 @@ MayMove m (Clock at messages) = (m.pulse.runs ≡ true) × (filter is_clock mess
 MayMove m (Toggle at) = Unit {0}
 
 -- the leader after it
-abbrev pub moved : Metronome → Move → Metronome
-moved m (Clock at messages) = clocked_at at m
-moved m (Toggle at) = toggled_at at m
+abbrev pub moved_by : Metronome → Move → Metronome
+moved_by m (Clock at messages) = clocked_at at m
+moved_by m (Toggle at) = toggled_at at m
 
 -- the bytes that it gives
-abbrev pub bytes_of : Metronome → Move → List ℕ
-bytes_of m (Clock at messages) = timing_clock ∷ messages
-bytes_of m (Toggle at) = toggle_byte m ∷ []
+abbrev pub bytes_of_move : Metronome → Move → List ℕ
+bytes_of_move m (Clock at messages) = timing_clock ∷ messages
+bytes_of_move m (Toggle at) = toggle_byte m ∷ []
 
 -- whether it plays a frame
 abbrev pub beat_of : Metronome → Move → Beat
@@ -36,15 +36,15 @@ beat_of m (Toggle at) = Nothing
 
 abbrev pub AreMoves : Metronome → List Move → Type 0
 AreMoves m [] = Unit {0}
-AreMoves m (move ∷ moves) = MayMove m move × AreMoves (moved m move) moves
+AreMoves m (move ∷ moves) = MayMove m move × AreMoves (moved_by m move) moves
 
 abbrev pub bytes_in : Metronome → List Move → List ℕ
 bytes_in m [] = []
-bytes_in m (move ∷ moves) = bytes_of m move ++ bytes_in (moved m move) moves
+bytes_in m (move ∷ moves) = bytes_of_move m move ++ bytes_in (moved_by m move) moves
 
 abbrev pub beats_in : Metronome → List Move → List Beat
 beats_in m [] = []
-beats_in m (move ∷ moves) = beat_in (beat_of m move) ++ beats_in (moved m move) moves
+beats_in m (move ∷ moves) = beat_in (beat_of m move) ++ beats_in (moved_by m move) moves
 
 -- whatever a follower has heard before, from the leader's start to its stop it begins anew and then
 -- plays the leader's frames, and no others

@@ -11,7 +11,7 @@ use Rattle.orca_base.specs.Grids.{Size, glyph_at, is_inside}
 use Rattle.orca_base.specs.declared.place.Place.{Place}
 use Rattle.orca_term.specs.Codes.{plus}
 use Rattle.orca_term.specs.Editing.{page_of, window_place}
-use Rattle.orca_term.specs.Picture.{Scene, blank, faint, grid_cell, style_at, status_cell, cell_of, cell_at}
+use Rattle.orca_term.specs.Picture.{Scene, blank_cell, faint, grid_cell, style_at, status_cell, cell_of, cell_at}
 use Rattle.orca_term.specs.declared.cell.Cell.{Cell}
 use Rattle.orca_term.specs.declared.cell.ScreenSize.{ScreenSize}
 use Rattle.orca_term.specs.declared.limits.TheConstants.{RULER_PLACES}
@@ -100,13 +100,13 @@ pub row_cut : (scene : Scene) (y left inside columns : ℕ) → inside ≤ colum
     → is_inside scene.sheet.dims (record { y = y; x = left + x }) ≡ false)
     → map (λ x. grid_cell scene (record { y = y; x = left + x })) (range_with_len 0 columns)
     ≡ map (λ x. grid_cell scene (record { y = y; x = left + x })) (range_with_len 0 inside)
-    ++ map (λ x. blank) (range_with_len 0 (columns - inside))
+    ++ map (λ x. blank_cell) (range_with_len 0 (columns - inside))
 unfolding grid_cell
 row_cut scene y left inside columns fits outside =
     let f : ℕ → Cell = λ x. grid_cell scene (record { y = y; x = left + x }) in
     let whole : columns ≡ inside + (columns - inside) = omega arith in
     ap (λ j. map f (range_with_len 0 j)) whole
-    ∙ one_from f blank inside (columns - inside)
+    ∙ one_from f blank_cell inside (columns - inside)
     (λ x from to. cond-false _ _ _ (outside x from (omega arith)))
 
 -- the ruler's test, where the guide or its row is known

@@ -3,7 +3,7 @@ use Rattle.std.proofs.Common.{◌≡◌, ◌==◌, ℕ, zero, suc, ◌+◌, ◌*
 use Rattle.std.specs.List.{All, AllByRecursion, flat_map, range_with_len}
 use Rattle.std.proofs.lemmas.List.Elements.{All-take, All-drop, recursion_from_All}
 use Rattle.orca_term.specs.Forms.{forms_of}
-use Rattle.orca_term.specs.Painting.{row_of, is_painted, style_change, painted_cells, painted_row, forms_of_row, painting}
+use Rattle.orca_term.specs.Painting.{screen_row, is_painted, style_change, painted_cells, painted_row, forms_of_row, painting}
 use Rattle.orca_term.specs.Picture.{IsPrintable, IsScreen}
 use Rattle.orca_term.specs.Viewing.{painting_bytes}
 use Rattle.orca_term.specs.declared.cell.Cell.{Cell}
@@ -59,8 +59,8 @@ pub painting-read : (d : ScreenSize) (last : Option (List Cell)) (cells : List C
 unfolding painting
 painting-read d last cells screen printable =
     forms-read (painting d last cells) (forms-rows (forms_of_row d last cells) 0 d.rows (λ y h.
-    forms-cond (is_painted d last cells y) (painted_row y (row_of d cells y)) []
-    (forms-row y (row_of d cells y) (omega (arith, screen.few_rows))
+    forms-cond (is_painted d last cells y) (painted_row y (screen_row d cells y)) []
+    (forms-row y (screen_row d cells y) (omega (arith, screen.few_rows))
     (recursion_from_All IsPrintable _
     (All-take IsPrintable d.columns (drop (y * d.columns) cells)
     (All-drop IsPrintable (y * d.columns) cells printable)))) tt))

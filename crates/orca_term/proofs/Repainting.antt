@@ -6,7 +6,7 @@ use Rattle.std.proofs.lemmas.Bool.{cases_eq, eq-eqb, ne_eqb, and_from, lt-ltb, c
 use Rattle.std.proofs.lemmas.List.{append-nil, set_at, take_all, drop_all, take-append-drop, drop-drop, length-take-le, length-drop, length_push, nil_from_length}
 use Rattle.std.proofs.lemmas.List.Sums.{fold-append}
 use Rattle.std.proofs.lemmas.Nat.{rows}
-use Rattle.orca_term.specs.Painting.{row_of, is_painted, style_change, painted_cells, painted_row, forms_of_row, painting}
+use Rattle.orca_term.specs.Painting.{screen_row, is_painted, style_change, painted_cells, painted_row, forms_of_row, painting}
 use Rattle.orca_term.specs.Picture.{screen_cells}
 use Rattle.orca_term.specs.Terminal.{Terminal, after_form, after_forms, with_byte, is_on_cell}
 use Rattle.orca_term.specs.declared.cell.Cell.{Cell}
@@ -105,34 +105,34 @@ abbrev pub mixed : ScreenSize → List Cell → List Cell → ℕ → List Cell
 mixed d old cells y = take (y * d.columns) cells ++ drop (y * d.columns) old
 
 split_row : (d : ScreenSize) (xs : List Cell) (y : ℕ)
-    → drop (y * d.columns) xs ≡ row_of d xs y ++ drop ((y + 1) * d.columns) xs
+    → drop (y * d.columns) xs ≡ screen_row d xs y ++ drop ((y + 1) * d.columns) xs
 split_row d xs y =
     let next : y * d.columns + d.columns ≡ (y + 1) * d.columns = omega arith in
     sym (take-append-drop d.columns (drop (y * d.columns) xs))
-    ∙ ap (λ rest. row_of d xs y ++ rest) (drop-drop d.columns (y * d.columns) xs
+    ∙ ap (λ rest. screen_row d xs y ++ rest) (drop-drop d.columns (y * d.columns) xs
     ∙ ap (λ k. drop k xs) next)
 
 -- a row more of the picture
 joined_row : (d : ScreenSize) (old cells : List Cell) (y : ℕ)
-    → take (y * d.columns) cells ++ (row_of d cells y ++ drop ((y + 1) * d.columns) old)
+    → take (y * d.columns) cells ++ (screen_row d cells y ++ drop ((y + 1) * d.columns) old)
     ≡ mixed d old cells (y + 1)
 joined_row d old cells y =
     let next : y * d.columns + d.columns ≡ (y + 1) * d.columns = omega arith in
-    sym (append_assoc (take (y * d.columns) cells) (row_of d cells y)
+    sym (append_assoc (take (y * d.columns) cells) (screen_row d cells y)
     (drop ((y + 1) * d.columns) old))
     ∙ ap (λ front. front ++ drop ((y + 1) * d.columns) old)
     (sym (take-add (y * d.columns) d.columns cells) ∙ ap (λ k. take k cells) next)
 
 -- where the rows are the same, nothing has to be painted
 pub mixed-same : (d : ScreenSize) (old cells : List Cell) (y : ℕ)
-    → row_of d old y ≡ row_of d cells y → mixed d old cells y ≡ mixed d old cells (y + 1)
+    → screen_row d old y ≡ screen_row d cells y → mixed d old cells y ≡ mixed d old cells (y + 1)
 mixed-same d old cells y same =
     ap (λ rest. take (y * d.columns) cells ++ rest)
     (split_row d old y ∙ ap (λ row. row ++ drop ((y + 1) * d.columns) old) same)
     ∙ joined_row d old cells y
 
 length-row : (d : ScreenSize) (xs : List Cell) (y : ℕ) → length xs ≡ screen_cells d → y < d.rows
-    → length (row_of d xs y) ≡ d.columns
+    → length (screen_row d xs y) ≡ d.columns
 length-row d xs y whole row =
     let below : (y + 1) * d.columns ≤ d.rows * d.columns = grind (arith, rows) in
     let fits : d.columns ≤ length (drop (y * d.columns) xs) =
@@ -159,7 +159,7 @@ mixed-end d old cells old_whole whole =
 -- what has to be painted so that the old cells become the new ones
 abbrev pub Covers : ScreenSize → Option (List Cell) → List Cell → List Cell → Type 0
 Covers d last old cells =
-    (y : ℕ) → y < d.rows → is_painted d last cells y ≡ false → row_of d old y ≡ row_of d cells y
+    (y : ℕ) → y < d.rows → is_painted d last cells y ≡ false → screen_row d old y ≡ screen_row d cells y
 
 -- one row, painted or not
 row-turn : (d : ScreenSize) (last : Option (List Cell)) (old cells : List Cell) (u : Terminal)
@@ -168,22 +168,22 @@ row-turn : (d : ScreenSize) (last : Option (List Cell)) (old cells : List Cell) 
     → Holds (after_forms u (forms_of_row d last cells y)) d (mixed d old cells (y + 1))
 unfolding after_forms
 row-turn d last old cells u y old_whole whole covers row holds false kept =
-    let none = cond-false (is_painted d last cells y) (painted_row y (row_of d cells y)) [] kept in
+    let none = cond-false (is_painted d last cells y) (painted_row y (screen_row d cells y)) [] kept in
     rw none (record {
       size = holds.size;
       cells = holds.cells ∙ mixed-same d old cells y (covers y row kept);
     })
 row-turn d last old cells u y old_whole whole covers row holds true painted =
-    let one = cond-true (is_painted d last cells y) (painted_row y (row_of d cells y)) [] painted in
+    let one = cond-true (is_painted d last cells y) (painted_row y (screen_row d cells y)) [] painted in
     let stands =
     holds.cells ∙ ap (λ rest. take (y * d.columns) cells ++ rest) (split_row d old y) in
     let front : length (take (y * d.columns) cells) ≡ y * u.size.columns =
     rw holds.size (length-front d cells y whole row) in
     let len = length-row d old y old_whole row ∙ sym (length-row d cells y whole row) in
     let below : y < u.size.rows = rw holds.size row in
-    let fits : length (row_of d cells y) ≤ u.size.columns =
+    let fits : length (screen_row d cells y) ≤ u.size.columns =
     rw holds.size (omega (arith, length-row d cells y whole row)) in
-    let done = after-row u y (take (y * d.columns) cells) (row_of d old y) (row_of d cells y)
+    let done = after-row u y (take (y * d.columns) cells) (screen_row d old y) (screen_row d cells y)
     (drop ((y + 1) * d.columns) old) stands front len below fits in
     rw one (record { size = done.size ∙ holds.size; cells = done.cells ∙ joined_row d old cells y })
 

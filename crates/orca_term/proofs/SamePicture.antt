@@ -4,7 +4,7 @@ use Rattle.std.specs.List.{flat_map, range_with_len}
 use Rattle.std.specs.Option.{IfSome}
 use Rattle.std.proofs.lemmas.Bool.{true≢false, cond-true, cond-false}
 use Rattle.orca_term.specs.Forms.{bytes_of}
-use Rattle.orca_term.specs.Painting.{row_of, is_painted, painted_row, forms_of_row, painting}
+use Rattle.orca_term.specs.Painting.{screen_row, is_painted, painted_row, forms_of_row, painting}
 use Rattle.orca_term.specs.Picture.{screen_cells}
 use Rattle.orca_term.specs.Viewing.{painting_bytes}
 use Rattle.orca_term.specs.declared.cell.Cell.{Cell}
@@ -16,7 +16,7 @@ use Rattle.orca_term.proofs.Sent.{rows_same, unpainted}
 
 -- lists whose rows are the same are the same
 mixed-all : (d : ScreenSize) (old cells : List Cell)
-    → ((y : ℕ) → y < d.rows → row_of d old y ≡ row_of d cells y) → (y : ℕ) → y ≤ d.rows
+    → ((y : ℕ) → y < d.rows → screen_row d old y ≡ screen_row d cells y) → (y : ℕ) → y ≤ d.rows
     → old ≡ mixed d old cells y
 mixed-all d old cells same zero h = sym (mixed-start d old cells)
 mixed-all d old cells same (suc y) h =
@@ -24,7 +24,7 @@ mixed-all d old cells same (suc y) h =
     ∙ (mixed-same d old cells y (same y (omega arith)) ∙ ap (mixed d old cells) (add-one y))
 
 all_same : (d : ScreenSize) (old cells : List Cell) → length old ≡ screen_cells d
-    → length cells ≡ screen_cells d → ((y : ℕ) → y < d.rows → row_of d old y ≡ row_of d cells y)
+    → length cells ≡ screen_cells d → ((y : ℕ) → y < d.rows → screen_row d old y ≡ screen_row d cells y)
     → old ≡ cells
 all_same d old cells old_whole whole same =
     mixed-all d old cells same d.rows (omega arith) ∙ mixed-end d old cells old_whole whole
@@ -70,7 +70,7 @@ kept : (d : ScreenSize) (last : Option (List Cell)) (cells : List Cell) (y : ℕ
     → is_painted d last cells y ≡ false
 kept d last cells y false is e = is
 kept d last cells y true is e =
-    absurd (row_is_some y (row_of d cells y) (sym (cond-true _ _ _ is) ∙ e))
+    absurd (row_is_some y (screen_row d cells y) (sym (cond-true _ _ _ is) ∙ e))
 
 all_kept : (d : ScreenSize) (last : Option (List Cell)) (cells : List Cell)
     → painting d last cells ≡ [] → (y : ℕ) → y < d.rows → is_painted d last cells y ≡ false
@@ -94,7 +94,7 @@ same_from_none d (Some old) cells some old_whole whole none =
 unchanged_row : (d : ScreenSize) (cells : List Cell) (y : ℕ)
     → forms_of_row d (Some cells) cells y ≡ []
 unchanged_row d cells y =
-    cond-false _ _ _ (ap not ((rows_same (row_of d cells y) (row_of d cells y)).1 refl))
+    cond-false _ _ _ (ap not ((rows_same (screen_row d cells y) (screen_row d cells y)).1 refl))
 
 none_from_same : (d : ScreenSize) (last : Option (List Cell)) (cells : List Cell)
     → last ≡ Some cells → painting d last cells ≡ []

@@ -7,7 +7,7 @@ use Rattle.std.proofs.lemmas.Bool.{false≢true, and_parts, and_from, eqb-true, 
 use Rattle.std.proofs.lemmas.List.{length-set}
 use Rattle.std.proofs.lemmas.Slice.Eq.{slice_eq-Decides}
 use Rattle.orca_term.specs.Forms.{read, forms_after, forms_from, forms_of}
-use Rattle.orca_term.specs.Painting.{painting, is_painted, is_same_cell, row_of}
+use Rattle.orca_term.specs.Painting.{painting, is_painted, is_same_cell, screen_row}
 use Rattle.orca_term.specs.Picture.{screen_cells}
 use Rattle.orca_term.specs.Terminal.{Terminal, is_on_cell, with_byte, after_form, after_forms, after_bytes}
 use Rattle.orca_term.specs.Viewing.{IsOf, painting_bytes, Shows}
@@ -106,8 +106,8 @@ rows_same xs ys = slice_eq-Decides cell_same xs ys (pointwise is_same_cell xs ys
 
 -- a row that isn't painted is the same in the last picture
 pub unpainted : (d : ScreenSize) (old cells : List Cell) (y : ℕ)
-    → is_painted d (Some old) cells y ≡ false → row_of d old y ≡ row_of d cells y
-unpainted d old cells y kept = (rows_same (row_of d old y) (row_of d cells y)).0 (not-false _ kept)
+    → is_painted d (Some old) cells y ≡ false → screen_row d old y ≡ screen_row d cells y
+unpainted d old cells y kept = (rows_same (screen_row d old y) (screen_row d cells y)).0 (not-false _ kept)
 
 -- after these forms a terminal holds what has to be covered
 record Ready_for (d : ScreenSize) (last : Option (List Cell)) (cells : List Cell)

@@ -3,7 +3,7 @@ use Rattle.std.specs.Prelude.{◌≡◌, ℕ, Bool, false, true, None, [], ◌�
 use Rattle.std.specs.Fmt.{decimal}
 use Rattle.orca_base.specs.Glyphs.{empty, is_operator}
 use Rattle.orca_base.specs.MarkSet.{MarkSet, no_marks}
-use Rattle.orca_term.specs.Picture.{Scene, byte_at, glyph_under, status_text, style_by, tempo_word}
+use Rattle.orca_term.specs.Picture.{Scene, byte_at, glyph_under, status_line_text, style_by, tempo_word}
 use Rattle.orca_term.specs.Words.{glyph_words}
 use Rattle.orca_term.specs.declared.editor.Editor.{Editor}
 use Rattle.orca_term.specs.declared.status.StatusLine.{StatusLine}
@@ -22,7 +22,7 @@ editor append guide = record {
 }
 
 abbrev line : ℕ → StatusLine
-line tick = record { tick = tick; moments = 5; sounding = 0; tempo = 120; note = None }
+line tick = record { tick = tick; moments = 5; sounding = 0; tempo = 120; refusal = None }
 
 -- the frame that was played last is the first of its beat
 on_the_beat : tempo_word (line 1) ≡ decimal 120 ++ codes " " ++ codes "*"
@@ -53,9 +53,9 @@ signs = refl
 no_operators : glyph_words 51 ++ glyph_words 46 ++ glyph_words 64 ≡ []
 no_operators = refl
 
-without_words : status_text (editor false false) 68 (line 1)
-    ≡ status_text (editor false false) 46 (line 1)
-unfolding status_text
+without_words : status_line_text (editor false false) 68 (line 1)
+    ≡ status_line_text (editor false false) 46 (line 1)
+unfolding status_line_text
 without_words = refl
 
 -- ---- the ruler

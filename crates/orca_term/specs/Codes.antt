@@ -11,8 +11,8 @@ abbrev pub semicolon : ℕ
 semicolon = 59
 
 -- `#`, which begins and ends a comment
-abbrev pub hash : ℕ
-hash = 35
+abbrev pub hash_sign : ℕ
+hash_sign = 35
 
 -- `+`, which the ruler shows
 abbrev pub plus : ℕ

@@ -35,8 +35,8 @@ abbrev pub area_of : Editor → Area
 area_of e = record { y = e.y; x = e.x; h = e.h; w = e.w }
 
 -- the selection as a user names it
-abbrev pub rect_of : Editor → Rect
-rect_of e = record { y = e.y; x = e.x; h = e.h; w = e.w }
+abbrev pub selection_rect : Editor → Rect
+selection_rect e = record { y = e.y; x = e.x; h = e.h; w = e.w }
 
 -- the cursor on this row and column
 abbrev pub with_cursor : Editor → ℕ → ℕ → Editor
@@ -63,8 +63,8 @@ stepped Left n p = (p.0, p.1 - n)
 stepped Right n p = (p.0, p.1 + n)
 
 -- the cursor goes there, as far as the grid reaches
-abbrev pub moved : Size → Editor → ℕ × ℕ → Editor
-moved d e at = cut_to_grid d (with_cursor e (min at.0 (d.h - 1)) (min at.1 (d.w - 1)))
+abbrev pub moved_to : Size → Editor → ℕ × ℕ → Editor
+moved_to d e at = cut_to_grid d (with_cursor e (min at.0 (d.h - 1)) (min at.1 (d.w - 1)))
 
 -- where the selection's block slides, as far as all of it stays in the grid
 abbrev pub slid : Side → ℕ → Size → Editor → ℕ × ℕ
@@ -73,7 +73,7 @@ slid side by d e =
 
 -- a glyph was typed
 abbrev pub typed : Size → Editor → Editor
-typed d e = if e.append then moved d e (stepped Right 1 (e.y, e.x)) else e
+typed d e = if e.append then moved_to d e (stepped Right 1 (e.y, e.x)) else e
 
 -- what Rub erases: while typing goes on, the one place before the cursor
 abbrev pub rubbed : Editor → Editor
@@ -115,7 +115,7 @@ spanned from to e =
 
 -- what a key makes of the editor
 abbrev pub editor_after : Key → Around → Editor → Editor
-editor_after (key.Arrow Move side by) a e = moved a.dims e (stepped side by (e.y, e.x))
+editor_after (key.Arrow Move side by) a e = moved_to a.dims e (stepped side by (e.y, e.x))
 editor_after (key.Arrow Stretch side by) a e =
     let size = stepped side by (e.h, e.w) in cut_to_grid a.dims (with_selection e size.0 size.1)
 editor_after (key.Arrow Slide side by) a e =
@@ -137,15 +137,15 @@ abbrev pub wish_of : Key → Around → Editor → Wish
 wish_of (key.Arrow Slide side by) a e =
     let at = slid side by a.dims e in
     if at.0 == e.y && at.1 == e.x then wish.Nothing
-    else wish.Do (command.Move (rect_of e) at.0 at.1)
+    else wish.Do (command.Move (selection_rect e) at.0 at.1)
 wish_of (key.Arrow Grow side by) a e =
     let size = stepped side by (a.dims.h, a.dims.w) in wish.Do (command.Resize size.0 size.1)
 wish_of (key.Glyph glyph) a e = wish.Do (command.Write e.y e.x glyph)
-wish_of key.Fill a e = wish.Do (command.Fill (rect_of e) a.glyph)
-wish_of key.Rub a e = wish.Do (command.Erase (rect_of (rubbed e)))
-wish_of key.Erase a e = wish.Do (command.Erase (rect_of e))
-wish_of key.Copy a e = wish.Do (command.Copy (rect_of e))
-wish_of key.Cut a e = wish.Do (command.Cut (rect_of e))
+wish_of key.Fill a e = wish.Do (command.Fill (selection_rect e) a.glyph)
+wish_of key.Rub a e = wish.Do (command.Erase (selection_rect (rubbed e)))
+wish_of key.Erase a e = wish.Do (command.Erase (selection_rect e))
+wish_of key.Copy a e = wish.Do (command.Copy (selection_rect e))
+wish_of key.Cut a e = wish.Do (command.Cut (selection_rect e))
 wish_of key.Paste a e = wish.Do (command.Paste e.y e.x)
 wish_of key.Undo a e = wish.Do command.Undo
 wish_of key.Redo a e = wish.Do command.Redo

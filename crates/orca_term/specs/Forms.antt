@@ -100,6 +100,6 @@ IsReading (First number) = IsNumber number
 IsReading (Second row number) = (row < 10 ^ FORM_DIGITS) × IsNumber number
 IsReading _ = Unit {0}
 
-abbrev pub GoesOn : Step → Type 0
-GoesOn (Goes reading) = IsReading reading
-GoesOn _ = Unit {0}
+abbrev pub StepsOn : Step → Type 0
+StepsOn (Goes reading) = IsReading reading
+StepsOn _ = Unit {0}

@@ -77,8 +77,8 @@ plain_sequence _ last = None
 -- ---- arrows
 
 -- the arrows by their last bytes
-abbrev pub sides : List (ℕ × Side)
-sides = (65, Up) ∷ (66, Down) ∷ (67, Right) ∷ (68, Left) ∷ []
+abbrev pub arrow_sides : List (ℕ × Side)
+arrow_sides = (65, Up) ∷ (66, Down) ∷ (67, Right) ∷ (68, Left) ∷ []
 
 -- Home and End, by their last bytes and by their numbers
 abbrev pub edges : List (ℕ × Side)
@@ -132,7 +132,7 @@ numbered_keys =
 
 -- the arrow of a last byte, and of a number before `~`
 abbrev pub ended_key : ℕ → ℕ → Option Key
-ended_key last m = option_or (arrow_in sides last m 1) (arrow_in edges last m MAX_COLUMNS)
+ended_key last m = option_or (arrow_in arrow_sides last m 1) (arrow_in edges last m MAX_COLUMNS)
 
 abbrev pub paged_key : ℕ → ℕ → Option Key
 paged_key n m =
@@ -247,6 +247,6 @@ keys_from full p (item ∷ items) =
     option_to_list (turn full p item).key ++ keys_from full (turn full p item).pending items
 
 -- the second turn leaves pending what the first one does, and has its key where that has one
-pub record Extends (plain full : Turn) : Type 0 where
+pub record ExtendsTurn (plain full : Turn) : Type 0 where
   pub pending : full.pending ≡ plain.pending
   pub key : IfSome plain.key (λ k. full.key ≡ Some k)

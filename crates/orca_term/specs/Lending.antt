@@ -6,5 +6,5 @@ use Rattle.orca_term.specs.contracts.view.View.{the_row}
 use mathlib.Core.Option.{none}
 
 -- P holds of the view once the borrow is over
-abbrev pub Rests : MutBor Seen → (Seen → Type 0) → Fml
-Rests view P = follows_so the_row the_row view.ghost_name none (λ _ _. ⊤) P
+abbrev pub RestsWith : MutBor Seen → (Seen → Type 0) → Fml
+RestsWith view P = follows_so the_row the_row view.ghost_name none (λ _ _. ⊤) P

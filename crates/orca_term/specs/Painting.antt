@@ -11,8 +11,8 @@ use Rattle.orca_term.specs.declared.cell.ScreenSize.{ScreenSize}
 use Rattle.orca_term.specs.declared.limits.TheConstants.{ROW_BYTES, CELL_BYTES}
 
 -- row y of the cells of a screen
-abbrev pub row_of : ScreenSize → List Cell → ℕ → List Cell
-row_of d cells y = take d.columns (drop (y * d.columns) cells)
+abbrev pub screen_row : ScreenSize → List Cell → ℕ → List Cell
+screen_row d cells y = take d.columns (drop (y * d.columns) cells)
 
 -- whether two cells are equal
 abbrev pub is_same_cell : Cell → Cell → Bool
@@ -21,7 +21,7 @@ is_same_cell a b = a.byte == b.byte && a.style == b.style
 -- whether row y is painted after the last picture, or after none
 abbrev pub is_painted : ScreenSize → Option (List Cell) → List Cell → ℕ → Bool
 is_painted d None cells y = true
-is_painted d (Some last) cells y = not (pointwise is_same_cell (row_of d last y) (row_of d cells y))
+is_painted d (Some last) cells y = not (pointwise is_same_cell (screen_row d last y) (screen_row d cells y))
 
 -- what changes the style that is in force: nothing where it stays, and else no style and then the
 -- new one
@@ -43,7 +43,7 @@ painted_row y cells = GoTo (y + 1) 1 ∷ Style plain ∷ painted_cells plain cel
 -- row y where it is painted
 abbrev pub forms_of_row : ScreenSize → Option (List Cell) → List Cell → ℕ → List Form
 forms_of_row d last cells y =
-    if is_painted d last cells y then painted_row y (row_of d cells y) else []
+    if is_painted d last cells y then painted_row y (screen_row d cells y) else []
 
 -- the painting of these cells after the last picture, or after none
 unfoldable pub painting : ScreenSize → Option (List Cell) → List Cell → List Form

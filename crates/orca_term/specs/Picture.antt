@@ -11,7 +11,7 @@ use Rattle.orca_base.specs.MarkSet.{MarkSet, no_marks}
 use Rattle.orca_base.specs.declared.command.Rule.{Rule}
 use Rattle.orca_base.specs.declared.limits.TheConstants.{BEAT_FRAMES, MIN_SCREEN_ROWS, MAX_SCREEN_ROWS, MIN_SCREEN_COLUMNS, MAX_SCREEN_COLUMNS}
 use Rattle.orca_base.specs.declared.place.Place.{Place}
-use Rattle.orca_term.specs.Codes.{hash, plus}
+use Rattle.orca_term.specs.Codes.{hash_sign, plus}
 use Rattle.orca_term.specs.Editing.{area_of, window_place}
 use Rattle.orca_term.specs.Words.{glyph_words}
 use Rattle.orca_base.specs.RuleNames.{rule_name}
@@ -87,19 +87,19 @@ pub record IsPrintable (cell : Cell) : Type 0 where
   pub style : cell.style ≤ MAX_STYLE
 
 -- a space without a style
-abbrev pub blank : Cell
-blank = record { byte = space; style = plain }
+abbrev pub blank_cell : Cell
+blank_cell = record { byte = space; style = plain }
 
 -- the marks of a place in the grid
-abbrev pub marks_at : Scene → Place → MarkSet
-marks_at scene at = slice_index_or scene.marks (index_of scene.sheet.dims at) no_marks
+abbrev pub scene_marks : Scene → Place → MarkSet
+scene_marks scene at = slice_index_or scene.marks (index_of scene.sheet.dims at) no_marks
 
 -- the style of a glyph that nothing marks, where the guide shows: of a bang, of a comment, of an
 -- operator that works in each frame, and of one that waits for a bang
 abbrev pub colour_of : ℕ → ℕ
 colour_of glyph =
     if glyph == bang then bright_red
-    else (if glyph == hash then faint
+    else (if glyph == hash_sign then faint
     else (if is_upper glyph then bright_blue
     else (if is_operator glyph then magenta else plain)))
 
@@ -116,7 +116,7 @@ style_by guided selected marks glyph =
 
 abbrev pub style_at : Scene → Place → ℕ
 style_at scene at =
-    style_by scene.editor.guide (is_in_area (area_of scene.editor) at) (marks_at scene at)
+    style_by scene.editor.guide (is_in_area (area_of scene.editor) at) (scene_marks scene at)
     (glyph_at scene.sheet at)
 
 -- the places of the ruler
@@ -134,7 +134,7 @@ byte_at scene at =
 unfoldable pub grid_cell : Scene → Place → Cell
 grid_cell scene at =
     if is_inside scene.sheet.dims at
-    then record { byte = byte_at scene at; style = style_at scene at } else blank
+    then record { byte = byte_at scene at; style = style_at scene at } else blank_cell
 
 -- whether the performance goes on
 abbrev pub state_word : Bool → List ℕ
@@ -142,9 +142,9 @@ state_word true = codes "pause"
 state_word false = codes "play"
 
 -- what became of the last command
-abbrev pub note_word : Option Rule → List ℕ
-note_word None = codes "ok"
-note_word (Some rule) = rule_name rule
+abbrev pub refusal_word : Option Rule → List ℕ
+refusal_word None = codes "ok"
+refusal_word (Some rule) = rule_name rule
 
 -- the tempo, and whether the frame that was played last begins a beat
 abbrev pub tempo_word : StatusLine → List ℕ
@@ -160,14 +160,14 @@ glyph_under scene =
 
 -- the text of the status line, with this glyph at the cursor: the guide adds the tempo and the
 -- glyph in words, and typing that goes on adds a word
-unfoldable pub status_text : Editor → ℕ → StatusLine → List ℕ
-status_text e glyph line =
+unfoldable pub status_line_text : Editor → ℕ → StatusLine → List ℕ
+status_line_text e glyph line =
     decimal line.tick ++ codes " " ++ decimal line.moments ++ codes " " ++ decimal line.sounding
     ++ codes " " ++ decimal e.y ++ codes "," ++ decimal e.x
     ++ codes " " ++ decimal e.h ++ codes "x" ++ decimal e.w
     ++ codes " " ++ state_word e.paused
     ++ (if e.guide then codes " " ++ tempo_word line else [])
-    ++ (if e.append then codes " append" else []) ++ codes " " ++ note_word line.note
+    ++ (if e.append then codes " append" else []) ++ codes " " ++ refusal_word line.refusal
     ++ (if e.guide then glyph_words glyph else [])
 
 -- the cell of a column of the status line: the text is cut at the last column, or filled with
@@ -188,5 +188,5 @@ cell_at d scene text n = cell_of d scene text (n / d.columns) (n % d.columns)
 -- the cells of the screen, in reading order
 unfoldable pub picture : ScreenSize → Scene → StatusLine → List Cell
 picture d scene line =
-    map (cell_at d scene (status_text scene.editor (glyph_under scene) line))
+    map (cell_at d scene (status_line_text scene.editor (glyph_under scene) line))
     (range_with_len 0 (screen_cells d))

@@ -2,7 +2,7 @@
 -- byte in the cell at the cursor.
 use Rattle.std.specs.Prelude.{ℕ, ◌+◌, ◌-◌, ◌*◌, Bool, ◌&&◌, nat_lt, if◌then◌else◌, List, [], fold, replicate, slice_set, slice_index_or, unwrap_or, IsSome}
 use Rattle.orca_term.specs.Forms.{forms_of}
-use Rattle.orca_term.specs.Picture.{blank, plain, screen_cells}
+use Rattle.orca_term.specs.Picture.{blank_cell, plain, screen_cells}
 use Rattle.orca_term.specs.declared.cell.Cell.{Cell}
 use Rattle.orca_term.specs.declared.cell.ScreenSize.{ScreenSize}
 use Rattle.orca_term.specs.declared.forms.Form.{Form}
@@ -18,8 +18,8 @@ pub record Terminal : Type 0 where
   pub style : ℕ
 
 -- every cell blank, the cursor at the top left, and no style
-abbrev pub fresh : ScreenSize → Terminal
-fresh d = record { size = d; cells = replicate (screen_cells d) blank; y = 0; x = 0; style = plain }
+abbrev pub fresh_terminal : ScreenSize → Terminal
+fresh_terminal d = record { size = d; cells = replicate (screen_cells d) blank_cell; y = 0; x = 0; style = plain }
 
 -- whether the cursor lies on a cell
 abbrev pub is_on_cell : Terminal → Bool
@@ -53,4 +53,4 @@ after_bytes t bytes = after_forms t (unwrap_or (forms_of bytes) [])
 
 -- the cell of a row and a column
 abbrev pub terminal_cell : Terminal → ℕ → ℕ → Cell
-terminal_cell t y x = slice_index_or t.cells (y * t.size.columns + x) blank
+terminal_cell t y x = slice_index_or t.cells (y * t.size.columns + x) blank_cell

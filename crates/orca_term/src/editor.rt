@@ -3,7 +3,7 @@
 ghost use Rattle.std.specs.Prelude.{◌≡◌, ◌≤◌, ◌&&◌, ℕ, false, nat_le, nat_lt};
 ghost use Rattle.orca_base.specs.Areas.{IsArea};
 ghost use Rattle.orca_base.specs.Edits.{is_in_area};
-ghost use Rattle.orca_term.specs.Editing.{area_of, rect_of, new_editor, cut_to_grid, editor_inside, stepped, moved, slid, typed, rubbed, wish_of, editor_after};
+ghost use Rattle.orca_term.specs.Editing.{area_of, selection_rect, new_editor, cut_to_grid, editor_inside, stepped, moved_to, slid, typed, rubbed, wish_of, editor_after};
 
 use crate::{Around, Deed, Key, ScreenSize, Side};
 use orca_base::limits::BACK_MOMENTS;
@@ -180,7 +180,7 @@ impl Editor {
 
     /// The selection, as a user names it.
     fn rect(&self) -> Rect
-        ensures { result ≡ rect_of self.now }
+        ensures { result ≡ selection_rect self.now }
     {
         Rect {
             y: u32::from(self.y),
@@ -240,7 +240,7 @@ impl Editor {
 
     /// Moves the cursor, as far as the grid reaches.
     fn go(&mut self, at: (u32, u32), dims: Dims)
-        ensures moved { self.new ≡ moved dims self.old at }
+        ensures moved { self.new ≡ moved_to dims self.old at }
         ensures inside { IsArea dims (area_of self.new) }
     {
         self.y = at.0.min(u32::from(dims.h) - 1) as u16;

@@ -2,7 +2,7 @@
 
 ghost use Rattle.std.specs.Prelude.{◌≡◌, ◌<◌, IsTrue};
 ghost use Rattle.orca_base.specs.Glyphs.{is_digit};
-ghost use Rattle.orca_term.specs.Forms.{IsNumber, IsReading, GoesOn, more, read_first, read_second, read};
+ghost use Rattle.orca_term.specs.Forms.{IsNumber, IsReading, StepsOn, more, read_first, read_second, read};
 
 use crate::limits::{FORM_DIGITS, MAX_STYLE};
 
@@ -66,7 +66,7 @@ pub(crate) const NO_DIGITS: Number = Number {
 pub(crate) fn read(reading: Reading, byte: u8) -> Step
     requires { IsReading reading }
     ensures step { result ≡ read reading byte }
-    ensures goes_on { GoesOn result }
+    ensures goes_on { StepsOn result }
 {
     match reading {
         Reading::Ready => match byte {
@@ -87,7 +87,7 @@ pub(crate) fn read(reading: Reading, byte: u8) -> Step
 fn read_first(number: Number, byte: u8) -> Step
     requires { IsReading (Reading.First number) }
     ensures step { result ≡ read_first number byte }
-    ensures goes_on { GoesOn result }
+    ensures goes_on { StepsOn result }
 {
     if byte.is_ascii_digit() && usize::from(number.digits) < FORM_DIGITS {
         return Step::Goes(Reading::First(more(number, byte)));
@@ -105,7 +105,7 @@ fn read_first(number: Number, byte: u8) -> Step
 fn read_second(row: u16, number: Number, byte: u8) -> Step
     requires { IsReading (Reading.Second row number) }
     ensures step { result ≡ read_second row number byte }
-    ensures goes_on { GoesOn result }
+    ensures goes_on { StepsOn result }
 {
     if byte.is_ascii_digit() && usize::from(number.digits) < FORM_DIGITS {
         return Step::Goes(Reading::Second(row, more(number, byte)));

@@ -2,7 +2,7 @@
 
 ghost use Rattle.std.specs.Prelude.{◌≡◌, ◌≤◌, ◌∷◌, ◌++◌, false, true, Bool, List, length};
 ghost use Rattle.std.specs.Option.{option_to_list};
-ghost use Rattle.orca_term.specs.Keys.{Extends, Item, Byte, Due, turn, turn_outside, turn_after_escape, turn_inside, pending_with, awaits, key_at_end as key_of_end, keys_from};
+ghost use Rattle.orca_term.specs.Keys.{ExtendsTurn, Item, Byte, Due, turn, turn_outside, turn_after_escape, turn_inside, pending_with, awaits, key_at_end as key_of_end, keys_from};
 
 use crate::tables::{key_of, key_of_sequence};
 use orca_base::limits::SEQUENCE_BYTES;
@@ -187,7 +187,7 @@ impl Keys {
     pub fn feed_full(&mut self, byte: u8) -> Option<Key>
         ensures key { result ≡ (turn true self.old (Byte byte)).key }
         ensures pending { self.new ≡ (turn true self.old (Byte byte)).pending }
-        ensures extends { Extends (turn false self.old (Byte byte))
+        ensures extends { ExtendsTurn (turn false self.old (Byte byte))
             (record { key = result; pending = self.new }) }
 
         ensures keys { (items : List Item) → keys_from true self.old (Byte byte ∷ items)

@@ -5,7 +5,7 @@ ghost use Rattle.std.specs.Fmt.{decimal};
 ghost use Rattle.std.specs.Option.{option_copied};
 ghost use Rattle.std.specs.Vec.{vec_capacity};
 ghost use Rattle.orca_term.specs.Forms.{bytes_of};
-ghost use Rattle.orca_term.specs.Painting.{row_of, is_painted, style_change, painted_row, painting, painting_room};
+ghost use Rattle.orca_term.specs.Painting.{screen_row, is_painted, style_change, painted_row, painting, painting_room};
 ghost use Rattle.orca_term.specs.Picture.{IsScreen, screen_cells};
 
 use crate::limits::{CELL_BYTES, FORM_DIGITS, ROW_BYTES};
@@ -55,7 +55,7 @@ fn row_of(size: ScreenSize, cells: &[Cell], y: u16) -> &[Cell]
     requires screen { IsScreen size }
     requires row { y < size.rows }
     requires whole { length cells.now ≡ screen_cells size }
-    ensures row { result.now ≡ row_of size cells.now y }
+    ensures row { result.now ≡ screen_row size cells.now y }
     ensures whole { length result.now ≡ size.columns }
 {
     let columns = usize::from(size.columns);

@@ -9,7 +9,7 @@ ghost use Rattle.orca_base.specs.Grids.{IsInside, glyph_at};
 ghost use Rattle.orca_base.specs.MarkSet.{no_marks};
 ghost use Rattle.orca_term.specs.Codes.{plus};
 ghost use Rattle.orca_term.specs.Editing.{area_of};
-ghost use Rattle.orca_term.specs.Picture.{IsPrintable, IsPrintableByte, IsScreen, faint, screen_cells, scene_of, style_at, style_by, blank, grid_cell, glyph_under, status_cell, picture};
+ghost use Rattle.orca_term.specs.Picture.{IsPrintable, IsPrintableByte, IsScreen, faint, screen_cells, scene_of, style_at, style_by, blank_cell, grid_cell, glyph_under, status_cell, picture};
 
 use crate::limits::RULER_PLACES;
 use crate::status::status_text;
@@ -221,7 +221,7 @@ fn push_blanks(cells: &mut Vec<Cell>, count: u32)
     requires room { vec_len cells.old + count ≤ vec_capacity cells.old }
     requires printable { All IsPrintable cells.old.items }
     ensures blanks { cells.new.items
-        ≡ cells.old.items ++ map (λ x. blank) (range_with_len 0 count) }
+        ≡ cells.old.items ++ map (λ x. blank_cell) (range_with_len 0 count) }
     ensures len { vec_len cells.new ≡ vec_len cells.old + count }
     ensures printable { All IsPrintable cells.new.items }
     ensures room { vec_capacity cells.new ≡ vec_capacity cells.old }

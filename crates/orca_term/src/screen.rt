@@ -1,7 +1,7 @@
 //! The small terminal, which shows what it is sent.
 
 ghost use Rattle.std.specs.Prelude.{◌≡◌, ◌<◌, IfOk};
-ghost use Rattle.orca_term.specs.Terminal.{fresh, after_form, IsWhole, after_bytes, terminal_cell};
+ghost use Rattle.orca_term.specs.Terminal.{fresh_terminal, after_form, IsWhole, after_bytes, terminal_cell};
 
 use crate::forms::{Form, Reading, Step, read};
 use crate::picture::BLANK;
@@ -42,7 +42,7 @@ impl Screen {
     /// A screen of spaces without a style, with the cursor at the top left; [`Memory`] if its room is
     /// refused.
     pub fn start(alloc: Global, rows: u16, columns: u16) -> Result<Screen, Memory>
-        ensures { IfOk result (λ s. s ≡ fresh (record { rows = rows; columns = columns })) }
+        ensures { IfOk result (λ s. s ≡ fresh_terminal (record { rows = rows; columns = columns })) }
     {
         let mut cells = Vec::new(alloc);
         cells.resize(usize::from(rows) * usize::from(columns), BLANK)?;

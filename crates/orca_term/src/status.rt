@@ -2,7 +2,7 @@
 
 ghost use Rattle.std.specs.Prelude.{◌≡◌, ◌==◌, ◌+◌, ◌%◌, ◌≤◌, [], ◌∷◌, ◌++◌, codes, if◌then◌else◌, length, All};
 ghost use Rattle.std.specs.Fmt.{decimal};
-ghost use Rattle.orca_term.specs.Picture.{IsPrintableByte, state_word, tempo_word, note_word, status_text};
+ghost use Rattle.orca_term.specs.Picture.{IsPrintableByte, state_word, tempo_word, refusal_word, status_line_text};
 ghost use Rattle.orca_term.specs.Words.{glyph_words};
 
 use crate::Editor;
@@ -27,13 +27,13 @@ pub struct StatusLine {
     /// The tempo, in beats a minute.
     pub tempo: u16,
     /// The rule that refused the last command, if one did.
-    pub note: Option<Rule>,
+    pub refusal: Option<Rule>,
 }
 
 /// The text of the status line, with this glyph at the cursor.
-#[tactic(auto, unfolding(crate::specs::Picture::status_text))]
+#[tactic(auto, unfolding(crate::specs::Picture::status_line_text))]
 pub(crate) fn status_text(editor: &Editor, glyph: Glyph, line: &StatusLine) -> StatusText
-    ensures text { result ≡ status_text editor.now glyph line.now }
+    ensures text { result ≡ status_line_text editor.now glyph line.now }
     ensures printable { All IsPrintableByte result }
 {
     let mut text = StatusText::empty();
@@ -48,7 +48,7 @@ pub(crate) fn status_text(editor: &Editor, glyph: Glyph, line: &StatusLine) -> S
     push_tempo(&mut text, editor, line);
     push_word(&mut text, append_word(editor.append));
     push_word(&mut text, b" ");
-    push_word(&mut text, note_word(&line.note));
+    push_word(&mut text, refusal_word(&line.refusal));
     push_words(&mut text, editor, glyph);
     text
 }
@@ -157,8 +157,8 @@ fn state_word(paused: bool) -> &'static [u8]
 }
 
 /// What became of the last command.
-fn note_word(note: &Option<Rule>) -> &'static [u8]
-    ensures word { result.now ≡ note_word note.now }
+fn refusal_word(note: &Option<Rule>) -> &'static [u8]
+    ensures word { result.now ≡ refusal_word note.now }
     ensures printable { All IsPrintableByte result.now }
     ensures short { length result.now ≤ RULE_NAME_BYTES }
 {

@@ -2,7 +2,7 @@
 
 ghost use Rattle.std.specs.Prelude.{◌≡◌, ◌≤◌, [], ◌∷◌, length};
 ghost use Rattle.std.specs.Option.{option_and_then};
-ghost use Rattle.orca_term.specs.Keys.{key_of, plain_key, further_keys, found_in, key_of_sequence, plain_sequence, arrow_keys, shifted_keys, sides, edges, numbered_edges, pages, deed_of, arrow_key, ended_key, paged_key, numbers_in, numbered_keys, key_of_numbers, further_sequence};
+ghost use Rattle.orca_term.specs.Keys.{key_of, plain_key, further_keys, found_in, key_of_sequence, plain_sequence, arrow_keys, shifted_keys, arrow_sides, edges, numbered_edges, pages, deed_of, arrow_key, ended_key, paged_key, numbers_in, numbered_keys, key_of_numbers, further_sequence};
 
 use crate::limits::{FAR_BEATS, RULER_PLACES};
 use crate::mouse::mouse_sequence;
@@ -241,7 +241,7 @@ fn deed_of(n: u16) -> Deed
 
 /// The side of an arrow.
 fn side_of(last: u8) -> Option<Side>
-    ensures { result ≡ found_in sides last }
+    ensures { result ≡ found_in arrow_sides last }
 {
     match last {
         b'A' => Some(Side::Up),

@@ -57,7 +57,7 @@ impl View {
     ghost use Rattle.std.specs.Prelude.{◌≡◌, ◌↔◌, ◌≤◌, ◌++◌, [], All, Some, None, List, ℕ, IfOk};
     ghost use Rattle.std.specs.Borrow.{sem};
     ghost use Rattle.orca_base.specs.declared.limits.TheConstants.{MIN_SCREEN_ROWS, MAX_SCREEN_ROWS, MIN_SCREEN_COLUMNS, MAX_SCREEN_COLUMNS};
-    ghost use Rattle.orca_term.specs.Lending.{Rests};
+    ghost use Rattle.orca_term.specs.Lending.{RestsWith};
     ghost use Rattle.orca_term.specs.Picture.{IsPrintable, scene_of, picture, screen_inside};
     ghost use Rattle.orca_term.specs.Terminal.{IsWhole};
     ghost use Rattle.orca_term.specs.Viewing.{painting_bytes, Shows};
@@ -135,7 +135,7 @@ impl View {
             (sent : List ℕ) → Shows self.old.size sent self.old.last
             → Shows self.old.size (sent ++ result.now) (Some cells) }
 
-        ensures* kept { sem 𝓛 (Rests self.entry (λ new. new ≡ record {
+        ensures* kept { sem 𝓛 (RestsWith self.entry (λ new. new ≡ record {
           size = self.old.size;
           last = Some (picture self.old.size
               (scene_of (T.sheet look.now) (T.marks look.now) editor.now) line.now);

@@ -10,9 +10,9 @@ use Rattle.orca_base.specs.Ranges.{AreInRange}
 use Rattle.orca_wav.specs.declared.limits.TheConstants.{PERIOD}
 use Rattle.orca_wav.specs.declared.voice.Voice.{Voice}
 use Rattle.orca_wav.specs.declared.tone.Tone.{Tone}
-use Rattle.orca_wav.specs.Waves.{increment, phase_at}
-use Rattle.orca_wav.specs.Rendering.{is_same, is_on}
-use Rattle.orca_wav.specs.Tones.{IsReady, IsTone, IsBand, tone_after}
+use Rattle.orca_wav.specs.Waves.{phase_step, phase_at}
+use Rattle.orca_wav.specs.Rendering.{is_same_voice, is_voice_on}
+use Rattle.orca_wav.specs.Tones.{IsInPeriod, IsTone, IsBand, tone_after}
 use Rattle.orca_wav.proofs.Increments.{increment-lt}
 use Rattle.orca_wav.proofs.Phases.{phase_at-more, phase_at-first}
 use Rattle.orca_wav.proofs.Few.{IsInRange, same_voices, length-voices}
@@ -29,7 +29,7 @@ IsBand-nil n = record { tones = All-nil (IsTone n); distinct = tt }
 
 -- a voice that begins
 pub IsTone-first : (voice : Voice) → AreInRange voice.channel voice.key voice.velocity
-    → IsTone voice.first (record { voice = voice; increment = increment voice.key; phase = 0 })
+    → IsTone voice.first (record { voice = voice; increment = phase_step voice.key; phase = 0 })
 IsTone-first voice low = record {
   in_range = low;
   first = omega arith;
@@ -38,7 +38,7 @@ IsTone-first voice low = record {
 }
 
 pub IsBand-push : (n : ℕ) (tones : List Tone) (tone : Tone) → IsBand n tones → IsTone n tone
-    → is_on (voices tones) tone.voice.channel tone.voice.key ≡ false
+    → is_voice_on (voices tones) tone.voice.channel tone.voice.key ≡ false
     → IsBand n (tones ++ tone ∷ [])
 IsBand-push n tones tone band one absent = record {
   tones = All-push (IsTone n) tones tone band.tones one;
@@ -72,14 +72,14 @@ All-voices-filter P test (tone ∷ tones) h =
     All-voices-cond P (test tone) tone (filter test tones) h.0 (All-voices-filter P test tones h.1)
 
 distinct-cond : (b : Bool) (tone : Tone) (tones : List Tone)
-    → AllByRecursion (λ v. is_same (voice_of tone) v ≡ false) (voices tones)
-    → IsDistinct is_same (voices tones) → IsDistinct is_same (voices (cond b (tone ∷ tones) tones))
+    → AllByRecursion (λ v. is_same_voice (voice_of tone) v ≡ false) (voices tones)
+    → IsDistinct is_same_voice (voices tones) → IsDistinct is_same_voice (voices (cond b (tone ∷ tones) tones))
 unfolding IsDistinct
 distinct-cond true tone tones h k = (h, k)
 distinct-cond false tone tones h k = k
 
 distinct-filter : (test : Tone → Bool) (tones : List Tone)
-    → IsDistinct is_same (voices tones) → IsDistinct is_same (voices (filter test tones))
+    → IsDistinct is_same_voice (voices tones) → IsDistinct is_same_voice (voices (filter test tones))
 unfolding IsDistinct
 distinct-filter test [] h = tt
 distinct-filter test (tone ∷ tones) h =
@@ -108,7 +108,7 @@ voices-filter test (tone ∷ tones) =
 
 -- ---- one sample later
 
-pub IsReady-tone : (n : ℕ) (tone : Tone) → IsTone n tone → IsReady tone
+pub IsReady-tone : (n : ℕ) (tone : Tone) → IsTone n tone → IsInPeriod tone
 IsReady-tone n tone h =
     let short = increment-lt tone.voice.key h.in_range.first_low in
     let low : phase_at tone.voice n < PERIOD = mod_below _ PERIOD (lit< tt) in
@@ -118,8 +118,8 @@ IsReady-tone n tone h =
       velocity = h.in_range.second_low;
     }
 
-pub all-ready : (n : ℕ) (tones : List Tone) → IsBand n tones → All IsReady tones
-all-ready n tones band = All-weaker (IsTone n) IsReady (IsReady-tone n) tones band.tones
+pub all-ready : (n : ℕ) (tones : List Tone) → IsBand n tones → All IsInPeriod tones
+all-ready n tones band = All-weaker (IsTone n) IsInPeriod (IsReady-tone n) tones band.tones
 
 IsTone-after : (n : ℕ) (tone : Tone) → IsTone n tone → IsTone (n + 1) (tone_after tone)
 IsTone-after n tone h =

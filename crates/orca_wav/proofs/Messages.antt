@@ -7,7 +7,7 @@ use Rattle.std.proofs.lemmas.List.Folds.{list_any-append}
 use Rattle.orca_base.specs.declared.message.Message.{Message}
 use Rattle.orca_base.specs.declared.message.Message.TheVariants as message
 use Rattle.orca_wav.specs.declared.voice.Voice.{Voice}
-use Rattle.orca_wav.specs.Waves.{TimedMessage, is_end, voice_of, voices_of}
+use Rattle.orca_wav.specs.Waves.{TimedMessage, is_end, sounding_voice, voices_of}
 use Rattle.orca_wav.specs.Rendering.{is_of, rendering_of, rendering_after}
 
 abbrev timed : Message → ℕ → TimedMessage
@@ -35,7 +35,7 @@ ends-quiet channel key later m samples quiet =
 
 voice_of-quiet : (x : Message) (n : ℕ) (later : List TimedMessage) (m : Message) (samples : ℕ)
     → IsQuiet m
-    → voice_of x n (later ++ timed m samples ∷ []) ≡ voice_of x n later
+    → sounding_voice x n (later ++ timed m samples ∷ []) ≡ sounding_voice x n later
 voice_of-quiet (message.On channel key velocity) n later m samples quiet =
     let voice : Voice =
     record { channel = channel; key = key; velocity = velocity; first = n } in
@@ -47,14 +47,14 @@ voice_of-quiet (message.Udp text) n later m samples quiet = refl
 voice_of-quiet (message.Osc path values) n later m samples quiet = refl
 
 voices_of-quiet : (messages : List TimedMessage) (m : Message) (samples : ℕ) → IsQuiet m
-    → voices_of (messages ++ timed m samples ∷ []) ≡ voices_of messages ++ voice_of m samples []
-voices_of-quiet [] m samples quiet = append-nil (voice_of m samples [])
+    → voices_of (messages ++ timed m samples ∷ []) ≡ voices_of messages ++ sounding_voice m samples []
+voices_of-quiet [] m samples quiet = append-nil (sounding_voice m samples [])
 voices_of-quiet (x ∷ later) m samples quiet =
     ap (λ v. v ++ voices_of (later ++ timed m samples ∷ []))
     (voice_of-quiet x.message x.samples later m samples quiet)
-    ∙ (ap (λ vs. voice_of x.message x.samples later ++ vs) (voices_of-quiet later m samples quiet)
+    ∙ (ap (λ vs. sounding_voice x.message x.samples later ++ vs) (voices_of-quiet later m samples quiet)
     ∙ sym
-    (append_assoc (voice_of x.message x.samples later) (voices_of later) (voice_of m samples [])))
+    (append_assoc (sounding_voice x.message x.samples later) (voices_of later) (sounding_voice m samples [])))
 
 -- ---- an Off
 
@@ -65,8 +65,8 @@ cond-ended false true voice test e = sym (ap (λ b. cond b (voice ∷ []) []) e)
 cond-ended false false voice test e = sym (ap (λ b. cond b (voice ∷ []) []) e)
 
 voice_of-ended : (x : Message) (n : ℕ) (later : List TimedMessage) (channel key samples : ℕ)
-    → voice_of x n (later ++ timed (message.Off channel key) samples ∷ [])
-    ≡ filter (λ voice. not (is_of channel key voice)) (voice_of x n later)
+    → sounding_voice x n (later ++ timed (message.Off channel key) samples ∷ [])
+    ≡ filter (λ voice. not (is_of channel key voice)) (sounding_voice x n later)
 voice_of-ended (message.On c k velocity) n later channel key samples =
     let voice : Voice = record { channel = c; key = k; velocity = velocity; first = n } in
     let off = timed (message.Off channel key) samples in
@@ -89,14 +89,14 @@ voices_of-ended (x ∷ later) channel key samples =
     let off = timed (message.Off channel key) samples in
     ap (λ v. v ++ voices_of (later ++ off ∷ []))
     (voice_of-ended x.message x.samples later channel key samples)
-    ∙ (ap (λ vs. filter left (voice_of x.message x.samples later) ++ vs)
+    ∙ (ap (λ vs. filter left (sounding_voice x.message x.samples later) ++ vs)
     (voices_of-ended later channel key samples)
-    ∙ sym (filter-append left (voice_of x.message x.samples later) (voices_of later)))
+    ∙ sym (filter-append left (sounding_voice x.message x.samples later) (voices_of later)))
 
 -- ---- any message
 
 other : (messages : List TimedMessage) (m : Message) (samples : ℕ) → IsQuiet m
-    → voice_of m samples [] ≡ []
+    → sounding_voice m samples [] ≡ []
     → voices_of (messages ++ timed m samples ∷ []) ≡ voices_of messages
 other messages m samples quiet none =
     voices_of-quiet messages m samples quiet

@@ -3,7 +3,7 @@ use Rattle.std.proofs.Common.{◌≡◌, ℕ, ◌+◌, ◌-◌, ◌*◌, ◌%◌
 use Rattle.std.proofs.lemmas.Bool.{cases_lt, lt-ltb, le-ltb, cond-true, cond-false}
 use Rattle.orca_wav.specs.declared.limits.TheConstants.{PERIOD}
 use Rattle.orca_wav.specs.declared.voice.Voice.{Voice}
-use Rattle.orca_wav.specs.Waves.{increment, phase_at}
+use Rattle.orca_wav.specs.Waves.{phase_step, phase_at}
 
 -- an increment more, by one comparison
 phase-add : (x s : ℕ) → s < PERIOD
@@ -17,15 +17,15 @@ phase-add x s h =
 later : (n first : ℕ) → first ≤ n → n + 1 - first ≡ (n - first) + 1
 later n first h = omega arith
 
-pub phase_at-more : (voice : Voice) (n : ℕ) → voice.first ≤ n → increment voice.key < PERIOD
-    → cond (ltb (phase_at voice n + increment voice.key) PERIOD) (phase_at voice n + increment voice.key)
-    (phase_at voice n + increment voice.key - PERIOD)
+pub phase_at-more : (voice : Voice) (n : ℕ) → voice.first ≤ n → phase_step voice.key < PERIOD
+    → cond (ltb (phase_at voice n + phase_step voice.key) PERIOD) (phase_at voice n + phase_step voice.key)
+    (phase_at voice n + phase_step voice.key - PERIOD)
     ≡ phase_at voice (n + 1)
 phase_at-more voice n h short =
-    let s = increment voice.key in
+    let s = phase_step voice.key in
     let more : (n - voice.first) * s + s ≡ (n + 1 - voice.first) * s =
     rw (later n voice.first h) (omega arith) in
-    phase-add ((n - voice.first) * increment voice.key) (increment voice.key) short
+    phase-add ((n - voice.first) * phase_step voice.key) (phase_step voice.key) short
     ∙ ap (λ x. x % PERIOD) more
 
 -- a voice begins at the start of a period

@@ -5,7 +5,7 @@ use Rattle.orca_base.specs.declared.message.Message.TheVariants as message
 use Rattle.orca_wav.specs.declared.limits.TheConstants.{SAMPLE_RATE, SLOWEST_FRAME_SAMPLES, SAMPLE_BYTES, MAX_SAMPLE, HEADER_BYTES, MAX_WAVE_BYTES, PITCHES, PERIOD, HALF_PERIOD, VELOCITY_LEVEL}
 use Rattle.orca_wav.specs.declared.voice.Voice.{Voice}
 use Rattle.orca_wav.specs.Header.{header_bytes}
-use Rattle.orca_wav.specs.Waves.{increment, cut, sample_at, sample_bytes, voices_of, run_bytes}
+use Rattle.orca_wav.specs.Waves.{phase_step, cut, sample_at, sample_bytes, voices_of, run_bytes}
 
 -- ---- the numbers, so that none changes unseen
 
@@ -66,28 +66,28 @@ header_of_the_longest = refl
 -- ---- notes
 
 -- the lowest C, and the C three octaves above it
-increment_of_the_lowest_key : increment 0 ≡ 8372
-unfolding increment
+increment_of_the_lowest_key : phase_step 0 ≡ 8372
+unfolding phase_step
 increment_of_the_lowest_key = refl
 
-increment_of_key_36 : increment 36 ≡ 66976
-unfolding increment
+increment_of_key_36 : phase_step 36 ≡ 66976
+unfolding phase_step
 increment_of_key_36 = refl
 
 -- the A of 440 hertz has 440 periods a second
-increment_of_440_hertz : increment 69 ≡ 440 * 1024
-unfolding increment
+increment_of_440_hertz : phase_step 69 ≡ 440 * 1024
+unfolding phase_step
 increment_of_440_hertz = refl
 
 -- key 36 with velocity 119, from the first sample on: it is up for 338 samples, and then down
 last_sample_up : sample_at (record { channel = 0; key = 36; velocity = 119; first = 0 } ∷ []) 337
     ≡ pos 7616
-unfolding sample_at increment
+unfolding sample_at phase_step
 last_sample_up = refl
 
 first_sample_down : sample_at (record { channel = 0; key = 36; velocity = 119; first = 0 } ∷ []) 338
     ≡ negsuc 7615
-unfolding sample_at increment
+unfolding sample_at phase_step
 first_sample_down = refl
 
 bytes_up : sample_bytes (pos 7616) ≡ 0xC0 ∷ 0x1D ∷ []
@@ -118,7 +118,7 @@ bytes_of_two_samples : run_bytes
     (record { message = message.On 0 127 1; samples = 0 }
     ∷ record { message = message.Off 0 127; samples = 1 } ∷ []) 2
     ≡ 64 ∷ 0 ∷ 0 ∷ 0 ∷ []
-unfolding run_bytes sample_at increment
+unfolding run_bytes sample_at phase_step
 bytes_of_two_samples = refl
 
 -- a note begins at its third sample and ends; it starts again with another velocity, begins anew, and ends. The expected
@@ -132,7 +132,7 @@ note_that_starts_again : run_bytes
     ∷ 128 ∷ 0 ∷ 128 ∷ 0 ∷ 0x80 ∷ 0xFF ∷ 0x80 ∷ 0xFF ∷ 128 ∷ 0
     ∷ 128 ∷ 0 ∷ 0x80 ∷ 0xFF ∷ 0x80 ∷ 0xFF ∷ 128 ∷ 0 ∷ 0x80 ∷ 0xFF
     ∷ 0 ∷ 0 ∷ []
-unfolding run_bytes sample_at increment
+unfolding run_bytes sample_at phase_step
 note_that_starts_again = refl
 
 -- two notes, messages that are no notes, and an Off that leaves the other note
@@ -146,7 +146,7 @@ note_that_is_left : run_bytes
     ∷ record { message = message.Off 0 127; samples = 6 } ∷ []) 14
     ≡ 0xC0 ∷ 0x19 ∷ 0xC0 ∷ 0x19 ∷ 0xC0 ∷ 0xE7 ∷ 0xC0 ∷ 0xE7 ∷ 0x40 ∷ 0x18 ∷ 0x40 ∷ 0x18
     ∷ 0x40 ∷ 0xFF ∷ 0x40 ∷ 0xFF ∷ 0xC0 ∷ 0 ∷ 0xC0 ∷ 0 ∷ 0xC0 ∷ 0 ∷ 0x40 ∷ 0xFF ∷ 0x40 ∷ 0xFF ∷ 0x40 ∷ 0xFF ∷ []
-unfolding run_bytes sample_at increment
+unfolding run_bytes sample_at phase_step
 note_that_is_left = refl
 
 -- all keys of all channels at once: what they give is cut
@@ -155,9 +155,9 @@ all_voices = flat_map (λ channel. map (λ key. record { channel = channel; key 
     (range_with_len 0 128)) (range_with_len 0 16)
 
 first_of_all_voices : sample_at all_voices 0 ≡ pos 32767
-unfolding sample_at increment
+unfolding sample_at phase_step
 first_of_all_voices = refl
 
 later_of_all_voices : sample_at all_voices 848 ≡ negsuc 32766
-unfolding sample_at increment
+unfolding sample_at phase_step
 later_of_all_voices = refl

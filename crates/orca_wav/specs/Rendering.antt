@@ -12,12 +12,12 @@ abbrev pub is_of : ℕ → ℕ → Voice → Bool
 is_of channel key voice = voice.channel == channel && voice.key == key
 
 -- one of the voices is
-abbrev pub is_on : List Voice → ℕ → ℕ → Bool
-is_on voices channel key = list_any (is_of channel key) voices
+abbrev pub is_voice_on : List Voice → ℕ → ℕ → Bool
+is_voice_on voices channel key = list_any (is_of channel key) voices
 
 -- two voices have the same channel and key
-abbrev pub is_same : Voice → Voice → Bool
-is_same a b = is_of a.channel a.key b
+abbrev pub is_same_voice : Voice → Voice → Bool
+is_same_voice a b = is_of a.channel a.key b
 
 -- how many samples the run has so far, and its voices, in the order in which they began
 pub record Rendering : Type 0 where
@@ -28,11 +28,11 @@ abbrev pub rendering_of : ℕ → List Voice → Rendering
 rendering_of samples voices = record { samples = samples; voices = voices }
 
 -- an On starts a voice that is not there, and an Off ends one that is
-abbrev pub Suits : List Voice → Message → Type 0
-Suits voices (message.On channel key velocity) =
-    AreInRange channel key velocity × (is_on voices channel key ≡ false)
-Suits voices (message.Off channel key) = is_on voices channel key ≡ true
-Suits voices _ = Unit {0}
+abbrev pub SuitsVoices : List Voice → Message → Type 0
+SuitsVoices voices (message.On channel key velocity) =
+    AreInRange channel key velocity × (is_voice_on voices channel key ≡ false)
+SuitsVoices voices (message.Off channel key) = is_voice_on voices channel key ≡ true
+SuitsVoices voices _ = Unit {0}
 
 -- after a message
 abbrev pub rendering_after : Rendering → Message → Rendering

@@ -6,11 +6,11 @@ use Rattle.orca_base.specs.declared.limits.TheConstants.{MAX_DATA}
 use Rattle.orca_base.specs.Ranges.{AreInRange}
 use Rattle.orca_wav.specs.declared.limits.TheConstants.{PERIOD, HALF_PERIOD}
 use Rattle.orca_wav.specs.declared.tone.Tone.{Tone}
-use Rattle.orca_wav.specs.Waves.{increment, level, phase_at}
-use Rattle.orca_wav.specs.Rendering.{is_same}
+use Rattle.orca_wav.specs.Waves.{phase_step, level, phase_at}
+use Rattle.orca_wav.specs.Rendering.{is_same_voice}
 
 -- the tone is in its period, and stays there
-pub record IsReady (tone : Tone) : Type 0 where
+pub record IsInPeriod (tone : Tone) : Type 0 where
   pub phase : tone.phase < PERIOD
   pub increment : tone.increment < PERIOD
   pub velocity : tone.voice.velocity ≤ MAX_DATA
@@ -30,10 +30,10 @@ tone_after tone =
 pub record IsTone (n : ℕ) (tone : Tone) : Type 0 where
   pub in_range : AreInRange tone.voice.channel tone.voice.key tone.voice.velocity
   pub first : tone.voice.first ≤ n
-  pub increment : tone.increment ≡ increment tone.voice.key
+  pub increment : tone.increment ≡ phase_step tone.voice.key
   pub phase : tone.phase ≡ phase_at tone.voice n
 
 -- tones of which no two have the same channel and key, before sample n of the run
 pub record IsBand (n : ℕ) (band : List Tone) : Type 0 where
   pub tones : All (IsTone n) band
-  pub distinct : IsDistinct is_same (map (λ tone. tone.voice) band)
+  pub distinct : IsDistinct is_same_voice (map (λ tone. tone.voice) band)

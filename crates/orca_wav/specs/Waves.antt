@@ -21,26 +21,26 @@ is_end channel key (message.Off c k) = channel == c && key == k
 is_end channel key _ = false
 
 -- the voice of a message: an On that no later message ends is a voice from the next sample on
-abbrev pub voice_of : Message → ℕ → List TimedMessage → List Voice
-voice_of (message.On channel key velocity) samples later =
+abbrev pub sounding_voice : Message → ℕ → List TimedMessage → List Voice
+sounding_voice (message.On channel key velocity) samples later =
     if list_any (λ m. is_end channel key m.message) later then []
     else record { channel = channel; key = key; velocity = velocity; first = samples } ∷ []
-voice_of _ samples later = []
+sounding_voice _ samples later = []
 
 -- the voices that there are after these messages
 abbrev pub voices_of : List TimedMessage → List Voice
 voices_of [] = []
-voices_of (m ∷ later) = voice_of m.message m.samples later ++ voices_of later
+voices_of (m ∷ later) = sounding_voice m.message m.samples later ++ voices_of later
 
 -- ---- the samples
 
 -- how much the phase of a key grows with each sample: its pitch, which doubles with each octave
-unfoldable pub increment : ℕ → ℕ
-increment key = slice_index PITCHES (key % OCTAVE_KEYS) * 2 ^ (key / OCTAVE_KEYS)
+unfoldable pub phase_step : ℕ → ℕ
+phase_step key = slice_index PITCHES (key % OCTAVE_KEYS) * 2 ^ (key / OCTAVE_KEYS)
 
 -- how far the voice is in its period at sample n of the run
 abbrev pub phase_at : Voice → ℕ → ℕ
-phase_at voice n = ((n - voice.first) * increment voice.key) % PERIOD
+phase_at voice n = ((n - voice.first) * phase_step voice.key) % PERIOD
 
 -- how far its wave is from zero
 abbrev pub level : Voice → ℤ

@@ -1,7 +1,7 @@
 ghost use Rattle.std.specs.Prelude.{◌≡◌, ◌<◌, ◌≤◌, ◌*◌, length, map, pos, ◌+ℤ◌, fold, filter, not, All};
 ghost use Rattle.std.specs.Vec.{vec_capacity};
 ghost use Rattle.orca_wav.specs.Rendering.{is_of};
-ghost use Rattle.orca_wav.specs.Tones.{IsReady, value_of, tone_after};
+ghost use Rattle.orca_wav.specs.Tones.{IsInPeriod, value_of, tone_after};
 
 use crate::Voice;
 use crate::limits::{HALF_PERIOD, PERIOD, VELOCITY_LEVEL};
@@ -22,7 +22,7 @@ pub(crate) struct Tone {
 impl Tone {
     /// The value of the next sample. The wave then goes on to the one after it.
     fn take(&mut self) -> i32
-        requires { IsReady self.old }
+        requires { IsInPeriod self.old }
         ensures value { result ≡ value_of self.old }
         ensures after { self.new ≡ tone_after self.old }
     {
@@ -45,7 +45,7 @@ impl Tone {
 /// The sum of the values of the next sample. Each wave then goes on to the one after it.
 pub(crate) fn mix(tones: &mut [Tone]) -> i32
     requires few { length tones.old ≤ MAX_NOTES }
-    requires ready { All IsReady tones.old }
+    requires ready { All IsInPeriod tones.old }
     ensures sum { result ≡ fold ◌+ℤ◌ (pos 0) (map value_of tones.old) }
     ensures after { tones.new ≡ map tone_after tones.old }
 {

@@ -1,7 +1,7 @@
 ghost use Rattle.std.specs.Prelude.{◌≡◌, ◌+◌, ◌*◌, ◌^◌, ◌<◌, ◌≤◌, ℕ, false, List, [], ◌∷◌, ◌++◌, IfOk, OnOk, OnErr, vec_len};
 ghost use Rattle.std.specs.Vec.{vec_capacity};
 ghost use Rattle.orca_base.specs.Ranges.{AreInRange};
-ghost use Rattle.orca_wav.specs.Rendering.{is_on, rendering_of, Suits, rendering_after, next_bytes, Renders};
+ghost use Rattle.orca_wav.specs.Rendering.{is_voice_on, rendering_of, SuitsVoices, rendering_after, next_bytes, Renders};
 ghost use Rattle.orca_wav.specs.Waves.{TimedMessage, sample_at};
 
 use crate::Voice;
@@ -50,7 +50,7 @@ impl Voices {
     /// Takes a message: an On starts a voice at the next sample, and an Off ends one. Other
     /// messages change nothing.
     pub fn apply(&mut self, message: &Message)
-        requires { Suits self.old.voices message.now }
+        requires { SuitsVoices self.old.voices message.now }
         ensures after { self.new ≡ rendering_after self.old message.now }
         // The bytes that were rendered are still those of the run, which has one message more.
         ensures run { (messages : List TimedMessage) (bytes : List ℕ)
@@ -76,7 +76,7 @@ impl Voices {
     /// Starts a voice at the next sample.
     fn begin(&mut self, channel: u8, key: u8, velocity: u8)
         requires in_range { AreInRange channel key velocity }
-        requires silent { is_on self.old.voices channel key ≡ false }
+        requires silent { is_voice_on self.old.voices channel key ≡ false }
         ensures { self.new ≡ rendering_after self.old (Message.On channel key velocity) }
     {
         let voice = Voice {

@@ -10,7 +10,7 @@ use Rattle.orca_base.specs.Ascii.{dash}
 use Rattle.orca_base.specs.Glyphs.{is_digit}
 use Rattle.orca_base.specs.Numbers.{is_number, number_of}
 use Rattle.orca_words.specs.PlainWords.{is_plain_name, plain_setup}
-use Rattle.orca_words.specs.Requests.{Events, Perform, Replay, Run, frames_of, greatest, number_in, option_text, portless_setup_of, positional_text, request_by, request_in_form, setup_of}
+use Rattle.orca_words.specs.Requests.{Events, Perform, Replay, Run, frames_given, greatest, number_in, option_text, portless_setup_of, positional_text, request_by, request_in_form, setup_of}
 use Rattle.orca_words.specs.declared.forms.Verb.{Verb}
 use Rattle.orca_words.specs.declared.forms.Verb.TheVariants as verb
 use Rattle.orca_words.proofs.PlainForms.{Frames, Script, grid_form, plain_accepted, plain_found, plain_rows, row}
@@ -64,7 +64,7 @@ name_no_dash [] plain = refl
 name_no_dash (x ∷ xs) plain = plain
 
 plain_frames_of : (grid frames : Text)
-    → frames_of (plain_rows Frames grid frames) ≡ number_in 0 greatest frames
+    → frames_given (plain_rows Frames grid frames) ≡ number_in 0 greatest frames
 unfolding option_text plain_rows row
 plain_frames_of grid frames = refl
 

@@ -19,7 +19,7 @@ use Rattle.orca_words.specs.declared.limits.TheConstants.{MIN_SONG_BPM}
 use Rattle.orca_words.specs.declared.request.Request.{Request as Held}
 use Rattle.orca_words.specs.Recordings.{HasOwnJournal, HasSongTempo, IfPerform, IsPortless, OwnsJournals, RecordsWithoutPorts}
 use Rattle.orca_words.specs.RequestIn.{request_in}
-use Rattle.orca_words.specs.Requests.{Events, Follow, Lead, Make, Migrate, Perform, Performance, Play, Recording, Replay, Request, Run, Setup, Smf, Wav, Work, frames_of, greatest, is_same_name, jam_of, leading_of, migration_of, number_in, option_number, performance_of, performed, portless_setup_of, positional_text, recording_of, request_by, request_in_form, request_of, setup_of, with_own_journal, with_ports, workload_of}
+use Rattle.orca_words.specs.Requests.{Events, Follow, Lead, Make, Migrate, Perform, Performance, Play, Recording, Replay, Request, Run, Setup, Smf, Wav, Work, frames_given, greatest, is_same_name, jam_of, leading_of, migration_of, number_in, option_number, performance_of, performing, portless_setup_of, positional_text, recording_of, request_by, request_in_form, request_of, setup_of, with_own_journal, with_ports, workload_of}
 
 -- ---- numbers
 
@@ -47,7 +47,7 @@ tempo_not_below : (found : List Row) (least : ℕ) (recording : Recording) → l
     → recording_of found least ≡ Some recording → least ≤ recording.bpm
 unfolding recording_of
 tempo_not_below found least recording low is =
-    option_and_then_some _ (frames_of found) recording is (λ frames played made.
+    option_and_then_some _ (frames_given found) recording is (λ frames played made.
     option_and_then_some _ (option_number found (codes "bpm") DEFAULT_BPM least MAX_BPM) recording
     made (λ bpm set same.
     let tempo : bpm ≡ recording.bpm = cc in
@@ -116,7 +116,7 @@ IsRecordable setup work =
 -- what holds of each setup and each work that are found holds of the request
 performed_holds : {A : Type 0} (make : A → Work) (setup : Option Setup) (found : Option A)
     → ((s : Setup) → setup ≡ Some s → (a : A) → found ≡ Some a → IsRecordable s (make a))
-    → IfSome (performed setup (option_map make found)) (λ request. IfPerform request IsRecordable)
+    → IfSome (performing setup (option_map make found)) (λ request. IfPerform request IsRecordable)
 performed_holds make None None each = tt
 performed_holds make (Some s) None each = tt
 performed_holds make None (Some a) each = tt
@@ -132,9 +132,9 @@ recordable : (v : Verb) (found : List Row)
     → IfSome (request_by v found) (λ request. IfPerform request IsRecordable)
 unfolding request_by
 recordable verb.Run found =
-    performed_holds Run (setup_of found) (frames_of found) (λ s _ frames _. (tt, tt, tt))
+    performed_holds Run (setup_of found) (frames_given found) (λ s _ frames _. (tt, tt, tt))
 recordable verb.Events found =
-    performed_holds Events (setup_of found) (frames_of found) (λ s _ frames _. (tt, tt, tt))
+    performed_holds Events (setup_of found) (frames_given found) (λ s _ frames _. (tt, tt, tt))
 recordable verb.Replay found =
     performed_holds Replay (setup_of found) (Some (positional_text found (codes "SCRIPT")))
     (λ s _ script _. (tt, tt, tt))

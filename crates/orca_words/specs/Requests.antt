@@ -204,13 +204,13 @@ workload_of found =
     Some (record { seed = seed; height = height; width = width; frames = frames })))))
 
 -- how many frames are played
-abbrev pub frames_of : List Row → Option ℕ
-frames_of found = positional_number found (codes "FRAMES") 0 greatest
+abbrev pub frames_given : List Row → Option ℕ
+frames_given found = positional_number found (codes "FRAMES") 0 greatest
 
 -- the frames, the tempo and the file of `smf` and `wav`, with the least tempo of the word
 unfoldable pub recording_of : List Row → ℕ → Option Recording
 recording_of found least =
-    with_number (frames_of found) (λ frames.
+    with_number (frames_given found) (λ frames.
     with_number (option_number found (codes "bpm") DEFAULT_BPM least MAX_BPM) (λ bpm.
     Some (record { frames = frames; bpm = bpm; out = positional_text found (codes "OUT") })))
 
@@ -231,30 +231,30 @@ migration_of found =
     }))
 
 -- the work, on the grid and with the options that the words name
-abbrev pub performed : Option Setup → Option Work → Option Request
-performed setup work = option_and_then (λ w. option_map (λ s. Perform s w) setup) work
+abbrev pub performing : Option Setup → Option Work → Option Request
+performing setup work = option_and_then (λ w. option_map (λ s. Perform s w) setup) work
 
 -- what a verb asks for, by what clap found
 unfoldable pub request_by : Verb → List Row → Option Request
-request_by verb.Run found = performed (setup_of found) (option_map Run (frames_of found))
-request_by verb.Events found = performed (setup_of found) (option_map Events (frames_of found))
+request_by verb.Run found = performing (setup_of found) (option_map Run (frames_given found))
+request_by verb.Events found = performing (setup_of found) (option_map Events (frames_given found))
 request_by verb.Replay found =
-    performed (setup_of found) (Some (Replay (positional_text found (codes "SCRIPT"))))
+    performing (setup_of found) (Some (Replay (positional_text found (codes "SCRIPT"))))
 request_by verb.Play found =
-    performed (setup_of found)
+    performing (setup_of found)
     (option_map Play (option_and_then (with_own_journal found) (performance_of found)))
 request_by verb.Make found = option_map Make (workload_of found)
 request_by verb.Migrate found = option_map Migrate (migration_of found)
 request_by verb.Smf found =
-    performed (portless_setup_of found) (option_map Smf (recording_of found MIN_SONG_BPM))
+    performing (portless_setup_of found) (option_map Smf (recording_of found MIN_SONG_BPM))
 request_by verb.Jam found =
-    performed (setup_of found)
+    performing (setup_of found)
     (option_map Play (option_and_then (with_own_journal found) (jam_of found)))
 request_by verb.Wav found =
-    performed (portless_setup_of found) (option_map Wav (recording_of found 1))
+    performing (portless_setup_of found) (option_map Wav (recording_of found 1))
 request_by verb.Follow found =
-    performed (setup_of found) (Some (Follow (positional_text found (codes "ADDRESS"))))
-request_by verb.Lead found = performed (setup_of found) (option_map Lead (leading_of found))
+    performing (setup_of found) (Some (Follow (positional_text found (codes "ADDRESS"))))
+request_by verb.Lead found = performing (setup_of found) (option_map Lead (leading_of found))
 
 -- what the words after the first ask for, by the form that it picked. They are accepted exactly
 -- where the command of the form has no fault and the numbers are in their ranges

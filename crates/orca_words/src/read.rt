@@ -2,7 +2,7 @@
 
 ghost use Rattle.std.specs.Prelude.{◌≡◌, ◌≤◌, None, Some, find, map, option_map, string_bytes, IfOk, IsErrOf, MatchOption};
 ghost use Rattle.std.specs.Str.{bytes_eq};
-ghost use Rattle.orca_words.specs.Requests.{frames_of, is_same_name, jam_of, leading_of, migration_of, performance_of, performed, portless_setup_of, recording_of, request_by, request_in_form, request_of, setup_of, with_own_journal, workload_of};
+ghost use Rattle.orca_words.specs.Requests.{frames_given, is_same_name, jam_of, leading_of, migration_of, performance_of, performing, portless_setup_of, recording_of, request_by, request_in_form, request_of, setup_of, with_own_journal, workload_of};
 ghost use Rattle.orca_words.specs.Forms.{form_by, form_in};
 ghost use Rattle.orca_words.specs.RequestIn.{leading_in, migration_in, performance_in, recording_in, request_in, rows_in, setup_in, text_in, work_in, workload_in};
 ghost use Rattle.orca_words.specs.Recordings.{HasOwnJournal, HasSongTempo, IfPerform, RecordsWithoutPorts};
@@ -144,7 +144,7 @@ fn request_by<'a>(verb: Verb, found: &ArgMatches<'a>) -> Option<Request<'a>>
 
 /// How many frames are played.
 fn frames(found: &ArgMatches) -> Option<u32>
-    ensures { result ≡ frames_of (rows_in found.now) }
+    ensures { result ≡ frames_given (rows_in found.now) }
 {
     positional_number(found, "FRAMES", 0, u32::MAX)
 }
@@ -152,7 +152,7 @@ fn frames(found: &ArgMatches) -> Option<u32>
 /// This work, on a grid and with its options, where the numbers of these are in their ranges.
 fn perform<'a>(setup: Option<Setup<'a>>, work: Work<'a>) -> Option<Request<'a>>
     ensures { option_map request_in result
-        ≡ performed (option_map setup_in setup.entry) (Some (work_in work.entry)) }
+        ≡ performing (option_map setup_in setup.entry) (Some (work_in work.entry)) }
 {
     let setup = setup?;
     Some(Request::Perform { setup, work })

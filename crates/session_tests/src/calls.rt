@@ -45,7 +45,7 @@ const FIRST_LINE: StatusLine = StatusLine {
     tick: 0,
     moments: 0,
     sounding: 0,
-    note: None,
+    refusal: None,
     tempo: 120,
 };
 

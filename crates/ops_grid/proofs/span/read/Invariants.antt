@@ -5,7 +5,7 @@ use Rattle.ops_grid.proofs.span.read.Given as goal
 
 abbrev pub invariant-loop-i : goal.invariant-loop-i
 invariant-loop-i g l = record {
-  glyphs : (k : ℕ) → k < l.i → slice_index l.glyphs k ≡ peek (g.B.Bench.desk l.bench).scan
+  glyphs : (k : ℕ) → k < l.i → slice_index l.glyphs k ≡ peek (g.B.Bench.slate l.bench).scan
       (off l.at (pos l.span.y) (pos (k + l.span.x)));
   steps : l.steps ≡ l.initial.steps + l.i;
 }

@@ -12,7 +12,7 @@ returns-then-eq-clause-text g c =
 pub returns-clause-text : goal.returns-clause-text
 returns-clause-text g c =
     let whole : c.loop-i.i ≡ MAX_TEXT = omega arith in
-    let s = (g.B.Bench.desk c.args.bench.now).scan in
+    let s = (g.B.Bench.slate c.args.bench.now).scan in
     c.loop-i.invariant.text
     ∙ (ap (λ (n : ℕ). ports s c.args.at 1 n) whole
     ∙ sym (text_at-missing s c.args.at (λ k below. c.loop-i.invariant.full k (omega arith))))

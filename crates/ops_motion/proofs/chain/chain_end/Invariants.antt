@@ -8,6 +8,6 @@ use Rattle.ops_motion.proofs.chain.chain_end.Given as goal
 abbrev pub invariant-loop-places : goal.invariant-loop-places
 invariant-loop-places g l = record {
   same : (k : ℕ) → 1 ≤ k → k < l.places
-      → not (peek (g.B.Bench.desk l.bench).scan (beyond_on l.way l.at k) == l.glyph) ≡ false;
+      → not (peek (g.B.Bench.slate l.bench).scan (beyond_on l.way l.at k) == l.glyph) ≡ false;
   steps : l.steps + 1 ≡ l.initial.steps + l.places;
 }

@@ -2,15 +2,15 @@ use Rattle.std.proofs.Common.{length, arith, ap, ◌∙◌}
 use Rattle.std.proofs.Common.{List}
 use Rattle.orca_base.specs.declared.place.Place.{Place}
 use Rattle.orca_base.specs.Glyphs.{empty}
-use Rattle.orca_op.specs.Desk.{desk_after_all}
+use Rattle.orca_op.specs.Slate.{slate_after_all}
 use Rattle.orca_board.specs.Blocks.{write_each}
 use Rattle.orca_board.proofs.RunLemmas.{all-outside, outside_step, outside_count}
 use Rattle.orca_board.proofs.blocks.clear_outside.Goals as goal
 
 pub loop-row-preserved : goal.loop-row-preserved
 loop-row-preserved g c = record {
-  desk = outside_step _ _ _ (λ at. empty) c.args.area c.args.other c.loop-row.row
-      c.loop-row.invariant.desk c.clear_row_outside.ensures.desk;
+  slate = outside_step _ _ _ (λ at. empty) c.args.area c.args.other c.loop-row.row
+      c.loop-row.invariant.slate c.clear_row_outside.ensures.slate;
   steps = omega (
     arith,
     c.loop-row.invariant.steps,
@@ -19,10 +19,10 @@ loop-row-preserved g c = record {
   );
 }
 
-pub returns-clause-desk : goal.returns-clause-desk
-returns-clause-desk g c =
-    c.loop-row.invariant.desk
-    ∙ ap (λ (places : List Place). desk_after_all (g.B.Bench.desk c.args.bench.now)
+pub returns-clause-slate : goal.returns-clause-slate
+returns-clause-slate g c =
+    c.loop-row.invariant.slate
+    ∙ ap (λ (places : List Place). slate_after_all (g.B.Bench.slate c.args.bench.now)
     (write_each (λ at. empty) places))
     (all-outside c.args.area c.args.other c.loop-row.row
     (omega (arith, c.loop-row-test.false, c.loop-row.auto.row-end)))

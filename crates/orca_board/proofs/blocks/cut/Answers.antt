@@ -5,7 +5,7 @@ use Rattle.orca_base.specs.declared.place.Place.{Place}
 use Rattle.orca_base.specs.Edits.{is_in_area}
 use Rattle.orca_base.specs.Glyphs.{empty}
 use Rattle.orca_base.specs.Grids.{Size}
-use Rattle.orca_op.specs.Desk.{desk_after_all}
+use Rattle.orca_op.specs.Slate.{slate_after_all}
 use Rattle.orca_board.specs.Blocks.{write_each}
 use Rattle.orca_board.specs.Sizes.{whole}
 use Rattle.orca_board.proofs.RunLemmas.{all-outside, first_rows, length-run, no-rows, none-cut, outside_step, outside_count, row-cut}
@@ -27,7 +27,7 @@ loop-y-init g c =
           (omega (arith, columns, other_columns, w.if-to-dims.false))
     ] in
     record {
-      desk = rw none refl;
+      slate = rw none refl;
       steps = rw none (omega arith);
     }
 
@@ -46,8 +46,8 @@ loop-y-preserved g c =
     ] in
     let row = row-cut c.args.dims c.args.to c.loop-y.y c.if-y-to.x x in
     record {
-      desk = outside_step _ _ _ (λ at. empty) (whole c.args.dims) (whole c.args.to) c.loop-y.y
-          c.loop-y.invariant.desk (rw (columns, ← row) at c.fill_run.ensures.desk);
+      slate = outside_step _ _ _ (λ at. empty) (whole c.args.dims) (whole c.args.to) c.loop-y.y
+          c.loop-y.invariant.slate (rw (columns, ← row) at c.fill_run.ensures.slate);
       steps = omega (
         arith,
         columns,
@@ -59,15 +59,15 @@ loop-y-preserved g c =
       );
     }
 
-pub returns-clause-desk : goal.returns-clause-desk
-returns-clause-desk g c =
+pub returns-clause-slate : goal.returns-clause-slate
+returns-clause-slate g c =
     let rows : c.dims.inside.h ≡ c.args.dims.h = ap (λ (d : Size). d.h) c.dims.view_is in
     let few : c.if-to-dims.first ≤ c.dims.inside.h = elim c.if-to-dims.branch [
       | then-to-dims w ↦ omega (arith, w.first-is)
       | else-to-dims w ↦ omega (arith, w.first-is, w.min-first.ensures)
     ] in
-    c.loop-y.invariant.desk
-    ∙ ap (λ (places : List Place). desk_after_all (g.B.Bench.desk c.args.bench.now)
+    c.loop-y.invariant.slate
+    ∙ ap (λ (places : List Place). slate_after_all (g.B.Bench.slate c.args.bench.now)
     (write_each (λ at. empty) places))
     (all-outside (whole c.args.dims) (whole c.args.to) c.loop-y.y
     (omega (arith, rows, c.loop-y-test.false, c.loop-y.auto.y-end few)))

@@ -2,7 +2,7 @@ use Rattle.std.proofs.Common.{◌≡◌, ◌+◌, not, length}
 use Rattle.std.specs.Prelude.{filter}
 use Rattle.orca_base.specs.Edits.{is_in_area}
 use Rattle.orca_base.specs.Glyphs.{empty}
-use Rattle.orca_op.specs.Desk.{desk_after_all}
+use Rattle.orca_op.specs.Slate.{slate_after_all}
 use Rattle.orca_board.specs.Blocks.{write_each}
 use Rattle.orca_board.specs.Sizes.{whole}
 use Rattle.orca_board.proofs.RunLemmas.{first_rows}
@@ -11,7 +11,7 @@ use Rattle.orca_board.proofs.blocks.cut.Given as goal
 -- those of the first rows that the other size cuts off are empty
 abbrev pub invariant-loop-y : goal.invariant-loop-y
 invariant-loop-y g l = record {
-  desk : g.B.Bench.desk l.bench ≡ desk_after_all (g.B.Bench.desk l.initial.bench)
+  slate : g.B.Bench.slate l.bench ≡ slate_after_all (g.B.Bench.slate l.initial.bench)
       (write_each (λ at. empty)
       (filter (λ at. not (is_in_area (whole l.fn.to) at)) (first_rows (whole l.fn.dims) l.y)));
   steps : l.steps ≡ l.initial.steps + length

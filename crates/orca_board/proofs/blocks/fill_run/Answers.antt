@@ -4,7 +4,7 @@ use Rattle.orca_board.proofs.blocks.fill_run.Goals as goal
 
 pub loop-i-preserved : goal.loop-i-preserved
 loop-i-preserved g c = record {
-  desk = run_step _ _ _ (λ place. c.args.glyph) c.args.at c.loop-i.i _ _
-      c.loop-i.invariant.desk c.here.ensures refl c.write.ensures.deed;
+  slate = run_step _ _ _ (λ place. c.args.glyph) c.args.at c.loop-i.i _ _
+      c.loop-i.invariant.slate c.here.ensures refl c.write.ensures.deed;
   steps = omega (arith, c.loop-i.invariant.steps, c.write.ensures.steps);
 }

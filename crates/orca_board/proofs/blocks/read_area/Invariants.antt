@@ -1,6 +1,6 @@
 use Rattle.std.proofs.Common.{◌≡◌, ◌+◌, ◌*◌}
 use Rattle.std.specs.Prelude.{map, vec_capacity}
-use Rattle.orca_op.specs.State.{glyph_at}
+use Rattle.orca_op.specs.State.{state_glyph}
 use Rattle.orca_board.proofs.RunLemmas.{first_rows}
 use Rattle.orca_board.proofs.blocks.read_area.Given as goal
 
@@ -8,7 +8,7 @@ use Rattle.orca_board.proofs.blocks.read_area.Given as goal
 abbrev pub invariant-loop-row : goal.invariant-loop-row
 invariant-loop-row g l = record {
   glyphs : l.into.items
-      ≡ map (glyph_at (g.B.Bench.desk l.bench).scan) (first_rows l.area l.row);
+      ≡ map (state_glyph (g.B.Bench.slate l.bench).scan) (first_rows l.area l.row);
   capacity : vec_capacity l.into ≡ vec_capacity l.initial.into;
   steps : l.steps ≡ l.initial.steps + l.row * l.area.w;
 }

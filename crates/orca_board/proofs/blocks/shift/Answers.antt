@@ -15,16 +15,16 @@ write_block-requires-clause-rows g c =
     let many : length c.deref.result.now ≡ c.args.area.h * c.args.area.w =
     ap (λ (xs : List ℕ). length xs) (c.deref.ensures.value ∙ c.read_area.ensures.glyphs)
     ∙ length-by_place (size_of c.args.area) (λ at. glyph_at
-    (sheet_of (g.B.Bench.desk c.args.bench.now).scan)
+    (sheet_of (g.B.Bench.slate c.args.bench.now).scan)
     (moved origin (corner_of c.args.area) at)) in
     omega (arith, many, mul-le-mul_right c.args.area.w rows)
 
-pub returns-clause-desk : goal.returns-clause-desk
-returns-clause-desk g c =
+pub returns-clause-slate : goal.returns-clause-slate
+returns-clause-slate g c =
     shift_as _ _ _ c.dims.result c.args.area c.args.to c.image-target.result _
-    c.dims.ensures.desk c.requires.area c.requires.to c.dims.ensures.size
+    c.dims.ensures.slate c.requires.area c.requires.to c.dims.ensures.size
     c.image-target.ensures.image (c.deref.ensures.value ∙ c.read_area.ensures.glyphs)
-    c.clear_outside.ensures.desk c.write_block.ensures.desk
+    c.clear_outside.ensures.slate c.write_block.ensures.slate
 
 pub returns-clause-steps : goal.returns-clause-steps
 returns-clause-steps g c =

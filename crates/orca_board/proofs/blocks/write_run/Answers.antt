@@ -9,9 +9,9 @@ loop-i-preserved g c =
     let number : c.args.first + c.from.result
     ≡ c.args.first + (c.args.at.x + c.loop-i.i - c.args.at.x) = omega (arith, c.from.ensures) in
     record {
-      desk = run_step _ _ _
+      slate = run_step _ _ _
           (λ place. slice_index c.args.glyphs.now (c.args.first + (place.x - c.args.at.x)))
-          c.args.at c.loop-i.i _ _ c.loop-i.invariant.desk c.here.ensures
+          c.args.at c.loop-i.i _ _ c.loop-i.invariant.slate c.here.ensures
           (c.index-glyphs-first.is
           ∙ (get_or_default c.args.glyphs.now (c.args.first + c.from.result) _ 0
           (omega (arith, c.loop-i-test.true, c.from.ensures, c.requires.glyphs))

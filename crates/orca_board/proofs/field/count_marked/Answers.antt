@@ -2,7 +2,7 @@ use Rattle.std.proofs.Common.{◌≡◌, ◌+◌, Bool, true, false, not, List, 
 use Rattle.std.specs.Prelude.{count_by}
 use Rattle.orca_base.specs.Grids.{by_place, cells_of, place_of}
 use Rattle.orca_base.specs.MarkSet.{MarkSet, is_marked}
-use Rattle.orca_board.specs.Board.{marks_in}
+use Rattle.orca_board.specs.Board.{cell_marks}
 use Rattle.orca_board.proofs.LargestLemmas.{counted_all, counted_no, counted_yes}
 use Rattle.orca_board.proofs.field.count_marked.Goals as goal
 use Rattle.orca_board.proofs.field.count_marked.Goals.{then-not-is_empty, else-not-is_empty}
@@ -18,7 +18,7 @@ flip_true b false is holds = refl
 pub loop-n-preserved : goal.loop-n-preserved
 loop-n-preserved g c =
     let here : is_marked c.at.result ≡ is_marked
-    (marks_in c.args.marks.now (place_of c.args.dims c.loop-n.n)) =
+    (cell_marks c.args.marks.now (place_of c.args.dims c.loop-n.n)) =
     rw (c.at.ensures, c.place.ensures.place) refl in
     elim c.if-not-is_empty.branch [
       | then-not-is_empty w ↦
@@ -35,5 +35,5 @@ pub returns : goal.returns
 returns g c =
     let all : c.loop-n.n ≡ cells_of c.args.dims = omega (arith, c.cells-n-end.ensures.cells) in
     c.loop-n.invariant ∙ ap (λ (xs : List MarkSet). c.args.steps.now + count_by is_marked xs)
-    (ap (λ n. take n (by_place c.args.dims (marks_in c.args.marks.now))) all
+    (ap (λ n. take n (by_place c.args.dims (cell_marks c.args.marks.now))) all
     ∙ counted_all c.args.dims c.args.marks.now)

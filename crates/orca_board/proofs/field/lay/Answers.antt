@@ -1,7 +1,7 @@
 use Rattle.std.proofs.Common.{◌≡◌, ◌*◌, ℕ, List, arith, ap, subst, sym, ◌∙◌}
 use Rattle.orca_base.specs.Grids.{Size, IsSize}
 use Rattle.orca_base.proofs.SheetFacts.{AreGlyphs-each, list-by_place}
-use Rattle.orca_board.specs.Board.{glyph_in}
+use Rattle.orca_board.specs.Board.{cell_in}
 use Rattle.orca_board.proofs.BoardLemmas.{live-none, outside-none}
 use Rattle.orca_board.proofs.RowLemmas.{IsLaidRow, glyphs-laid, outside-laid, part-is, part_of, rows-laid}
 use Rattle.orca_board.proofs.field.lay.Goals as goal
@@ -53,7 +53,7 @@ returns-clause-glyphs c =
 pub returns-clause-inside : goal.returns-clause-inside
 returns-clause-inside c =
     let rows : c.dims.inside.h ≡ c.args.dims.h = ap (λ (d : Size). d.h) c.dims.view_is in
-    sym (list-by_place c.args.dims c.args.glyphs.now (glyph_in c.loop-row.cells) 0
+    sym (list-by_place c.args.dims c.args.glyphs.now (cell_in c.loop-row.cells) 0
     (subst IsSize c.dims.view_is c.dims.invariant) c.requires.size (λ at inside.
     sym (c.loop-row.invariant.rows at inside
     (omega (arith, rows, inside.row, c.from-row-end.ensures, c.loop-row-test.false)))))

@@ -4,7 +4,7 @@ use Rattle.orca_base.specs.declared.limits.TheConstants.{MAX_CELLS}
 use Rattle.orca_base.specs.declared.place.Place.{Place}
 use Rattle.orca_base.specs.Glyphs.{IsGlyph}
 use Rattle.orca_base.specs.Grids.{IsInside, index_of}
-use Rattle.orca_board.specs.Board.{AreLive, IsEmptyOutside, glyph_in}
+use Rattle.orca_board.specs.Board.{AreLive, IsEmptyOutside, cell_in}
 use Rattle.orca_board.proofs.field.lay.Given as goal
 
 -- the rows so far hold their glyphs
@@ -13,7 +13,7 @@ invariant-loop-row l = record {
   whole : length l.cells ≡ MAX_CELLS;
   glyphs : (k : ℕ) → k < l.row * l.fn.dims.w → IsGlyph (slice_index l.fn.glyphs k);
   rows : (at : Place) → IsInside l.fn.dims at → at.y < l.row
-      → glyph_in l.cells at ≡ slice_index l.fn.glyphs (index_of l.fn.dims at);
+      → cell_in l.cells at ≡ slice_index l.fn.glyphs (index_of l.fn.dims at);
   outside : IsEmptyOutside l.fn.dims l.cells;
   live : AreLive l.cells l.live;
 }

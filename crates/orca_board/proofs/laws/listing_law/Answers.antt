@@ -1,6 +1,6 @@
 use Rattle.orca_board.proofs.BlockPlaces.{length-places_in, length-cut_places}
 use Rattle.orca_board.proofs.LawLemmas.{all-listed, cut-all_listed, fill-listed, put-listed, shift-listed}
-use Rattle.orca_op.proofs.DeskFacts.{residue-of_sheet}
+use Rattle.orca_op.proofs.SlateFacts.{residue-of_sheet}
 use Rattle.orca_board.proofs.laws.listing_law.Goals as goal
 
 pub returns : goal.returns

@@ -10,7 +10,7 @@ use Rattle.orca_frame.proofs.sparse.frame.Goals.{After-loop-row}
 
 -- every row was walked
 walked : (g : given.Over) (c : After-loop-row g)
-    → c.loop-row.row ≡ (g.B.Bench.desk c.args.board.now).scan.dims.h
+    → c.loop-row.row ≡ (g.B.Bench.slate c.args.board.now).scan.dims.h
 walked g c =
     omega (
       arith,
@@ -23,9 +23,9 @@ walked g c =
 
 pub returns-clause-framed : goal.returns-clause-framed
 returns-clause-framed g c =
-    let all : c.loop-row.row * (g.B.Bench.desk c.args.board.now).scan.dims.w ≡ cells_of
-    (g.B.Bench.desk c.args.board.now).scan.dims = rw (walked g c) refl in
-    framed _ _ _ _ c.dims-dims.ensures.desk c.table_laws.ensures all c.loop-row.invariant.reached
+    let all : c.loop-row.row * (g.B.Bench.slate c.args.board.now).scan.dims.w ≡ cells_of
+    (g.B.Bench.slate c.args.board.now).scan.dims = rw (walked g c) refl in
+    framed _ _ _ _ c.dims-dims.ensures.slate c.table_laws.ensures all c.loop-row.invariant.reached
 
 pub returns-clause-most : goal.returns-clause-most
 returns-clause-most g c = steps_of_rows _ _ _ _ _ (walked g c) c.loop-row.invariant.most

@@ -1,27 +1,27 @@
 use Rattle.std.proofs.Common.{◌≡◌, ◌+◌, ◌*◌, ℕ, ap, arith, ◌∙◌}
 use Rattle.orca_base.specs.Grids.{Size, Sheet}
-use Rattle.orca_frame.specs.Frames.{desk_after_places}
-use Rattle.orca_frame.proofs.FrameLemmas.{dims_desk, room_desk}
+use Rattle.orca_frame.specs.Frames.{slate_after_places}
+use Rattle.orca_frame.proofs.FrameLemmas.{dims_slate, room_slate}
 use Rattle.orca_frame.proofs.SkipLemmas.{held, later_of, live_of, next_reached, visited}
 use Rattle.orca_frame.proofs.sparse.walk_row.Goals as goal
 
 pub first-found-requires-clause-row : goal.first-found-requires-clause-row
 first-found-requires-clause-row g c =
-    let same = dims_desk _ _ _ _ c.requires.reached in
+    let same = dims_slate _ _ _ _ c.requires.reached in
     omega (arith, c.requires.row, ap (λ (d : Size). d.h) same)
 
 pub loop-found-init : goal.loop-found-init
 loop-found-init g c =
-    let sheet : Sheet = (g.B.Bench.desk c.args.board.now).began in
+    let sheet : Sheet = (g.B.Bench.slate c.args.board.now).began in
     let start : c.args.row * sheet.dims.w ≡ c.args.row * sheet.dims.w + c.start-cursor.result =
     omega (arith, c.start-cursor.ensures) in
     let passed = next_reached _ _ _ _ _ _
-    (c.requires.reached ∙ ap (λ (n : ℕ). desk_after_places n sheet c.args.now) start)
+    (c.requires.reached ∙ ap (λ (n : ℕ). slate_after_places n sheet c.args.now) start)
     c.requires.row (omega (arith, c.start-cursor.ensures)) c.first-found.ensures.found
     c.first-found.ensures.passed in
     record {
       reached = passed.0;
-      live = live_of (g.B.Bench.desk c.args.board.now).scan _ _ _ c.first-found.ensures.found;
+      live = live_of (g.B.Bench.slate c.args.board.now).scan _ _ _ c.first-found.ensures.found;
       behind = c.first-found.ensures.behind;
       most = omega (arith, c.first-found.ensures.steps, rw (← start) at passed.1);
       least = omega (arith, c.first-found.ensures.steps);
@@ -36,14 +36,14 @@ pub visit_operator-requires-clause-room : goal.visit_operator-requires-clause-ro
 visit_operator-requires-clause-room g c =
     let found = held _ _ _ _ _ _ c.in-Some.is c.loop-found.invariant.reached c.requires.row
     c.loop-found.invariant.live in
-    room_desk _ _ _ _ found.reached c.table_laws.ensures c.requires.sheet found.below
+    room_slate _ _ _ _ found.reached c.table_laws.ensures c.requires.sheet found.below
 
 pub next-found-requires-clause-row : goal.next-found-requires-clause-row
 next-found-requires-clause-row g c =
     let found = held _ _ _ _ _ _ c.in-Some.is c.loop-found.invariant.reached c.requires.row
     c.loop-found.invariant.live in
     let after = visited _ _ _ _ _ _ _ found c.requires.row c.visit_operator.ensures.deeds in
-    let same = dims_desk _ _ _ _ after.reached in
+    let same = dims_slate _ _ _ _ after.reached in
     omega (arith, c.requires.row, ap (λ (d : Size). d.h) same)
 
 pub next-found-requires-clause-column : goal.next-found-requires-clause-column
@@ -51,7 +51,7 @@ next-found-requires-clause-column g c =
     let found = held _ _ _ _ _ _ c.in-Some.is c.loop-found.invariant.reached c.requires.row
     c.loop-found.invariant.live in
     let after = visited _ _ _ _ _ _ _ found c.requires.row c.visit_operator.ensures.deeds in
-    let same = dims_desk _ _ _ _ after.reached in
+    let same = dims_slate _ _ _ _ after.reached in
     let behind = rw c.in-Some.is at c.loop-found.invariant.behind in
     omega (arith, found.column, behind, ap (λ (d : Size). d.w) same)
 
@@ -60,8 +60,8 @@ loop-found-smaller g c =
     let found = held _ _ _ _ _ _ c.in-Some.is c.loop-found.invariant.reached c.requires.row
     c.loop-found.invariant.live in
     let behind = rw c.in-Some.is at c.loop-found.invariant.behind in
-    let later = later_of (g.B.Bench.desk c.visit_operator.new.bench).scan _ _
-    (g.B.Bench.desk c.args.board.now).began.dims.w _
+    let later = later_of (g.B.Bench.slate c.visit_operator.new.bench).scan _ _
+    (g.B.Bench.slate c.args.board.now).began.dims.w _
     (omega (arith, found.column, behind)) c.next-found.ensures.found in
     rw c.in-Some.is (omega (arith, found.column, behind, later))
 
@@ -76,7 +76,7 @@ loop-found-preserved g c =
     (rw behind at c.next-found.ensures.passed) in
     record {
       reached = passed.0;
-      live = live_of (g.B.Bench.desk c.visit_operator.new.bench).scan _ _ _
+      live = live_of (g.B.Bench.slate c.visit_operator.new.bench).scan _ _ _
           c.next-found.ensures.found;
       behind = c.next-found.ensures.behind;
       most = omega (

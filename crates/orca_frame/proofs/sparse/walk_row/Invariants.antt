@@ -3,18 +3,18 @@ use Rattle.std.specs.Prelude.{IfSome, IsTrue, unwrap_or}
 use Rattle.orca_base.specs.declared.limits.TheConstants.{MAX_VISIT_STEPS}
 use Rattle.orca_op.specs.Live.{is_live}
 use Rattle.orca_op.specs.Scan.{busy_of}
-use Rattle.orca_frame.specs.Frames.{desk_after_places}
+use Rattle.orca_frame.specs.Frames.{slate_after_places}
 use Rattle.orca_frame.proofs.sparse.walk_row.Given as goal
 
 -- the columns before the next operator were visited or passed over, and the cursor stands after it
 abbrev pub invariant-loop-found : goal.invariant-loop-found
 invariant-loop-found g l =
-    let desk = g.B.Bench.desk l.board in
-    let sheet = (g.B.Bench.desk l.fn.board).began in
+    let slate = g.B.Bench.slate l.board in
+    let sheet = (g.B.Bench.slate l.fn.board).began in
     let start = l.row * sheet.dims.w in
     record {
-      reached : desk ≡ desk_after_places (start + unwrap_or l.found sheet.dims.w) sheet l.now;
-      live : IfSome l.found (λ x. IsTrue (is_live desk.scan l.row x));
+      reached : slate ≡ slate_after_places (start + unwrap_or l.found sheet.dims.w) sheet l.now;
+      live : IfSome l.found (λ x. IsTrue (is_live slate.scan l.row x));
       behind : IfSome l.found (λ x. l.cursor ≡ x + 1);
       most : l.steps + MAX_VISIT_STEPS * busy_of start sheet l.now ≤ l.fn.steps + 1
           + MAX_VISIT_STEPS * busy_of (start + unwrap_or l.found sheet.dims.w) sheet l.now;
@@ -23,5 +23,5 @@ invariant-loop-found g l =
 
 abbrev pub decreases-loop-found : goal.decreases-loop-found
 decreases-loop-found g l =
-    let sheet = (g.B.Bench.desk l.fn.board).began in
+    let sheet = (g.B.Bench.slate l.fn.board).began in
     sheet.dims.w - unwrap_or l.found sheet.dims.w

@@ -1,6 +1,6 @@
 use Rattle.std.proofs.Common.{arith, ap}
 use Rattle.orca_edit.specs.Prices.{price}
-use Rattle.orca_op.specs.Desk.{residue}
+use Rattle.orca_op.specs.Slate.{residue}
 use Rattle.orca_session.proofs.PriceLemmas.{is-edit, pays-edit, pays-frame}
 use Rattle.orca_session.proofs.again.do_again.Goals as goal
 use Rattle.orca_session.proofs.again.do_again.Goals.{in-Frame, in-Reset, in-Hush, in_default}

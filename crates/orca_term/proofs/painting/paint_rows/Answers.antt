@@ -2,7 +2,7 @@ use Rattle.std.proofs.Common.{[], sym, ◌∙◌, refl, arith}
 use Rattle.std.proofs.lemmas.Bool.{cond-true, cond-false}
 use Rattle.std.proofs.lemmas.List.{append-nil}
 use Rattle.std.specs.Option.{option_copied}
-use Rattle.orca_term.specs.Painting.{forms_of_row, painted_row, row_of}
+use Rattle.orca_term.specs.Painting.{forms_of_row, painted_row, screen_row}
 use Rattle.orca_term.proofs.PaintingBytes.{rows_more, bytes_of-nil}
 use Rattle.orca_term.proofs.painting.paint_rows.Goals as goal
 use Rattle.orca_term.proofs.painting.paint_rows.Goals.{then-is_painted, else-is_painted}
@@ -23,7 +23,7 @@ loop-y-preserved c =
     elim c.if-is_painted.branch [
       | then-is_painted w ↦
           let painted =
-          cond-true _ (painted_row c.loop-y.y (row_of d cells c.loop-y.y)) []
+          cond-true _ (painted_row c.loop-y.y (screen_row d cells c.loop-y.y)) []
           (sym c.is_painted.ensures ∙ w.if-is_painted.true) in
           record {
             bytes =
@@ -40,7 +40,7 @@ loop-y-preserved c =
           }
       | else-is_painted w ↦
           let kept =
-          cond-false _ (painted_row c.loop-y.y (row_of d cells c.loop-y.y)) []
+          cond-false _ (painted_row c.loop-y.y (screen_row d cells c.loop-y.y)) []
           (sym c.is_painted.ensures ∙ w.if-is_painted.false) in
           record {
             bytes =

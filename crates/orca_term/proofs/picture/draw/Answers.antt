@@ -1,7 +1,7 @@
 use Rattle.std.proofs.Common.{◌≡◌, ℕ, ◌+◌, ◌-◌, ◌*◌, ◌∙◌, ap, length, arith}
 use Rattle.std.proofs.lemmas.List.FromFn.{length-map-range_with_len}
 use Rattle.orca_term.specs.Editing.{page_of}
-use Rattle.orca_term.specs.Picture.{scene_of, cell_at, glyph_under, picture, screen_cells, status_text}
+use Rattle.orca_term.specs.Picture.{scene_of, cell_at, glyph_under, picture, screen_cells, status_line_text}
 use Rattle.orca_term.proofs.DrawnRows.{grid_row_more, status_row_more, rows_before}
 use Rattle.orca_term.proofs.picture.draw.Given.{Over}
 use Rattle.orca_term.proofs.picture.draw.Goals as goal
@@ -54,7 +54,7 @@ returns-clause-picture g c =
     scene_of (g.T.Look.sheet c.args.look.now)
     (g.T.Look.marks c.args.look.now) c.args.editor.now in
     let text : c.status_text-text.result
-    ≡ status_text c.args.editor.now (glyph_under scene) c.args.line.now =
+    ≡ status_line_text c.args.editor.now (glyph_under scene) c.args.line.now =
     rw c.glyph_under-glyph.ensures at c.status_text-text.ensures.text in
     rw (← text) (drawn g c)
 

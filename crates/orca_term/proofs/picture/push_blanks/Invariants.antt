@@ -1,12 +1,12 @@
 use Rattle.std.proofs.Common.{◌≡◌, ◌+◌, ◌++◌, map}
 use Rattle.std.specs.List.{All, range_with_len}
 use Rattle.std.specs.Vec.{vec_len, vec_capacity}
-use Rattle.orca_term.specs.Picture.{IsPrintable, blank}
+use Rattle.orca_term.specs.Picture.{IsPrintable, blank_cell}
 use Rattle.orca_term.proofs.picture.push_blanks.Given as goal
 
 abbrev pub invariant-loop : goal.invariant-loop
 invariant-loop l = record {
-  cells : l.cells.items ≡ l.fn.cells.items ++ map (λ x. blank) (range_with_len 0 l.counter);
+  cells : l.cells.items ≡ l.fn.cells.items ++ map (λ x. blank_cell) (range_with_len 0 l.counter);
   len : vec_len l.cells ≡ vec_len l.fn.cells + l.counter;
   printable : All IsPrintable l.cells.items;
   room : vec_capacity l.cells ≡ vec_capacity l.fn.cells;

@@ -1,7 +1,7 @@
 use Rattle.std.proofs.Common.{◌≡◌, ℕ, ◌+◌, ◌-◌, ◌<◌, ◌≤◌, ◌++◌, ◌∙◌, false, sym, ap, map, List, append_assoc, arith}
 use Rattle.std.specs.List.{range_with_len}
 use Rattle.orca_base.specs.Grids.{Size, is_inside}
-use Rattle.orca_term.specs.Picture.{scene_of, blank, grid_cell}
+use Rattle.orca_term.specs.Picture.{scene_of, blank_cell, grid_cell}
 use Rattle.orca_term.specs.declared.cell.Cell.{Cell}
 use Rattle.orca_term.proofs.DrawnRows.{outside_below, outside_right, row_cut}
 use Rattle.orca_term.proofs.picture.push_grid_row.Goals as goal
@@ -26,7 +26,7 @@ returns-then-first-from-clause-row g c =
     let none : c.args.columns - 0 ≡ c.args.columns = omega arith in
     c.push_blanks.ensures.blanks
     ∙ ap (λ (cells : List Cell). c.args.cells.now.items ++ cells)
-    (ap (λ n. map (λ x. blank) (range_with_len 0 n)) (sym none)
+    (ap (λ n. map (λ x. blank_cell) (range_with_len 0 n)) (sym none)
     ∙ sym (row_cut scene c.args.first.y c.args.first.x 0 c.args.columns (omega arith)
     (λ x from to. outside x)))
 
@@ -51,9 +51,9 @@ returns-clause-row g c =
     ∙ ap (λ n. c.args.cells.now.items ++ map f (range_with_len 0 n)) end in
     c.push_blanks-2.ensures.blanks
     ∙ (ap (λ (cells : List Cell). cells
-    ++ map (λ x. blank) (range_with_len 0 (c.args.columns - c.min-inside.result))) places
+    ++ map (λ x. blank_cell) (range_with_len 0 (c.args.columns - c.min-inside.result))) places
     ∙ (append_assoc c.args.cells.now.items (map f (range_with_len 0 c.min-inside.result))
-    (map (λ x. blank) (range_with_len 0 (c.args.columns - c.min-inside.result)))
+    (map (λ x. blank_cell) (range_with_len 0 (c.args.columns - c.min-inside.result)))
     ∙ ap (λ (cells : List Cell). c.args.cells.now.items ++ cells)
     (sym (row_cut scene c.args.first.y c.args.first.x c.min-inside.result c.args.columns fits
     outside))))

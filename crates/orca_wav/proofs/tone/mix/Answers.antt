@@ -3,7 +3,7 @@ use Rattle.std.proofs.lemmas.List.{get_or_default}
 use Rattle.std.proofs.lemmas.List.Elements.{All-get_or}
 use Rattle.std.proofs.lemmas.List.Edits.{map_over_more}
 use Rattle.orca_wav.specs.declared.tone.Tone.{Tone}
-use Rattle.orca_wav.specs.Tones.{IsReady, value_of, tone_after}
+use Rattle.orca_wav.specs.Tones.{IsInPeriod, value_of, tone_after}
 use Rattle.orca_wav.proofs.Mixes.{IsWithin, IsWithin-value, fold-more, get_or-left, added, added-within}
 use Rattle.orca_wav.proofs.tone.mix.Goals as goal
 use Rattle.orca_wav.proofs.tone.mix.Goals.{After-take-sum}
@@ -34,7 +34,7 @@ within : (c : After-take-sum) → IsWithin 8128 c.take-sum.result
 within c =
     let old = c.args.tones.now in
     let i = c.loop-tone.tone-index in
-    let ready = All-get_or IsReady old i none c.loop-tone-test.true c.requires.ready in
+    let ready = All-get_or IsInPeriod old i none c.loop-tone-test.true c.requires.ready in
     rw (value c) (IsWithin-value (get_or old i none) ready.velocity)
 
 pub loop-tone-preserved : goal.loop-tone-preserved

@@ -1,7 +1,7 @@
 use Rattle.std.proofs.Common.{◌≡◌, ap, ◌∙◌}
 use Rattle.orca_base.specs.Grids.{left, right}
-use Rattle.orca_op.specs.Deeds.{each}
-use Rattle.orca_op.specs.Desk.{Desk, desk_after_all}
+use Rattle.orca_op.specs.Deeds.{each_below}
+use Rattle.orca_op.specs.Slate.{Slate, slate_after_all}
 use Rattle.orca_op.specs.State.{peek}
 use Rattle.orca_op.specs.ValueRules.{value_or}
 use Rattle.ops_grid.specs.Each.{konkat_at}
@@ -10,8 +10,8 @@ use Rattle.ops_grid.proofs.konkat.KonkatOperator.act.Goals as goal
 
 pub returns-clause-deeds : goal.returns-clause-deeds
 returns-clause-deeds g c =
-    let d = g.B.Bench.desk c.args.bench.now in
-    let marked = g.B.Bench.desk c.param.new.self in
+    let d = g.B.Bench.slate c.args.bench.now in
+    let marked = g.B.Bench.slate c.param.new.self in
     let at = c.args.at in
     let port = rw c.left-2.ensures at c.param.ensures.deed in
     let length = c.value_or-length.result in
@@ -19,5 +19,5 @@ returns-clause-deeds g c =
     let same = konkat-same d.scan marked.scan at length
     (λ k. peek-marked d marked _ (right at k) _ port) (λ name. var-marked d marked _ _ name port) in
     rw (← length_is)
-    (c.concatenate.ensures.deeds ∙ (ap (desk_after_all marked) same
-    ∙ ap (λ (e : Desk). desk_after_all e (each length (konkat_at d.scan at))) port))
+    (c.concatenate.ensures.deeds ∙ (ap (slate_after_all marked) same
+    ∙ ap (λ (e : Slate). slate_after_all e (each_below length (konkat_at d.scan at))) port))

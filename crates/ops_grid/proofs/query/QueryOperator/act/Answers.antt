@@ -9,7 +9,7 @@ use Rattle.ops_grid.proofs.query.QueryOperator.act.Goals as goal
 
 pub returns-clause-deeds : goal.returns-clause-deeds
 returns-clause-deeds g c =
-    let s = (g.B.Bench.desk c.args.bench.now).scan in
+    let s = (g.B.Bench.slate c.args.bench.now).scan in
     let at = c.args.at in
     let x = c.value-x.result in
     let y = c.value-y.result in

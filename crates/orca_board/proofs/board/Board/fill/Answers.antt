@@ -10,4 +10,4 @@ pub returns-clause-residue : goal.returns-clause-residue
 returns-clause-residue g c =
     rw (← c.self.view_is) (residue-edited _ _
     (sheet_after_fill (sheet_of c.self.inside.field.scan) c.args.area c.args.glyph) (fill_places c.args.area) _ _ _
-    c.fill.ensures.desk c.fill.ensures.steps (omega (arith, length-places_in c.args.area)))
+    c.fill.ensures.slate c.fill.ensures.steps (omega (arith, length-places_in c.args.area)))

@@ -11,4 +11,4 @@ returns-clause-residue g c =
     (sheet_after_put (sheet_of c.self.inside.field.scan) c.args.to c.args.block.now)
     (put_places c.self.inside.field.scan.dims c.args.to c.args.block.now.dims) _ _
     (length (put_places c.self.inside.field.scan.dims c.args.to c.args.block.now.dims))
-    c.put.ensures.desk c.put.ensures.steps (omega arith))
+    c.put.ensures.slate c.put.ensures.steps (omega arith))

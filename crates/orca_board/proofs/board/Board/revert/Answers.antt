@@ -8,4 +8,4 @@ returns-clause-residue g c =
     rw (← c.self.view_is) (residue-reverted _ _ _ _
     (length (cut_places c.self.inside.field.scan.dims c.self.inside.field.began.dims)
     + length c.self.inside.field.listed)
-    c.revert.ensures.desk (omega (arith, c.revert.ensures.steps)))
+    c.revert.ensures.slate (omega (arith, c.revert.ensures.steps)))

@@ -12,4 +12,4 @@ returns-clause-residue g c =
     (shift_places c.self.inside.field.scan.dims c.args.area c.args.to) _ _
     (c.args.area.h * c.args.area.w
     + length (shift_places c.self.inside.field.scan.dims c.args.area c.args.to))
-    c.shift.ensures.desk (omega (arith, c.shift.ensures.steps)) (omega arith))
+    c.shift.ensures.slate (omega (arith, c.shift.ensures.steps)) (omega arith))

@@ -1,23 +1,23 @@
 use Rattle.std.proofs.Common.{arith, ap, refl, ◌∙◌}
 use Rattle.std.specs.Prelude.{◌-◌}
 use Rattle.orca_base.specs.Grids.{Size, above, index_of}
-use Rattle.orca_board.specs.Board.{desk_of}
+use Rattle.orca_board.specs.Board.{slate_of}
 use Rattle.orca_board.proofs.SpanLemmas.{one_less, peek_above, peek_cell, still}
 use Rattle.orca_board.proofs.field.Field.above.Goals as goal
 
 pub returns-then-at-eq0 : goal.returns-then-at-eq0
 returns-then-at-eq0 c =
-    rw (← c.self.view_is) (peek_above (desk_of c.self.inside).scan c.args.at
-    c.self.invariant.lists.desk.state.sheet.size c.if-at-eq0.true)
+    rw (← c.self.view_is) (peek_above (slate_of c.self.inside).scan c.args.at
+    c.self.invariant.lists.slate.state.sheet.size c.if-at-eq0.true)
 
 pub returns : goal.returns
 returns c =
     let inside = rw (← c.self.view_is) at c.requires in
-    let size = c.self.invariant.lists.desk.state.sheet.size in
+    let size = c.self.invariant.lists.slate.state.sheet.size in
     let number =
     c.index-i.ensures.index ∙ ap (λ (d : Size). index_of d c.args.at) c.largest.ensures in
     rw (← c.self.view_is)
-    (peek_cell (desk_of c.self.inside).scan c.self.inside.cells.items (above c.args.at)
+    (peek_cell (slate_of c.self.inside).scan c.self.inside.cells.items (above c.args.at)
     (c.args.at.y - 1) c.args.at.x _ c.index.result.now size refl c.self.invariant.outside
     c.self.invariant.whole
     (one_less c.args.at.y (omega (arith, c.if-at-eq0.false))) (still c.args.at.x)

@@ -2,10 +2,10 @@ use Rattle.std.proofs.Common.{◌≡◌, ◌++◌, ℕ, List, length, take, drop
 use Rattle.orca_base.specs.Grids.{Sheet, IsSheet, sheet_by}
 use Rattle.orca_base.proofs.ListFacts.{put_over}
 use Rattle.orca_board.specs.Listing.{Listed, places_of}
-use Rattle.orca_board.specs.Board.{glyph_in}
+use Rattle.orca_board.specs.Board.{cell_in}
 use Rattle.orca_board.proofs.BoardLemmas.{keeps-of_sheet}
 use Rattle.orca_board.proofs.LargestLemmas.{cleared-by_place}
-use Rattle.orca_board.proofs.DeskLemmas.{started}
+use Rattle.orca_board.proofs.SlateLemmas.{started}
 use Rattle.orca_board.proofs.field.Field.load.Goals as goal
 
 pub invariant_of-self : goal.invariant_of-self
@@ -28,7 +28,7 @@ invariant_of-self over c =
     rw emptied (put_over c.lay.new.cells c.wipe.new.cells c.self.inside.cells.len
     (c.lay.ensures.whole ∙ sym c.wipe.ensures.whole)
     (omega (arith, c.wipe.ensures.whole, c.self.invariant.whole, c.self.inside.cells.ok.0))) in
-    let filled : ◌≡◌ {A = Sheet} (sheet_by c.args.dims (glyph_in c.lay.new.cells)) g =
+    let filled : ◌≡◌ {A = Sheet} (sheet_by c.args.dims (cell_in c.lay.new.cells)) g =
     ap (λ (cells : List ℕ). record { dims = c.args.dims; cells = cells }) c.lay.ensures.inside
     in
     rw laid (keeps-of_sheet _ g _ _ _ _ _ sheet
@@ -42,8 +42,8 @@ invariant_of-self over c =
     c.clear.ensures.size c.lay.ensures.outside c.lay.ensures.live
     (omega (arith, c.clear-2.ensures.capacity, c.self.invariant.events_roomy)))
 
-pub returns-clause-desk : goal.returns-clause-desk
-returns-clause-desk over c =
+pub returns-clause-slate : goal.returns-clause-slate
+returns-clause-slate over c =
     let g : Sheet = record { dims = c.args.dims; cells = c.args.cells.now } in
     let sheet : IsSheet g =
     record { size = c.cells-2.ensures.size; whole = c.requires; glyphs = c.lay.ensures.glyphs }
@@ -62,7 +62,7 @@ returns-clause-desk over c =
     rw emptied (put_over c.lay.new.cells c.wipe.new.cells c.self.inside.cells.len
     (c.lay.ensures.whole ∙ sym c.wipe.ensures.whole)
     (omega (arith, c.wipe.ensures.whole, c.self.invariant.whole, c.self.inside.cells.ok.0))) in
-    let filled : ◌≡◌ {A = Sheet} (sheet_by c.args.dims (glyph_in c.lay.new.cells)) g =
+    let filled : ◌≡◌ {A = Sheet} (sheet_by c.args.dims (cell_in c.lay.new.cells)) g =
     ap (λ (cells : List ℕ). record { dims = c.args.dims; cells = cells }) c.lay.ensures.inside
     in
     rw laid (started _ g refl c.lay.ensures.inside

@@ -8,35 +8,35 @@ use Rattle.orca_op.specs.State.{State}
 use Rattle.orca_board.specs.Blocks.{list_each, places_in}
 use Rattle.orca_board.specs.Sizes.{cut_places, whole, with_sheet}
 use Rattle.orca_base.proofs.ListFacts.{put_over}
-use Rattle.orca_op.specs.Desk.{Desk}
-use Rattle.orca_board.specs.Board.{desk_of, glyph_in}
+use Rattle.orca_op.specs.Slate.{Slate}
+use Rattle.orca_board.specs.Board.{slate_of, cell_in}
 use Rattle.orca_board.proofs.CutLemmas.{cut-away, cut-empty, cut-listed, cut-unlisted, left_glyph}
 use Rattle.orca_board.proofs.RevertLemmas.{Restores, back, dims-with_sheet, keeps-revert, sheet-back, sheeted}
 use Rattle.orca_board.proofs.field.Field.revert.Goals as goal
 
 pub take_dims-requires-clause-empty : goal.take_dims-requires-clause-empty
 take_dims-requires-clause-empty g c =
-    let d : Desk = desk_of c.self.inside in
+    let d : Slate = slate_of c.self.inside in
     rw (
-      c.cut.ensures.desk,
+      c.cut.ensures.slate,
       ← c.self.view_is,
-      cut-away d c.dims-began.result c.self.invariant.lists.desk,
+      cut-away d c.dims-began.result c.self.invariant.lists.slate,
     )
     (λ at inside out. cut-empty d c.dims-began.result at inside out)
 
 pub take_dims-requires-clause-listed : goal.take_dims-requires-clause-listed
 take_dims-requires-clause-listed g c =
-    let d : Desk = desk_of c.self.inside in
+    let d : Slate = slate_of c.self.inside in
     rw (
-      c.cut.ensures.desk,
+      c.cut.ensures.slate,
       ← c.self.view_is,
-      cut-away d c.dims-began.result c.self.invariant.lists.desk,
+      cut-away d c.dims-began.result c.self.invariant.lists.slate,
     )
-    (λ at inside out. cut-listed d c.dims-began.result at c.self.invariant.lists.desk inside out)
+    (λ at inside out. cut-listed d c.dims-began.result at c.self.invariant.lists.slate inside out)
 
--- the desk once the size of the last `begin` is taken
-abbrev taken_desk : Desk → Size → Desk
-taken_desk d b = record {
+-- the slate once the size of the last `begin` is taken
+abbrev taken_slate : Slate → Size → Slate
+taken_slate d b = record {
   scan = with_sheet d.scan (sheet_after_resize (sheet_by d.scan.dims (left_glyph d b)) b);
   began = d.began;
   listed = list_each d.began.dims d.listed (cut_places d.scan.dims b);
@@ -44,25 +44,25 @@ taken_desk d b = record {
 
 pub invariant_of-self : goal.invariant_of-self
 invariant_of-self g c =
-    let d : Desk = desk_of c.self.inside in
-    let e : Desk = desk_of c.self-2.inside in
+    let d : Slate = slate_of c.self.inside in
+    let e : Slate = slate_of c.self-2.inside in
     let b : Size = c.dims-began.result in
     let new : List ℕ = c.restore.new.cells in
-    let taken : e ≡ taken_desk d b =
+    let taken : e ≡ taken_slate d b =
     c.self-2.view_is
     ∙ (rw (
       c.take_dims.ensures,
-      c.cut.ensures.desk,
+      c.cut.ensures.slate,
       ← c.self.view_is,
       cut-away d b
-          c.self.invariant.lists.desk,
+          c.self.invariant.lists.slate,
     ) refl) in
     let same : e.scan.dims ≡ e.began.dims =
-    ap (λ (x : Desk). x.scan.dims) taken ∙
+    ap (λ (x : Slate). x.scan.dims) taken ∙
     (dims-with_sheet d.scan (sheet_after_resize (sheet_by d.scan.dims (left_glyph d b)) b)
-    ∙ (c.dims-began.ensures ∙ sym (ap (λ (x : Desk). x.began.dims) taken))) in
+    ∙ (c.dims-began.ensures ∙ sym (ap (λ (x : Slate). x.began.dims) taken))) in
     let began : c.self-2.inside.listing.began ≡ b =
-    ap (λ (x : Desk). x.began.dims) taken ∙ sym c.dims-began.ensures in
+    ap (λ (x : Slate). x.began.dims) taken ∙ sym c.dims-began.ensures in
     let restored : Restores c.self-2.inside.listing.changes c.self-2.inside.cells.items new =
     record {
       whole = c.restore.ensures.whole;
@@ -79,27 +79,27 @@ invariant_of-self g c =
     c.self-2.inside.marks c.self-2.inside.live c.restore.new.live _ c.self-2.invariant restored
     c.restore.ensures.live same refl refl)
 
-pub returns-clause-desk : goal.returns-clause-desk
-returns-clause-desk g c =
-    let d : Desk = desk_of c.self.inside in
-    let e : Desk = desk_of c.self-2.inside in
+pub returns-clause-slate : goal.returns-clause-slate
+returns-clause-slate g c =
+    let d : Slate = slate_of c.self.inside in
+    let e : Slate = slate_of c.self-2.inside in
     let b : Size = c.dims-began.result in
     let new : List ℕ = c.restore.new.cells in
-    let taken : e ≡ taken_desk d b =
+    let taken : e ≡ taken_slate d b =
     c.self-2.view_is
     ∙ (rw (
       c.take_dims.ensures,
-      c.cut.ensures.desk,
+      c.cut.ensures.slate,
       ← c.self.view_is,
       cut-away d b
-          c.self.invariant.lists.desk,
+          c.self.invariant.lists.slate,
     ) refl) in
     let same : e.scan.dims ≡ e.began.dims =
-    ap (λ (x : Desk). x.scan.dims) taken ∙
+    ap (λ (x : Slate). x.scan.dims) taken ∙
     (dims-with_sheet d.scan (sheet_after_resize (sheet_by d.scan.dims (left_glyph d b)) b)
-    ∙ (c.dims-began.ensures ∙ sym (ap (λ (x : Desk). x.began.dims) taken))) in
+    ∙ (c.dims-began.ensures ∙ sym (ap (λ (x : Slate). x.began.dims) taken))) in
     let began : c.self-2.inside.listing.began ≡ b =
-    ap (λ (x : Desk). x.began.dims) taken ∙ sym c.dims-began.ensures in
+    ap (λ (x : Slate). x.began.dims) taken ∙ sym c.dims-began.ensures in
     let restored : Restores c.self-2.inside.listing.changes c.self-2.inside.cells.items new =
     record {
       whole = c.restore.ensures.whole;
@@ -111,18 +111,18 @@ returns-clause-desk g c =
     put_over new c.self-2.inside.cells.items c.self-2.inside.cells.len
     (c.restore.ensures.whole ∙ sym c.self-2.invariant.whole)
     (omega (arith, c.self-2.inside.cells.ok.0)) in
-    let cells : by_place e.scan.dims (glyph_in new) ≡ d.began.cells =
+    let cells : by_place e.scan.dims (cell_in new) ≡ d.began.cells =
     ap (λ (sheet : Sheet). sheet.cells)
     (sheet-back e new same (back e c.self-2.inside.listing.changes c.self-2.inside.cells.items
     new c.self-2.inside.marks c.self-2.inside.live _ c.self-2.invariant restored refl refl))
-    ∙ ap (λ (x : Desk). x.began.cells) taken in
+    ∙ ap (λ (x : Slate). x.began.cells) taken in
     rw (← c.self.view_is, laid, c.begin.ensures, ← began)
     (ap (λ (xs : List ℕ). record {
       scan = record e.scan { cells = xs };
       began = e.began;
       listed = [];
     }) cells
-    ∙ (ap (λ (x : Desk). record {
+    ∙ (ap (λ (x : Slate). record {
       scan = record x.scan { cells = d.began.cells };
       began = x.began;
       listed = [];
@@ -133,25 +133,25 @@ returns-clause-desk g c =
 
 pub returns-clause-steps : goal.returns-clause-steps
 returns-clause-steps g c =
-    let d : Desk = desk_of c.self.inside in
-    let e : Desk = desk_of c.self-2.inside in
+    let d : Slate = slate_of c.self.inside in
+    let e : Slate = slate_of c.self-2.inside in
     let b : Size = c.dims-began.result in
     let new : List ℕ = c.restore.new.cells in
-    let taken : e ≡ taken_desk d b =
+    let taken : e ≡ taken_slate d b =
     c.self-2.view_is
     ∙ (rw (
       c.take_dims.ensures,
-      c.cut.ensures.desk,
+      c.cut.ensures.slate,
       ← c.self.view_is,
       cut-away d b
-          c.self.invariant.lists.desk,
+          c.self.invariant.lists.slate,
     ) refl) in
     let same : e.scan.dims ≡ e.began.dims =
-    ap (λ (x : Desk). x.scan.dims) taken ∙
+    ap (λ (x : Slate). x.scan.dims) taken ∙
     (dims-with_sheet d.scan (sheet_after_resize (sheet_by d.scan.dims (left_glyph d b)) b)
-    ∙ (c.dims-began.ensures ∙ sym (ap (λ (x : Desk). x.began.dims) taken))) in
+    ∙ (c.dims-began.ensures ∙ sym (ap (λ (x : Slate). x.began.dims) taken))) in
     let began : c.self-2.inside.listing.began ≡ b =
-    ap (λ (x : Desk). x.began.dims) taken ∙ sym c.dims-began.ensures in
+    ap (λ (x : Slate). x.began.dims) taken ∙ sym c.dims-began.ensures in
     let restored : Restores c.self-2.inside.listing.changes c.self-2.inside.cells.items new =
     record {
       whole = c.restore.ensures.whole;
@@ -166,7 +166,7 @@ returns-clause-steps g c =
     let many : length c.changes.result.now ≡ length d.listed =
     ap (λ (changes : List Change). length changes) c.changes.ensures
     ∙ (sym (length-map c.self-2.inside.listing.changes (λ (change : Change). change.at))
-    ∙ (ap (λ (x : Desk). length x.listed) taken
+    ∙ (ap (λ (x : Slate). length x.listed) taken
     ∙ ap (λ (listed : List Place). length listed)
     (rw c.dims-began.ensures (cut-unlisted d.began.dims d.listed
     (places_in (whole d.scan.dims)))))) in

@@ -6,9 +6,9 @@ use Rattle.orca_base.specs.Grids.{Sheet, by_place, sheet_by}
 use Rattle.orca_base.proofs.ListFacts.{put_over, resized}
 use Rattle.orca_marks.proofs.PlaneLemmas.{length-blank}
 use Rattle.orca_board.specs.Listing.{Listed, places_of}
-use Rattle.orca_board.specs.Board.{glyph_in}
+use Rattle.orca_board.specs.Board.{cell_in}
 use Rattle.orca_board.proofs.BoardLemmas.{blank-by_place, keeps-of_sheet}
-use Rattle.orca_board.proofs.DeskLemmas.{started}
+use Rattle.orca_board.proofs.SlateLemmas.{started}
 use Rattle.orca_board.proofs.LiveBitsLemmas.{off-none}
 use Rattle.orca_board.proofs.field.Field.start.Goals as goal
 
@@ -32,9 +32,9 @@ invariant_of-result-2 c =
     ≡ c.lay.new.cells =
     put_over c.lay.new.cells c.resize.new.self.items c.resize.new.self.len
     (c.lay.ensures.whole ∙ sym long) (omega (arith, c.resize.new.self.ok.0)) in
-    let inside : by_place g.dims (glyph_in c.lay.new.cells) ≡ g.cells =
+    let inside : by_place g.dims (cell_in c.lay.new.cells) ≡ g.cells =
     rw (← c.dims-dims.ensures.size) (c.lay.ensures.inside ∙ c.cells.ensures) in
-    let filled : ◌≡◌ {A = Sheet} (sheet_by g.dims (glyph_in c.lay.new.cells)) g =
+    let filled : ◌≡◌ {A = Sheet} (sheet_by g.dims (cell_in c.lay.new.cells)) g =
     ap (λ (cells : List ℕ). record { dims = g.dims; cells = cells }) inside in
     rw laid (keeps-of_sheet _ g _ _ _ _ _ c.dims-dims.ensures.whole
     (started _ g c.dims-dims.ensures.size (rw c.dims-dims.ensures.size inside)
@@ -64,9 +64,9 @@ returns c =
     ≡ c.lay.new.cells =
     put_over c.lay.new.cells c.resize.new.self.items c.resize.new.self.len
     (c.lay.ensures.whole ∙ sym long) (omega (arith, c.resize.new.self.ok.0)) in
-    let inside : by_place g.dims (glyph_in c.lay.new.cells) ≡ g.cells =
+    let inside : by_place g.dims (cell_in c.lay.new.cells) ≡ g.cells =
     rw (← c.dims-dims.ensures.size) (c.lay.ensures.inside ∙ c.cells.ensures) in
-    let filled : ◌≡◌ {A = Sheet} (sheet_by g.dims (glyph_in c.lay.new.cells)) g =
+    let filled : ◌≡◌ {A = Sheet} (sheet_by g.dims (cell_in c.lay.new.cells)) g =
     ap (λ (cells : List ℕ). record { dims = g.dims; cells = cells }) inside in
     rw laid (started _ g c.dims-dims.ensures.size (rw c.dims-dims.ensures.size inside)
     (rw (c.dims-dims.ensures.size, c.in_ok-start.ensures)

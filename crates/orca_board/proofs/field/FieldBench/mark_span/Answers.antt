@@ -1,7 +1,7 @@
 use Rattle.std.proofs.Common.{◌≡◌, ◌+◌, ◌*◌, arith, ap, refl}
 use Rattle.orca_base.specs.declared.limits.TheConstants.{MAX_COLUMNS}
 use Rattle.orca_base.specs.Grids.{Size, by_place, index_of, largest}
-use Rattle.orca_board.specs.Board.{desk_of, marks_in}
+use Rattle.orca_board.specs.Board.{slate_of, cell_marks}
 use Rattle.orca_board.proofs.SpanLemmas.{lists-spanned, span_beyond, span_marks, span_plane, spanned}
 use Rattle.orca_board.proofs.field.FieldBench.mark_span.Given as given
 use Rattle.orca_board.proofs.field.FieldBench.mark_span.Goals as goal
@@ -9,7 +9,7 @@ use Rattle.orca_board.proofs.field.FieldBench.mark_span.Goals.{After-add_run, el
 
 -- the marks of the grid
 marked : (g : given.Over) (c : After-add_run g)
-    → by_place c.self.inside.dims (marks_in c.add_run.new.self)
+    → by_place c.self.inside.dims (cell_marks c.add_run.new.self)
     ≡ by_place c.self.inside.dims (span_marks c.self.inside.marks (c.args.at.y + c.args.span.y)
     (c.args.at.x + c.args.span.x) c.args.span.length c.args.marks)
 marked g c =
@@ -28,7 +28,7 @@ marked g c =
       x = c.from-4.result
           + c.from-5.result;
     })) c.args.marks
-    c.self.invariant.lists.desk.state.sheet.size
+    c.self.invariant.lists.slate.state.sheet.size
     (omega (
       arith,
       width,
@@ -48,9 +48,9 @@ marked g c =
 
 pub invariant_of-self : goal.invariant_of-self
 invariant_of-self g c = record {
-  lists = lists-spanned (desk_of c.self.inside) c.self.inside.marks c.add_run.new.self c.args.at
+  lists = lists-spanned (slate_of c.self.inside) c.self.inside.marks c.add_run.new.self c.args.at
       c.args.span.y c.args.span.x c.args.span.length c.args.marks c.self.inside.listing.changes
-      c.self.invariant.lists.desk.state.sheet.size refl (marked g c) c.self.invariant.lists;
+      c.self.invariant.lists.slate.state.sheet.size refl (marked g c) c.self.invariant.lists;
   whole = c.self.invariant.whole;
   marks_whole = c.add_run.ensures.size;
   outside = c.self.invariant.outside;
@@ -61,18 +61,18 @@ invariant_of-self g c = record {
 pub returns-then-x-from-clause-deeds : goal.returns-then-x-from-clause-deeds
 returns-then-x-from-clause-deeds g c =
     rw (← c.self.view_is)
-    (spanned (desk_of c.self.inside) c.self.inside.marks c.add_run.new.self c.args.at c.args.span.y
+    (spanned (slate_of c.self.inside) c.self.inside.marks c.add_run.new.self c.args.at c.args.span.y
     c.args.span.x c.args.span.length c.args.marks
-    c.self.invariant.lists.desk.state.sheet.size refl (marked g c))
+    c.self.invariant.lists.slate.state.sheet.size refl (marked g c))
 
 pub returns-else-y-from-clause-deeds : goal.returns-else-y-from-clause-deeds
 returns-else-y-from-clause-deeds g c =
     rw (← c.self.view_is)
-    (spanned (desk_of c.self.inside) c.self.inside.marks c.self.inside.marks c.args.at c.args.span.y
+    (spanned (slate_of c.self.inside) c.self.inside.marks c.self.inside.marks c.args.at c.args.span.y
     c.args.span.x c.args.span.length c.args.marks
-    c.self.invariant.lists.desk.state.sheet.size refl
+    c.self.invariant.lists.slate.state.sheet.size refl
     (span_beyond c.self.inside.dims c.self.inside.marks _ _ c.args.span.length c.args.marks
-    c.self.invariant.lists.desk.state.sheet.size
+    c.self.invariant.lists.slate.state.sheet.size
     (λ high. elim c.else-y-from.branch [
       | else-y-from-via-then-y-from+else-x-from w ↦ omega (
         arith,

@@ -1,7 +1,7 @@
 use Rattle.std.proofs.Common.{◌≡◌, ◌+◌, ◌-◌, ◌*◌, ◌/◌, ◌∙◌, ap, arith, length, refl, subst, ◌&&◌}
 use Rattle.std.specs.Prelude.{nat_lt}
 use Rattle.orca_base.specs.declared.limits.TheConstants.{MAX_COLUMNS, WORD_COLUMNS}
-use Rattle.orca_board.specs.Board.{desk_of}
+use Rattle.orca_board.specs.Board.{slate_of}
 use Rattle.orca_board.specs.declared.field.Field.TheInside.{Inside}
 use Rattle.orca_board.proofs.BoardLemmas.{live-row, summary-row}
 use Rattle.orca_board.proofs.field.FieldWalk.live_words.Goals as goal
@@ -13,8 +13,8 @@ returns-clause-live g c =
     = omega (arith, c.row.ensures.size, ap (λ (i : Inside). i.dims.w) c.self-inside.view_is) in
     rw (← c.self.view_is) (record {
       size = long;
-      bits = λ x. live-row (desk_of c.self.inside).scan c.self.inside.cells.items c.self.inside.live
-          c.row.result.now c.args.row x c.self.invariant.lists.desk.state.sheet.size
+      bits = λ x. live-row (slate_of c.self.inside).scan c.self.inside.cells.items c.self.inside.live
+          c.row.result.now c.args.row x c.self.invariant.lists.slate.state.sheet.size
           (rw (← c.self.view_is) at c.requires) refl c.self.invariant.outside c.self.invariant.live
           long (λ within. c.row.ensures.bits x within
           ∙ ap (λ (i : Inside). has_bit i.live (c.args.row * MAX_COLUMNS + x)) c.self-inside.view_is);
@@ -22,9 +22,9 @@ returns-clause-live g c =
 
 pub returns-clause-summary : goal.returns-clause-summary
 returns-clause-summary g c =
-    rw (← c.self.view_is) (summary-row (desk_of c.self.inside).scan
+    rw (← c.self.view_is) (summary-row (slate_of c.self.inside).scan
     c.self.inside.cells.items c.self.inside.live c.args.row _
-    c.self.invariant.lists.desk.state.sheet.size (rw (← c.self.view_is) at c.requires) refl
+    c.self.invariant.lists.slate.state.sheet.size (rw (← c.self.view_is) at c.requires) refl
     c.self.invariant.outside c.self.invariant.live
     (subst (λ (i : Inside). IsSummary
     (λ x. nat_lt x MAX_COLUMNS && has_bit i.live (c.args.row * MAX_COLUMNS + x)) c.summary.result)

@@ -2,7 +2,7 @@ use Rattle.std.proofs.Common.{◌≡◌, arith, rules, ap, refl}
 use Rattle.orca_base.specs.Grids.{Sheet, IsSheet}
 use Rattle.orca_op.specs.State.{blank_marks}
 use Rattle.orca_board.specs.Listing.{Listed, places_of}
-use Rattle.orca_board.proofs.DeskLemmas.{lists-of_sheet, started}
+use Rattle.orca_board.proofs.SlateLemmas.{lists-of_sheet, started}
 use Rattle.orca_board.proofs.plain_board.PlainBoard.load.Goals as goal
 
 pub invariant_of-self : goal.invariant_of-self
@@ -26,8 +26,8 @@ invariant_of-self over c =
       events_roomy = omega (arith, c.clear.ensures.capacity, c.self.invariant.events_roomy);
     }
 
-pub returns-clause-desk : goal.returns-clause-desk
-returns-clause-desk over c =
+pub returns-clause-slate : goal.returns-clause-slate
+returns-clause-slate over c =
     let g : Sheet = record { dims = c.args.dims; cells = c.args.cells.now } in
     let unmarked : c.unmark.new.list.items ≡ blank_marks c.args.dims =
     rw c.unmark.ensures.items (rw c.cells-places.ensures.cells refl) in

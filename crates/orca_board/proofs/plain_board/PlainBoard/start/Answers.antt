@@ -2,7 +2,7 @@ use Rattle.std.proofs.Common.{◌≡◌, arith, rules, ap}
 use Rattle.orca_base.proofs.ListFacts.{resized}
 use Rattle.orca_op.specs.State.{blank_marks}
 use Rattle.orca_board.specs.Listing.{Listed, places_of}
-use Rattle.orca_board.proofs.DeskLemmas.{lists-of_sheet, started}
+use Rattle.orca_board.proofs.SlateLemmas.{lists-of_sheet, started}
 use Rattle.orca_board.proofs.plain_board.PlainBoard.start.Goals as goal
 
 pub invariant_of-result : goal.invariant_of-result

@@ -8,7 +8,7 @@ use Rattle.orca_op.proofs.bench.Bench.find_right.Given as goal
 abbrev pub invariant-loop-column : goal.invariant-loop-column
 invariant-loop-column g l = record {
   none : (k : ℕ) → 1 ≤ k → k < l.column
-      → (peek (g.Self.Bench.desk l.self).scan (right l.at k) == l.byte) ≡ false;
+      → (peek (g.Self.Bench.slate l.self).scan (right l.at k) == l.byte) ≡ false;
   few : l.column ≤ l.reach + 1;
   steps : l.steps + 1 ≡ l.initial.steps + l.column;
 }

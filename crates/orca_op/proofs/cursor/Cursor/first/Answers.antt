@@ -29,7 +29,7 @@ returns-clause-found g c =
 
 pub returns-clause-passed : goal.returns-clause-passed
 returns-clause-passed g c =
-    let inside : c.args.self.now ≤ (g.B.Bench.desk c.args.bench.now).scan.dims.w =
+    let inside : c.args.self.now ≤ (g.B.Bench.slate c.args.bench.now).scan.dims.w =
     omega (arith, c.requires.start) in
     let same = c.find.ensures.least ∙ next_live-bit _ _ _ _ c.live_words-live.ensures.live inside in
     rw same (next_live-passed _ _ _ inside)

@@ -4,16 +4,16 @@ use Rattle.orca_board.specs.Sizes.{cut_places}
 use Rattle.orca_board.proofs.BlockPlaces.{length-cut_places}
 use Rattle.orca_base.specs.declared.place.Place.{Place}
 use Rattle.orca_op.specs.State.{sheet_of}
-use Rattle.orca_patch.specs.Patches.{Before, before_of, desk_before, sheet_before}
+use Rattle.orca_patch.specs.Patches.{Before, before_of, slate_before, sheet_before}
 use Rattle.orca_patch.proofs.Inverse.{sheet-back}
 use Rattle.orca_patch.proofs.Cutting.{cut_places-same}
-use Rattle.orca_patch.proofs.Undoing.{step, undone, sheet-desk_before, residue-desk_before}
+use Rattle.orca_patch.proofs.Undoing.{step, undone, sheet-slate_before, residue-slate_before}
 use Rattle.orca_patch.proofs.patch.Patch.undo_on.Given.{Over}
 use Rattle.orca_patch.proofs.patch.Patch.undo_on.Goals as goal
 
 pub loop-change-init : goal.loop-change-init
 loop-change-init g c = record {
-  desk = c.set_dims.ensures.desk;
+  slate = c.set_dims.ensures.slate;
   steps = omega (arith, c.set_dims.ensures.steps);
 }
 
@@ -21,32 +21,32 @@ pub loop-change-preserved : goal.loop-change-preserved
 loop-change-preserved g c =
     let items = c.as_slice-change-items.ensures in
     record {
-      desk = step _ _ _ _ c.loop-change.change-index c.change-item.result _
+      slate = step _ _ _ _ c.loop-change.change-index c.change-item.result _
           (rw items at c.loop-change-test.true) (rw items at c.change-item.is)
-          c.loop-change.invariant.desk c.here.ensures c.write.ensures.deed;
+          c.loop-change.invariant.slate c.here.ensures c.write.ensures.deed;
       steps = omega (arith, c.loop-change.invariant.steps, c.write.ensures.steps);
     }
 
 -- the board is the one before
 left : (g : Over) (c : goal.After-loop-change g)
-    → c.loop-change.board ≡ desk_before c.args.self.now c.args.board.now
+    → c.loop-change.board ≡ slate_before c.args.self.now c.args.board.now
 left g c =
     rw (← c.self.view_is) (undone _ c.args.board.now _ c.loop-change.change-index c.self.invariant
-    (rw (← c.self.view_is) at c.requires) c.loop-change.invariant.desk
+    (rw (← c.self.view_is) at c.requires) c.loop-change.invariant.slate
     (rw c.as_slice-change-items.ensures at c.loop-change-test.false))
 
-pub returns-clause-desk : goal.returns-clause-desk
-returns-clause-desk g c = left g c
+pub returns-clause-slate : goal.returns-clause-slate
+returns-clause-slate g c = left g c
 
 pub returns-clause-sheet : goal.returns-clause-sheet
 returns-clause-sheet g c =
-    rw (left g c) (sheet-desk_before c.args.self.now c.args.board.now)
+    rw (left g c) (sheet-slate_before c.args.self.now c.args.board.now)
 
 pub returns-clause-inverse : goal.returns-clause-inverse
-returns-clause-inverse g c d tick desk patch now =
-    rw (left g c) (sheet-desk_before c.args.self.now c.args.board.now)
+returns-clause-inverse g c d tick slate patch now =
+    rw (left g c) (sheet-slate_before c.args.self.now c.args.board.now)
     ∙ (ap (λ (b : Before). sheet_before b (sheet_of c.args.board.now.scan)) patch
-    ∙ (ap (sheet_before (before_of d tick)) now ∙ sheet-back d tick desk))
+    ∙ (ap (sheet_before (before_of d tick)) now ∙ sheet-back d tick slate))
 
 -- once for each place that is cut off, and once for each change
 steps : (g : Over) (c : goal.After-loop-change g) → c.loop-change.steps
@@ -81,4 +81,4 @@ returns-clause-few_steps g c =
 pub returns-clause-residue : goal.returns-clause-residue
 returns-clause-residue g c =
     rw (left g c)
-    (omega (arith, steps g c, residue-desk_before c.args.self.now c.args.board.now))
+    (omega (arith, steps g c, residue-slate_before c.args.self.now c.args.board.now))

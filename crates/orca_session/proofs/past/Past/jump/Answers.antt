@@ -4,7 +4,7 @@ use Rattle.orca_edit.specs.Prices.{jumped, new_cells}
 use Rattle.orca_history.specs.Trails.{IsTrail}
 use Rattle.orca_op.specs.State.{sheet_of}
 use Rattle.orca_patch.specs.Patches.{Before, no_change}
-use Rattle.orca_session.specs.Past.{IsPast, PastState, Undoes, moment_of, numbers_of, past_jumped, plain, present}
+use Rattle.orca_session.specs.Past.{IsPast, PastState, Undoes, moment_of, numbers_of, past_jumped, plain_machine, present}
 use Rattle.orca_session.specs.Views.{past_of}
 use Rattle.orca_session.proofs.BillLemmas.{due-jumped, kept-jumped, numbers-jumped, steps-jumped}
 use Rattle.orca_session.proofs.JumpLemmas.{IsPast-jumped, jumped-parts, present-jumped}
@@ -87,7 +87,7 @@ pub returns-clause-numbers : goal.returns-clause-numbers
 returns-clause-numbers g c =
     rw (← c.self.view_is)
     (subst (λ (q : PastState). numbers_of q
-    ≡ jumped (plain q) (numbers_of (past_of c.self.inside)) c.args.moment) (sym (parts g c))
+    ≡ jumped (plain_machine q) (numbers_of (past_of c.self.inside)) c.args.moment) (sym (parts g c))
     (numbers-jumped (past_of c.self.inside) c.args.moment c.empty-patch.result
     c.keep_due.new.checkpoints c.drop_above.new.self _ c.self.invariant (within g c)
     c.drop_above.ensures c.keep_due.ensures.all c.keep_due.ensures.points))
@@ -96,7 +96,7 @@ pub returns-clause-steps : goal.returns-clause-steps
 returns-clause-steps g c =
     rw (← c.self.view_is)
     (subst (λ (q : PastState). c.keep_due.new.steps
-    ≤ c.args.steps.now + new_cells (past_of c.self.inside).points.spacing (plain q))
+    ≤ c.args.steps.now + new_cells (past_of c.self.inside).points.spacing (plain_machine q))
     (sym (parts g c))
     (steps-jumped (past_of c.self.inside) c.args.moment c.empty-patch.result
     c.keep_due.new.checkpoints c.drop_above.new.self (sheet_of c.args.board.now.scan)

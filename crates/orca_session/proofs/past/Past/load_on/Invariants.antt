@@ -1,8 +1,8 @@
 use Rattle.std.proofs.Common.{◌≡◌, ◌+◌, ◌≤◌}
 use Rattle.orca_edit.specs.Prices.{price, total}
-use Rattle.orca_op.specs.Desk.{residue}
+use Rattle.orca_op.specs.Slate.{residue}
 use Rattle.orca_op.specs.State.{sheet_of}
-use Rattle.orca_session.specs.Past.{moment_of, plain}
+use Rattle.orca_session.specs.Past.{moment_of, plain_machine}
 use Rattle.orca_session.proofs.past.Past.load_on.Given as goal
 
 -- the board and the tick are those of the moment that was reached, and the entries up to it were
@@ -14,5 +14,5 @@ invariant-loop-at g l = record {
   tick : l.tick ≡ (moment_of l.self l.at).tick;
   price : l.steps + residue l.board
       ≤ l.initial.steps + residue l.initial.board
-      + total price (plain l.self) l.initial.at l.at;
+      + total price (plain_machine l.self) l.initial.at l.at;
 }

@@ -11,7 +11,7 @@ returns-then-is_err-clause-paid g c =
       arith,
       idle,
       pays-back c.args.board.now c.revert.new.self c.args.dims c.push_changes-pushed.new.steps
-          c.revert.new.steps c.revert.ensures.desk
+          c.revert.new.steps c.revert.ensures.slate
           (ap (λ (s : Sheet). s.dims) c.requires.began ∙ sym c.requires.size)
           c.revert.ensures.steps,
     ))

@@ -13,7 +13,7 @@ use Rattle.orca_edit.specs.Prices.{new_cells, pushed, touched}
 use Rattle.orca_edit.specs.Pricing.{listed_by}
 use Rattle.orca_history.specs.declared.ring.Kept.{Kept}
 use Rattle.orca_history.specs.Trails.{IsTrail, Trail}
-use Rattle.orca_session.specs.Past.{IsPast, PastState, Undoes, numbers_of, past_pushed, plain, present, touched_by}
+use Rattle.orca_session.specs.Past.{IsPast, PastState, Undoes, numbers_of, past_pushed, plain_machine, present, touched_by}
 use Rattle.orca_session.specs.Views.{past_of}
 use Rattle.orca_session.proofs.BillLemmas.{due-pushed, kept-pushed, numbers-pushed, steps-pushed, touched-is}
 use Rattle.orca_session.proofs.PastLemmas.{changes-parts, tick-present, undoes-changes}
@@ -29,13 +29,13 @@ of_changes-requires-clause-inside g c =
     let listed : All (IsInside c.args.dims) (places_of c.changes.result.now) =
     subst (λ (d : Size). All (IsInside d) (places_of c.changes.result.now)) size
     (subst (λ (changes : List Change). All (IsInside old) (places_of changes))
-    (sym c.changes.ensures) (inside-listed c.args.board.now c.dims-now.ensures.desk)) in
+    (sym c.changes.ensures) (inside-listed c.args.board.now c.dims-now.ensures.slate)) in
     listed
 
 pub of_changes-requires-clause-once : goal.of_changes-requires-clause-once
 of_changes-requires-clause-once g c =
     subst (λ (changes : List Change). IsDistinct is_place (places_of changes))
-    (sym c.changes.ensures) (once-listed c.args.board.now c.dims-now.ensures.desk)
+    (sym c.changes.ensures) (once-listed c.args.board.now c.dims-now.ensures.slate)
 
 -- what is kept of the entry
 abbrev newest : (g : Over) (c : goal.After-keep_due g) → Kept
@@ -123,7 +123,7 @@ undoes g c =
     let after : Piece = (apply p c.args.entry).piece in
     subst (λ (b : Before). Undoes b p after (touched p c.args.entry)) (sym (patch g c))
     (undoes-changes c.args.board.now c.args.tick p after (touched p c.args.entry)
-    c.dims-now.ensures.desk (began g c)
+    c.dims-now.ensures.slate (began g c)
     (c.requires.tick ∙ ap (λ (x : Piece). x.tick) (here g c)) (sheet g c)
     (omega (arith, c.touch_law.ensures.both p c.args.entry, ap length (listed g c))))
 
@@ -159,7 +159,7 @@ returns-clause-early g c =
 pub returns-clause-numbers : goal.returns-clause-numbers
 returns-clause-numbers g c =
     rw (← c.self.view_is)
-    (subst (λ (q : PastState). numbers_of q ≡ pushed (plain q) (numbers_of (past_of c.self.inside)))
+    (subst (λ (q : PastState). numbers_of q ≡ pushed (plain_machine q) (numbers_of (past_of c.self.inside)))
     (sym (parts g c))
     (numbers-pushed (past_of c.self.inside) c.args.entry (newest g c) c.keep_due.new.checkpoints _
     c.len-len.result c.self.invariant (touches g c) (long g c) c.keep_due.ensures.all
@@ -169,7 +169,7 @@ pub returns-clause-steps : goal.returns-clause-steps
 returns-clause-steps g c =
     rw (← c.self.view_is)
     (subst (λ (q : PastState). c.keep_due.new.steps
-    ≤ c.args.steps.now + new_cells (past_of c.self.inside).points.spacing (plain q))
+    ≤ c.args.steps.now + new_cells (past_of c.self.inside).points.spacing (plain_machine q))
     (sym (parts g c))
     (steps-pushed (past_of c.self.inside) c.args.entry (newest g c) c.keep_due.new.checkpoints
     (sheet_of c.args.board.now.scan) c.len-len.result c.args.steps.now c.keep_due.new.steps

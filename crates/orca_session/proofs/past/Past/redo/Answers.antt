@@ -7,12 +7,12 @@ use Rattle.orca_checkpoints.specs.Laws.{AreOf}
 use Rattle.orca_checkpoints.specs.Points.{Point, points_dropped}
 use Rattle.orca_edit.specs.Editing.{FitsIn}
 use Rattle.orca_edit.specs.Pieces.{Piece, apply}
-use Rattle.orca_edit.specs.Prices.{kept_cells, price, redo_price, redone as kept_redone, total}
+use Rattle.orca_edit.specs.Prices.{kept_cells, price, redo_price, kept_redone, total}
 use Rattle.orca_history.specs.Trails.{IsTrail, Trail, trail_redone}
-use Rattle.orca_op.specs.Desk.{residue}
+use Rattle.orca_op.specs.Slate.{residue}
 use Rattle.orca_op.specs.State.{sheet_of}
 use Rattle.orca_patch.specs.Patches.{Before, no_change}
-use Rattle.orca_session.specs.Past.{IsPast, PastState, Undoes, brought_back, numbers_of, past_redone, piece_with, plain, point_at, present, redone}
+use Rattle.orca_session.specs.Past.{IsPast, PastState, Undoes, brought_back, numbers_of, past_redone, piece_with, plain_machine, point_at, present, redone}
 use Rattle.orca_session.specs.Views.{past_of}
 use Rattle.orca_session.proofs.PastLemmas.{undoes-nothing}
 use Rattle.orca_session.proofs.RedoLemmas.{IsPast-redone, fits-tail, length-redone, next-with, point-redone, point-with, present-redone, redone-parts, seed-with, silent-hush, some-entry, tick-with}
@@ -283,7 +283,7 @@ returns-clause-silent g c = silent-hush c.args.self.now (past g c) c.requires.so
 pub returns-clause-numbers : goal.returns-clause-numbers
 returns-clause-numbers g c =
     subst (λ (q : PastState). numbers_of q
-    ≡ kept_redone (plain q) (numbers_of c.args.self.now) (group_of c.args.self.now.trail.tail))
+    ≡ kept_redone (plain_machine q) (numbers_of c.args.self.now) (group_of c.args.self.now.trail.tail))
     (sym (parts g c))
     (back-numbers c.args.self.now c.empty-patch.result c.keep_due-2.new.checkpoints (past g c)
     c.requires.some (back g c))
@@ -293,13 +293,13 @@ returns-clause-price g c =
     let p : PastState = c.args.self.now in
     let before = subst (λ (n : ℕ). c.loop-at.steps + residue c.loop-at.board
     ≤ c.args.steps.now + residue c.args.board.now
-    + total price (plain (brought_back p)) (length p.trail.entries - 1)
+    + total price (plain_machine (brought_back p)) (length p.trail.entries - 1)
     (length p.trail.entries - 1 + n)
-    + sum_by (kept_cells p.points.spacing (plain (brought_back p)))
+    + sum_by (kept_cells p.points.spacing (plain_machine (brought_back p)))
     (range_with_len (length p.trail.entries) n)) (all g c) c.loop-at.invariant.price in
     subst (λ (q : PastState). c.keep_due-2.new.steps + residue c.loop-at.board
     ≤ c.args.steps.now + residue c.args.board.now
-    + redo_price (plain q) (numbers_of p) (group_of p.trail.tail))
+    + redo_price (plain_machine q) (numbers_of p) (group_of p.trail.tail))
     (sym (parts g c))
     (back-all p c.empty-patch.result c.keep_due-2.new.checkpoints _ _ _ (past g c)
     c.requires.some before

@@ -2,9 +2,9 @@ use Rattle.std.proofs.Common.{◌≡◌, ◌+◌, ◌-◌, ◌≤◌, length}
 use Rattle.orca_edit.specs.Prices.{kept_cells, price, total}
 use Rattle.std.specs.Prelude.{sum_by}
 use Rattle.std.specs.List.{range_with_len}
-use Rattle.orca_op.specs.Desk.{residue}
+use Rattle.orca_op.specs.Slate.{residue}
 use Rattle.orca_op.specs.State.{sheet_of}
-use Rattle.orca_session.specs.Past.{brought_back, piece_with, plain}
+use Rattle.orca_session.specs.Past.{brought_back, piece_with, plain_machine}
 use Rattle.orca_session.specs.Views.{past_of}
 use Rattle.orca_session.proofs.RedoPrices.{AreBack}
 use Rattle.orca_session.proofs.past.Past.redo.Given as goal
@@ -21,7 +21,7 @@ invariant-loop-at g l =
       points : AreBack l.fn.self l.at l.self-inside.checkpoints;
       price : l.steps + residue l.board
           ≤ l.initial.steps + residue l.initial.board
-          + total price (plain (brought_back l.fn.self)) (n - 1) (n - 1 + l.at)
-          + sum_by (kept_cells l.fn.self.points.spacing (plain (brought_back l.fn.self)))
+          + total price (plain_machine (brought_back l.fn.self)) (n - 1) (n - 1 + l.at)
+          + sum_by (kept_cells l.fn.self.points.spacing (plain_machine (brought_back l.fn.self)))
           (range_with_len n l.at);
     }

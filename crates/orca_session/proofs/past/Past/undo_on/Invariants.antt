@@ -1,8 +1,8 @@
 use Rattle.std.proofs.Common.{◌≡◌, ◌+◌, ◌<◌, ◌≤◌, length}
 use Rattle.orca_edit.specs.Prices.{change_price, total}
-use Rattle.orca_op.specs.Desk.{residue}
+use Rattle.orca_op.specs.Slate.{residue}
 use Rattle.orca_op.specs.State.{sheet_of}
-use Rattle.orca_session.specs.Past.{moment_of, plain}
+use Rattle.orca_session.specs.Past.{moment_of, plain_machine}
 use Rattle.orca_session.proofs.past.Past.undo_on.Given as goal
 
 -- the board and the tick are those of the moment that was reached, and the entries from there on
@@ -15,7 +15,7 @@ invariant-loop-at g l = record {
   tick : l.at < length l.self.trail.entries → l.tick ≡ (moment_of l.self l.at).tick;
   price : l.steps + residue l.board
       ≤ l.initial.steps + residue l.initial.board
-      + total change_price (plain l.self) l.at (length l.self.trail.entries);
+      + total change_price (plain_machine l.self) l.at (length l.self.trail.entries);
 }
 
 abbrev pub decreases-loop-at : goal.decreases-loop-at

@@ -10,7 +10,7 @@ use Rattle.orca_base.specs.EventRanges.{IsInRange}
 use Rattle.orca_base.specs.Ranges.{CarriesFewValues}
 use Rattle.orca_base.proofs.RangeFacts.{HasFewValues-in_range}
 use Rattle.orca_notes.specs.Device.{Plays}
-use Rattle.orca_op.specs.Desk.{Desk, residue}
+use Rattle.orca_op.specs.Slate.{Slate, residue}
 use Rattle.orca_edit.specs.Machines.{Acts}
 use Rattle.orca_edit.specs.Obeying.{MachineState, rule_against}
 use Rattle.orca_base.specs.declared.command.Entry.TheVariants as entry
@@ -56,7 +56,7 @@ few : (g : Over) (c : goal.After-self-1 g) → All CarriesFewValues c.advance.ne
 few g c =
     let events : All IsInRange c.events.result.now =
     subst (λ (es : List Event). All IsInRange es)
-    (sym (c.events.ensures.events ∙ ap (λ (d : Desk). d.scan.events) c.in-Ok.ensures.board))
+    (sym (c.events.ensures.events ∙ ap (λ (d : Slate). d.scan.events) c.in-Ok.ensures.board))
     c.frame.ensures.framed.events in
     c.advance.ensures.few_values (λ k d below. HasFewValues-in_range _ (events k d below))
 

@@ -5,8 +5,8 @@ use Rattle.orca_base.specs.Histories.{group_of}
 use Rattle.orca_history.specs.Trails.{Trail}
 use Rattle.orca_edit.specs.Machines.{obeyed}
 use Rattle.orca_edit.specs.Obeying.{MachineState, obey, rule_against}
-use Rattle.orca_edit.specs.Prices.{redo_price, redone}
-use Rattle.orca_session.specs.Past.{machine_of, numbers_of, plain}
+use Rattle.orca_edit.specs.Prices.{redo_price, kept_redone}
+use Rattle.orca_session.specs.Past.{machine_of, numbers_of, plain_machine}
 use Rattle.orca_session.specs.Session.{SessionState}
 use Rattle.orca_session.proofs.ObeyLemmas.{group-room, obey-redo, some-tail}
 use Rattle.orca_session.proofs.PayLemmas.{charge-done, kept-done, redo-plain}
@@ -56,7 +56,7 @@ returns-clause-kept g c =
     (numbers_of c.redo-self-inside.new.self) command.Redo (Redone c.group-entries.result)
     (machine_of c.redo-self-inside.new.self c.self.inside.clip) [] (done g c)
     (c.redo-self-inside.ensures.numbers
-    ∙ ap (redone (machine_of c.redo-self-inside.new.self c.self.inside.clip)
+    ∙ ap (kept_redone (machine_of c.redo-self-inside.new.self c.self.inside.clip)
     (numbers_of c.self.inside.past)) (sym (group g c))))
 
 pub returns-clause-price : goal.returns-clause-price
@@ -71,6 +71,6 @@ returns-clause-price g c =
       c.redo-self-inside.ensures.price,
       redo-plain c.redo-self-inside.new.self c.self.inside.clip (numbers_of c.self.inside.past)
           c.group-entries.result,
-      ap (redo_price (plain c.redo-self-inside.new.self) (numbers_of c.self.inside.past))
+      ap (redo_price (plain_machine c.redo-self-inside.new.self) (numbers_of c.self.inside.past))
           (group g c),
     )))

@@ -12,7 +12,7 @@ use Rattle.orca_notes.specs.Sound.{ends}
 use Rattle.orca_session.specs.Past.{PastState, machine_of, numbers_of, present}
 use Rattle.orca_session.specs.Session.{SessionState}
 use Rattle.orca_session.proofs.ObeyLemmas.{has-room}
-use Rattle.orca_op.specs.Desk.{Desk, residue}
+use Rattle.orca_op.specs.Slate.{Slate, residue}
 use Rattle.orca_session.proofs.PayLemmas.{begun-clear, charge-done, charge-memory, cut-kept, entry-reset, kept-done, kept-none, new-plain, pushed-plain}
 use Rattle.orca_session.proofs.session.Session.reset.Given.{Over}
 use Rattle.orca_session.proofs.SessionLemmas.{acts-given-up, acts-reset, notes-reset}
@@ -72,7 +72,7 @@ returns-clause-price g c =
     (omega (
       arith,
       (begun-clear c.listing_law.ensures.begin c.self.inside.board c.begin.new.self
-          (present c.self.inside.past).sheet c.begin.ensures.desk c.self.invariant.grid).1,
+          (present c.self.inside.past).sheet c.begin.ensures.slate c.self.invariant.grid).1,
       c.begin.ensures.steps,
       entry-reset m,
       c.in-Ok.ensures.steps,
@@ -92,7 +92,7 @@ returns-in_default-clause-price g c =
     (let m : MachineState = machine_of c.self.inside.past c.self.inside.clip in
     let grid : Sheet = (present c.self.inside.past).sheet in
     let begun = begun-clear c.listing_law.ensures.begin c.self.inside.board c.begin.new.self grid
-    c.begin.ensures.desk c.self.invariant.grid in
+    c.begin.ensures.slate c.self.invariant.grid in
     let size : c.dims-dims.result ≡ grid.dims =
     c.dims-dims.ensures.size ∙ ap (λ (s : Sheet). s.dims) c.self.invariant.grid in
     omega (
@@ -103,5 +103,5 @@ returns-in_default-clause-price g c =
       charge-memory m (numbers_of c.self.inside.past) command.Reset,
       c.in_default.ensures.paid,
       cut-kept c.touch_law.ensures.both (present c.self.inside.past) c.begin.new.self.scan.dims
-          c.dims-dims.result (ap (λ (d : Desk). d.scan.dims) begun.0) size,
+          c.dims-dims.result (ap (λ (d : Slate). d.scan.dims) begun.0) size,
     ))

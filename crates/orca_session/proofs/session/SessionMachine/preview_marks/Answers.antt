@@ -14,7 +14,7 @@ returns-clause-price g c =
           c.args.steps.now c.frame.new.steps c.frame.ensures.framed c.frame.ensures.most
           (sym c.self.invariant.grid) (sym c.self.invariant.next) (sym c.seed.ensures),
       pays-back c.frame.new.board c.revert.new.self (present c.self.inside.past).sheet.dims
-          c.frame.new.steps c.revert.new.steps c.revert.ensures.desk
+          c.frame.new.steps c.revert.new.steps c.revert.ensures.slate
           (ap (λ (s : Sheet). s.dims) (c.frame.ensures.framed.began ∙ c.self.invariant.grid))
           c.revert.ensures.steps,
       cut-kept c.touch_law.ensures.both (present c.self.inside.past) c.frame.new.board.scan.dims

@@ -2,7 +2,7 @@ use Rattle.std.proofs.Common.{ℕ, ◌∷◌, [], ◌++◌, List, length, ap, �
 use Rattle.std.proofs.lemmas.Result.{err_from_is_err_and}
 use Rattle.orca_smf.specs.declared.timed.Timed.{Timed}
 use Rattle.orca_smf.specs.declared.track.Track.TheInside.{Inside}
-use Rattle.orca_smf.specs.Songs.{Follows, last_tick}
+use Rattle.orca_smf.specs.Songs.{MayFollow, last_tick}
 use Rattle.orca_smf.proofs.Growing.{held_more, held_track, held_value, joins, value}
 use Rattle.orca_smf.proofs.Messages.{messages_push}
 use Rattle.orca_smf.proofs.track.Track.add.Goals as goal
@@ -40,7 +40,7 @@ invariant_of-self-2 c =
     let pushed = ap length (messages_push 0 v.list m) in
     let u : Inside =
     record { tempo = t.tempo; last = m.tick; file = c.extend_from_slice.new.self } in
-    let follows : Follows (last_tick 0 v.list) m.tick =
+    let follows : MayFollow (last_tick 0 v.list) m.tick =
     record { later = c.requires.later; near = c.requires.near; fits = omega arith } in
     let held = held_more t u v m _ j follows c.requires.voice refl refl
     c.in_ok-extend_from_slice.ensures.items (omega (arith, j.size, j.grown, pushed)) in
@@ -56,7 +56,7 @@ returns-clause-added c =
     let pushed = ap length (messages_push 0 v.list m) in
     let u : Inside =
     record { tempo = t.tempo; last = m.tick; file = c.extend_from_slice.new.self } in
-    let follows : Follows (last_tick 0 v.list) m.tick =
+    let follows : MayFollow (last_tick 0 v.list) m.tick =
     record { later = c.requires.later; near = c.requires.near; fits = omega arith } in
     let held = held_more t u v m _ j follows c.requires.voice refl refl
     c.in_ok-extend_from_slice.ensures.items (omega (arith, j.size, j.grown, pushed)) in

@@ -1,7 +1,7 @@
 use Rattle.std.proofs.Common.{◌≡◌, false, ◌++◌, ◌∷◌, [], ap, ◌∙◌, arith}
 use Rattle.std.proofs.lemmas.List.{length-append}
 use Rattle.orca_wav.specs.declared.tone.Tone.{Tone}
-use Rattle.orca_wav.specs.Rendering.{Rendering, is_on}
+use Rattle.orca_wav.specs.Rendering.{Rendering, is_voice_on}
 use Rattle.orca_wav.specs.Tones.{IsBand}
 use Rattle.orca_wav.proofs.Bands.{voices, IsTone-first, IsBand-push, length-IsBand}
 use Rattle.orca_wav.proofs.voices.Voices.begin.Goals as goal
@@ -23,8 +23,8 @@ new c = record {
 band : (c : After-increment_of) → IsBand c.self.inside.samples (c.self.inside.tones.items ++ new c ∷ [])
 band c =
     let tones = c.self.inside.tones.items in
-    let silent : is_on (voices tones) c.args.channel c.args.key ≡ false =
-    ap (λ (s : Rendering). is_on s.voices c.args.channel c.args.key) c.self.view_is
+    let silent : is_voice_on (voices tones) c.args.channel c.args.key ≡ false =
+    ap (λ (s : Rendering). is_voice_on s.voices c.args.channel c.args.key) c.self.view_is
     ∙ c.requires.silent in
     IsBand-push c.self.inside.samples tones (new c) c.self.invariant.0
     (rw c.increment_of.ensures.increment (IsTone-first (new c).voice c.requires.in_range)) silent

@@ -1,4 +1,4 @@
--- A desk is what a contract sees of a bench: the state of the scan, the grid at the last `begin`,
+-- A slate is what a contract sees of a bench: the state of the scan, the grid at the last `begin`,
 -- and the places that were written since.
 use Rattle.std.specs.Prelude.{ℕ, ◌+◌, ◌≡◌, ◌<◌, Bool, false, not, ◌&&◌, if◌then◌else◌, List, [], ◌∷◌, ◌++◌, length, map, count_by, Option, Some, None, All}
 use Rattle.std.specs.List.{list_any, IsDistinct}
@@ -6,10 +6,10 @@ use Rattle.orca_base.specs.declared.change.Change.{Change}
 use Rattle.orca_base.specs.declared.place.Place.{Place}
 use Rattle.orca_base.specs.Grids.{Size, Sheet, IsSheet, IsInside, cells_of, glyph_at as glyph_on, is_inside, is_place, place_in}
 use Rattle.orca_base.specs.MarkSet.{is_marked}
-use Rattle.orca_op.specs.State.{State, IsState, sheet_of, fresh, glyph_at}
+use Rattle.orca_op.specs.State.{State, IsState, sheet_of, fresh, state_glyph}
 use Rattle.orca_op.specs.Deeds.{Deed, Mark, Write, Set, Emit, after}
 
-pub record Desk : Type 0 where
+pub record Slate : Type 0 where
   pub scan : State
   pub began : Sheet
   pub listed : List Place
@@ -37,47 +37,47 @@ list_after_all began dims listed [] = listed
 list_after_all began dims listed (deed ∷ deeds) =
     list_after_all began dims (list_after began dims listed deed) deeds
 
--- the desk after a deed
-abbrev pub desk_after : Desk → Deed → Desk
-desk_after d deed = record {
+-- the slate after a deed
+abbrev pub slate_after : Slate → Deed → Slate
+slate_after d deed = record {
   scan = after d.scan deed;
   began = d.began;
   listed = list_after d.began.dims d.scan.dims d.listed deed;
 }
 
--- the desk after deeds, in order
-abbrev pub desk_after_all : Desk → List Deed → Desk
-desk_after_all d [] = d
-desk_after_all d (deed ∷ deeds) = desk_after_all (desk_after d deed) deeds
+-- the slate after deeds, in order
+abbrev pub slate_after_all : Slate → List Deed → Slate
+slate_after_all d [] = d
+slate_after_all d (deed ∷ deeds) = slate_after_all (slate_after d deed) deeds
 
 -- there is room for an event: fewer are listed than the grid has places
-abbrev pub HasRoom : Desk → Type 0
-HasRoom d = length d.scan.events < cells_of d.scan.dims
+abbrev pub HasEventRoom : Slate → Type 0
+HasEventRoom d = length d.scan.events < cells_of d.scan.dims
 
 -- how much a `begin` has to clear: the marked places and the listed ones
-unfoldable pub residue : Desk → ℕ
+unfoldable pub residue : Slate → ℕ
 residue d = count_by is_marked d.scan.marks + length d.listed
 
--- the desk of a grid at the start of a frame
-abbrev pub desk_of_sheet : Sheet → Desk
-desk_of_sheet g = record { scan = fresh g; began = g; listed = [] }
+-- the slate of a grid at the start of a frame
+abbrev pub slate_of_sheet : Sheet → Slate
+slate_of_sheet g = record { scan = fresh g; began = g; listed = [] }
 
--- the desk as a frame begins
-abbrev pub desk_at_begin : Desk → Desk
-desk_at_begin d = desk_of_sheet (sheet_of d.scan)
+-- the slate as a frame begins
+abbrev pub slate_at_begin : Slate → Slate
+slate_at_begin d = slate_of_sheet (sheet_of d.scan)
 
 -- what was changed since the last `begin`: each listed place, with its glyph of that moment
-abbrev pub changes_of : Desk → List Change
+abbrev pub changes_of : Slate → List Change
 changes_of d = map (λ at. record { at = at; old = glyph_on d.began at }) d.listed
 
 -- a place that isn't listed still lies in the grid, and holds its glyph of the last `begin`
-abbrev pub KeepsUnlisted : Desk → Type 0
+abbrev pub KeepsUnlisted : Slate → Type 0
 KeepsUnlisted d =
     (at : Place) → IsInside d.began.dims at → is_listed d.listed at ≡ false
-    → IsInside d.scan.dims at × (glyph_at d.scan at ≡ glyph_on d.began at)
+    → IsInside d.scan.dims at × (state_glyph d.scan at ≡ glyph_on d.began at)
 
 -- what holds of every bench: its state, the grid at the last `begin`, and each listed place once
-pub record IsDesk (d : Desk) : Type 0 where
+pub record IsSlate (d : Slate) : Type 0 where
   pub state : IsState d.scan
   pub began : IsSheet d.began
   pub inside : All (IsInside d.began.dims) d.listed

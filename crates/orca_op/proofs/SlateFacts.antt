@@ -1,4 +1,4 @@
--- What holds of every desk holds after a deed, and as a frame begins.
+-- What holds of every slate holds after a deed, and as a frame begins.
 use Rattle.std.proofs.Common.{◌≡◌, ℕ, zero, suc, ◌+◌, ◌≤◌, Bool, true, false, not, ◌&&◌, List, [], ◌∷◌, ◌++◌, length, replicate, refl, arith, ap, sym, ◌∙◌, subst, inl, inr}
 use Rattle.std.proofs.Math.ListN.{set}
 use Rattle.std.specs.Prelude.{All, count_by, Option, Some, None, IfSome, if◌then◌else◌, slice_index}
@@ -13,9 +13,9 @@ use Rattle.orca_base.specs.declared.place.Place.{Place}
 use Rattle.orca_base.specs.Grids.{Size, Sheet, IsSheet, IsInside, cells_of, glyph_at as glyph_on, index_of, is_inside, is_place, place_in}
 use Rattle.orca_base.proofs.PlaceFacts.{is_place-same, is_place-refl, is_inside-inside, inside-is_inside, inside-place_in, index-injective}
 use Rattle.orca_base.specs.MarkSet.{is_marked, no_marks}
-use Rattle.orca_op.specs.State.{State, glyph_at}
+use Rattle.orca_op.specs.State.{State, state_glyph}
 use Rattle.orca_op.specs.Deeds.{Deed, Mark, Write, Set, Emit, after, cells_after}
-use Rattle.orca_op.specs.Desk.{Desk, IsDesk, KeepsUnlisted, is_listed, list_with, list_after, desk_after, desk_after_all, desk_of_sheet, residue}
+use Rattle.orca_op.specs.Slate.{Slate, IsSlate, KeepsUnlisted, is_listed, list_with, list_after, slate_after, slate_after_all, slate_of_sheet, residue}
 use Rattle.orca_op.specs.Laws.{Every, WritesGlyph, is_emit}
 use Rattle.orca_op.proofs.LawFacts.{count_by-append}
 use Rattle.orca_op.proofs.StateFacts.{IsState-after, IsState-fresh, dims_after, events_after}
@@ -99,7 +99,7 @@ absent-list_with d listed at q inside absent =
 -- a write leaves the glyph of every other place
 pub glyph_at-write_other : (s : State) (at q : Place) (glyph : ℕ) → IsInside s.dims at
     → IsInside s.dims q → is_place q at ≡ false
-    → slice_index (set s.cells (index_of s.dims at) glyph) (index_of s.dims q) ≡ glyph_at s q
+    → slice_index (set s.cells (index_of s.dims at) glyph) (index_of s.dims q) ≡ state_glyph s q
 glyph_at-write_other s at q glyph here inside other =
     get_or-set_other s.cells (index_of s.dims at) (index_of s.dims q) glyph 0
     (λ same. both_ways _ other (
@@ -114,7 +114,7 @@ glyph_at-write_other s at q glyph here inside other =
         let with_column : ℕ → Place = λ n. record { y = y'; x = n } in
         ap with_row row ∙ ap with_column column
 
-kept_write : (d : Desk) (at : Option Place) (glyph : ℕ) → IfSome at (IsInside d.scan.dims)
+kept_write : (d : Slate) (at : Option Place) (glyph : ℕ) → IfSome at (IsInside d.scan.dims)
     → KeepsUnlisted d
     → (q : Place) → IsInside d.began.dims q
     → is_listed (list_with d.began.dims d.listed at) q ≡ false
@@ -126,8 +126,8 @@ kept_write d (Some at) glyph inside kept q in_began absent =
     let before = kept q in_began apart.0 in
     (before.0, glyph_at-write_other d.scan at q glyph inside before.0 apart.1 ∙ before.1)
 
-pub KeepsUnlisted-after : (d : Desk) (deed : Deed) → KeepsUnlisted d
-    → KeepsUnlisted (desk_after d deed)
+pub KeepsUnlisted-after : (d : Slate) (deed : Deed) → KeepsUnlisted d
+    → KeepsUnlisted (slate_after d deed)
 unfolding after list_after
 KeepsUnlisted-after d (Mark at marks) kept = kept
 KeepsUnlisted-after d (Write at glyph) kept =
@@ -135,7 +135,7 @@ KeepsUnlisted-after d (Write at glyph) kept =
 KeepsUnlisted-after d (Set variable glyph) kept = kept
 KeepsUnlisted-after d (Emit event) kept = kept
 
-listing_after : (d : Desk) (deed : Deed) → All (IsInside d.began.dims) d.listed
+listing_after : (d : Slate) (deed : Deed) → All (IsInside d.began.dims) d.listed
     → IsDistinct is_place d.listed
     → All (IsInside d.began.dims) (list_after d.began.dims d.scan.dims d.listed deed)
     × IsDistinct is_place (list_after d.began.dims d.scan.dims d.listed deed)
@@ -149,37 +149,37 @@ listing_after d (Write at glyph) inside once = (
 listing_after d (Set variable glyph) inside once = (inside, once)
 listing_after d (Emit event) inside once = (inside, once)
 
--- a deed that writes a glyph leaves a desk, where there is room for its event
-pub IsDesk-after : (d : Desk) (deed : Deed) → IsDesk d → WritesGlyph deed
+-- a deed that writes a glyph leaves a slate, where there is room for its event
+pub IsSlate-after : (d : Slate) (deed : Deed) → IsSlate d → WritesGlyph deed
     → length d.scan.events + count_by is_emit (deed ∷ []) ≤ cells_of d.scan.dims
-    → IsDesk (desk_after d deed)
-IsDesk-after d deed desk is room =
-    let listing = listing_after d deed desk.inside desk.once in
+    → IsSlate (slate_after d deed)
+IsSlate-after d deed slate is room =
+    let listing = listing_after d deed slate.inside slate.once in
     record {
-      state = IsState-after d.scan deed desk.state is room;
-      began = desk.began;
+      state = IsState-after d.scan deed slate.state is room;
+      began = slate.began;
       inside = listing.0;
       once = listing.1;
-      kept = KeepsUnlisted-after d deed desk.kept;
+      kept = KeepsUnlisted-after d deed slate.kept;
     }
 
 -- so do deeds in order
-pub IsDesk-after_all : (d : Desk) (deeds : List Deed) → IsDesk d → Every WritesGlyph deeds
+pub IsSlate-after_all : (d : Slate) (deeds : List Deed) → IsSlate d → Every WritesGlyph deeds
     → length d.scan.events + count_by is_emit deeds ≤ cells_of d.scan.dims
-    → IsDesk (desk_after_all d deeds)
-IsDesk-after_all d [] desk all room = desk
-IsDesk-after_all d (deed ∷ deeds) desk all room =
+    → IsSlate (slate_after_all d deeds)
+IsSlate-after_all d [] slate all room = slate
+IsSlate-after_all d (deed ∷ deeds) slate all room =
     let count = count_by-append is_emit (deed ∷ []) deeds in
     let same : cells_of (after d.scan deed).dims ≡ cells_of d.scan.dims =
     ap cells_of (dims_after d.scan deed) in
-    IsDesk-after_all (desk_after d deed) deeds
-    (IsDesk-after d deed desk all.0 (omega (arith, room, count))) all.1
+    IsSlate-after_all (slate_after d deed) deeds
+    (IsSlate-after d deed slate all.0 (omega (arith, room, count))) all.1
     (omega (arith, room, count, events_after d.scan deed, same))
 
--- the desk of a grid is one
-pub IsDesk-of_sheet : (g : Sheet) → IsSheet g → IsDesk (desk_of_sheet g)
+-- the slate of a grid is one
+pub IsSlate-of_sheet : (g : Sheet) → IsSheet g → IsSlate (slate_of_sheet g)
 unfolding IsDistinct
-IsDesk-of_sheet g sheet = record {
+IsSlate-of_sheet g sheet = record {
   state = IsState-fresh g sheet;
   began = sheet;
   inside = All-nil (IsInside g.dims);
@@ -194,6 +194,6 @@ count-blank zero = refl
 count-blank (suc n) = count-blank n
 
 -- nothing is left to clear as a frame begins
-pub residue-of_sheet : (g : Sheet) → residue (desk_of_sheet g) ≡ 0
+pub residue-of_sheet : (g : Sheet) → residue (slate_of_sheet g) ≡ 0
 unfolding residue
 residue-of_sheet g = omega (arith, count-blank (cells_of g.dims))
