@@ -6,15 +6,15 @@ use Rattle.std.specs.Option.{option_map}
 use Rattle.orca_base.specs.declared.command.Command.{Command}
 use Rattle.orca_base.specs.Grids.{Size, glyph_at}
 use Rattle.orca_base.specs.declared.place.Place.{Place}
+use Rattle.orca_concert.specs.Stages.{standing_of}
 use Rattle.orca_course.specs.Courses.{Course}
 use Rattle.orca_course.specs.Doing.{Does, Stance}
-use Rattle.orca_course.specs.Standings.{Standing, notes_of, standing}
+use Rattle.orca_course.specs.Standings.{Standing, notes_of}
 use Rattle.orca_course.specs.Worlds.{World, owing}
 use Rattle.orca_course.specs.declared.ending.Stop.{Stop}
 use Rattle.orca_course.specs.declared.refused.NoMemory.{NoMemory}
-use Rattle.orca_edit.specs.Obeying.{MachineState, piece_of}
+use Rattle.orca_edit.specs.Obeying.{piece_of}
 use Rattle.orca_edit.specs.Pieces.{Piece}
-use Rattle.orca_edit.specs.Prices.{Kept}
 use Rattle.orca_edit.specs.declared.machine.Machine.{Ghosts}
 use Rattle.orca_jam.specs.Crews.{CrewState, fitted_crew, player_at}
 use Rattle.orca_jam.specs.declared.crew.TheConstants.{LEADER}
@@ -71,11 +71,12 @@ pub record LiveState : Type 0 where
   -- the moment of the last answer of the inbox
   pub at : ℕ
 
--- the state of a performance, whose session means this machine and keeps these numbers
-abbrev pub state_of : {M : Type 0} → MachineState → Kept → Live M → LiveState
-state_of machine kept live = record {
+-- the state of a performance, by the ghost members of its session's bound. By this and by what its
+-- session has to clear, and by nothing else, a contract of another crate sees it
+abbrev pub live_state : {M : Type 0} → Ghosts M → Live M → LiveState
+live_state g live = record {
   setting = setting_in live.setting;
-  standing = standing machine kept live.stage.tally;
+  standing = standing_of g live.stage;
   crew = live.crew;
   pace = live.pacer;
   screen = live.view.size;
@@ -85,9 +86,9 @@ state_of machine kept live = record {
   at = live.at;
 }
 
--- the same, by the ghost members of its session's bound
-abbrev pub live_state : {M : Type 0} → Ghosts M → Live M → LiveState
-live_state g live = state_of (g.machine live.stage.machine) (g.kept live.stage.machine) live
+-- how much its session has to clear: it pays for steps that are still to come
+abbrev pub residue_of : {M : Type 0} → Ghosts M → Live M → ℕ
+residue_of g live = g.residue live.stage.machine
 
 -- a performance stands where its session does, and hands its messages out
 abbrev pub live_stance : Stance LiveState
@@ -97,8 +98,8 @@ live_stance = record { standing = λ s. Some s.standing; hands = true }
 abbrev pub LiveDid : {M : Type 0} → Ghosts M → (LiveState → Course LiveState Stop) → Live M → World
     → Result (Option Stop) NoMemory → Live M → World → Type 0
 LiveDid g c l x result m y =
-    Does live_stance (c (live_state g l)) (live_state g l) (owing (g.residue l.stage.machine) x)
-    result (live_state g m) (owing (g.residue m.stage.machine) y)
+    Does live_stance (c (live_state g l)) (live_state g l) (owing (residue_of g l) x)
+    result (live_state g m) (owing (residue_of g m) y)
 
 -- the piece as it stands
 abbrev pub piece_at : LiveState → Piece

@@ -1,38 +1,47 @@
-ghost use Rattle.std.specs.Prelude.{◌≡◌, ◌≤◌, IfOk};
+ghost use Rattle.std.specs.Prelude.{◌≡◌, ◌≢◌, ◌≤◌, Err, IfOk, Some};
+ghost use Rattle.std.specs.Option.{option_map};
 ghost use Rattle.orca_base.specs.declared.limits.TheConstants.{MAX_SCREEN_COLUMNS, MAX_SCREEN_ROWS, MIN_SCREEN_COLUMNS, MIN_SCREEN_ROWS};
+ghost use Rattle.orca_concert.specs.Concerts.{handed_of};
 ghost use Rattle.orca_concert.specs.Stages.{standing_of};
+ghost use Rattle.orca_course.specs.Acts.{gives};
+ghost use Rattle.orca_course.specs.Following.{Accompanies};
+ghost use Rattle.orca_course.specs.Standings.{notes_of, standing_closed};
+ghost use Rattle.orca_course.specs.Worlds.{Calls};
 ghost use Rattle.orca_live.specs.Starting.{live_at_start};
-ghost use Rattle.orca_live.specs.States.{is_full, status_line_at, live_state, setting_in, until_at};
+ghost use Rattle.orca_live.specs.States.{is_full, live_stance, live_state, residue_of, setting_in, status_line_at, until_at};
+ghost use Rattle.orca_notes.specs.Sound.{ends};
 
 use crate::{Setting, Silent};
 use orca_base::{Command, Memory};
-use orca_concert::Stage;
+use orca_concert::{Stage, close_early};
+use orca_course::{Desk, NoMemory};
 use orca_edit::Machine;
 use orca_jam::Crew;
+use orca_rig::House;
 use orca_term::{Pacer, ScreenSize, StatusLine, View};
 use std::alloc::Global;
 
-/// All that a performance keeps.
+/// All that a performance keeps. A contract outside sees its state (`live_state`), and no field.
 #[derive(Drop)]
 pub struct Live<'a, M> {
     /// How it plays, and where it is saved.
-    pub setting: Setting<'a>,
+    pub(crate) setting: Setting<'a>,
     /// The session, and what is counted of it.
-    pub stage: Stage<M, Silent>,
+    pub(crate) stage: Stage<M, Silent>,
     /// The hands: the keys and the editor of each, and whose each entry of the history is.
-    pub crew: Crew,
+    pub(crate) crew: Crew,
     /// When the next frame is due.
-    pub pacer: Pacer,
+    pub(crate) pacer: Pacer,
     /// What is shown.
-    pub view: View,
+    pub(crate) view: View,
     /// The commands so far, if a script is saved at the end.
-    pub given: Option<Vec<Command>>,
+    pub(crate) given: Option<Vec<Command>>,
     /// The lines of commands that are not yet added to the journal, if one is kept.
-    pub unwritten: Vec<u8>,
+    pub(crate) unwritten: Vec<u8>,
     /// The moment of the last answer of the inbox, in microseconds.
-    pub at: u64,
+    pub(crate) at: u64,
     /// Room for what is saved.
-    pub text: Vec<u8>,
+    pub(crate) text: Vec<u8>,
 }
 
 impl<'a, M: Machine> Live<'a, M> {
@@ -52,7 +61,8 @@ impl<'a, M: Machine> Live<'a, M> {
         ensures state { IfOk result (λ live.
             live_state M.Machine.own live ≡ live_at_start (setting_in setting.entry) crew screen at
             (standing_of M.Machine.own stage)) }
-        ensures machine { IfOk result (λ live. live.stage.machine ≡ stage.machine) }
+        ensures residue { IfOk result (λ live.
+            residue_of M.Machine.own live ≡ M.residue stage.machine) }
     {
         let view = View::start(alloc, screen.rows, screen.columns)?;
         Ok(Live {
@@ -66,6 +76,38 @@ impl<'a, M: Machine> Live<'a, M> {
             at,
             text: Vec::new(alloc),
         })
+    }
+
+    /// The seed of the random operator, which the saved script carries.
+    pub fn seed(&self) -> u32
+        ensures { result ≡ (live_state M.Machine.own self.now).setting.seed }
+    {
+        self.setting.seed
+    }
+
+    /// The commands so far, if a script is saved at the end.
+    pub fn given(&self) -> Option<&[Command]>
+        ensures { option_map (λ commands. commands.now) result
+            ≡ (live_state M.Machine.own self.now).given }
+    {
+        match &self.given {
+            Some(commands) => Some(commands.as_slice()),
+            None => None,
+        }
+    }
+
+    /// Ends all notes that sound, if memory was refused.
+    pub fn close_early<H: House>(&mut self, desk: &mut Desk<H>) -> Result<(), NoMemory>
+        ensures called { let s = (live_state M.Machine.own self.old).standing in
+            Calls (gives (handed_of live_stance.hands (ends (notes_of s))))
+            result desk.old desk.new }
+        ensures in_send { result ≢ Err NoMemory.Elsewhere }
+        // A device that follows it follows these sends too, and has no key at their end.
+        ensures device { let s = (live_state M.Machine.own self.old).standing in
+            Accompanies (Some s) (gives (handed_of live_stance.hands (ends (notes_of s))))
+            (Some (standing_closed s)) }
+    {
+        close_early(&mut self.stage, desk)
     }
 
     /// What the status line tells besides the first hand's editor.

@@ -18,13 +18,13 @@ use orca_rig::{Answer, House};
 impl<'a, M: Machine> Performer for Live<'a, M> {
     ghost use Rattle.orca_live.specs.Deaf.{live_is_deaf};
     ghost use Rattle.orca_live.specs.Performing.{live_part};
-    ghost use Rattle.orca_live.specs.States.{LiveState, live_state};
+    ghost use Rattle.orca_live.specs.States.{LiveState, live_state, residue_of};
 
     ghost State = { LiveState };
 
     ghost state = { λ live. live_state M.Machine.own live };
 
-    ghost residue = { λ live. M.residue live.stage.machine };
+    ghost residue = { λ live. residue_of M.Machine.own live };
 
     ghost part = { live_part };
 

@@ -2,10 +2,9 @@
 
 ghost use Rattle.std.specs.Prelude.{◌≡◌, IfOk, IfSome, [], false};
 ghost use Rattle.std.specs.Option.{option_map};
-ghost use Rattle.orca_concert.specs.Stages.{standing_of};
 ghost use Rattle.orca_course.specs.Standings.{notes_of};
 ghost use Rattle.orca_course.specs.Worlds.{has_ended, has_listened};
-ghost use Rattle.orca_live.specs.States.{live_state, setting_in, state_of};
+ghost use Rattle.orca_live.specs.States.{live_state, residue_of, setting_in};
 ghost use Rattle.orca_player.specs.Doing.{CameBy};
 ghost use Rattle.orca_player.specs.Outlines.{crew_of, hands_of, listening, live_outline, live_start, played, setting_of, standing_at};
 ghost use Rattle.orca_script.specs.Runs.{ScriptReadsBack};
@@ -18,7 +17,7 @@ use crate::opening::Opening;
 use crate::performing::{listen, perform_all};
 use crate::reading::reading_law;
 use orca_base::{Command, Memory};
-use orca_course::Desk;
+use orca_course::{Desk, Performer};
 use orca_edit::Machine;
 use orca_jam::Crew;
 use orca_live::{Live, Setting, Silent};
@@ -77,24 +76,24 @@ fn start<H: House>(
 /// Plays until the performance ends, and answers how the run ends.
 fn play_all<M: Machine, H: House>(live: &mut Live<'_, M>, desk: &mut Desk<H>) -> Status
     requires open { has_ended desk.old ≡ false }
-    requires begins { notes_of (standing_of M.Machine.own live.old.stage) ≡ [] }
-    requires residue { M.residue live.old.stage.machine ≡ 0 }
-    requires sized { IsScreen live.old.view.size }
+    requires begins { notes_of (live_state M.Machine.own live.old).standing ≡ [] }
+    requires residue { residue_of M.Machine.own live.old ≡ 0 }
+    requires sized { IsScreen (live_state M.Machine.own live.old).screen }
     ensures { CameBy (λ b. played (live_state M.Machine.own live.old) b.polls)
         desk.old result desk.new }
 {
-    let seed = live.setting.seed;
+    let seed = live.seed();
     let status = perform_all(live, desk);
-    read_back(seed, &live.given);
+    read_back(seed, live.given());
     status
 }
 
 /// The script of the commands is read as its seed and them, if they are kept. It does nothing.
-fn read_back(seed: u32, given: &Option<Vec<Command>>)
-    ensures { IfSome (option_map (λ commands. commands.items) given.now) (ScriptReadsBack seed) }
+fn read_back(seed: u32, given: Option<&[Command]>)
+    ensures { IfSome (option_map (λ commands. commands.now) given.entry) (ScriptReadsBack seed) }
 {
     if let Some(given) = given {
-        reading_law(seed, given.as_slice());
+        reading_law(seed, given);
     }
 }
 
@@ -133,10 +132,11 @@ fn open_live<'a>(
     at: u64,
 ) -> Result<Live<'a, Session>, Memory>
     ensures state { IfOk result (λ live.
-        state_of live.stage.machine.machine live.stage.machine.kept live
+        ⟦<Live<'static, Session> as Performer>⟧.state live
         ≡ live_start (setup_in setup.now) (performance_in performance.now) at
         (standing_at opening.now.grid opening.now.seed opening.now.limit)) }
-    ensures residue { IfOk result (λ live. live.stage.machine.residue ≡ 0) }
+    ensures residue { IfOk result (λ live.
+        ⟦<Live<'static, Session> as Performer>⟧.residue live ≡ 0) }
 {
     let stage = open_stage(opening, Silent)?;
     let crew = crew_of(opening.alloc, setup, performance)?;

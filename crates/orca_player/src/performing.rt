@@ -28,7 +28,7 @@ pub(crate) trait Closes: Performer {
 
 impl<'a, M: Machine> Closes for Live<'a, M> {
     fn close_early<H: House>(&mut self, desk: &mut Desk<H>) -> Result<(), NoMemory> {
-        close_early(&mut self.stage, desk)
+        Live::close_early(self, desk)
     }
 }
 

@@ -6,4 +6,6 @@ pub perform_all-status-requires-clause-silent : goal.perform_all-status-requires
 perform_all-status-requires-clause-silent g c = live_ends_well.silent
 
 pub returns : goal.returns
-returns g c = played_by c.perform_all-status.ensures c.requires.sized c.read_back.ensures
+returns g c =
+    played_by c.perform_all-status.ensures c.requires.sized
+    (rw (c.given.ensures, c.seed-seed.ensures) at c.read_back.ensures)
