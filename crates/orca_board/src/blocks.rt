@@ -57,6 +57,7 @@ fn read_run<B: Bench, L: Ledger>(
     ensures capacity { vec_capacity into.new ≡ vec_capacity into.old }
     ensures steps { steps.new ≡ steps.old + count }
 {
+    // For the proof alone: the size of the grid.
     let _dims = bench.dims();
     for i in 0..count {
         let place = Place {

@@ -155,6 +155,7 @@ impl Field {
         requires { IsInside self.now.scan.dims at }
         ensures { result ≡ peek self.now.scan (above at) }
     {
+        // For the proof alone: there are as many cells as the largest grid has.
         let _cells = &self.cells;
         let i = Dims::largest().index(at);
         if at.y == 0 {
@@ -168,6 +169,7 @@ impl Field {
         requires { IsInside self.now.scan.dims at }
         ensures { result ≡ peek self.now.scan (left at 1) }
     {
+        // For the proof alone: there are as many cells as the largest grid has.
         let _cells = &self.cells;
         let i = Dims::largest().index(at);
         if at.x == 0 {
@@ -181,6 +183,7 @@ impl Field {
         requires { IsInside self.now.scan.dims at }
         ensures { result ≡ peek self.now.scan (right at 1) }
     {
+        // For the proof alone: there are as many cells as the largest grid has.
         let _cells = &self.cells;
         let i = Dims::largest().index(at);
         if at.x == MAX_COLUMNS - 1 {
@@ -194,6 +197,7 @@ impl Field {
         requires { IsInside self.now.scan.dims at }
         ensures { result ≡ peek self.now.scan (below at) }
     {
+        // For the proof alone: there are as many cells as the largest grid has.
         let _cells = &self.cells;
         let i = Dims::largest().index(at);
         if at.y == MAX_ROWS - 1 {

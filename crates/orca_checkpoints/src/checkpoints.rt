@@ -75,6 +75,7 @@ impl Checkpoints {
             self.count += 1;
         } else {
             // The new one has an odd number, so it isn't among those that stay.
+            // For the proof alone: the size of the grid, and how many there were.
             let _whole = look.dims();
             let _len = len;
             keep_every_second(&mut self.slots);

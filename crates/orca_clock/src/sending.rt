@@ -23,6 +23,7 @@ pub(crate) fn give_byte<M: Machine, R: Report, H: House>(
         (owing (M.residue stage.now.machine) desk.old) (goes_of result)
         s (owing (M.residue stage.now.machine) desk.new) }
 {
+    // For the proof alone: its clause speaks of the stage.
     let _stage = stage;
     desk.send(Port::Midi, &[byte])
 }

@@ -182,6 +182,7 @@ fn bring_back(done: &mut Vec<Entry>, undone: &mut Vec<Entry>, count: u32)
     ensures undone_room { vec_capacity undone.new ≡ vec_capacity undone.old }
 {
     for back in 0..count {
+        // For the proof alone: its invariant counts by this.
         let _ = back;
         done.push_reserved(undone.pop().unwrap());
     }
