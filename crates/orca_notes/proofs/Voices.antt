@@ -112,15 +112,12 @@ numbers-distinct [] h d = tt
 numbers-distinct (v ∷ on) h d =
     (all_numbers-apart v on h.0 h.1 d.0, numbers-distinct on h.1 d.1)
 
-number-small : (v : Voice) (q : ℕ) → IsInRange v → eqb q (number v) ≡ true → q < MAX_NOTES
-number-small v q h e = let same : q ≡ number v = eqb-true _ _ e in omega arith
-
 numbers-small : (on : List Voice) → AllByRecursion IsInRange on
     → (q : ℕ) → list_any (eqb q) (map number on) ≡ true → q < MAX_NOTES
 numbers-small [] h q e = absurd (both_ways _ refl e)
 numbers-small (v ∷ on) h q e =
     elim (or_cases _ _ e) [
-      | inl here ↦ number-small v q h.0 here
+      | inl here ↦ let same : q ≡ number v = eqb-true _ _ here in omega arith
       | inr later ↦ numbers-small on h.1 q later
     ]
 

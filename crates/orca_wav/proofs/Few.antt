@@ -65,15 +65,12 @@ numbers-distinct [] h d = tt
 numbers-distinct (v ∷ voices) h d =
     (all_numbers-apart v voices h.0 h.1 d.0, numbers-distinct voices h.1 d.1)
 
-number-small : (v : Voice) (q : ℕ) → IsInRange v → eqb q (number v) ≡ true → q < MAX_NOTES
-number-small v q h e = let same : q ≡ number v = eqb-true _ _ e in omega arith
-
 numbers-small : (voices : List Voice) → AllByRecursion IsInRange voices
     → (q : ℕ) → list_any (eqb q) (map number voices) ≡ true → q < MAX_NOTES
 numbers-small [] h q e = absurd (both_ways _ refl e)
 numbers-small (v ∷ voices) h q e =
     elim (or_cases _ _ e) [
-      | inl here ↦ number-small v q h.0 here
+      | inl here ↦ let same : q ≡ number v = eqb-true _ _ here in omega arith
       | inr later ↦ numbers-small voices h.1 q later
     ]
 
