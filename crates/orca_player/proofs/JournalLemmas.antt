@@ -111,7 +111,8 @@ journal_apart : (setup : Setup) (play : Performance) (name : List ℕ) → play.
 journal_apart setup play name journal own =
     let apart = subst (λ (o : Option (List ℕ)). IfSome o (λ name.
     (name ≢ setup.grid) × IfSome play.save (λ other. name ≢ other)
-    × IfSome play.script (λ other. name ≢ other))) journal own in
+    × IfSome play.script (λ other. name ≢ other) × (name ≢ play.address)
+    × IfSome setup.midi (λ other. name ≢ other))) journal own in
     record { grid = apart.0; save = apart.1; script = apart.2 }
 
 kept_live : JournalsPerformance → (setup : Setup) (play : Performance) (polls : List Poll)

@@ -19,7 +19,7 @@ use Rattle.orca_words.specs.declared.limits.TheConstants.{MIN_SONG_BPM}
 use Rattle.orca_words.specs.declared.request.Request.{Request as Held}
 use Rattle.orca_words.specs.Recordings.{HasOwnJournal, HasSongTempo, IfPerform, IsPortless, OwnsJournals, RecordsWithoutPorts}
 use Rattle.orca_words.specs.RequestIn.{request_in}
-use Rattle.orca_words.specs.Requests.{Events, Follow, Lead, Make, Migrate, Perform, Performance, Play, Recording, Replay, Request, Run, Setup, Smf, Wav, Work, frames_given, greatest, is_same_name, jam_of, leading_of, migration_of, number_in, option_number, performance_of, performing, portless_setup_of, positional_text, recording_of, request_by, request_in_form, request_of, setup_of, with_own_journal, with_ports, workload_of}
+use Rattle.orca_words.specs.Requests.{Events, Follow, Lead, Make, Migrate, Perform, Performance, Play, Recording, Replay, Request, Run, Setup, Smf, Wav, Work, frames_given, greatest, is_same_name, jam_of, leading_of, migration_of, number_in, option_number, option_text, performance_of, performing, portless_setup_of, positional_text, recording_of, request_by, request_in_form, request_of, setup_of, with_own_journal, with_ports, workload_of}
 
 -- ---- numbers
 
@@ -89,22 +89,36 @@ unfolding setup_of
 grid_named found setup is =
     ported_grid found (portless_setup_of found) setup (portless_grid found) is
 
+-- and its port of MIDI is the one that they name
+ported_midi : (found : List Row) (portless : Option Setup) (setup : Setup)
+    → option_map (with_ports found) portless ≡ Some setup
+    → setup.midi ≡ option_text found (codes "midi")
+ported_midi found None setup is = absurd cc
+ported_midi found (Some s) setup is = cc
+
+midi_named : (found : List Row) (setup : Setup) → setup_of found ≡ Some setup
+    → setup.midi ≡ option_text found (codes "midi")
+unfolding setup_of
+midi_named found setup is = ported_midi found (portless_setup_of found) setup is
+
 -- names that are not the same text
-apart_by : (grid : Text) (journal save script : Option Text)
+apart_by : (grid address : Text) (journal save script midi : Option Text)
     → (is_same_name journal (Some grid) || is_same_name journal save
-    || is_same_name journal script) ≡ false
+    || is_same_name journal script || is_same_name journal (Some address)
+    || is_same_name journal midi) ≡ false
     → IfSome journal (λ name. (name ≢ grid) × IfSome save (λ other. name ≢ other)
-    × IfSome script (λ other. name ≢ other))
-apart_by grid journal save script is = grind (arith, bytes_eq-Decides)
+    × IfSome script (λ other. name ≢ other) × (name ≢ address)
+    × IfSome midi (λ other. name ≢ other))
+apart_by grid address journal save script midi is = grind (arith, bytes_eq-Decides)
 
 own_journal : (found : List Row) (setup : Setup) (before play : Performance)
     → setup_of found ≡ Some setup → with_own_journal found before ≡ Some play
     → HasOwnJournal setup (Play play)
 unfolding with_own_journal
 own_journal found setup before play is made =
-    let apart = apart_by (positional_text found (codes "GRID")) before.journal before.save
-    before.script in
-    rw (grid_named found setup is) (grind (arith, apart, made))
+    let apart = apart_by (positional_text found (codes "GRID")) before.address before.journal
+    before.save before.script (option_text found (codes "midi")) in
+    rw (grid_named found setup is, midi_named found setup is) (grind (arith, apart, made))
 
 -- ---- what is asked for
 

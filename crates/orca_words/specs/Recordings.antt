@@ -24,12 +24,13 @@ RecordsWithoutPorts setup (Smf song) = IsPortless setup
 RecordsWithoutPorts setup (Wav wave) = IsPortless setup
 RecordsWithoutPorts setup _ = Unit {0}
 
--- the journal of a performance is no other file of it: neither that of the grid, nor one that is
--- saved at the end
+-- the journal of a performance has no name of another file of it: that of the grid, of one that is
+-- saved at the end, of its keys, or of its MIDI port
 abbrev pub HasOwnJournal : Setup → Work → Type 0
 HasOwnJournal setup (Play play) = IfSome play.journal (λ name.
     (name ≢ setup.grid) × IfSome play.save (λ other. name ≢ other)
-    × IfSome play.script (λ other. name ≢ other))
+    × IfSome play.script (λ other. name ≢ other) × (name ≢ play.address)
+    × IfSome setup.midi (λ other. name ≢ other))
 HasOwnJournal setup _ = Unit {0}
 
 -- so it is, whatever the words are

@@ -186,12 +186,14 @@ is_same_name None other = false
 is_same_name (Some one) None = false
 is_same_name (Some one) (Some other) = bytes_eq one other
 
--- a performance, unless its journal is another of its files: that of the grid, or one that is saved
--- at the end
+-- a performance, unless its journal has the name of its grid, of one that is saved at the end, of
+-- its keys, or of its MIDI port
 unfoldable pub with_own_journal : List Row → Performance → Option Performance
 with_own_journal found play =
     if is_same_name play.journal (Some (positional_text found (codes "GRID")))
     || is_same_name play.journal play.save || is_same_name play.journal play.script
+    || is_same_name play.journal (Some play.address)
+    || is_same_name play.journal (option_text found (codes "midi"))
     then None else Some play
 
 -- the four numbers of `make`

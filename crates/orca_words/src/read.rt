@@ -271,8 +271,9 @@ fn leading<'a>(found: &ArgMatches<'a>) -> Option<Leading<'a>>
     })
 }
 
-/// The performance, unless its journal is another of its files: that of the grid, or one that is
-/// saved at the end. A save there would drop what was added.
+/// The performance, unless its journal has the name of its grid, of one that is saved at the end,
+/// of its keys, or of its MIDI port. A save there would drop what was added, or the journal would
+/// be played.
 #[tactic(auto, unfolding(crate::specs::Requests::with_own_journal))]
 fn with_own_journal<'a>(found: &ArgMatches<'a>, play: Performance<'a>) -> Option<Performance<'a>>
     ensures { option_map performance_in result
@@ -282,6 +283,8 @@ fn with_own_journal<'a>(found: &ArgMatches<'a>, play: Performance<'a>) -> Option
     if is_same_name(play.journal, grid)
         || is_same_name(play.journal, play.save)
         || is_same_name(play.journal, play.script)
+        || is_same_name(play.journal, Some(play.address))
+        || is_same_name(play.journal, option_text(found, "midi"))
     {
         return None;
     }
