@@ -1,2 +1,3 @@
 pub mod InMemoryLemmas
 pub mod ScheduleLemmas
+mod SpoiltLemmas

@@ -5,7 +5,7 @@ use Rattle.std.specs.List.{list_any}
 use Rattle.std.specs.Ordering.{nat_cmp}
 use Rattle.std.specs.Cmp.Lexicographic.{slice_cmp}
 use Rattle.std.specs.FinMap as finite
-use Rattle.std.specs.Coded.{Coded, code_by, coded×, coded⊎, coded_bool, coded_list, coded_ℕ}
+use Rattle.std.specs.Coded.{Coded, code_by, coded×, coded⊎, coded_list, coded_ℕ}
 use Rattle.std.specs.declared.alloc.Global.{Global}
 use Rattle.orca_base.specs.declared.limits.TheConstants.{MAX_FILE_BYTES}
 use Rattle.orca_base.specs.declared.port.Port.{Port}
@@ -17,13 +17,13 @@ use Rattle.orca_rig.specs.Outside.Ask.{Append, Load, Save}
 use Rattle.orca_rig.specs.Handed.{Attached}
 
 -- a store in memory: its files, the calls so far, the numbers of the calls that are to fail, the
--- faults so far, and whether an append has failed
+-- faults so far, and the names of the files of which a save or an append has failed
 pub record Store : Type 0 where
   pub contents : Contents
   pub asked : List Ask
   pub fail : List ℕ
   pub faults : ℕ
-  pub torn : Bool
+  pub spoilt : List (List ℕ)
 
 -- ports in memory: what they were given, what they were attached to, the calls that are to fail, by
 -- port and number, and the faults so far
@@ -91,16 +91,16 @@ attaches = map (λ attached. record { port = attached.0; name = string_bytes att
 -- a store is kept as the tuple of its parts
 abbrev pub store_code : Coded Store
 store_code =
-    code_by (Contents × (List Ask × (List ℕ × (ℕ × Bool))))
+    code_by (Contents × (List Ask × (List ℕ × (ℕ × List (List ℕ)))))
     (coded× (finite.code coded_bytes coded_bytes)
-    (coded× (coded_list ask_code) (coded× coded_bytes (coded× coded_ℕ coded_bool))))
-    (λ s. (s.contents, (s.asked, (s.fail, (s.faults, s.torn)))))
+    (coded× (coded_list ask_code) (coded× coded_bytes (coded× coded_ℕ (coded_list coded_bytes)))))
+    (λ s. (s.contents, (s.asked, (s.fail, (s.faults, s.spoilt)))))
     (λ p. record {
       contents = p.0;
       asked = p.1.0;
       fail = p.1.1.0;
       faults = p.1.1.1.0;
-      torn = p.1.1.1.1;
+      spoilt = p.1.1.1.1;
     })
     (λ _. refl)
   where

@@ -1,7 +1,10 @@
 -- What a save and an append leave.
-use Rattle.std.specs.Prelude.{◌≡◌, ◌≢◌, ℕ, List, ◌++◌, Option, Some, None, Result, Ok, Err, ◌⊎◌}
+use Rattle.std.specs.Prelude.{◌≡◌, ◌≢◌, ℕ, Bool, ◌||◌, List, ◌++◌, map, Option, Some, None, Result, Ok, Err, ◌⊎◌, String, string_bytes}
+use Rattle.std.specs.List.{list_any}
 use Rattle.std.specs.Option.{option_map}
+use Rattle.std.specs.Str.{bytes_eq}
 use Rattle.std.specs.FinMap.{get, insert}
+use Rattle.std.specs.declared.alloc.Global.{Global}
 use Rattle.orca_rig.specs.declared.fault.OutsideFault.{OutsideFault}
 use Rattle.orca_rig.specs.declared.fault.OutsideFault.TheVariants.{Failed, Memory}
 use Rattle.orca_rig.specs.Outside.{Contents}
@@ -37,3 +40,18 @@ IsAppended (Ok done) name bytes old new = HasMore name bytes old new
 IsAppended (Err Failed) name bytes old new =
     (new ≡ old) ⊎ ((more rest : List ℕ) × (bytes ≡ more ++ rest) × HasMore name more old new)
 IsAppended (Err Memory) name bytes old new = new ≡ old
+
+-- names as clauses see them
+abbrev pub names_of : List (String Global) → List (List ℕ)
+names_of = map string_bytes
+
+-- whether the file of a name is spoilt, where these are
+abbrev pub is_spoilt : List (List ℕ) → List ℕ → Bool
+is_spoilt spoilt name = list_any (bytes_eq name) spoilt
+
+-- whether a file is spoilt after a save or an append of the file of this name: it is if it was, and
+-- if it has this name and the call has failed
+abbrev pub spoilt_after : {T : Type 0} → Result T OutsideFault → List ℕ → List ℕ → Bool → Bool
+spoilt_after (Ok done) name file was = was
+spoilt_after (Err Failed) name file was = bytes_eq file name || was
+spoilt_after (Err Memory) name file was = was

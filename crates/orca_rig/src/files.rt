@@ -3,7 +3,7 @@ ghost use Rattle.std.specs.FinMap.{get};
 ghost use Rattle.orca_base.specs.declared.limits.TheConstants.{MAX_FILE_BYTES};
 ghost use Rattle.orca_rig.specs.Outside.{Contents, Ask, Rose, after_call};
 ghost use Rattle.orca_rig.specs.Outside.Ask.{Append, Load, Save};
-ghost use Rattle.orca_rig.specs.Saved.{IsAppended, IsSaved};
+ghost use Rattle.orca_rig.specs.Saved.{IsAppended, IsSaved, spoilt_after};
 
 use crate::OutsideFault;
 
@@ -19,8 +19,9 @@ pub trait Files: Drop {
     /// How often the store has failed.
     ghost faults: { Self → ℕ };
 
-    /// Whether an [`append`](Files::append) has failed.
-    ghost torn: { Self → Bool };
+    /// Whether a [`save`](Files::save) or an [`append`](Files::append) of the file of that name has
+    /// failed.
+    ghost spoilt: { Self → List ℕ → Bool };
 
     /// Makes `into` exactly the bytes of the file of that name, which has at most
     /// [`MAX_FILE_BYTES`](orca_base::limits::MAX_FILE_BYTES). After an error `into` is as before.
@@ -30,7 +31,7 @@ pub trait Files: Drop {
         ensures short { OnOk result (length into.new.items ≤ MAX_FILE_BYTES) }
         ensures untouched { OnErr result (into.new.items ≡ into.old.items) }
         ensures contents { contents self.new ≡ contents self.old }
-        ensures torn { torn self.new ≡ torn self.old }
+        ensures spoilt { spoilt self.new ≡ spoilt self.old }
         ensures asked { asked self.new ≡ after_call result (Load name.now) (asked self.old) }
 
         ensures count { faults self.old ≤ faults self.new }
@@ -42,10 +43,12 @@ pub trait Files: Drop {
 
     /// Makes the file of that name hold exactly these bytes, whether or not there was one. After
     /// [`OutsideFault::Failed`] that file may hold any bytes or be missing, and the others are as
-    /// before; after [`OutsideFault::Memory`] all are as before.
+    /// before; after [`OutsideFault::Memory`] all are as before. Once a save or an append of a file
+    /// has failed, no later append adds to that file, not even after a save that went well.
     fn save(&mut self, name: &str, bytes: &[u8]) -> Result<(), OutsideFault>
         ensures saved { IsSaved result name.now bytes.now (contents self.old) (contents self.new) }
-        ensures torn { torn self.new ≡ torn self.old }
+        ensures spoilt { (file : List ℕ) → spoilt self.new file
+            ≡ spoilt_after result name.now file (spoilt self.old file) }
         ensures asked { asked self.new
             ≡ after_call result (Save name.now bytes.now) (asked self.old) }
 
@@ -57,16 +60,17 @@ pub trait Files: Drop {
             → faults self.new ≡ faults self.old };
 
     /// Adds the bytes at the end of the file of that name, which is there. After
-    /// [`OutsideFault::Failed`] a beginning of them was added. A piece that was cut off is the last:
-    /// once an append has failed, each later one fails too and adds nothing. After
-    /// [`OutsideFault::Memory`] all are as before.
+    /// [`OutsideFault::Failed`] a beginning of them was added. After [`OutsideFault::Memory`] all
+    /// are as before. Once a save or an append of a file has failed, no later append adds to that
+    /// file: it may be an older one, or end in a piece that was cut off. Other files take appends
+    /// as before.
     fn append(&mut self, name: &str, bytes: &[u8]) -> Result<(), OutsideFault>
         ensures appended { IsAppended result name.now bytes.now
             (contents self.old) (contents self.new) }
-        ensures whole { OnOk result (torn self.new ≡ false) }
-        ensures cut { IsErrOf result OutsideFault.Failed → torn self.new ≡ true }
-        ensures stays { torn self.old ≡ true → torn self.new ≡ true }
-        ensures last { torn self.old ≡ true → contents self.new ≡ contents self.old }
+        ensures spoilt { (file : List ℕ) → spoilt self.new file
+            ≡ spoilt_after result name.now file (spoilt self.old file) }
+        ensures whole { OnOk result (spoilt self.old name.now ≡ false) }
+        ensures last { spoilt self.old name.now ≡ true → contents self.new ≡ contents self.old }
         ensures asked { asked self.new
             ≡ after_call result (Append name.now bytes.now) (asked self.old) }
 

@@ -12,6 +12,7 @@ mod mem_files;
 mod mem_inbox;
 mod mem_outs;
 mod outs;
+mod spoilt;
 
 pub use fault::{OutsideFault, count_failure};
 pub use files::Files;
@@ -22,3 +23,4 @@ pub use mem_files::{MemFiles, names_differ};
 pub use mem_inbox::MemInbox;
 pub use mem_outs::MemOuts;
 pub use outs::Outs;
+pub use spoilt::{is_spoilt, keep_spoilt};

@@ -1,4 +1,4 @@
-ghost use Rattle.std.specs.Prelude.{◌≡◌, ◌+◌, min, ◌<◌, ◌≤◌, ◌^◌, [], ◌∷◌, ◌++◌, true, false, ◌⊎◌, IsNone, length, position, string_bytes, vec_len, vec_capacity, Some, IsTrue, IfSome, IfNone, IfOk, OnOk, OnErr, IsErrOf};
+ghost use Rattle.std.specs.Prelude.{◌≡◌, ◌+◌, min, ◌<◌, ◌≤◌, ◌^◌, [], ◌∷◌, ◌++◌, true, false, ◌⊎◌, ℕ, List, IsNone, length, position, string_bytes, vec_len, vec_capacity, Some, IsTrue, IfSome, IfNone, IfOk, OnOk, OnErr, IsErrOf};
 ghost use Rattle.std.specs.Str.{bytes_eq};
 ghost use Rattle.std.specs.Option.{option_copied};
 ghost use Rattle.orca_base.specs.declared.limits.TheConstants.{MAX_FILE_BYTES};
@@ -7,10 +7,10 @@ ghost use Rattle.std.specs.Cmp.Lexicographic.{slice_cmp};
 ghost use Rattle.std.specs.FinMap.{get, find, insert};
 ghost use Rattle.orca_rig.specs.Outside.{Rose, after_call, last_count};
 ghost use Rattle.orca_rig.specs.Outside.Ask.{Append, Load, Save};
-ghost use Rattle.orca_rig.specs.Saved.{IsAppended, IsSaved};
+ghost use Rattle.orca_rig.specs.Saved.{IsAppended, IsSaved, is_spoilt, names_of, spoilt_after};
 ghost use Rattle.orca_rig.specs.InMemory.{named, files_of, asks_of, ask_of, names_differ, is_to_fail, IsUnloadable};
 
-use crate::{Files, OutsideFault};
+use crate::{Files, OutsideFault, is_spoilt, keep_spoilt};
 use orca_base::Memory;
 use orca_base::limits::MAX_FILE_BYTES;
 use std::marker::Model;
@@ -31,12 +31,13 @@ pub struct MemFiles {
     calls: Vec<Call>,
     to_fail: Vec<u64>,
     failed: u64,
-    /// An append has failed.
-    torn: bool,
+    /// The names of the files of which a save or an append has failed.
+    spoilt: Vec<String>,
 }
 
 impl Model for MemFiles {
     ghost use Rattle.orca_rig.specs.InMemory.{Store, store_code, files_of, asks_of};
+    ghost use Rattle.orca_rig.specs.Saved.{names_of};
 
     ghost Value = { Store };
 
@@ -47,7 +48,7 @@ impl Model for MemFiles {
       asked = asks_of f.calls.items;
       fail = f.to_fail.items;
       faults = f.failed;
-      torn = f.torn;
+      spoilt = names_of f.spoilt.items;
     } };
 }
 
@@ -61,7 +62,7 @@ impl MemFiles {
         ensures asked { IfOk result (λ files. files.asked ≡ []) }
         ensures fail { IfOk result (λ files. files.fail ≡ fail.items) }
         ensures faults { IfOk result (λ files. files.faults ≡ 0) }
-        ensures torn { IfOk result (λ files. files.torn ≡ false) }
+        ensures spoilt { IfOk result (λ files. files.spoilt ≡ []) }
     {
         let alloc = *contents.allocator();
         Ok(MemFiles {
@@ -69,7 +70,7 @@ impl MemFiles {
             calls: Vec::new(alloc),
             to_fail: fail,
             failed: 0,
-            torn: false,
+            spoilt: Vec::new(alloc),
         })
     }
 
@@ -174,14 +175,14 @@ impl Files for MemFiles {
 
     ghost faults = { λ f. f.faults };
 
-    ghost torn = { λ f. f.torn };
+    ghost spoilt = { λ f. is_spoilt f.spoilt };
 
     fn load(&mut self, name: &str, into: &mut Vec<u8>) -> Result<(), OutsideFault>
         ensures loaded { OnOk result (get self.old.contents name.now ≡ Some into.new.items) }
         ensures short { OnOk result (length into.new.items ≤ MAX_FILE_BYTES) }
         ensures untouched { OnErr result (into.new.items ≡ into.old.items) }
         ensures contents { self.new.contents ≡ self.old.contents }
-        ensures torn { self.new.torn ≡ self.old.torn }
+        ensures spoilt { self.new.spoilt ≡ self.old.spoilt }
         ensures asked { Some self.new.asked
             ≡ after_call result (Load name.now) (Some self.old.asked) }
 
@@ -219,7 +220,8 @@ impl Files for MemFiles {
     fn save(&mut self, name: &str, bytes: &[u8]) -> Result<(), OutsideFault>
         ensures saved { IsSaved result name.now bytes.now
             (Some self.old.contents) (Some self.new.contents) }
-        ensures torn { self.new.torn ≡ self.old.torn }
+        ensures spoilt { (file : List ℕ) → is_spoilt self.new.spoilt file
+            ≡ spoilt_after result name.now file (is_spoilt self.old.spoilt file) }
         ensures asked { Some self.new.asked
             ≡ after_call result (Save name.now bytes.now) (Some self.old.asked) }
 
@@ -241,10 +243,12 @@ impl Files for MemFiles {
     {
         let alloc = *self.files.allocator();
         let call = Call::Save(String::from_str(alloc, name)?, bytes.to_vec(alloc)?);
-        if is_to_fail(&self.to_fail, &self.calls) {
-            return Err(keep_failed(&mut self.calls, &mut self.failed, call));
-        }
         let held = String::from_str(alloc, name)?;
+        self.spoilt.reserve(1)?;
+        if is_to_fail(&self.to_fail, &self.calls) {
+            let fault = keep_failed(&mut self.calls, &mut self.failed, call);
+            return keep_spoilt(&mut self.spoilt, held, Err(fault));
+        }
         let kept = bytes.to_vec(alloc)?;
         self.files.reserve(1)?;
         self.calls.push(call)?;
@@ -255,10 +259,11 @@ impl Files for MemFiles {
     fn append(&mut self, name: &str, bytes: &[u8]) -> Result<(), OutsideFault>
         ensures appended { IsAppended result name.now bytes.now
             (Some self.old.contents) (Some self.new.contents) }
-        ensures whole { OnOk result (self.new.torn ≡ false) }
-        ensures cut { IsErrOf result OutsideFault.Failed → self.new.torn ≡ true }
-        ensures stays { self.old.torn ≡ true → self.new.torn ≡ true }
-        ensures last { self.old.torn ≡ true → self.new.contents ≡ self.old.contents }
+        ensures spoilt { (file : List ℕ) → is_spoilt self.new.spoilt file
+            ≡ spoilt_after result name.now file (is_spoilt self.old.spoilt file) }
+        ensures whole { OnOk result (is_spoilt self.old.spoilt name.now ≡ false) }
+        ensures last { is_spoilt self.old.spoilt name.now ≡ true
+            → self.new.contents ≡ self.old.contents }
         ensures asked { Some self.new.asked
             ≡ after_call result (Append name.now bytes.now) (Some self.old.asked) }
 
@@ -272,7 +277,8 @@ impl Files for MemFiles {
         ensures untouched { OnErr result (self.new.contents ≡ self.old.contents) }
         ensures cause { IsErrOf result OutsideFault.Failed
             → is_to_fail self.old.fail (length self.old.asked) ≡ false
-            → (self.old.torn ≡ true) ⊎ IsNone (get self.old.contents name.now) }
+            → (is_spoilt self.old.spoilt name.now ≡ true)
+            ⊎ IsNone (get self.old.contents name.now) }
         ensures not_listed { OnOk result (is_to_fail self.old.fail (length self.old.asked)
             ≡ false) }
         ensures counted { IsErrOf result OutsideFault.Failed
@@ -280,18 +286,18 @@ impl Files for MemFiles {
     {
         let alloc = *self.files.allocator();
         let call = Call::Append(String::from_str(alloc, name)?, bytes.to_vec(alloc)?);
-        let held = bytes_of(&self.files, name);
-        let (Some(held), false) = (held, self.torn || is_to_fail(&self.to_fail, &self.calls)) else {
+        let own = String::from_str(alloc, name)?;
+        self.spoilt.reserve(1)?;
+        let fails = is_spoilt(&self.spoilt, name) || is_to_fail(&self.to_fail, &self.calls);
+        let (Some(held), false) = (bytes_of(&self.files, name), fails) else {
             let fault = keep_failed(&mut self.calls, &mut self.failed, call);
-            self.torn |= fault == OutsideFault::Failed;
-            return Err(fault);
+            return keep_spoilt(&mut self.spoilt, own, Err(fault));
         };
         let mut kept = held.to_vec(alloc)?;
         kept.extend_from_slice(bytes)?;
-        let name = String::from_str(alloc, name)?;
         self.files.reserve(1)?;
         self.calls.push(call)?;
-        put_file(&mut self.files, name, kept);
+        put_file(&mut self.files, own, kept);
         Ok(())
     }
 }
