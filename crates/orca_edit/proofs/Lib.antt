@@ -11,3 +11,4 @@ mod WorkedBlocks
 mod WorkedPrices
 mod WorkedSessions
 pub mod RedoLemmas
+pub mod RuleLemmas

@@ -81,7 +81,7 @@ ends_in (entry ∷ entries) i found =
 -- ---- the group of an undo
 
 -- a last edit that isn't there: neither the first entry is one, nor one of the others
-plain-by : (last : Option ℕ) (b : Bool)
+pub plain-by : (last : Option ℕ) (b : Bool)
     → option_map_or (λ j. Some (suc j)) last (if b then Some 0 else None) ≡ None
     → (last ≡ None) × (b ≡ false)
 plain-by (Some j) b none = absurd (none-some _ (sym none))

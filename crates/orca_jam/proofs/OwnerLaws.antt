@@ -16,6 +16,8 @@ use Rattle.orca_base.specs.Grids.{Sheet}
 use Rattle.orca_base.specs.Histories.{is_edit, last_edit}
 use Rattle.orca_edit.specs.Machines.{is_jump}
 use Rattle.orca_edit.specs.Obeying.{MachineState, Obeyed, accept, carry_out, clip_after, entry_of, jump_to, obey, piece_of, place, rule_against, taken_area}
+use Rattle.orca_edit.proofs.RedoLemmas.{plain-by}
+use Rattle.orca_edit.proofs.RuleLemmas.{obey-rewind}
 use Rattle.orca_jam.specs.Crews.{CrewState, denial_of}
 use Rattle.orca_jam.specs.Denials.{not_yours}
 use Rattle.orca_jam.specs.Laws.{AreOwners, KeepsOwners, UndoSpares, edits_of_others, is_of_other}
@@ -162,14 +164,6 @@ alike (e ∷ h) (w ∷ o) are =
     (alike-by (last_edit h) (last_editor o) (is_edit e) w.hand
     (alike h o (rest-of e w h o are)))
 
--- no edit stands first, and none among the others
-plain-by : (last : Option ℕ) (b : Bool)
-    → option_map_or (λ j. Some (suc j)) last (if b then Some 0 else None) ≡ None
-    → (last ≡ None) × (b ≡ false)
-plain-by (Some j) b none = absurd (none-some _ (sym none))
-plain-by None true none = absurd (none-some _ (sym none))
-plain-by None false none = (refl, refl)
-
 -- without an edit there is none of another hand
 none-of-others : (hand : ℕ) (h : List Entry) (o : List Owner) → AreOwners h o
     → last_edit h ≡ None → edits_of_others hand h o ≡ []
@@ -233,11 +227,6 @@ undone : (m : MachineState) (i : ℕ) → rule_against m command.Undo ≡ None
     → last_edit m.history ≡ Some i → obey m command.Undo ≡ jump_to m i
 unfolding obey accept
 undone m i allowed last = rw (allowed, last) refl
-
-rewound : (m : MachineState) (moment : ℕ) → rule_against m (command.Rewind moment) ≡ None
-    → obey m (command.Rewind moment) ≡ jump_to m moment
-unfolding obey accept
-rewound m moment allowed = rw allowed refl
 
 -- an undo that is allowed has an edit to undo
 undoes_some : (m : MachineState) (last : Option ℕ) → last_edit m.history ≡ last
@@ -342,5 +331,5 @@ keeps_owners m o hand command.Undo are other allowed =
     undoes_some m (last_edit m.history) refl allowed _ (λ i last.
     jump-keeps m o hand command.Undo i are refl (undone m i allowed last))
 keeps_owners m o hand (command.Rewind moment) are other allowed =
-    jump-keeps m o hand (command.Rewind moment) moment are refl (rewound m moment allowed)
+    jump-keeps m o hand (command.Rewind moment) moment are refl (obey-rewind m moment allowed)
 keeps_owners m o hand command.Redo are other allowed = absurd (other refl)

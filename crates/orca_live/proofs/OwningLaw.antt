@@ -1,8 +1,8 @@
 -- Hands that share a session keep whose each entry is, and an undo spares the edits of others.
-use Rattle.std.proofs.Common.{◌≡◌, ◌≢◌, ℕ, suc, ◌<◌, ◌≤◌, Bool, true, false, List, [], ◌∷◌, ◌++◌, length, take, refl, sym, ◌∙◌, ap, subst, arith, inl, inr, length-append}
-use Rattle.std.specs.Prelude.{if◌then◌else◌, ◌&&◌, ◌||◌, nat_le, Option, Some, None}
+use Rattle.std.proofs.Common.{◌≡◌, ◌≢◌, ℕ, suc, ◌<◌, ◌≤◌, Bool, true, false, List, [], ◌∷◌, length, take, refl, sym, ◌∙◌, ap, subst, arith, length-append}
+use Rattle.std.specs.Prelude.{if◌then◌else◌, Option, Some, None}
 use Rattle.std.specs.Option.{option_map_or}
-use Rattle.std.proofs.lemmas.Bool.{cases_Bool, le-leb, leb-false}
+use Rattle.std.proofs.lemmas.Bool.{le-leb}
 use Rattle.std.proofs.lemmas.List.{length-take-le}
 use Rattle.std.proofs.lemmas.Option.{none-some, same_Some}
 use Rattle.orca_base.specs.declared.command.Command.{Command}
@@ -10,7 +10,7 @@ use Rattle.orca_base.specs.declared.command.Command.TheVariants as command
 use Rattle.orca_base.specs.declared.command.Entry.{Entry}
 use Rattle.orca_base.specs.declared.command.Entry.TheVariants.{Hush}
 use Rattle.orca_base.specs.declared.command.Rule.{Rule}
-use Rattle.orca_base.specs.declared.command.Rule.TheVariants.{HistoryFull, NoSuchMoment, NothingToRedo, NothingToUndo}
+use Rattle.orca_base.specs.declared.command.Rule.TheVariants.{NothingToUndo}
 use Rattle.orca_base.specs.Grids.{Sheet}
 use Rattle.orca_base.specs.Histories.{is_edit, last_edit}
 use Rattle.orca_base.specs.MarkSet.{MarkSet}
@@ -19,7 +19,8 @@ use Rattle.orca_course.specs.Acts.{Act}
 use Rattle.orca_course.specs.Courses.{Course, mapped, onward}
 use Rattle.orca_course.specs.Standings.{refusal_of, standing_after}
 use Rattle.orca_course.specs.declared.ending.Stop.{Stop}
-use Rattle.orca_edit.specs.Obeying.{MachineState, Obeyed, Test, accept, adds_entry, block_tests, carry_out, clip_after, entry_of, first_standing, has_no_room, jump_to, obey, piece_of, redoes_nothing, refuse, rewinds_too_far, rule_against, taken_area, test, undoes_nothing}
+use Rattle.orca_edit.specs.Obeying.{MachineState, Obeyed, accept, adds_entry, carry_out, clip_after, entry_of, jump_to, obey, piece_of, refuse, rule_against, taken_area}
+use Rattle.orca_edit.proofs.RuleLemmas.{has-room, some-moment}
 use Rattle.orca_jam.specs.Crews.{CrewState, denial_of, struck_by}
 use Rattle.orca_jam.specs.Laws.{edits_of_others}
 use Rattle.orca_jam.specs.declared.denial.Denial.{Denial}
@@ -33,60 +34,6 @@ use Rattle.orca_live.specs.Hands.{HasOwners, StartsWithOwners}
 use Rattle.orca_live.specs.Laws.{so_far}
 use Rattle.orca_live.specs.Performing.{hand_course, denied_course, header_course, if_named, journal_course, key_course, lines_course, obeyed_by, owning, painted_course, struck_course, struck_where, wish_course, write_course}
 use Rattle.orca_live.specs.States.{LiveState, around_at, fitted}
-
--- ---- the rules
-
--- where none of these tests stands, this one doesn't
-no_test : (before : List Test) (t : Test) (after : List Test)
-    → first_standing (before ++ t ∷ after) ≡ None → t.stands ≡ false
-no_test [] t after none = elim (cases_Bool t.stands) [
-  | inl stands ↦
-      let some : first_standing (t ∷ after) ≡ Some t.rule = rw stands refl in absurd (cc)
-  | inr fails ↦ fails
-]
-no_test (b ∷ before) t after none = elim (cases_Bool b.stands) [
-  | inl stands ↦
-      let some : first_standing (b ∷ (before ++ t ∷ after)) ≡ Some b.rule = rw stands refl in
-      absurd (cc)
-  | inr fails ↦ no_test before t after (rw fails at none)
-]
-
--- a moment to go back to is there
-moment_below : (m : MachineState) (moment : ℕ) → rule_against m (command.Rewind moment) ≡ None
-    → moment < length m.history
-unfolding rule_against
-moment_below m moment allowed =
-    let c : Command = command.Rewind moment in
-    leb-false (length m.history) moment
-    (no_test
-    (block_tests (piece_of m).sheet.dims m.clip c
-    ++ test NothingToUndo (undoes_nothing m.history c) ∷ [])
-    (test (NoSuchMoment (length m.history)) (rewinds_too_far m.history c))
-    (test HistoryFull (has_no_room m.limit m.history m.tail c)
-    ∷ test NothingToRedo (redoes_nothing m.tail c)
-    ∷ [])
-    allowed)
-
-neither : (adds full b : Bool) → adds ≡ true → (adds && full) || b ≡ false → full ≡ false
-neither true true b is none = none
-neither true false b is none = refl
-neither false full b is none = absurd cc
-
--- a command that adds an entry has room for it
-has_room : (m : MachineState) (c : Command) → rule_against m c ≡ None → adds_entry c ≡ true
-    → length m.history < m.limit
-unfolding rule_against
-has_room m c allowed adds =
-    leb-false m.limit (length m.history)
-    (neither (adds_entry c) (nat_le m.limit (length m.history)) _ adds
-    (no_test
-    (block_tests (piece_of m).sheet.dims m.clip c
-    ++ test NothingToUndo (undoes_nothing m.history c)
-    ∷ test (NoSuchMoment (length m.history)) (rewinds_too_far m.history c)
-    ∷ [])
-    (test HistoryFull (has_no_room m.limit m.history m.tail c))
-    (test NothingToRedo (redoes_nothing m.tail c) ∷ [])
-    allowed))
 
 -- the last edit is in the history
 edit_by : (last : Option ℕ) (edit : Bool) (n i : ℕ) → ((j : ℕ) → last ≡ Some j → j < n)
@@ -130,7 +77,7 @@ taken_entered m c allowed adds is =
     let d = (piece_of m).sheet.dims in
     subst (IsTaken m) (sym is)
     (taken_entry m c (clip_after m.clip (piece_of m).sheet (taken_area d c)) (entry_of d m.clip c)
-    (has_room m c allowed adds))
+    (has-room m c allowed adds))
 
 taken_jump : (m : MachineState) (i : ℕ) → i < length m.history → IsTaken m (jump_to m i)
 unfolding jump_to
@@ -172,7 +119,7 @@ taken m (command.Resize h w) allowed other = taken_entered m (command.Resize h w
 taken m command.Reset allowed other = taken_entered m command.Reset allowed refl refl
 taken m command.Undo allowed other = taken_undo m (last_edit m.history) refl allowed
 taken m (command.Rewind moment) allowed other =
-    taken_jump m moment (moment_below m moment allowed)
+    taken_jump m moment (some-moment m moment allowed)
 taken m command.Redo allowed other = absurd (other refl)
 
 taken_obeyed : (m : MachineState) (c : Command) → rule_against m c ≡ None → c ≢ command.Redo

@@ -1,8 +1,8 @@
 -- What a session does with a command: the rules in their order, and each kind of command.
-use Rattle.std.proofs.Common.{◌≡◌, true≢false, ℕ, zero, suc, ◌+◌, ◌<◌, ◌≤◌, Bool, true, false, List, [], ◌∷◌, ◌++◌, length, take, Some, None, Ok, Err, refl, arith, ap, sym, ◌∙◌, inl, inr}
-use Rattle.std.specs.Prelude.{◌==◌, ◌&&◌, ◌||◌, nat_le, nat_lt, Option, IfSome, IsSome, is_none}
+use Rattle.std.proofs.Common.{◌≡◌, true≢false, ℕ, zero, suc, ◌+◌, ◌<◌, ◌≤◌, true, false, List, [], ◌∷◌, ◌++◌, length, take, Some, None, Ok, Err, refl, arith, ap, sym, ◌∙◌, inl, inr}
+use Rattle.std.specs.Prelude.{◌==◌, ◌&&◌, nat_lt, Option, IfSome, IsSome, is_none}
 use Rattle.std.specs.Option.{option_map}
-use Rattle.std.proofs.lemmas.Bool.{cases_Bool, leb-false, lt-ltb, ltb-false}
+use Rattle.std.proofs.lemmas.Bool.{cases_Bool, lt-ltb, ltb-false}
 use Rattle.orca_base.specs.declared.area.Area.{Area}
 use Rattle.orca_base.specs.declared.command.Command.{Command}
 use Rattle.orca_base.specs.declared.command.Command.TheVariants as command
@@ -12,14 +12,14 @@ use Rattle.orca_base.specs.declared.command.Fault.{Fault}
 use Rattle.orca_base.specs.declared.command.Fault.TheVariants.{Refused, Memory}
 use Rattle.orca_base.specs.declared.command.Reply.TheVariants.{Edited}
 use Rattle.orca_base.specs.declared.command.Rule.{Rule}
-use Rattle.orca_base.specs.declared.command.Rule.TheVariants.{HistoryFull, NoSuchMoment, NothingToRedo, NothingToUndo}
 use Rattle.orca_base.specs.Edits.{block_of}
 use Rattle.orca_base.specs.Grids.{Size, Sheet}
 use Rattle.orca_base.specs.Histories.{group_of, last_edit}
 use Rattle.orca_edit.specs.Editing.{IsGridEdit}
 use Rattle.orca_edit.specs.Machines.{Obeys, is_jump, obeyed}
-use Rattle.orca_edit.specs.Obeying.{MachineState, Test, accept, adds_entry, block_rule, block_tests, carry_out, clip_after, entry_of, extend, first_standing, has_no_room, history_tests, jump_to, obey, piece_of, redo, redoes_nothing, refuse, reply_of, rule_against, taken_area, test, undoes_nothing, rewinds_too_far}
+use Rattle.orca_edit.specs.Obeying.{MachineState, Test, accept, adds_entry, block_rule, block_tests, carry_out, clip_after, entry_of, extend, first_standing, history_tests, jump_to, obey, piece_of, redo, refuse, reply_of, rule_against, taken_area}
 use Rattle.orca_edit.specs.Pieces.{Piece, apply}
+use Rattle.orca_edit.proofs.RuleLemmas.{is-open}
 use Rattle.orca_session.specs.Session.{IsBlockEdit, clip_with}
 
 -- ---- the rules
@@ -53,15 +53,6 @@ none-first (t ∷ ts) more is = elim (cases_Bool t.stands) [
   | inr fails ↦ rw fails (none-first ts more (rw fails at is))
 ]
 
--- the first test doesn't stand
-none-head : (t : Test) (ts : List Test) → first_standing (t ∷ ts) ≡ None
-    → (t.stands ≡ false) × (first_standing ts ≡ None)
-none-head t ts is = elim (cases_Bool t.stands) [
-  | inl stands ↦
-      let some : first_standing (t ∷ ts) ≡ Some t.rule = rw stands refl in absurd (cc)
-  | inr fails ↦ (fails, rw fails at is)
-]
-
 pub rule-of-block : (m : MachineState) (c : Command) (r : Rule)
     → block_rule (piece_of m).sheet.dims m.clip c ≡ Some r → rule_against m c ≡ Some r
 unfolding block_rule rule_against
@@ -84,44 +75,9 @@ no-block-rule m c allowed =
     none-first (block_tests (piece_of m).sheet.dims m.clip c)
     (history_tests m.limit m.history m.tail c) allowed
 
--- no rule on the history stands
-record IsOpen (m : MachineState) (c : Command) : Type 0 where
-  undoes : undoes_nothing m.history c ≡ false
-  rewinds : rewinds_too_far m.history c ≡ false
-  room : has_no_room m.limit m.history m.tail c ≡ false
-  redoes : redoes_nothing m.tail c ≡ false
-
-is-open : (m : MachineState) (c : Command) → rule_against m c ≡ None → IsOpen m c
-is-open m c allowed =
-    let none : first_standing (history_tests m.limit m.history m.tail c) ≡ None =
-    sym (rule-of-history m c (no-block-rule m c allowed)) ∙ allowed in
-    let some : List Test = test NothingToRedo (redoes_nothing m.tail c) ∷ [] in
-    let full : List Test = test HistoryFull (has_no_room m.limit m.history m.tail c) ∷ some in
-    let far : List Test =
-    test (NoSuchMoment (length m.history)) (rewinds_too_far m.history c) ∷ full in
-    let first = none-head (test NothingToUndo (undoes_nothing m.history c)) far none in
-    let second = none-head (test (NoSuchMoment (length m.history))
-    (rewinds_too_far m.history c)) full first.1 in
-    let third = none-head (test HistoryFull (has_no_room m.limit m.history m.tail c)) some
-    second.1 in
-    let fourth = none-head (test NothingToRedo (redoes_nothing m.tail c)) [] third.1 in
-    record { undoes = first.0; rewinds = second.0; room = third.0; redoes = fourth.0 }
-
-neither : (a b : Bool) → a || b ≡ false → (a ≡ false) × (b ≡ false)
-neither true b none = absurd (true≢false none)
-neither false b none = (refl, none)
-
 none-empty : (n : ℕ) → n == 0 ≡ false → 0 < n
 none-empty zero none = absurd (true≢false none)
 none-empty (suc n) none = omega arith
-
--- a command that adds an entry finds room for it
-pub has-room : (m : MachineState) (c : Command) → rule_against m c ≡ None → adds_entry c ≡ true
-    → length m.history < m.limit
-has-room m c allowed adds =
-    let full : (adds_entry c && nat_le m.limit (length m.history)) ≡ false =
-    (neither _ _ (is-open m c allowed).room).0 in
-    leb-false m.limit (length m.history) (rw adds at full)
 
 -- a Redo finds something to bring back
 pub some-tail : (m : MachineState) → rule_against m command.Redo ≡ None → 0 < length m.tail
@@ -141,12 +97,6 @@ group-room m allowed =
 pub some-edit : (m : MachineState) → rule_against m command.Undo ≡ None
     → is_none (last_edit m.history) ≡ false
 some-edit m allowed = (is-open m command.Undo allowed).undoes
-
--- a Rewind finds its moment
-pub some-moment : (m : MachineState) (moment : ℕ)
-    → rule_against m (command.Rewind moment) ≡ None → moment < length m.history
-some-moment m moment allowed =
-    leb-false (length m.history) moment (is-open m (command.Rewind moment) allowed).rewinds
 
 -- ---- what is done
 
@@ -169,11 +119,6 @@ pub obey-reset : (m : MachineState) → rule_against m command.Reset ≡ None
     → obey m command.Reset ≡ extend m command.Reset m.clip entry.Reset
 unfolding accept entry_of taken_area
 obey-reset m allowed = obey-accepted m command.Reset allowed
-
-pub obey-rewind : (m : MachineState) (moment : ℕ) → rule_against m (command.Rewind moment) ≡ None
-    → obey m (command.Rewind moment) ≡ jump_to m moment
-unfolding accept
-obey-rewind m moment allowed = obey-accepted m (command.Rewind moment) allowed
 
 pub obey-undo : (m : MachineState) (moment : ℕ) → rule_against m command.Undo ≡ None
     → last_edit m.history ≡ Some moment → obey m command.Undo ≡ jump_to m moment

@@ -6,9 +6,10 @@ use Rattle.orca_base.specs.declared.command.Fault.TheVariants.{Memory}
 use Rattle.orca_base.specs.Grids.{Sheet}
 use Rattle.orca_edit.specs.Editing.{IsGridEdit}
 use Rattle.orca_edit.specs.Obeying.{MachineState, piece_of}
+use Rattle.orca_edit.proofs.RuleLemmas.{has-room}
 use Rattle.orca_session.specs.Session.{SessionState, edit_price}
 use Rattle.orca_session.proofs.PayLemmas.{bill-edit, charge-done, charge-memory, kept-done, kept-none, same-entry}
-use Rattle.orca_session.proofs.ObeyLemmas.{adds-edit, edits-grid, has-room, obey-edit, only-memory}
+use Rattle.orca_session.proofs.ObeyLemmas.{adds-edit, edits-grid, obey-edit, only-memory}
 use Rattle.orca_session.proofs.session.Session.edit.Goals as goal
 
 pub returns-in_err-entry-clause-obeys : goal.returns-in_err-entry-clause-obeys

@@ -2,7 +2,7 @@ use Rattle.std.proofs.Common.{◌≡◌, None, Ok, sym, ◌∙◌, subst}
 use Rattle.orca_base.specs.declared.command.Command.{Command}
 use Rattle.orca_base.specs.declared.command.Command.TheVariants as command
 use Rattle.orca_edit.specs.Obeying.{rule_against}
-use Rattle.orca_session.proofs.ObeyLemmas.{obey-rewind, some-moment}
+use Rattle.orca_edit.proofs.RuleLemmas.{obey-rewind, some-moment}
 use Rattle.orca_base.specs.declared.command.Fault.TheVariants.{Refused}
 use Rattle.orca_session.proofs.PayLemmas.{charge-jump, kept-jump, kept-none}
 use Rattle.orca_session.proofs.SessionLemmas.{acts-refused, acts-silent}

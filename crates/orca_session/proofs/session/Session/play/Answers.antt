@@ -18,7 +18,7 @@ use Rattle.orca_edit.specs.Pieces.{apply}
 use Rattle.orca_session.proofs.session.Session.play.Given.{Over}
 use Rattle.orca_session.specs.Past.{PastState, machine_of, numbers_of, present}
 use Rattle.orca_session.specs.Session.{SessionState}
-use Rattle.orca_session.proofs.ObeyLemmas.{has-room}
+use Rattle.orca_edit.proofs.RuleLemmas.{has-room}
 use Rattle.orca_session.proofs.PayLemmas.{charge-done, charge-memory, cut-kept, entry-frame, kept-done, kept-none, new-plain, pushed-plain}
 use Rattle.orca_session.proofs.PriceLemmas.{pays-frame}
 use Rattle.orca_session.proofs.SessionLemmas.{acts-frame, acts-given-up}

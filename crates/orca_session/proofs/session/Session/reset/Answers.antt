@@ -11,7 +11,7 @@ use Rattle.orca_notes.specs.Device.{Plays}
 use Rattle.orca_notes.specs.Sound.{ends}
 use Rattle.orca_session.specs.Past.{PastState, machine_of, numbers_of, present}
 use Rattle.orca_session.specs.Session.{SessionState}
-use Rattle.orca_session.proofs.ObeyLemmas.{has-room}
+use Rattle.orca_edit.proofs.RuleLemmas.{has-room}
 use Rattle.orca_op.specs.Slate.{Slate, residue}
 use Rattle.orca_session.proofs.PayLemmas.{begun-clear, charge-done, charge-memory, cut-kept, entry-reset, kept-done, kept-none, new-plain, pushed-plain}
 use Rattle.orca_session.proofs.session.Session.reset.Given.{Over}
