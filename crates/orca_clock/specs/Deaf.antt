@@ -1,22 +1,17 @@
 -- Neither a follower nor a leader asks the inbox: the loop alone does.
-use Rattle.std.proofs.Common.{◌≡◌, ℕ, Bool, true, false, List, [], ◌∷◌, ◌++◌, arith, refl}
-use Rattle.orca_base.specs.Ports.{Sent}
-use Rattle.orca_base.specs.declared.command.Command.{Command}
+use Rattle.std.proofs.Common.{◌≡◌, ℕ, Bool, true, false, List, arith, refl}
 use Rattle.orca_base.specs.declared.command.Command.TheVariants as command
-use Rattle.orca_concert.specs.Concerts.{Concert, close_course, command_course, final_course, handed_of}
+use Rattle.orca_concert.specs.Concerts.{Concert, final_course}
 use Rattle.orca_concert.specs.Manners.{IsQuiet, Manner}
-use Rattle.orca_course.specs.Acts.{Act, AreDeaf, gives}
-use Rattle.orca_course.specs.Acts.Act.{Stand}
+use Rattle.orca_concert.proofs.DeafLemmas.{close_is_deaf, command_is_deaf}
+use Rattle.orca_course.specs.Acts.{AreDeaf}
 use Rattle.orca_course.specs.Courses.{afterwards, each, mapped, onward}
 use Rattle.orca_course.specs.Performers.{IsDeaf}
-use Rattle.orca_course.specs.Standings.{Standing, notes_of, standing_after, standing_closed}
 use Rattle.orca_course.specs.declared.ending.Ending.{Ending}
 use Rattle.orca_course.specs.declared.ending.Ending.TheVariants.{Lost, Spent, Stopped}
 use Rattle.orca_course.specs.declared.ending.Stop.TheVariants.{Full, Left, SongTooLong, WaveTooLong}
-use Rattle.orca_course.proofs.ActLemmas.{AreDeaf-append, AreDeaf-gives}
+use Rattle.orca_course.proofs.ActLemmas.{AreDeaf-append}
 use Rattle.orca_course.proofs.CourseLemmas.{each-holds}
-use Rattle.orca_edit.specs.Obeying.{obey}
-use Rattle.orca_notes.specs.Sound.{ends}
 use Rattle.orca_rig.specs.declared.inbox.Answer.{Answer}
 use Rattle.orca_rig.specs.declared.inbox.Answer.TheVariants as answer
 use Rattle.orca_sync.specs.Clocks.{heed}
@@ -29,33 +24,10 @@ use Rattle.orca_clock.specs.Leaders.{Led, clocked_course, clock_due_course, lead
 
 -- ---- what both share
 
--- messages that are handed out, where the run stands then, and what a report does
-deaf_handed : (sends : List Sent) (s : Standing) (more : List Act) → AreDeaf more
-    → AreDeaf ((gives sends ++ Stand s ∷ []) ++ more)
-deaf_handed sends s more deaf =
-    AreDeaf-append (gives sends ++ Stand s ∷ []) more
-    (AreDeaf-append (gives sends) (Stand s ∷ []) (AreDeaf-gives sends) tt) deaf
-
-command_deaf : {R : Type 0} (m : Manner R) (c : Command) (s : Concert R) → IsQuiet m
-    → AreDeaf (command_course m 0 c s).acts
-unfolding command_course onward mapped
-command_deaf m c s quiet =
-    let o = obey s.standing.machine c in
-    deaf_handed (handed_of m.hands o.messages) (standing_after s.standing o) _
-    (quiet.done 0 o.answer o.messages s.kept).deaf
-
-close_deaf : {R : Type 0} (m : Manner R) (s : Concert R) → IsQuiet m
-    → AreDeaf (close_course m s).acts
-unfolding close_course onward mapped
-close_deaf m s quiet =
-    let messages = ends (notes_of s.standing) in
-    deaf_handed (handed_of m.hands messages) (standing_closed s.standing) _
-    (quiet.close messages s.kept).deaf
-
 frame_deaf : {R : Type 0} (m : Manner R) (s : Concert R) → IsQuiet m
     → AreDeaf (clock_frame_course m s).acts
 unfolding clock_frame_course
-frame_deaf m s quiet = grind (arith, command_deaf m command.Frame s quiet)
+frame_deaf m s quiet = grind (arith, command_is_deaf m quiet 0 command.Frame s)
 
 text_deaf : {R : Type 0} (m : Manner R) (ending : Ending) (s : Concert R) → IsQuiet m
     → AreDeaf (last_text_course m ending s).acts
@@ -72,7 +44,7 @@ end_deaf : {R : Type 0} (m : Manner R) (ending : Ending) (s : Concert R) → IsQ
 unfolding end_course afterwards mapped
 end_deaf m ending s quiet =
     let text = last_text_course m ending s in
-    AreDeaf-append text.acts _ (text_deaf m ending s quiet) (close_deaf m text.state quiet)
+    AreDeaf-append text.acts _ (text_deaf m ending s quiet) (close_is_deaf m quiet text.state)
 
 -- ---- a follower
 
@@ -81,7 +53,7 @@ beat_deaf : {R : Type 0} (m : Manner R) (b : Beat) (s : Concert R) → IsQuiet m
 unfolding beat_course
 beat_deaf m beat.Nothing s quiet = tt
 beat_deaf m beat.Frame s quiet = frame_deaf m s quiet
-beat_deaf m beat.Restart s quiet = command_deaf m command.Reset s quiet
+beat_deaf m beat.Restart s quiet = command_is_deaf m quiet 0 command.Reset s
 
 byte_deaf : {R : Type 0} (m : Manner R) (byte : ℕ) (s : Followed R) → IsQuiet m
     → AreDeaf (clock_byte_course m byte s).acts
