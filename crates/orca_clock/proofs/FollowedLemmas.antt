@@ -19,7 +19,7 @@ use Rattle.orca_course.specs.declared.ending.Ending.{Ending}
 use Rattle.orca_course.specs.declared.ending.Ending.TheVariants.{Stopped}
 use Rattle.orca_course.specs.declared.ending.Stop.{Stop}
 use Rattle.orca_course.specs.declared.ending.Stop.TheVariants.{Full, Left}
-use Rattle.orca_course.proofs.ActLemmas.{commands_in-append}
+use Rattle.orca_course.proofs.ActLemmas.{commands_in-append, handed_commands}
 use Rattle.orca_course.proofs.CourseLemmas.{onward_goes}
 use Rattle.orca_edit.specs.Obeying.{MachineState, machine_closed, obey}
 use Rattle.orca_rig.specs.declared.inbox.Answer.{Answer}
@@ -32,7 +32,7 @@ use Rattle.orca_clock.specs.Clocked.{clock_frame_course}
 use Rattle.orca_clock.specs.Followers.{Followed, beat_course, clock_byte_course, follow_course, follow_finish, follow_part}
 use Rattle.orca_clock.specs.Laws.{TellsAtEnd, bytes_before, commands_of_beat, heard_in}
 use Rattle.orca_clock.proofs.GoingLemmas.{has_ended, onward_ends, onward_first, onward_none}
-use Rattle.orca_clock.proofs.MidiLemmas.{end_commands, handed_commands}
+use Rattle.orca_clock.proofs.MidiLemmas.{end_commands}
 use Rattle.orca_clock.proofs.TellingLemmas.{command_told, end_told}
 
 -- ---- bytes

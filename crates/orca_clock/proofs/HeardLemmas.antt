@@ -19,7 +19,7 @@ use Rattle.orca_course.specs.declared.ending.Ending.{Ending}
 use Rattle.orca_course.specs.declared.ending.Ending.TheVariants.{Lost, Spent, Stopped}
 use Rattle.orca_course.specs.declared.ending.Stop.{Stop}
 use Rattle.orca_course.specs.declared.ending.Stop.TheVariants.{Full, Left, SongTooLong, WaveTooLong}
-use Rattle.orca_course.proofs.ActLemmas.{commands_in-append}
+use Rattle.orca_course.proofs.ActLemmas.{commands_in-append, handed_commands}
 use Rattle.orca_edit.specs.Obeying.{obey}
 use Rattle.orca_notes.specs.Sound.{ends}
 use Rattle.orca_rig.specs.declared.inbox.Answer.{Answer}
@@ -32,7 +32,7 @@ use Rattle.orca_clock.specs.Clocked.{end_course, clock_frame_course, last_text_c
 use Rattle.orca_clock.specs.Followers.{Followed, beat_course, clock_byte_course, follow_course, follow_finish, follow_part}
 use Rattle.orca_clock.specs.Laws.{AreDone, TellsAtEnd, bytes_before, commands_of_beat, heard_in}
 use Rattle.orca_clock.proofs.FollowedLemmas.{EndsFull, beat_ends, beats_from-append, bytes_end, bytes_played, is_first_hand, pulse_after}
-use Rattle.orca_clock.proofs.MidiLemmas.{end_commands, handed_commands}
+use Rattle.orca_clock.proofs.MidiLemmas.{end_commands}
 use Rattle.orca_clock.proofs.TellingLemmas.{close_told, command_told}
 
 -- ---- two in turn

@@ -20,7 +20,7 @@ use Rattle.orca_course.specs.Performers.{attended, heard, polled, spent}
 use Rattle.orca_course.specs.Standings.{standing_after}
 use Rattle.orca_course.specs.declared.ending.Ending.TheVariants.{Stopped}
 use Rattle.orca_course.specs.declared.ending.Stop.TheVariants.{Full}
-use Rattle.orca_course.proofs.ActLemmas.{commands_in-append}
+use Rattle.orca_course.proofs.ActLemmas.{commands_in-append, handed_commands}
 use Rattle.orca_edit.specs.Frames.{machine_after}
 use Rattle.orca_edit.specs.Obeying.{MachineState, obey, piece_of}
 use Rattle.orca_edit.proofs.FrameLemmas.{IsPlayed, frame_plays, framed}
@@ -40,7 +40,7 @@ use Rattle.orca_clock.specs.Clocked.{clock_frame_course}
 use Rattle.orca_clock.specs.Laws.{TellsAtEnd, midi_bytes_in}
 use Rattle.orca_clock.specs.Leaders.{Led, clocked_course, clock_due_course, lead_key_course, lead_course, lead_part, quit, toggle_course, with_metronome}
 use Rattle.orca_clock.proofs.GoingLemmas.{each_holds, onward_holds}
-use Rattle.orca_clock.proofs.MidiLemmas.{handed_commands, handed_no_clock, midi_bytes-append}
+use Rattle.orca_clock.proofs.MidiLemmas.{handed_no_clock, midi_bytes-append}
 use Rattle.orca_clock.proofs.TellingLemmas.{Goes, command_told}
 
 abbrev pub machine_of : {R : Type 0} → Led R → MachineState

@@ -9,7 +9,6 @@ use Rattle.std.proofs.lemmas.List.Elements.{All-head, All-tail, filter-append}
 use Rattle.orca_base.specs.declared.command.Command.{Command}
 use Rattle.orca_base.specs.declared.message.Message.{Message}
 use Rattle.orca_base.specs.declared.message.Message.TheVariants as message
-use Rattle.orca_base.specs.Ports.{Sent}
 use Rattle.orca_base.specs.Ranges.{AreInRange, IsSendable}
 use Rattle.orca_concert.specs.Concerts.{handed_of}
 use Rattle.orca_course.specs.Acts.{Act, commands_in, gives}
@@ -25,12 +24,6 @@ pub midi_bytes-append : (xs ys : List Act)
     → midi_bytes_in (xs ++ ys) ≡ midi_bytes_in xs ++ midi_bytes_in ys
 unfolding midi_sent
 midi_bytes-append xs ys = simp (given-append, filter-append, map-append, flat_map-append)
-
--- messages that are handed out are no commands
-pub handed_commands : (sends : List Sent) (t : Standing)
-    → commands_in (gives sends ++ Stand t ∷ []) ≡ []
-handed_commands [] t = refl
-handed_commands (sent ∷ sends) t = handed_commands sends t
 
 -- the commands of acts and of an end without any
 pub end_commands : (first xs ys : List Act) (commands : List Command) → first ≡ xs ++ ys

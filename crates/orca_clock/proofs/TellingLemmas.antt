@@ -11,11 +11,12 @@ use Rattle.orca_course.specs.Standings.{notes_of, standing_after, standing_close
 use Rattle.orca_course.specs.declared.ending.Ending.TheVariants.{Stopped}
 use Rattle.orca_course.specs.declared.ending.Stop.{Stop}
 use Rattle.orca_course.specs.declared.ending.Stop.TheVariants.{Left}
+use Rattle.orca_course.proofs.ActLemmas.{handed_commands}
 use Rattle.orca_edit.specs.Obeying.{obey}
 use Rattle.orca_notes.specs.Sound.{ends}
 use Rattle.orca_clock.specs.Clocked.{end_course, last_text_course}
 use Rattle.orca_clock.specs.Laws.{TellsAtEnd, midi_bytes_in}
-use Rattle.orca_clock.proofs.MidiLemmas.{end_commands, handed_commands, midi_bytes-append}
+use Rattle.orca_clock.proofs.MidiLemmas.{end_commands, midi_bytes-append}
 
 -- a course of these acts that goes on
 pub record Goes {R : Type 0} (c : Course (Concert R) Stop) (does : List Act) (to : Concert R)

@@ -4,7 +4,7 @@ use Rattle.std.specs.Prelude.{Bool, true, false, ◌||◌, Option, None}
 use Rattle.orca_base.specs.Ports.{Sent}
 use Rattle.orca_rig.specs.Arrived.{is_ending}
 use Rattle.orca_course.specs.Acts.{Act, AreDeaf, AreMute, ArePrintable, calls_in, commands_in, given, gives, open_after, polls_in, stand_after}
-use Rattle.orca_course.specs.Acts.Act.{Await, Listen}
+use Rattle.orca_course.specs.Acts.Act.{Await, Listen, Stand}
 use Rattle.orca_course.specs.Answered.{is_failure}
 use Rattle.orca_course.specs.Standings.{Standing}
 
@@ -78,6 +78,12 @@ open_after-append b (x ∷ xs) ys = grind (arith, λ (c : Bool). open_after-appe
 pub given-gives : (sends : List Sent) → given (gives sends) ≡ sends
 given-gives [] = refl
 given-gives (sent ∷ sends) = ap (λ more. sent ∷ more) (given-gives sends)
+
+-- messages that are handed out, and where the run stands then, are no commands
+pub handed_commands : (sends : List Sent) (t : Standing)
+    → commands_in (gives sends ++ Stand t ∷ []) ≡ []
+handed_commands [] t = refl
+handed_commands (sent ∷ sends) t = handed_commands sends t
 
 -- acts that do not ask the inbox
 

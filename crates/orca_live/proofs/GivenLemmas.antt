@@ -5,15 +5,14 @@ use Rattle.std.specs.Prelude.{map, max, min, Option, Some, None}
 use Rattle.orca_base.specs.declared.command.Command.{Command}
 use Rattle.orca_base.specs.MarkSet.{MarkSet}
 use Rattle.orca_base.specs.Grids.{Size}
-use Rattle.orca_base.specs.Ports.{Sent}
 use Rattle.orca_concert.specs.Concerts.{close_course as silence_course, command_course as obey_course}
-use Rattle.orca_course.specs.Acts.{commands_in, gives, Act}
-use Rattle.orca_course.specs.Acts.Act.{Show, Stand}
+use Rattle.orca_course.specs.Acts.{commands_in, Act}
+use Rattle.orca_course.specs.Acts.Act.{Show}
 use Rattle.orca_course.specs.Courses.{Course, mapped, onward}
 use Rattle.orca_course.specs.declared.ending.Stop.{Stop}
 use Rattle.orca_course.proofs.CourseLemmas.{onward_goes}
-use Rattle.orca_course.specs.Standings.{Standing, standing_closed}
-use Rattle.orca_course.proofs.ActLemmas.{commands_in-append}
+use Rattle.orca_course.specs.Standings.{standing_closed}
+use Rattle.orca_course.proofs.ActLemmas.{commands_in-append, handed_commands}
 use Rattle.orca_edit.specs.Machines.{preview_of}
 use Rattle.orca_jam.specs.Crews.{fitted_player}
 use Rattle.orca_jam.specs.declared.player.Player.{Player}
@@ -28,17 +27,11 @@ pub commands_before : (xs ys : List Act) → commands_in ys ≡ []
     → commands_in (xs ++ ys) ≡ commands_in xs
 commands_before xs ys none = simp (commands_in-append, none, append-nil)
 
--- messages that are handed out, and where the run stands then
-handed_commands : (sends : List Sent) (t : Standing)
-    → commands_in ((gives sends ++ Stand t ∷ []) ++ []) ≡ []
-handed_commands [] t = refl
-handed_commands (sent ∷ sends) t = handed_commands sends t
-
 -- a command is given once
 pub command_once : (who : ℕ) (command : Command) (s : LiveState)
     → commands_in (hand_course who command s).acts ≡ command ∷ []
 unfolding hand_course obey_course onward mapped
-command_once who command s = simp handed_commands
+command_once who command s = simp (append-nil, handed_commands)
 
 views_commands : (bytes : List ℕ) (cells : List Cell)
     → commands_in (view_sends bytes ++ Show cells ∷ []) ≡ []
@@ -175,7 +168,7 @@ unfolding hush_course silence_course onward mapped
 closes_with s acts none = record {
   commands = λ before.
       commands_before before ((hush_course s).acts ++ acts)
-      (commands_before (hush_course s).acts acts none ∙ simp handed_commands);
+      (commands_before (hush_course s).acts acts none ∙ simp (append-nil, handed_commands));
   given = refl;
   standing = refl;
 }
