@@ -10,5 +10,5 @@ pub mod TouchLemmas
 mod WorkedBlocks
 mod WorkedPrices
 mod WorkedSessions
-pub mod RedoLemmas
 pub mod RuleLemmas
+pub mod RedoLemmas

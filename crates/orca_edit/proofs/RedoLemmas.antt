@@ -8,15 +8,15 @@ use Rattle.std.proofs.lemmas.Option.{none-some, same_Some}
 use Rattle.std.proofs.lemmas.List.{length-take-le, take-append-drop, take-append-le, take_all}
 use Rattle.orca_base.specs.declared.command.Command.TheVariants.{Undo, Redo}
 use Rattle.orca_base.specs.declared.command.Entry.{Entry}
-use Rattle.orca_base.specs.declared.command.Rule.TheVariants.{NothingToUndo}
 use Rattle.orca_base.specs.declared.command.Entry.TheVariants.{Fill, Put, Move, Resize, Reset, Frame, Hush}
 use Rattle.orca_base.specs.Histories.{done_of, group_of, is_edit, last_edit}
 use Rattle.orca_edit.specs.Editing.{AllFit}
 use Rattle.orca_edit.specs.Folding.{begins_anew}
-use Rattle.orca_edit.specs.Obeying.{MachineState, accept, history_redone, jump_to, obey, piece_of, redo, rule_against}
+use Rattle.orca_edit.specs.Obeying.{MachineState, history_redone, jump_to, obey, piece_of, redo, rule_against}
 use Rattle.orca_edit.specs.Pieces.{Piece, apply, fold_entries, opened_piece, silence}
 use Rattle.orca_edit.proofs.FitLemmas.{AllFit-same}
 use Rattle.orca_edit.proofs.FoldLemmas.{fold_entries-append, fold_entries-same, silence-piece_after}
+use Rattle.orca_edit.proofs.RuleLemmas.{obey-redo, obey-undo, undoes_some}
 
 -- ---- without the ends of jumps
 
@@ -149,23 +149,6 @@ group-undone entries tail i last anew =
 
 -- ---- an undo and a redo
 
-undone : (m : MachineState) (i : ℕ) → rule_against m Undo ≡ None → last_edit m.history ≡ Some i
-    → obey m Undo ≡ jump_to m i
-unfolding obey accept
-undone m i allowed last = rw (allowed, last) refl
-
-redone : (m : MachineState) → rule_against m Redo ≡ None → obey m Redo ≡ redo m
-unfolding obey accept
-redone m allowed = rw allowed refl
-
--- an undo that is allowed has an edit to undo
-undoes_some : (m : MachineState) (last : Option ℕ) → last_edit m.history ≡ last
-    → rule_against m Undo ≡ None → (P : Type 0) → ((i : ℕ) → last ≡ Some i → P) → P
-unfolding rule_against
-undoes_some m (Some i) is allowed P next = next i refl
-undoes_some m None is allowed P next =
-    absurd (none-some NothingToUndo (sym allowed ∙ rw is refl))
-
 without_last : (entries : List Entry) (entry : Entry)
     → take (length (entries ++ entry ∷ []) - 1) (entries ++ entry ∷ []) ≡ entries
 without_last entries entry =
@@ -209,8 +192,8 @@ pub redoes_undo : (m : MachineState) → begins_anew m.tail ≡ true → rule_ag
     → silence (piece_of (obey (obey m Undo).machine Redo).machine) ≡ silence (piece_of m)
 redoes_undo m anew allowed again =
     undoes_some m (last_edit m.history) refl allowed _ (λ i last.
-    let undo = undone m i allowed last in
+    let undo = obey-undo m i allowed last in
     let free : rule_against (jump_to m i).machine Redo ≡ None =
     ap (λ o. rule_against o.machine Redo) (sym undo) ∙ again
     in
-    rw undo (rw (redone (jump_to m i).machine free) (back m i last anew)))
+    rw undo (rw (obey-redo (jump_to m i).machine free) (back m i last anew)))

@@ -1,11 +1,13 @@
 -- What a command finds against which no rule stands.
-use Rattle.std.proofs.Common.{◌≡◌, ℕ, ◌<◌, Bool, true, false, List, [], ◌∷◌, ◌++◌, length, Some, None, refl, inl, inr}
+use Rattle.std.proofs.Common.{◌≡◌, ℕ, ◌<◌, Bool, true, false, List, [], ◌∷◌, ◌++◌, length, Option, Some, None, refl, sym, ◌∙◌, inl, inr}
 use Rattle.std.specs.Prelude.{◌&&◌, ◌||◌, nat_le}
 use Rattle.std.proofs.lemmas.Bool.{cases_Bool, leb-false}
+use Rattle.std.proofs.lemmas.Option.{none-some}
 use Rattle.orca_base.specs.declared.command.Command.{Command}
 use Rattle.orca_base.specs.declared.command.Command.TheVariants as command
 use Rattle.orca_base.specs.declared.command.Rule.TheVariants.{HistoryFull, NoSuchMoment, NothingToRedo, NothingToUndo}
-use Rattle.orca_edit.specs.Obeying.{MachineState, Test, accept, adds_entry, block_tests, first_standing, has_no_room, jump_to, obey, piece_of, redoes_nothing, rewinds_too_far, rule_against, test, undoes_nothing}
+use Rattle.orca_base.specs.Histories.{last_edit}
+use Rattle.orca_edit.specs.Obeying.{MachineState, Test, accept, adds_entry, block_tests, first_standing, has_no_room, jump_to, obey, piece_of, redo, redoes_nothing, rewinds_too_far, rule_against, test, undoes_nothing}
 
 -- where none of these tests stands, this one doesn't
 no-test : (before : List Test) (t : Test) (after : List Test)
@@ -68,3 +70,22 @@ pub obey-rewind : (m : MachineState) (moment : ℕ) → rule_against m (command.
     → obey m (command.Rewind moment) ≡ jump_to m moment
 unfolding obey accept
 obey-rewind m moment allowed = rw allowed refl
+
+-- an Undo finds an edit
+pub undoes_some : (m : MachineState) (last : Option ℕ) → last_edit m.history ≡ last
+    → rule_against m command.Undo ≡ None → (P : Type 0) → ((i : ℕ) → last ≡ Some i → P) → P
+unfolding rule_against
+undoes_some m (Some i) is allowed P next = next i refl
+undoes_some m None is allowed P next =
+    absurd (none-some NothingToUndo (sym allowed ∙ rw is refl))
+
+-- and goes back to the last one
+pub obey-undo : (m : MachineState) (moment : ℕ) → rule_against m command.Undo ≡ None
+    → last_edit m.history ≡ Some moment → obey m command.Undo ≡ jump_to m moment
+unfolding obey accept
+obey-undo m moment allowed last = rw (allowed, last) refl
+
+pub obey-redo : (m : MachineState) → rule_against m command.Redo ≡ None
+    → obey m command.Redo ≡ redo m
+unfolding obey accept
+obey-redo m allowed = rw allowed refl

@@ -10,14 +10,13 @@ use Rattle.orca_base.specs.declared.command.Command.{Command}
 use Rattle.orca_base.specs.declared.command.Command.TheVariants as command
 use Rattle.orca_base.specs.declared.command.Entry.{Entry}
 use Rattle.orca_base.specs.declared.command.Entry.TheVariants.{Hush, Put}
-use Rattle.orca_base.specs.declared.command.Rule.TheVariants.{NothingToUndo}
 use Rattle.orca_base.specs.declared.place.Place.{Place}
 use Rattle.orca_base.specs.Grids.{Sheet}
 use Rattle.orca_base.specs.Histories.{is_edit, last_edit}
 use Rattle.orca_edit.specs.Machines.{is_jump}
 use Rattle.orca_edit.specs.Obeying.{MachineState, Obeyed, accept, carry_out, clip_after, entry_of, jump_to, obey, piece_of, place, rule_against, taken_area}
 use Rattle.orca_edit.proofs.RedoLemmas.{plain-by}
-use Rattle.orca_edit.proofs.RuleLemmas.{obey-rewind}
+use Rattle.orca_edit.proofs.RuleLemmas.{obey-rewind, obey-undo, undoes_some}
 use Rattle.orca_jam.specs.Crews.{CrewState, denial_of}
 use Rattle.orca_jam.specs.Denials.{not_yours}
 use Rattle.orca_jam.specs.Laws.{AreOwners, KeepsOwners, UndoSpares, edits_of_others, is_of_other}
@@ -223,19 +222,6 @@ spared hand (e ∷ h) (w ∷ o) i are last own =
 
 -- ---- an undo
 
-undone : (m : MachineState) (i : ℕ) → rule_against m command.Undo ≡ None
-    → last_edit m.history ≡ Some i → obey m command.Undo ≡ jump_to m i
-unfolding obey accept
-undone m i allowed last = rw (allowed, last) refl
-
--- an undo that is allowed has an edit to undo
-undoes_some : (m : MachineState) (last : Option ℕ) → last_edit m.history ≡ last
-    → rule_against m command.Undo ≡ None → (P : Type 0) → ((i : ℕ) → last ≡ Some i → P) → P
-unfolding rule_against
-undoes_some m (Some i) is allowed P next = next i refl
-undoes_some m None is allowed P next =
-    absurd (none-some NothingToUndo (sym allowed ∙ rw is refl))
-
 -- the last edit is the hand's own, if its undo is not denied
 own-by : (hand : ℕ) (mine : Option ℕ) → is_some mine ≡ true → not_yours hand mine ≡ None
     → mine ≡ Some hand
@@ -272,7 +258,7 @@ undo_spares m c hand are shared denied allowed =
     undoes_some m (last_edit m.history) refl allowed _ (λ i last.
     let some : is_some (last_editor c.owners) ≡ true =
     alike m.history c.owners are ∙ ap is_some last in
-    undo-at m c hand i are last (own c hand shared denied some) (undone m i allowed last))
+    undo-at m c hand i are last (own c hand shared denied some) (obey-undo m i allowed last))
 
 -- ---- every command
 
@@ -329,7 +315,7 @@ keeps_owners m o hand (command.Paste y x) are other allowed =
     (λ e is. put (place y x) m.clip e is)
 keeps_owners m o hand command.Undo are other allowed =
     undoes_some m (last_edit m.history) refl allowed _ (λ i last.
-    jump-keeps m o hand command.Undo i are refl (undone m i allowed last))
+    jump-keeps m o hand command.Undo i are refl (obey-undo m i allowed last))
 keeps_owners m o hand (command.Rewind moment) are other allowed =
     jump-keeps m o hand (command.Rewind moment) moment are refl (obey-rewind m moment allowed)
 keeps_owners m o hand command.Redo are other allowed = absurd (other refl)

@@ -17,7 +17,7 @@ use Rattle.orca_base.specs.Grids.{Size, Sheet}
 use Rattle.orca_base.specs.Histories.{group_of, last_edit}
 use Rattle.orca_edit.specs.Editing.{IsGridEdit}
 use Rattle.orca_edit.specs.Machines.{Obeys, is_jump, obeyed}
-use Rattle.orca_edit.specs.Obeying.{MachineState, Test, accept, adds_entry, block_rule, block_tests, carry_out, clip_after, entry_of, extend, first_standing, history_tests, jump_to, obey, piece_of, redo, refuse, reply_of, rule_against, taken_area}
+use Rattle.orca_edit.specs.Obeying.{MachineState, Test, accept, adds_entry, block_rule, block_tests, carry_out, clip_after, entry_of, extend, first_standing, history_tests, obey, piece_of, refuse, reply_of, rule_against, taken_area}
 use Rattle.orca_edit.specs.Pieces.{Piece, apply}
 use Rattle.orca_edit.proofs.RuleLemmas.{is-open}
 use Rattle.orca_session.specs.Session.{IsBlockEdit, clip_with}
@@ -119,16 +119,6 @@ pub obey-reset : (m : MachineState) → rule_against m command.Reset ≡ None
     → obey m command.Reset ≡ extend m command.Reset m.clip entry.Reset
 unfolding accept entry_of taken_area
 obey-reset m allowed = obey-accepted m command.Reset allowed
-
-pub obey-undo : (m : MachineState) (moment : ℕ) → rule_against m command.Undo ≡ None
-    → last_edit m.history ≡ Some moment → obey m command.Undo ≡ jump_to m moment
-unfolding accept
-obey-undo m moment allowed is = obey-accepted m command.Undo allowed ∙ rw is refl
-
-pub obey-redo : (m : MachineState) → rule_against m command.Redo ≡ None
-    → obey m command.Redo ≡ redo m
-unfolding accept
-obey-redo m allowed = obey-accepted m command.Redo allowed
 
 -- an edit by a block
 accept-edit : (m : MachineState) (c : Command) → IsBlockEdit c

@@ -6,9 +6,10 @@ use Rattle.orca_history.specs.Trails.{Trail}
 use Rattle.orca_edit.specs.Machines.{obeyed}
 use Rattle.orca_edit.specs.Obeying.{MachineState, obey, rule_against}
 use Rattle.orca_edit.specs.Prices.{redo_price, kept_redone}
+use Rattle.orca_edit.proofs.RuleLemmas.{obey-redo}
 use Rattle.orca_session.specs.Past.{machine_of, numbers_of, plain_machine}
 use Rattle.orca_session.specs.Session.{SessionState}
-use Rattle.orca_session.proofs.ObeyLemmas.{group-room, obey-redo, some-tail}
+use Rattle.orca_session.proofs.ObeyLemmas.{group-room, some-tail}
 use Rattle.orca_session.proofs.PayLemmas.{charge-done, kept-done, redo-plain}
 use Rattle.orca_session.proofs.SessionLemmas.{redo-parts}
 use Rattle.orca_session.proofs.session.Session.redo.Given.{Over}

@@ -4,7 +4,8 @@ use Rattle.orca_base.specs.declared.command.Command.TheVariants as command
 use Rattle.orca_base.specs.Histories.{last_edit}
 use Rattle.orca_history.specs.Trails.{Trail}
 use Rattle.orca_session.specs.Session.{SessionState}
-use Rattle.orca_session.proofs.ObeyLemmas.{obey-undo, some-edit}
+use Rattle.orca_edit.proofs.RuleLemmas.{obey-undo}
+use Rattle.orca_session.proofs.ObeyLemmas.{some-edit}
 use Rattle.orca_session.proofs.PayLemmas.{charge-jump, kept-jump}
 use Rattle.orca_session.proofs.session.Session.undo.Given.{Over}
 use Rattle.orca_session.proofs.SessionLemmas.{some-not-none}
