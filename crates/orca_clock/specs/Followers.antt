@@ -36,6 +36,10 @@ follow_state g r follow = record {
   pulse = follow.follower;
 }
 
+-- how much its session has to clear: it pays for steps that are still to come
+abbrev pub follow_residue : {M R : Type 0} → Ghosts M → Follow M R → ℕ
+follow_residue g follow = g.residue follow.stage.machine
+
 -- no clock has started it so far
 abbrev pub follow_at_start : {R : Type 0} → Concert R → Followed R
 follow_at_start s = record { concert = s; pulse = stopped }
@@ -50,8 +54,7 @@ abbrev pub FollowDid : {M R : Type 0} → Ghosts M → (r : ReportGhosts R)
     → Result (Option Stop) NoMemory → Follow M R → World → Type 0
 FollowDid g r c p x result q y =
     Does (follow_stance r.manner) (c (follow_state g r p)) (follow_state g r p)
-    (owing (g.residue p.stage.machine) x) result (follow_state g r q)
-    (owing (g.residue q.stage.machine) y)
+    (owing (follow_residue g p) x) result (follow_state g r q) (owing (follow_residue g q) y)
 
 -- ---- bytes
 

@@ -32,6 +32,10 @@ pub record Led (R : Type 0) : Type 0 where
 abbrev pub lead_state : {M R : Type 0} → Ghosts M → (r : ReportGhosts R) → Lead M R → Led r.Kept
 lead_state g r lead = record { concert = concert_at g r lead.stage; metronome = lead.leader }
 
+-- how much its session has to clear: it pays for steps that are still to come
+abbrev pub lead_residue : {M R : Type 0} → Ghosts M → Lead M R → ℕ
+lead_residue g lead = g.residue lead.stage.machine
+
 -- the clock starts at a moment
 abbrev pub lead_at_start : {R : Type 0} → ℕ → ℕ → Concert R → Led R
 lead_at_start bpm at s = record { concert = s; metronome = metronome_from bpm at }
@@ -46,8 +50,7 @@ abbrev pub LeadDid : {M R : Type 0} → Ghosts M → (r : ReportGhosts R)
     → Result (Option Stop) NoMemory → Lead M R → World → Type 0
 LeadDid g r c p x result q y =
     Does (lead_stance r.manner) (c (lead_state g r p)) (lead_state g r p)
-    (owing (g.residue p.stage.machine) x) result (lead_state g r q)
-    (owing (g.residue q.stage.machine) y)
+    (owing (lead_residue g p) x) result (lead_state g r q) (owing (lead_residue g q) y)
 
 -- ---- the clock
 

@@ -1,15 +1,22 @@
 //! A follower of a clock.
 
-ghost use Rattle.std.specs.Prelude.{◌≡◌};
+ghost use Rattle.std.specs.Prelude.{◌≡◌, ◌≢◌, Err, Some};
+ghost use Rattle.orca_course.specs.Acts.{gives};
 ghost use Rattle.orca_course.specs.Courses.{each};
 ghost use Rattle.orca_course.specs.Doing.{goes_of};
+ghost use Rattle.orca_course.specs.Following.{Accompanies};
+ghost use Rattle.orca_course.specs.Standings.{notes_of, standing_closed};
+ghost use Rattle.orca_course.specs.Worlds.{Calls};
+ghost use Rattle.orca_concert.specs.Concerts.{handed_of};
 ghost use Rattle.orca_concert.specs.Stages.{StageDid, concert_at};
-ghost use Rattle.orca_clock.specs.Followers.{FollowDid, beat_course, clock_byte_course, follow_at_start, follow_course, follow_finish, follow_state};
+ghost use Rattle.orca_clock.specs.Followers.{FollowDid, beat_course, clock_byte_course, follow_at_start, follow_course, follow_finish, follow_residue, follow_state};
+ghost use Rattle.orca_notes.specs.Sound.{ends};
+ghost use Rattle.orca_send.specs.Sending.{sends_of};
 
 use crate::ending::end;
 use crate::frame::do_frame;
 use orca_base::Command;
-use orca_concert::{Report, Stage};
+use orca_concert::{Report, Stage, close_early};
 use orca_course::{Desk, Ending, NoMemory, Performer, Stop};
 use orca_edit::Machine;
 use orca_rig::{Answer, House};
@@ -18,13 +25,14 @@ use orca_sync::{Beat, Follower};
 /// The hand whose bytes are those of the clock.
 const CLOCK: u8 = 0;
 
-/// A session that plays by a clock that comes in.
+/// A session that plays by a clock that comes in. A contract outside sees its state
+/// (`follow_state`), and no field.
 #[derive(Drop)]
 pub struct Follow<M, R> {
     /// The session, and what is printed of it.
-    pub stage: Stage<M, R>,
+    pub(crate) stage: Stage<M, R>,
     /// What the clock asks for.
-    pub follower: Follower,
+    pub(crate) follower: Follower,
 }
 
 impl<M: Machine, R: Report> Follow<M, R> {
@@ -32,24 +40,38 @@ impl<M: Machine, R: Report> Follow<M, R> {
     pub fn start(stage: Stage<M, R>) -> Follow<M, R>
         ensures state { follow_state M.Machine.own R.Report.own result
             ≡ follow_at_start (concert_at M.Machine.own R.Report.own stage) }
-        ensures machine { result.stage.machine ≡ stage.machine }
+        ensures residue { follow_residue M.Machine.own result ≡ M.residue stage.machine }
     {
         Follow {
             stage,
             follower: Follower::start(),
         }
     }
+
+    /// Ends all notes that sound, if memory was refused.
+    pub fn close_early<H: House>(&mut self, desk: &mut Desk<H>) -> Result<(), NoMemory>
+        ensures called {
+            let s = (follow_state M.Machine.own R.Report.own self.old).concert.standing in
+            Calls (gives (handed_of R.manner.hands (ends (notes_of s)))) result desk.old desk.new }
+        ensures in_send { result ≢ Err NoMemory.Elsewhere }
+        // A device that follows it follows these sends too, and has no key at their end.
+        ensures device {
+            let s = (follow_state M.Machine.own R.Report.own self.old).concert.standing in
+            Accompanies (Some s) (gives (sends_of (ends (notes_of s)))) (Some (standing_closed s)) }
+    {
+        close_early(&mut self.stage, desk)
+    }
 }
 
 impl<M: Machine, R: Report> Performer for Follow<M, R> {
     ghost use Rattle.orca_clock.specs.Deaf.{follow_is_deaf};
-    ghost use Rattle.orca_clock.specs.Followers.{Followed, follow_part, follow_state};
+    ghost use Rattle.orca_clock.specs.Followers.{Followed, follow_part, follow_residue, follow_state};
 
     ghost State = { Followed R.Kept };
 
     ghost state = { λ follow. follow_state M.Machine.own R.Report.own follow };
 
-    ghost residue = { λ follow. M.residue follow.stage.machine };
+    ghost residue = { λ follow. follow_residue M.Machine.own follow };
 
     ghost part = { follow_part R.manner };
 

@@ -1,17 +1,24 @@
 //! A leader, which gives a clock.
 
-ghost use Rattle.std.specs.Prelude.{◌≡◌, ◌≤◌};
+ghost use Rattle.std.specs.Prelude.{◌≡◌, ◌≢◌, ◌≤◌, Err, Some};
 ghost use Rattle.orca_base.specs.declared.limits.TheConstants.{MAX_BPM};
+ghost use Rattle.orca_course.specs.Acts.{gives};
 ghost use Rattle.orca_course.specs.Courses.{each};
 ghost use Rattle.orca_course.specs.Doing.{goes_of};
+ghost use Rattle.orca_course.specs.Following.{Accompanies};
+ghost use Rattle.orca_course.specs.Standings.{notes_of, standing_closed};
+ghost use Rattle.orca_course.specs.Worlds.{Calls};
+ghost use Rattle.orca_concert.specs.Concerts.{handed_of};
 ghost use Rattle.orca_concert.specs.Stages.{concert_at};
-ghost use Rattle.orca_clock.specs.Leaders.{LeadDid, clock_due_course, lead_key_course, lead_at_start, lead_course, lead_finish, lead_open, lead_state, toggle_course};
+ghost use Rattle.orca_clock.specs.Leaders.{LeadDid, clock_due_course, lead_key_course, lead_at_start, lead_course, lead_finish, lead_open, lead_residue, lead_state, toggle_course};
+ghost use Rattle.orca_notes.specs.Sound.{ends};
+ghost use Rattle.orca_send.specs.Sending.{sends_of};
 
 use crate::ending::end;
 use crate::frame::do_frame;
 use crate::sending::give_byte;
 use orca_base::limits::MAX_BPM;
-use orca_concert::{Report, Stage};
+use orca_concert::{Report, Stage, close_early};
 use orca_course::{Desk, Ending, NoMemory, Performer, Stop};
 use orca_edit::Machine;
 use orca_rig::{Answer, House};
@@ -27,13 +34,14 @@ const PAUSE: u8 = b' ';
 /// Ctrl-Q, which ends the performance.
 const QUIT: u8 = 17;
 
-/// A session that plays, and gives a clock.
+/// A session that plays, and gives a clock. A contract outside sees its state (`lead_state`), and no
+/// field.
 #[derive(Drop)]
 pub struct Lead<M, R> {
     /// The session, and what is printed of it.
-    pub stage: Stage<M, R>,
+    pub(crate) stage: Stage<M, R>,
     /// When each clock is due.
-    pub leader: Leader,
+    pub(crate) leader: Leader,
 }
 
 impl<M: Machine, R: Report> Lead<M, R> {
@@ -44,24 +52,38 @@ impl<M: Machine, R: Report> Lead<M, R> {
         requires few { bpm ≤ MAX_BPM }
         ensures state { lead_state M.Machine.own R.Report.own result
             ≡ lead_at_start bpm at (concert_at M.Machine.own R.Report.own stage) }
-        ensures machine { result.stage.machine ≡ stage.machine }
+        ensures residue { lead_residue M.Machine.own result ≡ M.residue stage.machine }
     {
         Lead {
             stage,
             leader: Leader::start(at, bpm),
         }
     }
+
+    /// Ends all notes that sound, if memory was refused.
+    pub fn close_early<H: House>(&mut self, desk: &mut Desk<H>) -> Result<(), NoMemory>
+        ensures called {
+            let s = (lead_state M.Machine.own R.Report.own self.old).concert.standing in
+            Calls (gives (handed_of R.manner.hands (ends (notes_of s)))) result desk.old desk.new }
+        ensures in_send { result ≢ Err NoMemory.Elsewhere }
+        // A device that follows it follows these sends too, and has no key at their end.
+        ensures device {
+            let s = (lead_state M.Machine.own R.Report.own self.old).concert.standing in
+            Accompanies (Some s) (gives (sends_of (ends (notes_of s)))) (Some (standing_closed s)) }
+    {
+        close_early(&mut self.stage, desk)
+    }
 }
 
 impl<M: Machine, R: Report> Performer for Lead<M, R> {
     ghost use Rattle.orca_clock.specs.Deaf.{lead_is_deaf};
-    ghost use Rattle.orca_clock.specs.Leaders.{Led, lead_part, lead_state};
+    ghost use Rattle.orca_clock.specs.Leaders.{Led, lead_part, lead_residue, lead_state};
 
     ghost State = { Led R.Kept };
 
     ghost state = { λ lead. lead_state M.Machine.own R.Report.own lead };
 
-    ghost residue = { λ lead. M.residue lead.stage.machine };
+    ghost residue = { λ lead. lead_residue M.Machine.own lead };
 
     ghost part = { lead_part R.manner };
 

@@ -1,8 +1,7 @@
 //! A grid that plays by a clock that comes in.
 
 ghost use Rattle.std.specs.Prelude.{◌≡◌, [], false};
-ghost use Rattle.orca_clock.specs.Followers.{follow_state};
-ghost use Rattle.orca_concert.specs.Stages.{standing_of};
+ghost use Rattle.orca_clock.specs.Followers.{follow_residue, follow_state};
 ghost use Rattle.orca_course.specs.Standings.{notes_of};
 ghost use Rattle.orca_course.specs.Worlds.{has_ended, has_listened};
 ghost use Rattle.orca_player.specs.Doing.{CameBy};
@@ -58,8 +57,9 @@ fn follow_all<M: Machine, R: Report, H: House>(
     desk: &mut Desk<H>,
 ) -> Status
     requires open { has_ended desk.old ≡ false }
-    requires begins { notes_of (standing_of M.Machine.own follow.old.stage) ≡ [] }
-    requires residue { M.residue follow.old.stage.machine ≡ 0 }
+    requires begins {
+        notes_of (follow_state M.Machine.own R.Report.own follow.old).concert.standing ≡ [] }
+    requires residue { follow_residue M.Machine.own follow.old ≡ 0 }
     ensures { CameBy (λ b. followed R.manner
         (follow_state M.Machine.own R.Report.own follow.old) b.polls)
         desk.old result desk.new }

@@ -2,8 +2,7 @@
 
 ghost use Rattle.std.specs.Prelude.{◌≡◌, ◌≤◌, [], false};
 ghost use Rattle.orca_base.specs.declared.limits.TheConstants.{MAX_BPM};
-ghost use Rattle.orca_clock.specs.Leaders.{lead_state};
-ghost use Rattle.orca_concert.specs.Stages.{standing_of};
+ghost use Rattle.orca_clock.specs.Leaders.{lead_residue, lead_state};
 ghost use Rattle.orca_course.specs.Standings.{notes_of};
 ghost use Rattle.orca_course.specs.Worlds.{has_ended, has_listened};
 ghost use Rattle.orca_player.specs.Doing.{CameBy};
@@ -60,8 +59,9 @@ fn start<H: House>(opening: &Opening, bpm: u16, at: u64, desk: &mut Desk<H>) -> 
 /// Plays until the performance ends, and answers how the run ends.
 fn lead_all<M: Machine, R: Report, H: House>(lead: &mut Lead<M, R>, desk: &mut Desk<H>) -> Status
     requires open { has_ended desk.old ≡ false }
-    requires begins { notes_of (standing_of M.Machine.own lead.old.stage) ≡ [] }
-    requires residue { M.residue lead.old.stage.machine ≡ 0 }
+    requires begins {
+        notes_of (lead_state M.Machine.own R.Report.own lead.old).concert.standing ≡ [] }
+    requires residue { lead_residue M.Machine.own lead.old ≡ 0 }
     ensures { CameBy (λ b. led R.manner (lead_state M.Machine.own R.Report.own lead.old) b.polls)
         desk.old result desk.new }
 {

@@ -12,7 +12,7 @@ ghost use Rattle.orca_player.specs.Performances.{EndsSilent, IsSilenced, Perform
 use crate::Status;
 use crate::concert::{settled, status_of_stop};
 use orca_clock::{Follow, Lead};
-use orca_concert::{Report, close_early};
+use orca_concert::Report;
 use orca_course::{Desk, Ending, NoMemory, Performer, perform};
 use orca_edit::Machine;
 use orca_live::Live;
@@ -34,13 +34,13 @@ impl<'a, M: Machine> Closes for Live<'a, M> {
 
 impl<M: Machine, R: Report> Closes for Follow<M, R> {
     fn close_early<H: House>(&mut self, desk: &mut Desk<H>) -> Result<(), NoMemory> {
-        close_early(&mut self.stage, desk)
+        Follow::close_early(self, desk)
     }
 }
 
 impl<M: Machine, R: Report> Closes for Lead<M, R> {
     fn close_early<H: House>(&mut self, desk: &mut Desk<H>) -> Result<(), NoMemory> {
-        close_early(&mut self.stage, desk)
+        Lead::close_early(self, desk)
     }
 }
 
