@@ -35,9 +35,13 @@ listed-cut d to at inside =
 abbrev pub left_glyph : Slate → Size → Place → ℕ
 left_glyph d to at = if is_inside to at then state_glyph d.scan at else empty
 
-pub cut-away : (d : Slate) (to : Size) → IsSlate d
-    → slate_after_all d (write_each (λ at. empty) (cut_places d.scan.dims to))
-    ≡ slate_after_edit d (sheet_by d.scan.dims (left_glyph d to)) (cut_places d.scan.dims to)
+-- the slate then
+abbrev pub cut_slate : Slate → Size → Slate
+cut_slate d to =
+    slate_after_edit d (sheet_by d.scan.dims (left_glyph d to)) (cut_places d.scan.dims to)
+
+cut-away : (d : Slate) (to : Size) → IsSlate d
+    → slate_after_all d (write_each (λ at. empty) (cut_places d.scan.dims to)) ≡ cut_slate d to
 cut-away d to slate =
     after_writes d (λ at. empty) (cut_places d.scan.dims to) (left_glyph d to) slate.state.sheet.size
     slate.state.sheet.whole
@@ -50,7 +54,7 @@ cut-away d to slate =
     swap false g = refl
 
 -- a place that is cut off is empty then
-pub cut-empty : (d : Slate) (to : Size) (at : Place) → IsInside d.scan.dims at
+cut-empty : (d : Slate) (to : Size) (at : Place) → IsInside d.scan.dims at
     → is_inside to at ≡ false → glyph_on (sheet_by d.scan.dims (left_glyph d to)) at ≡ empty
 cut-empty d to at inside out =
     glyph_at-sheet_by d.scan.dims (left_glyph d to) at inside ∙ (rw out refl)
@@ -66,7 +70,7 @@ absent-each began listed (p ∷ places) q inside absent =
     (one.0, rw (one.1, rest.1) refl)
 
 -- a place of the last `begin` that lies in no grid of the other size is listed then
-pub cut-listed : (d : Slate) (to : Size) (at : Place) → IsSlate d → IsInside d.began.dims at
+cut-listed : (d : Slate) (to : Size) (at : Place) → IsSlate d → IsInside d.began.dims at
     → is_inside to at ≡ false
     → is_listed (list_each d.began.dims d.listed (cut_places d.scan.dims to)) at ≡ true
 cut-listed d to at slate inside out =
@@ -78,6 +82,25 @@ cut-listed d to at slate inside out =
           let there = (slate.kept at inside before.0).0 in
           absurd (both_ways _ before.1 (listed-cut d.scan.dims to at there ∙ (rw out refl)))
     ]
+
+-- what is known of a slate once those places are empty
+pub record IsCut (d : Slate) (to : Size) (after : Slate) : Type 0 where
+  pub is : after ≡ cut_slate d to
+  pub emptied : (at : Place) → IsInside after.scan.dims at → is_inside to at ≡ false
+      → state_glyph after.scan at ≡ empty
+  pub listed : (at : Place) → IsInside after.began.dims at → is_inside to at ≡ false
+      → is_listed after.listed at ≡ true
+
+pub cut-off : (d now after : Slate) (to : Size) → IsSlate d → d ≡ now
+    → after ≡ slate_after_all now (write_each (λ at. empty) (cut_places d.scan.dims to))
+    → IsCut d to after
+cut-off d now after to slate view written =
+    let is : after ≡ cut_slate d to = written ∙ rw (← view) (cut-away d to slate) in
+    record {
+      is = is;
+      emptied = rw is (cut-empty d to);
+      listed = rw is (λ at inside out. cut-listed d to at slate inside out);
+    }
 
 -- the other size of a grid from which it cuts nothing but empty places is that of the grid before
 pub resize-cut : (d : Slate) (to : Size) → IsSize to
