@@ -4,8 +4,8 @@ use Rattle.orca_term.specs.Viewing.{painting_bytes}
 use Rattle.orca_term.proofs.Views.{paints-view, whole_bytes, same_bytes, shown_bytes}
 use Rattle.orca_term.proofs.view.View.repaint.Goals as goal
 
-pub returns-clause-whole : goal.returns-clause-whole
-returns-clause-whole g c =
+pub returns : goal.returns
+returns g c =
     let now = c.args.self.now in
     let bytes = c.paint_rows.new.bytes.items in
     let cells =
@@ -18,52 +18,10 @@ returns-clause-whole g c =
     c.self.inside.bytes.items bytes now c.draw.new.cells.items cells c.self.view_is
     c.self.invariant.0 c.self.invariant.1 c.draw.ensures.whole c.draw.ensures.printable same
     bytes_are in
-    whole_bytes now.size now.last cells bytes paints
-
-pub returns-clause-same : goal.returns-clause-same
-returns-clause-same g c =
-    let now = c.args.self.now in
-    let bytes = c.paint_rows.new.bytes.items in
-    let cells =
-    picture now.size (scene_of (g.T.Look.sheet c.args.look.now)
-    (g.T.Look.marks c.args.look.now) c.args.editor.now) c.args.line.now in
-    let same : c.draw.new.cells.items ≡ cells = search rules in
-    let bytes_are : bytes ≡ painting_bytes now.size now.last cells = search rules in
-    let paints =
-    paints-view c.self.inside.size c.self.inside.painted c.self.inside.last.items
-    c.self.inside.bytes.items bytes now c.draw.new.cells.items cells c.self.view_is
-    c.self.invariant.0 c.self.invariant.1 c.draw.ensures.whole c.draw.ensures.printable same
-    bytes_are in
-    same_bytes now.size now.last cells bytes paints
-
-pub returns-clause-shows : goal.returns-clause-shows
-returns-clause-shows g c =
-    let now = c.args.self.now in
-    let bytes = c.paint_rows.new.bytes.items in
-    let cells =
-    picture now.size (scene_of (g.T.Look.sheet c.args.look.now)
-    (g.T.Look.marks c.args.look.now) c.args.editor.now) c.args.line.now in
-    let same : c.draw.new.cells.items ≡ cells = search rules in
-    let bytes_are : bytes ≡ painting_bytes now.size now.last cells = search rules in
-    let paints =
-    paints-view c.self.inside.size c.self.inside.painted c.self.inside.last.items
-    c.self.inside.bytes.items bytes now c.draw.new.cells.items cells c.self.view_is
-    c.self.invariant.0 c.self.invariant.1 c.draw.ensures.whole c.draw.ensures.printable same
-    bytes_are in
-    shown_bytes now.size now.last cells bytes paints
-
-pub returns-clause-printable : goal.returns-clause-printable
-returns-clause-printable g c =
-    let now = c.args.self.now in
-    let bytes = c.paint_rows.new.bytes.items in
-    let cells =
-    picture now.size (scene_of (g.T.Look.sheet c.args.look.now)
-    (g.T.Look.marks c.args.look.now) c.args.editor.now) c.args.line.now in
-    let same : c.draw.new.cells.items ≡ cells = search rules in
-    let bytes_are : bytes ≡ painting_bytes now.size now.last cells = search rules in
-    let paints =
-    paints-view c.self.inside.size c.self.inside.painted c.self.inside.last.items
-    c.self.inside.bytes.items bytes now c.draw.new.cells.items cells c.self.view_is
-    c.self.invariant.0 c.self.invariant.1 c.draw.ensures.whole c.draw.ensures.printable same
-    bytes_are in
-    paints.printable
+    record {
+      kept = search rules;
+      whole = whole_bytes now.size now.last cells bytes paints;
+      same = same_bytes now.size now.last cells bytes paints;
+      printable = paints.printable;
+      shows = shown_bytes now.size now.last cells bytes paints;
+    }
