@@ -7,20 +7,6 @@ use Rattle.orca_board.proofs.LargestLemmas.{cleared-by_place}
 use Rattle.orca_board.proofs.SlateLemmas.{started}
 use Rattle.orca_board.proofs.field.FieldBench.begin.Goals as goal
 
-pub invariant_of-self : goal.invariant_of-self
-invariant_of-self g c =
-    keeps-of_sheet _ (sheet_of (slate_of c.self.inside).scan) _ _ _ _ _
-    c.self.invariant.lists.slate.state.sheet
-    (started _ (sheet_of (slate_of c.self.inside).scan) refl refl
-    (cleared-by_place c.self.inside.dims _ c.self.inside.marks
-    c.self.invariant.lists.slate.state.sheet.size c.clear.ensures.marks) (search rules)
-    c.clear-2.ensures.items
-    (rw (c.begin.ensures, c.of.ensures) refl)
-    (ap (λ (l : Listed). places_of l.changes) c.begin.ensures))
-    (ap (λ (l : Listed). l.changes) c.begin.ensures) c.self.invariant.whole
-    c.clear.ensures.size c.self.invariant.outside c.self.invariant.live
-    (omega (arith, c.clear-2.ensures.capacity, c.self.invariant.events_roomy))
-
 pub returns-clause-slate : goal.returns-clause-slate
 returns-clause-slate g c =
     rw (← c.self.view_is)
@@ -30,3 +16,12 @@ returns-clause-slate g c =
     c.clear-2.ensures.items
     (rw (c.begin.ensures, c.of.ensures) refl)
     (ap (λ (l : Listed). places_of l.changes) c.begin.ensures))
+
+pub invariant_of-self : goal.invariant_of-self
+invariant_of-self g c =
+    keeps-of_sheet _ (sheet_of (slate_of c.self.inside).scan) _ _ _ _ _
+    c.self.invariant.lists.slate.state.sheet
+    (rw (← c.self.view_is) at (returns-clause-slate g c))
+    (ap (λ (l : Listed). l.changes) c.begin.ensures) c.self.invariant.whole
+    c.clear.ensures.size c.self.invariant.outside c.self.invariant.live
+    (omega (arith, c.clear-2.ensures.capacity, c.self.invariant.events_roomy))
