@@ -1,10 +1,11 @@
-ghost use Rattle.std.specs.Prelude.{◌≡◌, ◌≤◌, None, false, length, OnOk, OnErr};
+ghost use Rattle.std.specs.Prelude.{◌≡◌, ◌<◌, ◌≤◌, None, false, ℕ, List, length, string_bytes, vec_len, vec_capacity, IfOk, OnOk, OnErr, IsErr, IsErrOf};
 ghost use Rattle.orca_base.specs.declared.limits.TheConstants.{MAX_FILE_BYTES};
+ghost use Rattle.orca_rig.specs.Saved.{is_spoilt, names_of};
 
 use crate::appending::append_file;
 use crate::saving::save_file;
 use crate::whole::read_whole;
-use orca_rig::{Files, OutsideFault, count_failure};
+use orca_rig::{Files, OutsideFault, count_failure, is_spoilt, keep_spoilt};
 use std::os::fd::{AsRawFd, IntoRawFd};
 use std::rt::Clock;
 use std::{fs, rt};
@@ -14,8 +15,8 @@ use std::{fs, rt};
 pub struct RealFiles<'a, R> {
     rt: &'a R,
     failed: u64,
-    /// An append has failed.
-    torn: bool,
+    /// The names of the files of which a save or an append has failed.
+    spoilt: Vec<String>,
 }
 
 impl<R: rt::Files + AllocGlobal + Clock> RealFiles<'_, R>
@@ -25,14 +26,28 @@ where
     /// The files that the runtime reaches.
     pub fn new(rt: &R) -> RealFiles<'_, R>
         ensures faults { ⟦<RealFiles<'static, R> as Files>⟧.faults result ≡ 0 }
-        ensures torn { ⟦<RealFiles<'static, R> as Files>⟧.torn result ≡ false }
+        ensures spoilt { (name : List ℕ)
+            → ⟦<RealFiles<'static, R> as Files>⟧.spoilt result name ≡ false }
     {
         RealFiles {
             rt,
             failed: 0,
-            torn: false,
+            spoilt: Vec::new(rt.alloc()),
         }
     }
+}
+
+/// Makes room for one more name among those of the spoilt files, and gives the name. So a call that
+/// fails later has the memory to say so.
+fn make_room(spoilt: &mut Vec<String>, name: &str) -> Result<String, OutsideFault>
+    ensures named { IfOk result (λ held. string_bytes held ≡ name.now) }
+    ensures room { OnOk result (vec_len spoilt.new < vec_capacity spoilt.new) }
+    ensures same { spoilt.new.items ≡ spoilt.old.items }
+    ensures memory { IsErr result → IsErrOf result OutsideFault.Memory }
+{
+    let held = String::from_str(*spoilt.allocator(), name)?;
+    spoilt.reserve(1)?;
+    Ok(held)
 }
 
 impl<R: rt::Files + AllocGlobal + Clock> Files for RealFiles<'_, R>
@@ -45,7 +60,7 @@ where
 
     ghost faults = { λ f. f.failed };
 
-    ghost torn = { λ f. f.torn };
+    ghost spoilt = { λ f. is_spoilt (names_of f.spoilt.items) };
 
     /// A missing file, a directory, one that cannot be read and one that is too long are failures.
     fn load(&mut self, name: &str, into: &mut Vec<u8>) -> Result<(), OutsideFault> {
@@ -73,7 +88,9 @@ where
     /// Nothing waits for the disk. After a power cut the file may hold the old bytes or the new
     /// ones, and on some file systems a part of them.
     fn save(&mut self, name: &str, bytes: &[u8]) -> Result<(), OutsideFault> {
+        let held = make_room(&mut self.spoilt, name)?;
         let done = save_file(self.rt, name, bytes);
+        let done = keep_spoilt(&mut self.spoilt, held, done);
         count_failure(&mut self.failed, done)
     }
 
@@ -81,12 +98,13 @@ where
     /// The file is opened anew each time, so one that was replaced meanwhile is added to under its
     /// name.
     fn append(&mut self, name: &str, bytes: &[u8]) -> Result<(), OutsideFault> {
-        let done = if self.torn {
+        let held = make_room(&mut self.spoilt, name)?;
+        let done = if is_spoilt(&self.spoilt, name) {
             Err(OutsideFault::Failed)
         } else {
             append_file(self.rt, name, bytes)
         };
-        self.torn |= done == Err(OutsideFault::Failed);
+        let done = keep_spoilt(&mut self.spoilt, held, done);
         count_failure(&mut self.failed, done)
     }
 }
