@@ -1,7 +1,8 @@
 -- Entries that move to the tail and back.
 use Rattle.std.proofs.Common.{◌≡◌, ℕ, suc, ◌+◌, ◌<◌, ◌≤◌, true, false, List, [], ◌∷◌, ◌++◌, length, take, drop, get_or, refl, arith, ap, sym, ◌∙◌, add-one, drop-cons, append-nil, length-append, length-drop}
 use Rattle.std.specs.Prelude.{not, take_while}
-use Rattle.std.proofs.lemmas.List.{drop-drop, get_or-drop, get_or-take, take-take, take_more}
+use Rattle.std.proofs.Math.Seq.{get_or-append_seam, take-append_seam}
+use Rattle.std.proofs.lemmas.List.{drop-drop, get_or-drop, get_or-take, length-take-le, take-take, take_more}
 use Rattle.std.proofs.lemmas.List.Elements.{filter-append}
 use Rattle.std.proofs.lemmas.List.Sums.{take_while-cons}
 use Rattle.orca_base.specs.declared.command.Entry.{Entry}
@@ -14,17 +15,6 @@ drop-entry es m n e next within is =
     drop-cons es m e (omega arith)
     ∙ (ap (λ (x : Entry). x ∷ drop (suc m) es) is
     ∙ ap (λ (k : ℕ). e ∷ drop k es) (sym (add-one m) ∙ next))
-
--- what was done of the entries from it on
-pub done-from : (es : List Entry) (m n : ℕ) (e : Entry) → m + 1 ≡ n → n ≤ length es
-    → get_or es m e ≡ e → is_done e ≡ true → done_of (drop m es) ≡ e ∷ done_of (drop n es)
-done-from es m n e next within is done =
-    ap done_of (drop-entry es m n e next within is) ∙ rw done refl
-
-pub hush-from : (es : List Entry) (m n : ℕ) (e : Entry) → m + 1 ≡ n → n ≤ length es
-    → get_or es m e ≡ e → is_done e ≡ false → done_of (drop m es) ≡ done_of (drop n es)
-hush-from es m n e next within is hush =
-    ap done_of (drop-entry es m n e next within is) ∙ rw hush refl
 
 -- what was done with an entry more
 pub done-push : (es : List Entry) (e : Entry) → is_done e ≡ true
@@ -78,14 +68,22 @@ group-end es i e within is edit =
 
 -- ---- a step of the loop that cuts
 
--- the last of the first entries
-pub last-of : (all left : List Entry) (n m : ℕ) (e : Entry) → m + 1 ≡ n → n ≤ length all
-    → left ≡ take n all → get_or left m e ≡ e → get_or all m e ≡ e
-last-of all left n m e next within is last =
-    sym (get_or-take n all m e (omega arith)) ∙ (sym (ap (λ (es : List Entry). get_or es m e) is)
-    ∙ last)
+-- the last of the first entries was popped: what is left, and what was cut off so far
+pub record Pops (all less : List Entry) (n m : ℕ) (e : Entry) : Type 0 where
+  pub left : less ≡ take m all
+  pub cut : drop m all ≡ e ∷ drop n all
 
-pub left-taken : (all left less : List Entry) (n m : ℕ) → m ≤ n → left ≡ take n all
-    → less ≡ take m left → less ≡ take m all
-left-taken all left less n m below is less-is =
-    less-is ∙ (ap (take m) is ∙ take-take m n all below)
+pub pops : (all first less : List Entry) (n m : ℕ) (e : Entry) → m + 1 ≡ n → n ≤ length all
+    → first ≡ take n all → first ≡ less ++ e ∷ [] → Pops all less n m e
+pops all first less n m e next within is popped =
+    let same : less ++ e ∷ [] ≡ take n all = sym popped ∙ is in
+    let long : length less ≡ m =
+    omega (arith, ap length same, length-append less (e ∷ []), length-take-le n all within) in
+    let here : get_or all m e ≡ e =
+    sym (get_or-take n all m e (omega arith)) ∙ (sym (ap (λ (es : List Entry). get_or es m e) same)
+    ∙ rw (← long) (get_or-append_seam less e [] e)) in
+    record {
+      left = rw (← long) (sym (take-append_seam less (e ∷ []))
+          ∙ (ap (take (length less)) same ∙ take-take (length less) n all (omega arith)));
+      cut = drop-entry all m n e next within here;
+    }
