@@ -31,7 +31,7 @@ commands_before xs ys none = simp (commands_in-append, none, append-nil)
 pub command_once : (who : ℕ) (command : Command) (s : LiveState)
     → commands_in (hand_course who command s).acts ≡ command ∷ []
 unfolding hand_course obey_course onward mapped
-command_once who command s = simp (append-nil, handed_commands)
+command_once who command s = simp (handed_commands, commands_in-append)
 
 views_commands : (bytes : List ℕ) (cells : List Cell)
     → commands_in (view_sends bytes ++ Show cells ∷ []) ≡ []
@@ -168,7 +168,7 @@ unfolding hush_course silence_course onward mapped
 closes_with s acts none = record {
   commands = λ before.
       commands_before before ((hush_course s).acts ++ acts)
-      (commands_before (hush_course s).acts acts none ∙ simp (append-nil, handed_commands));
+      (commands_before (hush_course s).acts acts none ∙ simp (handed_commands, commands_in-append));
   given = refl;
   standing = refl;
 }

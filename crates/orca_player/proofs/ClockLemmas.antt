@@ -1,5 +1,5 @@
 -- Performances by a clock: how they end, and that how bytes are cut into answers changes no command.
-use Rattle.std.proofs.Common.{◌≡◌, ◌⊎◌, inl, inr, ℕ, ◌==◌, Bool, true, false, List, [], refl, ◌∙◌, ap, append-nil, arith}
+use Rattle.std.proofs.Common.{◌≡◌, ◌⊎◌, inl, inr, ℕ, ◌==◌, Bool, true, false, List, [], refl, ◌∙◌, ap, arith}
 use Rattle.std.specs.Prelude.{if◌then◌else◌, IfSome, Some}
 use Rattle.orca_base.specs.Ascii.{space}
 use Rattle.orca_base.specs.declared.command.Command.{Command}
@@ -7,13 +7,13 @@ use Rattle.orca_base.specs.declared.command.Command.TheVariants as command
 use Rattle.orca_clock.specs.Clocked.{end_course, clock_frame_course, last_text_course}
 use Rattle.orca_clock.specs.Followers.{Followed, beat_course, clock_byte_course, follow_course, follow_finish, follow_part}
 use Rattle.orca_clock.specs.Leaders.{Led, clocked_course, clock_due_course, lead_key_course, lead_course, lead_finish, lead_open, lead_part, quit, toggle_course}
-use Rattle.orca_concert.specs.Concerts.{Concert, close_course, command_course, final_course, handed_of}
+use Rattle.orca_concert.specs.Concerts.{Concert, close_course, command_course, final_course}
 use Rattle.orca_concert.specs.Manners.{Manner}
 use Rattle.orca_concert.proofs.EndingLemmas.{Ends}
 use Rattle.orca_course.specs.Acts.{commands_in}
 use Rattle.orca_course.specs.Courses.{Course, afterwards, ended, mapped, onward, still}
 use Rattle.orca_course.specs.Following.{sounding}
-use Rattle.orca_course.specs.Standings.{notes_of, standing_closed}
+use Rattle.orca_course.specs.Standings.{standing_closed}
 use Rattle.orca_course.specs.declared.ending.Ending.{Ending}
 use Rattle.orca_course.specs.declared.ending.Ending.TheVariants.{Lost, Spent, Stopped}
 use Rattle.orca_course.specs.declared.ending.Stop.{Stop}
@@ -21,7 +21,6 @@ use Rattle.orca_course.specs.declared.ending.Stop.TheVariants.{Full, Left, SongT
 use Rattle.orca_course.proofs.ActLemmas.{commands_in-append, handed_commands}
 use Rattle.orca_course.proofs.CourseLemmas.{each-kind}
 use Rattle.orca_course.proofs.PerformanceLemmas.{EndsWell, notes-standing_closed}
-use Rattle.orca_notes.specs.Sound.{ends}
 use Rattle.orca_reports.specs.Manners.{state_manner}
 use Rattle.orca_rig.specs.declared.inbox.Answer.{Answer}
 use Rattle.orca_rig.specs.declared.inbox.Answer.TheVariants as answer
@@ -157,9 +156,7 @@ end_closes ending s =
     let c = last_text_course state_manner ending s in
     record {
       commands = commands_in-append c.acts _
-          ∙ rw (text.commands, append-nil)
-          (handed_commands (handed_of true (ends (notes_of c.state.standing)))
-          (standing_closed c.state.standing));
+          ∙ rw text.commands (simp (handed_commands, commands_in-append));
       standing = ap standing_closed text.standing;
     }
 
