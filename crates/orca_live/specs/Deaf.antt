@@ -1,31 +1,22 @@
 -- A player does not ask the inbox: the loop alone does.
-use Rattle.std.proofs.Common.{ℕ, true, List, [], ◌∷◌, ◌++◌}
+use Rattle.std.proofs.Common.{ℕ, List, [], ◌∷◌, ◌++◌}
 use Rattle.std.specs.Prelude.{Option, Some, None}
 use Rattle.orca_base.specs.declared.command.Command.{Command}
 use Rattle.orca_base.specs.MarkSet.{MarkSet}
-use Rattle.orca_base.specs.Ports.{Sent}
-use Rattle.orca_concert.specs.Concerts.{close_course as silence_course, command_course as obey_course, handed_of}
-use Rattle.orca_course.specs.Acts.{Act, AreDeaf, gives}
-use Rattle.orca_course.specs.Acts.Act.{Show, Stand}
-use Rattle.orca_course.specs.Courses.{Course, mapped, onward}
+use Rattle.orca_concert.specs.Concerts.{concert_with}
+use Rattle.orca_concert.proofs.DeafLemmas.{close_is_deaf, command_is_deaf}
+use Rattle.orca_course.specs.Acts.{Act, AreDeaf}
+use Rattle.orca_course.specs.Acts.Act.{Show}
+use Rattle.orca_course.specs.Courses.{Course, mapped}
 use Rattle.orca_course.specs.Performers.{IsDeaf}
-use Rattle.orca_course.proofs.ActLemmas.{AreDeaf-append, AreDeaf-gives}
-use Rattle.orca_course.specs.Standings.{notes_of, standing_after, standing_closed}
+use Rattle.orca_course.proofs.ActLemmas.{AreDeaf-append}
 use Rattle.orca_course.specs.declared.ending.Stop.{Stop}
-use Rattle.orca_edit.specs.Obeying.{obey}
 use Rattle.orca_jam.specs.declared.denial.Denial.{Denial}
-use Rattle.orca_notes.specs.Sound.{ends}
 use Rattle.orca_term.specs.Viewing.{painting_bytes}
 use Rattle.orca_live.specs.Performing.{additions, hush_course, hand_course, denied_course, header_course, if_named, journal_course, lines_course, live_part, painted_course, picture_at, view_sends, write_course}
+use Rattle.orca_live.specs.Quiet.{silent_is_quiet, silent_manner}
 use Rattle.orca_live.specs.States.{LiveState}
 use Rattle.orca_live.specs.Carrying.{Carries, finish_carried, heard_carried, open_carried}
-
--- messages that are handed out, and where the run stands then
-deaf_handed : (sends : List Sent) (acts : List Act) → AreDeaf acts
-    → AreDeaf ((gives sends ++ acts) ++ [])
-deaf_handed sends acts deaf =
-    AreDeaf-append (gives sends ++ acts) []
-    (AreDeaf-append (gives sends) acts (AreDeaf-gives sends) deaf) tt
 
 deaf_views : (bytes : List ℕ) (acts : List Act) → AreDeaf acts → AreDeaf (view_sends bytes ++ acts)
 deaf_views [] acts deaf = deaf
@@ -33,10 +24,9 @@ deaf_views (byte ∷ bytes) acts deaf = deaf
 
 command_deaf : (who : ℕ) (command : Command) (s : LiveState)
     → AreDeaf (hand_course who command s).acts
-unfolding hand_course obey_course onward mapped
+unfolding hand_course mapped
 command_deaf who command s =
-    let o = obey s.standing.machine command in
-    deaf_handed (handed_of true o.messages) (Stand (standing_after s.standing o) ∷ []) tt
+    command_is_deaf silent_manner silent_is_quiet 0 command (concert_with s.standing tt)
 
 denied_deaf : (hand : ℕ) (denial : Denial) (s : LiveState)
     → AreDeaf (denied_course hand denial s).acts
@@ -44,10 +34,8 @@ unfolding denied_course
 denied_deaf hand denial s = tt
 
 close_deaf : (s : LiveState) → AreDeaf (hush_course s).acts
-unfolding hush_course silence_course onward mapped
-close_deaf s =
-    deaf_handed (handed_of true (ends (notes_of s.standing)))
-    (Stand (standing_closed s.standing) ∷ []) tt
+unfolding hush_course mapped
+close_deaf s = close_is_deaf silent_manner silent_is_quiet (concert_with s.standing tt)
 
 paint_deaf : (marks : List MarkSet) (s : LiveState) → AreDeaf (painted_course marks s).acts
 unfolding painted_course
