@@ -7,7 +7,7 @@ use Rattle.orca_base.specs.declared.command.Command.{Command}
 use Rattle.orca_base.specs.declared.command.Command.TheVariants as command
 use Rattle.orca_base.specs.declared.command.Rule.TheVariants.{HistoryFull, NoSuchMoment, NothingToRedo, NothingToUndo}
 use Rattle.orca_base.specs.Histories.{last_edit}
-use Rattle.orca_edit.specs.Obeying.{MachineState, Test, accept, adds_entry, block_tests, first_standing, has_no_room, jump_to, obey, piece_of, redo, redoes_nothing, rewinds_too_far, rule_against, test, undoes_nothing}
+use Rattle.orca_edit.specs.Obeying.{MachineState, Obeyed, Test, accept, adds_entry, block_tests, carry_out, clip_after, entry_of, first_standing, has_no_room, jump_to, obey, piece_of, redo, redoes_nothing, rewinds_too_far, rule_against, taken_area, test, undoes_nothing}
 
 -- where none of these tests stands, this one doesn't
 no-test : (before : List Test) (t : Test) (after : List Test)
@@ -89,3 +89,9 @@ pub obey-redo : (m : MachineState) → rule_against m command.Redo ≡ None
     → obey m command.Redo ≡ redo m
 unfolding obey accept
 obey-redo m allowed = rw allowed refl
+
+-- what is done with a command that is no jump
+abbrev pub entered : MachineState → Command → Obeyed
+entered m c =
+    let d = (piece_of m).sheet.dims in
+    carry_out m c (clip_after m.clip (piece_of m).sheet (taken_area d c)) (entry_of d m.clip c)

@@ -14,9 +14,9 @@ use Rattle.orca_base.specs.declared.place.Place.{Place}
 use Rattle.orca_base.specs.Grids.{Sheet}
 use Rattle.orca_base.specs.Histories.{is_edit, last_edit}
 use Rattle.orca_edit.specs.Machines.{is_jump}
-use Rattle.orca_edit.specs.Obeying.{MachineState, Obeyed, accept, carry_out, clip_after, entry_of, jump_to, obey, piece_of, place, rule_against, taken_area}
+use Rattle.orca_edit.specs.Obeying.{MachineState, accept, carry_out, clip_after, entry_of, jump_to, obey, piece_of, place, rule_against, taken_area}
 use Rattle.orca_edit.proofs.RedoLemmas.{plain-by}
-use Rattle.orca_edit.proofs.RuleLemmas.{obey-rewind, obey-undo, undoes_some}
+use Rattle.orca_edit.proofs.RuleLemmas.{entered, obey-rewind, obey-undo, undoes_some}
 use Rattle.orca_jam.specs.Crews.{CrewState, denial_of}
 use Rattle.orca_jam.specs.Denials.{not_yours}
 use Rattle.orca_jam.specs.Laws.{AreOwners, KeepsOwners, UndoSpares, edits_of_others, is_of_other}
@@ -261,12 +261,6 @@ undo_spares m c hand are shared denied allowed =
     undo-at m c hand i are last (own c hand shared denied some) (obey-undo m i allowed last))
 
 -- ---- every command
-
--- what is done with a command that is no jump
-abbrev entered : MachineState → Command → Obeyed
-entered m c =
-    let d = (piece_of m).sheet.dims in
-    carry_out m c (clip_after m.clip (piece_of m).sheet (taken_area d c)) (entry_of d m.clip c)
 
 -- the owners after such a command
 plain-keeps : (m : MachineState) (o : List Owner) (hand : ℕ) (c : Command)

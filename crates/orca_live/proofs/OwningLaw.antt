@@ -20,7 +20,7 @@ use Rattle.orca_course.specs.Courses.{Course, mapped, onward}
 use Rattle.orca_course.specs.Standings.{refusal_of, standing_after}
 use Rattle.orca_course.specs.declared.ending.Stop.{Stop}
 use Rattle.orca_edit.specs.Obeying.{MachineState, Obeyed, accept, adds_entry, carry_out, clip_after, entry_of, jump_to, obey, piece_of, refuse, rule_against, taken_area}
-use Rattle.orca_edit.proofs.RuleLemmas.{has-room, some-moment}
+use Rattle.orca_edit.proofs.RuleLemmas.{entered, has-room, some-moment}
 use Rattle.orca_jam.specs.Crews.{CrewState, denial_of, struck_by}
 use Rattle.orca_jam.specs.Laws.{edits_of_others}
 use Rattle.orca_jam.specs.declared.denial.Denial.{Denial}
@@ -64,12 +64,6 @@ taken_entry m c clip (Some e) room = record {
   limit = refl;
   fits = λ fits. omega (arith, length-append m.history (e ∷ []));
 }
-
--- what is done with a command that is no jump
-abbrev entered : MachineState → Command → Obeyed
-entered m c =
-    let d = (piece_of m).sheet.dims in
-    carry_out m c (clip_after m.clip (piece_of m).sheet (taken_area d c)) (entry_of d m.clip c)
 
 taken_entered : (m : MachineState) (c : Command) → rule_against m c ≡ None → adds_entry c ≡ true
     → accept m c ≡ entered m c → IsTaken m (accept m c)
