@@ -8,6 +8,8 @@ mod files;
 #[cfg(test)]
 mod outs;
 #[cfg(test)]
+mod saves;
+#[cfg(test)]
 mod tcp;
 #[cfg(test)]
 mod whole;
