@@ -54,7 +54,7 @@ impl<M: Machine, R: Report> Follow<M, R> {
             let s = (follow_state M.Machine.own R.Report.own self.old).concert.standing in
             Calls (gives (handed_of R.manner.hands (ends (notes_of s)))) result desk.old desk.new }
         ensures in_send { result ≢ Err NoMemory.Elsewhere }
-        // A device that follows it follows these sends too, and has no key at their end.
+        // A device that gets these ends too follows it still, and has no key on.
         ensures device {
             let s = (follow_state M.Machine.own R.Report.own self.old).concert.standing in
             Accompanies (Some s) (gives (sends_of (ends (notes_of s)))) (Some (standing_closed s)) }
@@ -170,7 +170,7 @@ fn hear<M: Machine, R: Report, H: House>(
     }
 }
 
-/// Tells where the run stands at last, and ends every note.
+/// Tells where the run stands at last, if the player has left, and ends every note.
 fn finish<M: Machine, R: Report, H: House>(
     follow: &mut Follow<M, R>,
     desk: &mut Desk<H>,

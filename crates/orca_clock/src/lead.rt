@@ -66,7 +66,7 @@ impl<M: Machine, R: Report> Lead<M, R> {
             let s = (lead_state M.Machine.own R.Report.own self.old).concert.standing in
             Calls (gives (handed_of R.manner.hands (ends (notes_of s)))) result desk.old desk.new }
         ensures in_send { result ≢ Err NoMemory.Elsewhere }
-        // A device that follows it follows these sends too, and has no key at their end.
+        // A device that gets these ends too follows it still, and has no key on.
         ensures device {
             let s = (lead_state M.Machine.own R.Report.own self.old).concert.standing in
             Accompanies (Some s) (gives (sends_of (ends (notes_of s)))) (Some (standing_closed s)) }
@@ -221,7 +221,8 @@ fn hear<M: Machine, R: Report, H: House>(
     }
 }
 
-/// Tells where the run stands at last, ends every note, and then gives the stop of the clock.
+/// Tells where the run stands at last, if the player has left, ends every note, and then gives the
+/// stop of the clock.
 fn finish<M: Machine, R: Report, H: House>(
     lead: &mut Lead<M, R>,
     desk: &mut Desk<H>,

@@ -42,13 +42,13 @@ held_in name acts = held_after name None acts
 
 -- a course keeps a journal under this name
 pub record KeepsJournal {S E : Type 0} (name : List ℕ) (seed : ℕ) (c : Course S E) : Type 0 where
-  -- wherever the inbox is asked, the file has the text of exactly the commands so far
+  -- wherever the inbox is asked, the file was given the text of exactly the commands so far
   pub asked : (xs ys : List Act) (poll : Poll) → c.acts ≡ xs ++ Await poll ∷ ys
       → held_in name xs ≡ Some (journal_text seed (commands_in xs))
-  -- wherever acts stop, it has a beginning of that: the other lines wait
+  -- wherever acts stop, it was given a beginning of that: the other lines wait
   pub begun : (xs ys : List Act) → c.acts ≡ xs ++ ys
       → IfSome (held_in name xs) (λ text. Extends text (journal_text seed (commands_in xs)))
-  -- and at the end it has the text of all of them
+  -- and at the end it was given the text of all of them
   pub ended : c.ending ≢ None
       → held_in name c.acts ≡ Some (journal_text seed (commands_in c.acts))
 

@@ -63,7 +63,7 @@ fn save_header<M: Machine, H: House>(
 
 /// Adds the lines that wait to the journal, if one is kept. A failure is recorded, and the
 /// performance goes on: nothing is added after it, since files refuse what comes after a failed
-/// append.
+/// save or append of the same name.
 #[tactic(auto, using(orca_course::proofs::WorldLemmas::called_still), unfolding(crate::specs::Performing::write_course))]
 pub(crate) fn write_journal<M: Machine, H: House>(
     live: &mut Live<'_, M>,

@@ -19,8 +19,9 @@ use Rattle.orca_player.specs.Outlines.{performed_outline}
 use Rattle.orca_player.specs.declared.status.Status.{Status}
 use Rattle.orca_player.specs.declared.status.Status.TheVariants.{Memory}
 
--- the notes that sound where a run stands were ended, unless a port refused memory to one of the
--- sends. A device that follows the run follows them too, and has no key at their end
+-- the notes that sound where a run stands were ended, where messages are handed out, unless a port
+-- refused memory to one of the sends. A device that follows the run follows them too, and has no key
+-- at their end
 pub record IsSilenced {T : Type 0} (hands : Bool) (at : Option Standing)
     (result : Result T NoMemory) (x y : World) : Type 0 where
   pub called : Calls (gives (handed_of hands (ends (sounding at)))) result x y

@@ -15,8 +15,8 @@ pub enum Status {
     /// A port failed, and all else was done.
     OutFault,
     /// A file could not be loaded: it is missing, unreadable, or more than
-    /// [`MAX_FILE_BYTES`](orca_base::limits::MAX_FILE_BYTES) bytes. Or a file could not be saved,
-    /// and all else was done.
+    /// [`MAX_FILE_BYTES`](orca_base::limits::MAX_FILE_BYTES) bytes. Or a file could not be saved
+    /// or added to, and all else was done.
     FileFault,
     /// The script has a line outside its grammar: the first such line and the column where it
     /// leaves the grammar, both counted from 1.

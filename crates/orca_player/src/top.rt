@@ -44,13 +44,13 @@ use std::alloc::Global;
 ///
 /// The named ports are attached in the order MIDI, UDP, OSC, then the grid is loaded and read, and
 /// then the script of `replay`, whose lines are all read before the first command is done. The
-/// messages of each command are sent at once, one by one. At the end the text of the word is
-/// printed, every note ends, and `play` and `jam` save. While they play, they add their commands to their
-/// journal. `smf` and `wav` hand no message out, and save last. `migrate` loads a script, reads all its
-/// lines, and saves it.
+/// messages of each command are sent at once, one by one. At the end, unless it comes early, the text
+/// of the word is printed, every note ends, and `play` and `jam` save. While they play, they add their
+/// commands to their journal. `smf` and `wav` hand no message out, and save last. `migrate` loads a
+/// script, reads all its lines, and saves it.
 ///
 /// A port that fails does not end the run: if all else was done, the status is
-/// [`Status::OutFault`]. Neither does a save, with [`Status::FileFault`]. A status other than 0 sends
+/// [`Status::OutFault`]. Neither does a save or an append, with [`Status::FileFault`]. A status other than 0 sends
 /// one line on the fault port, as the last send.
 ///
 /// Out of memory is [`Status::Memory`], in one of three ways. A port refused it to a send: then a
@@ -86,8 +86,9 @@ pub fn run<H: House>(alloc: Global, words: &Vec<String>, desk: &mut Desk<H>) -> 
     ensures cutting { CutsAlike (map string_bytes words.now.items) }
     ensures replays { ReplaysAlike (map string_bytes words.now.items) }
 
-    // Whenever the inbox of a performance is asked, its journal has the line of the seed and the
-    // lines of exactly the commands so far. Wherever the run stops, it has a beginning of that.
+    // Whenever the inbox of a performance is asked, its journal has been given the line of the seed
+    // and the lines of exactly the commands so far. Wherever the run stops, it has been given a
+    // beginning of that.
     ensures journals { KeepsJournals (map string_bytes words.now.items) }
 
     // A run that follows a clock does the commands of all bytes that it hears, however they were cut

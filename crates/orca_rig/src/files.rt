@@ -62,8 +62,7 @@ pub trait Files: Drop {
     /// Adds the bytes at the end of the file of that name, which is there. After
     /// [`OutsideFault::Failed`] a beginning of them was added. After [`OutsideFault::Memory`] all
     /// are as before. Once a save or an append of a file has failed, no later append adds to that
-    /// file: it may be an older one, or end in a piece that was cut off. Other files take appends
-    /// as before.
+    /// file: it may be an older one, or end in a piece that was cut off. No other file is spoilt.
     fn append(&mut self, name: &str, bytes: &[u8]) -> Result<(), OutsideFault>
         ensures appended { IsAppended result name.now bytes.now
             (contents self.old) (contents self.new) }

@@ -1,4 +1,4 @@
-ghost use Rattle.std.specs.Prelude.{◌≡◌, ◌+◌, min, ◌<◌, ◌≤◌, ◌^◌, [], ◌∷◌, ◌++◌, true, false, ◌⊎◌, ℕ, List, IsNone, length, position, string_bytes, vec_len, vec_capacity, Some, IsTrue, IfSome, IfNone, IfOk, OnOk, OnErr, IsErrOf};
+ghost use Rattle.std.specs.Prelude.{◌≡◌, ◌+◌, min, ◌<◌, ◌≤◌, ◌^◌, [], ◌∷◌, ◌++◌, true, false, ◌⊎◌, ℕ, List, IsNone, length, position, string_bytes, vec_len, vec_capacity, Some, IsTrue, IfSome, IfNone, IsOk, IfOk, OnOk, OnErr, IsErrOf};
 ghost use Rattle.std.specs.Str.{bytes_eq};
 ghost use Rattle.std.specs.Option.{option_copied};
 ghost use Rattle.orca_base.specs.declared.limits.TheConstants.{MAX_FILE_BYTES};
@@ -58,6 +58,7 @@ impl MemFiles {
     pub fn new(contents: Vec<(String, Vec<u8>)>, fail: Vec<u64>) -> Result<MemFiles, Memory>
         // No name stands twice.
         requires { IsTrue (names_differ (named contents.items)) }
+        ensures made { IsOk result }
         ensures contents { IfOk result (λ files. files.contents ≡ files_of contents.items) }
         ensures asked { IfOk result (λ files. files.asked ≡ []) }
         ensures fail { IfOk result (λ files. files.fail ≡ fail.items) }

@@ -1,4 +1,4 @@
-ghost use Rattle.std.specs.Prelude.{◌≡◌, ◌+◌, min, ◌≤◌, ◌↔◌, ◌<◌, ◌^◌, [], ◌∷◌, ◌++◌, length, slice_get, IsTrue, IsNone, Some, true, false, IfOk, OnOk, OnErr, IsErr, IsErrOf};
+ghost use Rattle.std.specs.Prelude.{◌≡◌, ◌+◌, min, ◌≤◌, ◌↔◌, ◌<◌, ◌^◌, [], ◌∷◌, ◌++◌, length, slice_get, IsTrue, IsNone, Some, true, false, IsOk, IfOk, OnOk, OnErr, IsErr, IsErrOf};
 ghost use Rattle.std.specs.Option.{option_map};
 ghost use Rattle.orca_rig.specs.Outside.{Rose, after_call, last_count};
 ghost use Rattle.orca_rig.specs.InMemory.{sents, attaches, sends_to, attaches_to, is_port_to_fail};
@@ -35,6 +35,7 @@ impl MemOuts {
     /// fail, by their port and their number among the attaches and sends of that port, counted from
     /// 1.
     pub fn new(fail: Vec<(Port, u64)>) -> Result<MemOuts, Memory>
+        ensures made { IsOk result }
         ensures handed { IfOk result (λ outs. outs.handed ≡ []) }
         ensures attached { IfOk result (λ outs. outs.attached ≡ []) }
         ensures fail { IfOk result (λ outs. outs.fail ≡ fail.items) }

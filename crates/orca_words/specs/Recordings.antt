@@ -25,7 +25,7 @@ RecordsWithoutPorts setup (Wav wave) = IsPortless setup
 RecordsWithoutPorts setup _ = Unit {0}
 
 -- the journal of a performance has no name of another file of it: that of the grid, of one that is
--- saved at the end, of its keys, or of its MIDI port
+-- saved at the end, of its address, or of its MIDI port
 abbrev pub HasOwnJournal : Setup → Work → Type 0
 HasOwnJournal setup (Play play) = IfSome play.journal (λ name.
     (name ≢ setup.grid) × IfSome play.save (λ other. name ≢ other)

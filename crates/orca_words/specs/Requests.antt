@@ -187,7 +187,7 @@ is_same_name (Some one) None = false
 is_same_name (Some one) (Some other) = bytes_eq one other
 
 -- a performance, unless its journal has the name of its grid, of one that is saved at the end, of
--- its keys, or of its MIDI port
+-- its address, or of its MIDI port
 unfoldable pub with_own_journal : List Row → Performance → Option Performance
 with_own_journal found play =
     if is_same_name play.journal (Some (positional_text found (codes "GRID")))

@@ -14,8 +14,8 @@ pub fn plain_words_law()
     ensures replay { AsksToReplay (codes "replay") }
 {}
 
-/// The journal of a performance is no other file of it: neither that of the grid, nor one that is
-/// saved at the end.
+/// The journal of a performance has no name of another file of it: that of the grid, of one that is
+/// saved at the end, of its address, or of its MIDI port.
 #[tactic(auto, using(crate::proofs::RecordedWork::owns_journals))]
 pub fn own_journal_law()
     ensures { OwnsJournals }

@@ -272,8 +272,8 @@ fn leading<'a>(found: &ArgMatches<'a>) -> Option<Leading<'a>>
 }
 
 /// The performance, unless its journal has the name of its grid, of one that is saved at the end,
-/// of its keys, or of its MIDI port. A save there would drop what was added, or the journal would
-/// be played.
+/// of its address, or of its MIDI port. A save there would drop what was added, or the journal
+/// would be played, or take the port's name.
 #[tactic(auto, unfolding(crate::specs::Requests::with_own_journal))]
 fn with_own_journal<'a>(found: &ArgMatches<'a>, play: Performance<'a>) -> Option<Performance<'a>>
     ensures { option_map performance_in result
