@@ -87,7 +87,7 @@ look_at_save() {
     full_name "$2"
     [ ! -d "$full" ] && [[ $2 != */ ]] || fails "$1: this is a folder, and a file is wanted"
     [ ! -L "$full" ] || fails "$1: this link leads to itself"
-    [ ! -e "$2" ] || [ -w "$2" ] || fails "$1: this may not be written, so --save has to give another name"
+    [ ! -e "$2" ] || [ -w "$2" ] || fails "$1: this may not be written: give another name, by --save for a piece"
     [ ! -p "$2" ] || [ -r "$2" ] || fails "$1: this pipe may not be read, and a save needs the right to do both"
     [ -f "$2" ] || [ ! -e "$2" ] || return 0
     [ -d "${full%/*}/" ] || fails "$1: there is no folder ${full%/*}"

@@ -1,7 +1,7 @@
 # For ./perform, which sources this: what was typed reaches the disk. While a piece is played there is a room beside it, a
 # folder that nobody else can enter. It has the piece as it was, the pipe of the keys, and the journal, a script of all
-# commands so far, whose replay gives the grid. At the end the script comes once more, in a second room: in memory, which is
-# never full of other files. A performance that is saved removes its rooms; another one leaves one of them.
+# commands so far, whose replay gives the grid. At the end the script comes once more, in a second room: in memory, where a
+# full disk does not matter. A performance that is saved removes its rooms; another one leaves one of them.
 
 # The room that stays.
 kept=
@@ -97,11 +97,11 @@ count_edits() {
 }
 
 # replayed: the grid after the script of standard input. Of what a replay prints the grid alone has no spaces.
-replayed() {
-    local limit
+replayed() (
+    set -o pipefail
     limit=$(<"$room/limit")
     "$program" replay ${limit:+"--limit=$limit"} -- "$room/piece" /dev/stdin 2>/dev/null | sed '/ /d'
-}
+)
 
 # has_grid FILE: it has the grid after the script of standard input
 has_grid() {
@@ -201,15 +201,19 @@ save_script() {
 # finish: after the program has ended, lines say what is saved where, and what is not saved stays in a room. Then $status
 # is that of this script.
 finish() {
-    # A program that was killed has saved no script, but a journal.
-    [ -s "$script" ] || whole_lines "$room/journal" >"$script" 2>/dev/null
+    # A program that was killed has saved no script, but a journal. The second room may be full.
+    [ -s "$script" ] || for script in "$script" "$room/script"; do
+        ! whole_lines "$room/journal" >"$script" || break
+    done 2>/dev/null
     if [ ! -s "$script" ]; then
         say "the program has kept no commands, so what was not saved is lost"
         return
     fi
     tell_grid || kept=$room
     save_script || kept=$room
-    [ -z "$kept" ] || cat "$script" >"$room/script" 2>/dev/null || kept=$quick
+    [ -z "$kept" ] || [ "$script" = "$room/script" ] || cat "$script" >"$room/script" 2>/dev/null || kept=$quick
+    # All notes have been ended, so a recovery need not.
+    [ -z "$kept" ] || : >"$kept/midi"
 }
 
 # find_room: whether a performance of this piece has left a room, which no other one has; then it is $room, with $script
