@@ -62,14 +62,15 @@ impl<M: Machine, R: Report> Lead<M, R> {
 
     /// Ends all notes that sound, if memory was refused.
     pub fn close_early<H: House>(&mut self, desk: &mut Desk<H>) -> Result<(), NoMemory>
-        ensures called {
-            let s = (lead_state M.Machine.own R.Report.own self.old).concert.standing in
-            Calls (gives (handed_of R.manner.hands (ends (notes_of s)))) result desk.old desk.new }
+        ensures called { let s = lead_state M.Machine.own R.Report.own self.old in
+            Calls (gives (handed_of R.manner.hands (ends (notes_of s.concert.standing))))
+            result desk.old desk.new }
         ensures in_send { result ≢ Err NoMemory.Elsewhere }
         // A device that gets these ends too follows it still, and has no key on.
-        ensures device {
-            let s = (lead_state M.Machine.own R.Report.own self.old).concert.standing in
-            Accompanies (Some s) (gives (sends_of (ends (notes_of s)))) (Some (standing_closed s)) }
+        ensures device { let s = lead_state M.Machine.own R.Report.own self.old in
+            Accompanies (Some s.concert.standing)
+            (gives (sends_of (ends (notes_of s.concert.standing))))
+            (Some (standing_closed s.concert.standing)) }
     {
         close_early(&mut self.stage, desk)
     }

@@ -57,8 +57,8 @@ fn follow_all<M: Machine, R: Report, H: House>(
     desk: &mut Desk<H>,
 ) -> Status
     requires open { has_ended desk.old ≡ false }
-    requires begins {
-        notes_of (follow_state M.Machine.own R.Report.own follow.old).concert.standing ≡ [] }
+    requires begins { let s = follow_state M.Machine.own R.Report.own follow.old in
+        notes_of s.concert.standing ≡ [] }
     requires residue { follow_residue M.Machine.own follow.old ≡ 0 }
     ensures { CameBy (λ b. followed R.manner
         (follow_state M.Machine.own R.Report.own follow.old) b.polls)

@@ -59,8 +59,8 @@ fn start<H: House>(opening: &Opening, bpm: u16, at: u64, desk: &mut Desk<H>) -> 
 /// Plays until the performance ends, and answers how the run ends.
 fn lead_all<M: Machine, R: Report, H: House>(lead: &mut Lead<M, R>, desk: &mut Desk<H>) -> Status
     requires open { has_ended desk.old ≡ false }
-    requires begins {
-        notes_of (lead_state M.Machine.own R.Report.own lead.old).concert.standing ≡ [] }
+    requires begins { let s = lead_state M.Machine.own R.Report.own lead.old in
+        notes_of s.concert.standing ≡ [] }
     requires residue { lead_residue M.Machine.own lead.old ≡ 0 }
     ensures { CameBy (λ b. led R.manner (lead_state M.Machine.own R.Report.own lead.old) b.polls)
         desk.old result desk.new }
