@@ -13,6 +13,7 @@ ghost use Rattle.orca_rig.specs.InMemory.{named, files_of, asks_of, ask_of, name
 use crate::{Files, OutsideFault, is_spoilt, keep_spoilt};
 use orca_base::Memory;
 use orca_base::limits::MAX_FILE_BYTES;
+use std::alloc::{AllocError, Global};
 use std::marker::Model;
 
 /// A call of a store: a load of the file of a name, a save of bytes under a name, or an append of
@@ -152,21 +153,40 @@ fn is_to_fail(to_fail: &[u64], calls: &[Call]) -> bool
     to_fail.contains(&number)
 }
 
-/// Keeps a call that fails, and counts it.
+/// Keeps a call that fails, and counts it. There is room for it.
 fn keep_failed(calls: &mut Vec<Call>, failed: &mut u64, call: Call) -> OutsideFault
-    ensures kept { result ≡ OutsideFault.Failed → calls.new.items ≡ calls.old.items ++ call ∷ [] }
+    requires { vec_len calls.old < vec_capacity calls.old }
+    ensures failed { result ≡ OutsideFault.Failed }
+    ensures kept { calls.new.items ≡ calls.old.items ++ call ∷ [] }
     ensures count { failed.old ≤ failed.new }
-    ensures counted { result ≡ OutsideFault.Failed → failed.new ≡ min (failed.old + 1) last_count }
-    ensures memory { result ≡ OutsideFault.Memory → calls.new.items ≡ calls.old.items }
-    ensures steady { result ≡ OutsideFault.Memory → failed.new ≡ failed.old }
+    ensures counted { failed.new ≡ min (failed.old + 1) last_count }
 {
-    match calls.push(call) {
-        Ok(()) => {
-            *failed = failed.saturating_add(1);
-            OutsideFault::Failed
-        }
-        Err(_) => OutsideFault::Memory,
-    }
+    calls.push_reserved(call);
+    *failed = failed.saturating_add(1);
+    OutsideFault::Failed
+}
+
+/// A save, as it is kept.
+fn save_call(alloc: Global, name: &str, bytes: &[u8]) -> Result<Call, AllocError>
+    ensures { IfOk result (λ call. ask_of call ≡ Save name.now bytes.now) }
+{
+    Ok(Call::Save(String::from_str(alloc, name)?, bytes.to_vec(alloc)?))
+}
+
+/// An append, as it is kept.
+fn append_call(alloc: Global, name: &str, bytes: &[u8]) -> Result<Call, AllocError>
+    ensures { IfOk result (λ call. ask_of call ≡ Append name.now bytes.now) }
+{
+    Ok(Call::Append(String::from_str(alloc, name)?, bytes.to_vec(alloc)?))
+}
+
+/// The bytes of a file with more at their end.
+fn joined(alloc: Global, held: &[u8], more: &[u8]) -> Result<Vec<u8>, AllocError>
+    ensures { IfOk result (λ all. all.items ≡ held.now ++ more.now) }
+{
+    let mut all = held.to_vec(alloc)?;
+    all.extend_from_slice(more)?;
+    Ok(all)
 }
 
 impl Files for MemFiles {
@@ -204,6 +224,7 @@ impl Files for MemFiles {
         ensures quiet { self.old.fail ≡ []
             → self.old.faults < self.new.faults → IsUnloadable self.old.contents name.now }
     {
+        self.calls.reserve(1)?;
         let alloc = *into.allocator();
         let call = Call::Load(String::from_str(alloc, name)?);
         if is_to_fail(&self.to_fail, &self.calls) {
@@ -212,9 +233,8 @@ impl Files for MemFiles {
         let Some(bytes) = loadable(&self.files, name) else {
             return Err(keep_failed(&mut self.calls, &mut self.failed, call));
         };
-        let loaded = bytes.to_vec(alloc)?;
-        self.calls.push(call)?;
-        *into = loaded;
+        *into = bytes.to_vec(alloc)?;
+        self.calls.push_reserved(call);
         Ok(())
     }
 
@@ -242,17 +262,18 @@ impl Files for MemFiles {
             → self.new.faults ≡ min (self.old.faults + 1) last_count }
         ensures quiet { self.old.fail ≡ [] → self.new.faults ≡ self.old.faults }
     {
-        let alloc = *self.files.allocator();
-        let call = Call::Save(String::from_str(alloc, name)?, bytes.to_vec(alloc)?);
-        let held = String::from_str(alloc, name)?;
+        self.calls.reserve(1)?;
+        self.files.reserve(1)?;
         self.spoilt.reserve(1)?;
+        let alloc = *self.files.allocator();
+        let call = save_call(alloc, name, bytes)?;
+        let held = String::from_str(alloc, name)?;
         if is_to_fail(&self.to_fail, &self.calls) {
             let fault = keep_failed(&mut self.calls, &mut self.failed, call);
             return keep_spoilt(&mut self.spoilt, held, Err(fault));
         }
         let kept = bytes.to_vec(alloc)?;
-        self.files.reserve(1)?;
-        self.calls.push(call)?;
+        self.calls.push_reserved(call);
         put_file(&mut self.files, held, kept);
         Ok(())
     }
@@ -285,19 +306,19 @@ impl Files for MemFiles {
         ensures counted { IsErrOf result OutsideFault.Failed
             → self.new.faults ≡ min (self.old.faults + 1) last_count }
     {
-        let alloc = *self.files.allocator();
-        let call = Call::Append(String::from_str(alloc, name)?, bytes.to_vec(alloc)?);
-        let own = String::from_str(alloc, name)?;
+        self.calls.reserve(1)?;
+        self.files.reserve(1)?;
         self.spoilt.reserve(1)?;
+        let alloc = *self.files.allocator();
+        let call = append_call(alloc, name, bytes)?;
+        let own = String::from_str(alloc, name)?;
         let fails = is_spoilt(&self.spoilt, name) || is_to_fail(&self.to_fail, &self.calls);
         let (Some(held), false) = (bytes_of(&self.files, name), fails) else {
             let fault = keep_failed(&mut self.calls, &mut self.failed, call);
             return keep_spoilt(&mut self.spoilt, own, Err(fault));
         };
-        let mut kept = held.to_vec(alloc)?;
-        kept.extend_from_slice(bytes)?;
-        self.files.reserve(1)?;
-        self.calls.push(call)?;
+        let kept = joined(alloc, held, bytes)?;
+        self.calls.push_reserved(call);
         put_file(&mut self.files, own, kept);
         Ok(())
     }
