@@ -166,6 +166,25 @@ fn keep_failed(calls: &mut Vec<Call>, failed: &mut u64, call: Call) -> OutsideFa
     OutsideFault::Failed
 }
 
+/// Takes the room of a save or an append: for its call, for a new file, and for a spoilt name.
+fn take_room(
+    calls: &mut Vec<Call>,
+    files: &mut Vec<(String, Vec<u8>)>,
+    spoilt: &mut Vec<String>,
+) -> Result<(), AllocError>
+    ensures calls { calls.new.items ≡ calls.old.items }
+    ensures files { files.new.items ≡ files.old.items }
+    ensures spoilt { spoilt.new.items ≡ spoilt.old.items }
+    ensures a_call { OnOk result (vec_len calls.new < vec_capacity calls.new) }
+    ensures a_file { OnOk result (vec_len files.new < vec_capacity files.new) }
+    ensures a_name { OnOk result (vec_len spoilt.new < vec_capacity spoilt.new) }
+{
+    calls.reserve(1)?;
+    files.reserve(1)?;
+    spoilt.reserve(1)?;
+    Ok(())
+}
+
 /// A save, as it is kept.
 fn save_call(alloc: Global, name: &str, bytes: &[u8]) -> Result<Call, AllocError>
     ensures { IfOk result (λ call. ask_of call ≡ Save name.now bytes.now) }
@@ -227,10 +246,8 @@ impl Files for MemFiles {
         self.calls.reserve(1)?;
         let alloc = *into.allocator();
         let call = Call::Load(String::from_str(alloc, name)?);
-        if is_to_fail(&self.to_fail, &self.calls) {
-            return Err(keep_failed(&mut self.calls, &mut self.failed, call));
-        }
-        let Some(bytes) = loadable(&self.files, name) else {
+        let fails = is_to_fail(&self.to_fail, &self.calls);
+        let (Some(bytes), false) = (loadable(&self.files, name), fails) else {
             return Err(keep_failed(&mut self.calls, &mut self.failed, call));
         };
         *into = bytes.to_vec(alloc)?;
@@ -262,9 +279,7 @@ impl Files for MemFiles {
             → self.new.faults ≡ min (self.old.faults + 1) last_count }
         ensures quiet { self.old.fail ≡ [] → self.new.faults ≡ self.old.faults }
     {
-        self.calls.reserve(1)?;
-        self.files.reserve(1)?;
-        self.spoilt.reserve(1)?;
+        take_room(&mut self.calls, &mut self.files, &mut self.spoilt)?;
         let alloc = *self.files.allocator();
         let call = save_call(alloc, name, bytes)?;
         let held = String::from_str(alloc, name)?;
@@ -306,9 +321,7 @@ impl Files for MemFiles {
         ensures counted { IsErrOf result OutsideFault.Failed
             → self.new.faults ≡ min (self.old.faults + 1) last_count }
     {
-        self.calls.reserve(1)?;
-        self.files.reserve(1)?;
-        self.spoilt.reserve(1)?;
+        take_room(&mut self.calls, &mut self.files, &mut self.spoilt)?;
         let alloc = *self.files.allocator();
         let call = append_call(alloc, name, bytes)?;
         let own = String::from_str(alloc, name)?;
