@@ -180,11 +180,17 @@ fn portless_setup<'a>(found: &ArgMatches<'a>) -> Option<Setup<'a>>
 fn setup<'a>(found: &ArgMatches<'a>) -> Option<Setup<'a>>
     ensures { option_map setup_in result ≡ setup_of (rows_in found.now) }
 {
-    let mut setup = portless_setup(found)?;
-    setup.midi = option_text(found, "midi");
-    setup.udp = option_text(found, "udp");
-    setup.osc = option_text(found, "osc");
-    Some(setup)
+    let Setup {
+        grid, seed, limit, ..
+    } = portless_setup(found)?;
+    Some(Setup {
+        grid,
+        seed,
+        limit,
+        midi: option_text(found, "midi"),
+        udp: option_text(found, "udp"),
+        osc: option_text(found, "osc"),
+    })
 }
 
 /// The frames, the tempo and the file of a run that is saved as a song or as sound.

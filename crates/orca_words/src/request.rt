@@ -6,7 +6,7 @@ ghost use Rattle.orca_base.specs.declared.limits.TheConstants.{MAX_BPM, MAX_COLU
 ghost use Rattle.orca_words.specs.declared.limits.TheConstants.{MAX_MADE_FRAMES};
 
 /// What the words ask for.
-#[derive(Debug, PartialEq, Eq, Drop)]
+#[derive(Drop)]
 pub enum Request<'a> {
     /// Work on a grid that is loaded.
     Perform { setup: Setup<'a>, work: Work<'a> },
@@ -17,7 +17,7 @@ pub enum Request<'a> {
 }
 
 /// The grid and the options of a run.
-#[derive(Debug, PartialEq, Eq, Drop)]
+#[derive(Drop)]
 pub struct Setup<'a> {
     /// The name of the grid's file.
     pub grid: &'a str,
@@ -35,7 +35,7 @@ pub struct Setup<'a> {
 }
 
 /// What is done on a grid.
-#[derive(Debug, PartialEq, Eq, Drop)]
+#[derive(Drop)]
 pub enum Work<'a> {
     /// The word `run`: frames are played, and the last grid is shown.
     Run { frames: u32 },
@@ -59,7 +59,7 @@ pub enum Work<'a> {
 
 /// Where keys come from and which they are, how many hands share the session, where pictures go to, how fast
 /// frames are played, and what is saved, at the end and while it plays.
-#[derive(Debug, PartialEq, Eq, Drop)]
+#[derive(Drop)]
 pub struct Performance<'a> {
     /// The address at which the keys arrive.
     pub address: &'a str,
@@ -89,7 +89,7 @@ pub struct Performance<'a> {
 }
 
 /// How many frames are played, how fast, and what they are saved to.
-#[derive(Debug, PartialEq, Eq, Drop)]
+#[derive(Drop)]
 pub struct Recording<'a> {
     /// The frames that are played.
     pub frames: u32,
@@ -101,7 +101,7 @@ pub struct Recording<'a> {
 }
 
 /// Where the keys of a player come from, and how fast a clock is given.
-#[derive(Debug, PartialEq, Eq, Drop)]
+#[derive(Drop)]
 pub struct Leading<'a> {
     /// The address at which the keys arrive.
     pub address: &'a str,
@@ -111,7 +111,7 @@ pub struct Leading<'a> {
 }
 
 /// A script that is saved in format 2.
-#[derive(Debug, PartialEq, Eq, Drop)]
+#[derive(Drop)]
 pub struct Migration<'a> {
     /// The name of the script's file.
     pub script: &'a str,
@@ -122,7 +122,7 @@ pub struct Migration<'a> {
 }
 
 /// A grid and commands that are generated.
-#[derive(Clone, Copy, Debug, PartialEq, Eq)]
+#[derive(Clone, Copy)]
 pub struct Workload {
     /// The seed of the generator and of the random operator.
     pub seed: u32,
