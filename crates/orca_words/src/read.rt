@@ -181,7 +181,10 @@ fn setup<'a>(found: &ArgMatches<'a>) -> Option<Setup<'a>>
     ensures { option_map setup_in result ≡ setup_of (rows_in found.now) }
 {
     let Setup {
-        grid, seed, limit, ..
+        grid,
+        seed,
+        limit,
+        ..
     } = portless_setup(found)?;
     Some(Setup {
         grid,

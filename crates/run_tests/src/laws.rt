@@ -1,5 +1,6 @@
 //! The laws of devices and of performances, which stand with the program.
 
+use orca_clock::clock_law;
 use orca_course::device_law;
 use orca_live::{
     appending_law, cutting_law, hands_law, journal_law, painting_law, script_law, solo_law,
@@ -8,6 +9,7 @@ use orca_live::{
 #[test]
 fn the_laws_can_be_called(rt: HostRuntime) {
     device_law();
+    clock_law();
     appending_law();
     cutting_law();
     script_law();
