@@ -20,7 +20,7 @@ fn a_copy_stays_when_the_grid_is_changed(rt: HostRuntime) -> Result<(), Fail> {
 
 #[test]
 fn refusals_are_shown(rt: HostRuntime) -> Result<(), Fail> {
-    for (refusal, want) in [
+    for (refusal, want) in &[
         (GridRefusal::BadByte { offset: 0 }, "bad byte at 0"),
         (
             GridRefusal::BadByte { offset: u32::MAX },
@@ -33,7 +33,7 @@ fn refusals_are_shown(rt: HostRuntime) -> Result<(), Fail> {
         (GridRefusal::Memory, "memory was refused"),
     ] {
         let text = format!(in rt.alloc(); "{refusal}")?;
-        assert!(rt; text.as_str() == want, "{text} and not {want}");
+        assert!(rt; text.as_str() == *want, "{text} and not {want}");
     }
     Ok(())
 }

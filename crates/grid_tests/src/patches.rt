@@ -27,14 +27,14 @@ fn change<L: Ledger>(
     inverse_law();
     board.begin(steps);
     let dims = Bench::dims(board);
-    for size in [
+    for size in &[
         Dims { h: 1, w: 2 },
         Dims { h: 3, w: 3 },
         Dims { h: 3, w: 3 },
     ] {
         board.write(Place { y: 1, x: 2 }.here(), Glyph::BANG, steps);
         board.write(Place { y: 0, x: 0 }.here(), Glyph::BANG, steps);
-        board.set_dims(size, steps);
+        board.set_dims(*size, steps);
     }
     let _now = Bench::dims(board);
     let patch = Patch::of_changes(alloc, dims, 7, board.changes())?;

@@ -166,9 +166,9 @@ fn read_arrival(alloc: Global, rest: &str) -> Result<MemAnswer> {
 
 /// The port of that name.
 fn read_port(name: &str) -> Result<Port> {
-    for port in PORTS {
+    for port in &PORTS {
         if port.name() == name {
-            return Ok(port);
+            return Ok(*port);
         }
     }
     bail!("these cases have no port {name:?}")

@@ -28,7 +28,7 @@ fn a_pipe_brings_its_bytes_and_its_end(rt: HostRuntime) {
 
 #[test]
 fn a_file_is_one_hand_and_is_there(rt: HostRuntime) {
-    for (name, hands) in [
+    for (name, hands) in &[
         ("/dev/null", 2),
         ("missing", 1),
         ("/no:where", 1),
@@ -37,7 +37,7 @@ fn a_file_is_one_hand_and_is_there(rt: HostRuntime) {
         ("/dev/null,no address", 2),
     ] {
         let mut inbox = RealInbox::new(&rt);
-        let start = inbox.listen_hands(name, hands);
+        let start = inbox.listen_hands(*name, *hands);
         assert!(rt; start == Err(OutsideFault::Failed), "{name}");
     }
 }

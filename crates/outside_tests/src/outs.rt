@@ -71,15 +71,15 @@ fn ports_of_the_system_answer(rt: HostRuntime) {
 #[test]
 fn a_device_gets_a_byte_at_a_time(rt: HostRuntime) {
     let message = b"\x90\x30\x3f".as_slice();
-    for (name, count) in [("/dev/null", 1), ("rig_plain", 3)] {
+    for (name, count) in &[("/dev/null", 1), ("rig_plain", 3)] {
         let mut options = OpenOptions::new();
         let file = options
             .write(true)
             .create(true)
-            .open(&rt, name)
+            .open(&rt, *name)
             .expect(&rt, "a file");
         let gate = Gate::of_messages(&file).expect(&rt, "a gate");
-        assert_eq!(rt; gate.piece_of(message).len(), count);
+        assert_eq!(rt; gate.piece_of(message).len(), *count);
     }
     fs::remove_file(&rt, "rig_plain").expect(&rt, "a removal");
 }

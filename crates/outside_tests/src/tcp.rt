@@ -194,8 +194,8 @@ where
     requires { room.old.inbox.ended ≡ false }
 {
     let outs = make_outs(rt, rt.alloc());
-    for step in STEPS {
-        room.step(rt, &outs, step);
+    for step in &STEPS {
+        room.step(rt, &outs, *step);
     }
     assert!(rt; room.last(&outs) == Answer::End);
 }

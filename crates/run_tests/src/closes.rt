@@ -72,6 +72,16 @@ fn check_clock<H: House>(rt: &impl Abort, alloc: Global, desk: &mut Desk<H>) -> 
     check_machine(rt, alloc, session, desk)
 }
 
+/// Looks at what was handed out.
+fn check_handed<L: Ledger>(rt: &impl Abort, desk: &MemDesk<L>, wanted: &[(Port, &'static [u8])]) {
+    let mut index = 0u64;
+    for (port, bytes) in wanted {
+        assert_eq!(rt; desk.outs().handed_at(index), Some((*port, *bytes)));
+        index = index.saturating_add(1);
+    }
+    assert_eq!(rt; desk.outs().handed_at(index), None);
+}
+
 /// Does so, and looks at what was handed out.
 fn check_ports<L: Ledger>(
     rt: &impl Abort,
@@ -79,12 +89,7 @@ fn check_ports<L: Ledger>(
     desk: &mut MemDesk<L>,
 ) -> Result<(), Fail> {
     check_clock(rt, alloc, desk)?;
-    let mut index = 0u64;
-    for handed in HANDED {
-        assert_eq!(rt; desk.outs().handed_at(index), Some(handed));
-        index = index.saturating_add(1);
-    }
-    assert_eq!(rt; desk.outs().handed_at(index), None);
+    check_handed(rt, desk, &HANDED);
     Ok(())
 }
 

@@ -193,8 +193,8 @@ const RUNS: [Run; 11] = [
 
 #[test]
 fn a_send_that_is_refused_memory_ends_the_run(rt: HostRuntime) -> Result<(), Fail> {
-    for wanted in RUNS {
-        try_run::<Brand>(&rt, rt.alloc(), wanted, Blank::new(1))?;
+    for wanted in &RUNS {
+        try_run::<Brand>(&rt, rt.alloc(), *wanted, Blank::new(1))?;
     }
     Ok(())
 }

@@ -96,11 +96,25 @@ fn glyph_in(jam: &Jam<Session>, x: u16) -> u8 {
     0
 }
 
-#[test]
-fn an_undo_takes_no_edit_of_another_hand(rt: HostRuntime) -> Result<(), Fail> {
-    let mut jam = two_hands(rt.alloc())?;
-    let mut messages = Messages::start(rt.alloc())?;
+/// Hands press keys at this session.
+fn press(
+    rt: &impl Abort,
+    alloc: Global,
+    jam: &mut Jam<Session>,
+    strokes: &[Stroke],
+) -> Result<(), Fail> {
+    let mut messages = Messages::start(alloc)?;
+    strike::<Brand>(rt, jam, &mut messages, strokes, Blank::new(1));
+    Ok(())
+}
+
+/// Both hands write a glyph, and take back their own alone.
+fn check_undo(rt: &impl Abort, alloc: Global, jam: &mut Jam<Session>) -> Result<(), Fail> {
     let (seven, eight) = (Glyph::from_value(7), Glyph::from_value(8));
+    let none = JamFault::Refused {
+        command: Command::Undo,
+        rule: Rule::NothingToUndo,
+    };
     let strokes = [
         (0, Key::Glyph(seven), written(0, seven)),
         (1, RIGHT, Ok(JamReply::Moved)),
@@ -109,28 +123,22 @@ fn an_undo_takes_no_edit_of_another_hand(rt: HostRuntime) -> Result<(), Fail> {
         (0, Key::Undo, Err(JamFault::NotYours { hand: 1 })),
         (1, Key::Undo, undone(1)),
         (0, Key::Undo, undone(0)),
-        (
-            1,
-            Key::Undo,
-            Err(JamFault::Refused {
-                command: Command::Undo,
-                rule: Rule::NothingToUndo,
-            }),
-        ),
+        (1, Key::Undo, Err(none)),
     ];
-    strike::<Brand>(&rt, &mut jam, &mut messages, &strokes, Blank::new(1));
-    assert!(rt; glyph_in(&jam, 0) == b'.' && glyph_in(&jam, 1) == b'.');
+    press(rt, alloc, jam, &strokes)?;
+    assert!(rt; glyph_in(jam, 0) == b'.' && glyph_in(jam, 1) == b'.');
     let (hand, edit) = (NOBODY, false);
     assert!(rt; jam.owner(0) == Some(Owner { hand, edit }) && jam.owner(1) == None);
-    let line = Denial::NotYours { hand: 1 }.line(0);
-    assert!(rt; line.as_slice() == b"hand 0 refused NotYours 1\n".as_slice());
     Ok(())
 }
 
 #[test]
-fn some_keys_are_the_first_hands(rt: HostRuntime) -> Result<(), Fail> {
-    let mut jam = two_hands(rt.alloc())?;
-    let mut messages = Messages::start(rt.alloc())?;
+fn an_undo_takes_no_edit_of_another_hand(rt: HostRuntime) -> Result<(), Fail> {
+    check_undo(&rt, rt.alloc(), &mut two_hands(rt.alloc())?)
+}
+
+/// The second hand presses keys of the first one, which then writes a glyph and quits.
+fn check_keys(rt: &impl Abort, alloc: Global, jam: &mut Jam<Session>) -> Result<(), Fail> {
     let seven = Glyph::from_value(7);
     let grow = Key::Arrow {
         deed: Deed::Grow,
@@ -149,30 +157,41 @@ fn some_keys_are_the_first_hands(rt: HostRuntime) -> Result<(), Fail> {
         (0, Key::Glyph(seven), written(0, seven)),
         (0, Key::Quit, Ok(JamReply::Quit)),
     ];
-    strike::<Brand>(&rt, &mut jam, &mut messages, &strokes, Blank::new(1));
-    assert!(rt; glyph_in(&jam, 0) == b'7');
-    let line = Denial::LeaderOnly.line(1);
-    assert!(rt; line.as_slice() == b"hand 1 refused LeaderOnly\n".as_slice());
+    press(rt, alloc, jam, &strokes)?;
+    assert!(rt; glyph_in(jam, 0) == b'7');
     Ok(())
 }
+
+#[test]
+fn some_keys_are_the_first_hands(rt: HostRuntime) -> Result<(), Fail> {
+    check_keys(&rt, rt.alloc(), &mut two_hands(rt.alloc())?)
+}
+
+#[test]
+fn denials_are_lines(rt: HostRuntime) {
+    let line = Denial::NotYours { hand: 1 }.line(0);
+    assert!(rt; line.as_slice() == b"hand 0 refused NotYours 1\n".as_slice());
+    let line = Denial::LeaderOnly.line(1);
+    assert!(rt; line.as_slice() == b"hand 1 refused LeaderOnly\n".as_slice());
+}
+
+/// Bytes of two hands, in the order in which they come.
+const MIXED: [(u8, u8); 6] = [
+    (0, 0x1B),
+    (0, b'['),
+    (1, b'7'),
+    (0, b'C'),
+    (0, 0x1B),
+    (1, 0x1B),
+];
 
 #[test]
 fn sequences_of_two_hands_do_not_mix(rt: HostRuntime) -> Result<(), Fail> {
     let mut crew = Crew::start(rt.alloc(), false, 2, 4_000_000)?;
     let mut keys = [None; 6];
-    for (i, (hand, byte)) in [
-        (0, 0x1B),
-        (0, b'['),
-        (1, b'7'),
-        (0, b'C'),
-        (0, 0x1B),
-        (1, 0x1B),
-    ]
-    .into_iter()
-    .enumerate()
-    {
-        if hand < crew.hands() && i < keys.len() {
-            keys[i] = crew.feed(false, hand, byte);
+    for (i, (hand, byte)) in MIXED.iter().enumerate() {
+        if *hand < crew.hands() && i < keys.len() {
+            keys[i] = crew.feed(false, *hand, *byte);
         }
     }
     let glyph = Some(Key::Glyph(Glyph::from_value(7)));
