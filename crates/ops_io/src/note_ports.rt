@@ -2,7 +2,7 @@ ghost use Rattle.std.specs.Prelude.{◌≡◌, ◌+◌, false};
 ghost use Rattle.orca_base.specs.Glyphs.{note_number};
 ghost use Rattle.orca_op.specs.EventRules.{port, note_with, midi_key, velocity_of};
 
-use orca_base::limits::{MAX_CHANNEL, MAX_DATA, MAX_OCTAVE};
+use orca_base::limits::{DEFAULT_VELOCITY, MAX_CHANNEL, MAX_DATA, MAX_OCTAVE};
 use orca_base::{Event, Glyph, Place, Steps};
 use orca_op::{Bench, value_or};
 use std::sync::ledger::Ledger;
@@ -69,12 +69,13 @@ fn key_of(octave: Glyph, number: u8) -> u8
     key.min(u16::from(MAX_DATA)) as u8
 }
 
-/// The velocity of a glyph: 127 where it is missing, and otherwise 8 times its value, less 1, 127 at most.
+/// The velocity of a glyph: the default where it is missing, and otherwise 8 times its value, less 1,
+/// 127 at most.
 fn velocity_of(glyph: Glyph) -> u8
     ensures { result ≡ velocity_of glyph }
 {
     if glyph == Glyph::EMPTY {
-        return MAX_DATA;
+        return DEFAULT_VELOCITY;
     }
     let velocity = (8 * u16::from(glyph.value())).saturating_sub(1);
     velocity.min(u16::from(MAX_DATA)) as u8

@@ -64,6 +64,9 @@ pub const MAX_DIGITS: usize = 10;
 /// The least velocity of a note that starts. A velocity of 0 would end it (MIDI 1.0, note on).
 pub const MIN_VELOCITY: u8 = 7;
 
+/// The velocity of a note that is given none: the loudest.
+pub const DEFAULT_VELOCITY: u8 = MAX_DATA;
+
 /// The most deeds of one visit.
 pub const MAX_DEEDS: usize = 512;
 

@@ -2,7 +2,7 @@
 use Rattle.std.specs.Prelude.{ℕ, zero, suc, ◌+◌, ◌-◌, ◌*◌, ◌/◌, ◌==◌, ◌&&◌, ◌||◌, not, Bool, true, false, nat_lt, min, if◌then◌else◌, List, [], ◌∷◌, ◌++◌, length, map, Option, Some, None, unwrap_or}
 use Rattle.orca_base.specs.declared.event.Event.{Event}
 use Rattle.orca_base.specs.declared.event.Event.TheVariants.{Note, Control, Bend, Udp, Osc}
-use Rattle.orca_base.specs.declared.limits.TheConstants.{BASE, MAX_CHANNEL, MAX_DATA, MAX_OCTAVE, MAX_TEXT}
+use Rattle.orca_base.specs.declared.limits.TheConstants.{BASE, DEFAULT_VELOCITY, MAX_CHANNEL, MAX_DATA, MAX_OCTAVE, MAX_TEXT}
 use Rattle.orca_base.specs.declared.now.Now.{Now}
 use Rattle.orca_base.specs.declared.place.Place.{Place}
 use Rattle.orca_base.specs.Glyphs.{empty, is_digit, is_upper, is_lower, value, note_number}
@@ -39,9 +39,10 @@ ports s at from (suc n) = ports s at from n ++ port s at (n + from) ∷ []
 abbrev pub midi_key : ℕ → ℕ → ℕ
 midi_key octave number = min MAX_DATA (12 * min MAX_OCTAVE (value octave) + number)
 
--- the velocity of a glyph: the loudest where it is missing
+-- the velocity of a glyph: the default where it is missing
 abbrev pub velocity_of : ℕ → ℕ
-velocity_of glyph = if glyph == empty then MAX_DATA else min MAX_DATA (8 * value glyph - 1)
+velocity_of glyph =
+    if glyph == empty then DEFAULT_VELOCITY else min MAX_DATA (8 * value glyph - 1)
 
 -- the channel of a note: the greatest where the value is greater
 abbrev pub channel_of : ℕ → ℕ
