@@ -109,49 +109,30 @@ row_cut scene y left inside columns fits outside =
     ∙ one_from f blank_cell inside (columns - inside)
     (λ x from to. cond-false _ _ _ (outside x from (omega arith)))
 
--- the ruler's test, where the guide or its row is known
-off_by : (guide row column empty faint : Bool) → (guide && row) ≡ false
-    → (guide && (row && column) && empty && faint) ≡ false
-off_by false row column empty faint off = refl
-off_by true false column empty faint off = refl
-off_by true true column empty faint off = cc
+-- the ruler's test, by whether it goes through the row
+by_row : (guide row column empty faint ruled : Bool) → (guide && row) ≡ ruled
+    → (guide && (row && column) && empty && faint) ≡ (ruled && column && empty && faint)
+by_row false row column empty faint ruled is = ap (λ r. r && column && empty && faint) is
+by_row true false column empty faint ruled is = ap (λ r. r && column && empty && faint) is
+by_row true true column empty faint ruled is = ap (λ r. r && column && empty && faint) is
 
-on_by : (guide row column empty faint : Bool) → (guide && row) ≡ true
-    → (guide && (row && column) && empty && faint) ≡ (column && empty && faint)
-on_by false row column empty faint on = cc
-on_by true false column empty faint on = cc
-on_by true true column empty faint on = refl
-
--- a place of the grid in a row without the ruler, and in one with it
-abbrev pub bare_cell : Scene → Place → Cell
-bare_cell scene at = record { byte = glyph_at scene.sheet at; style = style_at scene at }
-
-pub plain_place : (scene : Scene) (at : Place) → is_inside scene.sheet.dims at ≡ true
-    → (scene.editor.guide && at.y % RULER_PLACES == 0) ≡ false
-    → bare_cell scene at ≡ grid_cell scene at
-unfolding grid_cell
-plain_place scene at inside off =
-    sym (cond-true _ _ _ inside
-    ∙ ap (λ (byte : ℕ). let c : Cell = record { byte = byte; style = style_at scene at } in c)
-    (cond-false _ _ _ (off_by scene.editor.guide (at.y % RULER_PLACES == 0)
-    (at.x % RULER_PLACES == 0) (glyph_at scene.sheet at == empty) (style_at scene at == faint)
-    off)))
-
-pub ruled_place : (scene : Scene) (at : Place) → is_inside scene.sheet.dims at ≡ true
-    → (scene.editor.guide && at.y % RULER_PLACES == 0) ≡ true
-    → record (bare_cell scene at) {
-      byte = if at.x % RULER_PLACES == 0 && glyph_at scene.sheet at == empty
+-- a place of the grid, by whether the ruler goes through its row
+pub row_place : (scene : Scene) (at : Place) (ruled : Bool) → is_inside scene.sheet.dims at ≡ true
+    → (scene.editor.guide && at.y % RULER_PLACES == 0) ≡ ruled
+    → (record {
+      byte = if ruled && at.x % RULER_PLACES == 0 && glyph_at scene.sheet at == empty
           && style_at scene at == faint then plus else glyph_at scene.sheet at;
-    } ≡ grid_cell scene at
+      style = style_at scene at;
+    }) ≡ grid_cell scene at
 unfolding grid_cell
-ruled_place scene at inside on =
+row_place scene at ruled inside is =
     sym (cond-true _ _ _ inside
     ∙ ap (λ (b : Bool). let c : Cell = record {
       byte = if b then plus else glyph_at scene.sheet at;
       style = style_at scene at;
     } in c)
-    (on_by scene.editor.guide (at.y % RULER_PLACES == 0) (at.x % RULER_PLACES == 0)
-    (glyph_at scene.sheet at == empty) (style_at scene at == faint) on))
+    (by_row scene.editor.guide (at.y % RULER_PLACES == 0) (at.x % RULER_PLACES == 0)
+    (glyph_at scene.sheet at == empty) (style_at scene at == faint) ruled is))
 
 -- the first rows of the screen
 abbrev pub rows_before : ScreenSize → Scene → List ℕ → ℕ → List Cell

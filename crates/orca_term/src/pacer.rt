@@ -70,7 +70,7 @@ impl Pacer {
         requires parts { 1 ≤ parts }
         ensures { result ≡ parts_from parts bpm at }
     {
-        let interval = interval_of(bpm, parts);
+        let interval = interval(bpm, parts);
         Pacer {
             bpm,
             parts,
@@ -96,7 +96,7 @@ impl Pacer {
         ensures { self.new ≡ retimed bpm self.old }
     {
         let from = self.due.saturating_sub(self.interval);
-        let interval = interval_of(bpm, self.parts);
+        let interval = interval(bpm, self.parts);
         self.bpm = bpm;
         self.interval = interval;
         self.due = from.saturating_add(interval);
@@ -124,7 +124,7 @@ impl Pacer {
 }
 
 /// The interval between two parts of a beat.
-fn interval_of(bpm: u16, parts: u8) -> u64
+fn interval(bpm: u16, parts: u8) -> u64
     requires some { 1 ≤ bpm }
     requires parts { 1 ≤ parts }
     ensures { result ≡ interval bpm parts }

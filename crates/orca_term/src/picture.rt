@@ -13,7 +13,7 @@ ghost use Rattle.orca_term.specs.Picture.{IsPrintable, IsPrintableByte, IsScreen
 
 use crate::limits::RULER_PLACES;
 use crate::status::status_text;
-use crate::styles::{FAINT, PLAIN, style_in_colours, style_of};
+use crate::styles::{FAINT, PLAIN, style_by};
 use crate::window::page_of;
 use crate::{Cell, Editor, ScreenSize, StatusLine};
 use orca_base::{Glyph, Look, Place};
@@ -128,40 +128,16 @@ fn push_places<T: Look>(cells: &mut Vec<Cell>, look: &T, editor: &Editor, at: Pl
     ensures room { vec_capacity cells.new ≡ vec_capacity cells.old }
 {
     if !editor.guide {
-        push_plain_places(cells, look, editor, at, end);
+        push_cells::<T, false, false>(cells, look, editor, at, end);
     } else if at.y % RULER_PLACES == 0 {
-        push_ruled_places(cells, look, editor, at, end);
+        push_cells::<T, true, true>(cells, look, editor, at, end);
     } else {
-        push_coloured_places(cells, look, editor, at, end);
+        push_cells::<T, true, false>(cells, look, editor, at, end);
     }
 }
 
-/// The same without the guide. What is the same for all cells is worked out before.
-fn push_plain_places<T: Look>(cells: &mut Vec<Cell>, look: &T, editor: &Editor, at: Place, end: u16)
-    requires room { vec_len cells.old + (end - at.x) ≤ vec_capacity cells.old }
-    requires inside { IsInside (T.sheet look.now).dims at }
-    requires order { at.x ≤ end }
-    requires fits { end ≤ (T.sheet look.now).dims.w }
-    requires printable { All IsPrintable cells.old.items }
-    requires plain { editor.now.guide ≡ false }
-    ensures places { let scene = scene_of (T.sheet look.now) (T.marks look.now) editor.now in
-        cells.new.items ≡ cells.old.items ++ map
-        (λ x. grid_cell scene (record { y = at.y; x = at.x + x }))
-        (range_with_len 0 (end - at.x)) }
-    ensures len { vec_len cells.new ≡ vec_len cells.old + (end - at.x) }
-    ensures printable { All IsPrintable cells.new.items }
-    ensures room { vec_capacity cells.new ≡ vec_capacity cells.old }
-{
-    let selected = editor.columns_at(at.y);
-    for x in at.x..end {
-        let here = Place { y: at.y, x };
-        let is_selected = selected.contains(&u32::from(x));
-        cells.push_reserved(place_cell(look, is_selected, here));
-    }
-}
-
-/// The same in colours, in a row without the ruler.
-fn push_coloured_places<T: Look>(
+/// The same, where it is known whether the guide shows, and whether the ruler goes through the row.
+fn push_cells<T: Look, const GUIDED: bool, const RULED: bool>(
     cells: &mut Vec<Cell>,
     look: &T,
     editor: &Editor,
@@ -173,8 +149,8 @@ fn push_coloured_places<T: Look>(
     requires order { at.x ≤ end }
     requires fits { end ≤ (T.sheet look.now).dims.w }
     requires printable { All IsPrintable cells.old.items }
-    requires guided { editor.now.guide ≡ true }
-    requires bare { at.y % RULER_PLACES ≢ 0 }
+    requires guided { editor.now.guide ≡ GUIDED }
+    requires ruled { (editor.now.guide && at.y % RULER_PLACES == 0) ≡ RULED }
     ensures places { let scene = scene_of (T.sheet look.now) (T.marks look.now) editor.now in
         cells.new.items ≡ cells.old.items ++ map
         (λ x. grid_cell scene (record { y = at.y; x = at.x + x }))
@@ -187,32 +163,8 @@ fn push_coloured_places<T: Look>(
     for x in at.x..end {
         let here = Place { y: at.y, x };
         let is_selected = selected.contains(&u32::from(x));
-        cells.push_reserved(coloured_cell(look, is_selected, here));
-    }
-}
-
-/// The same in colours, in a row with the ruler.
-fn push_ruled_places<T: Look>(cells: &mut Vec<Cell>, look: &T, editor: &Editor, at: Place, end: u16)
-    requires room { vec_len cells.old + (end - at.x) ≤ vec_capacity cells.old }
-    requires inside { IsInside (T.sheet look.now).dims at }
-    requires order { at.x ≤ end }
-    requires fits { end ≤ (T.sheet look.now).dims.w }
-    requires printable { All IsPrintable cells.old.items }
-    requires guided { editor.now.guide ≡ true }
-    requires ruled { at.y % RULER_PLACES ≡ 0 }
-    ensures places { let scene = scene_of (T.sheet look.now) (T.marks look.now) editor.now in
-        cells.new.items ≡ cells.old.items ++ map
-        (λ x. grid_cell scene (record { y = at.y; x = at.x + x }))
-        (range_with_len 0 (end - at.x)) }
-    ensures len { vec_len cells.new ≡ vec_len cells.old + (end - at.x) }
-    ensures printable { All IsPrintable cells.new.items }
-    ensures room { vec_capacity cells.new ≡ vec_capacity cells.old }
-{
-    let selected = editor.columns_at(at.y);
-    for x in at.x..end {
-        let here = Place { y: at.y, x };
-        let is_selected = selected.contains(&u32::from(x));
-        cells.push_reserved(ruled(coloured_cell(look, is_selected, here), x));
+        let cell = place_cell(look, GUIDED, is_selected, here);
+        cells.push_reserved(ruled_cell(RULED, cell, x));
     }
 }
 
@@ -258,11 +210,11 @@ fn status_cell(text: &[u8], x: u32) -> Cell
     }
 }
 
-/// The glyph and the style of a place of the grid, without colours.
-fn place_cell<T: Look>(look: &T, selected: bool, at: Place) -> Cell
+/// The glyph and the style of a place of the grid.
+fn place_cell<T: Look>(look: &T, guided: bool, selected: bool, at: Place) -> Cell
     requires inside { IsInside (T.sheet look.now).dims at }
     ensures cell { (editor : Editor) → is_in_area (area_of editor) at ≡ selected
-        → editor.guide ≡ false
+        → editor.guide ≡ guided
         → result ≡ record {
           byte = glyph_at (T.sheet look.now) at;
           style = style_at (scene_of (T.sheet look.now) (T.marks look.now) editor) at;
@@ -272,38 +224,21 @@ fn place_cell<T: Look>(look: &T, selected: bool, at: Place) -> Cell
     let glyph = look.glyph_at(at);
     Cell {
         byte: glyph.byte(),
-        style: style_of(selected, look.marks_at(at), glyph),
+        style: style_by(guided, selected, look.marks_at(at), glyph),
     }
 }
 
-/// The same in colours.
-fn coloured_cell<T: Look>(look: &T, selected: bool, at: Place) -> Cell
-    requires inside { IsInside (T.sheet look.now).dims at }
-    ensures cell { (editor : Editor) → is_in_area (area_of editor) at ≡ selected
-        → editor.guide ≡ true
-        → result ≡ record {
-          byte = glyph_at (T.sheet look.now) at;
-          style = style_at (scene_of (T.sheet look.now) (T.marks look.now) editor) at;
-        } }
-    ensures printable { IsPrintable result }
-{
-    let glyph = look.glyph_at(at);
-    Cell {
-        byte: glyph.byte(),
-        style: style_in_colours(selected, look.marks_at(at), glyph),
-    }
-}
-
-/// What a column of the ruler shows in place of a cell: the ruler where the place is empty and faint.
-fn ruled(cell: Cell, x: u16) -> Cell
+/// What a column shows, in a row that the ruler goes through or does not: the ruler in place of the
+/// cell where that is empty and faint.
+fn ruled_cell(ruled: bool, cell: Cell, x: u16) -> Cell
     requires { IsPrintable cell }
     ensures cell { result ≡ record cell {
-      byte = if x % RULER_PLACES == 0 && cell.byte == empty && cell.style == faint
+      byte = if ruled && x % RULER_PLACES == 0 && cell.byte == empty && cell.style == faint
           then plus else cell.byte;
     } }
     ensures printable { IsPrintable result }
 {
-    if x % RULER_PLACES == 0 && cell.byte == Glyph::EMPTY.byte() && cell.style == FAINT {
+    if ruled && x % RULER_PLACES == 0 && cell.byte == Glyph::EMPTY.byte() && cell.style == FAINT {
         return Cell { byte: b'+', ..cell };
     }
     cell

@@ -157,12 +157,12 @@ fn state_word(paused: bool) -> &'static [u8]
 }
 
 /// What became of the last command.
-fn refusal_word(note: &Option<Rule>) -> &'static [u8]
-    ensures word { result.now ≡ refusal_word note.now }
+fn refusal_word(refusal: &Option<Rule>) -> &'static [u8]
+    ensures word { result.now ≡ refusal_word refusal.now }
     ensures printable { All IsPrintableByte result.now }
     ensures short { length result.now ≤ RULE_NAME_BYTES }
 {
-    match note {
+    match refusal {
         None => b"ok",
         Some(rule) => rule.name().as_bytes(),
     }

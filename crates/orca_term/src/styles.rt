@@ -47,66 +47,45 @@ static COLOURS: [u8; 128] = [
     0, 0, 0, 0, 0,
 ];
 
-/// The style of a place without colours.
-pub(crate) fn style_of(selected: bool, marks: Marks, glyph: Glyph) -> u8
-    ensures { result ≡ style_by false selected marks glyph }
+/// The style of a place, with colours where the guide shows.
+pub(crate) fn style_by(guided: bool, selected: bool, marks: Marks, glyph: Glyph) -> u8
+    ensures { result ≡ style_by guided selected marks glyph }
 {
     if selected {
         REVERSED
     } else if marks.is_empty() {
         // Most places have no mark, and one test is enough for them.
-        style_of_glyph(glyph)
+        glyph_style(guided, glyph)
     } else if marks.has(Mark::Output) {
-        BOLD
+        output_style(guided, glyph)
     } else if marks.has(Mark::Input) {
         UNDERLINED
     } else if marks.has(Mark::Lock) || marks.has(Mark::Sleep) {
         FAINT
     } else {
-        style_of_glyph(glyph)
+        glyph_style(guided, glyph)
     }
 }
 
 /// The style of a glyph where neither the selection nor a mark gives one.
-fn style_of_glyph(glyph: Glyph) -> u8
-    ensures { result ≡ style_by false false no_marks glyph }
+#[tactic(auto, using(crate::proofs::Colours::colour_table))]
+fn glyph_style(guided: bool, glyph: Glyph) -> u8
+    ensures { result ≡ style_by guided false no_marks glyph }
 {
-    if glyph == Glyph::EMPTY { FAINT } else { PLAIN }
-}
-
-/// The style of a place in colours.
-pub(crate) fn style_in_colours(selected: bool, marks: Marks, glyph: Glyph) -> u8
-    ensures { result ≡ style_by true selected marks glyph }
-{
-    if selected {
-        REVERSED
-    } else if marks.is_empty() {
-        // Most places have no mark, and one test is enough for them.
-        colour_of(glyph)
-    } else if marks.has(Mark::Output) {
-        output_colour(glyph)
-    } else if marks.has(Mark::Input) {
-        UNDERLINED
-    } else if marks.has(Mark::Lock) || marks.has(Mark::Sleep) {
+    if guided {
+        COLOURS[usize::from(glyph.byte())]
+    } else if glyph == Glyph::EMPTY {
         FAINT
     } else {
-        colour_of(glyph)
+        PLAIN
     }
 }
 
-/// The style of a glyph in colours where neither the selection nor a mark gives one.
-#[tactic(auto, using(crate::proofs::Colours::colour_table))]
-fn colour_of(glyph: Glyph) -> u8
-    ensures { result ≡ style_by true false no_marks glyph }
+/// The style of an output.
+fn output_style(guided: bool, glyph: Glyph) -> u8
+    ensures { result ≡ style_by guided false (record no_marks { output = true }) glyph }
 {
-    COLOURS[usize::from(glyph.byte())]
-}
-
-/// The style of an output in colours.
-fn output_colour(glyph: Glyph) -> u8
-    ensures { result ≡ style_by true false (record no_marks { output = true }) glyph }
-{
-    if glyph == Glyph::BANG {
+    if guided && glyph == Glyph::BANG {
         BRIGHT_RED
     } else {
         BOLD

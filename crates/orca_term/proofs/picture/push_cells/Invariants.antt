@@ -2,7 +2,7 @@ use Rattle.std.proofs.Common.{◌≡◌, ◌+◌, ◌-◌, ◌++◌, map}
 use Rattle.std.specs.List.{All, range_with_len}
 use Rattle.std.specs.Vec.{vec_len, vec_capacity}
 use Rattle.orca_term.specs.Picture.{IsPrintable, scene_of, grid_cell}
-use Rattle.orca_term.proofs.picture.push_coloured_places.Given as goal
+use Rattle.orca_term.proofs.picture.push_cells.Given as goal
 
 abbrev pub invariant-loop-x : goal.invariant-loop-x
 invariant-loop-x g l = record {

@@ -1,13 +1,12 @@
-use Rattle.std.proofs.Common.{◌≡◌, ℕ, ◌+◌, ◌-◌, ◌++◌, ◌∙◌, ◌&&◌, ◌%◌, ◌==◌, true, false, nat_le, nat_lt, map, sym, ap, rules, arith}
+use Rattle.std.proofs.Common.{◌≡◌, ℕ, ◌+◌, ◌-◌, ◌++◌, ◌∙◌, ◌&&◌, true, nat_le, nat_lt, map, sym, ap, rules, arith}
 use Rattle.std.specs.List.{range_with_len}
 use Rattle.std.proofs.lemmas.List.Elements.{All-push}
 use Rattle.orca_base.specs.Grids.{is_inside}
 use Rattle.orca_base.specs.declared.place.Place.{Place}
 use Rattle.orca_term.specs.Picture.{IsPrintable, scene_of, grid_cell}
 use Rattle.orca_term.specs.declared.cell.Cell.{Cell}
-use Rattle.orca_term.specs.declared.limits.TheConstants.{RULER_PLACES}
-use Rattle.orca_term.proofs.DrawnRows.{cell_more, plain_place}
-use Rattle.orca_term.proofs.picture.push_coloured_places.Goals as goal
+use Rattle.orca_term.proofs.DrawnRows.{cell_more, row_place}
+use Rattle.orca_term.proofs.picture.push_cells.Goals as goal
 
 pub loop-x-preserved : goal.loop-x-preserved
 loop-x-preserved g c =
@@ -25,24 +24,22 @@ loop-x-preserved g c =
     search (rules, arith) in
     let inside : is_inside scene.sheet.dims here ≡ true = search (rules, arith) in
     let bare =
-    c.coloured_cell.ensures.cell c.args.editor.now
+    c.place_cell-cell.ensures.cell c.args.editor.now
     (c.columns_at-selected.ensures c.loop-x.x ∙ selected) c.requires.guided in
-    let off : (c.args.editor.now.guide && c.args.at.y % RULER_PLACES == 0) ≡ false =
-    search (rules, arith) in
-    let cell : c.coloured_cell.result ≡ f done =
-    bare
-    ∙ (plain_place scene here inside off
+    let cell : c.ruled_cell.result ≡ f done =
+    (rw bare at c.ruled_cell.ensures.cell)
+    ∙ (row_place scene here _ inside c.requires.ruled
     ∙ ap (λ x. grid_cell scene (record { y = c.args.at.y; x = x })) (sym column)) in
     record {
       cells =
           cell_more f done c.args.cells.now.items c.loop-x.cells.items
-          c.push_reserved.new.self.items c.coloured_cell.result c.loop-x.invariant.cells cell
+          c.push_reserved.new.self.items c.ruled_cell.result c.loop-x.invariant.cells cell
           c.push_reserved.ensures.items
           ∙ ap (λ n. c.args.cells.now.items ++ map f (range_with_len 0 n)) (sym next);
       len = omega arith;
       printable =
           rw c.push_reserved.ensures.items
-          (All-push IsPrintable c.loop-x.cells.items c.coloured_cell.result
-          c.loop-x.invariant.printable c.coloured_cell.ensures.printable);
+          (All-push IsPrintable c.loop-x.cells.items c.ruled_cell.result
+          c.loop-x.invariant.printable c.ruled_cell.ensures.printable);
       room = omega arith;
     }
