@@ -15,7 +15,8 @@ use std::marker::Model;
 use std::snapshot::Snapshot;
 use std::sync::ledger::Ledger;
 
-/// A bench over plain lists: the slow form, which looks at each place.
+/// A bench over plain lists: the slow form, which looks at each place. No run uses it; tests and the
+/// stored frames do.
 #[derive(Drop)]
 pub struct PlainBoard {
     dims: Dims,

@@ -11,8 +11,8 @@ use orca_base::{Now, Steps};
 use orca_op::Bench;
 use std::sync::ledger::Ledger;
 
-/// Works a frame by visiting all places in reading order: the slow form. `now` is the tick of the frame and
-/// the seed of its random numbers.
+/// Works a frame by visiting all places in reading order: the slow form, which no run uses, and tests and the
+/// stored frames do. `now` is the tick of the frame and the seed of its random numbers.
 ///
 /// Until the next `begin` the bench then holds what the frame left: the glyphs of the grid, the marks, the
 /// variables, and the events in the order in which they were emitted, each of which can be played. Each

@@ -23,7 +23,8 @@ use std::marker::Model;
 use std::sync::ledger::Ledger;
 
 /// A machine that several hands share. A contract sees the machine that it means, the numbers that it keeps, how
-/// much its next call has to clear, the crew, and the screen that the hands are told of.
+/// much its next call has to clear, the crew, and the screen that the hands are told of. No run uses it: a
+/// performance has a crew of its own, and tests call this.
 #[derive(Drop)]
 pub struct Jam<M: Machine> {
     shared: Shared<M>,

@@ -10,7 +10,8 @@ use orca_base::Memory;
 use std::alloc::Global;
 use std::marker::Model;
 
-/// A small terminal: cells, a cursor and a style. A contract sees all of them.
+/// A small terminal: cells, a cursor and a style. A contract sees all of them. No run uses it; tests paint on
+/// it.
 #[derive(Debug, Drop)]
 pub struct Screen {
     size: ScreenSize,
