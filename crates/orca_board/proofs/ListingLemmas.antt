@@ -1,21 +1,23 @@
 -- A change more in a listing, and none.
-use Rattle.std.proofs.Common.{◌≡◌, ℕ, zero, suc, ◌+◌, ◌<◌, ◌≤◌, Bool, true, false, not, ◌==◌, ◌&&◌, ◌||◌, cond, List, [], ◌∷◌, ◌++◌, length, get_or, map, arith, ap, ◌∙◌, sym, refl, inl, inr, length-append, subst}
-use Rattle.std.proofs.Math.ListN.{set}
+use Rattle.std.proofs.Common.{◌≡◌, ℕ, zero, suc, ◌+◌, ◌<◌, ◌≤◌, Bool, true, false, not, ◌==◌, ◌&&◌, ◌||◌, cond, List, [], ◌∷◌, ◌++◌, ◌-◌, length, get_or, map, replicate, take, arith, ap, ◌∙◌, sym, refl, inl, inr, length-append, subst}
+use Rattle.std.proofs.Math.ListN.{set, get_or-map}
 use Rattle.std.specs.Prelude.{All, count_by, Some}
 use Rattle.std.specs.List.{AllByRecursion}
-use Rattle.std.proofs.lemmas.List.{get_or-set_other, get_or-set_same, get_or_default, length-set, map_push, get_or-map, length-map}
+use Rattle.std.proofs.lemmas.List.{get_or-set_other, get_or-set_same, get_or_default, length-set, map_push, length-map, length-replicate, map-set}
+use Rattle.std.proofs.lemmas.List.{get_or-map as get_or-map-below}
 use Rattle.std.proofs.lemmas.List.Sums.{sum_by-set, count_by-le-length}
 use Rattle.std.proofs.lemmas.List.Folds.{list_any-append}
 use Rattle.std.proofs.lemmas.List.Elements.{All-nil, All-push, recursion_from_All}
-use Rattle.std.proofs.lemmas.Bool.Decides.{eqb_tells}
+use Rattle.std.proofs.lemmas.Bool.Decides.{eqb_tells, nat_tests}
 use Rattle.orca_base.specs.declared.change.Change.{Change}
 use Rattle.orca_base.specs.declared.limits.TheConstants.{MAX_CELLS}
 use Rattle.orca_base.specs.declared.place.Place.{Place}
 use Rattle.orca_base.specs.Grids.{Size, IsInside, glyph_at as glyph_on, index_of, is_inside, largest}
+use Rattle.orca_base.proofs.ListFacts.{resized}
 use Rattle.orca_base.proofs.PlaceFacts.{is_place-index, is_inside-inside, inside-is_inside}
 use Rattle.orca_op.specs.State.{state_glyph}
 use Rattle.orca_op.specs.Slate.{Slate, KeepsUnlisted, changes_of, is_listed, list_with}
-use Rattle.orca_board.specs.Listing.{IsFlagged, has_number, places_of, changes_with}
+use Rattle.orca_board.specs.Listing.{IsFlagged, IsRounded, flags_of, has_number, places_of, changes_with}
 
 -- a flag more counts one more
 count_more : (flags : List Bool) (i : ℕ) → i < length flags → get_or flags i false ≡ false
@@ -107,7 +109,7 @@ pub inside_there : (d : Size) (changes : List Change) (i : ℕ) (default : Chang
     → All (IsInside d) (places_of changes) → i < length changes
     → IsInside d (get_or changes i default).at
 inside_there d changes i default all below =
-    subst (IsInside d) (get_or-map (λ (c : Change). c.at) changes i default default.at below)
+    subst (IsInside d) (get_or-map-below (λ (c : Change). c.at) changes i default default.at below)
     (all i default.at (omega (arith, below, length-map changes (λ (c : Change). c.at))))
 
 -- ---- no change any more
@@ -130,18 +132,83 @@ flagged_none flags room size off roomy = record {
   roomy = roomy;
 }
 
-both : (b : Bool) → (b && not b) ≡ false
-both true = refl
-both false = refl
+-- ---- rounds
 
--- a flag that is set only for listed places is off once their flags are
-pub lowered_off : (changes : List Change) (old new : List Bool) (i : ℕ)
-    → get_or old i false ≡ has_number (places_of changes) i
-    → get_or new i false ≡ (get_or old i false && not (has_number (places_of changes) i))
-    → get_or new i false ≡ false
-lowered_off changes old new i only lowered =
-    lowered ∙ (ap (λ (b : Bool). b && not (has_number (places_of changes) i)) only
-    ∙ both (has_number (places_of changes) i))
+later_round : (r round : ℕ) → r < round → (r == round) ≡ false
+later_round r round below = grind (arith, nat_tests)
+
+-- the flag of a place is that of its round
+pub flag_of_round : (round : ℕ) (rounds : List ℕ) (i : ℕ) → 0 < round
+    → get_or (flags_of round rounds) i false ≡ (get_or rounds i 0 == round)
+flag_of_round round rounds i some =
+    ap (λ (b : Bool). get_or (flags_of round rounds) i b) (sym (later_round 0 round some))
+    ∙ get_or-map (λ (r : ℕ). r == round) rounds i 0
+
+-- in a new round no place is listed
+pub rounded_none : (rounds : List ℕ) (round room : ℕ) → length rounds ≡ MAX_CELLS
+    → ((i : ℕ) → get_or rounds i 0 < round) → MAX_CELLS ≤ room → IsRounded [] rounds round room
+rounded_none rounds round room size later roomy =
+    let some : 0 < round = omega (arith, later 0) in
+    record {
+      size = size;
+      flagged = flagged_none (flags_of round rounds) room
+          (length-map rounds (λ (r : ℕ). r == round) ∙ size)
+          (λ i. flag_of_round round rounds i some ∙ later_round (get_or rounds i 0) round (later i))
+          roomy;
+      some = some;
+      past = λ i. omega (arith, later i);
+    }
+
+zeros : (n i : ℕ) → get_or (replicate n zero) i zero ≡ zero
+zeros zero i = refl
+zeros (suc n) zero = refl
+zeros (suc n) (suc i) = zeros n i
+
+-- at the start no place was listed
+pub rounded_start : (n len : ℕ) (rounds start : List ℕ) (room : ℕ) → n ≡ MAX_CELLS → start ≡ []
+    → len ≡ 0 → rounds ≡ take n start ++ replicate (n - len) 0 → MAX_CELLS ≤ room
+    → IsRounded [] rounds 1 room
+rounded_start n len rounds start room most none zero_long is roomy =
+    let filled : rounds ≡ replicate n 0 = resized n len rounds start 0 none zero_long is in
+    rounded_none rounds 1 room
+    (ap length filled ∙ (length-replicate n 0 ∙ most))
+    (λ i. omega (arith, ap (λ (r : List ℕ). get_or r i 0) filled, zeros n i)) roomy
+
+-- the flags after a place is listed in this round
+flags_set : (round : ℕ) (rounds : List ℕ) (i : ℕ)
+    → flags_of round (set rounds i round) ≡ set (flags_of round rounds) i true
+flags_set round rounds i =
+    map-set (λ (r : ℕ). r == round) rounds i round
+    ∙ ap (λ (b : Bool). set (flags_of round rounds) i b) (same_round round)
+  where
+    same_round : (round : ℕ) → (round == round) ≡ true
+    same_round round = grind (arith, nat_tests)
+
+-- and no place was listed later
+past_set : (round : ℕ) (rounds : List ℕ) (i j : ℕ) → i < length rounds
+    → ((k : ℕ) → get_or rounds k 0 ≤ round) → get_or (set rounds i round) j 0 ≤ round
+past_set round rounds i j below past = elim (eqb_tells j i) [
+  | inl same ↦ rw (same.1, get_or-set_same rounds i round 0 below) (omega arith)
+  | inr other ↦ rw (get_or-set_other rounds i j round 0 other.1) (past j)
+]
+
+-- one change more in this round
+pub rounded_more : (changes new : List Change) (rounds : List ℕ) (round room room' i : ℕ)
+    (change : Change)
+    → IsInside largest change.at → IsRounded changes rounds round room
+    → i ≡ index_of largest change.at
+    → get_or (flags_of round rounds) i false ≡ false → i < length rounds
+    → new ≡ changes ++ change ∷ [] → room ≤ room' → IsRounded new (set rounds i round) round room'
+rounded_more changes new rounds round room room' i change inside kept number off below pushed grows =
+    let flagged = flagged_more changes new (flags_of round rounds) room room' i change inside
+    kept.flagged number off
+    (omega (arith, below, length-map rounds (λ (r : ℕ). r == round))) pushed grows in
+    record {
+      size = length-set rounds i round ∙ kept.size;
+      flagged = rw (flags_set round rounds i) flagged;
+      some = kept.some;
+      past = λ j. past_set round rounds i j below kept.past;
+    }
 
 -- ---- the places of the changes
 

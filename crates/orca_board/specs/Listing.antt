@@ -1,5 +1,5 @@
 -- The places that were written since the last `begin`, each once, with its glyph of that moment.
-use Rattle.std.specs.Prelude.{ℕ, ◌≡◌, ◌≤◌, ◌==◌, ◌&&◌, Bool, false, not, List, [], ◌∷◌, ◌++◌, All, length, map, count_by, slice_index_or, if◌then◌else◌}
+use Rattle.std.specs.Prelude.{ℕ, ◌≡◌, ◌≤◌, ◌<◌, ◌==◌, ◌&&◌, Bool, false, not, List, [], ◌∷◌, ◌++◌, All, length, map, count_by, slice_index_or, if◌then◌else◌}
 use Rattle.std.specs.List.{list_any}
 use Rattle.orca_base.specs.declared.change.Change.{Change}
 use Rattle.orca_base.specs.declared.limits.TheConstants.{MAX_CELLS}
@@ -35,6 +35,17 @@ pub record IsFlagged (changes : List Change) (flags : List Bool) (room : ℕ) : 
   pub only : (i : ℕ) → slice_index_or flags i false ≡ has_number (places_of changes) i
   pub inside : All (IsInside largest) (places_of changes)
   pub roomy : MAX_CELLS ≤ room
+
+-- a place is flagged where it was listed in this round
+abbrev pub flags_of : ℕ → List ℕ → List Bool
+flags_of round rounds = map (λ r. r == round) rounds
+
+-- the places that were listed in this round are those of the changes, and none was in a later one
+pub record IsRounded (changes : List Change) (rounds : List ℕ) (round room : ℕ) : Type 0 where
+  pub size : length rounds ≡ MAX_CELLS
+  pub flagged : IsFlagged changes (flags_of round rounds) room
+  pub some : 0 < round
+  pub past : (i : ℕ) → slice_index_or rounds i 0 ≤ round
 
 -- the changes are those of a slate
 pub record ListsChanges (d : Slate) (known : List Change) : Type 0 where

@@ -1,6 +1,5 @@
-ghost use Rattle.std.specs.Prelude.{◌≡◌, ℕ, ◌&&◌, not, false, [], length, slice_index_or, All, IfOk};
-ghost use Rattle.orca_base.specs.Grids.{IsInside, largest};
-ghost use Rattle.orca_board.specs.Listing.{places_of, changes_with, has_number};
+ghost use Rattle.std.specs.Prelude.{◌≡◌, ◌<◌, ◌≤◌, ℕ, [], length, slice_index_or, IfOk};
+ghost use Rattle.orca_board.specs.Listing.{changes_with};
 
 use orca_base::limits::MAX_CELLS;
 use orca_base::{Change, Dims, Glyph, Memory, Place};
@@ -13,18 +12,22 @@ use std::marker::Model;
 pub(crate) struct Listing {
     began: Dims,
     changes: Vec<Change>,
-    flags: Vec<bool>,
+    /// For each place of the largest grid the round in which it was listed last.
+    rounds: Vec<u16>,
+    /// The round since the last `begin`. No place was listed in a later one.
+    round: u16,
 }
 
 impl Model for Listing {
     ghost use Rattle.std.specs.Prelude.{vec_capacity};
-    ghost use Rattle.orca_board.specs.Listing.{Listed, IsFlagged};
+    ghost use Rattle.orca_board.specs.Listing.{Listed, IsRounded};
 
     ghost Value = { Listed };
 
     ghost view = { λ l. record { began = l.began; changes = l.changes.items } };
 
-    ghost invariant = { λ l. IsFlagged l.changes.items l.flags.items (vec_capacity l.changes) };
+    ghost invariant = { λ l. IsRounded l.changes.items l.rounds.items l.round
+        (vec_capacity l.changes) };
 }
 
 impl Listing {
@@ -33,12 +36,13 @@ impl Listing {
     pub fn start(alloc: Global, dims: Dims) -> Result<Listing, Memory>
         ensures { IfOk result (λ listing. listing ≡ record { began = dims; changes = [] }) }
     {
-        let mut flags = Vec::new(alloc);
-        flags.resize(MAX_CELLS, false)?;
+        let mut rounds = Vec::new(alloc);
+        rounds.resize(MAX_CELLS, 0)?;
         Ok(Listing {
             began: dims,
             changes: Vec::with_capacity(alloc, MAX_CELLS)?,
-            flags,
+            rounds,
+            round: 1,
         })
     }
 
@@ -68,32 +72,43 @@ impl Listing {
             return;
         }
         let i = Dims::largest().index(at);
-        if !self.flags[i] {
-            self.flags[i] = true;
+        if self.rounds[i] != self.round {
+            self.rounds[i] = self.round;
             self.changes.push_reserved(Change { at, old });
         }
     }
 
-    /// No change any more, for a grid of this size. It takes down the flags of the listed places alone, so
-    /// it takes no longer for a larger grid.
+    /// No change any more, for a grid of this size. It begins a round, so it takes no longer for a larger
+    /// grid nor for more changes.
     pub fn begin(&mut self, dims: Dims)
         ensures { self.new ≡ record { began = dims; changes = [] } }
     {
-        lower(&mut self.flags, &self.changes);
+        self.round = next_round(&mut self.rounds, self.round);
         self.changes.clear();
         self.began = dims;
     }
 }
 
-/// Takes down the flags of the changed places, and of no others.
-fn lower(flags: &mut [bool], changes: &[Change])
-    requires inside { All (IsInside largest) (places_of changes.now) }
-    requires size { length flags.old ≡ MAX_CELLS }
-    ensures size { length flags.new ≡ MAX_CELLS }
-    ensures flags { (i : ℕ) → slice_index_or flags.new i false
-        ≡ (slice_index_or flags.old i false && not (has_number (places_of changes.now) i)) }
+/// The next round, in which no place was listed. Where the numbers end, the places forget their rounds.
+fn next_round(rounds: &mut [u16], round: u16) -> u16
+    requires past { (i : ℕ) → slice_index_or rounds.old i 0 ≤ round }
+    ensures size { length rounds.new ≡ length rounds.old }
+    ensures later { (i : ℕ) → slice_index_or rounds.new i 0 < result }
 {
-    for change in changes {
-        flags[Dims::largest().index(change.at)] = false;
+    if round == u16::MAX {
+        forget(rounds);
+        return 1;
+    }
+    round + 1
+}
+
+/// Sets each round to 0. It stands apart, since it is done once in 65,535 rounds.
+#[inline(never)]
+fn forget(rounds: &mut [u16])
+    ensures size { length rounds.new ≡ length rounds.old }
+    ensures none { (i : ℕ) → slice_index_or rounds.new i 0 ≡ 0 }
+{
+    for i in 0..rounds.len() {
+        rounds[i] = 0;
     }
 }

@@ -1,23 +1,17 @@
-use Rattle.std.proofs.Common.{arith, sym, ◌∙◌, ◌≡◌, false, get_or, ℕ}
+use Rattle.std.proofs.Common.{arith, sym, ◌∙◌}
 use Rattle.orca_base.proofs.ListFacts.{put_over}
-use Rattle.orca_board.proofs.ListingLemmas.{flagged_none, lowered_off}
+use Rattle.orca_board.proofs.ListingLemmas.{rounded_none}
 use Rattle.orca_board.proofs.listing.Listing.begin.Goals as goal
 
-pub lower-requires-clause-inside : goal.lower-requires-clause-inside
-lower-requires-clause-inside c = rw c.deref.ensures.value c.self.invariant.inside
-
--- the flags that were set are those of the changed places, and these are down
+-- in the new round no place is listed
 pub invariant_of-self : goal.invariant_of-self
 invariant_of-self c =
-    let lowered : (i : ℕ) → get_or c.lower.new.flags i false ≡ false =
-    (λ i. lowered_off c.self.inside.changes.items c.self.inside.flags.items c.lower.new.flags i
-    (c.self.invariant.only i) (rw (c.deref_mut.ensures.value, c.deref.ensures.value) at
-    (c.lower.ensures.flags i))) in
+    let same = rw c.deref_mut.ensures.value at c.next_round-self-inside.ensures.size in
     rw (
       c.clear.ensures.items,
-      put_over c.lower.new.flags c.self.inside.flags.items
-          c.self.inside.flags.len (c.lower.ensures.size ∙ sym c.self.invariant.size)
-          (omega (arith, c.self.inside.flags.ok.0)),
+      put_over c.next_round-self-inside.new.rounds c.self.inside.rounds.items
+          c.self.inside.rounds.len same (omega (arith, c.self.inside.rounds.ok.0)),
     )
-    (flagged_none c.lower.new.flags _ c.lower.ensures.size lowered
-    (omega (arith, c.clear.ensures.capacity, c.self.invariant.roomy)))
+    (rounded_none c.next_round-self-inside.new.rounds c.next_round-self-inside.result _ (same ∙ c.self.invariant.size)
+    c.next_round-self-inside.ensures.later
+    (omega (arith, c.clear.ensures.capacity, c.self.invariant.flagged.roomy)))
