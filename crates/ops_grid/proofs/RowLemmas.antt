@@ -7,14 +7,16 @@ use Rattle.orca_base.specs.declared.place.Place.{Place}
 use Rattle.orca_base.specs.declared.place.Spot.{Spot}
 use Rattle.orca_base.specs.Glyphs.{empty, value}
 use Rattle.orca_base.specs.Grids.{IsInside, Size, index_of, is_inside, off, place_at, place_in, right}
-use Rattle.orca_base.specs.MarkSet.{MarkSet}
+use Rattle.orca_base.specs.declared.marks.Mark.TheVariants.{Input, Lock, Output, Sleep}
+use Rattle.orca_base.specs.MarkSet.{MarkSet, no_marks, with_mark}
 use Rattle.orca_base.proofs.PlaceFacts.{index-injective, inside-place_in}
-use Rattle.orca_op.specs.Deeds.{Deed, Mark, Write, Set, Emit, after, cells_after, each_below, output_at}
+use Rattle.orca_op.specs.Deeds.{Deed, Mark, Write, Set, Emit, after, cells_after, each_below, far_at, input_at, output_at}
 use Rattle.orca_op.specs.Slate.{Slate, slate_after, slate_after_all}
-use Rattle.orca_op.specs.GridRules.{store_deeds}
+use Rattle.orca_op.specs.GridRules.{query_one, source, store_deeds, target}
 use Rattle.orca_op.proofs.LawFacts.{Every-each, slate_after_all-each_more, each-same}
 use Rattle.orca_op.specs.Laws.{Every}
-use Rattle.ops_grid.specs.Each.{generate_at, konkat_at}
+use Rattle.ops_grid.specs.Each.{copy_at, gather_one, generate_at, konkat_at, store_at}
+use Rattle.ops_grid.proofs.FrontLemmas.{in_front}
 use Rattle.orca_op.specs.State.{State, glyph_in, peek, var_at}
 
 -- the deed writes in another row, and sets no variable
@@ -125,41 +127,134 @@ store_spares at i name stored = by (name == empty)
     by false = (tt, (lower at.y 1 (omega arith), tt))
 
 -- one name more
-pub konkat_more : (d e f : Slate) (at : Place) (i : ℕ)
-    → e ≡ slate_after_all d (each_below i (konkat_at d.scan at))
-    → f ≡ slate_after_all e (konkat_at e.scan at i)
-    → f ≡ slate_after_all d (each_below (i + 1) (konkat_at d.scan at))
-konkat_more d e f at i before done =
-    let deeds : List Deed = each_below i (konkat_at d.scan at) in
+pub store_more : (d e f : Slate) (at : Place) (i : ℕ)
+    → e ≡ slate_after_all d (each_below i (store_at d.scan at))
+    → f ≡ slate_after_all e (store_at e.scan at i)
+    → f ≡ slate_after_all d (each_below (i + 1) (store_at d.scan at))
+store_more d e f at i before done =
+    let deeds : List Deed = each_below i (store_at d.scan at) in
     let spares : Every (Spares (pos (at.y + 0))) deeds =
-    Every-each (Spares (pos (at.y + 0))) i (konkat_at d.scan at)
-    (λ k below. (tt, store_spares at (k + 1) _ _)) in
+    Every-each (Spares (pos (at.y + 0))) i (store_at d.scan at)
+    (λ k below. store_spares at (k + 1) _ _) in
     let name = peek-all d deeds (right at (i + 1)) spares in
     let stored = var-all d deeds (pos (at.y + 0)) (value (peek d.scan (right at (i + 1)))) spares in
-    let same : konkat_at (slate_after_all d deeds).scan at i ≡ konkat_at d.scan at i =
+    let same : store_at (slate_after_all d deeds).scan at i ≡ store_at d.scan at i =
     rw (name, stored) refl in
-    rw (slate_after_all-each_more d i (konkat_at d.scan at))
-    (done ∙ (ap (λ (x : Slate). slate_after_all x (konkat_at x.scan at i)) before
+    rw (slate_after_all-each_more d i (store_at d.scan at))
+    (done ∙ (ap (λ (x : Slate). slate_after_all x (store_at x.scan at i)) before
     ∙ ap (slate_after_all (slate_after_all d deeds)) same))
+
+-- names that are marked before their variables are written
+pub stored_marked : (d e f : Slate) (at : Place) (n : ℕ)
+    → e ≡ slate_after_all d (each_below n (λ i. input_at (right at (i + 1)) ∷ []))
+    → f ≡ slate_after_all e (each_below n (store_at e.scan at))
+    → f ≡ slate_after_all d (each_below n (konkat_at d.scan at))
+stored_marked d e f at n marked done =
+    let marks : List Deed = each_below n (λ i. input_at (right at (i + 1)) ∷ []) in
+    let spares : Every (Spares (pos (at.y + 0))) marks =
+    Every-each (Spares (pos (at.y + 0))) n (λ i. input_at (right at (i + 1)) ∷ [])
+    (λ k below. (tt, tt)) in
+    let same : each_below n (store_at (slate_after_all d marks).scan at)
+    ≡ each_below n (store_at d.scan at) =
+    each-same n (store_at (slate_after_all d marks).scan at) (store_at d.scan at)
+    (λ i below. rw (
+      peek-all d marks (right at (i + 1)) spares,
+      var-all d marks (pos (at.y + 0)) (value (peek d.scan (right at (i + 1)))) spares,
+    ) refl) in
+    done
+    ∙ (ap (λ (z : Slate). slate_after_all z (each_below n (store_at z.scan at))) marked
+    ∙ (ap (slate_after_all (slate_after_all d marks)) same
+    ∙ in_front d n (λ i. right at (i + 1)) (with_mark (with_mark no_marks Input) Lock)
+    (store_at d.scan at)))
 
 -- ---- G
 
 -- one operand more
-pub generate_more : (d e f : Slate) (at : Place) (y x i : ℕ)
-    → e ≡ slate_after_all d (each_below i (generate_at d.scan at y x))
-    → f ≡ slate_after_all e (generate_at e.scan at y x i)
-    → f ≡ slate_after_all d (each_below (i + 1) (generate_at d.scan at y x))
-generate_more d e f at y x i before done =
-    let deeds : List Deed = each_below i (generate_at d.scan at y x) in
+pub copy_more : (d e f : Slate) (at : Place) (y x i : ℕ)
+    → e ≡ slate_after_all d (each_below i (copy_at d.scan at y x))
+    → f ≡ slate_after_all e (copy_at e.scan at y x i)
+    → f ≡ slate_after_all d (each_below (i + 1) (copy_at d.scan at y x))
+copy_more d e f at y x i before done =
+    let deeds : List Deed = each_below i (copy_at d.scan at y x) in
     let spares : Every (Spares (pos (at.y + 0))) deeds =
-    Every-each (Spares (pos (at.y + 0))) i (generate_at d.scan at y x)
-    (λ k below. (tt, (tt, (lower at.y (y + 1) (omega arith), tt)))) in
+    Every-each (Spares (pos (at.y + 0))) i (copy_at d.scan at y x)
+    (λ k below. (lower at.y (y + 1) (omega arith), tt)) in
     let operand = peek-all d deeds (right at (i + 1)) spares in
-    let same : generate_at (slate_after_all d deeds).scan at y x i ≡ generate_at d.scan at y x i =
+    let same : copy_at (slate_after_all d deeds).scan at y x i ≡ copy_at d.scan at y x i =
     rw operand refl in
-    rw (slate_after_all-each_more d i (generate_at d.scan at y x))
-    (done ∙ (ap (λ (z : Slate). slate_after_all z (generate_at z.scan at y x i)) before
+    rw (slate_after_all-each_more d i (copy_at d.scan at y x))
+    (done ∙ (ap (λ (z : Slate). slate_after_all z (copy_at z.scan at y x i)) before
     ∙ ap (slate_after_all (slate_after_all d deeds)) same))
+
+-- marks leave what is copied
+copies-marked : (d : Slate) (n : ℕ) (spot : ℕ → Spot) (m : MarkSet) (at : Place) (y x : ℕ)
+    → each_below n
+    (copy_at (slate_after_all d (each_below n (λ i. Mark (spot i) m ∷ []))).scan at y x)
+    ≡ each_below n (copy_at d.scan at y x)
+copies-marked d n spot m at y x =
+    let marks : List Deed = each_below n (λ i. Mark (spot i) m ∷ []) in
+    let spares : Every (Spares (pos (at.y + 0))) marks =
+    Every-each (Spares (pos (at.y + 0))) n (λ i. Mark (spot i) m ∷ []) (λ k below. (tt, tt)) in
+    each-same n (copy_at (slate_after_all d marks).scan at y x) (copy_at d.scan at y x)
+    (λ i below. rw (peek-all d marks (right at (i + 1)) spares) refl)
+
+-- operands and targets that are marked before the first is written
+pub copied_marked : (d e f h : Slate) (at : Place) (y x n : ℕ)
+    → e ≡ slate_after_all d (each_below n (λ i. input_at (right at (i + 1)) ∷ []))
+    → f ≡ slate_after_all e (each_below n (λ i. far_at (target at y (i + x)) ∷ []))
+    → h ≡ slate_after_all f (each_below n (copy_at f.scan at y x))
+    → h ≡ slate_after_all d (each_below n (generate_at d.scan at y x))
+copied_marked d e f h at y x n inputs fars done =
+    let input : MarkSet = with_mark (with_mark no_marks Input) Lock in
+    let far : MarkSet = with_mark (with_mark no_marks Output) Sleep in
+    let turned : each_below n (λ i. far_at (target at y (i + x)) ∷ [])
+    ≡ each_below n (λ i. far_at (target at y (x + i)) ∷ []) =
+    each-same n (λ i. far_at (target at y (i + x)) ∷ []) (λ i. far_at (target at y (x + i)) ∷ [])
+    (λ i below. ap (λ (k : ℕ). far_at (target at y k) ∷ []) (omega arith)) in
+    let there : f ≡ slate_after_all e (each_below n (λ i. far_at (target at y (x + i)) ∷ [])) =
+    fars ∙ ap (slate_after_all e) turned in
+    let written : h ≡ slate_after_all e (each_below n
+    (λ i. far_at (target at y (x + i)) ∷ copy_at e.scan at y x i)) =
+    done
+    ∙ (ap (λ (z : Slate). slate_after_all z (each_below n (copy_at z.scan at y x))) there
+    ∙ (ap (slate_after_all (slate_after_all e
+    (each_below n (λ i. far_at (target at y (x + i)) ∷ []))))
+    (copies-marked e n (λ i. target at y (x + i)) far at y x)
+    ∙ in_front e n (λ i. target at y (x + i)) far (copy_at e.scan at y x))) in
+    let kept : each_below n (λ i. far_at (target at y (x + i)) ∷ copy_at
+    (slate_after_all d (each_below n (λ i. input_at (right at (i + 1)) ∷ []))).scan at y x i)
+    ≡ each_below n (λ i. far_at (target at y (x + i)) ∷ copy_at d.scan at y x i) =
+    let marks : List Deed = each_below n (λ i. input_at (right at (i + 1)) ∷ []) in
+    let spares : Every (Spares (pos (at.y + 0))) marks =
+    Every-each (Spares (pos (at.y + 0))) n (λ i. input_at (right at (i + 1)) ∷ [])
+    (λ k below. (tt, tt)) in
+    each-same n _ _ (λ i below. rw (peek-all d marks (right at (i + 1)) spares) refl) in
+    written
+    ∙ (ap (λ (z : Slate). slate_after_all z (each_below n
+    (λ i. far_at (target at y (x + i)) ∷ copy_at z.scan at y x i))) inputs
+    ∙ (ap (slate_after_all (slate_after_all d
+    (each_below n (λ i. input_at (right at (i + 1)) ∷ [])))) kept
+    ∙ in_front d n (λ i. right at (i + 1)) input
+    (λ i. far_at (target at y (x + i)) ∷ copy_at d.scan at y x i)))
+
+-- ---- Q
+
+-- sources that are marked before the first operand is written
+pub gathered_marked : (d e f : Slate) (at : Place) (y x n : ℕ) (glyphs : ℕ → ℕ)
+    → e ≡ slate_after_all d (each_below n (λ i. input_at (off at (pos y) (pos (i + (x + 1)))) ∷ []))
+    → f ≡ slate_after_all e (each_below n (λ i. gather_one at n i (glyphs i)))
+    → f ≡ slate_after_all d (each_below n (λ i. query_one at y x n i (glyphs i)))
+gathered_marked d e f at y x n glyphs inputs done =
+    let turned : each_below n (λ i. input_at (off at (pos y) (pos (i + (x + 1)))) ∷ [])
+    ≡ each_below n (λ i. input_at (source at y (x + i)) ∷ []) =
+    each-same n (λ i. input_at (off at (pos y) (pos (i + (x + 1)))) ∷ [])
+    (λ i. input_at (source at y (x + i)) ∷ [])
+    (λ i below. ap (λ (k : ℕ). input_at (off at (pos y) (pos k)) ∷ []) (omega arith)) in
+    done
+    ∙ (ap (λ (z : Slate). slate_after_all z (each_below n (λ i. gather_one at n i (glyphs i))))
+    (inputs ∙ ap (slate_after_all d) turned)
+    ∙ in_front d n (λ i. source at y (x + i)) (with_mark (with_mark no_marks Input) Lock)
+    (λ i. gather_one at n i (glyphs i)))
 
 -- states that show the same
 pub konkat-same : (s t : State) (at : Place) (n : ℕ)

@@ -3,11 +3,11 @@ ghost use Rattle.orca_base.specs.declared.limits.TheConstants.{BASE};
 ghost use Rattle.orca_op.specs.declared.kind.Kind.TheVariants.{Generator as generator_kind};
 ghost use Rattle.orca_op.specs.Deeds.{each_below};
 ghost use Rattle.orca_op.specs.Slate.{slate_after_all};
-ghost use Rattle.ops_grid.specs.Each.{generate_at};
+ghost use Rattle.ops_grid.specs.Each.{copy_at, generate_at};
 ghost use Rattle.ops_grid.specs.GridLaws.{lawful-generator};
 
 use orca_base::{Glyph, Now, Place, Steps};
-use orca_op::{Bench, Operator};
+use orca_op::{Bench, Operator, Span};
 use std::sync::ledger::Ledger;
 
 /// `G`: writes operands with an offset.
@@ -59,11 +59,34 @@ fn generate<B: Bench, L: Ledger>(
         B.slate bench.new ≡ slate_after_all old (each_below length (generate_at old.scan at y x)) }
     ensures steps { steps.new ≡ steps.old + 4 * length }
 {
+    // A mark leaves the operands as they are, so all places are marked before the first is written.
+    bench.input_span(at, Span { y: 0, x: 1, length }, steps);
+    let targets = Span {
+        y: y + 1,
+        x,
+        length,
+    };
+    bench.far_span(at, targets, steps);
+    copy(bench, at, y, x, length, steps);
+}
+
+/// Writes the first `length` operands at the target, and marks nothing.
+fn copy<B: Bench, L: Ledger>(
+    bench: &mut B,
+    at: Place,
+    y: u8,
+    x: u8,
+    length: u8,
+    steps: &mut Steps<L>,
+)
+    requires { (y < BASE) × (x < BASE) × (length < BASE) }
+    ensures deeds { let old = B.slate bench.old in
+        B.slate bench.new ≡ slate_after_all old (each_below length (copy_at old.scan at y x)) }
+    ensures steps { steps.new ≡ steps.old + 2 * length }
+{
     for i in 0..length {
         let target = at.off(i32::from(y) + 1, i32::from(x) + i32::from(i));
         let operand = bench.peek(at.right(u16::from(i) + 1), steps);
-        bench.input(at.right(u16::from(i) + 1), steps);
-        bench.far(target, steps);
         bench.write(target, operand, steps);
     }
 }

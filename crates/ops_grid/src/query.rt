@@ -4,6 +4,7 @@ ghost use Rattle.orca_op.specs.declared.kind.Kind.TheVariants.{Query as query_ki
 ghost use Rattle.orca_op.specs.Deeds.{each_below};
 ghost use Rattle.orca_op.specs.Slate.{slate_after_all};
 ghost use Rattle.orca_op.specs.GridRules.{query_one};
+ghost use Rattle.ops_grid.specs.Each.{gather_one};
 ghost use Rattle.ops_grid.specs.GridLaws.{lawful-query};
 
 use crate::span::{self, ROOM};
@@ -66,15 +67,36 @@ fn collect<B: Bench, L: Ledger>(
     operands: &[Glyph; ROOM],
     steps: &mut Steps<L>,
 )
-    requires { length < BASE }
+    requires { (y < BASE) × (x < BASE) × (length < BASE) }
     ensures deeds { B.slate bench.new ≡ slate_after_all (B.slate bench.old)
         (each_below length (λ i. query_one at y x length i (slice_index operands.now i))) }
     ensures steps { steps.new ≡ steps.old + 3 * length }
 {
+    // The operands were read, so all sources are marked before the first is written.
+    let sources = Span {
+        y,
+        x: x + 1,
+        length,
+    };
+    bench.input_span(at, sources, steps);
+    gather(bench, at, length, operands, steps);
+}
+
+/// Writes the first `length` operands below, and marks no source.
+fn gather<B: Bench, L: Ledger>(
+    bench: &mut B,
+    at: Place,
+    length: u8,
+    operands: &[Glyph; ROOM],
+    steps: &mut Steps<L>,
+)
+    requires { length < BASE }
+    ensures deeds { B.slate bench.new ≡ slate_after_all (B.slate bench.old)
+        (each_below length (λ i. gather_one at length i (slice_index operands.now i))) }
+    ensures steps { steps.new ≡ steps.old + 2 * length }
+{
     for i in 0..length {
         let column = i32::from(i) + 1 - i32::from(length);
-        let source = at.off(i32::from(y), i32::from(x) + i32::from(i) + 1);
-        bench.input(source, steps);
         bench.output(at.off(1, column), steps);
         bench.write(at.off(1, column), operands[usize::from(i)], steps);
     }

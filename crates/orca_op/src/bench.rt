@@ -210,6 +210,21 @@ pub trait Bench {
         );
     }
 
+    /// Marks each place of a span as a far output.
+    final fn far_span<L: Ledger>(&mut self, at: Place, span: Span, steps: &mut Steps<L>)
+        ensures deeds { slate self.new ≡ slate_after_all (slate self.old)
+            (each_below span.length (λ i. far_at (off at (pos span.y) (pos (i + span.x))) ∷ [])) }
+        ensures room { HasEventRoom (slate self.old) → HasEventRoom (slate self.new) }
+        ensures steps { steps.new ≡ steps.old + span.length }
+    {
+        self.mark_span(
+            at,
+            span,
+            Marks::none().with(Mark::Sleep).with(Mark::Output),
+            steps,
+        );
+    }
+
     /// Locks each place of a span.
     final fn lock_span<L: Ledger>(&mut self, at: Place, span: Span, steps: &mut Steps<L>)
         ensures deeds { slate self.new ≡ slate_after_all (slate self.old)

@@ -1,10 +1,7 @@
-use Rattle.std.proofs.Common.{arith, rules}
-use Rattle.ops_grid.proofs.RowLemmas.{generate_more}
+use Rattle.ops_grid.proofs.RowLemmas.{copied_marked}
 use Rattle.ops_grid.proofs.generator.generate.Goals as goal
 
-pub loop-i-preserved : goal.loop-i-preserved
-loop-i-preserved g c = record {
-  deeds = generate_more _ _ _ c.args.at c.args.y c.args.x c.loop-i.i c.loop-i.invariant.deeds
-      (search rules);
-  steps = omega arith;
-}
+pub returns-clause-deeds : goal.returns-clause-deeds
+returns-clause-deeds g c =
+    copied_marked _ _ _ _ c.args.at c.args.y c.args.x c.args.length c.input_span.ensures.deeds
+    c.far_span.ensures.deeds c.copy.ensures.deeds

@@ -1,11 +1,7 @@
-use Rattle.std.proofs.Common.{arith}
-use Rattle.ops_grid.proofs.RowLemmas.{konkat_more}
+use Rattle.std.proofs.Common.{rules}
+use Rattle.ops_grid.proofs.RowLemmas.{stored_marked}
 use Rattle.ops_grid.proofs.konkat.concatenate.Goals as goal
 
-pub loop-i-preserved : goal.loop-i-preserved
-loop-i-preserved g c = record {
-  deeds = konkat_more _ _ _ c.args.at c.loop-i.i c.loop-i.invariant.deeds
-      c.write_below.ensures.deeds;
-  steps = omega arith;
-  later = omega arith;
-}
+pub returns-clause-deeds : goal.returns-clause-deeds
+returns-clause-deeds g c =
+    stored_marked _ _ _ c.args.at c.args.length c.input_span.ensures.deeds c.store.ensures.deeds
