@@ -1,3 +1,4 @@
+# shellcheck shell=bash
 # For .ci/peers, which sources this: players who share a piece, by ./perform --hands and ./perform --join.
 
 # The players by the folders that they have: the keyboard and the process of each. Only this one is on stage.

@@ -1,3 +1,4 @@
+# shellcheck shell=bash
 # For .ci/peers, which sources this: what ./perform refuses before the first frame.
 
 # refuses LINE WORD..: ./perform with these words says this line, and ends with 125

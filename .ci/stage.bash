@@ -1,3 +1,4 @@
+# shellcheck shell=bash
 # For .ci/peers, which sources this: what can go wrong around the program. A reader that dies or is slow, a save that is cut
 # off, a closed output: the piece plays on, and its files are whole.
 

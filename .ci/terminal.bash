@@ -1,3 +1,4 @@
+# shellcheck shell=bash
 # For .ci/peers, which sources this: ./perform in a terminal. It stands still or is closed, a disk is full, the script is
 # killed, and the lines of the pages are typed.
 

@@ -1,3 +1,4 @@
+# shellcheck shell=bash
 # For scripts that source this: a player of the program's, at a real pipe or connection.
 unset CDPATH
 
