@@ -23,6 +23,11 @@ choose_port() {
     done
 }
 
+# cursor_on GLYPH: how a picture shows the cursor on this glyph
+cursor_on() {
+    printf '\e[7m%s' "$1"
+}
+
 # connect PORT: then $typed is a connection to this port
 connect() {
     exec {typed}>"/dev/tcp/127.0.0.1/$1"

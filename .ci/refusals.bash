@@ -76,10 +76,10 @@ try_refusals() {
     refuses "--at a,b:7420: an address is HOST:PORT, as in 127.0.0.1:9000" song --hands 2 --at a,b
     refuses "--join: it has no option --hands" --join 127.0.0.1:1 --hands 2
     refuses "--join 127.0.0.1: an address is HOST:PORT, as in 127.0.0.1:9000" --join 127.0.0.1
-    refuses "nobody is waited for at 127.0.0.1:1: the first player types ./perform PIECE --hands 2" --join 127.0.0.1:1
+    refuses "nobody is waited for at 127.0.0.1:1: the first player types $top/perform PIECE --hands 2" --join 127.0.0.1:1
     refuses "--bpm 9: this option is given twice" song --bpm 9 --bpm 9
     refuses "--save: its value is missing" song --save
-    refuses "folder: this is a folder, and a piece is a file" folder
+    refuses "folder: this is a folder, and a file is wanted" folder
     refuses "no/song: there is no folder $folder/no" no/song
     refuses "usage: perform [--lead|--recover|--discard] PIECE [options], perform --join HOST:PORT, or perform --ports"
     refuses "other: one name is wanted, and song is there already" song other

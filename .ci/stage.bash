@@ -361,11 +361,11 @@ while True:
     except ConnectionRefusedError:
         time.sleep(0.05)
 keys.send(b"7")
-while b"\x1b[7m7" not in open("view", "rb").read():
+while sys.argv[2].encode() not in open("view", "rb").read():
     time.sleep(0.05)
 # An end that lingers for no time goes without a farewell.
 keys.setsockopt(socket.SOL_SOCKET, socket.SO_LINGER, struct.pack("ii", 1, 0))
-keys.close()' "$port" || fails "what is typed before a reset is not seen"
+keys.close()' "$port" "$(cursor_on 7)" || fails "what is typed before a reset is not seen"
     await 7 $'inbox fault\n'
     printf '7...\n' | cmp - reset_saved
     echo "peers: a connection that is reset ends the performance, and the piece is saved"

@@ -1,11 +1,10 @@
+# shellcheck shell=bash
 # For ./perform, which sources this: what would fail is said before the first frame. Each refusal is one line that names
 # the option and the name.
 
-# The options that have a text, and the least and the most of those that have a number.
+# The options that have a text, and those that have a number.
 texts='--midi --udp --osc --save --script --keys --follow --at'
 numbers='--seed --limit --bpm --rows --cols --hands'
-declare -A least=([--seed]=0 [--limit]=1 [--bpm]=1 [--rows]=2 [--cols]=8 [--hands]=1)
-declare -A most=([--seed]=4294967295 [--limit]=4000000 [--bpm]=999 [--rows]=100 [--cols]=256 [--hands]=8)
 # What is to be done: play, lead, follow, join, recover, discard or ports; and the options that each may have.
 task=play
 declare -A options=([play]="$texts $numbers" [lead]='--midi --udp --osc --seed --limit --bpm')
@@ -16,13 +15,23 @@ piece=
 model=
 hands=1
 
+usage() {
+    echo "$called [--lead|--recover|--discard] PIECE [options], $called --join HOST:PORT, or $called --ports"
+}
+
+# refuse WHAT: where there is a reason in $why, that is said, and all is done
+refuse() {
+    [ -z "$why" ] || fails "$1: $why"
+}
+
 # give OPTION VALUE
 give() {
     [[ " ${options[play]} " == *" $1 "* ]] || fails "there is no option $1; the options are ${options[play]}"
     [ -z "${given[$1]+given}" ] || fails "$1 $2: this option is given twice"
     [ -n "$2" ] || fails "$1: its value is missing"
-    [ -z "${least[$1]-}" ] || { [[ $2 =~ ^[0-9]{1,10}$ ]] && ((10#$2 >= ${least[$1]} && 10#$2 <= ${most[$1]})); } ||
-        fails "$1 $2: a number from ${least[$1]} to ${most[$1]} is wanted"
+    [[ " $numbers " != *" $1 "* ]] || { why_no_number "$1" "$2" && refuse "$1 $2"; }
+    # A name that is a dash alone would be the standard input.
+    [ "$2" != - ] || set -- "$1" ./-
     given[$1]=$2
 }
 
@@ -46,9 +55,9 @@ read_words() {
     done
     [ "${#names[@]}" -le 1 ] || fails "${names[1]}: one name is wanted, and ${names[0]} is there already"
     piece=${names[0]-}
+    [ "$piece" != - ] || piece=./-
     [ "$task${given[--follow]+given}" != playgiven ] || task=follow
-    [[ $task${piece:+ piece} =~ ^(ports|[a-z]* piece)$ ]] ||
-        fails "usage: perform [--lead|--recover|--discard] PIECE [options], perform --join HOST:PORT, or perform --ports"
+    [[ $task${piece:+ piece} =~ ^(ports|[a-z]* piece)$ ]] || fails "usage: $(usage)"
     # A name that is no file may be that of a piece that came with this.
     [[ $piece == */* ]] || [ -e "$piece" ] || [ ! -f "$top/pieces/${piece%.orca}.orca" ] ||
         piece=${piece%.orca}.orca model=$top/pieces/$piece
@@ -62,11 +71,8 @@ read_words() {
 
 # look_at_address OPTION ADDRESS: then $host and $port are its parts
 look_at_address() {
-    local pattern='^(\[[0-9A-Fa-f:.%]+\]|[^],:[[:space:]]+):([0-9]{1,5})$'
-    [[ $2 =~ $pattern ]] && ((10#${BASH_REMATCH[2]} >= 1 && 10#${BASH_REMATCH[2]} <= 65535)) ||
-        fails "$1 $2: an address is HOST:PORT, as in 127.0.0.1:9000"
-    host=${BASH_REMATCH[1]//[][]/} port=${BASH_REMATCH[2]}
-    ! command -v getent >/dev/null || getent ahosts "$host" >/dev/null || fails "$1 $2: there is no host $host"
+    why_no_address "$2"
+    refuse "$1 $2"
 }
 
 # How many hands play, and the address at which all but the first join. It is one of this machine alone, unless --at names
@@ -81,42 +87,33 @@ look_at_hands() {
     [[ $host != 0.0.0.0 && $host != :: ]] || meeting=$HOSTNAME:$port
 }
 
-# look_at_save WHAT NAME: a text can be saved under this name. The program opens both ends of a pipe that it saves to, so
-# that it need not wait for a reader.
+# look_at_save WHAT NAME: a text can be saved under this name
 look_at_save() {
-    full_name "$2"
-    [ ! -d "$full" ] && [[ $2 != */ ]] || fails "$1: this is a folder, and a file is wanted"
-    [ ! -L "$full" ] || fails "$1: this link leads to itself"
-    [ ! -e "$2" ] || [ -w "$2" ] || fails "$1: this may not be written: give another name, by --save for a piece"
-    [ ! -p "$2" ] || [ -r "$2" ] || fails "$1: this pipe may not be read, and a save needs the right to do both"
-    [ -f "$2" ] || [ ! -e "$2" ] || return 0
-    [ -d "${full%/*}/" ] || fails "$1: there is no folder ${full%/*}"
-    [ -w "${full%/*}/" ] && [ -x "${full%/*}/" ] || fails "$1: nothing can be written in the folder ${full%/*}"
+    why_unsaved "$2"
+    refuse "$1"
 }
 
 look_at_piece() {
     [ "$task" = play ] || [ -e "$piece" ] || [ -z "$model" ] || piece=$model
-    [ ! -d "$piece" ] || fails "$piece: this is a folder, and a piece is a file"
-    [ ! -e "$piece" ] || [ -f "$piece" ] || fails "$piece: this is a pipe or a device, and a piece is a file"
-    [ ! -e "$piece" ] || [ -r "$piece" ] || fails "$piece: this file may not be read"
-    if [ "$task" != play ]; then
-        [ -e "$piece" ] || fails "$piece: there is no such file"
-    elif [ -z "${given[--save]+given}" ]; then
-        look_at_save "$piece" "$piece"
+    [ ! -e "$piece" ] || [ -d "$piece" ] || [ -f "$piece" ] || fails "$piece: this is a pipe or a device, and a piece is a file"
+    if [ "$task" != play ] || [ -e "$piece" ]; then
+        why_unread "$piece"
+        refuse "$piece"
     fi
+    [ "$task" != play ] || [ -n "${given[--save]+given}" ] || look_at_save "$piece" "$piece"
 }
 
 # look_at_bytes OPTION NAME RIGHT WORDS: bytes can be written to what has this name, or read from it, as these words say
 look_at_bytes() {
     [ ! -d "$2" ] && [ ! -S "$2" ] || fails "$1 $2: this is a folder or a socket, and a file, a pipe or a device is wanted"
-    [ "$3" "$2" ] ||
+    test "$3" "$2" ||
         fails "$1 $2: you may not $4 it; it is of the group $(stat -Lc %G -- "$2"): join that group, and log in again"
 }
 
 look_at_midi() {
     local what="--midi $1" name
     printf -v name %q "$1"
-    [ -e "$1" ] || [[ $1 != /dev/snd/* ]] || fails "$what: there is no such device; ${0##*/} --ports shows those that are there"
+    [ -e "$1" ] || [[ $1 != /dev/snd/* ]] || fails "$what: there is no such device; $called --ports shows those that are there"
     [ -e "$1" ] || fails "$what: there is no such name: mkfifo $name makes a pipe for a synthesizer, and touch $name a file of bytes"
     look_at_bytes --midi "$1" -w 'write to'
     [ ! -f "$1" ] || [ ! -s "$1" ] ||

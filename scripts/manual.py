@@ -1,7 +1,8 @@
 #!/usr/bin/env python3
-# manual.py FOLDER VERSION DATE: what an installed program has of the pages, so that nothing is said twice. Into FOLDER go
-# the man pages orca.1 and perform.1, the completion for bash with the words and options of docs/COMMANDS.md, and the
-# pages that a player reads, without links to those that stay here.
+# manual.py FOLDER VERSION DATE HOME ORCA PERFORM: what an installed program has of the pages, so that nothing is said twice.
+# Into FOLDER go the man pages orca.1 and perform.1, the completion for bash with the words and options of docs/COMMANDS.md,
+# and the pages that a player reads, without links to those that stay here. Man pages and completion call the commands ORCA
+# and PERFORM, and HOME the folders that they have in share.
 import functools
 import itertools
 import os
@@ -19,9 +20,8 @@ PERFORM = "`./perform`"
 PROGRAM, INVALID = "crates/orca/out/orca", 1
 # How a section of docs/COMMANDS.md is called in a man page; the others keep their names.
 SECTIONS = {"What is printed": "OUTPUT", "Statuses": "EXIT STATUS"}
-FILES = [("../share/orca/pieces", "the pieces; this and the next paths are seen from the folder of the program"),
-         ("../share/doc/orca", "the pages of this version, and `PROVED`, which says what was proved by what"),
-         ("../share/bash-completion/completions", "the completion for bash")]
+# What ./orca and ./perform are called where they are installed, and the name of their folders.
+NAMES = {"orca": "orca", "perform": "perform", "home": "orca"}
 
 
 def read(name):
@@ -71,7 +71,7 @@ def sections_of(name):
 
 def plain(text):
     """As roff prints it; programs are called by their names alone."""
-    text = re.sub(r"(?<![\w.])\./(orca|perform)\b", r"\1", text)
+    text = re.sub(r"(?<![\w.])\./(orca|perform)\b", lambda found: NAMES[found[1]], text)
     return text.replace("\\", "\\e").replace("^", "\\(ha").replace("~", "\\(ti")
 
 
@@ -82,6 +82,7 @@ def literal(text):
 
 def code(text):
     """A name in italics where it stands for something, as GRID, and else in bold."""
+    text = re.sub(r"^(orca|perform)(?= [a-z-])", lambda found: NAMES[found[1]], text)
     return " ".join(f"\\fI{word}\\fR" if re.fullmatch(r"\[?[A-Z]+\]?(\.\.\.)?", word) else f"\\fB{word}\\fR"
                     for word in literal(text).split(" "))
 
@@ -142,13 +143,17 @@ def section(name, lines):
 
 
 def head_of(name, title, version, date):
-    return [f".TH {name.upper()} 1 {date} \"orca {version}\" \"User Commands\"",
-            *section("NAME", [f"{name} \\- {title}"])]
+    return [f".TH {literal(NAMES[name].upper())} 1 {date} \"orca {version}\" \"User Commands\"",
+            *section("NAME", [f"{literal(NAMES[name])} \\- {title}"])]
 
 
-def files_and_others(files, other):
+def files_and_others(other):
+    home = NAMES["home"]
+    files = [(f"../share/{home}/pieces", "the pieces; this and the next paths are seen from the folder of the command"),
+             (f"../share/doc/{home}", "the pages of this version, and `PROVED`, which says what was proved by what"),
+             ("../share/bash-completion/completions", "the completion for bash")]
     return [*section("FILES", page_table([["", ""], *([f"`{name}`", text] for name, text in files)])),
-            *section("SEE ALSO", [f".BR {other} (1)"])]
+            *section("SEE ALSO", [f".BR {literal(NAMES[other])} (1)"])]
 
 
 def page_of_orca(commands, version, date):
@@ -166,7 +171,7 @@ def page_of_orca(commands, version, date):
             lines += section(SECTIONS.get(name, name.upper()), page_of(blocks))
     examples = commands[""][[kind for kind, _ in commands[""]].index("code"):]
     lines += section("EXAMPLES", [*wrapped("Here `pieces` is a link to the folder of the pieces."), *page_of(examples)])
-    return lines + files_and_others(FILES, "perform")
+    return lines + files_and_others("perform")
 
 
 def page_of_perform(commands, version, date):
@@ -184,7 +189,7 @@ def page_of_perform(commands, version, date):
                 dict.fromkeys(re.findall(r"\./perform [^`\n|]*[^`\n| ]", read("docs/COMMANDS.md")))
                 if not re.search(r"\[|PIECE|--join", line)]
     lines += section("EXAMPLES", [*wrapped("Each piece is named as it came with the program."), *page_code(examples)])
-    return lines + files_and_others(FILES, "orca")
+    return lines + files_and_others("orca")
 
 
 # The words and options of docs/COMMANDS.md.
@@ -226,11 +231,12 @@ def options_of_perform():
 
 def completion(commands):
     options = dict(options_of_words())
+    words = " ".join(options)
     own = [option for form, *_ in rows_of(commands, PERFORM) for option in re.findall(r"--[a-z]+", form)]
-    options["perform"] = own + options_of_perform()
+    options["perform"] = [*own, *options_of_perform()]
     table = " ".join(f"[{word}]='{' '.join(names)}'" for word, names in options.items())
-    words = " ".join(word for word in options if word != "perform")
-    return read("completions/orca").replace("@words@", words).replace("@options@", table)
+    text = read("completions/orca.in").replace("@words@", words).replace("@options@", table)
+    return text.replace("@orca@", NAMES["orca"]).replace("@perform@", NAMES["perform"])
 
 
 # Pages.
@@ -257,9 +263,10 @@ def write(folder, name, text):
 
 
 def main():
-    if len(sys.argv) != 4:
-        sys.exit("usage: manual.py FOLDER VERSION DATE")
-    folder, version, date = sys.argv[1:]
+    if len(sys.argv) != 7:
+        sys.exit("usage: manual.py FOLDER VERSION DATE HOME ORCA PERFORM")
+    folder, version, date, *names = sys.argv[1:]
+    NAMES.update(zip(("home", "orca", "perform"), names))
     commands = sections_of("docs/COMMANDS.md")
     write(folder, "orca.1", "\n".join([*page_of_orca(commands, version, date), ""]))
     write(folder, "perform.1", "\n".join([*page_of_perform(commands, version, date), ""]))
@@ -268,4 +275,5 @@ def main():
         write(folder, f"pages/{name}", page_alone(name))
 
 
-main()
+if __name__ == "__main__":
+    main()
