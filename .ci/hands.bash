@@ -42,7 +42,7 @@ first_plays() {
     rm -f saved script
     printf '....\n%.0s' 1 2 3 >piece
     on_stage piece --at "127.0.0.1:$port" --bpm 999 --save saved --script script "$@"
-    await_text seen ": ./perform --join 127.0.0.1:$port"
+    await_text seen "perform --join 127.0.0.1:$port"
     within 60 is_heard "$port" || fails "nobody listens at $port"
 }
 
@@ -78,7 +78,7 @@ try_hands() {
     await_text seen ' play '
     type_glyph 7
     within 60 saves 789. || fails "three hands write: $(cat saved)"
-    say_by_perform 125 "nobody is waited for at 127.0.0.1:$port: the first player types ./perform PIECE --hands 2" \
+    say_by_perform 125 "nobody is waited for at 127.0.0.1:$port: the first player types $top/perform PIECE --hands 2" \
         --join "127.0.0.1:$port"
     exec {third}>&-
     wait "$resetting" || fails "there is no connection to be reset"
@@ -111,7 +111,7 @@ try_joining() {
     printf '....\n' >piece
     on_stage piece --hands 2 --at "127.0.0.1:$port"
     await_stage 7
-    await_text seen "perform: piece: nobody can join at 127.0.0.1:$port, which is taken, forbidden or of another machine"
+    await_text seen "perform: piece: nobody can join at 127.0.0.1:$port (another program listens at the port $port)"
     turn_to first
     end_stage 130
     ! has_rooms piece && [ ! -e saved ] || fails "a performance that nobody joined leaves something"

@@ -10,7 +10,7 @@ await_text() {
 # type_glyph GLYPH: types it, and waits until the picture shows it at the cursor. Then all keys before it were taken.
 type_glyph() {
     printf %s "$1" >&"$typed"
-    await_text seen $'\e[7m'"$1"
+    await_text seen "$(cursor_on "$1")"
 }
 
 # lines_of PAGE SECTION NUMBER: the lines of this block of a page's section, which is the first without a language, or the
@@ -136,7 +136,7 @@ try_told() {
     type_glyph 7
     plays_on seen 10 "a synthesizer has gone"
     end_stage 3
-    await_text seen 'perform: this port failed: --midi synth, or the terminal'
+    await_text seen 'perform: this port failed: --midi synth: nobody reads this pipe'
     await_text seen 'perform: the grid is saved in saved'
     await_text seen 'perform: the script is saved in script'
     [ "$(head -c 1 saved)" = 7 ] && grep -q '^write 0 0 7$' script || fails "what ./perform calls saved is not saved"
@@ -377,13 +377,13 @@ try_room() {
     crowd 1 >"$name"
     play_and_leave --bpm 1 -- "$name"
     has_rooms "$name" || fails "what was typed and not saved is gone"
-    "$top/perform" -- "$name" </dev/null >text 2>fault && fails "a performance that was cut off is played over"
-    grep -qE '^ was cut off on [-0-9]{10} at [0-9:]{5}, with 1 edit not saved: ' fault || fails "./perform says: $(cat fault)"
+    ! "$top/perform" -- "$name" </dev/null >text 2>fault || fails "a performance whose edits are not saved is played over"
+    grep -qE '^ that ended on [-0-9]{10} at [0-9:]{5} left 1 edit unsaved: ' fault || fails "./perform says: $(cat fault)"
     "$top/perform" --recover -- "$name" 2>fault || fails "--recover ends with $?: $(cat fault)"
     sed '1s/./7/' "./$name" | cmp - "./$name.recovered.orca" && grep -q '^write 0 0 7$' "./$name.recovered.script" ||
         fails "--recover gives something else"
     play_and_leave --bpm 1 -- "$name"
-    "$top/perform" --recover -- "$name" 2>fault && fails "--recover writes over a file"
+    ! "$top/perform" --recover -- "$name" 2>fault || fails "--recover writes over a file"
     "$top/perform" --discard -- "$name" || fails "--discard ends with $?"
     ! has_rooms "$name" || fails "a room stays"
     crowd 1 >crowded
@@ -692,8 +692,11 @@ try_full_disk() {
         fails "a save to $disk leaves something: $(ls -A small)"
     open_disk
     end_stage 4
-    sed '1s/./8/' opened | cmp - small/piece || fails "the end does not save what Ctrl-S could not"
-    cp opened small/piece
+    await_text seen 'perform: not saved in small/piece: 2 edits; perform --recover saves them beside it'
+    cmp small/piece opened || fails "the end saves what was not to be saved"
+    "$top/perform" --recover small/piece || fails "$disk: --recover ends with $?"
+    sed '1s/./8/' opened | cmp - small/piece.recovered.orca || fails "what Ctrl-S could not save is lost"
+    rm small/piece.recovered.*
     end_at_full_disk 4 9 --save small/piece --script small/script
     end_at_full_disk 0 5
     umount small 2>/dev/null || true

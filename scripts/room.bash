@@ -1,25 +1,25 @@
+# shellcheck shell=bash
 # For ./perform, which sources this: what was typed reaches the disk. While a piece is played there is a room beside it, a
 # folder that nobody else can enter. It has the piece as it was, the pipe of the keys, and the journal, a script of all
 # commands so far, whose replay gives the grid. At the end the script comes once more, in a second room: in memory, where a
 # full disk does not matter. A performance that is saved removes its rooms; another one leaves one of them.
 
-# The room that stays.
+# The rooms that this process has made or taken over, which nobody else may touch, and the one that stays.
+mine=()
 kept=
-
-# full_name NAME: then $full is what it names, from the root, with all links followed
-full_name() {
-    IFS= read -rd '' full < <(readlink -mz -- "$1")
-}
 
 # Where rooms of this piece may be: beside it, and where files need not stay, there with a number of the folder it is in.
 name_rooms() {
-    local name sum
+    local name sum folder
     full_name "$piece"
     sum=$(printf %s "$full" | cksum)
     name=${full##*/}
     name=.${name:0:200}
     rooms=("${full%/*}/$name.orca-room")
-    rooms+=("${TMPDIR:-/tmp}/$name.${sum%% *}.orca-room" {/tmp,/dev/shm}"/$name.${sum%% *}.orca-room")
+    for folder in "${TMPDIR:-/tmp}" /tmp /dev/shm; do
+        folder+=/$name.${sum%% *}.orca-room
+        [ "$folder" = "${rooms[-1]}" ] || rooms+=("$folder")
+    done
 }
 
 # is_room FOLDER: it is a room of this piece, and nobody else's
@@ -28,21 +28,38 @@ is_room() {
     [ -O "$1" ] && printf %s "$full" | cmp -s - "$1/of"
 } 2>/dev/null
 
+# lock_room FOLDER: the room is this process's, and stays so for as long as that or its program lives
+lock_room() {
+    exec {lock}<"$1" && flock -n "$lock" && [ "/dev/fd/$lock" -ef "$1" ] && mine+=("$1")
+} 2>/dev/null
+
 # note_names FOLDER: a room has the full names of its piece and of its port
 note_names() {
     full_name "${given[--midi]-/dev/null}" && printf %s "$full" >"$1/midi" && full_name "$piece" && printf %s "$full" >"$1/of"
 }
 
-# begin_room FOLDER: a room is made, with what is needed to tell later what was played
-begin_room() {
-    # A room without the name of its piece was never begun.
-    [ ! -O "$1" ] || [ -e "$1/of" ] || rm -rf -- "$1"
-    mkdir -m 700 -- "$1" || return 1
-    { [ -z "$is_new" ] && cat -- "$piece" || new_piece; } >"$1/piece" && printf %s "${given[--limit]-}" >"$1/limit" &&
-        note_names "$1" || { rm -rf -- "$1" && return 1; }
-} 2>/dev/null
+# fill_room FOLDER: what is needed to tell later what was played. Git leaves a room alone.
+fill_room() {
+    if [ -z "$is_new" ]; then cat <"$piece"; else new_piece; fi >"$1/piece" && printf %s "${given[--limit]-}" >"$1/limit" &&
+        echo '*' >"$1/.gitignore" && note_names "$1"
+}
 
-# The two rooms of this performance, and a lock on the first, for as long as it or its program lives.
+# begin_room FOLDER: a room is made whole and locked under a name of its own, and only then moved to this one, which fails
+# if a room stands there. Of two performances that begin at once the second one ends here.
+begin_room() {
+    local made
+    made=$(mktemp -d -- "$1-XXXXXX" 2>/dev/null) || return 1
+    if fill_room "$made" && lock_room "$made" && mv -T -- "$made" "$1"; then
+        mine[-1]=$1
+        return
+    fi 2>/dev/null
+    rm -rf -- "$made"
+    is_room "$1" || return 1
+    end_room
+    fails "$piece is being performed now"
+}
+
+# The two rooms of this performance.
 is_new=
 make_room() {
     [ -e "$piece" ] || is_new=new
@@ -51,28 +68,29 @@ make_room() {
         [ -n "$room" ] || fails "there is no room for a copy of the piece, neither beside it nor in ${TMPDIR:-/tmp}"
         ! begin_room "$room" || break
     done
-    exec {lock}<"$room"
-    flock -n "$lock" || true
-    quick=${rooms[3]}
-    begin_room "$quick" || quick=$room
+    quick=${rooms[-1]}
+    [ "$room" = "$quick" ] || begin_room "$quick" || quick=$room
     script=$quick/script
 }
 
 # The room of a piece that is not edited, of which nothing stays.
 make_bare_room() {
     room=$(mktemp -d) && note_names "$room" || fails "there is no room in ${TMPDIR:-/tmp}"
-    rooms=("$room")
+    mine=("$room")
 }
 
 # What a new piece begins as: its model, or an empty grid of the size of the picture, less its status line.
 new_piece() {
-    [ -n "$model" ] && cat -- "$model" ||
+    if [ -n "$model" ]; then
+        cat -- "$model"
+    else
         yes "$(printf "%$((10#${given[--cols]}))s" '' | tr ' ' .)" | head -n $((10#${given[--rows]} - 1))
+    fi
 }
 
 # Removes the rooms, but for one that stays.
 end_room() {
-    for room in "${rooms[@]}"; do
+    for room in "${mine[@]}"; do
         [ "$room" = "$kept" ] || ! is_room "$room" || rm -rf -- "$room"
     done
 }
@@ -82,26 +100,28 @@ whole_lines() {
     head -n "$(wc -l <"$1")" "$1"
 }
 
-# end_notes: the port of --midi gets All Notes Off on each channel, since a program that was killed ends no note
+# end_notes: the port of --midi gets All Notes Off on each channel, since a program that was killed ends no note; and a stop
+# of the clock that it gave
 end_notes() {
     local port digit
     IFS= read -rd '' port <"$room/midi" || true
-    [ ! -e "$port" ] || for digit in {0..9} {A..F}; do printf '%b' "\\xB$digit\\x7B\\x00"; done |
-        timeout 0.5 bash -c 'cat >>"$1"' bash "$port" 2>/dev/null || true
-}
+    [ ! -e "$port" ] || for digit in {0..9} {A..F} stop; do
+        if [ "$digit" != stop ]; then printf '%b' "\\xB$digit\\x7B\\x00"; elif [ "$task" = lead ]; then printf '\xFC'; fi
+    done | timeout 0.5 bash -c 'cat >>"$1"' bash "$port" || true
+} 2>/dev/null
 
-# count_edits SCRIPT: then $edits tells how many commands it has that are no frames
+# count_edits SCRIPT: then $edits tells how many commands it has that change the grid or the tick
 count_edits() {
-    edits=$(grep -cvE '^(!|#|copy |frames? ?[0-9]*$)' "$1") || true
-    [ "$edits" = 1 ] && edits+=' edit' || edits+=' edits'
+    edits=$(grep -cvE '^(!|#|copy |(frames?|rewind) ?[0-9]*$|undo$|redo$)' "$1") || true
+    if [ "$edits" = 1 ]; then edits+=' edit'; else edits+=' edits'; fi
 }
 
 # replayed: the grid after the script of standard input. Of what a replay prints the grid alone has no spaces.
 replayed() (
     set -o pipefail
     limit=$(<"$room/limit")
-    "$program" replay ${limit:+"--limit=$limit"} -- "$room/piece" /dev/stdin 2>/dev/null | sed '/ /d'
-)
+    "$program" replay ${limit:+"--limit=$limit"} -- "$room/piece" /dev/stdin | sed '/ /d'
+) 2>/dev/null
 
 # has_grid FILE: it has the grid after the script of standard input
 has_grid() {
@@ -124,8 +144,14 @@ was_saved() {
     return 1
 }
 
-# replace_file FROM NAME: NAME has what FROM has, or is as it was. The target of a link is replaced; a device and a pipe
-# are written as they are, and have half a second to take it.
+# settle NAME: what the file has is on the disk, and that it has this name
+settle() {
+    full_name "$1"
+    sync -- "$full" && sync -- "${full%/*}/"
+} 2>/dev/null
+
+# replace_file FROM NAME: NAME has what FROM has, on the disk, or is as it was. The target of a link is replaced; a device
+# and a pipe are written as they are, and have half a second to take it.
 replace_file() {
     local beside full
     full_name "$2"
@@ -136,8 +162,13 @@ replace_file() {
     [ ! -e "$full" ] || [ -w "$full" ] || return 1
     beside=$(mktemp -- "${full%/*}/.orca-save-XXXXXX") || return 1
     # It gets the rights of the file that it replaces, or those of any new file.
-    { chmod --reference="$full" -- "$beside" || chmod "$(printf %o $((0666 & ~$(umask))))" -- "$beside"; } &&
-        cat -- "$1" >"$beside" && mv -fT -- "$beside" "$full" || { rm -f -- "$beside" && return 1; }
+    if { chmod --reference="$full" -- "$beside" || chmod "$(printf %o $((0666 & ~$(umask))))" -- "$beside"; } &&
+        cat -- "$1" >"$beside" && sync -- "$beside" && mv -fT -- "$beside" "$full"; then
+        settle "$full" || true
+    else
+        rm -f -- "$beside"
+        return 1
+    fi
 } 2>/dev/null
 
 # Removes what a program that was killed in the middle of a save has left, beside the names under which it saves.
@@ -156,7 +187,7 @@ save_again() {
     replayed <"$script" >"$quick/grid" && replace_file "$quick/grid" "$1"
 }
 
-# tell_grid: whether the grid of the end is saved. Fails if edits are not.
+# tell_grid: whether the grid of the end is saved. Fails if edits are not. Without --save nothing is saved here.
 tell_grid() {
     local name=${given[--save]-$piece} edits
     count_edits "$script"
@@ -165,23 +196,25 @@ tell_grid() {
         say "the grid is saved in $name"
     elif was_saved "$name"; then
         say "the grid was saved in $name, by Ctrl-S"
-    elif [ "$status" = 4 ] && save_again "$name"; then
-        say "the grid is saved in $name"
     elif [ "$edits" = '0 edits' ]; then
         say "no grid was saved: Ctrl-S and --save do that"
+        return
     else
-        say "not saved in $name: $edits; ${0##*/} --recover saves them beside it, and ${0##*/} --discard drops them"
+        why_unsaved "$name"
+        [ -n "$why" ] || [ "$(stat -fc %a -- "${full%/*}/")" != 0 ] || why='the disk is full'
+        say "not saved in $name${why:+ ($why)}: $edits; $called --recover saves them beside it, and $called --discard drops them"
         return 1
     fi
+    settle "$name" || true
 }
 
 # tell_replay SCRIPT: the line that replays it. If the piece has changed, the grid that it began with is put beside it.
 tell_replay() {
-    local begin=$piece limit
+    local begin=$piece limit orca=${0%perform}orca
     limit=$(<"$room/limit")
     cmp -s -- "$piece" "$room/piece" || begin=$1.begin.orca
     [ "$begin" = "$piece" ] || replace_file "$room/piece" "$begin" || return 0
-    say "this plays it again: ${0%perform}orca replay ${limit:+--limit=$limit }-- $(printf '%q %q' "$begin" "$1")"
+    say "this plays it again: ${orca/%orca-orca/orca-sequencer} replay ${limit:+--limit=$limit }-- $(printf '%q %q' "$begin" "$1")"
 }
 
 # save_script: the script goes to its name, if there is one. Fails if it can't.
@@ -201,6 +234,9 @@ save_script() {
 # finish: after the program has ended, lines say what is saved where, and what is not saved stays in a room. Then $status
 # is that of this script.
 finish() {
+    # Where one of the rooms was swept away, as by git, the other one has to do.
+    [ -e "$room/piece" ] || room=$quick
+    [ -e "$quick/piece" ] || quick=$room script=$room/script
     # A program that was killed has saved no script, but a journal. The second room may be full.
     [ -s "$script" ] || for script in "$script" "$room/script"; do
         ! whole_lines "$room/journal" >"$script" || break
@@ -219,9 +255,9 @@ finish() {
 # find_room: whether a performance of this piece has left a room, which no other one has; then it is $room, with $script
 find_room() {
     for room in "${rooms[@]}"; do
-        is_room "$room" || continue
-        exec {lock}<"$room"
-        flock -n "$lock" || fails "$piece is being performed now"
+        ! is_room "$room" || lock_room "$room" || fails "$piece is being performed now"
+    done
+    for room in "${mine[@]}"; do
         for script in "$room"/{script,journal}; do
             [ ! -s "$script" ] || return 0
         done
@@ -229,25 +265,36 @@ find_room() {
     return 1
 }
 
-# look_for_room: a performance that was cut off is not played over
+# look_for_room: a performance whose edits are not saved is not played over. What was killed as it began has left half a room.
 look_for_room() {
     local edits
-    find_room && count_edits "$script" && [ "$edits" != '0 edits' ] || { end_room && return; }
-    fails "a performance of $piece was cut off on $(date -r "$script" '+%F at %R'), with $edits not saved:" \
-        "${0##*/} --recover saves them beside it, and ${0##*/} --discard drops them"
+    for room in "${rooms[@]}"; do
+        find "$room"-?????? -maxdepth 0 -user "$EUID" -mmin +1 -exec rm -rf -- {} + 2>/dev/null || true
+    done
+    if find_room; then
+        count_edits "$script"
+        [ "$edits" = '0 edits' ] || fails "the performance of $piece that ended on $(date -r "$script" '+%F at %R') left $edits" \
+            "unsaved: $called --recover saves them beside it, and $called --discard drops them"
+        end_notes
+    fi
+    end_room
+    mine=()
 }
 
 # recover: what was played goes to files beside the piece, unless it is to be discarded, and the rooms go
 recover() {
     local name=$piece.recovered file
     find_room || fails "$piece: there is nothing to $task"
-    [ "$task" != discard ] || { end_room; exit; }
-    for file in "$name.orca" "$name.script"; do
+    [ "$task" = discard ] || for file in "$name.orca" "$name.script"; do
         [ ! -e "$file" ] && [ ! -L "$file" ] || fails "$file: this file is there already: give it another name first"
+        why_unsaved "$file"
+        [ -z "$why" ] || fails "$file: $why; what is left is in $room"
     done
     end_notes
-    whole_lines "$script" >"$name.script" && replayed <"$name.script" >"$name.orca" &&
-        [ -s "$name.orca" ] || fails "$piece: it can't be played again; what is left is in $room"
+    [ "$task" != discard ] || { end_room; exit; }
+    whole_lines "$script" >"$name.script" && replayed <"$name.script" >"$name.orca" && [ -s "$name.orca" ] &&
+        settle "$name.script" && settle "$name.orca" ||
+        fails "$piece: it can't be played again; what is left is in $room"
     say "the grid is in $name.orca, and the script in $name.script"
     tell_replay "$name.script"
     end_room
