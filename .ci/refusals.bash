@@ -12,7 +12,7 @@ refuses() {
 
 # What would fail is said before the first frame.
 try_refusals() {
-    local folder
+    local folder name
     rm -rf refused
     mkdir refused
     cd refused
@@ -35,6 +35,8 @@ try_refusals() {
     refuses "--midi /dev/snd/none: there is no such device; perform --ports shows those that are there" song --midi /dev/snd/none
     refuses "--midi a b: there is no such name: mkfifo a\\ b makes a pipe for a synthesizer, and touch a\\ b a file of bytes" \
         song --midi 'a b'
+    name=$(printf 'n%.0s' {1..256})
+    refuses "$name: this name is too long" "$name"
     ln -s loop loop
     refuses "loop: this link leads to itself" loop
     refuses "--save loop: this link leads to itself" song --save loop
@@ -114,6 +116,13 @@ try_forbidden() {
     refuses "--save unread: this pipe may not be read, and a save needs the right to do both" song --save unread
     refuses "--midi device: you may not write to it; it is of the group $(stat -c %G device): join that group, and log in again" \
         song --midi device
+    mkdir sticky
+    cp song sticky
+    chmod 666 sticky/song
+    chmod 1777 sticky
+    # Where nobody else is here, it is one's own.
+    [ -z "$as_nobody" ] ||
+        refuses "sticky/song: this file is somebody else's, and the folder $folder/sticky lets nobody else replace it" sticky/song
     try_locked_folder
 }
 

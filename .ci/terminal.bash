@@ -49,12 +49,13 @@ end_stage() {
     [ $(($(cat ended) - begin)) -le 2000 ] || fails "./perform ends $(($(cat ended) - begin)) milliseconds after the key Quit"
 }
 
-# await_stage STATUS: ./perform ends with this status, and leaves the terminal as it was
+# await_stage STATUS: ./perform ends with this status, or one of this pattern, and leaves the terminal as it was
 await_stage() {
     wait "$peer" || true
     peer=
     exec {typed}>&-
-    [ "$(cat status)" = "$1" ] || fails "./perform ends with $(cat status): $(tail -c 300 seen)"
+    # shellcheck disable=SC2053
+    [[ $(cat status) == $1 ]] || fails "./perform ends with $(cat status): $(tail -c 300 seen)"
     cmp terminal_before terminal_after || fails "./perform leaves the terminal in another state"
     [ "$(grep -ao $'\e\[?25[hl]' seen | tail -n 1)" != $'\e[?25l' ] || fails "./perform leaves the cursor hidden"
     [ "$(grep -ao $'\e\[?1002[hl]' seen | tail -n 1)" != $'\e[?1002h' ] || fails "./perform leaves the mouse to the terminal"
@@ -254,6 +255,16 @@ try_kills() {
         done
     done
     rm crowded.recovered.*
+    rm -f midi && touch midi
+    on_stage crowded --bpm 999 --midi midi
+    await_text seen ' play '
+    type_glyph 7
+    kill -KILL -- "-$(cat pid)"
+    wait "$peer" || true
+    peer=
+    exec {typed}>&-
+    within 60 "$top/perform" --discard crowded || fails "a performance that was killed is not discarded"
+    are_off midi || fails "a performance that is discarded leaves notes on"
     echo "peers: whatever is killed of ./perform, what was typed is recovered"
 }
 
@@ -397,6 +408,95 @@ try_room() {
     say_by_perform 125 'two/other is being performed now' two/other
     end_stage 0
     echo "peers: what was typed and not saved is recovered or discarded"
+}
+
+# recovers_glyph PIECE GLYPH: --recover gives the piece with this glyph at its first place; then all is as before
+recovers_glyph() {
+    "$top/perform" --recover "$1" 2>fault || fails "$1 is not recovered: $(cat fault)"
+    sed "1s/./$2/" "$1" | cmp - "$1.recovered.orca" || fails "what is recovered of $1 is another grid"
+    ! has_rooms "$1" || fails "a room of $1 stays"
+    rm "$1".recovered.*
+}
+
+# A room is swept away while the piece plays, as git does that with what it doesn't know: the other room has all of it.
+try_swept() {
+    local swept
+    crowd 1 >crowded
+    for swept in .crowded "/dev/shm/.crowded.$(printf %s "$PWD/crowded" | cksum | cut -d ' ' -f 1)"; do
+        on_stage crowded --bpm 1
+        await_text seen ' play '
+        type_glyph 7
+        rm -r "$swept.orca-room"
+        end_stage '[04]'
+        await_text seen 'perform: not saved in crowded: 1 edit; perform --recover saves them beside it'
+        ! grep -aq 'No such file' seen || fails "a room that was swept away gives: $(tail -c 300 seen)"
+        recovers_glyph crowded 7
+    done
+    echo "peers: a room is swept away, and nothing is lost"
+}
+
+# A journal that finds no room is no wish to save: without Ctrl-S and --save the piece is as it was.
+try_unasked_save() {
+    crowd 1 >crowded
+    cp crowded opened
+    prelude='ulimit -S -f 4' on_stage crowded --bpm 1
+    await_text seen ' play '
+    type_glyph 7
+    printf '\x06%.0s' {1..1000} >&"$typed"
+    type_glyph 8
+    end_stage 4
+    await_text seen 'perform: not saved in crowded: 2 edits; perform --recover saves them beside it'
+    cmp crowded opened || fails "a journal that fails makes ./perform save"
+    "$top/perform" --discard crowded
+    echo "peers: where nobody has asked for a save, nothing is saved"
+}
+
+# Pieces that are called like the standard input.
+try_dash() {
+    crowd 1 >./-
+    play_and_leave --bpm 1 --save - -
+    [ "$(head -c 1 ./-)" = 7 ] && ! has_rooms - || fails "a piece that is called - is not saved"
+    rm ./-
+    echo "peers: a piece may be called -"
+}
+
+# begin_both SECONDS: two performances of one piece begin, so far apart
+begin_both() {
+    crowd 1 >"$work/both"
+    turn_to first
+    on_stage "$work/both" --bpm 1
+    turn_to second
+    sleep "$1"
+    on_stage "$work/both" --bpm 1
+    turn_to .
+}
+
+# one_plays: one of them plays, and the other one has been refused; then $plays and $refused are their folders
+one_plays() {
+    local pair
+    for pair in first/second second/first; do
+        plays=${pair%/*} refused=${pair#*/}
+        [ ! -s "$work/$refused/status" ] || ! grep -aqF ' play ' "$work/$plays/seen" || return 0
+    done
+    return 1
+}
+
+# Of two performances that begin at once one plays and the other one is refused, and what is typed is kept.
+try_both() {
+    local gap plays refused
+    for gap in 0 0 0.05 0.1 0.15 0.2; do
+        begin_both "$gap"
+        within 60 one_plays || fails "of two performances $gap seconds apart not one plays"
+        turn_to "$refused"
+        await_stage 125
+        await_text seen 'is being performed now'
+        turn_to "$plays"
+        type_glyph 7
+        end_stage 0
+        turn_to .
+        recovers_glyph both 7
+    done
+    echo "peers: of two performances that begin at once one is refused, and nothing is lost"
 }
 
 # lowest_is ROW: this is the lowest row among those that were painted last
