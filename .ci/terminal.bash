@@ -788,7 +788,7 @@ try_full_disk() {
     # Once this is seen, the key Save was taken.
     type_glyph 8
     cmp small/piece opened || fails "a save to $disk changes the piece"
-    [ "$(ls -A small | grep -v filler | tr '\n' ' ')" = '.piece.orca-room piece ' ] ||
+    [ "$(find small -mindepth 1 -maxdepth 1 ! -name filler -printf '%f\n' | sort | tr '\n' ' ')" = '.piece.orca-room piece ' ] ||
         fails "a save to $disk leaves something: $(ls -A small)"
     open_disk
     end_stage 4

@@ -82,7 +82,8 @@ why_no_address() {
     local pattern='^(\[[0-9A-Fa-f:.%]+\]|[^],:[[:space:]]+):([0-9]{1,5})$'
     why='an address is HOST:PORT, as in 127.0.0.1:9000'
     [[ $1 =~ $pattern ]] && ((10#${BASH_REMATCH[2]} >= 1 && 10#${BASH_REMATCH[2]} <= 65535)) || return 0
-    host=${BASH_REMATCH[1]//[][]/} port=${BASH_REMATCH[2]}
+    host=${BASH_REMATCH[1]} port=${BASH_REMATCH[2]}
+    host=${host//[][]/}
     why="there is no host $host"
     command -v getent >/dev/null && ! getent ahosts "$host" >/dev/null || why=
 }
