@@ -22,7 +22,12 @@ system.
 does the same runs by `rt try --fail-alloc N`, which refuses the Nth allocation in a program of its own, unproved and
 with checks of memory. It builds that program anew for each N, which takes two minutes.
 """
-import os, re, shutil, subprocess, sys, tempfile
+import os
+import re
+import shutil
+import subprocess
+import sys
+import tempfile
 
 HERE = os.path.dirname(os.path.abspath(__file__))
 CRATE = os.path.join(HERE, '../crates/orca_cases')
@@ -79,6 +84,12 @@ void *realloc(void *old, size_t size) {
 """
 
 
+def expect(holds, *what):
+    """Ends all, with these words, if this does not hold."""
+    if not holds:
+        sys.exit(' '.join(str(it) for it in ('memory:', *what)))
+
+
 def stored(file):
     """The lines of each stored run, or of its answer, by its name."""
     found = {}
@@ -99,7 +110,7 @@ class Run:
         self.sends = [line for line in answer if line.startswith('send ')]
         self.files = [line for line in answer if line.startswith('file ')]
         held = dict(line.split(' ')[1:] for line in case if line.startswith('file '))
-        self.unsaved = ['file %s %s' % (it[5:], held.get(it[5:], 'none')) for it in case if it.startswith('want ')]
+        self.unsaved = [f"file {it[5:]} {held.get(it[5:], 'none')}" for it in case if it.startswith('want ')]
         self.whole = self.sends + self.files + ['status 0']
         self.closed = [self.sends[:n] + self.ends_of_notes(n) for n in self.ends_of_commands()]
         self.seen = {'no answer': 0, 'unhurt': 0, 'closed': 0, 'stopped': 0}
@@ -122,10 +133,10 @@ class Run:
             if port == 'midi' and data[0] in '89':
                 key = data[1:4]
                 notes = [note for note in notes if note != key] + [key] * (data[0] == '9')
-        return ['send midi 8%s00' % note for note in notes]
+        return [f'send midi 8{note}00' for note in notes]
 
     def look(self, answer):
-        """Takes an answer, which fails an assertion if no refusal of one allocation leads to it."""
+        """Takes an answer, which ends all if no refusal of one allocation leads to it."""
         if answer is None:
             self.seen['no answer'] += 1
             return
@@ -134,24 +145,24 @@ class Run:
             return
         sends = [line for line in answer if line.startswith('send ')]
         files = [line for line in answer if line.startswith('file ')]
-        assert answer[-1] == 'status 9' and sends[-1] == LINE, (self.name, answer)
+        expect(answer[-1] == 'status 9' and sends[-1] == LINE, self.name, answer)
         handed = sends[:-1]
         saves = [n for n in range(len(files)) if files[n] != self.unsaved[n]]
-        assert files == self.files[:len(saves)] + self.unsaved[len(saves):], (self.name, files)
-        assert not saves or handed == self.sends, (self.name, answer)
+        expect(files == self.files[:len(saves)] + self.unsaved[len(saves):], self.name, files)
+        expect(not saves or handed == self.sends, self.name, answer)
         closed, begun = handed in self.closed, handed == self.sends[:len(handed)]
-        assert closed or begun, (self.name, answer)
+        expect(closed or begun, self.name, answer)
         self.seen['closed' if closed else 'stopped'] += 1
         if begun and handed != self.sends:
             self.reached[len(handed)] += 1
-            assert closed or self.reached[len(handed)] <= MOST_OF_A_SEND, (self.name, answer)
+            expect(closed or self.reached[len(handed)] <= MOST_OF_A_SEND, self.name, answer)
 
     def conclude(self):
         """Says what was seen. Each send was refused: then those before it stand, and no more."""
-        assert all(self.reached.values()), (self.name, self.reached)
-        text = '%s: %d refused; %d closed it, %d stopped it at a send, %d left it whole, %d were of orca_cases itself'
-        closed, stopped = self.seen['closed'], self.seen['stopped']
-        print(text % (self.name, sum(self.seen.values()), closed, stopped, self.seen['unhurt'], self.seen['no answer']))
+        expect(all(self.reached.values()), self.name, self.reached)
+        seen = self.seen
+        print(f"{self.name}: {sum(seen.values())} refused; {seen['closed']} closed it, {seen['stopped']} stopped it at a send, "
+              f"{seen['unhurt']} left it whole, {seen['no answer']} were of orca_cases itself")
 
 
 def sweep(program, runs, folder):
@@ -170,7 +181,7 @@ def sweep(program, runs, folder):
             number += 1
             done = subprocess.run([program], input=run.text, capture_output=True, text=True,
                                   env={'LD_PRELOAD': library, 'REFUSE': str(number)})
-            assert done.returncode in (0, 1), (run.name, number, done.returncode)
+            expect(done.returncode in (0, 1), run.name, number, done.returncode)
             refused = done.stderr.startswith('refused')
             if refused:
                 run.look(done.stdout.splitlines()[1:] if done.returncode == 0 else None)
@@ -180,12 +191,12 @@ def sweep(program, runs, folder):
 def try_once(number, runs, folder):
     """Refuses one allocation of each run of a program that `rt try` builds."""
     for run in runs.values():
-        with open('%s/%s' % (folder, run.name), 'w') as file:
+        with open(f'{folder}/{run.name}', 'w') as file:
             file.write(run.text)
     words = ['rt', 'try', '--steps', '1', '--fail-alloc', number, '--cases', folder]
     tried = subprocess.run(words, cwd=CRATE, stdout=subprocess.PIPE, stderr=subprocess.STDOUT, text=True)
     said = re.findall(r'== (\w+)\n(.*?)case=\1 run=ended status=([01]) ', tried.stdout, re.S)
-    assert {name for name, _, _ in said} == set(runs), tried.stdout
+    expect({name for name, _, _ in said} == set(runs), tried.stdout)
     for name, text, status in said:
         answer = [line for line in text.splitlines() if re.match('(send|file|status) ', line)]
         runs[name].look(answer if status == '0' else None)
@@ -203,4 +214,5 @@ def main():
             sweep(sys.argv[1] if len(sys.argv) > 1 else os.path.join(CRATE, 'out/orca_cases'), runs, folder)
 
 
-main()
+if __name__ == '__main__':
+    main()

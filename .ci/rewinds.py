@@ -5,7 +5,11 @@ A replay that goes back to a moment has to end as one that never went farther, a
 back. The histories are so long that checkpoints are loaded and their spacing doubles; the moments are those at its edges
 and at the edge of the patches, and some at random. PROGRAM is crates/orca/out/orca if it is not given.
 """
-import os, random, subprocess, sys, tempfile
+import os
+import random
+import subprocess
+import sys
+import tempfile
 
 HERE = os.path.dirname(os.path.abspath(__file__))
 sys.path.insert(0, os.path.join(HERE, '../bench'))
@@ -18,12 +22,18 @@ LENGTHS = (16_639, 16_640, 16_641, 17_000, 33_281, 70_000)
 EDGES = (0, 1, 255, 256, 257, 511, 512, 513, 16_384)
 
 
+def expect(holds, *what):
+    """Ends all, with these words, if this does not hold."""
+    if not holds:
+        sys.exit(' '.join(str(it) for it in ('rewinds:', *what)))
+
+
 def ended(lines):
     """The grid and the tick at the end of a replay."""
     with open('script', 'w') as file:
         file.writelines(line + '\n' for line in lines)
     done = subprocess.run([PROGRAM, 'replay', 'grid', 'script', '--limit', '4000000'], capture_output=True, text=True)
-    assert done.returncode == 0, (done.returncode, done.stderr)
+    expect(done.returncode == 0, done.returncode, done.stderr)
     *rows, state = done.stdout.splitlines()
     return rows, state.split()[1]
 
@@ -34,18 +44,18 @@ def played(count):
 
 def look(length, moment):
     """Goes back to a moment, forward again, and back to one inside what came back."""
-    back = played(length) + ['rewind %d' % moment]
+    back = played(length) + [f'rewind {moment}']
     last = max(moment - 1, 0)
-    assert ended(back) == ended(played(moment)), ('a rewind', length, moment)
-    assert ended(back + ['redo']) == ended(played(length)), ('a redo', length, moment)
-    again = back + ['redo', 'rewind %d' % (moment // 2), 'redo', 'rewind %d' % last]
-    assert ended(again) == ended(played(last)), ('a rewind into what came back', length, moment)
+    expect(ended(back) == ended(played(moment)), 'a rewind', length, moment)
+    expect(ended(back + ['redo']) == ended(played(length)), 'a redo', length, moment)
+    again = back + ['redo', f'rewind {moment // 2}', 'redo', f'rewind {last}']
+    expect(ended(again) == ended(played(last)), 'a rewind into what came back', length, moment)
 
 
 def resized(count):
     """Resizes by turns between 256 rows of 256 and fewer. Each touches the cells of both sizes, so that the last 545 keep their
     patches."""
-    return ['resize %d 256' % (256 if turn % 2 else 192 + turn // 2 % 64) for turn in range(count)]
+    return [f'resize {256 if turn % 2 else 192 + turn // 2 % 64} 256' for turn in range(count)]
 
 
 def look_resized():
@@ -53,9 +63,9 @@ def look_resized():
     lines = resized(RESIZES)
     for moment in (0, *range(476, 484), RESIZES - 1):
         there = ended(lines[:moment])
-        assert ended(lines + ['rewind %d' % moment]) == there, ('a rewind', moment)
-        assert ended(lines + ['undo'] * (RESIZES - moment)) == there, ('undos', moment)
-        assert ended(lines + ['rewind %d' % moment, 'redo']) == ended(lines[:moment + 1]), ('a redo', moment)
+        expect(ended(lines + [f'rewind {moment}']) == there, 'a rewind', moment)
+        expect(ended(lines + ['undo'] * (RESIZES - moment)) == there, 'undos', moment)
+        expect(ended(lines + [f'rewind {moment}', 'redo']) == ended(lines[:moment + 1]), 'a redo', moment)
 
 
 def main():
@@ -70,8 +80,8 @@ def main():
     with open('grid', 'wb') as file:
         file.write(grids.crowded(256, 256, 12))
     look_resized()
-    print('%d resizes: each rewind, undo and redo leads where it must' % RESIZES)
-    print('%d moments of histories of up to %d entries: each rewind and redo leads where it must' % (count, LENGTHS[-1]))
+    print(f'{RESIZES} resizes: each rewind, undo and redo leads where it must')
+    print(f'{count} moments of histories of up to {LENGTHS[-1]} entries: each rewind and redo leads where it must')
 
 
 if __name__ == '__main__':

@@ -5,17 +5,22 @@ number of notes that sound. If the program knows the options, the history is sho
 MIDI bytes have to be the same too.
 
 The model keeps a plain list of entries, and a list of what was cut off. When a command goes back or forward again,
-it folds the list from the opened grid. Its operators are D, E, H, N, S, W in both cases, `*` and `:`; the grids hold no others.
+it folds the list from the opened grid. Its operators are A, B, D, E, H, N, S, W in both cases, `*` and `:`. A and B may write
+other letters: these are erased, by a command too, before the next frame.
 
 .ci/sessions.py                       8 sessions by the program that the gate has built
 .ci/sessions.py PROGRAM 100 7         100 sessions by another one, the first of them drawn with seed 7
 """
-import os, random, subprocess, sys, tempfile
+import os
+import random
+import subprocess
+import sys
+import tempfile
 
 COMMANDS = 3000
 SIDE = 1024               # the most rows and columns of a grid
 MOST = 4294967295         # the greatest number of a script
-GLYPHS = "....0123459DEEHNSWdehnsw**::"
+GLYPHS = "....." "0123459" "DEEHNSWdehnsw" "ABab" "**::"
 MOVES = {"E": (0, 1), "N": (-1, 0), "S": (1, 0), "W": (0, -1)}
 
 
@@ -30,7 +35,18 @@ def value(glyph):
 def note_number(letter):
     degree = ord(letter.upper()) - ord("C")
     sharp = 1 if letter.islower() else 0
-    return 12 * (degree // 7) + (0, 2, 4, 5, 7, 9, 11)[degree % 7] + sharp
+    return 12 * (max(degree, 0) // 7) + (0, 2, 4, 5, 7, 9, 11)[degree % 7] + sharp
+
+
+def cased(number, by):
+    glyph = "0123456789abcdefghijklmnopqrstuvwxyz"[number]
+    return glyph.upper() if by.isupper() else glyph
+
+
+# the place of a letter that no operator here has, if the grid has one
+def unknown(grid):
+    places = ((y, x) for y, row in enumerate(grid) for x, glyph in enumerate(row))
+    return next(((y, x) for y, x in places if grid[y][x].isalpha() and grid[y][x] not in GLYPHS), None)
 
 
 # ---- a frame: the grid after it, and its notes as (channel, key, velocity, frames)
@@ -75,10 +91,15 @@ class Frame:
             rate, top = value(self.peek(y, x - 1)) or 1, value(self.peek(y, x + 1)) or 8
             self.still.update([(y, x - 1), (y, x + 1), (y + 1, x)])
             self.write(y + 1, x, "*" if self.tick % (rate * top) == 0 else ".")
+        elif kind in "AB":
+            left, right = value(self.peek(y, x - 1)), value(self.peek(y, x + 1))
+            self.still.update([(y, x - 1), (y, x + 1), (y + 1, x)])
+            number = (left + right) % 36 if kind == "A" else abs(left - right)
+            self.write(y + 1, x, cased(number, self.peek(y, x + 1)))
         elif kind == ":":
             self.note(y, x)
         else:
-            raise AssertionError("no rule for " + glyph)
+            raise ValueError(f"no rule for {glyph}")
 
     def move(self, y, x, glyph, down, right):
         to = (y + down, x + right)
@@ -195,7 +216,7 @@ class Session:
         if kind == "undo" and not any(entry[0] in EDITS for entry in self.entries):
             return "NothingToUndo"
         if kind == "rewind" and rest[0] >= len(self.entries):
-            return "NoSuchMoment kept %d" % len(self.entries)
+            return f"NoSuchMoment kept {len(self.entries)}"
         if kind not in ("copy", "undo", "rewind", "redo") and len(self.entries) == self.limit:
             return "HistoryFull"
         if kind == "redo" and self.tail and len(self.entries) + self.group() > self.limit:
@@ -280,8 +301,12 @@ def some_place(draw, session):
 
 
 def some_rect(draw, session):
-    side = (lambda: draw.choice([0, 7, 300, MOST])) if draw.random() < 0.05 else (lambda: draw.randint(1, 4))
-    return some_place(draw, session) + (side(), side())
+    some_length = (lambda: draw.choice([0, 7, 300, MOST])) if draw.random() < 0.05 else (lambda: draw.randint(1, 4))
+    return some_place(draw, session) + (some_length(), some_length())
+
+
+def some_side(draw):
+    return draw.choice([0, 1, 1025, MOST]) if draw.random() < 0.04 else draw.randint(3, 12)
 
 
 def some_moment(draw, session):
@@ -292,6 +317,10 @@ def some_moment(draw, session):
 
 
 def some_command(draw, session, weights):
+    place = unknown(session.piece[0])
+    if place and len(session.entries) < session.limit:
+        # With the operator above it, which would write it again.
+        return ("erase", max(0, place[0] - 1), place[1], 2, 1)
     kind = draw.choices(list(weights), list(weights.values()))[0]
     if kind == "write":
         return (kind,) + some_place(draw, session) + (draw.choice(GLYPHS),)
@@ -304,8 +333,7 @@ def some_command(draw, session, weights):
     if kind == "move":
         return (kind,) + some_rect(draw, session) + some_place(draw, session)
     if kind == "resize":
-        side = lambda: draw.choice([0, 1, 1025, MOST]) if draw.random() < 0.04 else draw.randint(3, 12)
-        return (kind, side(), side())
+        return (kind, some_side(draw), some_side(draw))
     if kind == "rewind":
         return (kind, some_moment(draw, session))
     return (kind,)
@@ -346,12 +374,13 @@ def compare(program, work, seed, options):
         lines.append(line_of(draw, command))
         rule = session.obey(command)
         if rule is not None:
-            want.append("refused %d %s\n" % (len(lines), rule))
+            want.append(f"refused {len(lines)} {rule}\n")
     grid, tick, notes = session.piece
-    assert session.piece == folded(session.opened, session.entries)
+    if session.piece != folded(session.opened, session.entries):
+        sys.exit(f"seed {seed}: the model is not what its entries make")
     want += [row + "\n" for row in grid]
-    want.append("tick %d moments %d sounding %d\n" % (tick, len(session.entries), len(notes)))
-    paths = {name: os.path.join(work, "%s%d" % (name, seed)) for name in ("grid", "script", "midi")}
+    want.append(f"tick {tick} moments {len(session.entries)} sounding {len(notes)}\n")
+    paths = {name: os.path.join(work, f"{name}{seed}") for name in ("grid", "script", "midi")}
     with open(paths["grid"], "w", newline="") as file:
         file.write(opened)
     with open(paths["script"], "w", newline="") as file:
@@ -388,19 +417,19 @@ def main():
         differs = compare(program, work, seed, options)
         if differs is not None:
             what, want, done = differs
-            print("seed %d: %s differs; grid%d and script%d are in %s" % (seed, what, seed, seed, work))
-            print("status %d" % done.returncode)
+            print(f"seed {seed}: {what} differs; grid{seed} and script{seed} are in {work}")
+            print(f"status {done.returncode}")
             print(done.stderr.decode(errors="replace"), end="")
             got = done.stdout.decode(errors="replace").splitlines(True)
             for n, (a, b) in enumerate(zip(want + [""], got + [""])):
                 if a != b:
-                    print("line %d is %r and not %r" % (n + 1, b, a))
+                    print(f"line {n + 1} is {b!r} and not {a!r}")
                     break
             sys.exit(1)
     for name in os.listdir(work):
         os.remove(os.path.join(work, name))
     os.rmdir(work)
-    print("%d sessions of %d commands agree" % (count, COMMANDS))
+    print(f"{count} sessions of {COMMANDS} commands agree")
 
 
 if __name__ == "__main__":

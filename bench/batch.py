@@ -7,7 +7,12 @@ crates/orca/out/orca if it is not given. For times that mean something nothing e
 The memory of a run is the most that the program itself has touched (VmHWM). It is read while the program waits at its
 last line, since nobody takes what it prints until then.
 """
-import os, random, subprocess, sys, tempfile, time
+import os
+import random
+import subprocess
+import sys
+import tempfile
+import time
 
 import grids
 
@@ -20,7 +25,7 @@ TRIES = 3
 def field(process, file, name):
     """A field of a running program, as the system tells it; none once it has ended."""
     try:
-        for line in open('/proc/%d/%s' % (process.pid, file)):
+        for line in open(f'/proc/{process.pid}/{file}'):
             if line.startswith(name + ':'):
                 return line.split()[1]
     except (FileNotFoundError, ProcessLookupError):
@@ -54,7 +59,8 @@ def megabytes(*words):
     while os.read(reader, 1 << 16):
         pass
     os.close(reader)
-    assert process.wait() in (0, 3), (words, process.stderr.read())
+    if process.wait() not in (0, 3):
+        sys.exit(f'{words}: {process.stderr.read()}')
     return kilobytes / 1024
 
 
@@ -65,12 +71,13 @@ def seconds(*words):
         begin = time.monotonic()
         done = subprocess.run([PROGRAM, *map(str, words)], stdout=subprocess.DEVNULL, stderr=subprocess.PIPE)
         least = min(least, time.monotonic() - begin)
-        assert done.returncode == 0, (words, done.returncode, done.stderr)
+        if done.returncode != 0:
+            sys.exit(f'{words} ends with {done.returncode}: {done.stderr}')
     return least
 
 
 def tell(name, *words):
-    print('%-76s %8.3f seconds %7.1f megabytes' % (name, seconds(*words), megabytes(*words)), flush=True)
+    print(f'{name:<76} {seconds(*words):8.3f} seconds {megabytes(*words):7.1f} megabytes', flush=True)
 
 
 def replayed(grid, script):
@@ -82,7 +89,7 @@ def replayed(grid, script):
 def tell_each(name, grid, before, more, count):
     """How long each of some commands takes that come after others: the time of all, without that of those before."""
     each = (replayed(grid, before + more) - replayed(grid, before)) / count
-    print('%-76s %8.1f microseconds each' % (name, each * 1e6), flush=True)
+    print(f'{name:<76} {each * 1e6:8.1f} microseconds each', flush=True)
     return each
 
 
@@ -94,13 +101,18 @@ def save(name, content):
 def mixed(count, height, width):
     """Edits of all kinds, each now and then after a frame."""
     draw = random.Random(1)
-    y, x = lambda: draw.randrange(height), lambda: draw.randrange(width)
-    block = lambda: '%d %d %d %d' % (y(), x(), draw.randint(1, 16), draw.randint(1, 16))
+
+    def place():
+        return f'{draw.randrange(height)} {draw.randrange(width)}'
+
+    def block():
+        return f'{place()} {draw.randint(1, 16)} {draw.randint(1, 16)}'
+
     kinds = [
-        lambda: 'write %d %d %s' % (y(), x(), draw.choice('ABCDE0123456789*')),
-        lambda: 'fill %s %s' % (block(), draw.choice('.1A')),
-        lambda: 'erase ' + block(), lambda: 'copy ' + block(), lambda: 'cut ' + block(),
-        lambda: 'paste %d %d' % (y(), x()), lambda: 'move %s %d %d' % (block(), y(), x()), lambda: 'frame',
+        lambda: f"write {place()} {draw.choice('ABCDE0123456789*')}",
+        lambda: f"fill {block()} {draw.choice('.1A')}",
+        lambda: f'erase {block()}', lambda: f'copy {block()}', lambda: f'cut {block()}',
+        lambda: f'paste {place()}', lambda: f'move {block()} {place()}', lambda: 'frame',
     ]
     return [draw.choice(kinds)() for _ in range(count)]
 
@@ -109,24 +121,24 @@ def tell_rooms():
     """What a session holds."""
     for side in (1, 256, 1_024):
         save('dots', grids.dots(side, side))
-        tell('a session at its start, %d x %d' % (side, side), 'run', 'dots', 0)
+        tell(f'a session at its start, {side} x {side}', 'run', 'dots', 0)
     frames = 4_000_000 // SHARE
-    tell('%d frames on an empty grid' % frames, 'run', 'dot', frames, '--limit', 4_000_000)
+    tell(f'{frames} frames on an empty grid', 'run', 'dot', frames, '--limit', 4_000_000)
     # As many as a script has room for, and all of them are cut off.
     frames = 2_790_000 // SHARE
     save('cut', ['frame'] * frames + ['rewind 0'])
-    tell('%d frames, and a rewind to the first' % frames, 'replay', 'dot', 'cut', '--limit', 4_000_000)
+    tell(f'{frames} frames, and a rewind to the first', 'replay', 'dot', 'cut', '--limit', 4_000_000)
     fills = 1_030 // SHARE
-    save('fills', ['fill 0 0 256 256 %s' % 'AB'[number % 2] for number in range(fills)])
+    save('fills', [f"fill 0 0 256 256 {'AB'[number % 2]}" for number in range(fills)])
     save('dots', grids.dots(256, 256))
-    tell('%d fills of 256 x 256' % fills, 'replay', 'dots', 'fills')
+    tell(f'{fills} fills of 256 x 256', 'replay', 'dots', 'fills')
     fills = 70 // min(SHARE, 7)
-    save('fills', ['fill 0 0 1024 1024 %s' % 'AB'[number % 2] for number in range(fills)])
+    save('fills', [f"fill 0 0 1024 1024 {'AB'[number % 2]}" for number in range(fills)])
     save('dots', grids.dots(1_024, 1_024))
-    tell('%d fills of 1,024 x 1,024' % fills, 'replay', 'dots', 'fills')
+    tell(f'{fills} fills of 1,024 x 1,024', 'replay', 'dots', 'fills')
     most = 16_777_216 // SHARE
     save('longest', b'#' + b' ' * (most - 1))
-    tell('a script of %d bytes with no command' % most, 'replay', 'dot', 'longest')
+    tell(f'a script of {most} bytes with no command', 'replay', 'dot', 'longest')
 
 
 def tell_edits():
@@ -138,14 +150,15 @@ def tell_edits():
         save('grid', grids.crowded(side, side, 10))
         writes, undone = ['write 0 0 A'] * turns, ['write 0 0 A', 'undo'] * turns
         each = (replayed('grid', undone) - replayed('grid', writes)) / turns
-        print('%-76s %8.2f microseconds each' % ('an undo of a write on %d x %d with 10 %%' % (side, side), each * 1e6), flush=True)
+        name = f'an undo of a write on {side} x {side} with 10 %'
+        print(f'{name:<76} {each * 1e6:8.2f} microseconds each', flush=True)
     # Writes all over the grid, as many as the ring has patches for. Each round begins with the opened grid again.
     turns, draw = max(20 // SHARE, 2), random.Random(2)
-    writes = ['write %d %d A' % (draw.randrange(1_024), draw.randrange(1_024)) for _ in range(1_023)]
+    writes = [f'write {draw.randrange(1_024)} {draw.randrange(1_024)} A' for _ in range(1_023)]
     save('grid', grids.dots(1_024, 1_024))
     start, once = replayed('grid', []), replayed('grid', writes)
     each = (replayed('grid', (writes + ['rewind 0']) * turns) - start) / turns - (once - start)
-    print('%-76s %8.2f milliseconds each' % ('a rewind over 1,023 writes on 1,024 x 1,024', each * 1e3), flush=True)
+    print(f"{'a rewind over 1,023 writes on 1,024 x 1,024':<76} {each * 1e3:8.2f} milliseconds each", flush=True)
 
 
 def tell_rewinds():
@@ -153,19 +166,23 @@ def tell_rewinds():
     save('tall', grids.dots(256, 1))
     # Each round goes back and plays on. Rounds of twice as many frames tell what these take, so the rest is the rewind.
     turns, there = 400 // SHARE, ['frame'] * 2_000
-    rounds = lambda count: replayed('tall', there + (['rewind 900'] + ['frame'] * count) * turns) / turns
+
+    def rounds(count):
+        return replayed('tall', there + (['rewind 900'] + ['frame'] * count) * turns) / turns
+
     start, short, long = replayed('tall', there) / turns, rounds(1_100), rounds(2_200)
     frame = (long - short) / 1_100
     rewind = short - start - 1_100 * frame
-    print('%-76s %8.1f microseconds, and 900 frames %8.1f: %.2f' % (
-        'a rewind of 1,100 frames on 256 rows', rewind * 1e6, frame * 900e6, rewind / frame / 900), flush=True)
+    print(f"{'a rewind of 1,100 frames on 256 rows':<76} {rewind * 1e6:8.1f} microseconds, "
+          f'and 900 frames {frame * 900e6:8.1f}: {rewind / frame / 900:.2f}', flush=True)
 
     frames, draw = 100_000 // SHARE, random.Random(3)
     moments = sorted((draw.randrange(frames - 1_100) for _ in range(40)), reverse=True)
     played = ['frame'] * frames
-    print('%-76s %8.3f seconds' % ('%d frames on 64 x 64 with 10 %%' % frames, replayed('crowd', played)), flush=True)
+    name = f'{frames} frames on 64 x 64 with 10 %'
+    print(f"{name:<76} {replayed('crowd', played):8.3f} seconds", flush=True)
     tell_each('a rewind to a random one of these moments, beyond the patches', 'crowd', played,
-              ['rewind %d' % moment for moment in moments], len(moments))
+              [f'rewind {moment}' for moment in moments], len(moments))
 
 
 def main():

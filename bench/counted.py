@@ -8,23 +8,32 @@ it: what is late, the program is itself late. It has one processor, of a thousan
 slower than a real one, and it writes to no disk. KERNEL is a compressed image of Linux, as /boot has it. PROGRAM is
 crates/orca/out/orca if it is not given. The packages qemu-system-x86, busybox-static and cpio of Debian are needed.
 """
-import os, re, shutil, subprocess, sys, sysconfig, tempfile
+import os
+import re
+import shutil
+import subprocess
+import sys
+import sysconfig
+import tempfile
 
 HERE = os.path.dirname(os.path.abspath(__file__))
-# What the machine does once it has started.
-INIT = '''#!/bin/busybox sh
+MACHINE = ['qemu-system-x86_64', '-accel', 'tcg', '-icount', 'shift=0,sleep=off', '-cpu', 'max', '-smp', '1', '-m', '1024',
+           '-nographic', '-no-reboot', '-nodefaults', '-serial', 'stdio', '-append', 'console=ttyS0 quiet panic=-1']
+
+
+def init(libraries, python, options):
+    """What the machine does once it has started."""
+    return f'''#!/bin/busybox sh
 /bin/busybox --install -s /bin
-export PATH=/bin LD_LIBRARY_PATH=%s
+export PATH=/bin LD_LIBRARY_PATH={libraries}
 mount -t proc proc /proc
 mount -t devtmpfs dev /dev
 mount -t tmpfs tmp /tmp
 ip link set lo up
 cd /tmp
-%s -S /bench/live.py /bin/orca --short %s 2>&1
+{python} -S /bench/live.py /bin/orca --short {options} 2>&1
 poweroff -f
 '''
-MACHINE = ['qemu-system-x86_64', '-accel', 'tcg', '-icount', 'shift=0,sleep=off', '-cpu', 'max', '-smp', '1', '-m', '1024',
-           '-nographic', '-no-reboot', '-nodefaults', '-serial', 'stdio', '-append', 'console=ttyS0 quiet panic=-1']
 
 
 def put(root, path):
@@ -36,7 +45,7 @@ def put(root, path):
 def fill(root, program, options):
     """Puts below the root what the machine needs."""
     for folder in ('bin', 'dev', 'proc', 'tmp'):
-        os.makedirs('%s/%s' % (root, folder))
+        os.makedirs(f'{root}/{folder}')
     shutil.copy(shutil.which('busybox'), root + '/bin/busybox')
     shutil.copy(program, root + '/bin/orca')
     shutil.copytree(HERE, root + '/bench', ignore=shutil.ignore_patterns('__pycache__'))
@@ -49,7 +58,7 @@ def fill(root, program, options):
     for path in found:
         put(root, path)
     with open(root + '/init', 'w') as file:
-        file.write(INIT % (':'.join(sorted({os.path.dirname(path) for path in found})), python, ' '.join(options)))
+        file.write(init(':'.join(sorted({os.path.dirname(path) for path in found})), python, ' '.join(options)))
     os.chmod(root + '/init', 0o755)
 
 

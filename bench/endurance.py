@@ -6,7 +6,15 @@ picture stop, go and come back at random, and so do UDP and OSC listeners on the
 be what the replay of the saved script gives, and the reader of the pipe must have had whole messages. PROGRAM is
 crates/orca/out/orca if it is not given. It ends with 1 if something of that does not hold.
 """
-import fcntl, os, random, socket, subprocess, sys, tempfile, threading, time
+import fcntl
+import os
+import random
+import socket
+import subprocess
+import sys
+import tempfile
+import threading
+import time
 
 from live import free_port, option
 
@@ -119,7 +127,8 @@ def connect(program, port):
         try:
             return socket.create_connection(('127.0.0.1', port), timeout=30)
         except ConnectionRefusedError:
-            assert time.monotonic() < until and program.poll() is None, 'the program does not listen'
+            if time.monotonic() >= until or program.poll() is not None:
+                sys.exit('the program does not listen')
             time.sleep(0.02)
 
 
@@ -129,7 +138,8 @@ def replayed():
                           timeout=600, check=True).stdout
     with open('script', 'rb') as file:
         head, *lines = file.read().splitlines()
-    assert head == b'!orca 2 seed 7', 'the script begins with %r' % head
+    if head != b'!orca 2 seed 7':
+        sys.exit(f'the script begins with {head!r}')
     # Frames in a row are one line.
     count = sum(int(line.split()[1]) if line.startswith(b'frames ') else 1 for line in lines)
     return b''.join(line + b'\n' for line in text.splitlines() if b' ' not in line), count
@@ -147,9 +157,10 @@ def main():
     with open('piece', 'wb') as file:
         file.write(piece())
     pipe, listeners, port = Pipe('synth'), [Listener(), Listener()], free_port()
-    words = [PROGRAM, 'play', 'piece', '127.0.0.1:%d' % port, '--bpm', '999', '--seed', '7', '--limit', '4000000',
-             '--midi', 'synth', '--udp', '%s:%d' % listeners[0].address, '--osc', '%s:%d' % listeners[1].address,
-             '--save', 'saved', '--script', 'script']
+    words = [PROGRAM, 'play', 'piece', f'127.0.0.1:{port}', '--bpm', '999', '--seed', '7', '--limit', '4000000',
+             '--midi', 'synth', '--save', 'saved', '--script', 'script']
+    for option, (host, number) in zip(('--udp', '--osc'), (it.address for it in listeners)):
+        words += [option, f'{host}:{number}']
     program = subprocess.Popen(words, stdout=subprocess.PIPE, bufsize=0)
     keys, picture, is_over = connect(program, port), Picture(program.stdout.fileno()), threading.Event()
     watch = threading.Thread(target=peers, args=(pipe, picture, listeners, is_over))
@@ -167,10 +178,10 @@ def main():
     grid, count = replayed()
     with open('saved', 'rb') as file:
         is_same = file.read() == grid
-    print('%d keys, %d commands, %d bytes of MIDI, %d of the picture, %s datagrams; status %d, %.2f seconds after the key Quit' %
-          (typed, count, pipe.got, picture.got, '+'.join(str(it.got) for it in listeners), status, seconds))
-    print('the replay gives %s; the pipe had %s messages' %
-          ('the saved grid' if is_same else 'ANOTHER GRID', 'whole' if pipe.is_whole else 'TORN'))
+    print(f"{typed} keys, {count} commands, {pipe.got} bytes of MIDI, {picture.got} of the picture, "
+          f"{'+'.join(str(it.got) for it in listeners)} datagrams; status {status}, {seconds:.2f} seconds after the key Quit")
+    print(f"the replay gives {'the saved grid' if is_same else 'ANOTHER GRID'}; "
+          f"the pipe had {'whole' if pipe.is_whole else 'TORN'} messages")
     return 0 if is_same and pipe.is_whole and status in (0, 3) and seconds < 2 else 1
 
 

@@ -9,7 +9,13 @@
 
 A time is in minutes. For each crate: its own proof, its tests, its edits, and the processor minutes of all three.
 """
-import glob, os, re, subprocess, sys, threading, time
+import glob
+import os
+import re
+import subprocess
+import sys
+import threading
+import time
 
 TOP = os.path.dirname(os.path.dirname(os.path.abspath(__file__)))
 KINDS = 'proof', 'tests', 'edits'
@@ -34,7 +40,7 @@ class Work:
         self.end, self.processes[process] = now, used
 
     def line(self, name, kind):
-        return '%.1f = %s %s %.1f %.1f' % (self.end, name, kind, self.begin, sum(self.processes.values()))
+        return f'{self.end:.1f} = {name} {kind} {self.begin:.1f} {sum(self.processes.values()):.1f}'
 
 
 def look(now, works):
@@ -59,7 +65,9 @@ def look(now, works):
 
 def run(log):
     begin, works, is_over = time.monotonic(), {}, threading.Event()
-    since = lambda: time.monotonic() - begin
+
+    def since():
+        return time.monotonic() - begin
 
     def watch():
         while not is_over.wait(0.5):
@@ -71,7 +79,7 @@ def run(log):
                                                   errors='replace') as gate:
         for line in gate.stdout:
             print(line, end='', flush=True)
-            print('%.1f %s' % (since(), line), end='', file=file, flush=True)
+            print(f'{since():.1f} {line}', end='', file=file, flush=True)
         is_over.set()
         watcher.join()
         for (name, kind), work in works.items():
@@ -125,16 +133,16 @@ def tell(log):
     used = crates()
     begins, ends, processor, last = read(log, used)
     took = {key: ends[key] - begins[key] for key in ends if key in begins}
-    minutes = lambda key: '%8.1f' % (took[key] / 60) if key in took else '%8s' % '-'
-    print('%-16s %8s %8s %8s %10s' % ('crate', *KINDS, 'processor'))
+    print(f"{'crate':<16}", *(f'{kind:>8}' for kind in KINDS), f"{'processor':>10}")
     for name in used:
         spent = sum(processor.get((name, kind), 0) for kind in KINDS) / 60
-        print('%-16s' % name, *(minutes((name, kind)) for kind in KINDS), '%10.1f' % spent)
+        keys = [(name, kind) for kind in KINDS]
+        print(f'{name:<16}', *(f'{took[key] / 60:8.1f}' if key in took else f"{'-':>8}" for key in keys), f'{spent:10.1f}')
     sums = [sum(took.get((name, kind), 0) for name in used) / 60 for kind in KINDS]
-    print('%-16s %8.1f %8.1f %8.1f %10.1f' % ('all', *sums, sum(processor.values()) / 60))
+    print(f"{'all':<16}", *(f'{it:8.1f}' for it in sums), f'{sum(processor.values()) / 60:10.1f}')
     length, names = max(chain_to(name, used, took, {}) for name in used)
-    print('the longest chain, %.1f of %.1f minutes: %s' % (length / 60, last / 60, ', '.join(
-        '%s %.1f' % (name, took.get((name, 'proof'), 0) / 60) for name in names)))
+    chain = ', '.join(f"{name} {took.get((name, 'proof'), 0) / 60:.1f}" for name in names)
+    print(f'the longest chain, {length / 60:.1f} of {last / 60:.1f} minutes: {chain}')
 
 
 if __name__ == '__main__':

@@ -9,7 +9,16 @@ clock of `lead` is, and a frame of `follow` after its clock, and with --hands on
 while eight hands send nothing, and while each of them sends eight megabytes of keys. PROGRAM is crates/orca/out/orca if
 it is not given. For figures that mean something nothing else may run.
 """
-import os, random, select, signal, socket, subprocess, sys, tempfile, threading, time
+import os
+import random
+import select
+import signal
+import socket
+import subprocess
+import sys
+import tempfile
+import threading
+import time
 
 import grids
 
@@ -17,6 +26,8 @@ HERE = os.path.dirname(os.path.abspath(__file__))
 # A clock and a note in each frame, above a small piece.
 BEAT = b'.D1.....\n..:03C82\n' + grids.piece()
 NOTE = b'\x90\x24'
+# How a picture shows the cursor, as cursor_on of .ci/join.bash: the glyph follows.
+CURSOR = b'\x1b[7m'
 # The bytes of a MIDI clock.
 CLOCK, START = b'\xf8', b'\xfa'
 # How long before a moment a key counts as near it, in seconds.
@@ -30,7 +41,9 @@ AWAY = b'\x1b[B' * 20
 # last 80 microseconds, and tells how late it was at each. A virtual machine is stopped by its host, whatever it does; what
 # this program is late, no program on this machine could be spared.
 WAITER = '''
-import select, sys, time
+import select
+import sys
+import time
 interval, late = float(sys.argv[1]), []
 print(flush=True)
 moment = time.monotonic() + interval
@@ -44,7 +57,8 @@ print(*late)
 '''
 # A program that answers each byte of a connection at once by a byte of its own, and does nothing else.
 ECHO = '''
-import os, socket
+import os
+import socket
 listener = socket.create_server(('127.0.0.1', 0))
 os.write(1, b'%d\\n' % listener.getsockname()[1])
 connection, _ = listener.accept()
@@ -62,7 +76,7 @@ def free_port():
     while True:
         port = random.randint(20000, 29999)
         tables = ''.join(open(file).read() for file in ('/proc/net/tcp', '/proc/net/tcp6') if os.path.exists(file))
-        if ':%04X ' % port not in tables:
+        if f':{port:04X} ' not in tables:
             return port
 
 
@@ -76,7 +90,7 @@ class Player:
             file.write(grid)
         os.path.exists('pipe') or os.mkfifo('pipe')
         self.notes = os.open('pipe', os.O_RDWR)
-        words = [PROGRAM, verb, 'grid', '127.0.0.1:%d' % port, *map(str, options), *[str(hands)] * (verb == 'jam')]
+        words = [PROGRAM, verb, 'grid', f'127.0.0.1:{port}', *map(str, options), *[str(hands)] * (verb == 'jam')]
         self.process = subprocess.Popen(words, stdout=subprocess.PIPE, bufsize=0)
         until = time.monotonic() + 10
         while True:
@@ -84,7 +98,8 @@ class Player:
                 self.keys = socket.create_connection(('127.0.0.1', port))
                 break
             except ConnectionRefusedError:
-                assert time.monotonic() < until and self.process.poll() is None, 'the program does not listen'
+                if time.monotonic() >= until or self.process.poll() is not None:
+                    sys.exit('the program does not listen')
                 time.sleep(0.01)
         self.keys.setsockopt(socket.IPPROTO_TCP, socket.TCP_NODELAY, 1)
         self.hands = [self.keys, *(socket.create_connection(('127.0.0.1', port)) for _ in range(1, hands))]
@@ -111,11 +126,11 @@ class Player:
         """Whether keys wait that the program has not read."""
         with open('/proc/net/tcp') as file:
             rows = [line.split() for line in file]
-        return any(row[1].endswith(':%04X' % self.port) and int(row[4].split(':')[1], 16) for row in rows)
+        return any(row[1].endswith(f':{self.port:04X}') and int(row[4].split(':')[1], 16) for row in rows)
 
     def used(self):
         """The time for which the process has had a processor, in seconds."""
-        with open('/proc/%d/schedstat' % self.process.pid) as file:
+        with open(f'/proc/{self.process.pid}/schedstat') as file:
             return int(file.read().split()[0]) / 1e9
 
     def leave(self):
@@ -129,8 +144,11 @@ class Player:
 
 def spread(name, times, unit, scale):
     times = sorted(times)
-    at = lambda share: times[min(len(times) - 1, int(len(times) * share))] * scale
-    print('%-58s median %8.1f, 99 of 100 %8.1f, most %8.1f %s' % (name, at(0.5), at(0.99), at(1), unit), flush=True)
+
+    def at(share):
+        return times[min(len(times) - 1, int(len(times) * share))] * scale
+
+    print(f'{name:<58} median {at(0.5):8.1f}, 99 of 100 {at(0.99):8.1f}, most {at(1):8.1f} {unit}', flush=True)
 
 
 def interval_of(bpm):
@@ -177,7 +195,7 @@ def lateness(bpm, seconds):
     moments = list(player.frames(seconds))
     player.leave()
     late = late_by(moments, interval_of(bpm))
-    spread('a frame at %d beats a minute, %d frames' % (bpm, len(late)), late, 'microseconds', 1e6)
+    spread(f'a frame at {bpm} beats a minute, {len(late)} frames', late, 'microseconds', 1e6)
     waiter.tell()
 
 
@@ -187,7 +205,7 @@ def clocks(bpm, seconds):
     waiter, player = Waiter(interval), Player(BEAT, '--bpm', bpm, '--midi', 'pipe', verb='lead')
     moments = list(player.frames(seconds, CLOCK))
     player.leave()
-    spread('a clock at %d beats a minute, %d clocks' % (bpm, len(moments)), late_by(moments, interval), 'microseconds', 1e6)
+    spread(f'a clock at {bpm} beats a minute, {len(moments)} clocks', late_by(moments, interval), 'microseconds', 1e6)
     waiter.tell()
 
 
@@ -205,7 +223,7 @@ def followed(bpm, count):
             echoed.append(echo.answer_time())
     player.leave()
     echo.leave()
-    spread('a frame after its clock at %d beats a minute, %d frames' % (bpm, count), times, 'microseconds', 1e6)
+    spread(f'a frame after its clock at {bpm} beats a minute, {count} frames', times, 'microseconds', 1e6)
     spread('    a program beside it that only answers', echoed, 'microseconds', 1e6)
 
 
@@ -237,7 +255,8 @@ def key_times(name, grid, count, *options):
     for turn in range(count):
         start = time.monotonic()
         player.keys.send(b'AB'[turn % 2:turn % 2 + 1])
-        assert player.painting(10), 'a key is not painted'
+        if not player.painting(10):
+            sys.exit('a key is not painted')
         times.append(time.monotonic() - start)
         # The rest of a painting that came in parts.
         while player.painting(0.002):
@@ -250,7 +269,7 @@ def answer_time(player, key):
     """From the byte of a key to the painting that shows it at the cursor."""
     start, seen = time.monotonic(), b''
     player.keys.send(key)
-    while b'\x1b[7m' + key not in seen:
+    while CURSOR + key not in seen:
         seen += player.painting(10)
     return time.monotonic() - start
 
@@ -274,7 +293,7 @@ def keys_by_frames(bpm, count):
     player.leave()
     echo.leave()
     for is_near, name in ((True, 'less than 12 ms before a frame'), (False, 'away from one')):
-        spread('a key at %d beats, %s' % (bpm, name), times[is_near], 'microseconds', 1e6)
+        spread(f'a key at {bpm} beats, {name}', times[is_near], 'microseconds', 1e6)
     spread('    a program beside it that only answers', echoed, 'microseconds', 1e6)
 
 
@@ -290,8 +309,8 @@ def catching_up(bpm):
     base = min(moment - turn * interval for turn, moment in enumerate(moments[:30]))
     late = [(moment - turn * interval - base) * 1e3 for turn, moment in enumerate(moments)][30:]
     first = max(range(len(late)), key=lambda turn: late[turn])
-    print('held for one and a half intervals at %d beats: %s milliseconds late' %
-          (bpm, ', '.join('%.2f' % it for it in late[first:first + 5])), flush=True)
+    shown = ', '.join(f'{it:.2f}' for it in late[first:first + 5])
+    print(f'held for one and a half intervals at {bpm} beats: {shown} milliseconds late', flush=True)
 
 
 def flood(bpm, count):
@@ -307,7 +326,7 @@ def flood(bpm, count):
     seconds = time.monotonic() - begin
     player.leave()
     late = late_by(before + during, interval)[len(before):]
-    spread('a frame at %d beats under %d bytes of keys in %.1f s' % (bpm, count, seconds), late, 'microseconds', 1e6)
+    spread(f'a frame at {bpm} beats under {count} bytes of keys in {seconds:.1f} s', late, 'microseconds', 1e6)
     waiter.tell()
 
 
@@ -335,7 +354,7 @@ class Sender:
 def hands_flood(bpm, seconds, count):
     """Eight hands, which send nothing for so many seconds, and then so many bytes of keys each: how late the frames are."""
     interval, player = interval_of(bpm), Player(BEAT, '--bpm', bpm, '--midi', 'pipe', verb='jam', hands=HANDS)
-    for name, keys in ('nothing', b''), ('%d bytes of keys each' % count, AWAY + b'\x1b[C\x1b[D' * (count // 6)):
+    for name, keys in ('nothing', b''), (f'{count} bytes of keys each', AWAY + b'\x1b[C\x1b[D' * (count // 6)):
         senders, waiter = [Sender(hand, keys) for hand in player.hands], Waiter(interval)
         # Frames that came while these began were not looked at.
         for _ in player.frames(2 * interval):
@@ -347,10 +366,11 @@ def hands_flood(bpm, seconds, count):
             moments += player.frames(10 * interval)
             senders = [sender for sender in senders if sender.is_at_work()]
         late = late_by(moments, interval)
-        spread('%d hands send %s in %.1f s' % (HANDS, name, time.monotonic() - begin), late, 'microseconds', 1e6)
+        spread(f'{HANDS} hands send {name} in {time.monotonic() - begin:.1f} s', late, 'microseconds', 1e6)
         which = [number for number, it in enumerate(late, 1) if it > LATE]
-        print('    %d of %d frames at %d beats are more than %d milliseconds late%s' % (
-            len(which), len(late), bpm, LATE * 1e3, ': number ' + ', '.join(map(str, which[:8])) if which else ''), flush=True)
+        first = ': number ' + ', '.join(map(str, which[:8])) if which else ''
+        print(f'    {len(which)} of {len(late)} frames at {bpm} beats are more than {LATE * 1e3:.0f} milliseconds late{first}',
+              flush=True)
         waiter.tell()
     player.leave()
 
@@ -363,7 +383,7 @@ def saving(bpm, count):
         moments += [moment for _, moment in zip(range(5), player.frames(10))]
         player.keys.send(b'\x13')
     player.leave()
-    spread('a frame at %d beats beside %d saves' % (bpm, count), late_by(moments, interval), 'microseconds', 1e6)
+    spread(f'a frame at {bpm} beats beside {count} saves', late_by(moments, interval), 'microseconds', 1e6)
     waiter.tell()
 
 
@@ -380,8 +400,8 @@ def processor(name, grid, seconds, keys, *options):
         painted += len(bytes_of)
     used, seconds = player.used() - used, time.monotonic() - begin
     player.leave()
-    print('%-58s %6.3f of 100 of a processor, %6.0f bytes a painting (%d)' %
-          (name, 100 * used / seconds, painted / max(frames, 1), frames), flush=True)
+    print(f'{name:<58} {100 * used / seconds:6.3f} of 100 of a processor, {painted / max(frames, 1):6.0f} bytes a painting '
+          f'({frames})', flush=True)
 
 
 def main():

@@ -8,7 +8,12 @@ Each line is a grid: the nanoseconds of a frame of OLD, the median of the ratios
 median lies in 19 of 20 measurements. From each time the least one of some short runs is taken off, so starting, loading
 and printing drop out.
 """
-import math, os, subprocess, sys, tempfile, time
+import math
+import os
+import subprocess
+import sys
+import tempfile
+import time
 
 import grids
 
@@ -19,7 +24,7 @@ for side, counts in ((64, ((4000, 164000), (4000, 84000), (1200, 15000), (300, 3
                      (256, ((2000, 52000), (400, 6400), (100, 700), (30, 180)))):
     for percent, (few, many) in zip((0, 1, 10, 50), counts):
         grid = grids.crowded(side, side, percent) if percent else grids.dots(side, side)
-        GRIDS.append(('%d x %d, %d %%' % (side, side, percent), grid, few, many))
+        GRIDS.append((f'{side} x {side}, {percent} %', grid, few, many))
 
 
 def seconds(program, path, frames):
@@ -32,7 +37,10 @@ def seconds(program, path, frames):
 def ratios(old, new, path, few, many):
     """The times of the frames of OLD, and the ratios of NEW to it."""
     starts = {it: min(seconds(it, path, few) for _ in range(15)) for it in (old, new)}
-    taken = lambda program: seconds(program, path, many) - starts[program]
+
+    def taken(program):
+        return seconds(program, path, many) - starts[program]
+
     times, found = [taken(old)], []
     for _ in range(ROUNDS):
         between = taken(new)
@@ -45,15 +53,16 @@ def main():
     old, new = (os.path.abspath(it) for it in sys.argv[1:3])
     # So many of the sorted ratios lie below the interval, and as many above it.
     beside = max(0, int(ROUNDS / 2 - 0.98 * math.sqrt(ROUNDS)))
-    print('%-20s %12s %8s %18s' % ('grid', 'old ns', 'new/old', 'interval'))
+    print(f"{'grid':<20} {'old ns':>12} {'new/old':>8} {'interval':>18}")
     with tempfile.TemporaryDirectory() as folder:
         for name, grid, few, many in GRIDS:
             path = folder + '/grid'
             with open(path, 'wb') as file:
                 file.write(grid)
             times, found = ratios(old, new, path, few, many)
-            print('%-20s %12.0f %8.3f %9.3f to %.3f' % (
-                name, times[ROUNDS // 2] / (many - few) * 1e9, found[ROUNDS // 2], found[beside], found[-1 - beside]), flush=True)
+            print(f'{name:<20} {times[ROUNDS // 2] / (many - few) * 1e9:12.0f} {found[ROUNDS // 2]:8.3f} '
+                  f'{found[beside]:9.3f} to {found[-1 - beside]:.3f}', flush=True)
 
 
-main()
+if __name__ == '__main__':
+    main()

@@ -6,7 +6,15 @@ and how its gate shares processors and memory. Each library that is proved is ke
 interrupted goes on where it stopped. It says on standard error how far it is, and ends with 0 if all are proved, 1 if
 one is not, and 2 if this command `rt` has no such parts.
 """
-import copy, importlib.machinery, importlib.util, os, signal, sys, tempfile, threading, time
+import copy
+import importlib.machinery
+import importlib.util
+import os
+import signal
+import sys
+import tempfile
+import threading
+import time
 
 TOP = os.path.dirname(os.path.dirname(os.path.realpath(__file__)))
 
@@ -30,8 +38,8 @@ class Progress:
         with self.lock:
             self.proved += 1
             minutes = (time.monotonic() - self.begin) / 60
-            print('== %s\n%s' % (crate.name, output), end='', flush=True)
-            print('orca: %d of %d libraries proved after %.1f minutes: %s' % (self.proved, self.count, minutes, crate.name),
+            print(f'== {crate.name}\n{output}', end='', flush=True)
+            print(f'orca: {self.proved} of {self.count} libraries proved after {minutes:.1f} minutes: {crate.name}',
                   file=sys.stderr, flush=True)
 
 
@@ -43,8 +51,8 @@ def prove(rt, crate, jobs, progress):
         crate.out.seek(0)
         output = crate.out.read()
     if status:
-        print('== %s\n%s' % (crate.name, output), end='', flush=True)
-        print('orca: %s is not proved' % crate.name, file=sys.stderr, flush=True)
+        print(f'== {crate.name}\n{output}', end='', flush=True)
+        print(f'orca: {crate.name} is not proved', file=sys.stderr, flush=True)
     else:
         # Other checkouts on this machine then begin with what was proved here.
         rt.offer(crate, crate.stamp())
@@ -56,7 +64,10 @@ def task(rt, crate, missing, progress):
     """What the crate waits for, how much it is, what memory it may take, and the work itself."""
     below = [(it.name, 'proof') for it in crate.below() if it in missing]
     lines = sum(rt.rtlib.text_of(file).count('\n') for file in rt.rtlib.files_of(crate.folder))
-    work = lambda given, jobs: all(given[it] for it in below) and prove(rt, crate, jobs, progress)
+
+    def work(given, jobs):
+        return all(given[it] for it in below) and prove(rt, crate, jobs, progress)
+
     return below, lines, rt.need(crate), work
 
 
@@ -73,10 +84,10 @@ def main(path):
         tasks = {(it.name, 'proof'): task(rt, it, missing, progress) for it in missing}
         given = rt.in_lanes(tasks)
     except (AttributeError, ImportError, KeyError, TypeError, ValueError) as error:
-        print('these parts are not in %s: %r' % (path, error))
+        print(f'these parts are not in {path}: {error!r}')
         return 2
     except OSError as error:
-        print('the system fails: %s' % error)
+        print(f'the system fails: {error}')
         return 1
     return 0 if all(given.values()) else 1
 
