@@ -10,7 +10,7 @@ from html import escape
 
 TOP = os.path.dirname(os.path.dirname(os.path.realpath(__file__)))
 PIECE, FRAMES, ROWS, COLUMNS = "night", 81, 24, 80
-PAUSE, FRAME, DOWN = b" ", b"\x06", b"\x1b[B"
+PAUSE, FRAME, DOWN, RIGHT, FASTER, FASTER_BY_TEN = b" ", b"\x06", b"\x1b[B", b"\x1b[C", b"\x1b[19~", b"\x1b[20~"
 WIDE, HIGH, EDGE = 8.4, 18, 12
 
 # The colours of the picture: of a terminal's text, and of what is faint, bright or in one of its sixteen colours.
@@ -25,15 +25,16 @@ def fails(text):
 
 
 def paint():
-    """What the program sends to a terminal. While it is paused no frame plays but those that are asked for."""
+    """What the program sends to a terminal by ./perform, at the tempo that a piece begins with. It is so slow before that no
+    frame plays but those that are asked for."""
     program = os.path.join(TOP, "crates/orca/out/orca")
     if not os.access(program, os.X_OK):
         fails("the program isn't built: ./orca run pieces/first.orca 8 builds it")
     with tempfile.NamedTemporaryFile() as keys:
-        keys.write(PAUSE + FRAME * FRAMES + DOWN * 8 + PAUSE)
+        keys.write(PAUSE + FRAME * FRAMES + DOWN * 8 + RIGHT + FASTER_BY_TEN * 11 + FASTER * 8 + PAUSE)
         keys.flush()
         words = ["play", os.path.join(TOP, f"pieces/{PIECE}.orca"), keys.name, f"--rows={ROWS}", f"--cols={COLUMNS}"]
-        played = subprocess.run([program, *words, "--bpm=1"], stdin=subprocess.DEVNULL, stdout=subprocess.PIPE)
+        played = subprocess.run([program, *words, "--bpm=2", "--keys=full"], stdin=subprocess.DEVNULL, stdout=subprocess.PIPE)
     if played.returncode != 0:
         fails(f"orca play ends with {played.returncode}")
     return played.stdout.decode("ascii")
@@ -106,5 +107,5 @@ def main():
             file.write(drawn)
 
 
-if __name__ == '__main__':
+if __name__ == "__main__":
     main()
