@@ -1,5 +1,5 @@
 -- Marks may be added before other deeds: what they leave together is the same.
-use Rattle.std.proofs.Common.{◌≡◌, ℕ, zero, suc, ◌+◌, Bool, true, false, ◌||◌, List, [], ◌∷◌, ◌++◌, get_or, ap, sym, ◌∙◌, refl}
+use Rattle.std.proofs.Common.{◌≡◌, ℕ, zero, suc, Bool, true, false, ◌||◌, List, [], ◌∷◌, ◌++◌, get_or, ap, sym, ◌∙◌, refl}
 use Rattle.std.specs.Prelude.{Option, Some, None}
 use Rattle.std.proofs.Math.ListN.{set}
 use Rattle.orca_base.specs.declared.event.Event.{Event}
@@ -8,9 +8,9 @@ use Rattle.orca_base.specs.declared.place.Spot.{Spot}
 use Rattle.orca_base.specs.Grids.{index_of, place_in}
 use Rattle.orca_base.specs.MarkSet.{MarkSet, all_marks, no_marks}
 use Rattle.orca_op.specs.Deeds.{Deed, Mark, Write, Set, Emit, after, cells_after, each_below, marks_after}
-use Rattle.orca_op.specs.Slate.{Slate, list_after, list_with, slate_after, slate_after_all}
+use Rattle.orca_op.specs.Slate.{Slate, list_after, slate_after, slate_after_all}
 use Rattle.orca_op.specs.State.{State}
-use Rattle.orca_op.proofs.LawFacts.{slate_after_all-append, slate_after_all-each_more}
+use Rattle.orca_op.proofs.LawFacts.{slate_after_all-append}
 
 -- ---- marks and marks
 

@@ -3,7 +3,6 @@ ghost use Rattle.orca_base.specs.declared.limits.TheConstants.{BASE};
 ghost use Rattle.orca_op.specs.declared.kind.Kind.TheVariants.{Query as query_kind};
 ghost use Rattle.orca_op.specs.Deeds.{each_below};
 ghost use Rattle.orca_op.specs.Slate.{slate_after_all};
-ghost use Rattle.orca_op.specs.GridRules.{query_one};
 ghost use Rattle.ops_grid.specs.Each.{gather_one};
 ghost use Rattle.ops_grid.specs.GridLaws.{lawful-query};
 
@@ -40,46 +39,19 @@ impl Operator for Query {
         let x = bench.peek(at.left(3), steps).value();
         let y = bench.peek(at.left(2), steps).value();
         let length = bench.peek(at.left(1), steps).value();
-        let operands = span::read(
-            bench,
-            at,
-            Span {
-                y,
-                x: x + 1,
-                length,
-            },
-            steps,
-        );
+        let sources = Span {
+            y,
+            x: x + 1,
+            length,
+        };
+        let operands = span::read(bench, at, sources, steps);
         bench.param(at.left(3), steps);
         bench.param(at.left(2), steps);
         bench.param(at.left(1), steps);
-        collect(bench, at, y, x, length, &operands, steps);
+        // The operands were read, so all sources are marked before the first is written.
+        bench.input_span(at, sources, steps);
+        gather(bench, at, length, &operands, steps);
     }
-}
-
-/// Writes the first `length` operands of the source below.
-fn collect<B: Bench, L: Ledger>(
-    bench: &mut B,
-    at: Place,
-    y: u8,
-    x: u8,
-    length: u8,
-    operands: &[Glyph; ROOM],
-    steps: &mut Steps<L>,
-)
-    requires { (y < BASE) × (x < BASE) × (length < BASE) }
-    ensures deeds { B.slate bench.new ≡ slate_after_all (B.slate bench.old)
-        (each_below length (λ i. query_one at y x length i (slice_index operands.now i))) }
-    ensures steps { steps.new ≡ steps.old + 3 * length }
-{
-    // The operands were read, so all sources are marked before the first is written.
-    let sources = Span {
-        y,
-        x: x + 1,
-        length,
-    };
-    bench.input_span(at, sources, steps);
-    gather(bench, at, length, operands, steps);
 }
 
 /// Writes the first `length` operands below, and marks no source.

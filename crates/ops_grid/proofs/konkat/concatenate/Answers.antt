@@ -1,4 +1,3 @@
-use Rattle.std.proofs.Common.{rules}
 use Rattle.ops_grid.proofs.RowLemmas.{stored_marked}
 use Rattle.ops_grid.proofs.konkat.concatenate.Goals as goal
 
