@@ -15,12 +15,11 @@ piece=
 model=
 hands=1
 
-usage() {
-    echo "$called [--lead|--recover|--discard] PIECE [options], $called --join HOST:PORT, or $called --ports"
-}
+usage() { echo "$called [--lead|--recover|--discard] PIECE [options], $called --join HOST:PORT, or $called --ports"; }
 
-# refuse WHAT: where there is a reason in $why, that is said, and all is done
+# refuse WHAT COMMAND..: if the command finds a reason, that is said, and all is done
 refuse() {
+    "${@:2}"
     [ -z "$why" ] || fails "$1: $why"
 }
 
@@ -29,7 +28,7 @@ give() {
     [[ " ${options[play]} " == *" $1 "* ]] || fails "there is no option $1; the options are ${options[play]}"
     [ -z "${given[$1]+given}" ] || fails "$1 $2: this option is given twice"
     [ -n "$2" ] || fails "$1: its value is missing"
-    [[ " $numbers " != *" $1 "* ]] || { why_no_number "$1" "$2" && refuse "$1 $2"; }
+    [[ " $numbers " != *" $1 "* ]] || refuse "$1 $2" why_no_number "$1" "$2"
     # A name that is a dash alone would be the standard input.
     [ "$2" != - ] || set -- "$1" ./-
     given[$1]=$2
@@ -69,12 +68,6 @@ read_words() {
     done
 }
 
-# look_at_address OPTION ADDRESS: then $host and $port are its parts
-look_at_address() {
-    why_no_address "$2"
-    refuse "$1 $2"
-}
-
 # How many hands play, and the address at which all but the first join. It is one of this machine alone, unless --at names
 # another one, with the port 7420 unless it has its own.
 look_at_hands() {
@@ -82,25 +75,16 @@ look_at_hands() {
     at=${given[--at]-127.0.0.1}
     [ -z "${given[--at]+given}" ] || [ "$hands" -gt 1 ] || fails "--at $at: --hands has to say how many play, 2 to 8"
     [[ $at =~ :[0-9]+$ ]] || at+=:7420
-    look_at_address --at "$at"
+    refuse "--at $at" why_no_address "$at"
     meeting=$at
     [[ $host != 0.0.0.0 && $host != :: ]] || meeting=$HOSTNAME:$port
-}
-
-# look_at_save WHAT NAME: a text can be saved under this name
-look_at_save() {
-    why_unsaved "$2"
-    refuse "$1"
 }
 
 look_at_piece() {
     [ "$task" = play ] || [ -e "$piece" ] || [ -z "$model" ] || piece=$model
     [ ! -e "$piece" ] || [ -d "$piece" ] || [ -f "$piece" ] || fails "$piece: this is a pipe or a device, and a piece is a file"
-    if [ "$task" != play ] || [ -e "$piece" ]; then
-        why_unread "$piece"
-        refuse "$piece"
-    fi
-    [ "$task" != play ] || [ -n "${given[--save]+given}" ] || look_at_save "$piece" "$piece"
+    [ "$task" = play ] && [ ! -e "$piece" ] || refuse "$piece" why_unread "$piece"
+    [ "$task" != play ] || [ -n "${given[--save]+given}" ] || refuse "$piece" why_unsaved "$piece"
 }
 
 # look_at_bytes OPTION NAME RIGHT WORDS: bytes can be written to what has this name, or read from it, as these words say
@@ -139,7 +123,7 @@ look_at_pairs() {
 look() {
     local option value
     read_words "$@"
-    [ "$task" != join ] || look_at_address --join "$piece"
+    [ "$task" != join ] || refuse "--join $piece" why_no_address "$piece"
     [ -n "${options[$task]-}" ] || return 0
     look_at_hands
     look_at_piece
@@ -147,8 +131,8 @@ look() {
     for option in "${!given[@]}"; do
         value=${given[$option]}
         case $option in
-            --udp | --osc) look_at_address "$option" "$value" ;;
-            --save | --script) look_at_save "$option $value" "$value" ;;
+            --udp | --osc) refuse "$option $value" why_no_address "$value" ;;
+            --save | --script) refuse "$option $value" why_unsaved "$value" ;;
             --midi) look_at_midi "$value" ;;
             --follow)
                 [ -e "$value" ] || fails "--follow $value: there is no such name, and a device or a pipe that gives a clock is wanted"

@@ -96,18 +96,16 @@ end_room() {
 }
 
 # whole_lines FILE: without a last line that was cut off
-whole_lines() {
-    head -n "$(wc -l <"$1")" "$1"
-}
+whole_lines() { head -n "$(wc -l <"$1")" "$1"; }
 
 # end_notes: the port of --midi gets All Notes Off on each channel, since a program that was killed ends no note; and a stop
 # of the clock that it gave
 end_notes() {
-    local port digit
+    local port notes
     IFS= read -rd '' port <"$room/midi" || true
-    [ ! -e "$port" ] || for digit in {0..9} {A..F} stop; do
-        if [ "$digit" != stop ]; then printf '%b' "\\xB$digit\\x7B\\x00"; elif [ "$task" = lead ]; then printf '\xFC'; fi
-    done | timeout 0.5 bash -c 'cat >>"$1"' bash "$port" || true
+    printf -v notes '\\xB%s\\x7B\\x00' {0..9} {A..F}
+    [ "$task" != lead ] || notes+='\xFC'
+    [ ! -e "$port" ] || printf %b "$notes" | timeout 0.5 bash -c 'cat >>"$1"' bash "$port" || true
 } 2>/dev/null
 
 # count_edits SCRIPT: then $edits tells how many commands it has that change the grid or the tick
@@ -124,9 +122,7 @@ replayed() (
 ) 2>/dev/null
 
 # has_grid FILE: it has the grid after the script of standard input
-has_grid() {
-    [ -f "$1" ] && replayed | cmp -s -- - "$1"
-}
+has_grid() { [ -f "$1" ] && replayed | cmp -s -- - "$1"; }
 
 # was_saved FILE: it has the grid of a moment after the last edit. The moments are tried in both directions from that at
 # which the file was written, by the tempo, and for two seconds at the most.
@@ -155,20 +151,13 @@ settle() {
 replace_file() {
     local beside full
     full_name "$2"
-    if [ -e "$full" ] && [ ! -f "$full" ]; then
-        timeout 0.5 bash -c 'cat -- "$1" >"$2"' bash "$1" "$full"
-        return
-    fi
-    [ ! -e "$full" ] || [ -w "$full" ] || return 1
+    [ ! -e "$full" ] || [ -f "$full" ] || { timeout 0.5 bash -c 'cat -- "$1" >"$2"' bash "$1" "$full" && return; }
+    [ ! -e "$full" ] || { [ -f "$full" ] && [ -w "$full" ]; } || return 1
     beside=$(mktemp -- "${full%/*}/.orca-save-XXXXXX") || return 1
     # It gets the rights of the file that it replaces, or those of any new file.
-    if { chmod --reference="$full" -- "$beside" || chmod "$(printf %o $((0666 & ~$(umask))))" -- "$beside"; } &&
-        cat -- "$1" >"$beside" && sync -- "$beside" && mv -fT -- "$beside" "$full"; then
-        settle "$full" || true
-    else
-        rm -f -- "$beside"
-        return 1
-    fi
+    { chmod --reference="$full" -- "$beside" || chmod "$(printf %o $((0666 & ~$(umask))))" -- "$beside"; } &&
+        cat -- "$1" >"$beside" && sync -- "$beside" && mv -fT -- "$beside" "$full" || { rm -f -- "$beside" && return 1; }
+    settle "$full" || true
 } 2>/dev/null
 
 # Removes what a program that was killed in the middle of a save has left, beside the names under which it saves.
@@ -182,17 +171,12 @@ sweep_saves() {
     done
 }
 
-# save_again NAME: what the program could not save there is tried once more
-save_again() {
-    replayed <"$script" >"$quick/grid" && replace_file "$quick/grid" "$1"
-}
-
 # tell_grid: whether the grid of the end is saved. Fails if edits are not. Without --save nothing is saved here.
 tell_grid() {
     local name=${given[--save]-$piece} edits
     count_edits "$script"
     if has_grid "$name" <"$script" || { [ -e "$name" ] && [ ! -f "$name" ] && [[ $status == [03] ]]; } ||
-        { [ -n "${given[--save]+given}" ] && save_again "$name"; }; then
+        { [ -n "${given[--save]+given}" ] && replayed <"$script" >"$quick/grid" && replace_file "$quick/grid" "$name"; }; then
         say "the grid is saved in $name"
     elif was_saved "$name"; then
         say "the grid was saved in $name, by Ctrl-S"
@@ -241,10 +225,7 @@ finish() {
     [ -s "$script" ] || for script in "$script" "$room/script"; do
         ! whole_lines "$room/journal" >"$script" || break
     done 2>/dev/null
-    if [ ! -s "$script" ]; then
-        say "the program has kept no commands, so what was not saved is lost"
-        return
-    fi
+    [ -s "$script" ] || { say "the program has kept no commands, so what was not saved is lost" && return; }
     tell_grid || kept=$room
     save_script || kept=$room
     [ -z "$kept" ] || [ "$script" = "$room/script" ] || cat "$script" >"$room/script" 2>/dev/null || kept=$quick
@@ -287,8 +268,7 @@ recover() {
     find_room || fails "$piece: there is nothing to $task"
     [ "$task" = discard ] || for file in "$name.orca" "$name.script"; do
         [ ! -e "$file" ] && [ ! -L "$file" ] || fails "$file: this file is there already: give it another name first"
-        why_unsaved "$file"
-        [ -z "$why" ] || fails "$file: $why; what is left is in $room"
+        refuse "$file" why_unsaved "$file"
     done
     end_notes
     [ "$task" != discard ] || { end_room; exit; }
