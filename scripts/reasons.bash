@@ -88,14 +88,15 @@ why_no_address() {
     command -v getent >/dev/null && ! getent ahosts "$host" >/dev/null || why=
 }
 
-# has_socket PROTOCOL STATE: at $port of this machine there is a socket in this state
+# has_socket PROTOCOL STATE: at $port of 127.0.0.1 or ::1, or of all addresses, there is a socket in this state
 has_socket() {
-    grep -qsi "$(printf ': [0-9A-F]*:%04X [0-9A-F:]* %s ' "$((10#$port))" "$2")" "/proc/net/$1" "/proc/net/${1}6"
+    local addresses='(0100007F|0{8}|0{24}01000000|0{32})'
+    grep -qsE "$(printf ': %s:%04X [0-9A-F:]* %s ' "$addresses" "$((10#$port))" "$2")" "/proc/net/$1" "/proc/net/${1}6"
 }
 
 # is_here: $host is this machine, as it calls itself
 is_here() {
-    [[ $host == @(127.*|localhost|::1|0.0.0.0|::) ]]
+    [[ $host == @(127.0.0.1|localhost|::1|0.0.0.0|::) ]]
 }
 
 # why_unheard ADDRESS: where others are to connect
