@@ -82,7 +82,7 @@ def literal(text):
 
 def code(text):
     """A name in italics where it stands for something, as GRID, and else in bold."""
-    text = re.sub(r"^(orca|perform)(?= [a-z-])", lambda found: NAMES[found[1]], text)
+    text = re.sub(r"^(orca|perform)(?= [A-Za-z-])", lambda found: NAMES[found[1]], text)
     return " ".join(f"\\fI{word}\\fR" if re.fullmatch(r"\[?[A-Z]+\]?(\.\.\.)?", word) else f"\\fB{word}\\fR"
                     for word in literal(text).split(" "))
 
