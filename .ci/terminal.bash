@@ -245,6 +245,19 @@ recovers() {
     "$top/perform" --recover crowded 2>fault
 }
 
+# leave_notes_on [GLYPH]: all of a performance is killed while it plays, after this was typed
+leave_notes_on() {
+    rm -f midi && touch midi
+    on_stage crowded --bpm 999 --midi midi
+    await_text seen ' play '
+    [ $# = 0 ] || type_glyph "$1"
+    within 60 has_bytes midi 100
+    kill -KILL -- "-$(cat pid)"
+    wait "$peer" || true
+    peer=
+    exec {typed}>&-
+}
+
 # Whatever is killed of a performance, what was typed stays.
 try_kills() {
     local target state
@@ -255,16 +268,15 @@ try_kills() {
         done
     done
     rm crowded.recovered.*
-    rm -f midi && touch midi
-    on_stage crowded --bpm 999 --midi midi
-    await_text seen ' play '
-    type_glyph 7
-    kill -KILL -- "-$(cat pid)"
-    wait "$peer" || true
-    peer=
-    exec {typed}>&-
+    leave_notes_on 7
     within 60 "$top/perform" --discard crowded || fails "a performance that was killed is not discarded"
     are_off midi || fails "a performance that is discarded leaves notes on"
+    # Without an edit there is nothing to discard, and the next performance ends the notes.
+    leave_notes_on
+    within 60 eval '! pgrep -f "play .*crowded" >/dev/null'
+    play_and_leave crowded --bpm 1
+    are_off midi || fails "a performance without an edit leaves notes on for the next one"
+    "$top/perform" --discard crowded
     echo "peers: whatever is killed of ./perform, what was typed is recovered"
 }
 

@@ -59,7 +59,7 @@ wants readlink find
 top=$(readlink -f "${BASH_SOURCE[0]}")
 top=${top%/scripts/*}
 program=$top/program
-manual="man $called"
+manual="man $called, and the pages in ${top%/lib/*}/share/doc"
 build_in_turn() { :; }
 # A checkout builds its program.
 if [ ! -e "$program" ]; then
