@@ -104,6 +104,12 @@ impl Case {
     }
 }
 
+/// A text whose rows stand in lines of their own, in one line.
+pub(crate) fn join_rows(alloc: Global, lines: &str) -> Result<String> {
+    let joined = lines.replace(alloc, "\"\n  \"", "")?;
+    Ok(joined.as_str().replace(alloc, "\n  \"", " \"")?)
+}
+
 /// Reads a line into the open case, and gives the case that it ends.
 pub(crate) fn take_line(
     alloc: Global,

@@ -1,8 +1,19 @@
-//! Reads cases on the standard input, does each over files and ports in memory, and prints the
-//! answers.
+//! Does cases over files and ports in memory, and compares what they give with stored answers.
 //!
-//! A case is lines of ASCII, from `case NAME` to `end`. Bytes are lower-case hexadecimal, and `-` where
-//! there are none. An empty line and a line that begins with `#` are comments.
+//! A line `family NAME` of the standard input asks for the cases of the file `NAME.cases`. Each is lines
+//! from `case NAME` to `end`, and its answer stands between `gives` and `end`. A line is printed that counts
+//! the cases that agree; before it stands each case that does not, with what it gave.
+//!
+//! A case may also stand on the standard input itself, without an answer. Then its answer is printed behind
+//! its line `case NAME`, with all bytes in hexadecimal.
+//!
+//! Bytes are lower-case hexadecimal, `-` where there are none, or a text in quotes. A text is of printable
+//! ASCII. In it `\n`, `\r`, `\t`, `\e`, `\"` and `\\` are the end of a line, a return, a tab, an escape, a
+//! quote and a backslash. It may stand in several lines, each part in quotes and behind two blanks. An empty
+//! line and a line that begins with `#` are comments.
+//!
+//! A stored answer has a text wherever one can stand, and each row of a text of several rows in a line of
+//! its own. A row ends behind `\n`, and before an escape by which a picture goes to another place.
 //!
 //! | line | meaning |
 //! |---|---|
@@ -16,20 +27,20 @@
 //! | `bytes HAND MOMENT BYTES` | the inbox's next answer: 1 to 64 bytes of a hand |
 //! | `due MOMENT` | the inbox's next answer: a moment that was waited for has come |
 //!
-//! The answer is `case NAME`, then `send PORT BYTES` for each send, `file NAME BYTES` or
-//! `file NAME none` for each file that is told, and `status N`.
+//! The answer is `send PORT BYTES` for each send, `file NAME BYTES` or `file NAME none` for each file that
+//! is told, and `status N`.
 //!
 //! A case with a line `scan TICK SEED` is one frame alone, of the grid text of its one file. Its answer
-//! is `case NAME`, then `cells BYTES`, the glyphs; `marks BYTES`, one byte a place: 1 for Lock, 2 for
-//! Input, 4 for Param, 8 for Output and 16 for Sleep, added; `vars BYTES`, the 36 variables; and for
-//! each event `event note CHANNEL KEY VELOCITY LENGTH MONO`, `event control CHANNEL CONTROL VALUE`,
+//! is `cells BYTES`, the glyphs; `marks BYTES`, one byte a place: 1 for Lock, 2 for Input, 4 for Param,
+//! 8 for Output and 16 for Sleep, added; `vars BYTES`, the 36 variables; and for each event
+//! `event note CHANNEL KEY VELOCITY LENGTH MONO`, `event control CHANNEL CONTROL VALUE`,
 //! `event bend CHANNEL LSB MSB`, `event udp BYTES` or `event osc PATH VALUES`.
 //!
 //! Both boards do that frame, and have to give one answer.
 //!
 //! A case with lines `step STEP` is done on a live board, with a plain board beside it, from the grid text
-//! of its one file on. Its answer is `case NAME`, then `one answer`, or the first step after which the
-//! boards differ. Glyphs stand as they are, those of a block row after row.
+//! of its one file on. Its answer is `one answer`, or the first step after which the boards differ. Glyphs
+//! stand as they are, those of a block row after row.
 //!
 //! | step | meaning |
 //! |---|---|
@@ -47,37 +58,62 @@
 //! same too. What edits of blocks, sizes and reverts leave is worked out place by place, without the boards.
 #![tactic(auto)]
 
+mod answer;
 mod bytes;
 mod case;
 mod cells;
+mod family;
 mod pair;
 mod runs;
 mod scans;
 mod step;
 
-use anyhow::{Result, ensure};
-use case::{Case, take_line};
+use answer::{Answer, Form};
+use anyhow::{Context, Result, ensure};
+use case::{Case, join_rows, take_line};
 use std::alloc::Global;
-use std::io;
+use std::rt::Files;
+use std::{fs, io};
 
-/// The answer to a case.
-fn answer(alloc: Global, case: Case) -> Result<String> {
-    let mut answer = format!(in alloc; "case {}\n", case.name)?;
+/// Adds the answer to a case.
+fn tell(case: Case, answer: &mut Answer) -> Result<()> {
     match case.frame {
-        Some(now) => scans::tell(alloc, &case, now, &mut answer)?,
-        None if !case.steps.is_empty() => pair::tell(alloc, &case, &mut answer)?,
-        None => runs::tell(alloc, case, &mut answer)?,
+        Some(now) => scans::tell(&case, now, answer),
+        None if !case.steps.is_empty() => pair::tell(&case, answer),
+        None => runs::tell(case, answer),
     }
+}
+
+/// The answer to a case of the standard input.
+fn answer_of(alloc: Global, case: Case) -> Result<Answer> {
+    let mut answer = Answer::new(alloc, Form::Hex);
+    answer.push(format!(in alloc; "case {}\n", case.name)?.as_str())?;
+    tell(case, &mut answer)?;
     Ok(answer)
+}
+
+/// Compares the cases of a family, and prints what comes of it.
+fn print_family(rt: &(impl Files + Print + Alloc<A = Global>), name: &str) -> Result<()> {
+    let alloc = rt.alloc();
+    let file = format!(in alloc; "{name}.cases")?;
+    let text = fs::read_to_string(rt, file.as_str()).context(format_args!("{file}"))?;
+    let told = family::compare(alloc, name, text.as_str()).context(format_args!("{file}"))?;
+    rt.print(told)?;
+    Ok(())
 }
 
 fn main(rt: HostRuntime) -> Result<()> {
     let alloc = rt.alloc();
-    let text = io::read_to_string(alloc, rt.reader())?;
+    let text = join_rows(alloc, io::read_to_string(alloc, rt.reader())?.as_str())?;
     let mut open = None;
     for line in text.as_str().lines() {
-        if let Some(case) = take_line(alloc, &mut open, line)? {
-            rt.print(answer(alloc, case)?)?;
+        match line.strip_prefix("family ") {
+            Some(name) if open.is_none() => print_family(&rt, name)?,
+            _ => {
+                if let Some(case) = take_line(alloc, &mut open, line)? {
+                    rt.print(answer_of(alloc, case)?.as_str())?;
+                }
+            }
         }
     }
     ensure!(open.is_none(), "the last case has no end");

@@ -3,6 +3,7 @@
 ghost use Rattle.std.specs.Prelude.{◌≡◌, ◌<◌, IsTrue};
 ghost use Rattle.orca_base.specs.Areas.{IsArea};
 
+use crate::answer::{Answer, Form};
 use crate::case::Case;
 use crate::cells::Cells;
 use crate::scans::{live_board, plain_board, read_grid, tell_frame};
@@ -30,10 +31,10 @@ struct Pair {
 }
 
 /// Adds the line of the answer.
-pub(crate) fn tell(alloc: Global, case: &Case, into: &mut String) -> Result<()> {
-    let grid = read_grid(alloc, case)?;
-    let mut pair = pair_of(alloc, &grid)?;
-    tell_steps(alloc, &mut pair, &case.steps, into)
+pub(crate) fn tell(case: &Case, answer: &mut Answer) -> Result<()> {
+    let grid = read_grid(answer.alloc, case)?;
+    let mut pair = pair_of(answer.alloc, &grid)?;
+    tell_steps(&mut pair, &case.steps, answer)
 }
 
 /// Both boards with this grid.
@@ -49,13 +50,15 @@ fn pair_of(alloc: Global, grid: &Grid) -> Result<Pair> {
 }
 
 /// Does the steps, and adds the line of the answer.
-fn tell_steps(alloc: Global, pair: &mut Pair, list: &[Step], into: &mut String) -> Result<()> {
-    let line = match work::<Brand>(alloc, pair, list, Blank::new(1))? {
-        None => String::from_str(alloc, "one answer\n")?,
-        Some(n) => format!(in alloc; "two answers after step {n}\n")?,
-    };
-    into.push_str(line.as_str())?;
-    Ok(())
+fn tell_steps(pair: &mut Pair, list: &[Step], answer: &mut Answer) -> Result<()> {
+    let alloc = answer.alloc;
+    match work::<Brand>(alloc, pair, list, Blank::new(1))? {
+        None => answer.push("one answer\n"),
+        Some(n) => {
+            let line = format!(in alloc; "two answers after step {n}\n")?;
+            answer.push(line.as_str())
+        }
+    }
 }
 
 /// Does the steps, and gives the number of the first after which the boards differ, counted from 1.
@@ -187,10 +190,10 @@ fn agree<L: Ledger>(alloc: Global, pair: &Pair, steps: &mut Steps<L>) -> Result<
     if !pair.alike {
         return Ok(true);
     }
-    let mut quick = String::new(alloc);
-    let mut slow = String::new(alloc);
-    tell_frame(alloc, live, live.events(), &mut quick, steps)?;
-    tell_frame(alloc, plain, plain.events(), &mut slow, steps)?;
+    let mut quick = Answer::new(alloc, Form::Hex);
+    let mut slow = Answer::new(alloc, Form::Hex);
+    tell_frame(live, live.events(), &mut quick, steps)?;
+    tell_frame(plain, plain.events(), &mut slow, steps)?;
     Ok(quick.as_str() == slow.as_str() && live.changes() == plain.changes())
 }
 

@@ -3,19 +3,35 @@
 ghost use Rattle.std.specs.Prelude.{◌≡◌, ◌<◌, [], false, IfOk};
 ghost use Rattle.orca_rig.specs.Arrived.{empty_log};
 
-use crate::bytes::{tell_bytes, write_bytes};
+use crate::answer::Answer;
 use crate::case::{Case, Outside};
 use anyhow::{Result, bail, ensure};
 use orca_base::{Port, Steps};
 use orca_course::{Desk, Rooms, desk_of};
 use orca_player::{Status, run};
 use orca_rig::{MemAnswer, MemFiles, MemInbox, MemOuts, are_arrivals, is_in_order, names_differ};
-use std::alloc::Global;
 use std::marker::Brand;
 use std::sync::ledger::{Blank, Ledger};
 
+/// What a run is asked for.
+#[derive(Drop)]
+struct Asked {
+    /// The words of the command line.
+    words: Vec<String>,
+    /// The names of the files that are told at the end.
+    wanted: Vec<String>,
+}
+
+/// What a run finds outside.
+#[derive(Drop)]
+struct World {
+    files: MemFiles,
+    outs: MemOuts,
+    inbox: MemInbox,
+}
+
 /// Adds the lines of the answer.
-pub(crate) fn tell(alloc: Global, case: Case, into: &mut String) -> Result<()> {
+pub(crate) fn tell(case: Case, answer: &mut Answer) -> Result<()> {
     let Case {
         name: _,
         frame: _,
@@ -24,17 +40,17 @@ pub(crate) fn tell(alloc: Global, case: Case, into: &mut String) -> Result<()> {
         wanted,
         outside,
     } = case;
-    tell_outside(alloc, &words, &wanted, outside, into)
+    let asked = Asked { words, wanted };
+    tell_run::<Brand>(&asked, world_of(outside)?, Blank::new(1), answer)
 }
 
-/// Does the run outside, and adds the lines of what came of it.
-fn tell_outside(
-    alloc: Global,
-    words: &Vec<String>,
-    wanted: &Vec<String>,
-    outside: Outside,
-    into: &mut String,
-) -> Result<()> {
+/// The world of a case. Nobody has called it.
+fn world_of(outside: Outside) -> Result<World>
+    ensures files { IfOk result (λ world. world.files.asked ≡ []) }
+    ensures ports { IfOk result (λ world. (world.outs.handed ≡ []) × (world.outs.attached ≡ [])) }
+    ensures inbox { IfOk result (λ world. (world.inbox.log ≡ empty_log)
+        × (world.inbox.listened ≡ false) × (world.inbox.ended ≡ false)) }
+{
     let Outside {
         files,
         failing_calls,
@@ -43,19 +59,11 @@ fn tell_outside(
         answers,
         failing_polls,
     } = outside;
-    let files = files_of(files, failing_calls)?;
-    let outs = outs_of(failing_sends)?;
-    let inbox = inbox_of(start, answers, failing_polls)?;
-    tell_run::<Brand>(
-        alloc,
-        words,
-        wanted,
-        files,
-        outs,
-        inbox,
-        Blank::new(1),
-        into,
-    )
+    Ok(World {
+        files: files_of(files, failing_calls)?,
+        outs: outs_of(failing_sends)?,
+        inbox: inbox_of(start, answers, failing_polls)?,
+    })
 }
 
 /// The files of a case, and which calls of them fail.
@@ -95,68 +103,59 @@ fn inbox_of(start: u64, answers: Vec<MemAnswer>, failing: Vec<u64>) -> Result<Me
     Ok(inbox)
 }
 
-/// Does the run at a desk of these, and adds the lines of what came of it.
-fn tell_run<L: Ledger>(
-    alloc: Global,
-    words: &Vec<String>,
-    wanted: &Vec<String>,
-    files: MemFiles,
-    outs: MemOuts,
-    inbox: MemInbox,
-    blank: Blank,
-    into: &mut String,
-) -> Result<()>
-    // Nobody has called them.
-    requires files { files.asked ≡ [] }
-    requires ports { (outs.handed ≡ []) × (outs.attached ≡ []) }
-    requires log { inbox.log ≡ empty_log }
-    requires fresh { inbox.listened ≡ false }
-    requires open { inbox.ended ≡ false }
+/// Does the run at a desk in this world, and adds the lines of what came of it.
+fn tell_run<L: Ledger>(asked: &Asked, world: World, blank: Blank, answer: &mut Answer) -> Result<()>
+    // Nobody has called the world.
+    requires files { world.files.asked ≡ [] }
+    requires ports { (world.outs.handed ≡ []) × (world.outs.attached ≡ []) }
+    requires log { world.inbox.log ≡ empty_log }
+    requires fresh { world.inbox.listened ≡ false }
+    requires open { world.inbox.ended ≡ false }
     requires name { blank.name ≡ L.name }
     requires parts { blank.parts ≡ L.parts }
     requires some { 0 < blank.parts }
 {
+    let World { files, outs, inbox } = world;
     let mut desk = desk_of(files, outs, inbox, Steps::<L>::start(blank));
-    let status = run(alloc, words, &mut desk);
-    tell_end(alloc, wanted, &desk, status, into)
+    let status = run(answer.alloc, &asked.words, &mut desk);
+    tell_end(&asked.wanted, &desk, status, answer)
 }
 
 /// Adds the lines of what came of a run.
 fn tell_end<L: Ledger>(
-    alloc: Global,
     wanted: &Vec<String>,
     desk: &Desk<Rooms<MemFiles, MemOuts, MemInbox, L>>,
     status: Status,
-    into: &mut String,
+    answer: &mut Answer,
 ) -> Result<()> {
-    tell_sends(alloc, desk.outs(), into)?;
+    tell_sends(desk.outs(), answer)?;
     for name in wanted {
-        tell_file(alloc, desk.files(), name.as_str(), into)?;
+        tell_file(desk.files(), name.as_str(), answer)?;
     }
-    let line = format!(in alloc; "status {}\n", status.number())?;
-    into.push_str(line.as_str())?;
-    Ok(())
+    let line = format!(in answer.alloc; "status {}\n", status.number())?;
+    answer.push(line.as_str())
 }
 
 /// Adds a line for each send.
-fn tell_sends(alloc: Global, outs: &MemOuts, into: &mut String) -> Result<()> {
+fn tell_sends(outs: &MemOuts, answer: &mut Answer) -> Result<()> {
     for index in 0..u64::MAX {
         let Some((port, bytes)) = outs.handed_at(index) else {
             break;
         };
-        into.push_str("send ")?;
-        tell_bytes(alloc, into, port.name(), bytes)?;
+        let words = format!(in answer.alloc; "send {}", port.name())?;
+        answer.push_bytes(words.as_str(), bytes)?;
     }
     Ok(())
 }
 
 /// Adds the line of a file.
-fn tell_file(alloc: Global, files: &MemFiles, name: &str, into: &mut String) -> Result<()> {
-    let bytes = match files.file(name) {
-        Some(bytes) => write_bytes(alloc, bytes)?,
-        None => String::from_str(alloc, "none")?,
-    };
-    let line = format!(in alloc; "file {name} {bytes}\n")?;
-    into.push_str(line.as_str())?;
-    Ok(())
+fn tell_file(files: &MemFiles, name: &str, answer: &mut Answer) -> Result<()> {
+    let words = format!(in answer.alloc; "file {name}")?;
+    match files.file(name) {
+        Some(bytes) => answer.push_bytes(words.as_str(), bytes),
+        None => {
+            answer.push(words.as_str())?;
+            answer.push(" none\n")
+        }
+    }
 }

@@ -2,7 +2,8 @@
 
 ghost use Rattle.std.specs.Prelude.{◌≡◌, ◌<◌};
 
-use crate::bytes::{tell_bytes, write_bytes};
+use crate::answer::Answer;
+use crate::bytes::write_bytes;
 use crate::case::Case;
 use anyhow::{Result, bail, ensure};
 use orca_base::limits::{BASE, MAX_FILE_BYTES};
@@ -16,30 +17,26 @@ use std::marker::Brand;
 use std::sync::ledger::{Blank, Ledger};
 
 /// Adds the lines of the answer, which both boards have to give.
-pub(crate) fn tell(alloc: Global, case: &Case, now: Now, into: &mut String) -> Result<()> {
-    let grid = read_grid(alloc, case)?;
-    tell_both(alloc, &grid, now, into)
-}
-
-/// Adds the one answer of both boards.
-fn tell_both(alloc: Global, grid: &Grid, now: Now, into: &mut String) -> Result<()> {
-    let slow = plain_answer(alloc, grid, now)?;
-    let quick = live_answer(alloc, grid, now)?;
+pub(crate) fn tell(case: &Case, now: Now, answer: &mut Answer) -> Result<()> {
+    let grid = read_grid(answer.alloc, case)?;
+    let mut slow = Answer::new(answer.alloc, answer.form);
+    let mut quick = Answer::new(answer.alloc, answer.form);
+    tell_plain(&grid, now, &mut slow)?;
+    tell_live(&grid, now, &mut quick)?;
     ensure!(slow.as_str() == quick.as_str(), "the boards differ");
-    into.push_str(slow.as_str())?;
-    Ok(())
+    answer.push(slow.as_str())
 }
 
-/// What the plain board answers.
-fn plain_answer(alloc: Global, grid: &Grid, now: Now) -> Result<String> {
-    let mut board = plain_board(alloc, grid)?;
-    scan::<Brand>(alloc, &mut board, now, Blank::new(1))
+/// Adds the answer of the plain board.
+fn tell_plain(grid: &Grid, now: Now, answer: &mut Answer) -> Result<()> {
+    let mut board = plain_board(answer.alloc, grid)?;
+    scan::<Brand>(&mut board, now, Blank::new(1), answer)
 }
 
-/// What the live board answers.
-fn live_answer(alloc: Global, grid: &Grid, now: Now) -> Result<String> {
-    let mut board = live_board(alloc, grid)?;
-    walk::<Brand>(alloc, &mut board, now, Blank::new(1))
+/// Adds the answer of the live board.
+fn tell_live(grid: &Grid, now: Now, answer: &mut Answer) -> Result<()> {
+    let mut board = live_board(answer.alloc, grid)?;
+    walk::<Brand>(&mut board, now, Blank::new(1), answer)
 }
 
 /// The grid of a case, its one file.
@@ -67,64 +64,64 @@ pub(crate) fn live_board(alloc: Global, grid: &Grid) -> Result<Board> {
     Ok(board)
 }
 
-/// The answer of the plain board, which looks at every place.
-fn scan<L: Ledger>(alloc: Global, board: &mut PlainBoard, now: Now, blank: Blank) -> Result<String>
+/// Adds the answer of the plain board, which looks at every place.
+fn scan<L: Ledger>(
+    board: &mut PlainBoard,
+    now: Now,
+    blank: Blank,
+    answer: &mut Answer,
+) -> Result<()>
     requires name { blank.name ≡ L.name }
     requires parts { blank.parts ≡ L.parts }
     requires some { 0 < blank.parts }
 {
     let mut steps = Steps::<L>::start(blank);
     frame_plain(board, now, &mut steps);
-    let mut answer = String::new(alloc);
-    tell_frame(alloc, board, board.events(), &mut answer, &mut steps)?;
-    Ok(answer)
+    tell_frame(board, board.events(), answer, &mut steps)
 }
 
-/// The answer of the live board, which goes from one operator to the next.
-fn walk<L: Ledger>(alloc: Global, board: &mut Board, now: Now, blank: Blank) -> Result<String>
+/// Adds the answer of the live board, which goes from one operator to the next.
+fn walk<L: Ledger>(board: &mut Board, now: Now, blank: Blank, answer: &mut Answer) -> Result<()>
     requires name { blank.name ≡ L.name }
     requires parts { blank.parts ≡ L.parts }
     requires some { 0 < blank.parts }
 {
     let mut steps = Steps::<L>::start(blank);
     frame(board, now, &mut steps);
-    let mut answer = String::new(alloc);
-    tell_frame(alloc, board, board.events(), &mut answer, &mut steps)?;
-    Ok(answer)
+    tell_frame(board, board.events(), answer, &mut steps)
 }
 
 /// Adds the lines of a board after a frame: its glyphs, its marks, its variables and its events.
 pub(crate) fn tell_frame<B: Bench + Look, L: Ledger>(
-    alloc: Global,
     board: &B,
     events: &[Event],
-    into: &mut String,
+    answer: &mut Answer,
     steps: &mut Steps<L>,
 ) -> Result<()> {
-    tell_places(alloc, board, into)?;
-    let mut vars = Vec::new(alloc);
+    tell_places(board, answer)?;
+    let mut vars = Vec::new(answer.alloc);
     for index in 0..BASE {
         vars.push(board.var(index, steps).byte())?;
     }
-    tell_bytes(alloc, into, "vars", vars.as_slice())?;
+    answer.push_bytes("vars", vars.as_slice())?;
     for event in events {
-        tell_event(alloc, *event, into)?;
+        tell_event(*event, answer)?;
     }
     Ok(())
 }
 
 /// Adds the lines of the glyphs and the marks.
-fn tell_places<T: Look>(alloc: Global, look: &T, into: &mut String) -> Result<()> {
-    let mut cells = Vec::new(alloc);
-    let mut marks = Vec::new(alloc);
+fn tell_places<T: Look>(look: &T, answer: &mut Answer) -> Result<()> {
+    let mut cells = Vec::new(answer.alloc);
+    let mut marks = Vec::new(answer.alloc);
     let dims = Look::dims(look);
     for index in 0..dims.cells() {
         let place = dims.place(index);
         cells.push(look.glyph_at(place).byte())?;
         marks.push(mark_byte(look.marks_at(place)))?;
     }
-    tell_bytes(alloc, into, "cells", cells.as_slice())?;
-    tell_bytes(alloc, into, "marks", marks.as_slice())
+    answer.push_bytes("cells", cells.as_slice())?;
+    answer.push_bytes("marks", marks.as_slice())
 }
 
 /// A set of marks as a byte.
@@ -142,8 +139,9 @@ fn mark_bit(marks: Marks, mark: Mark, bit: u8) -> u8 {
 }
 
 /// Adds the line of an event.
-fn tell_event(alloc: Global, event: Event, into: &mut String) -> Result<()> {
-    let line = match event {
+fn tell_event(event: Event, answer: &mut Answer) -> Result<()> {
+    let alloc = answer.alloc;
+    match event {
         Event::Note {
             channel,
             key,
@@ -152,26 +150,28 @@ fn tell_event(alloc: Global, event: Event, into: &mut String) -> Result<()> {
             mono,
         } => {
             let mono = u8::from(mono);
-            format!(in alloc; "event note {channel} {key} {velocity} {length} {mono}\n")?
+            let line = format!(in alloc;
+                "event note {channel} {key} {velocity} {length} {mono}\n"
+            )?;
+            answer.push(line.as_str())
         }
         Event::Control {
             channel,
             control,
             value,
-        } => format!(in alloc; "event control {channel} {control} {value}\n")?,
+        } => {
+            let line = format!(in alloc; "event control {channel} {control} {value}\n")?;
+            answer.push(line.as_str())
+        }
         Event::Bend { channel, lsb, msb } => {
-            format!(in alloc; "event bend {channel} {lsb} {msb}\n")?
+            let line = format!(in alloc; "event bend {channel} {lsb} {msb}\n")?;
+            answer.push(line.as_str())
         }
-        Event::Udp { text } => {
-            let text = write_bytes(alloc, text.as_slice())?;
-            format!(in alloc; "event udp {text}\n")?
-        }
+        Event::Udp { text } => answer.push_bytes("event udp", text.as_slice()),
         Event::Osc { path, values } => {
-            let path = write_bytes(alloc, &[path.byte()])?;
-            let values = write_bytes(alloc, values.as_slice())?;
-            format!(in alloc; "event osc {path} {values}\n")?
+            let path = write_bytes(alloc, answer.form, &[path.byte()])?;
+            let words = format!(in alloc; "event osc {path}")?;
+            answer.push_bytes(words.as_str(), values.as_slice())
         }
-    };
-    into.push_str(line.as_str())?;
-    Ok(())
+    }
 }

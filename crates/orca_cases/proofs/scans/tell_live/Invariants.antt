@@ -1,4 +1,4 @@
-use Rattle.orca_cases.proofs.scans.live_answer.Given as goal
+use Rattle.orca_cases.proofs.scans.tell_live.Given as goal
 
 abbrev pub ghosts-walk : goal.ghosts-walk
 ghosts-walk a = record { name = a.blank.name; parts = a.blank.parts }

@@ -1,4 +1,4 @@
-use Rattle.orca_cases.proofs.scans.plain_answer.Given as goal
+use Rattle.orca_cases.proofs.scans.tell_plain.Given as goal
 
 abbrev pub ghosts-scan : goal.ghosts-scan
 ghosts-scan a = record { name = a.blank.name; parts = a.blank.parts }
