@@ -30,6 +30,10 @@ import sys
 import tempfile
 
 HERE = os.path.dirname(os.path.abspath(__file__))
+sys.path.insert(0, os.path.join(HERE, '../scripts'))
+sys.dont_write_bytecode = True
+import cases
+
 CRATE = os.path.join(HERE, '../crates/orca_cases')
 LINE = 'send fault ' + b'no memory\n'.hex()
 # A send over ports in memory copies the bytes, and may lengthen its list.
@@ -90,16 +94,14 @@ def expect(holds, *what):
         sys.exit(' '.join(str(it) for it in ('memory:', *what)))
 
 
-def stored(file):
-    """The lines of each stored run, or of its answer, by its name."""
+def stored():
+    """The stored runs by their names."""
     found = {}
-    for line in open(os.path.join(CRATE, file)):
-        line = line.rstrip('\n')
-        if line.startswith('case '):
-            lines = found.setdefault(line[5:], [])
-        elif line and not line.startswith('#'):
-            lines.append(line)
-    return found
+    for family in cases.families():
+        for name, case in cases.cases_of(cases.read(cases.path_of(family))).items():
+            if name in RUNS:
+                found[name] = Run(name, [*cases.in_hex(case.asked), 'end'], [*cases.in_hex(case.answer)])
+    return {name: found[name] for name in RUNS}
 
 
 class Run:
@@ -203,8 +205,7 @@ def try_once(number, runs, folder):
 
 
 def main():
-    cases, answers = stored('stdin'), stored('stdout')
-    runs = {name: Run(name, cases[name], answers[name]) for name in RUNS}
+    runs = stored()
     with tempfile.TemporaryDirectory() as folder:
         if sys.argv[1:2] == ['--try']:
             for number in sys.argv[2:]:
