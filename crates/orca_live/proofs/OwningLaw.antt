@@ -244,7 +244,7 @@ owns_carries = record {
 -- ---- a performance
 
 pub starts_with_owners : StartsWithOwners
-starts_with_owners set hands room screen at begins none fits = record {
+starts_with_owners set hands room at begins none fits = record {
   shared = refl;
   fits = rw none (omega arith);
   room = fits;

@@ -15,7 +15,6 @@ use Rattle.orca_jam.specs.declared.owner.TheConstants.{NOBODY}
 use Rattle.orca_rig.specs.declared.inbox.Answer.{Answer}
 use Rattle.orca_rig.specs.declared.inbox.Answer.TheVariants as answer
 use Rattle.orca_term.specs.Keys.{Byte, Due, Item, turn}
-use Rattle.orca_term.specs.declared.cell.ScreenSize.{ScreenSize}
 use Rattle.orca_term.specs.declared.keys.Key.TheVariants as key
 use Rattle.orca_term.specs.declared.keys.Pending.{Pending}
 use Rattle.orca_trace.specs.Calls.{Poll}
@@ -77,9 +76,9 @@ pub record HasOwners (s : LiveState) : Type 0 where
 -- so it is where hands begin to share a session without a history
 abbrev pub StartsWithOwners : Type 0
 StartsWithOwners =
-    (set : Setting) (hands room : ℕ) (screen : ScreenSize) (at : ℕ) (begins : Standing)
+    (set : Setting) (hands room at : ℕ) (begins : Standing)
     → begins.machine.history ≡ [] → begins.machine.limit ≤ room
-    → HasOwners (live_at_start set (crew_at_start set.full hands room) screen at begins)
+    → HasOwners (live_at_start set (crew_at_start set.full hands room) at begins)
 
 -- who gives the commands that an answer brings: the hand whose bytes came, or nobody, where a frame
 -- is due

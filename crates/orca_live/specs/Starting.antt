@@ -5,17 +5,16 @@ use Rattle.orca_course.specs.Standings.{Standing}
 use Rattle.orca_jam.specs.Crews.{CrewState}
 use Rattle.orca_live.specs.States.{LiveState, Setting}
 use Rattle.orca_term.specs.Pacing.{pace_from}
-use Rattle.orca_term.specs.declared.cell.ScreenSize.{ScreenSize}
 
 -- a pacer starts at this moment, nothing was painted, and no command was given, so none waits for
 -- the journal
-abbrev pub live_at_start : Setting → CrewState → ScreenSize → ℕ → Standing → LiveState
-live_at_start set crew screen at standing = record {
+abbrev pub live_at_start : Setting → CrewState → ℕ → Standing → LiveState
+live_at_start set crew at standing = record {
   setting = set;
   standing = standing;
   crew = crew;
   pace = pace_from set.bpm at;
-  screen = screen;
+  screen = set.screen;
   shown = None;
   given = option_map (λ name. []) set.script;
   unwritten = [];

@@ -1,6 +1,6 @@
 -- Where a performance stands: its setting, the session, the hands, the pacer, what is shown, the
 -- commands that are kept for the script, and the lines that wait for the journal.
-use Rattle.std.specs.Prelude.{ℕ, Bool, true, nat_le, nat_lt, if◌then◌else◌, List, length, Option, Some, None, unwrap_or, Result}
+use Rattle.std.specs.Prelude.{ℕ, ◌==◌, Bool, true, nat_le, nat_lt, if◌then◌else◌, List, length, Option, Some, None, unwrap_or, Result}
 use Rattle.std.specs.List.{range_with_len}
 use Rattle.std.specs.Option.{option_map}
 use Rattle.orca_base.specs.declared.command.Command.{Command}
@@ -29,7 +29,8 @@ use Rattle.orca_term.specs.declared.status.StatusLine.{StatusLine}
 
 -- the tempo in beats a minute at the start, the seed of the random operator, the name of the grid's
 -- file, the names under which the grid and the script are saved at the end, the name of the
--- journal, which commands are added to while it plays, and whether the full keys are read
+-- journal, which commands are added to while it plays, whether the full keys are read, and the
+-- screen at the start
 pub record Setting : Type 0 where
   pub bpm : ℕ
   pub seed : ℕ
@@ -38,6 +39,7 @@ pub record Setting : Type 0 where
   pub script : Option (List ℕ)
   pub journal : Option (List ℕ)
   pub full : Bool
+  pub screen : ScreenSize
 
 -- the same as the code holds it
 abbrev pub setting_in : HeldSetting → Setting
@@ -49,6 +51,7 @@ setting_in set = record {
   script = option_map (λ name. name.now) set.script;
   journal = option_map (λ name. name.now) set.journal;
   full = set.full;
+  screen = set.screen;
 }
 
 -- the name under which the key saves the grid
@@ -61,6 +64,7 @@ pub record LiveState : Type 0 where
   -- the keys and the editor of each hand, and whose each entry of the history is
   pub crew : CrewState
   pub pace : Pace
+  -- the size of the first hand's terminal, as it was told last
   pub screen : ScreenSize
   -- the last picture, if one was painted
   pub shown : Option (List Cell)
@@ -129,6 +133,11 @@ editor_at hand s = (player_at s.crew hand).editor
 abbrev pub leader_at : LiveState → Editor
 leader_at s = editor_at LEADER s
 
+-- the screen that a hand is told: the first one that of its terminal; the others see no picture of
+-- their own, and are told that of the start
+abbrev pub screen_at : ℕ → LiveState → ScreenSize
+screen_at hand s = if hand == LEADER then s.screen else s.setting.screen
+
 -- what a key of a hand is told, where the editors are fitted to the grid
 abbrev pub around_at : ℕ → LiveState → Around
 around_at hand s =
@@ -138,7 +147,7 @@ around_at hand s =
       dims = dims_at s;
       moments = moments_at s;
       glyph = glyph_at (piece_at s).sheet at;
-      screen = s.screen;
+      screen = screen_at hand s;
     }
 
 -- every editor is fitted to the grid

@@ -10,7 +10,7 @@ ghost use Rattle.orca_term.specs.Picture.{screen_inside};
 ghost use Rattle.orca_course.specs.Doing.{goes_of};
 ghost use Rattle.orca_course.specs.Worlds.{Called};
 ghost use Rattle.orca_live.specs.Performing.{byte_course, hand_course, owning, press_course, struck_course, telling, wish_course};
-ghost use Rattle.orca_live.specs.States.{LiveDid, around_at, dims_at, editor_at, fitted, live_state};
+ghost use Rattle.orca_live.specs.States.{LiveDid, around_at, dims_at, editor_at, fitted, live_state, screen_at};
 
 use crate::Live;
 use crate::journal::note;
@@ -19,7 +19,7 @@ use orca_base::limits::MAX_BPM;
 use orca_base::{Command, Look, Place, Port, Rule};
 use orca_course::{Desk, NoMemory, Stop};
 use orca_edit::Machine;
-use orca_jam::{Crew, Denial};
+use orca_jam::{Crew, Denial, LEADER};
 use orca_rig::House;
 use orca_term::{Around, Key, Pacer, ScreenSize, View, Wish};
 
@@ -157,6 +157,17 @@ pub(crate) fn fit<M: Machine>(live: &mut Live<'_, M>)
     live.crew.fit(dims);
 }
 
+/// The screen that a hand is told: the first one that of its terminal; the others see no picture of
+/// their own, and are told that of the start.
+fn screen<M: Machine>(live: &Live<'_, M>, hand: u8) -> ScreenSize
+    ensures { result ≡ screen_at hand (live_state M.Machine.own live.now) }
+{
+    if hand == LEADER {
+        return live.view.size();
+    }
+    live.setting.screen
+}
+
 /// What a key of a hand is told, where the editors are fitted to the grid.
 fn around<M: Machine>(live: &Live<'_, M>, hand: u8) -> Around
     requires hand { hand < length live.now.crew.players }
@@ -174,7 +185,7 @@ fn around<M: Machine>(live: &Live<'_, M>, hand: u8) -> Around
         dims: Look::dims(&live.stage.machine),
         moments: live.stage.machine.moments(),
         glyph: Look::glyph_at(&live.stage.machine, at),
-        screen: live.view.size(),
+        screen: screen(live, hand),
     }
 }
 

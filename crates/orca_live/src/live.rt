@@ -1,6 +1,5 @@
-ghost use Rattle.std.specs.Prelude.{◌≡◌, ◌≢◌, ◌≤◌, Err, IfOk, Some};
+ghost use Rattle.std.specs.Prelude.{◌≡◌, ◌≢◌, Err, IfOk, Some};
 ghost use Rattle.std.specs.Option.{option_map};
-ghost use Rattle.orca_base.specs.declared.limits.TheConstants.{MAX_SCREEN_COLUMNS, MAX_SCREEN_ROWS, MIN_SCREEN_COLUMNS, MIN_SCREEN_ROWS};
 ghost use Rattle.orca_concert.specs.Concerts.{handed_of};
 ghost use Rattle.orca_concert.specs.Stages.{standing_of};
 ghost use Rattle.orca_course.specs.Acts.{gives};
@@ -18,7 +17,7 @@ use orca_course::{Desk, NoMemory};
 use orca_edit::Machine;
 use orca_jam::Crew;
 use orca_rig::House;
-use orca_term::{Pacer, ScreenSize, StatusLine, View};
+use orca_term::{Pacer, StatusLine, View};
 use std::alloc::Global;
 
 /// All that a performance keeps. A contract outside sees its state (`live_state`), and no field.
@@ -45,26 +44,22 @@ pub struct Live<'a, M> {
 }
 
 impl<'a, M: Machine> Live<'a, M> {
-    /// A performance of these hands on a screen of this size, before its first picture, that starts at a
-    /// moment in microseconds. [`Memory`] if the room for the pictures is refused.
+    /// A performance of these hands, before its first picture, that starts at a moment in microseconds.
+    /// [`Memory`] if the room for the pictures is refused.
     pub fn start(
         alloc: Global,
         stage: Stage<M, Silent>,
         setting: Setting<'a>,
         crew: Crew,
-        screen: ScreenSize,
         at: u64,
     ) -> Result<Live<'a, M>, Memory>
-        requires rows { (MIN_SCREEN_ROWS ≤ screen.rows) × (screen.rows ≤ MAX_SCREEN_ROWS) }
-        requires columns { (MIN_SCREEN_COLUMNS ≤ screen.columns)
-            × (screen.columns ≤ MAX_SCREEN_COLUMNS) }
         ensures state { IfOk result (λ live.
-            live_state M.Machine.own live ≡ live_at_start (setting_in setting.entry) crew screen at
+            live_state M.Machine.own live ≡ live_at_start (setting_in setting.entry) crew at
             (standing_of M.Machine.own stage)) }
         ensures residue { IfOk result (λ live.
             residue_of M.Machine.own live ≡ M.residue stage.machine) }
     {
-        let view = View::start(alloc, screen.rows, screen.columns)?;
+        let view = View::start(alloc, setting.screen.rows, setting.screen.columns)?;
         Ok(Live {
             setting,
             stage,

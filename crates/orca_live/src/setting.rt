@@ -1,5 +1,7 @@
 ghost use Rattle.std.specs.Prelude.{◌≡◌, ◌≤◌};
-ghost use Rattle.orca_base.specs.declared.limits.TheConstants.{MAX_BPM};
+ghost use Rattle.orca_base.specs.declared.limits.TheConstants.{MAX_BPM, MAX_SCREEN_COLUMNS, MAX_SCREEN_ROWS, MIN_SCREEN_COLUMNS, MIN_SCREEN_ROWS};
+
+use orca_term::ScreenSize;
 
 /// How a performance plays, and the files that it is saved to.
 #[derive(Clone, Copy, Debug, PartialEq, Eq)]
@@ -18,8 +20,12 @@ pub struct Setting<'a> {
     pub journal: Option<&'a str>,
     /// Whether the full keys are read, and not the plain ones.
     pub full: bool,
+    /// The screen at the start.
+    pub screen: ScreenSize,
     ghost some_bpm: { 1 ≤ bpm },
     ghost few_bpm: { bpm ≤ MAX_BPM },
+    ghost rows: { (MIN_SCREEN_ROWS ≤ screen.rows) × (screen.rows ≤ MAX_SCREEN_ROWS) },
+    ghost columns: { (MIN_SCREEN_COLUMNS ≤ screen.columns) × (screen.columns ≤ MAX_SCREEN_COLUMNS) },
 }
 
 impl<'a> Setting<'a> {

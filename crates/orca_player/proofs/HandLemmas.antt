@@ -18,7 +18,7 @@ use Rattle.orca_live.specs.States.{LiveState}
 use Rattle.orca_trace.specs.Calls.{Poll}
 use Rattle.orca_words.specs.Requests.{Perform, Performance, Play, Setup}
 use Rattle.orca_player.specs.Hands.{SharesFairly}
-use Rattle.orca_player.specs.Outlines.{Brought, Heard, grid_outline, listening, live_outline, live_start, loading, opening, outline, performed, played, request_outline, screen_of, setting_of, start_of, work_outline}
+use Rattle.orca_player.specs.Outlines.{Brought, Heard, grid_outline, listening, live_outline, live_start, loading, opening, outline, performed, played, request_outline, setting_of, start_of, work_outline}
 use Rattle.orca_player.specs.declared.live.TheConstants.{ALONE}
 
 -- ---- hands that share
@@ -33,7 +33,7 @@ starts_owned : StartsWithOwners → (setup : Setup) (play : Performance) (sheet 
     → HasOwners (live_start setup (with_hands hands play) at (start_of setup sheet))
 starts_owned starts setup play sheet at None some = absurd (some refl)
 starts_owned starts setup play sheet at (Some hands) some =
-    starts (setting_of setup play) hands setup.limit (screen_of play) at (start_of setup sheet) refl
+    starts (setting_of setup play) hands setup.limit at (start_of setup sheet) refl
     (omega arith)
 
 -- ---- one that is alone

@@ -181,6 +181,10 @@ listening address hands start next =
 
 -- ---- a player
 
+-- the screen that is painted on
+abbrev pub screen_of : Performance → ScreenSize
+screen_of performance = record { rows = performance.rows; columns = performance.cols }
+
 -- how a grid is played, and the files that it is saved to
 abbrev pub setting_of : Setup → Performance → Setting
 setting_of setup performance = record {
@@ -191,11 +195,8 @@ setting_of setup performance = record {
   script = performance.script;
   journal = performance.journal;
   full = performance.full;
+  screen = screen_of performance;
 }
-
--- the screen that is painted on
-abbrev pub screen_of : Performance → ScreenSize
-screen_of performance = record { rows = performance.rows; columns = performance.cols }
 
 -- how many hands a performance listens for
 abbrev pub hands_of : Performance → ℕ
@@ -211,7 +212,7 @@ crew_of setup play =
 -- a performance of its crew, which starts at a moment
 abbrev pub live_start : Setup → Performance → ℕ → Standing → LiveState
 live_start setup play at s =
-    live_at_start (setting_of setup play) (crew_of setup play) (screen_of play) at s
+    live_at_start (setting_of setup play) (crew_of setup play) at s
 
 -- the script of a seed and the commands that were kept, if it is saved
 abbrev pub script_kept : Option (List ℕ) → ℕ → Option (List Command) → Option Script

@@ -109,6 +109,10 @@ fn setting_of<'a>(setup: &Setup<'a>, performance: &Performance<'a>) -> Setting<'
         script: performance.script,
         journal: performance.journal,
         full: performance.full,
+        screen: ScreenSize {
+            rows: performance.rows,
+            columns: performance.cols,
+        },
     }
 }
 
@@ -140,16 +144,6 @@ fn open_live<'a>(
 {
     let stage = open_stage(opening, Silent)?;
     let crew = crew_of(opening.alloc, setup, performance)?;
-    let screen = ScreenSize {
-        rows: performance.rows,
-        columns: performance.cols,
-    };
-    Live::start(
-        opening.alloc,
-        stage,
-        setting_of(setup, performance),
-        crew,
-        screen,
-        at,
-    )
+    let setting = setting_of(setup, performance);
+    Live::start(opening.alloc, stage, setting, crew, at)
 }
