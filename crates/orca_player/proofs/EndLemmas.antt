@@ -7,7 +7,7 @@ use Rattle.orca_base.specs.Ports.{Sent}
 use Rattle.orca_course.specs.Acts.{gives}
 use Rattle.orca_course.specs.Acts.Act.{Give}
 use Rattle.orca_course.specs.Following.{Follows}
-use Rattle.orca_course.specs.Worlds.{Called, IsSound, Made, World, has_failed, is_lost, is_unstored}
+use Rattle.orca_course.specs.Worlds.{Called, IsSound, Made, Sated, World, has_failed, is_lost, is_unstored}
 use Rattle.orca_course.specs.declared.refused.NoMemory.{NoMemory}
 use Rattle.orca_course.specs.declared.refused.NoMemory.TheVariants.{InSend, Elsewhere}
 use Rattle.orca_course.proofs.ActLemmas.{lost_after}
@@ -138,22 +138,27 @@ unfolding Went
 over_refused {y = y} said is refused last made =
     rw is (record { over = y; went = refused; said = said; last = last; line = made })
 
+last_by : (x y : World) (status : Status) (said : List Sent)
+    → (said ≡ status_sends status) × Sated x y → IsLast status said x y
+last_by x y status said is = grind (arith, is)
+
 over_by : {o : Outline} {x y z : World} {status : Status} (result : Status) (said : List Sent)
     → Made (gives said) 0 y z → SaidSo status result said y z → CameSo o x status y
     → Over o x result z
-over_by {x = x} {y = y} {status = status} result said made (inl is) (inl whole) =
+over_by {x = x} {y = y} {z = z} {status = status} result said made (inl is) (inl whole) =
     rw is.0 (record {
       over = y;
       went = went_done status (grind (arith, whole.blamed, whole.settles)) (done_by whole);
       said = said;
-      last = grind (arith, is.1);
+      last = last_by y z status said (is.1, is.2);
       line = made;
     })
 over_by result said made (inl is) (inr refused) =
-    over_refused said (is.0 ∙ refused.0) refused.1 (inl (is.1 ∙ ap status_sends refused.0)) made
+    over_refused said (is.0 ∙ refused.0) refused.1
+    (inl (is.1 ∙ ap status_sends refused.0, is.2)) made
 over_by result said made (inr is) came =
     over_refused said is.0 (was_refused came)
-    (elim is.1 [ inl line ↦ inl line.0 | inr line ↦ inr line ]) made
+    (elim is.1 [ inl line ↦ inl line | inr line ↦ inr line ]) made
 
 pub over_came : {o : Outline} {x y z : World} {status result : Status} → Came o x status y
     → Said status result y z → Over o x result z

@@ -57,11 +57,12 @@ unfoldable pub Went : Outline → World → Status → World → Type 0
 Went o x Memory y = WasRefused o x y
 Went o x status y = WasDone o x status y
 
--- the last send: the line of the status; out of memory it is missing if its port refused memory for
--- a line
+-- the last send: the line of the status, and no call was refused memory; out of memory it is missing
+-- if its port refused memory for a line
 abbrev pub IsLast : Status → List Sent → World → World → Type 0
-IsLast Memory said x y = (said ≡ status_sends Memory) ⊎ ((said ≡ []) × IsUnsaid x y)
-IsLast status said x y = said ≡ status_sends status
+IsLast Memory said x y =
+    ((said ≡ status_sends Memory) × Sated x y) ⊎ ((said ≡ []) × IsUnsaid x y)
+IsLast status said x y = (said ≡ status_sends status) × Sated x y
 
 -- a whole run: what its words ask for, by what it heard of the outside, and the line of its status.
 -- If all that the words ask for can be done, and no call failed, all was done, unless memory was
