@@ -7,6 +7,7 @@ use Rattle.orca_base.specs.declared.command.Command.{Command}
 use Rattle.orca_term.specs.Picture.{IsPrintable}
 use Rattle.orca_term.specs.declared.cell.Cell.{Cell}
 use Rattle.orca_term.specs.declared.cell.ScreenSize.{ScreenSize}
+use Rattle.orca_term.specs.declared.keys.Key.{Key}
 use Rattle.orca_rig.specs.Outside.{Contents}
 use Rattle.orca_base.specs.Ports.{Sent}
 use Rattle.orca_rig.specs.declared.fault.OutsideFault.{OutsideFault}
@@ -15,7 +16,7 @@ use Rattle.orca_rig.specs.declared.fault.OutsideFault.TheVariants.{Memory}
 use Rattle.orca_trace.specs.Calls.{Call}
 use Rattle.orca_trace.specs.Calls.Call.{Await as CallAwait, Give as CallGive}
 use Rattle.orca_course.specs.Acts.{Act, ArePrintable, calls_in, given}
-use Rattle.orca_course.specs.Acts.Act.{Append, Await, Give, Load, Obey, Save, Screen, Show, Stand}
+use Rattle.orca_course.specs.Acts.Act.{Append, Await, Give, Load, Obey, Save, Screen, Show, Stand, Strike}
 use Rattle.orca_course.specs.Answered.{done_in, is_file_fault, refused_in}
 use Rattle.orca_course.specs.Standings.{Standing}
 use Rattle.orca_course.specs.Worlds.{AreCalled, AreCounted, AreStored, Called, Counts, IsCounted, Made, Polled, Sated, Stores, Unsent, Wants, World, has_ended, has_failed, is_lost, is_unstored, owing}
@@ -137,7 +138,7 @@ made_alike : {xs ys : List Act} {bill : ℕ} {x y : World} → calls_in ys ≡ c
 made_alike {xs = xs} {ys = ys} {x = x} {y = y} same shows made =
     record { called = called_alike xs ys x y same made.called; shows = shows; paid = made.paid }
 
--- where the run stands, a command, a picture and a size are no calls
+-- where the run stands, a command, a key, a picture and a size are no calls
 
 pub made_stand : {acts : List Act} {bill : ℕ} {x y : World} (s : Standing) → Made acts bill x y
     → Made (Stand s ∷ acts) bill x y
@@ -146,6 +147,10 @@ made_stand s made = made_alike refl made.shows made
 pub made_obey : {acts : List Act} {bill : ℕ} {x y : World} (command : Command) → Made acts bill x y
     → Made (Obey command ∷ acts) bill x y
 made_obey command made = made_alike refl made.shows made
+
+pub made_strike : {acts : List Act} {bill : ℕ} {x y : World} (hand : ℕ) (key : Key)
+    → Made acts bill x y → Made (Strike hand key ∷ acts) bill x y
+made_strike hand key made = made_alike refl made.shows made
 
 pub made_show : {acts : List Act} {bill : ℕ} {x y : World} (cells : List Cell)
     → All IsPrintable cells → Made acts bill x y → Made (Show cells ∷ acts) bill x y

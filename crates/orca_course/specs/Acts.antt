@@ -1,5 +1,5 @@
 -- What a run does on the outside, in order, and what is read off it.
-use Rattle.std.specs.Prelude.{◌≡◌, ℕ, Bool, true, false, ◌||◌, List, [], ◌∷◌, map, Option, Some, All}
+use Rattle.std.specs.Prelude.{◌≡◌, ℕ, ◌==◌, Bool, true, false, ◌||◌, if◌then◌else◌, List, [], ◌∷◌, map, Option, Some, All}
 use Rattle.orca_base.specs.declared.command.Command.{Command}
 use Rattle.orca_base.specs.declared.port.Port.{Port}
 use Rattle.orca_base.specs.declared.port.Port.TheVariants as port
@@ -9,11 +9,12 @@ use Rattle.orca_trace.specs.Calls.{Poll}
 use Rattle.orca_term.specs.Picture.{IsPrintable}
 use Rattle.orca_term.specs.declared.cell.Cell.{Cell}
 use Rattle.orca_term.specs.declared.cell.ScreenSize.{ScreenSize}
+use Rattle.orca_term.specs.declared.keys.Key.{Key}
 use Rattle.orca_course.specs.Standings.{Standing}
 
 -- one call on the outside, with its answer where that decides what follows; and, between calls, the
--- commands, where they leave the run, the pictures that were painted, and the sizes of the terminal
--- that were told
+-- commands, where they leave the run, the keys that hands struck, the pictures that were painted, and
+-- the sizes of the terminal that were told
 pub data Act : Type 0 where
   -- a port is attached to a name
   Attach : Attached → Act
@@ -33,6 +34,8 @@ pub data Act : Type 0 where
   Obey : Command → Act
   -- the run stands so, between two commands; no call
   Stand : Standing → Act
+  -- a key of a hand is struck; no call
+  Strike : ℕ → Key → Act
   -- the picture is painted; no call
   Show : List Cell → Act
   -- from here on the terminal has this size, and shows whatever it shows; no call
@@ -45,6 +48,7 @@ abbrev pub calls_in : List Act → List Act
 calls_in [] = []
 calls_in (Obey command ∷ acts) = calls_in acts
 calls_in (Stand s ∷ acts) = calls_in acts
+calls_in (Strike hand key ∷ acts) = calls_in acts
 calls_in (Show cells ∷ acts) = calls_in acts
 calls_in (Screen d ∷ acts) = calls_in acts
 calls_in (act ∷ acts) = act ∷ calls_in acts
@@ -68,6 +72,13 @@ abbrev pub commands_in : List Act → List Command
 commands_in [] = []
 commands_in (Obey command ∷ acts) = command ∷ commands_in acts
 commands_in (_ ∷ acts) = commands_in acts
+
+-- the keys of a hand among acts
+abbrev pub keys_in : ℕ → List Act → List Key
+keys_in hand [] = []
+keys_in hand (Strike other key ∷ acts) =
+    if other == hand then key ∷ keys_in hand acts else keys_in hand acts
+keys_in hand (_ ∷ acts) = keys_in hand acts
 
 -- where a run stands after acts, if it has a session
 abbrev pub stand_after : Option Standing → List Act → Option Standing

@@ -87,6 +87,7 @@ hands_carries = record {
   none = λ s t alike. alike.hands;
   both = λ r s t xs ys first second. second ∙ first;
   command = λ who command s other. hands_command who command s;
+  struck = λ hand key s. refl;
   denied = λ hand denial s. refl;
   save = λ name bytes s saved. refl;
   write = hands_write;

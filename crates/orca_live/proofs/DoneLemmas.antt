@@ -16,10 +16,10 @@ use Rattle.orca_course.specs.Worlds.{World, Called, owing, Calls, Made, Sated}
 use Rattle.orca_course.specs.declared.ending.Stop.{Stop}
 use Rattle.orca_course.specs.declared.refused.NoMemory.{NoMemory}
 use Rattle.orca_course.proofs.DoingLemmas.{does_from, does_mapped, does_still, does_then, does_owing, does_acts, does_begun, does_cut, does_joined, rests_mute, rests_none}
-use Rattle.orca_course.specs.Acts.Act.{Append, Save, Screen, Give, Show}
+use Rattle.orca_course.specs.Acts.Act.{Append, Save, Screen, Give, Show, Strike}
 use Rattle.orca_course.proofs.CallLemmas.{calls_one, does_calls}
 use Rattle.orca_course.specs.Acts.{AreMute}
-use Rattle.orca_course.proofs.WorldLemmas.{made_none, made_screen, made_show}
+use Rattle.orca_course.proofs.WorldLemmas.{made_none, made_screen, made_show, made_strike}
 use Rattle.orca_edit.specs.Machines.{preview_of}
 use Rattle.orca_edit.specs.Prices.{preview_price}
 use Rattle.orca_term.specs.Pacing.{Pace}
@@ -157,13 +157,17 @@ struck_denied hand key s answer denial crew n result told is same called =
     (does_owing n (goes_of result)
     (does_calls (telling hand denial ∷ []) result (refl, tt) refl (calls_one result called)))
 
--- the editors were fitted to the grid, and then the key was struck
+-- a key was struck: the editors were fitted to the grid, and then the key was done
 pub press_some : (hand : ℕ) (key : Option Key) (some : Key) (s u : LiveState) {t : LiveState}
     {x y : World} {result : Result (Option Stop) NoMemory} → key ≡ Some some → u ≡ fitted s
     → Does live_stance (struck_course hand some u) u x result t y
     → Does live_stance (press_course hand key s) s x result t y
 unfolding press_course key_course
-press_some hand key some s u is fits did = rw is (does_from s refl (rw fits at did))
+press_some hand key some s u {x = x} {result = result} is fits did =
+    rw is (does_joined {E = Stop} result
+    (does_acts (made_strike hand some (made_none x)) refl
+    (rests_mute live_stance s s (Strike hand some ∷ []) tt refl)).did
+    (does_from s refl (rw fits at did)))
 
 -- an item, whose key was pressed
 pub read_did : (hand : ℕ) (item : Item) (s : LiveState) (key : Option Key) (crew : CrewState)

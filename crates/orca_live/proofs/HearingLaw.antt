@@ -1,5 +1,6 @@
--- The reader of each hand stands where its own bytes and the due frames have left it.
-use Rattle.std.proofs.Common.{◌≡◌, ℕ, zero, suc, ◌+◌, ◌<◌, ◌≤◌, Bool, true, false, List, [], ◌∷◌, ◌++◌, length, refl, sym, ◌∙◌, ap, subst, arith, append-nil}
+-- The reader of each hand stands where its own bytes and the due frames have left it, and the keys
+-- that these have ended are those that it struck, and moved its editor.
+use Rattle.std.proofs.Common.{◌≡◌, ℕ, zero, suc, ◌+◌, ◌<◌, ◌≤◌, Bool, true, false, List, [], ◌∷◌, ◌++◌, length, refl, sym, ◌∙◌, ap, subst, arith, append_assoc, append-nil}
 use Rattle.std.specs.Prelude.{if◌then◌else◌, ◌==◌, map, nat_le, nat_lt, slice_index_or, slice_set, Option, Some, None}
 use Rattle.std.specs.List.{flat_map, range_with_len}
 use Rattle.std.specs.Option.{option_map}
@@ -9,6 +10,7 @@ use Rattle.std.proofs.lemmas.List.{get_or-set_other, get_or-set_same, length-map
 use Rattle.orca_base.specs.declared.command.Command.TheVariants.{Frame}
 use Rattle.orca_base.specs.declared.limits.TheConstants.{MAX_POLLS}
 use Rattle.orca_concert.specs.Concerts.{command_course as obey_course}
+use Rattle.orca_course.specs.Acts.{Act, keys_in}
 use Rattle.orca_course.specs.Courses.{Course, each, ended, mapped, onward, still}
 use Rattle.orca_course.specs.Performers.{attended, begun, heard, opened, polled, spent}
 use Rattle.orca_course.specs.declared.ending.Ending.{Ending}
@@ -31,13 +33,15 @@ use Rattle.orca_term.specs.declared.editor.Wish.TheVariants as wish
 use Rattle.orca_term.specs.declared.keys.Key.{Key}
 use Rattle.orca_term.specs.declared.keys.Pending.{Pending}
 use Rattle.orca_trace.specs.Calls.{Poll}
-use Rattle.orca_live.specs.Hands.{EachIsHeard, items_for, pending_after}
+use Rattle.orca_live.specs.Hands.{EachIsHeard, IsMadeBy, items_for, key_of, keys_after, pending_after}
 use Rattle.orca_live.specs.Items.{ByteOf, HeardItem, items_by, items_of}
+use Rattle.orca_live.specs.Laws.{so_far}
 use Rattle.orca_live.specs.Performing.{answer_course, answered_at, byte_course, hand_course, denied_course, due_course, fired, frame_course, heard_course, item_course, key_course, live_part, lull_course, open_course, press_course, read_course, save_course, struck_course, struck_where, update_course, wish_course}
-use Rattle.orca_live.specs.States.{LiveState, Setting, around_at, dims_at, fitted, hands_in, is_full, is_hand, leader_at}
+use Rattle.orca_live.specs.States.{LiveState, Setting, around_at, dims_at, editor_at, fitted, hands_in, is_full, is_hand, leader_at}
 use Rattle.orca_live.proofs.CuttingLaw.{keys_fitted, owning_hands}
 use Rattle.orca_live.proofs.GivenLemmas.{core, open_aside, update_aside}
 use Rattle.orca_live.proofs.ScriptLaw.{obeys_commands}
+use Rattle.orca_live.proofs.StrikingLemmas.{Strikes, frame_strikes, open_silent, read_other, read_own, strikes_same, strikes_twice, update_silent}
 
 -- ---- what a reader was given
 
@@ -46,6 +50,15 @@ pending_after-append : (full : Bool) (p : Pending) (xs ys : List Item)
 pending_after-append full p [] ys = refl
 pending_after-append full p (x ∷ xs) ys = pending_after-append full (turn full p x).pending xs ys
 
+keys_after-append : (full : Bool) (p : Pending) (xs ys : List Item)
+    → keys_after full p (xs ++ ys)
+    ≡ keys_after full p xs ++ keys_after full (pending_after full p xs) ys
+keys_after-append full p [] ys = refl
+keys_after-append full p (x ∷ xs) ys =
+    let t = turn full p x in
+    ap (λ (keys : List Key). key_of t.key ++ keys) (keys_after-append full t.pending xs ys)
+    ∙ sym (append_assoc (key_of t.key) (keys_after full t.pending xs) _)
+
 -- from one state to another the reader of a hand was given these items, and the setting and the
 -- number of hands are as they were
 record Reads (hand : ℕ) (items : List Item) (s t : LiveState) : Type 0 where
@@ -53,6 +66,12 @@ record Reads (hand : ℕ) (items : List Item) (s t : LiveState) : Type 0 where
   pub hands : length t.crew.players ≡ length s.crew.players
   pub keys : (player_at t.crew hand).keys
       ≡ pending_after s.setting.full (player_at s.crew hand).keys items
+
+-- and among acts it struck the keys that these items have ended
+record Hears (hand : ℕ) (items : List Item) (s : LiveState) (acts : List Act) (t : LiveState)
+    : Type 0 where
+  pub reads : Reads hand items s t
+  pub strikes : Strikes hand (keys_after s.setting.full (player_at s.crew hand).keys items) s acts t
 
 reads_none : (hand : ℕ) (s : LiveState) → Reads hand [] s s
 reads_none hand s = record { setting = refl; hands = refl; keys = refl }
@@ -68,6 +87,27 @@ reads_twice hand xs ys r s t first second = record {
       ∙ (ap (λ (p : Pending). pending_after r.setting.full p ys) first.keys
       ∙ sym (pending_after-append r.setting.full (player_at r.crew hand).keys xs ys)));
 }
+
+hears_twice : (hand : ℕ) (xs ys : List Item) (r s t : LiveState) (begun more : List Act)
+    → Hears hand xs r begun s → Hears hand ys s more t → Hears hand (xs ++ ys) r (begun ++ more) t
+hears_twice hand xs ys r s t begun more first second =
+    let full = r.setting.full in
+    let p = (player_at r.crew hand).keys in
+    let before = keys_after full p xs in
+    let later : keys_after s.setting.full (player_at s.crew hand).keys ys
+    ≡ keys_after full (pending_after full p xs) ys =
+    ap (λ (set : Setting). keys_after set.full (player_at s.crew hand).keys ys) first.reads.setting
+    ∙ ap (λ (q : Pending). keys_after full q ys) first.reads.keys in
+    record {
+      reads = reads_twice hand xs ys r s t first.reads second.reads;
+      strikes =
+          subst (λ (keys : List Key). Strikes hand keys r (begun ++ more) t)
+          (ap (λ (keys : List Key). before ++ keys) later
+          ∙ sym (keys_after-append full p xs ys))
+          (strikes_twice hand before
+          (keys_after s.setting.full (player_at s.crew hand).keys ys) r s t begun more
+          first.strikes second.strikes);
+    }
 
 -- nothing of the players has changed
 reads_same : (hand : ℕ) (s t : LiveState) → t.setting ≡ s.setting
@@ -85,6 +125,16 @@ reads_fitted hand s = record {
   hands = length-map s.crew.players _;
   keys = keys_fitted (dims_at s) s.crew.players hand;
 }
+
+hears_same : (hand : ℕ) (s t : LiveState) → t.setting ≡ s.setting
+    → t.crew.players ≡ s.crew.players → Hears hand [] s [] t
+hears_same hand s t setting players = record {
+  reads = reads_same hand s t setting players;
+  strikes = strikes_same hand s [] t refl players;
+}
+
+hears_none : (hand : ℕ) (s : LiveState) → Hears hand [] s [] s
+hears_none hand s = hears_same hand s s refl refl
 
 -- what matters to the session has not changed
 reads_core : (hand : ℕ) (s t : LiveState) → core t ≡ core s → Reads hand [] s t
@@ -193,6 +243,20 @@ turned_other hand other item s differs =
 abbrev given : ℕ → ℕ → Item → List Item
 given hand other item = if other == hand then item ∷ [] else []
 
+read_strikes : (hand other : ℕ) (item : Item) (s : LiveState) (own : Bool) → (other == hand) ≡ own
+    → is_hand other s ≡ true
+    → Strikes hand
+    (keys_after s.setting.full (player_at s.crew hand).keys (if own then item ∷ [] else [])) s
+    (read_course other item s).acts (read_course other item s).state
+read_strikes hand other item s true own is =
+    let full = s.setting.full in
+    let c = read_course other item s in
+    subst (λ (h : ℕ).
+    Strikes h (keys_after full (player_at s.crew h).keys (item ∷ [])) s c.acts c.state)
+    (eqb-true other hand own)
+    (rw append-nil (read_own other item s is))
+read_strikes hand other item s false differs is = read_other hand other item s differs
+
 read_reads : (hand other : ℕ) (item : Item) (s : LiveState) (own : Bool) → (other == hand) ≡ own
     → is_hand other s ≡ true
     → Reads hand (if own then item ∷ [] else []) s (read_course other item s).state
@@ -217,17 +281,20 @@ no_hand hand other n is off = grind (arith, nat_tests)
 
 item_by : (hand other : ℕ) (item : Item) (s : LiveState) (is : Bool) → is_hand hand s ≡ true
     → is_hand other s ≡ is
-    → Reads hand (given hand other item) s
-    (if is then read_course other item s else still s).state
-item_by hand other item s true there is =
-    read_reads hand other item s (other == hand) refl is
+    → let c : Course LiveState Stop = if is then read_course other item s else still s in
+    Hears hand (given hand other item) s c.acts c.state
+item_by hand other item s true there is = record {
+  reads = read_reads hand other item s (other == hand) refl is;
+  strikes = read_strikes hand other item s (other == hand) refl is;
+}
 item_by hand other item s false there off =
-    rw (no_hand hand other (length s.crew.players) there off) (reads_none hand s)
+    rw (no_hand hand other (length s.crew.players) there off) (hears_none hand s)
 
-item_reads : (hand other : ℕ) (item : Item) (s : LiveState) → is_hand hand s ≡ true
-    → Reads hand (given hand other item) s (item_course other item s).state
+item_hears : (hand other : ℕ) (item : Item) (s : LiveState) → is_hand hand s ≡ true
+    → Hears hand (given hand other item) s (item_course other item s).acts
+    (item_course other item s).state
 unfolding item_course
-item_reads hand other item s there =
+item_hears hand other item s there =
     item_by hand other item s (is_hand other s) there refl
 
 -- ---- frames
@@ -271,26 +338,27 @@ dues_once hand a (suc n) low high =
 -- ---- courses that go on
 
 module _ (hand n : ℕ) (there : nat_lt hand n ≡ true) where
-  -- where the course goes on, the reader of the hand was given these items
+  -- where the course goes on, the hand was heard by these items
   abbrev Heeds : {E : Type 0} → List Item → (LiveState → Course LiveState E) → Type 0
   Heeds items f =
       (s : LiveState) → length s.crew.players ≡ n → (f s).ending ≡ None
-      → Reads hand items s (f s).state
+      → Hears hand items s (f s).acts (f s).state
 
   heeds_onward : {E : Type 0} (xs ys : List Item) (f next : LiveState → Course LiveState E)
       → Heeds xs f → Heeds ys next → Heeds (xs ++ ys) (λ s. onward (f s) next)
   heeds_onward {E = E} xs ys f next first more s are goes =
       let both = goes_both (f s) next goes in
       let one = first s are both.0 in
-      subst (λ (c : Course LiveState E). Reads hand (xs ++ ys) s c.state)
+      let d = next (f s).state in
+      subst (λ (c : Course LiveState E). Hears hand (xs ++ ys) s c.acts c.state)
       (sym (onward_goes (f s) next both.0))
-      (reads_twice hand xs ys s (f s).state (next (f s).state).state one
-      (more (f s).state (one.hands ∙ are) both.1))
+      (hears_twice hand xs ys s (f s).state d.state (f s).acts d.acts one
+      (more (f s).state (one.reads.hands ∙ are) both.1))
 
   heeds_each : {X E : Type 0} (g : X → List Item) (f : X → LiveState → Course LiveState E)
       → ((x : X) → Heeds (g x) (f x)) → (xs : List X) → Heeds (flat_map g xs) (each f xs)
   unfolding each
-  heeds_each g f one [] s are goes = reads_none hand s
+  heeds_each g f one [] s are goes = hears_none hand s
   heeds_each g f one (x ∷ xs) s are goes =
       heeds_onward (g x) (flat_map g xs) (f x) (each f xs) (one x) (heeds_each g f one xs) s are
       goes
@@ -300,7 +368,7 @@ module _ (hand n : ℕ) (there : nat_lt hand n ≡ true) where
 
   heeds_item : (other : ℕ) (item : Item)
       → Heeds (given hand other item) (item_course other item)
-  heeds_item other item s are goes = item_reads hand other item s (there_at s are)
+  heeds_item other item s are goes = item_hears hand other item s (there_at s are)
 
   heeds_lull : Heeds (Due ∷ []) lull_course
   unfolding lull_course
@@ -312,7 +380,10 @@ module _ (hand n : ℕ) (there : nat_lt hand n ≡ true) where
 
   heeds_frame : Heeds [] frame_course
   unfolding frame_course
-  heeds_frame s are goes = frame_reads hand (is_full s) s
+  heeds_frame s are goes = record {
+    reads = frame_reads hand (is_full s) s;
+    strikes = frame_strikes hand (is_full s) s;
+  }
 
   heeds_due : Heeds (Due ∷ []) due_course
   unfolding due_course
@@ -329,25 +400,27 @@ module _ (hand n : ℕ) (there : nat_lt hand n ≡ true) where
   brought answer.Failed bytes = []
 
   -- a moment is kept
-  reads_at : (at : ℕ) (s : LiveState) → Reads hand [] s (answered_at at s)
-  reads_at at s = reads_same hand s (answered_at at s) refl refl
+  hears_at : (at : ℕ) (s : LiveState) → Hears hand [] s [] (answered_at at s)
+  hears_at at s = hears_same hand s (answered_at at s) refl refl
 
   heeds_answer : (a : Answer) (bytes : List ℕ) → Heeds (brought a bytes) (answer_course a bytes)
   unfolding answer_course byte_course
   heeds_answer (answer.Bytes other count at) bytes s are goes =
       let t = answered_at at s in
-      reads_twice hand [] (brought (answer.Bytes other count at) bytes) s t _ (reads_at at s)
+      hears_twice hand [] (brought (answer.Bytes other count at) bytes) s t _ [] _ (hears_at at s)
       (heeds_each (λ byte. given hand other (Byte byte)) (byte_course other)
       (λ byte. heeds_item other (Byte byte)) bytes t are goes)
   heeds_answer (answer.Due at) bytes s are goes =
       let t = answered_at at s in
-      reads_twice hand [] (Due ∷ []) s t _ (reads_at at s) (heeds_due t are goes)
-  heeds_answer answer.End bytes s are goes = reads_none hand s
-  heeds_answer answer.Failed bytes s are goes = reads_none hand s
+      hears_twice hand [] (Due ∷ []) s t _ [] _ (hears_at at s) (heeds_due t are goes)
+  heeds_answer answer.End bytes s are goes = hears_none hand s
+  heeds_answer answer.Failed bytes s are goes = hears_none hand s
 
   heeds_update : Heeds [] update_course
-  heeds_update s are goes =
-      reads_core hand s (update_course s).state (update_aside s).same
+  heeds_update s are goes = record {
+    reads = reads_core hand s (update_course s).state (update_aside s).same;
+    strikes = (update_silent hand s).strikes;
+  }
 
   heeds_heard_course : (a : Answer) (bytes : List ℕ)
       → Heeds (brought a bytes) (heard_course a bytes)
@@ -367,8 +440,8 @@ module _ (hand n : ℕ) (there : nat_lt hand n ≡ true) where
       heeds_heard_course (answer.Bytes other count at) bytes s are (stops_not _ goes)
   heeds_heard (answer.Due at) bytes s are goes =
       heeds_heard_course (answer.Due at) bytes s are (stops_not _ goes)
-  heeds_heard answer.End bytes s are goes = reads_none hand s
-  heeds_heard answer.Failed bytes s are goes = reads_none hand s
+  heeds_heard answer.End bytes s are goes = hears_none hand s
+  heeds_heard answer.Failed bytes s are goes = hears_none hand s
 
   -- ---- polls
 
@@ -406,7 +479,12 @@ module _ (hand n : ℕ) (there : nat_lt hand n ≡ true) where
 
   heeds_poll : (poll : Poll) → Heeds (brought poll.answer poll.bytes) (polled live_part poll)
   unfolding polled onward
-  heeds_poll poll s are goes = heeds_heard poll.answer poll.bytes s are goes
+  heeds_poll poll s are goes =
+      let all = heeds_heard poll.answer poll.bytes s are goes in
+      record {
+        reads = all.reads;
+        strikes = record { own = all.strikes.own; moves = all.strikes.moves };
+      }
 
   poll_goes : (poll : Poll) (s : LiveState) → (polled live_part poll s).ending ≡ None
       → is_ending poll.answer ≡ false
@@ -416,7 +494,7 @@ module _ (hand n : ℕ) (there : nat_lt hand n ≡ true) where
   heeds_polls : (polls : List Poll)
       → Heeds (items_for hand (items_of n polls)) (each (polled live_part) polls)
   unfolding each
-  heeds_polls [] s are goes = reads_none hand s
+  heeds_polls [] s are goes = hears_none hand s
   heeds_polls (poll ∷ polls) s are goes =
       let both = goes_both (polled live_part poll s) (each (polled live_part) polls) goes in
       rw (poll_items poll.answer poll.bytes (items_of n polls) (poll_goes poll s both.0))
@@ -426,14 +504,15 @@ module _ (hand n : ℕ) (there : nat_lt hand n ≡ true) where
 
   -- ---- a performance
 
-  spent_reads : (all : Bool) (s : LiveState)
-      → Reads hand [] s (if all then ended Spent s else still s).state
-  spent_reads true s = reads_none hand s
-  spent_reads false s = reads_none hand s
+  spent_hears : (all : Bool) (s : LiveState)
+      → let c : Course LiveState Ending = if all then ended Spent s else still s in
+      Hears hand [] s c.acts c.state
+  spent_hears true s = hears_none hand s
+  spent_hears false s = hears_none hand s
 
   heeds_spent : (polls : List Poll) → Heeds [] (spent polls)
   unfolding spent
-  heeds_spent polls s are goes = spent_reads (nat_le MAX_POLLS (length polls)) s
+  heeds_spent polls s are goes = spent_hears (nat_le MAX_POLLS (length polls)) s
 
   heeds_attended : (polls : List Poll)
       → Heeds (items_for hand (items_of n polls)) (attended live_part polls)
@@ -445,7 +524,10 @@ module _ (hand n : ℕ) (there : nat_lt hand n ≡ true) where
 
   heeds_opened : Heeds [] (opened live_part)
   unfolding opened mapped
-  heeds_opened s are goes = reads_core hand s (open_course s).state (open_aside s).same
+  heeds_opened s are goes = record {
+    reads = reads_core hand s (open_course s).state (open_aside s).same;
+    strikes = (open_silent hand s).strikes;
+  }
 
   heeds_begun : (polls : List Poll)
       → Heeds (items_for hand (items_of n polls)) (λ s. begun live_part s polls)
@@ -458,5 +540,12 @@ pub each_is_heard : EachIsHeard
 each_is_heard s = record {
   obeys = obeys_commands s;
   reads = λ polls hand is goes.
-      (heeds_begun hand (length s.crew.players) is polls s refl goes).keys;
+      (heeds_begun hand (length s.crew.players) is polls s refl goes).reads.keys;
+  keys = λ polls hand is goes.
+      (heeds_begun hand (length s.crew.players) is polls s refl goes).strikes.own;
+  moves = λ polls hand is goes.
+      let heard = (heeds_begun hand (length s.crew.players) is polls s refl goes).strikes in
+      let last = editor_at hand (so_far s polls).state in
+      subst (λ (keys : List Key). IsMadeBy keys (editor_at hand s) last) (sym heard.own)
+      heard.moves;
 }

@@ -319,6 +319,7 @@ module _ (name : List ℕ) (set : Setting) (kept : set.journal ≡ Some name)
         (alike.setting ∙ is, λ held given waits. rw alike.unwritten waits);
     both = writes_twice;
     command = λ who command s other. writes_command who command s;
+    struck = λ hand key s is. (is, λ held given waits. waits);
     denied = writes_denied;
     save = writes_save;
     write = writes_write;

@@ -9,6 +9,7 @@ pub mod LeavingLemmas
 pub mod JournalLaw
 pub mod JournalReads
 pub mod OwningLaw
+pub mod StrikingLemmas
 pub mod HearingLaw
 pub mod NamingLaw
 pub mod RedoKey

@@ -10,7 +10,7 @@ use Rattle.orca_base.specs.MarkSet.{MarkSet}
 use Rattle.orca_base.specs.Ports.{Sent}
 use Rattle.orca_concert.specs.Concerts.{command_course as obey_course, handed_of}
 use Rattle.orca_course.specs.Acts.{Act, gives}
-use Rattle.orca_course.specs.Acts.Act.{Show, Stand}
+use Rattle.orca_course.specs.Acts.Act.{Show, Stand, Strike}
 use Rattle.orca_course.specs.Courses.{Course, each, ended, mapped, onward, onward_by, still}
 use Rattle.orca_course.specs.Performers.{attended, begun, heard, opened, polled}
 use Rattle.orca_course.specs.Standings.{Standing, refusal_of, standing_after}
@@ -179,6 +179,12 @@ names_where hand key s None is =
     (λ shared. asks-no-redo s.crew hand key around w shared
     (ap (λ (denial : Option Denial). option_map_or Err denial (Ok w)) (sym is))))
 
+-- a key is struck, and the editors are fitted
+names_struck : (who hand : ℕ) (key : Key) (s : LiveState)
+    → Names who s (Strike hand key ∷ []) (fitted s)
+names_struck who hand key s has =
+    record { has = owns_same s (fitted s) refl refl has; owners = λ ys. refl }
+
 names_press : (hand : ℕ) (key : Option Key) (s : LiveState)
     → Names hand s (press_course hand key s).acts (press_course hand key s).state
 unfolding press_course key_course struck_course
@@ -186,7 +192,7 @@ names_press hand None s = names_none hand s
 names_press hand (Some key) s =
     let t = fitted s in
     let c = struck_where hand key t (denial_of t.crew hand key) in
-    names_twice hand s t c.state [] c.acts (names_same hand s t refl refl)
+    names_twice hand s t c.state (Strike hand key ∷ []) c.acts (names_struck hand hand key s)
     (names_where hand key t (denial_of t.crew hand key) refl)
 
 item_by : (hand : ℕ) (item : Item) (s : LiveState) (is : Bool)
@@ -222,7 +228,8 @@ escape_press who hand full Nothing s = names_none who s
 escape_press who hand full Lone s =
     let t = fitted s in
     let c = struck_where hand key.Escape t (denial_of t.crew hand key.Escape) in
-    names_twice who s t c.state [] c.acts (names_same who s t refl refl)
+    names_twice who s t c.state (Strike hand key.Escape ∷ []) c.acts
+    (names_struck who hand key.Escape s)
     (escape_where who hand t (denial_of t.crew hand key.Escape))
 escape_press who hand full (Sequence bytes) s = names_none who s
 escape_press who hand full Overlong s = names_none who s

@@ -234,6 +234,7 @@ owns_carries = record {
   none = λ s t alike has. owns_same s t alike.standing alike.crew has;
   both = λ r s t xs ys first second has. second (first has);
   command = owns_command;
+  struck = λ hand key s has. has;
   denied = λ hand denial s has. has;
   save = λ name bytes s saved has. has;
   write = owns_write;

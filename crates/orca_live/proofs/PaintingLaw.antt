@@ -183,6 +183,7 @@ displays_carries = record {
       shown_twice d (λ e sent. IsSeen e s.screen s.shown sent)
       (λ e sent. IsSeen e t.screen t.shown sent) sent xs ys (first d sent seen) second;
   command = λ who command s other. displays_command who command s;
+  struck = λ hand key s d sent seen. seen;
   denied = displays_denied;
   save = λ name bytes s saved d sent seen. seen;
   write = displays_write;

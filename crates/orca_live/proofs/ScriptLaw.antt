@@ -116,6 +116,7 @@ keeps_carries = record {
   none = λ s t alike. rw (alike.given, alike.standing) (keeps_none s);
   both = keeps_twice;
   command = λ who command s other. keeps_command who command s;
+  struck = λ hand key s. keeps_none s;
   denied = keeps_denied;
   save = λ name bytes s saved. keeps_none s;
   write = keeps_write;

@@ -12,7 +12,8 @@ use Rattle.orca_base.specs.declared.command.Rule.{Rule}
 use Rattle.orca_base.specs.MarkSet.{MarkSet}
 use Rattle.orca_base.specs.declared.limits.TheConstants.{MAX_POLLS}
 use Rattle.orca_concert.specs.Concerts.{close_course as silence_course, command_course as obey_course}
-use Rattle.orca_course.specs.Courses.{Course, each, ended, joined, lastly, lastly_by, mapped, onward, onward_by, still}
+use Rattle.orca_course.specs.Acts.Act.{Strike}
+use Rattle.orca_course.specs.Courses.{Course, course, each, ended, joined, lastly, lastly_by, mapped, onward, onward_by, still}
 use Rattle.orca_course.specs.Performers.{attended, begun, finished, heard, opened, performance, polled, spent}
 use Rattle.orca_course.specs.declared.ending.Ending.{Ending}
 use Rattle.orca_course.specs.declared.ending.Ending.TheVariants.{Spent, Stopped}
@@ -217,7 +218,9 @@ struck_agrees k other s solo =
 press_agrees : (k : Option Key) → IsOther k → Alike (press_course LEADER k)
 unfolding press_course key_course
 press_agrees None other s solo = agreed _ solo
-press_agrees (Some k) other s solo = struck_agrees k other (fitted s) (fitted_solo s solo)
+press_agrees (Some k) other s solo =
+    joined_agrees (course {E = Stop} (Strike LEADER k ∷ []) 0 s)
+    (struck_agrees k other (fitted s) (fitted_solo s solo))
 
 read_agrees : (item : Item) → IsSpared item → Alike (read_course LEADER item)
 unfolding read_course

@@ -8,7 +8,7 @@ use Rattle.orca_base.specs.declared.command.Command.{Command}
 use Rattle.orca_base.specs.declared.command.Command.TheVariants.{Frame, Redo}
 use Rattle.orca_base.specs.MarkSet.{MarkSet}
 use Rattle.orca_course.specs.Acts.{Act}
-use Rattle.orca_course.specs.Acts.Act.{Save, Screen}
+use Rattle.orca_course.specs.Acts.Act.{Save, Screen, Strike}
 use Rattle.orca_course.specs.Courses.{Course, each, ended, onward, onward_by, still}
 use Rattle.orca_course.specs.declared.ending.Stop.{Stop}
 use Rattle.orca_course.specs.declared.ending.Stop.TheVariants.{Full}
@@ -80,6 +80,7 @@ pub record Carries (holds : LiveState → List Act → LiveState → Type 0) : T
   pub command : (who : ℕ) (command : Command) (s : LiveState)
       → (s.crew.alone ≡ false → command ≢ Redo)
       → holds s (hand_course who command s).acts (hand_course who command s).state
+  pub struck : (hand : ℕ) (key : Key) (s : LiveState) → holds s (Strike hand key ∷ []) s
   pub denied : (hand : ℕ) (denial : Denial) (s : LiveState)
       → holds s (denied_course hand denial s).acts s
   pub save : (name bytes : List ℕ) (s : LiveState) → IsSavedName name s.setting
@@ -184,8 +185,9 @@ press_carried : {holds : LiveState → List Act → LiveState → Type 0} → Ca
 unfolding press_course key_course
 press_carried carry hand None s = carry.none s s (looks_same s)
 press_carried carry hand (Some key) s =
-    from_alike carry s (fitted s) (struck_course hand key (fitted s)) (looks_fitted s)
-    (struck_carried carry hand key (fitted s))
+    let c = struck_course hand key (fitted s) in
+    carry.both s s c.state (Strike hand key ∷ []) c.acts (carry.struck hand key s)
+    (from_alike carry s (fitted s) c (looks_fitted s) (struck_carried carry hand key (fitted s)))
 
 read_carried : {holds : LiveState → List Act → LiveState → Type 0} → Carries holds → (hand : ℕ)
     (item : Item) (s : LiveState) → Along holds (read_course hand item s) s

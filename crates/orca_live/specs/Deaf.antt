@@ -68,6 +68,7 @@ deaf_carries = record {
   none = λ s t alike. tt;
   both = λ r s t xs ys first second. AreDeaf-append xs ys first second;
   command = λ who command s other. command_deaf who command s;
+  struck = λ hand key s. tt;
   denied = denied_deaf;
   save = λ name bytes s saved. tt;
   write = write_deaf;

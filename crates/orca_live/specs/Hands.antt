@@ -1,9 +1,10 @@
 -- Laws of several hands at one session: each of them is heard, and they keep whose each entry is.
-use Rattle.std.specs.Prelude.{◌≡◌, ◌≤◌, ◌==◌, ℕ, Bool, true, false, if◌then◌else◌, List, [], ◌∷◌, length, None}
+use Rattle.std.specs.Prelude.{◌≡◌, ◌≤◌, ◌==◌, ℕ, Bool, true, false, if◌then◌else◌, List, [], ◌∷◌, ◌++◌, length, Option, Some, None}
 use Rattle.std.specs.Option.{option_map_or}
 use Rattle.orca_base.specs.declared.command.Command.{Command}
 use Rattle.orca_base.specs.declared.command.Command.TheVariants as command
-use Rattle.orca_course.specs.Acts.{Act, commands_in}
+use Rattle.orca_base.specs.Grids.{Size}
+use Rattle.orca_course.specs.Acts.{Act, commands_in, keys_in}
 use Rattle.orca_course.specs.Acts.Act.{Await, Obey}
 use Rattle.orca_course.specs.Standings.{Standing}
 use Rattle.orca_edit.specs.Obeying.{MachineState, obey, rule_against}
@@ -14,7 +15,11 @@ use Rattle.orca_jam.specs.declared.owner.Owner.{Owner}
 use Rattle.orca_jam.specs.declared.owner.TheConstants.{NOBODY}
 use Rattle.orca_rig.specs.declared.inbox.Answer.{Answer}
 use Rattle.orca_rig.specs.declared.inbox.Answer.TheVariants as answer
+use Rattle.orca_term.specs.Editing.{editor_after, editor_inside}
 use Rattle.orca_term.specs.Keys.{Byte, Due, Item, turn}
+use Rattle.orca_term.specs.declared.around.Around.{Around}
+use Rattle.orca_term.specs.declared.editor.Editor.{Editor}
+use Rattle.orca_term.specs.declared.keys.Key.{Key}
 use Rattle.orca_term.specs.declared.keys.Key.TheVariants as key
 use Rattle.orca_term.specs.declared.keys.Pending.{Pending}
 use Rattle.orca_trace.specs.Calls.{Poll}
@@ -22,7 +27,7 @@ use Rattle.orca_live.specs.Items.{ByteOf, FrameDue, HeardItem, items_of}
 use Rattle.orca_live.specs.Laws.{so_far}
 use Rattle.orca_live.specs.Performing.{hand_course, key_course}
 use Rattle.orca_live.specs.Starting.{live_at_start}
-use Rattle.orca_live.specs.States.{LiveState, Setting, is_hand, moments_at}
+use Rattle.orca_live.specs.States.{LiveState, Setting, editor_at, is_hand, moments_at}
 
 -- ---- each hand is heard
 
@@ -46,9 +51,48 @@ pending_after full pending [] = pending
 pending_after full pending (item ∷ items) =
     pending_after full (turn full pending item).pending items
 
+-- the key that was ended, if any
+abbrev pub key_of : Option Key → List Key
+key_of None = []
+key_of (Some key) = key ∷ []
+
+-- the keys that these items end
+abbrev pub keys_after : Bool → Pending → List Item → List Key
+keys_after full pending [] = []
+keys_after full pending (item ∷ items) =
+    let t = turn full pending item in key_of t.key ++ keys_after full t.pending items
+
+-- what changes an editor: a key of its hand, which is told this; one that is denied, and moves
+-- nothing; and the size of the grid
+pub data Change : Type 0 where
+  Struck : Key → Around → Change
+  Denied : Key → Change
+  Fitted : Size → Change
+
+-- the editor after changes, one after another
+abbrev pub editor_by : List Change → Editor → Editor
+editor_by [] e = e
+editor_by (Struck key a ∷ changes) e = editor_by changes (editor_after key a e)
+editor_by (Denied key ∷ changes) e = editor_by changes e
+editor_by (Fitted d ∷ changes) e = editor_by changes (editor_inside d e)
+
+-- the keys among changes
+abbrev pub keys_of : List Change → List Key
+keys_of [] = []
+keys_of (Struck key a ∷ changes) = key ∷ keys_of changes
+keys_of (Denied key ∷ changes) = key ∷ keys_of changes
+keys_of (Fitted d ∷ changes) = keys_of changes
+
+-- exactly these keys, in order, and the size of the grid have made one editor of another
+pub record IsMadeBy (keys : List Key) (e f : Editor) : Type 0 where
+  pub changes : List Change
+  pub own : keys_of changes ≡ keys
+  pub after : f ≡ editor_by changes e
+
 -- wherever a performance stands, its session is the one after its commands, in the order in which
--- they came; and, unless it ended, the reader of each hand stands where its own bytes and the due
--- frames have left it, whatever the other hands sent
+-- they came; and, unless it ended, whatever the other hands sent, the reader of each hand stands
+-- where its own bytes and the due frames have left it, its keys are those that these have ended, and
+-- these keys alone have moved its editor
 pub record HearsEach (s : LiveState) : Type 0 where
   pub obeys : (polls : List Poll)
       → let c = so_far s polls in
@@ -59,6 +103,15 @@ pub record HearsEach (s : LiveState) : Type 0 where
       → (player_at c.state.crew hand).keys
       ≡ pending_after s.setting.full (player_at s.crew hand).keys
       (items_for hand (items_of (length s.crew.players) polls))
+  pub keys : (polls : List Poll) (hand : ℕ) → is_hand hand s ≡ true
+      → let c = so_far s polls in
+      c.ending ≡ None
+      → keys_in hand c.acts
+      ≡ keys_after s.setting.full (player_at s.crew hand).keys
+      (items_for hand (items_of (length s.crew.players) polls))
+  pub moves : (polls : List Poll) (hand : ℕ) → is_hand hand s ≡ true
+      → let c = so_far s polls in
+      c.ending ≡ None → IsMadeBy (keys_in hand c.acts) (editor_at hand s) (editor_at hand c.state)
 
 abbrev pub EachIsHeard : Type 0
 EachIsHeard = (s : LiveState) → HearsEach s

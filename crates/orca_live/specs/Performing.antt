@@ -9,7 +9,7 @@ use Rattle.orca_base.specs.declared.port.Port.TheVariants as port
 use Rattle.orca_base.specs.MarkSet.{MarkSet}
 use Rattle.orca_concert.specs.Concerts.{Concert, concert_with, close_course as silence_course, command_course as obey_course}
 use Rattle.orca_course.specs.Acts.{Act}
-use Rattle.orca_course.specs.Acts.Act.{Append, Give, Save, Screen, Show}
+use Rattle.orca_course.specs.Acts.Act.{Append, Give, Save, Screen, Show, Strike}
 use Rattle.orca_course.specs.Courses.{Course, course, each, ended, joined, mapped, onward, still}
 use Rattle.orca_course.specs.Performers.{Part}
 use Rattle.orca_course.specs.Standings.{Standing}
@@ -163,14 +163,15 @@ struck_where hand key s None =
 unfoldable pub struck_course : ℕ → Key → LiveState → Course LiveState Stop
 struck_course hand key s = struck_where hand key s (denial_of s.crew hand key)
 
--- a key of a hand
+-- what a key of a hand does
 unfoldable pub key_course : ℕ → Key → LiveState → Course LiveState Stop
 key_course hand key s = struck_course hand key (fitted s)
 
--- the key of a hand that was ended, if any
+-- the key of a hand that was ended, if any: it is struck, and the editor of this hand follows it
 unfoldable pub press_course : ℕ → Option Key → LiveState → Course LiveState Stop
 press_course hand None s = still s
-press_course hand (Some key) s = key_course hand key s
+press_course hand (Some key) s =
+    joined (course {E = Stop} (Strike hand key ∷ []) 0 s) (key_course hand key s)
 
 -- the reader of a hand is given an item: a byte, or that nothing came for a while
 unfoldable pub read_course : ℕ → Item → LiveState → Course LiveState Stop

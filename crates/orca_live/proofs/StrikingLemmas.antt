@@ -1,0 +1,393 @@
+-- The keys that a hand strikes among acts, and what they make of its editor.
+use Rattle.std.proofs.Common.{◌≡◌, ℕ, zero, suc, ◌<◌, Bool, true, false, List, [], ◌∷◌, ◌++◌, length, refl, sym, ◌∙◌, ap, subst, arith}
+use Rattle.std.specs.Prelude.{if◌then◌else◌, ◌==◌, map, slice_index_or, slice_set, Option, Some, None}
+use Rattle.std.proofs.lemmas.Bool.{eqb-true, eqb-false, ltb-true}
+use Rattle.std.proofs.lemmas.Bool.Decides.{nat_tests}
+use Rattle.std.proofs.lemmas.List.{get_or-set_other, get_or-set_same, length-map, length-set}
+use Rattle.orca_base.specs.declared.command.Command.{Command}
+use Rattle.orca_base.specs.declared.command.Command.TheVariants.{Frame}
+use Rattle.orca_base.specs.Grids.{Size}
+use Rattle.orca_base.specs.MarkSet.{MarkSet}
+use Rattle.orca_base.specs.Ports.{Sent}
+use Rattle.orca_concert.specs.Concerts.{command_course as obey_course, handed_of}
+use Rattle.orca_course.specs.Acts.{Act, gives, keys_in}
+use Rattle.orca_course.specs.Acts.Act.{Show, Stand, Strike}
+use Rattle.orca_course.specs.Courses.{Course, ended, mapped, onward, still}
+use Rattle.orca_course.specs.Standings.{Standing, standing_after}
+use Rattle.orca_course.specs.declared.ending.Stop.{Stop}
+use Rattle.orca_course.specs.declared.ending.Stop.TheVariants.{Full}
+use Rattle.orca_course.proofs.CourseLemmas.{onward_goes}
+use Rattle.orca_edit.specs.Machines.{preview_of}
+use Rattle.orca_edit.specs.Obeying.{obey}
+use Rattle.orca_jam.specs.Crews.{asked, denial_of, fitted_player, new_player, player_at, struck_by, turned_by, turned_player}
+use Rattle.orca_jam.specs.declared.denial.Denial.{Denial}
+use Rattle.orca_jam.specs.declared.owner.TheConstants.{NOBODY}
+use Rattle.orca_jam.specs.declared.player.Player.{Player}
+use Rattle.orca_term.specs.Editing.{editor_after}
+use Rattle.orca_term.specs.Keys.{Item, turn}
+use Rattle.orca_term.specs.declared.cell.Cell.{Cell}
+use Rattle.orca_term.specs.declared.editor.Editor.{Editor}
+use Rattle.orca_term.specs.declared.editor.Wish.{Wish}
+use Rattle.orca_term.specs.declared.editor.Wish.TheVariants as wish
+use Rattle.orca_term.specs.declared.keys.Key.{Key}
+use Rattle.orca_live.specs.Hands.{Change, IsMadeBy, editor_by, key_of, keys_of}
+use Rattle.orca_live.specs.Hands.Change.{Denied, Fitted, Struck}
+use Rattle.orca_live.specs.Performing.{additions, denied_course, fired, hand_course, header_course, if_named, journal_course, key_course, lines_course, open_course, paint_course, painted_course, press_course, preview_course, read_course, save_course, show_course, struck_course, struck_where, update_course, view_sends, wish_course, write_course}
+use Rattle.orca_live.specs.States.{LiveState, around_at, dims_at, editor_at, fitted, is_hand, leader_at, piece_at}
+use Rattle.orca_live.proofs.CuttingLaw.{owning_hands}
+
+-- ---- keys among acts
+
+if_append : (own : Bool) (key : Key) (xs ys : List Key)
+    → (if own then key ∷ (xs ++ ys) else xs ++ ys) ≡ (if own then key ∷ xs else xs) ++ ys
+if_append true key xs ys = refl
+if_append false key xs ys = refl
+
+if_same : (own : Bool) (key : Key) (xs ys : List Key) → xs ≡ ys
+    → (if own then key ∷ xs else xs) ≡ (if own then key ∷ ys else ys)
+if_same own key xs ys same = ap (λ (zs : List Key). if own then key ∷ zs else zs) same
+
+keys_in-append : (hand : ℕ) (xs ys : List Act)
+    → keys_in hand (xs ++ ys) ≡ keys_in hand xs ++ keys_in hand ys
+keys_in-append hand [] ys = refl
+keys_in-append hand (Strike other key ∷ xs) ys =
+    if_same (other == hand) key _ _ (keys_in-append hand xs ys)
+    ∙ if_append (other == hand) key (keys_in hand xs) (keys_in hand ys)
+keys_in-append hand (_ ∷ xs) ys = keys_in-append hand xs ys
+
+-- a key of a hand, and then acts without one
+keys_own : (hand : ℕ) (key : Key) (acts : List Act) → keys_in hand acts ≡ []
+    → keys_in hand (Strike hand key ∷ acts) ≡ key ∷ []
+keys_own hand key acts none =
+    let same : (hand == hand) ≡ true = grind (arith, nat_tests) in rw (same, none) refl
+
+keys_other : (hand other : ℕ) (key : Key) (acts : List Act) → (other == hand) ≡ false
+    → keys_in hand acts ≡ [] → keys_in hand (Strike other key ∷ acts) ≡ []
+keys_other hand other key acts differs none = rw differs none
+
+-- ---- what is made of an editor
+
+editor_by-append : (xs ys : List Change) (e : Editor)
+    → editor_by (xs ++ ys) e ≡ editor_by ys (editor_by xs e)
+editor_by-append [] ys e = refl
+editor_by-append (Struck key a ∷ xs) ys e = editor_by-append xs ys (editor_after key a e)
+editor_by-append (Denied key ∷ xs) ys e = editor_by-append xs ys e
+editor_by-append (Fitted d ∷ xs) ys e = editor_by-append xs ys _
+
+keys_of-append : (xs ys : List Change) → keys_of (xs ++ ys) ≡ keys_of xs ++ keys_of ys
+keys_of-append [] ys = refl
+keys_of-append (Struck key a ∷ xs) ys =
+    ap (λ (keys : List Key). key ∷ keys) (keys_of-append xs ys)
+keys_of-append (Denied key ∷ xs) ys =
+    ap (λ (keys : List Key). key ∷ keys) (keys_of-append xs ys)
+keys_of-append (Fitted d ∷ xs) ys = keys_of-append xs ys
+
+made_none : (e f : Editor) → f ≡ e → IsMadeBy [] e f
+made_none e f same = record { changes = []; own = refl; after = same }
+
+made_twice : (xs ys : List Key) (e f g : Editor) → IsMadeBy xs e f → IsMadeBy ys f g
+    → IsMadeBy (xs ++ ys) e g
+made_twice xs ys e f g first second = record {
+  changes = first.changes ++ second.changes;
+  own = keys_of-append first.changes second.changes
+      ∙ (ap (λ (keys : List Key). keys ++ keys_of second.changes) first.own
+      ∙ ap (λ (keys : List Key). xs ++ keys) second.own);
+  after = second.after
+      ∙ (ap (editor_by second.changes) first.after
+      ∙ sym (editor_by-append first.changes second.changes e));
+}
+
+-- the editors were fitted
+fitted_made : (d : Size) (players : List Player) (hand : ℕ)
+    → IsMadeBy [] (slice_index_or players hand (new_player false)).editor
+    (slice_index_or (map (fitted_player d) players) hand (new_player false)).editor
+fitted_made d [] hand = made_none _ _ refl
+fitted_made d (p ∷ players) zero =
+    record { changes = Fitted d ∷ []; own = refl; after = refl }
+fitted_made d (p ∷ players) (suc hand) = fitted_made d players hand
+
+-- a reader is no editor
+editor_turned : (full : Bool) (item : Item) (players : List Player) (other hand : ℕ)
+    → (slice_index_or
+    (slice_set players other
+    (turned_player full item (slice_index_or players other (new_player false)))) hand
+    (new_player false)).editor
+    ≡ (slice_index_or players hand (new_player false)).editor
+editor_turned full item [] other hand = refl
+editor_turned full item (p ∷ players) zero zero = refl
+editor_turned full item (p ∷ players) zero (suc hand) = refl
+editor_turned full item (p ∷ players) (suc other) zero = refl
+editor_turned full item (p ∷ players) (suc other) (suc hand) =
+    editor_turned full item players other hand
+
+-- ---- from one state to another
+
+-- among acts a hand struck these keys, and they alone have moved its editor
+pub record Strikes (hand : ℕ) (keys : List Key) (s : LiveState) (acts : List Act) (t : LiveState)
+    : Type 0 where
+  pub own : keys_in hand acts ≡ keys
+  pub moves : IsMadeBy keys (editor_at hand s) (editor_at hand t)
+
+pub strikes_twice : (hand : ℕ) (xs ys : List Key) (r s t : LiveState) (begun more : List Act)
+    → Strikes hand xs r begun s → Strikes hand ys s more t
+    → Strikes hand (xs ++ ys) r (begun ++ more) t
+strikes_twice hand xs ys r s t begun more first second = record {
+  own = keys_in-append hand begun more
+      ∙ (ap (λ (keys : List Key). keys ++ keys_in hand more) first.own
+      ∙ ap (λ (keys : List Key). xs ++ keys) second.own);
+  moves = made_twice xs ys _ _ _ first.moves second.moves;
+}
+
+-- nothing of the players has changed
+pub strikes_same : (hand : ℕ) (s : LiveState) (acts : List Act) (t : LiveState)
+    → keys_in hand acts ≡ [] → t.crew.players ≡ s.crew.players → Strikes hand [] s acts t
+strikes_same hand s acts t none same = record {
+  own = none;
+  moves = made_none _ _
+      (ap (λ (ps : List Player). (slice_index_or ps hand (new_player false)).editor) same);
+}
+
+-- a reader was given an item
+strikes_turned : (hand other : ℕ) (item : Item) (s : LiveState)
+    → Strikes hand [] s [] (record s { crew = turned_by s.setting.full other item s.crew })
+strikes_turned hand other item s = record {
+  own = refl;
+  moves = made_none _ _ (editor_turned s.setting.full item s.crew.players other hand);
+}
+
+-- ---- commands
+
+handed_keys : (hand : ℕ) (sends : List Sent) (at : Standing)
+    → keys_in hand ((gives sends ++ Stand at ∷ []) ++ []) ≡ []
+handed_keys hand [] at = refl
+handed_keys hand (sent ∷ sends) at = handed_keys hand sends at
+
+command_silent : (hand who : ℕ) (command : Command) (s : LiveState)
+    → keys_in hand (hand_course who command s).acts ≡ []
+unfolding hand_course obey_course onward mapped
+command_silent hand who command s =
+    let o = obey s.standing.machine command in
+    handed_keys hand (handed_of true o.messages) (standing_after s.standing o)
+
+pub frame_strikes : (hand : ℕ) (full : Bool) (s : LiveState)
+    → let c : Course LiveState Stop = if full then ended Full s
+    else onward (hand_course NOBODY Frame s) (λ (t : LiveState). still (fired t)) in
+    Strikes hand [] s c.acts c.state
+unfolding hand_course obey_course onward mapped
+frame_strikes hand true s = strikes_same hand s [] s refl refl
+frame_strikes hand false s =
+    let c = hand_course NOBODY Frame s in
+    strikes_same hand s (c.acts ++ []) _
+    (keys_in-append hand c.acts []
+    ∙ ap (λ (keys : List Key). keys ++ []) (command_silent hand NOBODY Frame s))
+    (owning_hands NOBODY Frame _ _ s.crew)
+
+-- ---- keys
+
+either_players : (b : Bool) (r s t : LiveState) → s.crew.players ≡ r.crew.players
+    → t.crew.players ≡ r.crew.players → (if b then s else t).crew.players ≡ r.crew.players
+either_players true r s t first second = first
+either_players false r s t first second = second
+
+wish_players : (other : ℕ) (w : Wish) (s : LiveState)
+    → (wish_course other w s).state.crew.players ≡ s.crew.players
+unfolding wish_course save_course hand_course obey_course onward mapped
+wish_players other wish.Nothing s = refl
+wish_players other (wish.Do command) s = owning_hands other command _ _ s.crew
+wish_players other wish.Toggle s = either_players (leader_at s).paused s s _ refl refl
+wish_players other wish.Save s = refl
+wish_players other wish.Quit s = refl
+wish_players other (wish.Slower beats) s = refl
+wish_players other (wish.Faster beats) s = refl
+wish_players other (wish.Redraw size) s = refl
+
+wish_silent : (hand other : ℕ) (w : Wish) (s : LiveState)
+    → keys_in hand (wish_course other w s).acts ≡ []
+unfolding wish_course save_course
+wish_silent hand other wish.Nothing s = refl
+wish_silent hand other (wish.Do command) s = command_silent hand other command s
+wish_silent hand other wish.Toggle s = refl
+wish_silent hand other wish.Save s = refl
+wish_silent hand other wish.Quit s = refl
+wish_silent hand other (wish.Slower beats) s = refl
+wish_silent hand other (wish.Faster beats) s = refl
+wish_silent hand other (wish.Redraw size) s = refl
+
+where_silent : (hand other : ℕ) (key : Key) (s : LiveState) (denial : Option Denial)
+    → keys_in hand (struck_where other key s denial).acts ≡ []
+unfolding denied_course
+where_silent hand other key s (Some denial) = refl
+where_silent hand other key s None =
+    let around = around_at other s in
+    wish_silent hand other (asked s.crew other key around)
+    (record s { crew = struck_by other key around s.crew })
+
+-- the editor of a hand, by its players
+abbrev editor_in : ℕ → List Player → Editor
+editor_in hand players = (slice_index_or players hand (new_player false)).editor
+
+-- its own key moves an editor
+where_own : (hand : ℕ) (key : Key) (s : LiveState) (denial : Option Denial)
+    → hand < length s.crew.players
+    → IsMadeBy (key ∷ []) (editor_at hand s) (editor_at hand (struck_where hand key s denial).state)
+unfolding denied_course
+where_own hand key s (Some denial) below =
+    record { changes = Denied key ∷ []; own = refl; after = refl }
+where_own hand key s None below =
+    let around = around_at hand s in
+    let t : LiveState = record s { crew = struck_by hand key around s.crew } in
+    record {
+      changes = Struck key around ∷ [];
+      own = refl;
+      after = ap (editor_in hand) (wish_players hand (asked s.crew hand key around) t)
+          ∙ ap (λ (p : Player). p.editor)
+          (get_or-set_same s.crew.players hand _ (new_player false) below);
+    }
+
+-- and that of another hand does not
+where_other : (hand other : ℕ) (key : Key) (s : LiveState) (denial : Option Denial)
+    → (other == hand) ≡ false
+    → editor_at hand (struck_where other key s denial).state ≡ editor_at hand s
+unfolding denied_course
+where_other hand other key s (Some denial) differs = refl
+where_other hand other key s None differs =
+    let around = around_at other s in
+    let t : LiveState = record s { crew = struck_by other key around s.crew } in
+    ap (editor_in hand) (wish_players other (asked s.crew other key around) t)
+    ∙ ap (λ (p : Player). p.editor)
+    (get_or-set_other s.crew.players other hand _ (new_player false)
+    (λ same. eqb-false other hand differs (sym same)))
+
+press_own : (hand : ℕ) (key : Option Key) (s : LiveState) → hand < length s.crew.players
+    → Strikes hand (key_of key) s (press_course hand key s).acts (press_course hand key s).state
+unfolding press_course key_course struck_course
+press_own hand None s below = strikes_same hand s [] s refl refl
+press_own hand (Some key) s below =
+    let t = fitted s in
+    let denial = denial_of t.crew hand key in
+    let there = subst (λ (n : ℕ). hand < n)
+    (sym (length-map s.crew.players (fitted_player (dims_at s)))) below in
+    record {
+      own = keys_own hand key (struck_where hand key t denial).acts
+          (where_silent hand hand key t denial);
+      moves = made_twice [] (key ∷ []) _ _ _ (fitted_made (dims_at s) s.crew.players hand)
+          (where_own hand key t denial there);
+    }
+
+press_other : (hand other : ℕ) (key : Option Key) (s : LiveState) → (other == hand) ≡ false
+    → Strikes hand [] s (press_course other key s).acts (press_course other key s).state
+unfolding press_course key_course struck_course
+press_other hand other None s differs = strikes_same hand s [] s refl refl
+press_other hand other (Some key) s differs =
+    let t = fitted s in
+    let denial = denial_of t.crew other key in
+    record {
+      own = keys_other hand other key (struck_where other key t denial).acts differs
+          (where_silent hand other key t denial);
+      moves = made_twice [] [] _ _ _ (fitted_made (dims_at s) s.crew.players hand)
+          (made_none _ _ (where_other hand other key t denial differs));
+    }
+
+-- an item of a hand ends its keys, and none of another one's
+pub read_own : (hand : ℕ) (item : Item) (s : LiveState) → is_hand hand s ≡ true
+    → Strikes hand (key_of (turn s.setting.full (player_at s.crew hand).keys item).key) s
+    (read_course hand item s).acts (read_course hand item s).state
+unfolding read_course
+read_own hand item s is =
+    let full = s.setting.full in
+    let key = (turn full (player_at s.crew hand).keys item).key in
+    let p : Player = turned_player full item (player_at s.crew hand) in
+    let t : LiveState = record s { crew = turned_by full hand item s.crew } in
+    let c = press_course hand key t in
+    let below = subst (λ (n : ℕ). hand < n) (sym (length-set s.crew.players hand p))
+    (ltb-true hand (length s.crew.players) is) in
+    strikes_twice hand [] (key_of key) s t c.state [] c.acts (strikes_turned hand hand item s)
+    (press_own hand key t below)
+
+pub read_other : (hand other : ℕ) (item : Item) (s : LiveState) → (other == hand) ≡ false
+    → Strikes hand [] s (read_course other item s).acts (read_course other item s).state
+unfolding read_course
+read_other hand other item s differs =
+    let full = s.setting.full in
+    let key = (turn full (player_at s.crew other).keys item).key in
+    let t : LiveState = record s { crew = turned_by full other item s.crew } in
+    let c = press_course other key t in
+    strikes_twice hand [] [] s t c.state [] c.acts (strikes_turned hand other item s)
+    (press_other hand other key t differs)
+
+-- ---- what is written and shown
+
+-- a course in which a hand strikes no key, and after which it goes on
+pub record IsSilent (hand : ℕ) (s : LiveState) (c : Course LiveState Stop) : Type 0 where
+  pub strikes : Strikes hand [] s c.acts c.state
+  pub goes : c.ending ≡ None
+
+silent_then : (hand : ℕ) (s : LiveState) (c : Course LiveState Stop)
+    (next : LiveState → Course LiveState Stop) → IsSilent hand s c
+    → ((t : LiveState) → IsSilent hand t (next t)) → IsSilent hand s (onward c next)
+silent_then hand s c next first more =
+    let rest = more c.state in
+    let d = next c.state in
+    rw (onward_goes c next first.goes) (record {
+      strikes =
+          strikes_twice hand [] [] s c.state d.state c.acts d.acts first.strikes rest.strikes;
+      goes = rest.goes;
+    })
+
+silent_named : (hand : ℕ) (name : Option (List ℕ))
+    (next : List ℕ → LiveState → Course LiveState Stop) (s : LiveState)
+    → ((name : List ℕ) → IsSilent hand s (next name s)) → IsSilent hand s (if_named name next s)
+silent_named hand None next s silent =
+    record { strikes = strikes_same hand s [] s refl refl; goes = refl }
+silent_named hand (Some name) next s silent = silent name
+
+added_keys : (hand : ℕ) (name bytes : List ℕ) → keys_in hand (additions name bytes) ≡ []
+added_keys hand name [] = refl
+added_keys hand name (byte ∷ bytes) = refl
+
+write_silent : (hand : ℕ) (s : LiveState) → IsSilent hand s (write_course s)
+unfolding write_course lines_course
+write_silent hand s =
+    silent_named hand s.setting.journal lines_course s (λ name. record {
+      strikes = strikes_same hand s _ _ (added_keys hand name s.unwritten) refl;
+      goes = refl;
+    })
+
+journal_silent : (hand : ℕ) (s : LiveState) → IsSilent hand s (journal_course s)
+unfolding journal_course header_course
+journal_silent hand s =
+    silent_named hand s.setting.journal header_course s
+    (λ name. record { strikes = strikes_same hand s _ _ refl refl; goes = refl })
+
+views_keys : (hand : ℕ) (bytes : List ℕ) (cells : List Cell)
+    → keys_in hand (view_sends bytes ++ Show cells ∷ []) ≡ []
+views_keys hand [] cells = refl
+views_keys hand (byte ∷ bytes) cells = refl
+
+paint_silent : (hand : ℕ) (marks : List MarkSet) (s : LiveState)
+    → IsSilent hand s (paint_course marks s)
+unfolding paint_course painted_course
+paint_silent hand marks s = record {
+  strikes = record {
+    own = views_keys hand _ _;
+    moves = fitted_made (dims_at s) s.crew.players hand;
+  };
+  goes = refl;
+}
+
+show_silent : (hand : ℕ) (s : LiveState) → IsSilent hand s (show_course s)
+unfolding show_course preview_course
+show_silent hand s =
+    let paint = paint_silent hand (preview_of (piece_at s)) s in
+    record { strikes = paint.strikes; goes = paint.goes }
+
+pub update_silent : (hand : ℕ) (s : LiveState) → IsSilent hand s (update_course s)
+unfolding update_course
+update_silent hand s =
+    silent_then hand s (write_course s) show_course (write_silent hand s) (show_silent hand)
+
+pub open_silent : (hand : ℕ) (s : LiveState) → IsSilent hand s (open_course s)
+unfolding open_course
+open_silent hand s =
+    silent_then hand s (journal_course s) (paint_course []) (journal_silent hand s)
+    (paint_silent hand [])
