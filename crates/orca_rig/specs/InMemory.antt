@@ -13,25 +13,28 @@ use Rattle.orca_base.specs.Ports.{Sent, is_same_port}
 use Rattle.orca_rig.specs.declared.mem_files.Call.{Call}
 use Rattle.orca_rig.specs.declared.mem_files.Call.TheVariants as call
 use Rattle.orca_rig.specs.Outside.{Contents, Ask}
-use Rattle.orca_rig.specs.Outside.Ask.{Append, Load, Save}
+use Rattle.orca_rig.specs.Outside.Ask.{Append, Begin, Load, Save}
 use Rattle.orca_rig.specs.Handed.{Attached}
 
 -- a store in memory: its files, the calls so far, the numbers of the calls that are to fail, the
--- faults so far, and the names of the files of which a save or an append has failed
+-- faults so far, how often memory was refused, and the names of the files of which a save, a begin
+-- or an append has failed
 pub record Store : Type 0 where
   pub contents : Contents
   pub asked : List Ask
   pub fail : List ℕ
   pub faults : ℕ
+  pub wants : ℕ
   pub spoilt : List (List ℕ)
 
 -- ports in memory: what they were given, what they were attached to, the calls that are to fail, by
--- port and number, and the faults so far
+-- port and number, the faults so far, and how often memory was refused
 pub record Ports : Type 0 where
   pub handed : List Sent
   pub attached : List Attached
   pub fail : List (Port × ℕ)
   pub faults : ℕ
+  pub wants : ℕ
 
 -- names and bytes as clauses see them
 abbrev pub named : List (String Global × Vec ℕ Global) → List (List ℕ × List ℕ)
@@ -50,6 +53,7 @@ names_differ (file ∷ files) =
 abbrev pub ask_of : Call → Ask
 ask_of (call.Load name) = Load (string_bytes name)
 ask_of (call.Save name bytes) = Save (string_bytes name) bytes.items
+ask_of (call.Begin name bytes) = Begin (string_bytes name) bytes.items
 ask_of (call.Append name bytes) = Append (string_bytes name) bytes.items
 
 abbrev pub asks_of : List Call → List Ask
@@ -91,16 +95,18 @@ attaches = map (λ attached. record { port = attached.0; name = string_bytes att
 -- a store is kept as the tuple of its parts
 abbrev pub store_code : Coded Store
 store_code =
-    code_by (Contents × (List Ask × (List ℕ × (ℕ × List (List ℕ)))))
+    code_by (Contents × (List Ask × (List ℕ × (ℕ × (ℕ × List (List ℕ))))))
     (coded× (finite.code coded_bytes coded_bytes)
-    (coded× (coded_list ask_code) (coded× coded_bytes (coded× coded_ℕ (coded_list coded_bytes)))))
-    (λ s. (s.contents, (s.asked, (s.fail, (s.faults, s.spoilt)))))
+    (coded× (coded_list ask_code)
+    (coded× coded_bytes (coded× coded_ℕ (coded× coded_ℕ (coded_list coded_bytes))))))
+    (λ s. (s.contents, (s.asked, (s.fail, (s.faults, (s.wants, s.spoilt))))))
     (λ p. record {
       contents = p.0;
       asked = p.1.0;
       fail = p.1.1.0;
       faults = p.1.1.1.0;
-      spoilt = p.1.1.1.1;
+      wants = p.1.1.1.1.0;
+      spoilt = p.1.1.1.1.1;
     })
     (λ _. refl)
   where
@@ -110,19 +116,25 @@ store_code =
     Named : Type 0
     Named = List ℕ × List ℕ
 
-    parts_of : Ask → List ℕ ⊎ (Named ⊎ Named)
+    Parts : Type 0
+    Parts = List ℕ ⊎ (Named ⊎ (Named ⊎ Named))
+
+    parts_of : Ask → Parts
     parts_of (Load name) = inl name
     parts_of (Save name bytes) = inr (inl (name, bytes))
-    parts_of (Append name bytes) = inr (inr (name, bytes))
+    parts_of (Begin name bytes) = inr (inr (inl (name, bytes)))
+    parts_of (Append name bytes) = inr (inr (inr (name, bytes)))
 
-    ask_from : List ℕ ⊎ (Named ⊎ Named) → Ask
+    ask_from : Parts → Ask
     ask_from (inl name) = Load name
     ask_from (inr (inl parts)) = Save parts.0 parts.1
-    ask_from (inr (inr parts)) = Append parts.0 parts.1
+    ask_from (inr (inr (inl parts))) = Begin parts.0 parts.1
+    ask_from (inr (inr (inr parts))) = Append parts.0 parts.1
 
     ask_back : (ask : Ask) → ask_from (parts_of ask) ≡ ask
     ask_back (Load name) = refl
     ask_back (Save name bytes) = refl
+    ask_back (Begin name bytes) = refl
     ask_back (Append name bytes) = refl
 
     coded_named : Coded Named
@@ -130,5 +142,5 @@ store_code =
 
     ask_code : Coded Ask
     ask_code =
-        code_by (List ℕ ⊎ (Named ⊎ Named))
-        (coded⊎ coded_bytes (coded⊎ coded_named coded_named)) parts_of ask_from ask_back
+        code_by Parts (coded⊎ coded_bytes (coded⊎ coded_named (coded⊎ coded_named coded_named)))
+        parts_of ask_from ask_back

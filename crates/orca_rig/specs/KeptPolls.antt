@@ -30,7 +30,8 @@ schedule_of inbox = record {
   log = log_of inbox;
   listened = inbox.listened;
   ended = inbox.ended;
-  faults = inbox.failed;
+  faults = inbox.misses.faults;
+  wants = inbox.misses.wants;
 }
 
 -- no answer is below the last moment, each arrival has as many bytes as it may, and there is room

@@ -1,5 +1,5 @@
 -- What the objects of the outside hold, and how they count their faults and keep their calls.
-use Rattle.std.specs.Prelude.{ℕ, ◌^◌, ◌-◌, ◌<◌, ◌≡◌, ◌⊎◌, List, [], ◌∷◌, ◌++◌, Option, Result, Ok, Err}
+use Rattle.std.specs.Prelude.{ℕ, ◌^◌, ◌+◌, ◌-◌, min, ◌<◌, ◌≡◌, ◌⊎◌, List, [], ◌∷◌, ◌++◌, Option, Result, Ok, Err}
 use Rattle.std.specs.Option.{option_map}
 use Rattle.std.specs.Ordering.{nat_cmp}
 use Rattle.std.specs.Cmp.Lexicographic.{slice_cmp}
@@ -11,11 +11,12 @@ use Rattle.orca_rig.specs.declared.fault.OutsideFault.TheVariants.{Failed, Memor
 abbrev pub Contents : Type 0
 Contents = FinMap (slice_cmp nat_cmp) (List ℕ)
 
--- a call of a store: a load of the file of this name, a save of these bytes under this name, or an
--- append of these bytes to the file of this name
+-- a call of a store: a load of the file of this name, a save of these bytes under this name, a begin
+-- of a file of this name with these bytes, or an append of these bytes to the file of this name
 pub data Ask : Type 0 where
   Load : List ℕ → Ask
   Save : List ℕ → List ℕ → Ask
+  Begin : List ℕ → List ℕ → Ask
   Append : List ℕ → List ℕ → Ask
 
 -- the last value of a counter of 64 bits, where it stands still
@@ -32,3 +33,9 @@ abbrev pub after_call : {T A : Type 0}
 after_call (Ok done) call calls = option_map (λ before. before ++ call ∷ []) calls
 after_call (Err Failed) call calls = option_map (λ before. before ++ call ∷ []) calls
 after_call (Err Memory) call calls = calls
+
+-- how often memory was refused, after a call: it is counted too, up to the last value
+abbrev pub wants_after : {T : Type 0} → Result T OutsideFault → ℕ → ℕ
+wants_after (Ok done) wants = wants
+wants_after (Err Failed) wants = wants
+wants_after (Err Memory) wants = min (wants + 1) last_count

@@ -1,4 +1,4 @@
--- What a save and an append leave.
+-- What a save, a begin and an append leave.
 use Rattle.std.specs.Prelude.{◌≡◌, ◌≢◌, ℕ, Bool, ◌||◌, List, ◌++◌, map, Option, Some, None, Result, Ok, Err, ◌⊎◌, String, string_bytes}
 use Rattle.std.specs.List.{list_any}
 use Rattle.std.specs.Option.{option_map}
@@ -16,7 +16,7 @@ OthersStay name (Some old) (Some new) =
 OthersStay name None None = Unit {0}
 OthersStay name old new = ⊥
 
--- after a save the file of this name holds exactly these bytes; after a failure it may hold any,
+-- after a save, and a begin, the file of this name holds exactly these bytes; after a failure it may hold any,
 -- and the others are as before; where memory was refused all are as before
 abbrev pub IsSaved : {T : Type 0}
     → Result T OutsideFault → List ℕ → List ℕ → Option Contents → Option Contents → Type 0
@@ -49,8 +49,8 @@ names_of = map string_bytes
 abbrev pub is_spoilt : List (List ℕ) → List ℕ → Bool
 is_spoilt spoilt name = list_any (bytes_eq name) spoilt
 
--- whether a file is spoilt after a save or an append of the file of this name: it is if it was, and
--- if it has this name and the call has failed
+-- whether a file is spoilt after a save, a begin or an append of the file of this name: it is if it
+-- was, and if it has this name and the call has failed
 abbrev pub spoilt_after : {T : Type 0} → Result T OutsideFault → List ℕ → List ℕ → Bool → Bool
 spoilt_after (Ok done) name file was = was
 spoilt_after (Err Failed) name file was = bytes_eq file name || was

@@ -19,6 +19,7 @@ pub record Schedule : Type 0 where
   pub listened : Bool
   pub ended : Bool
   pub faults : ℕ
+  pub wants : ℕ
 
 -- how many calls it was asked: the `listen_hands` that is kept, and the polls
 abbrev pub calls_of : Log → ℕ

@@ -4,13 +4,13 @@ ghost use Rattle.std.specs.Prelude.{◌≡◌, ◌↔◌, ◌≤◌, ◌+◌, mi
 ghost use Rattle.std.specs.IoError.{error_kind};
 ghost use Rattle.std.specs.declared.io.ErrorKind.TheVariants.{OutOfMemory};
 ghost use Rattle.orca_rig.specs.declared.fault.OutsideFault.TheVariants.{Memory};
-ghost use Rattle.orca_rig.specs.Outside.{last_count};
+ghost use Rattle.orca_rig.specs.Outside.{last_count, wants_after};
 
 use std::alloc::{AllocError, AllocFailed};
 use std::io;
 use std::io::ErrorKind;
 
-/// Why a load, a save, an append, an attach, a send or a `listen_hands` did not succeed.
+/// Why a load, a save, a begin, an append, an attach, a send or a `listen_hands` did not succeed.
 #[derive(Clone, Copy, Debug, PartialEq, Eq)]
 pub enum OutsideFault {
     /// The object failed, and counted it. Some of the bytes of a send may have gone out.
@@ -46,17 +46,41 @@ impl From<io::Error> for OutsideFault {
     }
 }
 
-/// Counts a failure.
-pub fn count_failure(failed: &mut u64, done: Result<(), OutsideFault>) -> Result<(), OutsideFault>
-    ensures same { result ≡ done }
-    ensures grows { failed.old ≤ failed.new }
-    ensures failed { IsErrOf done OutsideFault.Failed
-        → failed.new ≡ min (failed.old + 1) last_count }
-    ensures steady { OnOk done (failed.new ≡ failed.old) }
-    ensures steady_memory { IsErrOf done OutsideFault.Memory → failed.new ≡ failed.old }
-{
-    if let Err(OutsideFault::Failed) = done {
-        *failed = failed.saturating_add(1);
+/// How often calls on an object have failed, and how often memory was refused to one. A count stands
+/// still at the last value of 64 bits.
+#[derive(Clone, Copy, Debug, PartialEq, Eq)]
+pub struct Misses {
+    pub faults: u64,
+    pub wants: u64,
+}
+
+impl Misses {
+    /// None yet.
+    pub fn none() -> Misses
+        ensures { result ≡ record { faults = 0; wants = 0 } }
+    {
+        Misses {
+            faults: 0,
+            wants: 0,
+        }
     }
-    done
+
+    /// Counts what a call answered, and gives the answer.
+    pub fn count<T>(&mut self, done: Result<T, OutsideFault>) -> Result<T, OutsideFault>
+        ensures same { result ≡ done }
+        ensures grows { self.old.faults ≤ self.new.faults }
+        ensures failed { IsErrOf done OutsideFault.Failed
+            → self.new.faults ≡ min (self.old.faults + 1) last_count }
+        ensures steady { OnOk done (self.new.faults ≡ self.old.faults) }
+        ensures steady_memory { IsErrOf done OutsideFault.Memory
+            → self.new.faults ≡ self.old.faults }
+        ensures wants { self.new.wants ≡ wants_after done self.old.wants }
+    {
+        match &done {
+            Ok(_) => {}
+            Err(OutsideFault::Failed) => self.faults = self.faults.saturating_add(1),
+            Err(OutsideFault::Memory) => self.wants = self.wants.saturating_add(1),
+        }
+        done
+    }
 }

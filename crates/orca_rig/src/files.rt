@@ -1,11 +1,21 @@
 ghost use Rattle.std.specs.Prelude.{◌≡◌, ◌≤◌, ℕ, Bool, true, false, List, Option, Some, length, OnOk, OnErr, IfSome, IsErrOf};
 ghost use Rattle.std.specs.FinMap.{get};
 ghost use Rattle.orca_base.specs.declared.limits.TheConstants.{MAX_FILE_BYTES};
-ghost use Rattle.orca_rig.specs.Outside.{Contents, Ask, Rose, after_call};
-ghost use Rattle.orca_rig.specs.Outside.Ask.{Append, Load, Save};
+ghost use Rattle.orca_rig.specs.Outside.{Contents, Ask, Rose, after_call, wants_after};
+ghost use Rattle.orca_rig.specs.Outside.Ask.{Append, Begin, Load, Save};
 ghost use Rattle.orca_rig.specs.Saved.{IsAppended, IsSaved, spoilt_after};
 
 use crate::OutsideFault;
+
+/// Whether a save waits until the disk has the bytes. No clause speaks of it: it decides alone what
+/// a machine has after its power was cut.
+#[derive(Clone, Copy, Debug, PartialEq, Eq)]
+pub enum Disk {
+    /// It waits.
+    Awaited,
+    /// It does not wait: the disk has them some time later.
+    NotAwaited,
+}
 
 /// A store of files, by name.
 pub trait Files: Drop {
@@ -19,8 +29,11 @@ pub trait Files: Drop {
     /// How often the store has failed.
     ghost faults: { Self → ℕ };
 
-    /// Whether a [`save`](Files::save) or an [`append`](Files::append) of the file of that name has
-    /// failed.
+    /// How often memory was refused to a call.
+    ghost wants: { Self → ℕ };
+
+    /// Whether a [`save`](Files::save), a [`begin`](Files::begin) or an [`append`](Files::append) of
+    /// the file of that name has failed.
     ghost spoilt: { Self → List ℕ → Bool };
 
     /// Makes `into` exactly the bytes of the file of that name, which has at most
@@ -39,13 +52,14 @@ pub trait Files: Drop {
             → Rose (faults self.old) (faults self.new) }
         ensures steady { OnOk result (faults self.new ≡ faults self.old) }
         ensures steady_memory { IsErrOf result OutsideFault.Memory
-            → faults self.new ≡ faults self.old };
+            → faults self.new ≡ faults self.old }
+        ensures wants { wants self.new ≡ wants_after result (wants self.old) };
 
     /// Makes the file of that name hold exactly these bytes, whether or not there was one. After
     /// [`OutsideFault::Failed`] that file may hold any bytes or be missing, and the others are as
-    /// before; after [`OutsideFault::Memory`] all are as before. Once a save or an append of a file
-    /// has failed, no later append adds to that file, not even after a save that went well.
-    fn save(&mut self, name: &str, bytes: &[u8]) -> Result<(), OutsideFault>
+    /// before; after [`OutsideFault::Memory`] all are as before. Once a save, a begin or an append of
+    /// a file has failed, no later append adds to that file, not even after a save that went well.
+    fn save(&mut self, name: &str, bytes: &[u8], disk: Disk) -> Result<(), OutsideFault>
         ensures saved { IsSaved result name.now bytes.now (contents self.old) (contents self.new) }
         ensures spoilt { (file : List ℕ) → spoilt self.new file
             ≡ spoilt_after result name.now file (spoilt self.old file) }
@@ -57,12 +71,32 @@ pub trait Files: Drop {
             → Rose (faults self.old) (faults self.new) }
         ensures steady { OnOk result (faults self.new ≡ faults self.old) }
         ensures steady_memory { IsErrOf result OutsideFault.Memory
-            → faults self.new ≡ faults self.old };
+            → faults self.new ≡ faults self.old }
+        ensures wants { wants self.new ≡ wants_after result (wants self.old) };
 
-    /// Adds the bytes at the end of the file of that name, which is there. After
-    /// [`OutsideFault::Failed`] a beginning of them was added. After [`OutsideFault::Memory`] all
-    /// are as before. Once a save or an append of a file has failed, no later append adds to that
-    /// file: it may be an older one, or end in a piece that was cut off. No other file is spoilt.
+    /// Makes the file of that name hold exactly these bytes, to be added to. It promises what a
+    /// [`save`](Files::save) does. A store may refuse to begin over a file that is there, and that is
+    /// a failure.
+    fn begin(&mut self, name: &str, bytes: &[u8]) -> Result<(), OutsideFault>
+        ensures saved { IsSaved result name.now bytes.now (contents self.old) (contents self.new) }
+        ensures spoilt { (file : List ℕ) → spoilt self.new file
+            ≡ spoilt_after result name.now file (spoilt self.old file) }
+        ensures asked { asked self.new
+            ≡ after_call result (Begin name.now bytes.now) (asked self.old) }
+
+        ensures count { faults self.old ≤ faults self.new }
+        ensures failed { IsErrOf result OutsideFault.Failed
+            → Rose (faults self.old) (faults self.new) }
+        ensures steady { OnOk result (faults self.new ≡ faults self.old) }
+        ensures steady_memory { IsErrOf result OutsideFault.Memory
+            → faults self.new ≡ faults self.old }
+        ensures wants { wants self.new ≡ wants_after result (wants self.old) };
+
+    /// Adds the bytes at the end of the file of that name, which was begun. A store may also add to
+    /// one that is only there. After [`OutsideFault::Failed`] a beginning of them was added. After
+    /// [`OutsideFault::Memory`] all are as before. Once a save, a begin or an append of a file has
+    /// failed, no later append adds to that file: it may be an older one, or end in a piece that was
+    /// cut off. No other file is spoilt.
     fn append(&mut self, name: &str, bytes: &[u8]) -> Result<(), OutsideFault>
         ensures appended { IsAppended result name.now bytes.now
             (contents self.old) (contents self.new) }
@@ -78,5 +112,6 @@ pub trait Files: Drop {
             → Rose (faults self.old) (faults self.new) }
         ensures steady { OnOk result (faults self.new ≡ faults self.old) }
         ensures steady_memory { IsErrOf result OutsideFault.Memory
-            → faults self.new ≡ faults self.old };
+            → faults self.new ≡ faults self.old }
+        ensures wants { wants self.new ≡ wants_after result (wants self.old) };
 }

@@ -1,6 +1,6 @@
 ghost use Rattle.std.specs.Prelude.{◌≡◌, ◌≢◌, ◌≤◌, ◌⊎◌, ℕ, Bool, true, false, Option, Some, IfOk, OnOk, OnErr, IsErrOf};
 ghost use Rattle.std.specs.Option.{option_map};
-ghost use Rattle.orca_rig.specs.Outside.{Rose};
+ghost use Rattle.orca_rig.specs.Outside.{Rose, wants_after};
 ghost use Rattle.orca_rig.specs.Arrived.{Log, after_listen, after_poll, arrived, moment_after, is_ending, MayAnswer};
 ghost use Rattle.orca_base.specs.declared.limits.TheConstants.{MAX_HANDS};
 
@@ -40,6 +40,9 @@ pub trait Inbox: Drop {
     /// How often the inbox has failed.
     ghost faults: { Self → ℕ };
 
+    /// How often memory was refused to a call.
+    ghost wants: { Self → ℕ };
+
     /// Waits for so many players at that name, and answers the moment of the start, in
     /// microseconds. The first who comes is hand 0, and the next is hand 1. There are 1 to
     /// [`MAX_HANDS`](orca_base::limits::MAX_HANDS) of them.
@@ -61,7 +64,8 @@ pub trait Inbox: Drop {
             → Rose (faults self.old) (faults self.new) }
         ensures steady { OnOk result (faults self.new ≡ faults self.old) }
         ensures steady_memory { IsErrOf result OutsideFault.Memory
-            → faults self.new ≡ faults self.old };
+            → faults self.new ≡ faults self.old }
+        ensures wants { wants self.new ≡ wants_after result (wants self.old) };
 
     /// Waits for what comes next: bytes, which it puts at the front of `bytes`, or the moment
     /// `until`, where there is one. It takes no memory. What stands in `bytes` after those that
@@ -87,5 +91,6 @@ pub trait Inbox: Drop {
 
         ensures count { faults self.old ≤ faults self.new }
         ensures failed { result ≡ Answer.Failed → Rose (faults self.old) (faults self.new) }
-        ensures steady { result ≢ Answer.Failed → faults self.new ≡ faults self.old };
+        ensures steady { result ≢ Answer.Failed → faults self.new ≡ faults self.old }
+        ensures wants { wants self.new ≡ wants self.old };
 }

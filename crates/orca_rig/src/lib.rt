@@ -14,8 +14,8 @@ mod mem_outs;
 mod outs;
 mod spoilt;
 
-pub use fault::{OutsideFault, count_failure};
-pub use files::Files;
+pub use fault::{Misses, OutsideFault};
+pub use files::{Disk, Files};
 pub use house::House;
 pub use inbox::{Answer, Inbox};
 pub use mem_answer::{MemAnswer, are_arrivals, is_in_order};
@@ -23,4 +23,4 @@ pub use mem_files::{MemFiles, names_differ};
 pub use mem_inbox::MemInbox;
 pub use mem_outs::MemOuts;
 pub use outs::Outs;
-pub use spoilt::{is_spoilt, keep_spoilt};
+pub use spoilt::{is_spoilt, keep_spoilt, put_name};

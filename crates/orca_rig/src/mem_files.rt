@@ -5,23 +5,24 @@ ghost use Rattle.orca_base.specs.declared.limits.TheConstants.{MAX_FILE_BYTES};
 ghost use Rattle.std.specs.Ordering.{nat_cmp};
 ghost use Rattle.std.specs.Cmp.Lexicographic.{slice_cmp};
 ghost use Rattle.std.specs.FinMap.{get, find, insert};
-ghost use Rattle.orca_rig.specs.Outside.{Rose, after_call, last_count};
-ghost use Rattle.orca_rig.specs.Outside.Ask.{Append, Load, Save};
+ghost use Rattle.orca_rig.specs.Outside.{Rose, after_call, last_count, wants_after};
+ghost use Rattle.orca_rig.specs.Outside.Ask.{Append, Begin, Load, Save};
 ghost use Rattle.orca_rig.specs.Saved.{IsAppended, IsSaved, is_spoilt, names_of, spoilt_after};
 ghost use Rattle.orca_rig.specs.InMemory.{named, files_of, asks_of, ask_of, names_differ, is_to_fail, IsUnloadable};
 
-use crate::{Files, OutsideFault, is_spoilt, keep_spoilt};
+use crate::{Disk, Files, Misses, OutsideFault, is_spoilt, keep_spoilt};
 use orca_base::Memory;
 use orca_base::limits::MAX_FILE_BYTES;
 use std::alloc::{AllocError, Global};
 use std::marker::Model;
 
-/// A call of a store: a load of the file of a name, a save of bytes under a name, or an append of
-/// bytes to the file of a name.
+/// A call of a store: a load of the file of a name, a save of bytes under a name, a begin of a file
+/// of a name with bytes, or an append of bytes to the file of a name.
 #[derive(Drop)]
 enum Call {
     Load(String),
     Save(String, Vec<u8>),
+    Begin(String, Vec<u8>),
     Append(String, Vec<u8>),
 }
 
@@ -31,8 +32,8 @@ pub struct MemFiles {
     files: Vec<(String, Vec<u8>)>,
     calls: Vec<Call>,
     to_fail: Vec<u64>,
-    failed: u64,
-    /// The names of the files of which a save or an append has failed.
+    misses: Misses,
+    /// The names of the files of which a save, a begin or an append has failed.
     spoilt: Vec<String>,
 }
 
@@ -48,7 +49,8 @@ impl Model for MemFiles {
       contents = files_of f.files.items;
       asked = asks_of f.calls.items;
       fail = f.to_fail.items;
-      faults = f.failed;
+      faults = f.misses.faults;
+      wants = f.misses.wants;
       spoilt = names_of f.spoilt.items;
     } };
 }
@@ -64,6 +66,7 @@ impl MemFiles {
         ensures asked { IfOk result (λ files. files.asked ≡ []) }
         ensures fail { IfOk result (λ files. files.fail ≡ fail.items) }
         ensures faults { IfOk result (λ files. files.faults ≡ 0) }
+        ensures wants { IfOk result (λ files. files.wants ≡ 0) }
         ensures spoilt { IfOk result (λ files. files.spoilt ≡ []) }
     {
         let alloc = *contents.allocator();
@@ -71,7 +74,7 @@ impl MemFiles {
             files: contents,
             calls: Vec::new(alloc),
             to_fail: fail,
-            failed: 0,
+            misses: Misses::none(),
             spoilt: Vec::new(alloc),
         })
     }
@@ -153,20 +156,7 @@ fn is_to_fail(to_fail: &[u64], calls: &[Call]) -> bool
     to_fail.contains(&number)
 }
 
-/// Keeps a call that fails, and counts it. There is room for it.
-fn keep_failed(calls: &mut Vec<Call>, failed: &mut u64, call: Call) -> OutsideFault
-    requires { vec_len calls.old < vec_capacity calls.old }
-    ensures failed { result ≡ OutsideFault.Failed }
-    ensures kept { calls.new.items ≡ calls.old.items ++ call ∷ [] }
-    ensures count { failed.old ≤ failed.new }
-    ensures counted { failed.new ≡ min (failed.old + 1) last_count }
-{
-    calls.push_reserved(call);
-    *failed = failed.saturating_add(1);
-    OutsideFault::Failed
-}
-
-/// Takes the room of a save or an append: for its call, for a new file, and for a spoilt name.
+/// Takes the room of a save, a begin or an append: for its call, for a new file, and for a spoilt name.
 fn take_room(
     calls: &mut Vec<Call>,
     files: &mut Vec<(String, Vec<u8>)>,
@@ -192,6 +182,13 @@ fn save_call(alloc: Global, name: &str, bytes: &[u8]) -> Result<Call, AllocError
     Ok(Call::Save(String::from_str(alloc, name)?, bytes.to_vec(alloc)?))
 }
 
+/// A begin, as it is kept.
+fn begin_call(alloc: Global, name: &str, bytes: &[u8]) -> Result<Call, AllocError>
+    ensures { IfOk result (λ call. ask_of call ≡ Begin name.now bytes.now) }
+{
+    Ok(Call::Begin(String::from_str(alloc, name)?, bytes.to_vec(alloc)?))
+}
+
 /// An append, as it is kept.
 fn append_call(alloc: Global, name: &str, bytes: &[u8]) -> Result<Call, AllocError>
     ensures { IfOk result (λ call. ask_of call ≡ Append name.now bytes.now) }
@@ -208,12 +205,150 @@ fn joined(alloc: Global, held: &[u8], more: &[u8]) -> Result<Vec<u8>, AllocError
     Ok(all)
 }
 
+impl MemFiles {
+    /// Does a load. Nothing is counted.
+    fn take(&mut self, name: &str, into: &mut Vec<u8>) -> Result<(), OutsideFault>
+        ensures loaded { OnOk result (get self.old.contents name.now ≡ Some into.new.items) }
+        ensures short { OnOk result (length into.new.items ≤ MAX_FILE_BYTES) }
+        ensures untouched { OnErr result (into.new.items ≡ into.old.items) }
+        ensures asked { Some self.new.asked
+            ≡ after_call result (Load name.now) (Some self.old.asked) }
+        ensures same { self.new ≡ record self.old { asked = self.new.asked } }
+        ensures cause { IsErrOf result OutsideFault.Failed
+            → is_to_fail self.old.fail (length self.old.asked) ≡ false
+            → IsUnloadable self.old.contents name.now }
+        ensures not_listed { OnOk result (is_to_fail self.old.fail (length self.old.asked)
+            ≡ false) }
+    {
+        self.calls.reserve(1)?;
+        let alloc = *into.allocator();
+        let call = Call::Load(String::from_str(alloc, name)?);
+        let fails = is_to_fail(&self.to_fail, &self.calls);
+        let (Some(bytes), false) = (loadable(&self.files, name), fails) else {
+            self.calls.push_reserved(call);
+            return Err(OutsideFault::Failed);
+        };
+        *into = bytes.to_vec(alloc)?;
+        self.calls.push_reserved(call);
+        Ok(())
+    }
+
+    /// Does a save or a begin, which is kept as this call. Nothing is counted.
+    fn put(&mut self, call: Call, name: &str, bytes: &[u8]) -> Result<(), OutsideFault>
+        ensures saved { IsSaved result name.now bytes.now
+            (Some self.old.contents) (Some self.new.contents) }
+        ensures untouched { OnErr result (self.new.contents ≡ self.old.contents) }
+        ensures spoilt { (file : List ℕ) → is_spoilt self.new.spoilt file
+            ≡ spoilt_after result name.now file (is_spoilt self.old.spoilt file) }
+        ensures asked { Some self.new.asked
+            ≡ after_call result (ask_of call) (Some self.old.asked) }
+        ensures fail { self.new.fail ≡ self.old.fail }
+        ensures faults { self.new.faults ≡ self.old.faults }
+        ensures wants { self.new.wants ≡ self.old.wants }
+        ensures listed { IsErrOf result OutsideFault.Failed
+            → IsTrue (is_to_fail self.old.fail (length self.old.asked)) }
+        ensures not_listed { OnOk result (is_to_fail self.old.fail (length self.old.asked)
+            ≡ false) }
+    {
+        take_room(&mut self.calls, &mut self.files, &mut self.spoilt)?;
+        let alloc = *self.files.allocator();
+        let held = String::from_str(alloc, name)?;
+        if is_to_fail(&self.to_fail, &self.calls) {
+            self.calls.push_reserved(call);
+            return keep_spoilt(&mut self.spoilt, held, Err(OutsideFault::Failed));
+        }
+        let kept = bytes.to_vec(alloc)?;
+        self.calls.push_reserved(call);
+        put_file(&mut self.files, held, kept);
+        Ok(())
+    }
+
+    /// Does a save. Nothing is counted.
+    fn keep_saved(&mut self, name: &str, bytes: &[u8]) -> Result<(), OutsideFault>
+        ensures saved { IsSaved result name.now bytes.now
+            (Some self.old.contents) (Some self.new.contents) }
+        ensures untouched { OnErr result (self.new.contents ≡ self.old.contents) }
+        ensures spoilt { (file : List ℕ) → is_spoilt self.new.spoilt file
+            ≡ spoilt_after result name.now file (is_spoilt self.old.spoilt file) }
+        ensures asked { Some self.new.asked
+            ≡ after_call result (Save name.now bytes.now) (Some self.old.asked) }
+        ensures fail { self.new.fail ≡ self.old.fail }
+        ensures faults { self.new.faults ≡ self.old.faults }
+        ensures wants { self.new.wants ≡ self.old.wants }
+        ensures listed { IsErrOf result OutsideFault.Failed
+            → IsTrue (is_to_fail self.old.fail (length self.old.asked)) }
+        ensures not_listed { OnOk result (is_to_fail self.old.fail (length self.old.asked)
+            ≡ false) }
+    {
+        let call = save_call(*self.files.allocator(), name, bytes)?;
+        self.put(call, name, bytes)
+    }
+
+    /// Does a begin. Nothing is counted.
+    fn keep_begun(&mut self, name: &str, bytes: &[u8]) -> Result<(), OutsideFault>
+        ensures saved { IsSaved result name.now bytes.now
+            (Some self.old.contents) (Some self.new.contents) }
+        ensures untouched { OnErr result (self.new.contents ≡ self.old.contents) }
+        ensures spoilt { (file : List ℕ) → is_spoilt self.new.spoilt file
+            ≡ spoilt_after result name.now file (is_spoilt self.old.spoilt file) }
+        ensures asked { Some self.new.asked
+            ≡ after_call result (Begin name.now bytes.now) (Some self.old.asked) }
+        ensures fail { self.new.fail ≡ self.old.fail }
+        ensures faults { self.new.faults ≡ self.old.faults }
+        ensures wants { self.new.wants ≡ self.old.wants }
+        ensures listed { IsErrOf result OutsideFault.Failed
+            → IsTrue (is_to_fail self.old.fail (length self.old.asked)) }
+        ensures not_listed { OnOk result (is_to_fail self.old.fail (length self.old.asked)
+            ≡ false) }
+    {
+        let call = begin_call(*self.files.allocator(), name, bytes)?;
+        self.put(call, name, bytes)
+    }
+
+    /// Does an append. Nothing is counted.
+    fn join(&mut self, name: &str, bytes: &[u8]) -> Result<(), OutsideFault>
+        ensures appended { IsAppended result name.now bytes.now
+            (Some self.old.contents) (Some self.new.contents) }
+        ensures untouched { OnErr result (self.new.contents ≡ self.old.contents) }
+        ensures spoilt { (file : List ℕ) → is_spoilt self.new.spoilt file
+            ≡ spoilt_after result name.now file (is_spoilt self.old.spoilt file) }
+        ensures whole { OnOk result (is_spoilt self.old.spoilt name.now ≡ false) }
+        ensures asked { Some self.new.asked
+            ≡ after_call result (Append name.now bytes.now) (Some self.old.asked) }
+        ensures fail { self.new.fail ≡ self.old.fail }
+        ensures faults { self.new.faults ≡ self.old.faults }
+        ensures wants { self.new.wants ≡ self.old.wants }
+        ensures cause { IsErrOf result OutsideFault.Failed
+            → is_to_fail self.old.fail (length self.old.asked) ≡ false
+            → (is_spoilt self.old.spoilt name.now ≡ true)
+            ⊎ IsNone (get self.old.contents name.now) }
+        ensures not_listed { OnOk result (is_to_fail self.old.fail (length self.old.asked)
+            ≡ false) }
+    {
+        take_room(&mut self.calls, &mut self.files, &mut self.spoilt)?;
+        let alloc = *self.files.allocator();
+        let call = append_call(alloc, name, bytes)?;
+        let own = String::from_str(alloc, name)?;
+        let fails = is_spoilt(&self.spoilt, name) || is_to_fail(&self.to_fail, &self.calls);
+        let (Some(held), false) = (bytes_of(&self.files, name), fails) else {
+            self.calls.push_reserved(call);
+            return keep_spoilt(&mut self.spoilt, own, Err(OutsideFault::Failed));
+        };
+        let kept = joined(alloc, held, bytes)?;
+        self.calls.push_reserved(call);
+        put_file(&mut self.files, own, kept);
+        Ok(())
+    }
+}
+
 impl Files for MemFiles {
     ghost contents = { λ f. Some f.contents };
 
     ghost asked = { λ f. Some f.asked };
 
     ghost faults = { λ f. f.faults };
+
+    ghost wants = { λ f. f.wants };
 
     ghost spoilt = { λ f. is_spoilt f.spoilt };
 
@@ -231,6 +366,7 @@ impl Files for MemFiles {
         ensures steady { OnOk result (self.new.faults ≡ self.old.faults) }
         ensures steady_memory { IsErrOf result OutsideFault.Memory
             → self.new.faults ≡ self.old.faults }
+        ensures wants { self.new.wants ≡ wants_after result self.old.wants }
 
         ensures fail { self.new.fail ≡ self.old.fail }
         ensures cause { IsErrOf result OutsideFault.Failed
@@ -243,19 +379,11 @@ impl Files for MemFiles {
         ensures quiet { self.old.fail ≡ []
             → self.old.faults < self.new.faults → IsUnloadable self.old.contents name.now }
     {
-        self.calls.reserve(1)?;
-        let alloc = *into.allocator();
-        let call = Call::Load(String::from_str(alloc, name)?);
-        let fails = is_to_fail(&self.to_fail, &self.calls);
-        let (Some(bytes), false) = (loadable(&self.files, name), fails) else {
-            return Err(keep_failed(&mut self.calls, &mut self.failed, call));
-        };
-        *into = bytes.to_vec(alloc)?;
-        self.calls.push_reserved(call);
-        Ok(())
+        let done = self.take(name, into);
+        self.misses.count(done)
     }
 
-    fn save(&mut self, name: &str, bytes: &[u8]) -> Result<(), OutsideFault>
+    fn save(&mut self, name: &str, bytes: &[u8], disk: Disk) -> Result<(), OutsideFault>
         ensures saved { IsSaved result name.now bytes.now
             (Some self.old.contents) (Some self.new.contents) }
         ensures spoilt { (file : List ℕ) → is_spoilt self.new.spoilt file
@@ -268,6 +396,7 @@ impl Files for MemFiles {
         ensures steady { OnOk result (self.new.faults ≡ self.old.faults) }
         ensures steady_memory { IsErrOf result OutsideFault.Memory
             → self.new.faults ≡ self.old.faults }
+        ensures wants { self.new.wants ≡ wants_after result self.old.wants }
 
         ensures fail { self.new.fail ≡ self.old.fail }
         ensures untouched { OnErr result (self.new.contents ≡ self.old.contents) }
@@ -279,18 +408,38 @@ impl Files for MemFiles {
             → self.new.faults ≡ min (self.old.faults + 1) last_count }
         ensures quiet { self.old.fail ≡ [] → self.new.faults ≡ self.old.faults }
     {
-        take_room(&mut self.calls, &mut self.files, &mut self.spoilt)?;
-        let alloc = *self.files.allocator();
-        let call = save_call(alloc, name, bytes)?;
-        let held = String::from_str(alloc, name)?;
-        if is_to_fail(&self.to_fail, &self.calls) {
-            let fault = keep_failed(&mut self.calls, &mut self.failed, call);
-            return keep_spoilt(&mut self.spoilt, held, Err(fault));
-        }
-        let kept = bytes.to_vec(alloc)?;
-        self.calls.push_reserved(call);
-        put_file(&mut self.files, held, kept);
-        Ok(())
+        let _ = disk;
+        let done = self.keep_saved(name, bytes);
+        self.misses.count(done)
+    }
+
+    fn begin(&mut self, name: &str, bytes: &[u8]) -> Result<(), OutsideFault>
+        ensures saved { IsSaved result name.now bytes.now
+            (Some self.old.contents) (Some self.new.contents) }
+        ensures spoilt { (file : List ℕ) → is_spoilt self.new.spoilt file
+            ≡ spoilt_after result name.now file (is_spoilt self.old.spoilt file) }
+        ensures asked { Some self.new.asked
+            ≡ after_call result (Begin name.now bytes.now) (Some self.old.asked) }
+
+        ensures count { self.old.faults ≤ self.new.faults }
+        ensures failed { IsErrOf result OutsideFault.Failed → Rose self.old.faults self.new.faults }
+        ensures steady { OnOk result (self.new.faults ≡ self.old.faults) }
+        ensures steady_memory { IsErrOf result OutsideFault.Memory
+            → self.new.faults ≡ self.old.faults }
+        ensures wants { self.new.wants ≡ wants_after result self.old.wants }
+
+        ensures fail { self.new.fail ≡ self.old.fail }
+        ensures untouched { OnErr result (self.new.contents ≡ self.old.contents) }
+        ensures listed { IsErrOf result OutsideFault.Failed
+            → IsTrue (is_to_fail self.old.fail (length self.old.asked)) }
+        ensures not_listed { OnOk result (is_to_fail self.old.fail (length self.old.asked)
+            ≡ false) }
+        ensures counted { IsErrOf result OutsideFault.Failed
+            → self.new.faults ≡ min (self.old.faults + 1) last_count }
+        ensures quiet { self.old.fail ≡ [] → self.new.faults ≡ self.old.faults }
+    {
+        let done = self.keep_begun(name, bytes);
+        self.misses.count(done)
     }
 
     fn append(&mut self, name: &str, bytes: &[u8]) -> Result<(), OutsideFault>
@@ -309,6 +458,7 @@ impl Files for MemFiles {
         ensures steady { OnOk result (self.new.faults ≡ self.old.faults) }
         ensures steady_memory { IsErrOf result OutsideFault.Memory
             → self.new.faults ≡ self.old.faults }
+        ensures wants { self.new.wants ≡ wants_after result self.old.wants }
 
         ensures fail { self.new.fail ≡ self.old.fail }
         ensures untouched { OnErr result (self.new.contents ≡ self.old.contents) }
@@ -321,18 +471,7 @@ impl Files for MemFiles {
         ensures counted { IsErrOf result OutsideFault.Failed
             → self.new.faults ≡ min (self.old.faults + 1) last_count }
     {
-        take_room(&mut self.calls, &mut self.files, &mut self.spoilt)?;
-        let alloc = *self.files.allocator();
-        let call = append_call(alloc, name, bytes)?;
-        let own = String::from_str(alloc, name)?;
-        let fails = is_spoilt(&self.spoilt, name) || is_to_fail(&self.to_fail, &self.calls);
-        let (Some(held), false) = (bytes_of(&self.files, name), fails) else {
-            let fault = keep_failed(&mut self.calls, &mut self.failed, call);
-            return keep_spoilt(&mut self.spoilt, own, Err(fault));
-        };
-        let kept = joined(alloc, held, bytes)?;
-        self.calls.push_reserved(call);
-        put_file(&mut self.files, own, kept);
-        Ok(())
+        let done = self.join(name, bytes);
+        self.misses.count(done)
     }
 }

@@ -1,13 +1,13 @@
 ghost use Rattle.std.specs.Prelude.{◌≡◌, ◌≢◌, ◌≤◌, ◌↔◌, ℕ, ◌+◌, ◌<◌, ◌^◌, min, [], ◌∷◌, ◌++◌, true, false, length, is_some, if◌then◌else◌, vec_len, vec_capacity, Some, None, IsTrue, IsNone, IfOk, OnOk, OnErr, IsErrOf};
 ghost use Rattle.std.specs.Option.{option_map, option_to_list};
-ghost use Rattle.orca_rig.specs.Outside.{Rose, last_count};
+ghost use Rattle.orca_rig.specs.Outside.{Rose, last_count, wants_after};
 ghost use Rattle.orca_rig.specs.Arrived.{empty_log, count_of, after_listen, after_poll, arrived, moment_after, is_ending, MayAnswer};
 ghost use Rattle.orca_rig.specs.InMemory.{is_to_fail};
 ghost use Rattle.orca_rig.specs.Schedule.{Schedule, is_in_order, is_arrival, are_arrivals, awaited, first_turn, served_after, served, calls_of, IsAnsweredInOrder};
 ghost use Rattle.orca_base.specs.declared.limits.TheConstants.{ARRIVAL_BYTES, MAX_HANDS};
 ghost use Rattle.orca_rig.specs.KeptPolls.{poll_of};
 
-use crate::{Answer, Inbox, MemAnswer, Outs, OutsideFault};
+use crate::{Answer, Inbox, MemAnswer, Misses, Outs, OutsideFault};
 use orca_base::limits::ARRIVAL_BYTES;
 use orca_base::{Memory, Wire};
 use std::collections::VecDeque;
@@ -34,7 +34,7 @@ pub struct MemInbox {
     polls: Vec<Polled>,
     listened: bool,
     ended: bool,
-    failed: u64,
+    misses: Misses,
 }
 
 impl Model for MemInbox {
@@ -68,6 +68,7 @@ impl MemInbox {
           listened = false;
           ended = false;
           faults = 0;
+          wants = 0;
         })) }
     {
         let alloc = *answers.allocator();
@@ -82,8 +83,30 @@ impl MemInbox {
             polls,
             listened: false,
             ended: false,
-            failed: 0,
+            misses: Misses::none(),
         })
+    }
+
+    /// Keeps what it was asked to listen for, and answers the moment of the start.
+    fn keep_listen(&mut self, name: &str, hands: u8) -> Result<u64, OutsideFault>
+        ensures kept { self.new ≡ record self.old {
+          log = after_listen result name.now hands self.old.log;
+        } }
+        ensures moment { IfOk result (λ at. at ≡ self.old.last) }
+        ensures listed { IsErrOf result OutsideFault.Failed
+            → IsTrue (is_to_fail self.old.fail (calls_of self.old.log)) }
+        ensures not_listed { OnOk result (is_to_fail self.old.fail (calls_of self.old.log)
+            ≡ false) }
+    {
+        let fails = is_to_fail(&self.to_fail, &self.name, &self.polls);
+        self.name = Some(String::from_str(*self.polls.allocator(), name)?);
+        self.hands = Some(hands);
+        if fails {
+            self.start = None;
+            return Err(OutsideFault::Failed);
+        }
+        self.start = Some(self.last);
+        Ok(self.last)
     }
 }
 
@@ -222,6 +245,8 @@ impl Inbox for MemInbox {
 
     ghost faults = { λ i. i.faults };
 
+    ghost wants = { λ i. i.wants };
+
     fn listen_hands(&mut self, name: &str, hands: u8) -> Result<u64, OutsideFault>
         requires fresh { self.old.listened ≡ false }
         requires some { 1 ≤ hands }
@@ -237,6 +262,7 @@ impl Inbox for MemInbox {
         ensures steady { OnOk result (self.new.faults ≡ self.old.faults) }
         ensures steady_memory { IsErrOf result OutsideFault.Memory
             → self.new.faults ≡ self.old.faults }
+        ensures wants { self.new.wants ≡ wants_after result self.old.wants }
 
         ensures answers { self.new.answers ≡ self.old.answers }
         ensures fail { self.new.fail ≡ self.old.fail }
@@ -249,16 +275,8 @@ impl Inbox for MemInbox {
         ensures quiet { self.old.fail ≡ [] → self.new.faults ≡ self.old.faults }
     {
         self.listened = true;
-        let fails = is_to_fail(&self.to_fail, &self.name, &self.polls);
-        self.name = Some(String::from_str(*self.polls.allocator(), name)?);
-        self.hands = Some(hands);
-        if fails {
-            self.start = None;
-            self.failed = self.failed.saturating_add(1);
-            return Err(OutsideFault::Failed);
-        }
-        self.start = Some(self.last);
-        Ok(self.last)
+        let answer = self.keep_listen(name, hands);
+        self.misses.count(answer)
     }
 
     fn poll<O: Outs>(
@@ -281,6 +299,7 @@ impl Inbox for MemInbox {
         ensures count { self.old.faults ≤ self.new.faults }
         ensures failed { result ≡ Answer.Failed → Rose self.old.faults self.new.faults }
         ensures steady { result ≢ Answer.Failed → self.new.faults ≡ self.old.faults }
+        ensures wants { self.new.wants ≡ self.old.wants }
 
         ensures turn { result ≡ (served self.old until bytes.old).answer }
         ensures answers { self.new.answers ≡ (served self.old until bytes.old).answers }
@@ -293,7 +312,7 @@ impl Inbox for MemInbox {
         let fails = is_to_fail(&self.to_fail, &self.name, &self.polls);
         let answer = answer_next(fails, &mut self.answers, until, bytes);
         if fails {
-            self.failed = self.failed.saturating_add(1);
+            self.misses.faults = self.misses.faults.saturating_add(1);
         }
         self.last = moment_after(answer, self.last);
         self.ended = is_ending(answer);

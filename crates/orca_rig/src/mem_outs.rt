@@ -1,10 +1,9 @@
 ghost use Rattle.std.specs.Prelude.{◌≡◌, ◌+◌, min, ◌≤◌, ◌↔◌, ◌<◌, ◌^◌, [], ◌∷◌, ◌++◌, length, slice_get, IsTrue, IsNone, Some, true, false, IsOk, IfOk, OnOk, OnErr, IsErr, IsErrOf};
 ghost use Rattle.std.specs.Option.{option_map};
-ghost use Rattle.orca_rig.specs.Outside.{Rose, after_call, last_count};
+ghost use Rattle.orca_rig.specs.Outside.{Rose, after_call, last_count, wants_after};
 ghost use Rattle.orca_rig.specs.InMemory.{sents, attaches, sends_to, attaches_to, is_port_to_fail};
 
-use crate::fault::count_failure;
-use crate::{Outs, OutsideFault};
+use crate::{Misses, Outs, OutsideFault};
 use orca_base::{Memory, Port};
 use std::marker::Model;
 
@@ -14,7 +13,7 @@ pub struct MemOuts {
     pieces: Vec<(Port, Vec<u8>)>,
     names: Vec<(Port, String)>,
     to_fail: Vec<(Port, u64)>,
-    failed: u64,
+    misses: Misses,
 }
 
 impl Model for MemOuts {
@@ -26,7 +25,8 @@ impl Model for MemOuts {
       handed = sents o.pieces.items;
       attached = attaches o.names.items;
       fail = o.to_fail.items;
-      faults = o.failed;
+      faults = o.misses.faults;
+      wants = o.misses.wants;
     } };
 }
 
@@ -40,12 +40,13 @@ impl MemOuts {
         ensures attached { IfOk result (λ outs. outs.attached ≡ []) }
         ensures fail { IfOk result (λ outs. outs.fail ≡ fail.items) }
         ensures faults { IfOk result (λ outs. outs.faults ≡ 0) }
+        ensures wants { IfOk result (λ outs. outs.wants ≡ 0) }
     {
         Ok(MemOuts {
             pieces: Vec::new(*fail.allocator()),
             names: Vec::new(*fail.allocator()),
             to_fail: fail,
-            failed: 0,
+            misses: Misses::none(),
         })
     }
 
@@ -142,6 +143,8 @@ impl Outs for MemOuts {
 
     ghost faults = { λ o. o.faults };
 
+    ghost wants = { λ o. o.wants };
+
     fn attach(&mut self, port: Port, name: &str) -> Result<(), OutsideFault>
         ensures attached { Some self.new.attached
             ≡ after_call result (record { port = port; name = name.now }) (Some self.old.attached) }
@@ -151,6 +154,7 @@ impl Outs for MemOuts {
         ensures steady { OnOk result (self.new.faults ≡ self.old.faults) }
         ensures steady_memory { IsErrOf result OutsideFault.Memory
             → self.new.faults ≡ self.old.faults }
+        ensures wants { self.new.wants ≡ wants_after result self.old.wants }
 
         ensures fail { self.new.fail ≡ self.old.fail }
         ensures listed { IsErrOf result OutsideFault.Failed
@@ -162,7 +166,7 @@ impl Outs for MemOuts {
     {
         let fails = self.is_to_fail(port);
         let kept = keep_name(&mut self.names, port, name);
-        count_failure(&mut self.failed, answer_of(kept, fails))
+        self.misses.count(answer_of(kept, fails))
     }
 
     fn send(&mut self, port: Port, bytes: &[u8]) -> Result<(), OutsideFault>
@@ -174,6 +178,7 @@ impl Outs for MemOuts {
         ensures steady { OnOk result (self.new.faults ≡ self.old.faults) }
         ensures steady_memory { IsErrOf result OutsideFault.Memory
             → self.new.faults ≡ self.old.faults }
+        ensures wants { self.new.wants ≡ wants_after result self.old.wants }
 
         ensures fail { self.new.fail ≡ self.old.fail }
         ensures listed { IsErrOf result OutsideFault.Failed
@@ -185,7 +190,7 @@ impl Outs for MemOuts {
     {
         let fails = self.is_to_fail(port);
         let kept = keep_piece(&mut self.pieces, port, bytes);
-        count_failure(&mut self.failed, answer_of(kept, fails))
+        self.misses.count(answer_of(kept, fails))
     }
 
     fn sent(&self) -> u64

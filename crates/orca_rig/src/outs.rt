@@ -1,6 +1,6 @@
 ghost use Rattle.std.specs.Prelude.{◌≡◌, ◌≤◌, ◌<◌, ◌^◌, ℕ, List, Option, Some, length, OnOk, IsErrOf};
 ghost use Rattle.orca_base.specs.Ports.{Sent};
-ghost use Rattle.orca_rig.specs.Outside.{Rose, after_call};
+ghost use Rattle.orca_rig.specs.Outside.{Rose, after_call, wants_after};
 ghost use Rattle.orca_rig.specs.Handed.{Attached};
 
 use crate::OutsideFault;
@@ -24,6 +24,9 @@ pub trait Outs: Drop {
     /// How often a port has failed.
     ghost faults: { Self → ℕ };
 
+    /// How often memory was refused to a call.
+    ghost wants: { Self → ℕ };
+
     /// Connects a port to the file, device or address of that name.
     fn attach(&mut self, port: Port, name: &str) -> Result<(), OutsideFault>
         ensures attached { attached self.new
@@ -35,7 +38,8 @@ pub trait Outs: Drop {
             → Rose (faults self.old) (faults self.new) }
         ensures steady { OnOk result (faults self.new ≡ faults self.old) }
         ensures steady_memory { IsErrOf result OutsideFault.Memory
-            → faults self.new ≡ faults self.old };
+            → faults self.new ≡ faults self.old }
+        ensures wants { wants self.new ≡ wants_after result (wants self.old) };
 
     /// Sends the bytes to the port, as one piece.
     fn send(&mut self, port: Port, bytes: &[u8]) -> Result<(), OutsideFault>
@@ -48,7 +52,8 @@ pub trait Outs: Drop {
             → Rose (faults self.old) (faults self.new) }
         ensures steady { OnOk result (faults self.new ≡ faults self.old) }
         ensures steady_memory { IsErrOf result OutsideFault.Memory
-            → faults self.new ≡ faults self.old };
+            → faults self.new ≡ faults self.old }
+        ensures wants { wants self.new ≡ wants_after result (wants self.old) };
 
     /// How many pieces were given to [`send`](Outs::send), where that is told and fits. It is there
     /// for an inbox to write down: only [`Inbox::poll`](crate::Inbox::poll) may call it, since the

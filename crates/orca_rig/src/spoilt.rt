@@ -13,7 +13,7 @@ pub fn is_spoilt(spoilt: &[String], name: &str) -> bool
     spoilt.iter().any(|other| name == other.as_str())
 }
 
-/// Keeps the name of a file whose save or append has failed. There is room for it.
+/// Keeps the name of a file whose save, begin or append has failed. There is room for it.
 pub fn keep_spoilt(
     spoilt: &mut Vec<String>,
     name: String,
@@ -32,7 +32,7 @@ pub fn keep_spoilt(
 
 /// Puts a name to the others, unless it is one of them. There is room for it.
 #[tactic(auto, using(crate::proofs::SpoiltLemmas::name_put, crate::proofs::SpoiltLemmas::name_there))]
-fn put_name(names: &mut Vec<String>, name: String)
+pub fn put_name(names: &mut Vec<String>, name: String)
     requires { vec_len names.old < vec_capacity names.old }
     ensures { (file : List ℕ) → is_spoilt (names_of names.new.items) file
         ≡ (bytes_eq file (string_bytes name) || is_spoilt (names_of names.old.items) file) }
