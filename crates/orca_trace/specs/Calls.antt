@@ -27,6 +27,8 @@ pub data Call : Type 0 where
   Load : List ℕ → Result (List ℕ) OutsideFault → Call
   -- these bytes are saved under a name
   Save : List ℕ → List ℕ → Result (Unit {0}) OutsideFault → Call
+  -- a file of a name is begun with these bytes, to be added to
+  Begin : List ℕ → List ℕ → Result (Unit {0}) OutsideFault → Call
   -- these bytes are added to the file of a name
   Append : List ℕ → List ℕ → Result (Unit {0}) OutsideFault → Call
   -- the inbox listens at a name for so many hands: the moment of the start
@@ -45,6 +47,7 @@ call_of (kind.Attach port answer) name bytes = Attach (record { port = port; nam
 call_of (kind.Give port answer) name bytes = Give (record { port = port; bytes = bytes }) answer
 call_of (kind.Load answer) name bytes = Load name (text_in answer bytes)
 call_of (kind.Save answer) name bytes = Save name bytes answer
+call_of (kind.Begin answer) name bytes = Begin name bytes answer
 call_of (kind.Append answer) name bytes = Append name bytes answer
 call_of (kind.Listen hands answer) name bytes = Listen name hands answer
 call_of (kind.Await until answer) name bytes =
@@ -61,6 +64,7 @@ fault_of (Attach attached answer) = result_err answer
 fault_of (Give sent answer) = result_err answer
 fault_of (Load name answer) = result_err answer
 fault_of (Save name bytes answer) = result_err answer
+fault_of (Begin name bytes answer) = result_err answer
 fault_of (Append name bytes answer) = result_err answer
 fault_of (Listen name hands answer) = result_err answer
 fault_of (Await poll) = fault_in poll.answer

@@ -12,6 +12,8 @@ pub enum Kind {
     Load(Result<(), OutsideFault>),
     /// Bytes were to be saved under a name.
     Save(Result<(), OutsideFault>),
+    /// A file of a name was to be begun with bytes.
+    Begin(Result<(), OutsideFault>),
     /// Bytes were to be added to the file of a name.
     Append(Result<(), OutsideFault>),
     /// The inbox listened at a name for so many hands, and answered the moment of the start.
