@@ -1,6 +1,9 @@
 -- What objects tell of one act more, and what a desk keeps to after one call more.
 use Rattle.std.proofs.Common.{◌≡◌, ℕ, ◌+◌, List, [], ◌∷◌, ◌++◌, append-nil, length, refl, arith}
 use Rattle.std.proofs.lemmas.List.Folds.{list_any-append}
+use Rattle.std.proofs.lemmas.List.Sums.{sum_by-append}
+use Rattle.std.specs.List.{count_by}
+use Rattle.std.specs.Prelude.{Bool}
 use Rattle.orca_course.specs.Acts.{Act, given}
 use Rattle.orca_trace.specs.Calls.{Call}
 use Rattle.orca_course.specs.Told.{Listened, asked_in, attached_in, counts_in, listened_after}
@@ -28,6 +31,10 @@ pub counts_in-append : (n : ℕ) (xs ys : List Act)
 counts_in-append n [] ys = grind arith
 counts_in-append n (x ∷ xs) ys = grind (arith, λ (m : ℕ). counts_in-append m xs ys)
 
+pub count_by-append : (p : Call → Bool) (xs ys : List Call)
+    → count_by p (xs ++ ys) ≡ count_by p xs + count_by p ys
+count_by-append p xs ys = sum_by-append _ xs ys
+
 -- ---- one call more
 
 pub is_next : {call : Call} {x y : World} → y.calls ≡ x.calls ++ call ∷ []
@@ -45,5 +52,6 @@ pub ruleset one_more = (
   polls_in-append,
   listened_after-append,
   counts_in-append,
+  count_by-append,
   append-nil,
 )

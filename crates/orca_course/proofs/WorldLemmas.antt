@@ -16,7 +16,7 @@ use Rattle.orca_rig.specs.declared.fault.OutsideFault.TheVariants.{Memory}
 use Rattle.orca_trace.specs.Calls.{Call}
 use Rattle.orca_trace.specs.Calls.Call.{Await as CallAwait, Give as CallGive}
 use Rattle.orca_course.specs.Acts.{Act, ArePrintable, calls_in, given}
-use Rattle.orca_course.specs.Acts.Act.{Append, Await, Give, Load, Obey, Save, Screen, Show, Stand, Strike}
+use Rattle.orca_course.specs.Acts.Act.{Append, Await, Begin, Give, Load, Obey, Save, Screen, Show, Stand, Strike}
 use Rattle.orca_course.specs.Answered.{done_in, is_file_fault, refused_in}
 use Rattle.orca_course.specs.Standings.{Standing}
 use Rattle.orca_course.specs.Worlds.{AreCalled, AreCounted, AreStored, Called, Counts, IsCounted, Made, Polled, Sated, Stores, Unsent, Wants, World, has_ended, has_failed, is_lost, is_unstored, owing}
@@ -178,11 +178,12 @@ ended_made {acts = acts} {x = x} made =
     rw (called.1, list_any-append, ← ended_after-done, called.2)
     (ended_after-calls acts (has_ended x))
 
--- no load among acts has failed, and nothing is saved or added
+-- no load among acts has failed, and nothing is saved, begun or added
 abbrev pub AreSafe : List Act → Type 0
 AreSafe [] = Unit {0}
 AreSafe (Load name None ∷ acts) = ⊥
 AreSafe (Save name bytes ∷ acts) = ⊥
+AreSafe (Begin name bytes ∷ acts) = ⊥
 AreSafe (Append name bytes ∷ acts) = ⊥
 AreSafe (_ ∷ acts) = AreSafe acts
 

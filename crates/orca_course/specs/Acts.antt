@@ -22,6 +22,8 @@ pub data Act : Type 0 where
   Load : List ℕ → Option (List ℕ) → Act
   -- these bytes are saved under a name
   Save : List ℕ → List ℕ → Act
+  -- a file of a name is begun with these bytes, to be added to
+  Begin : List ℕ → List ℕ → Act
   -- these bytes are added to the file of a name
   Append : List ℕ → List ℕ → Act
   -- the inbox listens at a name for so many hands; and the moment that it answers, unless it fails

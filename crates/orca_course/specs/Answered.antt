@@ -7,9 +7,9 @@ use Rattle.orca_rig.specs.declared.fault.OutsideFault.TheVariants.{Failed, Memor
 use Rattle.orca_rig.specs.declared.inbox.Answer.{Answer}
 use Rattle.orca_rig.specs.declared.inbox.Answer.TheVariants as answer
 use Rattle.orca_trace.specs.Calls.{Call, fault_of}
-use Rattle.orca_trace.specs.Calls.Call.{Append as CallAppend, Attach as CallAttach, Await as CallAwait, Give as CallGive, Listen as CallListen, Load as CallLoad, Save as CallSave}
+use Rattle.orca_trace.specs.Calls.Call.{Append as CallAppend, Attach as CallAttach, Await as CallAwait, Begin as CallBegin, Give as CallGive, Listen as CallListen, Load as CallLoad, Save as CallSave}
 use Rattle.orca_course.specs.Acts.{Act}
-use Rattle.orca_course.specs.Acts.Act.{Append, Attach, Await, Give, Listen, Load, Save}
+use Rattle.orca_course.specs.Acts.Act.{Append, Attach, Await, Begin, Give, Listen, Load, Save}
 
 -- a call as an act: with its answer where that decides what follows
 abbrev pub act_of : Call → Act
@@ -17,6 +17,7 @@ act_of (CallAttach attached answer) = Attach attached
 act_of (CallGive sent answer) = Give sent
 act_of (CallLoad name answer) = Load name (result_ok answer)
 act_of (CallSave name bytes answer) = Save name bytes
+act_of (CallBegin name bytes answer) = Begin name bytes
 act_of (CallAppend name bytes answer) = Append name bytes
 act_of (CallListen name hands answer) = Listen name hands (result_ok answer)
 act_of (CallAwait poll) = Await poll
@@ -52,8 +53,28 @@ is_port_fault other = false
 abbrev pub is_file_fault : Call → Bool
 is_file_fault (CallLoad name (Err Failed)) = true
 is_file_fault (CallSave name bytes (Err Failed)) = true
+is_file_fault (CallBegin name bytes (Err Failed)) = true
 is_file_fault (CallAppend name bytes (Err Failed)) = true
 is_file_fault other = false
+
+-- whether a port was refused memory
+abbrev pub is_port_want : Call → Bool
+is_port_want (CallAttach attached (Err Memory)) = true
+is_port_want (CallGive sent (Err Memory)) = true
+is_port_want other = false
+
+-- whether the files were refused it
+abbrev pub is_file_want : Call → Bool
+is_file_want (CallLoad name (Err Memory)) = true
+is_file_want (CallSave name bytes (Err Memory)) = true
+is_file_want (CallBegin name bytes (Err Memory)) = true
+is_file_want (CallAppend name bytes (Err Memory)) = true
+is_file_want other = false
+
+-- whether the inbox was refused it
+abbrev pub is_inbox_want : Call → Bool
+is_inbox_want (CallListen name hands (Err Memory)) = true
+is_inbox_want other = false
 
 -- whether an answer of the inbox is a failure
 abbrev pub is_failure : Answer → Bool

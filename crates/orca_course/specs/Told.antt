@@ -1,16 +1,16 @@
 -- What the list of the calls of a desk has to do with its objects and its records.
-use Rattle.std.specs.Prelude.{◌≡◌, ℕ, ◌+◌, ◌<◌, ◌^◌, Bool, List, [], ◌∷◌, map, length, Option, Some, None, IfSome}
+use Rattle.std.specs.Prelude.{◌≡◌, ℕ, ◌+◌, min, ◌<◌, ◌^◌, count_by, Bool, List, [], ◌∷◌, map, length, Option, Some, None, IfSome}
 use Rattle.std.specs.List.{list_any}
 use Rattle.orca_base.specs.Ports.{Sent}
 use Rattle.orca_rig.specs.Arrived.{Log}
 use Rattle.orca_rig.specs.Arrived as arrived
 use Rattle.orca_rig.specs.Handed.{Attached}
-use Rattle.orca_rig.specs.Outside.{Ask}
-use Rattle.orca_rig.specs.Outside.Ask.{Append as AskAppend, Load as AskLoad, Save as AskSave}
+use Rattle.orca_rig.specs.Outside.{Ask, last_count}
+use Rattle.orca_rig.specs.Outside.Ask.{Append as AskAppend, Begin as AskBegin, Load as AskLoad, Save as AskSave}
 use Rattle.orca_trace.specs.Calls.{Call, Poll}
 use Rattle.orca_course.specs.Acts.{Act, given, polls_in}
-use Rattle.orca_course.specs.Acts.Act.{Append, Attach, Await, Give, Listen, Load, Save}
-use Rattle.orca_course.specs.Answered.{done_in, is_file_fault, is_last_poll, is_listen, is_port_fault}
+use Rattle.orca_course.specs.Acts.Act.{Append, Attach, Await, Begin, Give, Listen, Load, Save}
+use Rattle.orca_course.specs.Answered.{done_in, is_file_fault, is_file_want, is_inbox_want, is_last_poll, is_listen, is_port_fault, is_port_want}
 
 -- ---- what objects that tell their calls tell
 
@@ -20,11 +20,12 @@ attached_in [] = []
 attached_in (Attach attached ∷ acts) = attached ∷ attached_in acts
 attached_in (_ ∷ acts) = attached_in acts
 
--- the loads, saves and appends among acts, as a store is asked for them
+-- the loads, saves, begins and appends among acts, as a store is asked for them
 abbrev pub asked_in : List Act → List Ask
 asked_in [] = []
 asked_in (Load name text ∷ acts) = AskLoad name ∷ asked_in acts
 asked_in (Save name bytes ∷ acts) = AskSave name bytes ∷ asked_in acts
+asked_in (Begin name bytes ∷ acts) = AskBegin name bytes ∷ asked_in acts
 asked_in (Append name bytes ∷ acts) = AskAppend name bytes ∷ asked_in acts
 asked_in (_ ∷ acts) = asked_in acts
 
@@ -64,6 +65,14 @@ pub record Tells (handed : Option (List Sent)) (attached : Option (List Attached
   pub heard : IfSome log (IsLogOf (done_in calls))
   pub counts : IfSome handed (λ told. IfSome log (λ kept. length told < 2 ^ 64
       → map (λ (p : arrived.LoggedPoll). p.sent) kept.polls ≡ counts_in 0 (done_in calls)))
+
+-- ---- what is counted
+
+-- each object was refused memory at as many calls as the list says it was, as far as it counts
+pub record AreWanted (ports files inbox : ℕ) (calls : List Call) : Type 0 where
+  pub of_ports : ports ≡ min (count_by is_port_want calls) last_count
+  pub of_files : files ≡ min (count_by is_file_want calls) last_count
+  pub of_inbox : inbox ≡ min (count_by is_inbox_want calls) last_count
 
 -- ---- what is recorded
 

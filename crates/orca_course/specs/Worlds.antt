@@ -13,7 +13,7 @@ use Rattle.orca_rig.specs.declared.inbox.Answer.{Answer}
 use Rattle.orca_rig.specs.Saved.{IsAppended, IsSaved}
 use Rattle.orca_rig.specs.Outside.{Contents, Rose}
 use Rattle.orca_trace.specs.Calls.{Call}
-use Rattle.orca_trace.specs.Calls.Call.{Append as CallAppend, Give as CallGive, Load as CallLoad, Save as CallSave}
+use Rattle.orca_trace.specs.Calls.Call.{Append as CallAppend, Begin as CallBegin, Give as CallGive, Load as CallLoad, Save as CallSave}
 use Rattle.orca_course.specs.Acts.{Act, ArePrintable, calls_in, given}
 use Rattle.orca_course.specs.Acts.Act.{Await, Give}
 use Rattle.orca_course.specs.Answered.{done_in, is_file_fault, is_inbox_fault, is_last_poll, is_listen, is_port_fault, refused_in}
@@ -48,7 +48,7 @@ owing n x = record x { paid = x.paid + n }
 abbrev pub has_failed : World → Bool
 has_failed x = list_any is_port_fault x.calls
 
--- whether a load or a save has failed
+-- whether a load, a save, a begin or an append has failed
 abbrev pub is_unstored : World → Bool
 is_unstored x = list_any is_file_fault x.calls
 
@@ -80,10 +80,11 @@ abbrev pub IsTextOf : Option Contents → List ℕ → List ℕ → Type 0
 IsTextOf contents name text =
     (length text ≤ MAX_FILE_BYTES) × IfSome contents (λ files. get files name ≡ Some text)
 
--- a load gives the text of its file; and saves and appends alone change what the files hold
+-- a load gives the text of its file; and saves, begins and appends alone change what the files hold
 abbrev pub Stores : Call → Option Contents → Option Contents → Type 0
 Stores (CallLoad name (Ok text)) old new = IsTextOf old name text × (new ≡ old)
 Stores (CallSave name bytes answer) old new = IsSaved answer name bytes old new
+Stores (CallBegin name bytes answer) old new = IsSaved answer name bytes old new
 Stores (CallAppend name bytes answer) old new = IsAppended answer name bytes old new
 Stores other old new = new ≡ old
 

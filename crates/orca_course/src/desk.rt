@@ -8,7 +8,7 @@ ghost use Rattle.orca_base.specs.declared.limits.TheConstants.{MAX_FILE_BYTES};
 ghost use Rattle.orca_rig.specs.Arrived.{arrived};
 ghost use Rattle.orca_base.specs.declared.limits.TheConstants.{MAX_HANDS};
 ghost use Rattle.orca_course.specs.Acts.{given};
-ghost use Rattle.orca_course.specs.Acts.Act.{Append, Attach, Give, Listen, Load, Save};
+ghost use Rattle.orca_course.specs.Acts.Act.{Append, Attach, Begin, Give, Listen, Load, Save};
 ghost use Rattle.orca_course.specs.Answered.{done_in};
 ghost use Rattle.orca_course.specs.Told.{IsLogOf, Records, Tells, asked_in, attached_in};
 ghost use Rattle.orca_course.specs.Worlds.{Called, LeavesInbox, Made, Polled, Sated, has_ended, has_failed, has_listened, is_unstored, owing, listen_moment, loaded_text};
@@ -19,7 +19,7 @@ use orca_base::limits::ARRIVAL_BYTES;
 use orca_base::{Command, Fault, Port, Reply, Steps};
 use orca_edit::Machine;
 use orca_notes::Messages;
-use orca_rig::{Answer, Files, House, Inbox, Outs, OutsideFault};
+use orca_rig::{Answer, Disk, Files, House, Inbox, Outs, OutsideFault};
 use orca_trace::{Kind, Trace};
 use std::alloc::Global;
 use std::marker::{Model, PhantomData};
@@ -41,7 +41,7 @@ pub struct Desk<H: House> {
 
 impl<H: House> Model for Desk<H> {
     ghost use Rattle.std.specs.Coded.{codes};
-    ghost use Rattle.orca_course.specs.Told.{Records, Tells};
+    ghost use Rattle.orca_course.specs.Told.{AreWanted, Records, Tells};
     ghost use Rattle.orca_course.specs.Worlds.{World, contents_code};
 
     ghost Value = { World };
@@ -62,7 +62,8 @@ impl<H: House> Model for Desk<H> {
     ghost invariant = { λ d.
         Tells (H.Outs.handed d.outs) (H.Outs.attached d.outs) (H.Files.asked d.files)
         (H.Inbox.log d.inbox) d.trace.calls
-        × Records d.failed d.unstored (H.Inbox.listened d.inbox) (H.Inbox.ended d.inbox)
+        × AreWanted (H.Outs.wants d.outs) (H.Files.wants d.files) (H.Inbox.wants d.inbox)
+        d.trace.calls × Records d.failed d.unstored (H.Inbox.listened d.inbox) (H.Inbox.ended d.inbox)
         d.trace.calls };
 }
 
@@ -89,6 +90,9 @@ pub fn desk_of<F: Files, O: Outs, I: Inbox, L: Ledger>(
     steps: Steps<L>,
 ) -> Desk<Rooms<F, O, I, L>>
     requires untold { Tells (O.handed outs) (O.attached outs) (F.asked files) (I.log inbox) [] }
+    requires ports { O.wants outs ≡ 0 }
+    requires files { F.wants files ≡ 0 }
+    requires inbox { I.wants inbox ≡ 0 }
     requires fresh { I.listened inbox ≡ false }
     requires open { I.ended inbox ≡ false }
     ensures { result ≡ record {
@@ -150,7 +154,7 @@ impl<H: House> Desk<H> {
         self.failed
     }
 
-    /// Whether a load or a save has failed.
+    /// Whether a load, a save, a begin or an append has failed.
     pub fn is_unstored(&self) -> bool
         ensures { result ≡ is_unstored self.now }
     {
@@ -208,11 +212,27 @@ impl<H: House> Desk<H> {
     }
 
     /// Saves the bytes under a name. A failure is recorded, and the run goes on.
-    pub fn save(&mut self, name: &str, bytes: &[u8]) -> Result<(), NoMemory>
+    pub fn save(&mut self, name: &str, bytes: &[u8], disk: Disk) -> Result<(), NoMemory>
         ensures { Called result (Save name.now bytes.now) self.old self.new }
     {
-        let answer = self.files.save(name, bytes);
+        let answer = self.files.save(name, bytes, disk);
         self.trace.note(&Kind::Save(answer), name.as_bytes(), bytes);
+        self.unstored |= matches!(answer, Err(OutsideFault::Failed));
+        match answer {
+            Ok(()) => Ok(()),
+            Err(OutsideFault::Failed) => Ok(()),
+            Err(OutsideFault::Memory) => Err(NoMemory::Elsewhere),
+        }
+    }
+
+    /// Begins a file of a name with the bytes, to be added to. A failure is recorded, and the run
+    /// goes on.
+    pub fn begin(&mut self, name: &str, bytes: &[u8]) -> Result<(), NoMemory>
+        ensures { Called result (Begin name.now bytes.now) self.old self.new }
+    {
+        let answer = self.files.begin(name, bytes);
+        self.trace
+            .note(&Kind::Begin(answer), name.as_bytes(), bytes);
         self.unstored |= matches!(answer, Err(OutsideFault::Failed));
         match answer {
             Ok(()) => Ok(()),
