@@ -16,7 +16,7 @@ use Rattle.orca_course.specs.Worlds.{World, Called, owing, Calls, Made, Sated}
 use Rattle.orca_course.specs.declared.ending.Stop.{Stop}
 use Rattle.orca_course.specs.declared.refused.NoMemory.{NoMemory}
 use Rattle.orca_course.proofs.DoingLemmas.{does_from, does_mapped, does_still, does_then, does_owing, does_acts, does_begun, does_cut, does_joined, rests_mute, rests_none}
-use Rattle.orca_course.specs.Acts.Act.{Append, Save, Screen, Give, Show, Strike}
+use Rattle.orca_course.specs.Acts.Act.{Append, Begin, Save, Screen, Give, Show, Strike}
 use Rattle.orca_course.proofs.CallLemmas.{calls_one, does_calls}
 use Rattle.orca_course.specs.Acts.{AreMute}
 use Rattle.orca_course.proofs.WorldLemmas.{made_none, made_screen, made_show, made_strike}
@@ -218,6 +218,15 @@ pub save_did : (name bytes text : List ℕ) (s : LiveState) {x y : World} (n : �
 save_did name bytes text s n result is called =
     does_owing n (goes_of result)
     (does_calls (Save name text ∷ []) result tt refl (calls_one result (rw is at called)))
+
+-- a file was begun with a text
+pub begin_did : (name bytes text : List ℕ) (s : LiveState) {x y : World} (n : ℕ)
+    (result : Result (Unit {0}) NoMemory) → bytes ≡ text → Called result (Begin name bytes) x y
+    → Does {E = Stop} live_stance (course (Begin name text ∷ []) 0 s) s (owing n x)
+    (goes_of result) s (owing n y)
+begin_did name bytes text s n result is called =
+    does_owing n (goes_of result)
+    (does_calls (Begin name text ∷ []) result tt refl (calls_one result (rw is at called)))
 
 -- ---- lines are added to the journal, unless there are none
 

@@ -11,7 +11,7 @@ use Rattle.orca_base.specs.MarkSet.{MarkSet}
 use Rattle.orca_base.specs.Ports.{Sent}
 use Rattle.orca_concert.specs.Concerts.{close_course as silence_course, command_course as obey_course, handed_of}
 use Rattle.orca_course.specs.Acts.{Act, commands_in, gives}
-use Rattle.orca_course.specs.Acts.Act.{Append, Await, Obey, Save, Show, Stand}
+use Rattle.orca_course.specs.Acts.Act.{Append, Await, Begin, Obey, Save, Show, Stand}
 use Rattle.orca_course.specs.Courses.{Course, course, each, joined, lastly, lastly_by, mapped, onward, onward_by}
 use Rattle.orca_course.specs.Performers.{attended, begun, finished, heard, opened, performance, polled}
 use Rattle.orca_course.specs.Standings.{Standing, notes_of, standing_after, standing_closed}
@@ -40,7 +40,7 @@ use Rattle.orca_live.specs.States.{LiveState, Setting}
 abbrev Begun : ℕ → Option (List ℕ) → List Command → Type 0
 Begun seed held given = IfSome held (λ text. Extends text (journal_text seed given))
 
--- what a save and an append leave
+-- what a save or a begin, and an append, leave
 abbrev saved : List ℕ → List ℕ → List ℕ → Option (List ℕ) → Option (List ℕ)
 saved name other bytes held = if bytes_eq other name then Some bytes else held
 
@@ -54,6 +54,8 @@ abbrev Journaled : List ℕ → ℕ → (Option (List ℕ) → List Command → 
     → List Command → List Act → Type 0
 Journaled name seed after held given [] = after held given
 Journaled name seed after held given (Save other bytes ∷ acts) =
+    Begun seed held given × Journaled name seed after (saved name other bytes held) given acts
+Journaled name seed after held given (Begin other bytes ∷ acts) =
     Begun seed held given × Journaled name seed after (saved name other bytes held) given acts
 Journaled name seed after held given (Append other bytes ∷ acts) =
     Begun seed held given × Journaled name seed after (added name other bytes held) given acts
@@ -72,6 +74,8 @@ module _ (name : List ℕ) (seed : ℕ) where
   journaled_twice some all held given [] ys first second = second held given first
   journaled_twice some all held given (Save other bytes ∷ xs) ys first second =
       (first.0, journaled_twice some all (saved name other bytes held) given xs ys first.1 second)
+  journaled_twice some all held given (Begin other bytes ∷ xs) ys first second =
+      (first.0, journaled_twice some all (saved name other bytes held) given xs ys first.1 second)
   journaled_twice some all held given (Append other bytes ∷ xs) ys first second =
       (first.0, journaled_twice some all (added name other bytes held) given xs ys first.1 second)
   journaled_twice some all held given (Obey command ∷ xs) ys first second =
@@ -88,6 +92,7 @@ module _ (name : List ℕ) (seed : ℕ) where
       → Journaled name seed after held given acts → Begun seed held given
   begun_first after held given [] last journaled = last held given journaled
   begun_first after held given (Save other bytes ∷ acts) last journaled = journaled.0
+  begun_first after held given (Begin other bytes ∷ acts) last journaled = journaled.0
   begun_first after held given (Append other bytes ∷ acts) last journaled = journaled.0
   begun_first after held given (Obey command ∷ acts) last journaled = journaled.0
   begun_first after held given (Await poll ∷ acts) last journaled =
@@ -104,6 +109,8 @@ module _ (name : List ℕ) (seed : ℕ) where
   begun_front after held given [] ys last journaled =
       rw append-nil (begun_first after held given ys last journaled)
   begun_front after held given (Save other bytes ∷ xs) ys last journaled =
+      begun_front after (saved name other bytes held) given xs ys last journaled.1
+  begun_front after held given (Begin other bytes ∷ xs) ys last journaled =
       begun_front after (saved name other bytes held) given xs ys last journaled.1
   begun_front after held given (Append other bytes ∷ xs) ys last journaled =
       begun_front after (added name other bytes held) given xs ys last journaled.1
@@ -123,6 +130,8 @@ module _ (name : List ℕ) (seed : ℕ) where
       → held_after name held xs ≡ Some (journal_text seed (given ++ commands_in xs))
   asked_front after held given [] ys poll journaled = rw append-nil journaled.0
   asked_front after held given (Save other bytes ∷ xs) ys poll journaled =
+      asked_front after (saved name other bytes held) given xs ys poll journaled.1
+  asked_front after held given (Begin other bytes ∷ xs) ys poll journaled =
       asked_front after (saved name other bytes held) given xs ys poll journaled.1
   asked_front after held given (Append other bytes ∷ xs) ys poll journaled =
       asked_front after (added name other bytes held) given xs ys poll journaled.1
@@ -226,9 +235,9 @@ added_writes name seed (byte ∷ lines) held given waits =
       rw (same_name name, waits.1) (all, refl, append-nil all ∙ waits.2),
     )
 
--- the first line with a seed is saved
+-- a file is begun with the first line with a seed
 abbrev begins_with : List ℕ → ℕ → LiveState → Course LiveState Stop
-begins_with name seed s = course (Save name (printed_header seed) ∷ []) 0 s
+begins_with name seed s = course (Begin name (printed_header seed) ∷ []) 0 s
 
 module _ (name : List ℕ) (set : Setting) (kept : set.journal ≡ Some name)
     (apart : IsApart name set) where

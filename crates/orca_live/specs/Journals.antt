@@ -7,7 +7,7 @@ use Rattle.orca_base.specs.declared.command.Command.{Command}
 use Rattle.orca_concert.specs.Concerts.{concert_with, cues_course}
 use Rattle.orca_concert.specs.Manners.{Manner}
 use Rattle.orca_course.specs.Acts.{Act, commands_in}
-use Rattle.orca_course.specs.Acts.Act.{Append, Await, Save}
+use Rattle.orca_course.specs.Acts.Act.{Append, Await, Begin, Save}
 use Rattle.orca_course.specs.Courses.{Course}
 use Rattle.orca_course.specs.Performers.{performance}
 use Rattle.orca_course.specs.Standings.{Standing}
@@ -26,17 +26,20 @@ use Rattle.orca_live.specs.States.{LiveState, Setting}
 abbrev pub journal_text : ℕ → List Command → List ℕ
 journal_text seed commands = printed_header seed ++ flat_map printed commands
 
--- what acts leave under a name, after this: a save leaves its bytes, and an append adds its own
+-- what acts leave under a name, after this: a save and a begin leave their bytes, and an append adds
+-- its own
 abbrev pub held_after : List ℕ → Option (List ℕ) → List Act → Option (List ℕ)
 held_after name held [] = held
 held_after name held (Save other bytes ∷ acts) =
+    held_after name (if bytes_eq other name then Some bytes else held) acts
+held_after name held (Begin other bytes ∷ acts) =
     held_after name (if bytes_eq other name then Some bytes else held) acts
 held_after name held (Append other bytes ∷ acts) =
     held_after name
     (if bytes_eq other name then option_map (λ before. before ++ bytes) held else held) acts
 held_after name held (_ ∷ acts) = held_after name held acts
 
--- the same, where nothing was saved before
+-- the same, where nothing was there before
 abbrev pub held_in : List ℕ → List Act → Option (List ℕ)
 held_in name acts = held_after name None acts
 

@@ -9,7 +9,7 @@ use Rattle.orca_base.specs.declared.port.Port.TheVariants as port
 use Rattle.orca_base.specs.MarkSet.{MarkSet}
 use Rattle.orca_concert.specs.Concerts.{Concert, concert_with, close_course as silence_course, command_course as obey_course}
 use Rattle.orca_course.specs.Acts.{Act}
-use Rattle.orca_course.specs.Acts.Act.{Append, Give, Save, Screen, Show, Strike}
+use Rattle.orca_course.specs.Acts.Act.{Append, Begin, Give, Save, Screen, Show, Strike}
 use Rattle.orca_course.specs.Courses.{Course, course, each, ended, joined, mapped, onward, still}
 use Rattle.orca_course.specs.Performers.{Part}
 use Rattle.orca_course.specs.Standings.{Standing}
@@ -100,7 +100,7 @@ script_course name s = course (Save name (script_text s.setting.seed s.given) �
 
 -- it begins as a script does, with the line of the seed
 unfoldable pub header_course : List ℕ → LiveState → Course LiveState Stop
-header_course name s = course (Save name (printed_header s.setting.seed) ∷ []) 0 s
+header_course name s = course (Begin name (printed_header s.setting.seed) ∷ []) 0 s
 
 -- it begins, if one is kept
 unfoldable pub journal_course : LiveState → Course LiveState Stop

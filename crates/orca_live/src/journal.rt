@@ -40,15 +40,15 @@ pub(crate) fn begin_journal<M: Machine, H: House>(
         live.old desk.old (goes_of result) live.new desk.new }
 {
     match live.setting.journal {
-        Some(name) => save_header(live, desk, name),
+        Some(name) => begin_file(live, desk, name),
         None => Ok(()),
     }
 }
 
-/// Saves the first line of a script under a name. What an older file of this name held is gone
-/// then.
-#[tactic(auto, using(orca_course::proofs::DoingLemmas::does_nothing, orca_course::proofs::DoingLemmas::goes_err, crate::proofs::DoneLemmas::save_did), unfolding(crate::specs::Performing::header_course))]
-fn save_header<M: Machine, H: House>(
+/// Begins the file of a name with the first line of a script. What an older journal of this name
+/// held is gone then.
+#[tactic(auto, using(orca_course::proofs::DoingLemmas::does_nothing, orca_course::proofs::DoingLemmas::goes_err, crate::proofs::DoneLemmas::begin_did), unfolding(crate::specs::Performing::header_course))]
+fn begin_file<M: Machine, H: House>(
     live: &mut Live<'_, M>,
     desk: &mut Desk<H>,
     name: &str,
@@ -58,12 +58,12 @@ fn save_header<M: Machine, H: House>(
 {
     live.text.clear();
     print_header(live.setting.seed, &mut live.text)?;
-    desk.save(name, live.text.as_slice())
+    desk.begin(name, live.text.as_slice())
 }
 
 /// Adds the lines that wait to the journal, if one is kept. A failure is recorded, and the
 /// performance goes on: nothing is added after it, since files refuse what comes after a failed
-/// save or append of the same name.
+/// begin or append of the same name.
 #[tactic(auto, using(orca_course::proofs::WorldLemmas::called_still), unfolding(crate::specs::Performing::write_course))]
 pub(crate) fn write_journal<M: Machine, H: House>(
     live: &mut Live<'_, M>,

@@ -20,7 +20,7 @@ use orca_base::{Command, Look, Place, Port, Rule};
 use orca_course::{Desk, NoMemory, Stop};
 use orca_edit::Machine;
 use orca_jam::{Crew, Denial, LEADER};
-use orca_rig::House;
+use orca_rig::{Disk, House};
 use orca_term::{Around, Key, Pacer, ScreenSize, View, Wish};
 
 /// Keeps a command for the script, if one is saved at the end.
@@ -124,7 +124,7 @@ fn do_wish<M: Machine, H: House>(
         }
         Wish::Save => {
             let name = live.setting.key_name();
-            save_grid(live, desk, name)?;
+            save_grid(live, desk, name, Disk::NotAwaited)?;
             Ok(None)
         }
         Wish::Quit => Ok(Some(Stop::Left)),

@@ -11,7 +11,7 @@ use orca_base::{Command, Memory};
 use orca_course::{Desk, NoMemory};
 use orca_edit::Machine;
 use orca_grid::Grid;
-use orca_rig::House;
+use orca_rig::{Disk, House};
 use orca_script::print2;
 
 /// Saves the grid under a name. A save that fails is recorded, and the performance goes on.
@@ -20,6 +20,7 @@ pub(crate) fn save_grid<M: Machine, H: House>(
     live: &mut Live<'_, M>,
     desk: &mut Desk<H>,
     name: &str,
+    disk: Disk,
 ) -> Result<(), NoMemory>
     ensures { LiveDid M.Machine.own (save_course name.now)
         live.old desk.old (goes_of result) live.new desk.new }
@@ -27,7 +28,7 @@ pub(crate) fn save_grid<M: Machine, H: House>(
     live.stage.machine.is_shown();
     live.text.clear();
     Grid::print(&live.stage.machine, &mut live.text)?;
-    desk.save(name, live.text.as_slice())
+    desk.save(name, live.text.as_slice(), disk)
 }
 
 /// Saves the grid at the end, if it has a name.
@@ -40,7 +41,7 @@ pub(crate) fn save_last_grid<M: Machine, H: House>(
         live.old desk.old (goes_of result) live.new desk.new }
 {
     match live.setting.save {
-        Some(name) => save_grid(live, desk, name),
+        Some(name) => save_grid(live, desk, name, Disk::Awaited),
         None => Ok(()),
     }
 }
@@ -57,7 +58,7 @@ fn save_script<M: Machine, H: House>(
 {
     live.text.clear();
     print_script(live.setting.seed, &live.given, &mut live.text)?;
-    desk.save(name, live.text.as_slice())
+    desk.save(name, live.text.as_slice(), Disk::Awaited)
 }
 
 /// Saves the script of the commands at the end, if it has a name.

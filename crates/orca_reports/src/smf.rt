@@ -10,7 +10,7 @@ use orca_base::{Memory, Message, Reply, Rule};
 use orca_concert::{Outcome, Report};
 use orca_course::{Desk, NoMemory, Stop, Tally};
 use orca_edit::Machine;
-use orca_rig::House;
+use orca_rig::{Disk, House};
 use orca_smf::SmfFault;
 use std::alloc::Global;
 use std::marker::Model;
@@ -112,7 +112,7 @@ impl Report for SmfReport<'_> {
         };
         match song.finish(self.end) {
             Ok(file) => {
-                desk.save(self.out, file.as_slice())?;
+                desk.save(self.out, file.as_slice(), Disk::Awaited)?;
                 Ok(None)
             }
             Err(SmfFault::TooLong) => Ok(Some(Stop::SongTooLong)),

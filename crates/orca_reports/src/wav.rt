@@ -9,7 +9,7 @@ use orca_base::{Memory, Message, Reply, Rule};
 use orca_concert::{Outcome, Report};
 use orca_course::{Desk, NoMemory, Stop, Tally};
 use orca_edit::Machine;
-use orca_rig::House;
+use orca_rig::{Disk, House};
 use orca_wav::header;
 use orca_wav::limits::{HEADER_BYTES, MAX_WAVE_BYTES, SAMPLE_BYTES, SLOWEST_FRAME_SAMPLES};
 use std::alloc::Global;
@@ -153,7 +153,7 @@ impl Report for WavReport<'_> {
 
     fn save<H: House>(&mut self, desk: &mut Desk<H>) -> Result<Option<Stop>, NoMemory> {
         put_header(self.listener.samples(), &mut self.file);
-        desk.save(self.out, self.file.as_slice())?;
+        desk.save(self.out, self.file.as_slice(), Disk::Awaited)?;
         Ok(None)
     }
 }

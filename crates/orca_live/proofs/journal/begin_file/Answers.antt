@@ -1,11 +1,11 @@
 use Rattle.std.proofs.Common.{◌∙◌}
 use Rattle.orca_live.specs.Performing.{header_course}
-use Rattle.orca_live.proofs.DoneLemmas.{save_did}
-use Rattle.orca_live.proofs.journal.save_header.Goals as goal
+use Rattle.orca_live.proofs.DoneLemmas.{begin_did}
+use Rattle.orca_live.proofs.journal.begin_file.Goals as goal
 
 pub returns : goal.returns
 unfolding header_course
 returns g c =
-    save_did _ _ _ _ _ _
+    begin_did _ _ _ _ _ _
     (c.as_slice.ensures.value ∙ (rw c.clear.ensures.items at c.in_ok-print_header.ensures.ok))
-    c.save.ensures
+    c.begin.ensures
