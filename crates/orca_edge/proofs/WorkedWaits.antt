@@ -3,7 +3,7 @@ use Rattle.std.specs.Prelude.{◌≡◌, ◌+◌, ◌*◌, ◌<◌, refl}
 use Rattle.std.proofs.Common.{lit<}
 use Rattle.orca_edge.specs.declared.moments.TheConstants.{LEAD, LONGEST_STEP, NAP, MARGIN}
 use Rattle.orca_edge.specs.declared.room.TheConstants.{LONGEST_WAIT, LAST_WAIT, REST, TERMINAL_PIECE, PIPE_PIECE, DEVICE_PIECE}
-use Rattle.orca_edge.specs.declared.saving.TheConstants.{MAX_LINKS, MAX_NAMES, PRIVATE, PUBLIC}
+use Rattle.orca_edge.specs.declared.fresh.TheConstants.{MAX_LINKS, MAX_NAMES, PRIVATE, PUBLIC}
 use Rattle.orca_edge.specs.declared.whole.TheConstants.{PIECE_BYTES}
 
 -- before a moment, in microseconds

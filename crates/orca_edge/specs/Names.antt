@@ -1,12 +1,13 @@
 -- Names of files, and of what hands are heard over.
-use Rattle.std.specs.Prelude.{ℕ, ◌-◌, ◌≡◌, ◌≤◌, nat_lt, Bool, true, false, if◌then◌else◌, List, [], ◌∷◌, ◌==◌, ◌||◌, not, fold, length, replicate, Option, Some, None, option_and_then}
+use Rattle.std.specs.Prelude.{ℕ, ◌-◌, ◌≡◌, ◌≤◌, nat_lt, codes, take, Bool, true, false, if◌then◌else◌, List, [], ◌∷◌, ◌==◌, ◌||◌, not, fold, length, replicate, Option, Some, None, option_and_then}
 use Rattle.std.specs.List.{list_any}
 use Rattle.std.specs.Option.{is_some, unwrap_or}
+use Rattle.std.specs.Str.{bytes_eq}
 use Rattle.std.specs.Path.{path_join, path_parent, path_with_file_name, rsplit_once}
 use Rattle.orca_edge.specs.declared.hands.Hand.{Hand}
 use Rattle.orca_edge.specs.declared.real_inbox.Source.{Source}
 use Rattle.orca_edge.specs.declared.real_inbox.Source.TheVariants as source
-use Rattle.orca_edge.specs.declared.saving.TheConstants.{MAX_LINKS}
+use Rattle.orca_edge.specs.declared.fresh.TheConstants.{MAX_LINKS}
 
 -- a name with a slash (47), or without a colon (58), is that of a file; any other is an address
 abbrev pub names_file : List ℕ → Bool
@@ -50,3 +51,8 @@ LeadsTo name path =
 abbrev pub IsBeside : List ℕ → List ℕ → List ℕ → Type 0
 IsBeside fresh kept target =
     (kept ≡ target) × ((name : List ℕ) × (fresh ≡ path_with_file_name target name))
+
+-- whether a journal may take the place of a file that holds this: of nothing, and of an older journal,
+-- which begins as each script does
+abbrev pub gives_way : List ℕ → Bool
+gives_way held = length held == 0 || bytes_eq (take 6 held) (codes "!orca ")

@@ -1,12 +1,13 @@
 //! The streams of the hands, the turns over them, and the waits between the turns.
 
-ghost use Rattle.std.specs.Prelude.{◌≡◌, ◌≤◌, ◌<◌, ◌+◌, ◌++◌, ◌∷◌, [], nat_le, true, false, None, if◌then◌else◌, IfOk, OnOk, length};
+ghost use Rattle.std.specs.Prelude.{◌≡◌, ◌≤◌, ◌<◌, ◌+◌, ◌++◌, ◌∷◌, [], min, nat_le, true, false, None, if◌then◌else◌, IfOk, OnOk, length};
 ghost use Rattle.std.specs.List.{list_any};
 ghost use Rattle.std.specs.Option.{option_map_or};
 ghost use Rattle.std.specs.Io.KnownBytes.{Consumes};
 ghost use Rattle.orca_base.specs.declared.limits.TheConstants.{ARRIVAL_BYTES};
 ghost use Rattle.orca_rig.specs.Arrived.{MayAnswer};
-ghost use Rattle.orca_edge.specs.Heard.{IsPieceOf, IsPiece, piece_bytes, hand_bytes, turn_bytes, AreHeard, IsHandTurn, IsNext, IsNextAfter, TellsRead, state_after, hand_turn, is_open, is_broken, last_turn};
+ghost use Rattle.orca_rig.specs.Outside.{last_count};
+ghost use Rattle.orca_edge.specs.Heard.{IsPieceOf, IsPiece, piece_bytes, hand_bytes, turn_bytes, is_moment, AreHeard, IsHandTurn, IsNext, IsNextAfter, TellsRead, state_after, hand_turn, is_open, is_broken, last_turn};
 
 use crate::moments::{FOREVER, Wait, Watch, has_come, milliseconds, wait_of};
 use crate::whole::{TRIES, status_of};
@@ -34,6 +35,8 @@ pub(crate) struct Hands<S> {
     hands: Vec<Hand<S>>,
     /// The hand that is read next.
     next: u8,
+    /// How often a hand was read in the wait that was begun last.
+    reads: u64,
 }
 
 /// What a hand is heard over, and how that stands.
@@ -160,6 +163,7 @@ impl<S: Read> Hands<S> {
         Ok(Hands {
             hands: Vec::with_capacity(alloc, usize::from(count))?,
             next: 0,
+            reads: 0,
         })
     }
 
@@ -196,12 +200,17 @@ impl<S: Read> Hands<S> {
             → IsNext self.old.next self.new.next (length self.old.hands.items) }
         ensures waits { option_map_or (λ moment. nat_le moment now) due false ≡ true
             → self.new.next ≡ self.old.next }
+        ensures read { option_map_or (λ moment. nat_le moment now) due false ≡ false
+            → self.new.reads ≡ min (self.old.reads + 1) last_count }
+        ensures unread { option_map_or (λ moment. nat_le moment now) due false ≡ true
+            → self.new.reads ≡ self.old.reads }
         ensures heard { AreHeard S.remaining self.old.hands.items self.new.hands.items
             (λ hand. turn_bytes hand result bytes.new) }
     {
         if has_come(due, now) {
             return Glance::Answered(Answer::Due { at: now });
         }
+        self.reads = self.reads.saturating_add(1);
         let number = self.next;
         self.next = hand_after(number, self.hands.len());
         let Some(hand) = self.hands.get_mut(usize::from(number)) else {
@@ -266,10 +275,14 @@ impl<S: Read + AsRawFd> Hands<S> {
         bytes: &mut [u8; ARRIVAL_BYTES],
     ) -> Answer
         ensures answer { MayAnswer until clock.now.last result }
+        // A moment follows a moment only once as many reads as there are hands found nothing.
+        ensures patient { was_due ≡ true → is_moment result ≡ true
+            → length self.old.hands.items ≤ self.new.reads }
         ensures next { IsNextAfter result self.new.next (length self.old.hands.items) }
         ensures heard { AreHeard S.remaining self.old.hands.items self.new.hands.items
             (λ hand. hand_bytes hand result bytes.new) }
     {
+        self.reads = 0;
         let mut due = first_due(was_due, until);
         let mut unread = self.len();
         for _ in 0..TRIES {

@@ -2,8 +2,9 @@
 //! the traits of orca_rig.
 #![tactic(auto)]
 
-mod appending;
+mod fresh;
 mod hands;
+mod journal;
 mod moments;
 mod owed;
 mod real_files;

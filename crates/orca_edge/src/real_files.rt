@@ -1,22 +1,46 @@
-ghost use Rattle.std.specs.Prelude.{◌≡◌, ◌<◌, ◌≤◌, None, false, ℕ, List, length, string_bytes, vec_len, vec_capacity, IfOk, OnOk, OnErr, IsErr, IsErrOf};
+ghost use Rattle.std.specs.Prelude.{◌≡◌, ◌<◌, ◌≤◌, None, false, ℕ, List, length, position, string_bytes, vec_len, vec_capacity, IfOk, OnOk, OnErr, IsErr, IsErrOf};
+ghost use Rattle.std.specs.Str.{bytes_eq};
 ghost use Rattle.orca_base.specs.declared.limits.TheConstants.{MAX_FILE_BYTES};
-ghost use Rattle.orca_rig.specs.Saved.{is_spoilt, names_of};
+ghost use Rattle.orca_rig.specs.Saved.{is_spoilt, names_of, spoilt_after};
 
-use crate::appending::append_file;
+use crate::fresh::sync_saved;
+use crate::journal::{append_file, begin_file};
 use crate::saving::save_file;
 use crate::whole::read_whole;
-use orca_rig::{Files, OutsideFault, count_failure, is_spoilt, keep_spoilt};
+use orca_rig::{Disk, Files, Misses, OutsideFault, is_spoilt, keep_spoilt, put_name};
+use std::fs::OpenFile;
+use std::io::Write;
 use std::os::fd::{AsRawFd, IntoRawFd};
 use std::rt::Clock;
 use std::{fs, rt};
 
 /// The files of the system. It tells nothing of what they hold.
-#[derive(Drop)]
-pub struct RealFiles<'a, R> {
+pub struct RealFiles<'a, R: rt::Files + AllocGlobal> {
     rt: &'a R,
-    failed: u64,
-    /// The names of the files of which a save or an append has failed.
+    misses: Misses,
+    /// The names of the files of which a save, a begin or an append has failed.
     spoilt: Vec<String>,
+    /// The names of the files that were saved, and the disk was not awaited.
+    unsynced: Vec<String>,
+    /// The files that were begun, open to be added to, each with its name.
+    begun: Vec<(String, R::File)>,
+}
+
+impl<R: rt::Files + AllocGlobal> Drop for RealFiles<'_, R> {
+    /// At the end the disk is awaited for what was saved before without that. Nobody is left who
+    /// could be told of a failure.
+    fn drop(self) {
+        let RealFiles {
+            rt,
+            misses: _,
+            spoilt: _,
+            unsynced,
+            begun: _,
+        } = self;
+        for name in &unsynced {
+            let _ = sync_saved(rt, name);
+        }
+    }
 }
 
 impl<R: rt::Files + AllocGlobal + Clock> RealFiles<'_, R>
@@ -26,28 +50,115 @@ where
     /// The files that the runtime reaches.
     pub fn new(rt: &R) -> RealFiles<'_, R>
         ensures faults { ⟦<RealFiles<'static, R> as Files>⟧.faults result ≡ 0 }
+        ensures wants { ⟦<RealFiles<'static, R> as Files>⟧.wants result ≡ 0 }
         ensures spoilt { (name : List ℕ)
             → ⟦<RealFiles<'static, R> as Files>⟧.spoilt result name ≡ false }
     {
         RealFiles {
             rt,
-            failed: 0,
+            misses: Misses::none(),
             spoilt: Vec::new(rt.alloc()),
+            unsynced: Vec::new(rt.alloc()),
+            begun: Vec::new(rt.alloc()),
         }
+    }
+
+    /// Does a save. Nothing is counted.
+    fn keep(&mut self, name: &str, bytes: &[u8], disk: Disk) -> Result<(), OutsideFault>
+        ensures spoilt { (file : List ℕ) → is_spoilt (names_of self.new.spoilt.items) file
+            ≡ spoilt_after result name.now file (is_spoilt (names_of self.old.spoilt.items) file) }
+        ensures misses { self.new.misses ≡ self.old.misses }
+    {
+        let held = make_room(&mut self.spoilt, name)?;
+        let later = make_room(&mut self.unsynced, name)?;
+        let done = save_file(self.rt, name, bytes, disk);
+        if let (Ok(()), Disk::NotAwaited) = (done, disk) {
+            put_name(&mut self.unsynced, later);
+        }
+        keep_spoilt(&mut self.spoilt, held, done)
+    }
+
+    /// Does a begin. Nothing is counted.
+    fn begin_anew(&mut self, name: &str, bytes: &[u8]) -> Result<(), OutsideFault>
+        ensures spoilt { (file : List ℕ) → is_spoilt (names_of self.new.spoilt.items) file
+            ≡ spoilt_after result name.now file (is_spoilt (names_of self.old.spoilt.items) file) }
+        ensures misses { self.new.misses ≡ self.old.misses }
+    {
+        let held = make_room(&mut self.spoilt, name)?;
+        let own = String::from_str(*self.begun.allocator(), name)?;
+        self.begun.reserve(1)?;
+        let done = self.open(own, bytes);
+        keep_spoilt(&mut self.spoilt, held, done)
+    }
+
+    /// Begins the file of that name, and keeps it open. There is room for it.
+    fn open(&mut self, name: String, bytes: &[u8]) -> Result<(), OutsideFault>
+        requires { vec_len self.old.begun < vec_capacity self.old.begun }
+        ensures spoilt { self.new.spoilt ≡ self.old.spoilt }
+        ensures misses { self.new.misses ≡ self.old.misses }
+    {
+        let file = begin_file(self.rt, name.as_str(), bytes)?;
+        put_begun(&mut self.begun, name, file);
+        Ok(())
+    }
+
+    /// Does an append. Nothing is counted.
+    fn add(&mut self, name: &str, bytes: &[u8]) -> Result<(), OutsideFault>
+        ensures spoilt { (file : List ℕ) → is_spoilt (names_of self.new.spoilt.items) file
+            ≡ spoilt_after result name.now file (is_spoilt (names_of self.old.spoilt.items) file) }
+        ensures misses { self.new.misses ≡ self.old.misses }
+        ensures whole { OnOk result (is_spoilt (names_of self.old.spoilt.items) name.now ≡ false) }
+    {
+        let held = make_room(&mut self.spoilt, name)?;
+        let done = if is_spoilt(&self.spoilt, name) {
+            Err(OutsideFault::Failed)
+        } else {
+            append_begun(&mut self.begun, name, bytes)
+        };
+        keep_spoilt(&mut self.spoilt, held, done)
     }
 }
 
-/// Makes room for one more name among those of the spoilt files, and gives the name. So a call that
-/// fails later has the memory to say so.
-fn make_room(spoilt: &mut Vec<String>, name: &str) -> Result<String, OutsideFault>
+/// Makes room for one more name, and gives the name. So a call that was made has the memory to keep
+/// it.
+fn make_room(names: &mut Vec<String>, name: &str) -> Result<String, OutsideFault>
     ensures named { IfOk result (λ held. string_bytes held ≡ name.now) }
-    ensures room { OnOk result (vec_len spoilt.new < vec_capacity spoilt.new) }
-    ensures same { spoilt.new.items ≡ spoilt.old.items }
+    ensures room { OnOk result (vec_len names.new < vec_capacity names.new) }
+    ensures same { names.new.items ≡ names.old.items }
     ensures memory { IsErr result → IsErrOf result OutsideFault.Memory }
 {
-    let held = String::from_str(*spoilt.allocator(), name)?;
-    spoilt.reserve(1)?;
+    let held = String::from_str(*names.allocator(), name)?;
+    names.reserve(1)?;
     Ok(held)
+}
+
+/// The place of the first file of that name.
+fn place_of<F>(begun: &[(String, F)], name: &str) -> Option<usize>
+    ensures { result ≡ position (λ file. bytes_eq name.now (string_bytes file.0)) begun.now }
+{
+    begun.iter().position(|file| name == file.0.as_str())
+}
+
+/// Keeps a file that was begun, in place of an older one of its name. There is room for it.
+fn put_begun<F: Drop>(begun: &mut Vec<(String, F)>, name: String, file: F)
+    requires { vec_len begun.old < vec_capacity begun.old }
+{
+    match place_of(begun, name.as_str()) {
+        Some(place) => begun[place].1 = file,
+        None => begun.push_reserved((name, file)),
+    }
+}
+
+/// Adds the bytes to the file of that name that was begun; where none was, that is a failure.
+fn append_begun<F: Write + OpenFile>(
+    begun: &mut [(String, F)],
+    name: &str,
+    bytes: &[u8],
+) -> Result<(), OutsideFault> {
+    match place_of(begun, name) {
+        Some(place) => append_file(&mut begun[place].1, bytes),
+        None => Err(OutsideFault::Failed),
+    }
 }
 
 impl<R: rt::Files + AllocGlobal + Clock> Files for RealFiles<'_, R>
@@ -58,14 +169,16 @@ where
 
     ghost asked = { λ _. None };
 
-    ghost faults = { λ f. f.failed };
+    ghost faults = { λ f. f.misses.faults };
+
+    ghost wants = { λ f. f.misses.wants };
 
     ghost spoilt = { λ f. is_spoilt (names_of f.spoilt.items) };
 
     /// A missing file, a directory, one that cannot be read and one that is too long are failures.
     fn load(&mut self, name: &str, into: &mut Vec<u8>) -> Result<(), OutsideFault> {
         let done = load_file(self.rt, name, into);
-        count_failure(&mut self.failed, done)
+        self.misses.count(done)
     }
 
     /// Replaces the file whole, or leaves it as it was: the bytes go to a new file in the same
@@ -85,27 +198,41 @@ where
     /// disk that is full. The new file is removed then. If the program is killed in the middle, the
     /// file is as it was, and the new one stays as `.orca-save-` and a number.
     ///
-    /// Nothing waits for the disk. After a power cut the file may hold the old bytes or the new
-    /// ones, and on some file systems a part of them.
-    fn save(&mut self, name: &str, bytes: &[u8]) -> Result<(), OutsideFault> {
-        let held = make_room(&mut self.spoilt, name)?;
-        let done = save_file(self.rt, name, bytes);
-        let done = keep_spoilt(&mut self.spoilt, held, done);
-        count_failure(&mut self.failed, done)
+    /// Where the disk is awaited, it has the new file before that takes the name, and the name
+    /// before the save has ended. So a power cut leaves the old bytes or the new ones, and the new
+    /// ones once the save has ended. Where it is not, the file may hold the old bytes or the new
+    /// ones after a power cut, and on some file systems a part of them, until these files are
+    /// dropped: then the disk is awaited. A device and a pipe are only written.
+    fn save(&mut self, name: &str, bytes: &[u8], disk: Disk) -> Result<(), OutsideFault> {
+        let done = self.keep(name, bytes, disk);
+        self.misses.count(done)
     }
 
-    /// Only a plain file is added to; a folder, a device, a pipe and a missing file are failures.
-    /// The file is opened anew each time, so one that was replaced meanwhile is added to under its
-    /// name.
+    /// Makes the file anew, as a save does that waits for the disk, and keeps it open. What it may
+    /// take the place of:
+    ///
+    /// | what stands under the name | what is done |
+    /// |---|---|
+    /// | nothing | a file is made |
+    /// | an empty file, or one that begins with `!orca `, as each journal does | it is replaced |
+    /// | any other file, as a piece | the begin fails |
+    /// | a folder, a pipe, a device, a socket | the begin fails, and it is not opened |
+    /// | a file that may not be read or not be written | the begin fails |
+    /// | a symbolic link | what it leads to decides |
+    ///
+    /// What a begin may not take the place of is as it was.
+    fn begin(&mut self, name: &str, bytes: &[u8]) -> Result<(), OutsideFault> {
+        let done = self.begin_anew(name, bytes);
+        self.misses.count(done)
+    }
+
+    /// Adds to the file that was begun, whatever has its name by now: a file that has taken the name
+    /// since is left as it is. An append to a name that was not begun is a failure, and so is one to
+    /// a file that has no name any more, since nobody could find what is added. Nothing waits for
+    /// the disk.
     fn append(&mut self, name: &str, bytes: &[u8]) -> Result<(), OutsideFault> {
-        let held = make_room(&mut self.spoilt, name)?;
-        let done = if is_spoilt(&self.spoilt, name) {
-            Err(OutsideFault::Failed)
-        } else {
-            append_file(self.rt, name, bytes)
-        };
-        let done = keep_spoilt(&mut self.spoilt, held, done);
-        count_failure(&mut self.failed, done)
+        let done = self.add(name, bytes);
+        self.misses.count(done)
     }
 }
 

@@ -1,6 +1,6 @@
 ghost use Rattle.std.specs.Prelude.{◌≡◌, ◌≢◌, ◌≤◌, ◌<◌, ◌+◌, ◌++◌, ◌∷◌, [], true, false, None, length, map, replicate, IfOk, OnOk, OnErr, IfSome, IsErrOf, IsSomeAnd};
 ghost use Rattle.std.specs.Option.{option_map};
-ghost use Rattle.orca_rig.specs.Outside.{Rose};
+ghost use Rattle.orca_rig.specs.Outside.{Rose, wants_after};
 ghost use Rattle.orca_rig.specs.Arrived.{moment_after, is_ending};
 ghost use Rattle.orca_edge.specs.Heard.{is_moment};
 ghost use Rattle.orca_edge.specs.Names.{names_file, file_and_address, are_of_files, is_of_file};
@@ -10,7 +10,7 @@ use crate::hands::Hands;
 use crate::moments::{Watch, microseconds};
 use crate::whole::{TRIES, status_of, unless_interrupted};
 use orca_base::limits::{ARRIVAL_BYTES, MAX_HANDS};
-use orca_rig::{Answer, Inbox, Outs, OutsideFault, count_failure};
+use orca_rig::{Answer, Inbox, Misses, Outs, OutsideFault};
 use std::io::{ErrorKind, Read};
 use std::net::{Net, OpenListener, TcpListener, TcpStream};
 use std::os::fd::{AsRawFd, RawFd};
@@ -90,7 +90,7 @@ pub struct RealInbox<'a, R: Net + rt::Files> {
     was_due: bool,
     listened: bool,
     ended: bool,
-    failed: u64,
+    misses: Misses,
 }
 
 impl<R> RealInbox<'_, R>
@@ -103,6 +103,7 @@ where
         ensures listened { ⟦<RealInbox<'static, R> as Inbox>⟧.listened result ≡ false }
         ensures ended { ⟦<RealInbox<'static, R> as Inbox>⟧.ended result ≡ false }
         ensures faults { ⟦<RealInbox<'static, R> as Inbox>⟧.faults result ≡ 0 }
+        ensures wants { ⟦<RealInbox<'static, R> as Inbox>⟧.wants result ≡ 0 }
     {
         let (origin, last) = (0, 0);
         RealInbox {
@@ -112,7 +113,7 @@ where
             was_due: false,
             listened: false,
             ended: false,
-            failed: 0,
+            misses: Misses::none(),
         }
     }
 
@@ -123,6 +124,7 @@ where
         ensures listened { ⟦<RealInbox<'static, R> as Inbox>⟧.listened result ≡ false }
         ensures ended { ⟦<RealInbox<'static, R> as Inbox>⟧.ended result ≡ false }
         ensures faults { ⟦<RealInbox<'static, R> as Inbox>⟧.faults result ≡ 0 }
+        ensures wants { ⟦<RealInbox<'static, R> as Inbox>⟧.wants result ≡ 0 }
     {
         let mut inbox = RealInbox::new(rt);
         inbox.bound = Some(bound);
@@ -139,7 +141,7 @@ where
         ensures last { self.new.clock.last ≡ self.old.clock.last }
         ensures listened { self.new.listened ≡ self.old.listened }
         ensures ended { self.new.ended ≡ self.old.ended }
-        ensures failed { self.new.failed ≡ self.old.failed }
+        ensures misses { self.new.misses ≡ self.old.misses }
     {
         let rt = self.clock.rt;
         let mut opened = Hands::new(rt.alloc(), hands)?;
@@ -155,15 +157,20 @@ where
         ensures due { self.new.was_due ≡ is_moment answer }
         ensures ended { self.new.ended ≡ is_ending answer }
         ensures listened { self.new.listened ≡ self.old.listened }
-        ensures count { self.old.failed ≤ self.new.failed }
-        ensures failed { answer ≡ Answer.Failed → Rose self.old.failed self.new.failed }
-        ensures steady { answer ≢ Answer.Failed → self.new.failed ≡ self.old.failed }
+        ensures count { self.old.misses.faults ≤ self.new.misses.faults }
+        ensures failed { answer ≡ Answer.Failed
+            → Rose self.old.misses.faults self.new.misses.faults }
+        ensures steady { answer ≢ Answer.Failed
+            → self.new.misses.faults ≡ self.old.misses.faults }
+        ensures wants { self.new.misses.wants ≡ self.old.misses.wants }
     {
         self.was_due = matches!(answer, Answer::Due { .. });
         self.ended = matches!(answer, Answer::End | Answer::Failed);
         match answer {
             Answer::Bytes { at, .. } | Answer::Due { at } => self.clock.last = at,
-            Answer::Failed => self.failed = self.failed.saturating_add(1),
+            Answer::Failed => {
+                self.misses.faults = self.misses.faults.saturating_add(1);
+            }
             Answer::End => {}
         }
     }
@@ -182,7 +189,9 @@ where
 
     ghost ended = { λ i. i.ended };
 
-    ghost faults = { λ i. i.failed };
+    ghost faults = { λ i. i.misses.faults };
+
+    ghost wants = { λ i. i.misses.wants };
 
     /// Opens the file, where the name says one, and waits until as many have connected to the
     /// address as there are other hands. Then it accepts nobody else. The moment of the start is 0.
@@ -195,11 +204,13 @@ where
         ensures unanswered { OnErr result (self.new.clock.last ≡ self.old.clock.last) }
         ensures listened { self.new.listened ≡ true }
         ensures ended { self.new.ended ≡ self.old.ended }
-        ensures count { self.old.failed ≤ self.new.failed }
-        ensures failed { IsErrOf result OutsideFault.Failed → Rose self.old.failed self.new.failed }
-        ensures steady { OnOk result (self.new.failed ≡ self.old.failed) }
+        ensures count { self.old.misses.faults ≤ self.new.misses.faults }
+        ensures failed { IsErrOf result OutsideFault.Failed
+            → Rose self.old.misses.faults self.new.misses.faults }
+        ensures steady { OnOk result (self.new.misses.faults ≡ self.old.misses.faults) }
         ensures steady_memory { IsErrOf result OutsideFault.Memory
-            → self.new.failed ≡ self.old.failed }
+            → self.new.misses.faults ≡ self.old.misses.faults }
+        ensures wants { self.new.misses.wants ≡ wants_after result self.old.misses.wants }
 
         ensures hands { OnOk result (IsSomeAnd self.new.hands (λ opened.
             length opened.hands.items ≡ hands)) }
@@ -209,7 +220,7 @@ where
     {
         self.listened = true;
         let opened = self.open(name, hands);
-        count_failure(&mut self.failed, opened)?;
+        self.misses.count(opened)?;
         Ok(self.clock.last)
     }
 

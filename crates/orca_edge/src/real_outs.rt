@@ -9,7 +9,7 @@ use crate::sinks::{Output, Sink};
 use crate::whole::{TRIES, unless_interrupted};
 use libc::{STDERR_FILENO, STDOUT_FILENO};
 use orca_base::Port;
-use orca_rig::{Outs, OutsideFault, count_failure};
+use orca_rig::{Misses, Outs, OutsideFault};
 use std::fs::OpenOptions;
 use std::io::ErrorKind;
 use std::net::{Ipv4Addr, Ipv6Addr, Net, SocketAddr, ToSocketAddrs, UdpSocket};
@@ -61,7 +61,7 @@ pub struct RealOuts<'a, R: rt::Files + Clock> {
     midi: Option<Sink<R::File>>,
     udp: Option<Peer>,
     osc: Option<Peer>,
-    failed: u64,
+    misses: Misses,
 }
 
 impl<R: rt::Files + Clock> Drop for RealOuts<'_, R> {
@@ -74,7 +74,7 @@ impl<R: rt::Files + Clock> Drop for RealOuts<'_, R> {
             midi,
             udp: _,
             osc: _,
-            failed: _,
+            misses: _,
         } = self;
         if let Some(mut sink) = midi {
             let _ = sink.send_last(&Patience::last(rt));
@@ -103,6 +103,7 @@ where
     /// The outputs that the runtime reaches. No port is attached.
     pub fn new(rt: &R) -> RealOuts<'_, R>
         ensures faults { ⟦<RealOuts<'static, R> as Outs>⟧.faults result ≡ 0 }
+        ensures wants { ⟦<RealOuts<'static, R> as Outs>⟧.wants result ≡ 0 }
     {
         RealOuts {
             rt,
@@ -111,13 +112,13 @@ where
             midi: None,
             udp: None,
             osc: None,
-            failed: 0,
+            misses: Misses::none(),
         }
     }
 
     /// Attaches the port, in place of what it was attached to. After a fault it is unattached.
     fn connect(&mut self, port: Port, name: &str) -> Result<(), OutsideFault>
-        ensures failed { self.new.failed ≡ self.old.failed }
+        ensures misses { self.new.misses ≡ self.old.misses }
         ensures midi { port ≡ Port.Midi → (IsSome self.new.midi ↔ IsOk result) }
         ensures udp { port ≡ Port.Udp → (IsSome self.new.udp ↔ IsOk result) }
         ensures osc { port ≡ Port.Osc → (IsSome self.new.osc ↔ IsOk result) }
@@ -146,7 +147,7 @@ where
     /// Sends the bytes where the port goes. They are dropped where it is not attached. The ends of
     /// notes that Midi is owed go first.
     fn write(&mut self, port: Port, bytes: &[u8]) -> Result<(), OutsideFault>
-        ensures failed { self.new.failed ≡ self.old.failed }
+        ensures misses { self.new.misses ≡ self.old.misses }
         ensures midi { port ≡ Port.Midi
             → OnOk result (Takes R.File.contents self.old.midi self.new.midi bytes.now) }
         ensures midi_whole { port ≡ Port.Midi
@@ -196,7 +197,9 @@ where
 
     ghost sent = { λ _. 0 };
 
-    ghost faults = { λ o. o.failed };
+    ghost faults = { λ o. o.misses.faults };
+
+    ghost wants = { λ o. o.misses.wants };
 
     /// Midi is attached to a file, a named pipe or a device file, which is opened for writing: a
     /// plain file is created or emptied. A pipe that nobody reads waits here until somebody does,
@@ -211,7 +214,7 @@ where
     /// unattached, also where it was attached before.
     fn attach(&mut self, port: Port, name: &str) -> Result<(), OutsideFault> {
         let done = self.connect(port, name);
-        count_failure(&mut self.failed, done)
+        self.misses.count(done)
     }
 
     /// Text for the standard error that is no UTF-8 is a failure. So are a datagram that was cut or is
@@ -220,7 +223,7 @@ where
     /// system does not tell.
     fn send(&mut self, port: Port, bytes: &[u8]) -> Result<(), OutsideFault> {
         let done = self.write(port, bytes);
-        count_failure(&mut self.failed, done)
+        self.misses.count(done)
     }
 
     fn sent(&self) -> u64 {

@@ -3,7 +3,7 @@ use Rattle.std.specs.Prelude.{fold}
 use Rattle.std.proofs.lemmas.List.Sums.{fold-append}
 use Rattle.std.specs.Path.{path_buf_bytes}
 use Rattle.orca_edge.specs.Names.{behind}
-use Rattle.orca_edge.proofs.saving.target_of.Goals as goal
+use Rattle.orca_edge.proofs.fresh.target_of.Goals as goal
 
 -- one link more
 leads_on : (name path link after : List ℕ) (links : List (List ℕ))

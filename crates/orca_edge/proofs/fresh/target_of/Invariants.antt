@@ -2,7 +2,7 @@ use Rattle.std.proofs.Common.{◌≡◌, ◌≤◌, ℕ, List, length}
 use Rattle.std.specs.Prelude.{fold}
 use Rattle.std.specs.Path.{path_buf_bytes}
 use Rattle.orca_edge.specs.Names.{behind}
-use Rattle.orca_edge.proofs.saving.target_of.Given as goal
+use Rattle.orca_edge.proofs.fresh.target_of.Given as goal
 
 -- the path is where the links so far lead
 abbrev pub invariant-loop-followed : goal.invariant-loop-followed
