@@ -246,11 +246,11 @@ find_room() {
     return 1
 }
 
-# look_for_room: a performance whose edits are not saved is not played over. What was killed as it began has left half a room.
+# look_for_room: a performance whose edits are not saved is not played over. One killed as it began may have left half a room.
 look_for_room() {
     local edits
     for room in "${rooms[@]}"; do
-        find "$room"-?????? -maxdepth 0 -user "$EUID" -mmin +1 -exec rm -rf -- {} + 2>/dev/null || true
+        find "$room"-?????? -maxdepth 0 -user "$EUID" -mmin +1 ! -exec test -e {}/of \; -exec rm -rf -- {} + 2>/dev/null || true
     done
     if find_room; then
         count_edits "$script"
