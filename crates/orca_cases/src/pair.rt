@@ -1,6 +1,6 @@
 //! A live board with a plain board beside it. After each step the two have to be one.
 
-ghost use Rattle.std.specs.Prelude.{◌≡◌, ◌<◌, IsTrue};
+ghost use Rattle.std.specs.Prelude.{◌≡◌, ◌<◌, ◌↔◌, IsTrue};
 ghost use Rattle.orca_base.specs.Areas.{IsArea};
 
 use crate::answer::{Answer, Form};
@@ -173,7 +173,7 @@ fn edit<L: Ledger>(
 
 /// Whether a block lies in a grid of this size, and isn't empty.
 fn is_area(dims: Dims, area: Area) -> bool
-    ensures { IsTrue result → IsArea dims area }
+    ensures { IsTrue result ↔ IsArea dims area }
 {
     area.h >= 1
         && area.w >= 1
