@@ -288,8 +288,9 @@ fn lay_row(cells: &mut [Glyph], live: &mut LiveBits, first: usize, glyphs: &[Gly
     ensures live { AreLive cells.new live.new }
 {
     for k in 0..glyphs.len() {
-        glyphs[k].put(cells, first + k);
-        live.set(first + k, glyphs[k].is_operator());
+        // Most cells of a grid are empty, as they were, and their bits are off.
+        let old = cells[first + k];
+        renew(cells, live, first + k, old, glyphs[k]);
     }
 }
 
@@ -323,8 +324,8 @@ fn wipe_row(cells: &mut [Glyph], live: &mut LiveBits, first: usize, count: usize
     ensures live { AreLive cells.new live.new }
 {
     for i in first..first + count {
-        cells[i] = Glyph::EMPTY;
-        live.set(i, false);
+        let old = cells[i];
+        renew(cells, live, i, old, Glyph::EMPTY);
     }
 }
 

@@ -1,9 +1,9 @@
 -- The row and the column of a byte, and the first offence, from one place to the next.
-use Rattle.std.proofs.Common.{length, take, ◌≡◌, ℕ, ◌+◌, ◌≤◌, ◌<◌, Bool, true, false, not, cond, List, [], ◌∷◌, ◌++◌, get_or, zero, suc, Some, None, inl, inr, refl, ap, arith, add-one, add-zero, add-suc}
+use Rattle.std.proofs.Common.{length, take, ◌≡◌, ℕ, ◌+◌, ◌≤◌, ◌<◌, Bool, true, false, not, cond, List, [], ◌∷◌, ◌++◌, get_or, zero, suc, Some, None, inl, inr, refl, ap, sym, ◌∙◌, ◌&&◌, arith, add-one, add-zero, add-suc}
 use Rattle.std.specs.List.{after_last, suffix_len, prefix_len}
 use Rattle.std.proofs.lemmas.Bool.Decides.{nat_tests}
-use Rattle.std.specs.Prelude.{if◌then◌else◌}
-use Rattle.std.proofs.lemmas.Bool.{cases_Bool}
+use Rattle.std.specs.Prelude.{if◌then◌else◌, nat_lt}
+use Rattle.std.proofs.lemmas.Bool.{both_ways, cases_Bool, lt-ltb, ltb-true}
 use Rattle.std.proofs.lemmas.Grind.{common_steps}
 use Rattle.std.proofs.lemmas.List.{take_more, reverse-append, drop_all, drop-append-le, length_push}
 use Rattle.orca_base.specs.declared.limits.TheConstants.{MAX_ROWS, MAX_COLUMNS}
@@ -50,6 +50,50 @@ none-offends text i e =
 pub offence-none : (text : List ℕ) (i : ℕ) → DoesNotOffend text i → offence text i ≡ None
 unfolding offence
 offence-none text i h = grind (arith, nat_tests)
+
+-- what the test of a cell with room says
+pub free_of : (byte height column : ℕ)
+    → (is_cell byte && nat_lt column MAX_COLUMNS && nat_lt height MAX_ROWS) ≡ true
+    → (is_cell byte ≡ true) × (column < MAX_COLUMNS) × (height < MAX_ROWS)
+free_of byte height column all =
+    let each = each_of _ _ _ all in
+    (each.0, ltb-true column MAX_COLUMNS each.1, ltb-true height MAX_ROWS each.2)
+  where
+    each_of : (a b c : Bool) → (a && b && c) ≡ true → (a ≡ true) × (b ≡ true) × (c ≡ true)
+    each_of true true c is = (refl, refl, is)
+    each_of true false c is = cc
+    each_of false b c is = cc
+
+-- a cell of a row that has room for it
+pub cell-free : (text : List ℕ) (i height column : ℕ) → height + 1 ≡ row_at text i
+    → column ≡ column_at text i → is_cell (get_or text i 0) ≡ true → column < MAX_COLUMNS
+    → height < MAX_ROWS → offence text i ≡ None
+cell-free text i height column row at cell room high =
+    offence-none text i (record {
+      row = omega (arith, row, high);
+      good = rw cell refl;
+      column = λ is full. omega (arith, at, full, room);
+    })
+
+-- a byte that does not offend is a cell only where its row has room
+pub no-cell : (text : List ℕ) (i height column : ℕ) → height + 1 ≡ row_at text i
+    → column ≡ column_at text i → column ≤ MAX_COLUMNS → offence text i ≡ None
+    → (is_cell (get_or text i 0) && nat_lt column MAX_COLUMNS && nat_lt height MAX_ROWS) ≡ false
+    → is_cell (get_or text i 0) ≡ false
+no-cell text i height column row at few good crowded =
+    let free = none-offends text i good in
+    elim (cases_Bool (is_cell (get_or text i 0))) [
+      | inl cell ↦
+          let room : column < MAX_COLUMNS =
+          omega (arith, few, at, λ (full : column ≡ MAX_COLUMNS). free.column cell (sym at ∙ full))
+          in
+          absurd (both_ways _ crowded (rw (
+            cell,
+            lt-ltb column MAX_COLUMNS room,
+            lt-ltb height MAX_ROWS (omega (arith, row, free.row)),
+          ) refl))
+      | inr other ↦ other
+    ]
 
 -- ---- the first offence
 

@@ -1,7 +1,8 @@
 //! Reading a grid text.
 
-ghost use Rattle.std.specs.Prelude.{◌≡◌, ◌≢◌, ◌+◌, ◌^◌, ◌<◌, Some, None, Ok, Err, IfOk, IfErr, IfSome, IsOk, OnOk, IsOkUnless, length, if◌then◌else◌};
+ghost use Rattle.std.specs.Prelude.{◌≡◌, ◌≢◌, ◌+◌, ◌^◌, ◌<◌, Some, None, Ok, Err, IfOk, IfErr, IfSome, IsOk, OnOk, IsOkUnless, length, nat_lt, ◌&&◌, if◌then◌else◌};
 ghost use Rattle.std.specs.Str.Lines.{lines};
+ghost use Rattle.orca_base.specs.declared.limits.TheConstants.{MAX_COLUMNS, MAX_ROWS};
 ghost use Rattle.orca_base.specs.Grids.{IsSize};
 ghost use Rattle.orca_grid.specs.BlankGrid.{blank_sheet};
 ghost use Rattle.orca_grid.specs.GridText.{row_at, column_at, is_cell as is_cell_byte, is_bad as is_bad_at, offence as offence_at, IsClean, glyph_of, size_of_rows, sheet_of_rows, grid_text};
@@ -47,15 +48,15 @@ fn size_of(bytes: &[u8]) -> Result<Dims, GridRefusal>
     let mut width: u16 = 0;
     let mut column: u16 = 0;
     for (i, byte) in bytes.iter().enumerate() {
-        if let Some(refusal) = offence(bytes, i, height, column) {
+        // Most bytes are such cells, and they do not offend.
+        if is_cell_with_room(*byte, height, column) {
+            column += 1;
+        } else if let Some(refusal) = offence(bytes, i, height, column) {
             return Err(refusal);
-        }
-        if *byte == b'\n' {
+        } else if *byte == b'\n' {
             height += 1;
             width = width.max(column);
             column = 0;
-        } else if is_cell(*byte) {
-            column += 1;
         }
     }
     // The end of the last row may be missing.
@@ -76,13 +77,24 @@ fn fill(grid: &mut Grid, bytes: &[u8])
 {
     let mut at = Place { y: 0, x: 0 };
     for byte in bytes {
-        if *byte == b'\n' {
+        // Most cells are empty, as those of a blank grid are.
+        if *byte == b'.' {
+            at.x += 1;
+        } else if *byte == b'\n' {
             at = Place { y: at.y + 1, x: 0 };
         } else if let Some(glyph) = cell(*byte) {
             grid.set(at, glyph);
             at.x += 1;
         }
     }
+}
+
+/// Whether the byte is a cell for which there is room: `height` rows have ended before it, and `column`
+/// cells of its row stand before it.
+fn is_cell_with_room(byte: u8, height: u16, column: u16) -> bool
+    ensures { result ≡ (is_cell_byte byte && nat_lt column MAX_COLUMNS && nat_lt height MAX_ROWS) }
+{
+    is_cell(byte) && column < MAX_COLUMNS && height < MAX_ROWS
 }
 
 /// How the byte at a place offends: `height` rows have ended before it, and `column` cells of its

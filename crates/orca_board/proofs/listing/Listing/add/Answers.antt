@@ -1,4 +1,4 @@
-use Rattle.std.proofs.Common.{◌≡◌, ◌==◌, ℕ, arith, ap, sym, ◌∙◌, List}
+use Rattle.std.proofs.Common.{◌==◌, ℕ, arith, ap, sym, ◌∙◌, List}
 use Rattle.std.proofs.Math.ListN.{get_or-map}
 use Rattle.std.specs.Vec.{vec_capacity}
 use Rattle.orca_base.specs.declared.change.Change.{Change}

@@ -1,4 +1,4 @@
-use Rattle.std.proofs.Common.{arith, sym, ◌∙◌}
+use Rattle.std.proofs.Common.{arith, ◌∙◌}
 use Rattle.orca_base.proofs.ListFacts.{put_over}
 use Rattle.orca_board.proofs.ListingLemmas.{rounded_none}
 use Rattle.orca_board.proofs.listing.Listing.begin.Goals as goal
