@@ -1,10 +1,12 @@
--- Marks added, and marks taken away.
-use Rattle.std.proofs.Common.{◌≡◌, ℕ, zero, suc, ◌+◌, ◌*◌, ◌/◌, ◌<◌, List, [], ◌++◌, length, get_or, max, replicate, arith, ap, ◌∙◌, refl, take, ◌-◌, inl, inr}
+-- No marks, and rows that were marked.
+use Rattle.std.proofs.Common.{◌≡◌, ℕ, zero, suc, ◌+◌, ◌*◌, ◌/◌, ◌<◌, Bool, true, false, not, ◌==◌, ◌&&◌, List, [], ◌++◌, length, get_or, replicate, arith, ap, sym, ◌∙◌, refl, take, ◌-◌, inl, inr}
 use Rattle.std.proofs.Math.ListN.{set}
-use Rattle.std.proofs.lemmas.Bool.Decides.{eqb_tells}
-use Rattle.std.proofs.lemmas.List.{get_or-set_other, get_or-set_same, length-replicate, length-set}
+use Rattle.std.proofs.lemmas.Bool.{both_ways, cases_lt}
+use Rattle.std.proofs.lemmas.Bool.Decides.{eqb_tells, nat_tests}
+use Rattle.std.proofs.lemmas.List.{get_or-replicate, get_or-set_other, get_or-set_same, get_or_past, length-replicate, length-set}
 use Rattle.orca_base.proofs.ListFacts.{resized}
 use Rattle.orca_base.specs.declared.limits.TheConstants.{MAX_CELLS, MAX_COLUMNS, MAX_ROWS}
+use Rattle.orca_base.specs.Grids.{Size}
 use Rattle.orca_base.specs.MarkSet.{MarkSet, no_marks}
 use Rattle.orca_marks.specs.Planes.{IsPlane, blank}
 
@@ -32,32 +34,52 @@ filled_blank n len marks start m most none zero_long unmarked is =
     resized n len marks start m none zero_long is
     ∙ (rw unmarked (ap (λ (k : ℕ). replicate k no_marks) most))
 
--- ---- marks added to a row
+-- ---- rows that were marked
 
--- the end of the marked row is raised beyond the place
-pub plane_set : (marks : List MarkSet) (ends raised : List ℕ) (y x i : ℕ) (m : MarkSet)
-    → IsPlane marks ends → y < MAX_ROWS → x < MAX_COLUMNS → i ≡ y * MAX_COLUMNS + x
-    → raised ≡ set ends y (max (get_or ends y 0) (x + 1)) → IsPlane (set marks i m) raised
-plane_set marks ends raised y x i m plane row column number is = record {
+-- a place gets marks, and its row is marked
+pub plane_set : (marks : List MarkSet) (cleared : Size) (marked : List Bool) (y x i : ℕ)
+    (m : MarkSet) → IsPlane marks cleared marked → y < MAX_ROWS → x < MAX_COLUMNS
+    → i ≡ y * MAX_COLUMNS + x → IsPlane (set marks i m) cleared (set marked y true)
+plane_set marks cleared marked y x i m plane row column number = record {
   size = length-set marks i m ∙ plane.size;
-  rows = rw is (length-set ends y _ ∙ plane.rows);
-  clean = λ k beyond. elim (eqb_tells (k / MAX_COLUMNS) y) [
+  rows = length-set marked y true ∙ plane.rows;
+  clean = λ k unmarked high wide. elim (eqb_tells (k / MAX_COLUMNS) y) [
     | inl same ↦
-        let here : get_or raised (k / MAX_COLUMNS) 0 ≡ max (get_or ends y 0) (x + 1) =
-        ap (λ (j : ℕ). get_or raised j 0) same.1 ∙ ap (λ (e : List ℕ). get_or e y 0) is
-        ∙ get_or-set_same ends y _ 0 (omega (arith, row, plane.rows)) in
-        let old : get_or ends (k / MAX_COLUMNS) 0 ≡ get_or ends y 0 =
-        ap (λ (j : ℕ). get_or ends j 0) same.1 in
-        get_or-set_other marks i k m no_marks
-        (λ same_place. omega (arith, same_place, number, here, beyond, column))
-        ∙ plane.clean k (omega (arith, here, beyond, old))
+        let here : get_or (set marked y true) (k / MAX_COLUMNS) false ≡ true =
+        ap (λ (j : ℕ). get_or (set marked y true) j false) same.1
+        ∙ get_or-set_same marked y true false (omega (arith, row, plane.rows)) in
+        absurd (both_ways _ unmarked here)
     | inr other ↦
         get_or-set_other marks i k m no_marks (λ same_place. other.1 (omega arith))
-        ∙ plane.clean k (omega (
-          arith,
-          beyond,
-          ap (λ (e : List ℕ). get_or e (k / MAX_COLUMNS) 0) is,
-          get_or-set_other ends y (k / MAX_COLUMNS) (max (get_or ends y 0) (x + 1)) 0 other.1,
-        ))
+        ∙ plane.clean k
+        (sym (get_or-set_other marked y (k / MAX_COLUMNS) true false other.1) ∙ unmarked) high wide
   ];
 }
+
+-- all rows are marked, so nothing is known of any
+pub plane_all : (marks : List MarkSet) (cleared : Size) → length marks ≡ MAX_CELLS
+    → IsPlane marks cleared (replicate MAX_ROWS true)
+plane_all marks cleared whole = record {
+  size = whole;
+  rows = length-replicate MAX_ROWS true;
+  clean = λ k unmarked high wide. elim (cases_lt (k / MAX_COLUMNS) MAX_ROWS) [
+    | inl row ↦
+        absurd (both_ways _ unmarked (get_or-replicate MAX_ROWS (k / MAX_COLUMNS) true false row))
+    | inr past ↦
+        get_or_past marks k no_marks (omega (arith, past, whole))
+  ];
+}
+
+-- the same size once more
+pub plane_same : (marks : List MarkSet) (cleared dims : Size) (marked : List Bool)
+    → not ((dims.h == cleared.h) && (dims.w == cleared.w)) ≡ false → IsPlane marks cleared marked
+    → IsPlane marks dims marked
+plane_same marks cleared dims marked same plane =
+    let rows : dims.h ≡ cleared.h = grind (arith, nat_tests) in
+    let columns : dims.w ≡ cleared.w = grind (arith, nat_tests) in
+    record {
+      size = plane.size;
+      rows = plane.rows;
+      clean = λ k unmarked high wide.
+          plane.clean k unmarked (omega (arith, high, rows)) (omega (arith, wide, columns));
+    }

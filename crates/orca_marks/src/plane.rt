@@ -1,4 +1,4 @@
-ghost use Rattle.std.specs.Prelude.{◌≡◌, ◌≤◌, ◌<◌, ◌+◌, ◌*◌, ◌&&◌, ℕ, length, map, max, nat_le, nat_lt, slice_set, slice_index_or, count_by, if◌then◌else◌, IfOk};
+ghost use Rattle.std.specs.Prelude.{◌≡◌, ◌≤◌, ◌+◌, ◌&&◌, ℕ, length, map, nat_le, nat_lt, slice_set, slice_index_or, count_by, if◌then◌else◌, IfOk};
 ghost use Rattle.orca_base.specs.declared.limits.TheConstants.{MAX_CELLS, MAX_COLUMNS, MAX_ROWS};
 ghost use Rattle.orca_base.specs.declared.place.Place.{Place};
 ghost use Rattle.orca_base.specs.Grids.{IsInside, largest, index_of, is_inside};
@@ -17,8 +17,10 @@ const ROWS: usize = MAX_ROWS as usize;
 #[derive(Drop)]
 pub struct MarkPlane {
     marks: Vec<Marks>,
-    /// For each row the end of its marked columns: from there on none of its places is marked.
-    ends: [u16; ROWS],
+    /// The size of the last clearing.
+    cleared: Dims,
+    /// Which rows were marked since. In the others no place of a grid of that size is marked.
+    marked: [bool; ROWS],
 }
 
 impl Model for MarkPlane {
@@ -30,7 +32,7 @@ impl Model for MarkPlane {
 
     ghost view = { λ p. p.marks.items };
 
-    ghost invariant = { λ p. IsPlane p.marks.items p.ends };
+    ghost invariant = { λ p. IsPlane p.marks.items p.cleared p.marked };
 }
 
 impl MarkPlane {
@@ -42,7 +44,8 @@ impl MarkPlane {
         marks.resize(MAX_CELLS, Marks::none())?;
         Ok(MarkPlane {
             marks,
-            ends: [0; ROWS],
+            cleared: Dims::largest(),
+            marked: [false; ROWS],
         })
     }
 
@@ -53,7 +56,7 @@ impl MarkPlane {
             (all_marks (slice_index_or self.old (index_of largest at) no_marks) marks) }
     {
         let index = Dims::largest().index(at);
-        raise(&mut self.ends, at.y, at.x + 1);
+        self.marked[usize::from(at.y)] = true;
         self.marks[index] = self.marks[index].union(marks);
     }
 
@@ -68,7 +71,7 @@ impl MarkPlane {
             else slice_index_or self.old i no_marks) }
     {
         let first = Dims::largest().index(at);
-        raise(&mut self.ends, at.y, at.x + count);
+        self.marked[usize::from(at.y)] = true;
         add_from(&mut self.marks, first, usize::from(count), marks);
     }
 
@@ -88,46 +91,35 @@ impl MarkPlane {
         self.marks.iter().filter(|place| !place.is_empty()).count() as u32
     }
 
-    /// Takes the marks of a grid's places away. It goes over the rows of the grid that are marked, in
-    /// each up to the end of its marked columns, and over no column beyond the grid.
+    /// Takes the marks of a grid's places away. It goes over the rows that were marked, and over all
+    /// rows of the grid where the size is another one than at the last clearing.
     pub fn clear(&mut self, dims: Dims)
         ensures size { length self.new ≡ MAX_CELLS }
         ensures marks { (at : Place) → IsInside largest at
             → slice_index_or self.new (index_of largest at) no_marks ≡ (if is_inside dims at
             then no_marks else slice_index_or self.old (index_of largest at) no_marks) }
     {
-        clear_rows(&mut self.marks, &mut self.ends, dims);
+        if dims != self.cleared {
+            self.cleared = dims;
+            self.marked = [true; ROWS];
+        }
+        clear_rows(&mut self.marks, &mut self.marked, dims);
     }
 }
 
-/// Raises the end of a row's marked columns to `end`, where it is less.
-fn raise(ends: &mut [u16; ROWS], row: u16, end: u16)
-    requires { row < MAX_ROWS }
-    ensures { ends.new ≡ slice_set ends.old row (max (slice_index_or ends.old row 0) end) }
-{
-    let row = usize::from(row);
-    ends[row] = ends[row].max(end);
-}
-
-/// Takes the marks of a grid's places away, in each row up to the end of its marked columns. A row
-/// that has marks beyond the grid keeps its end.
-fn clear_rows(places: &mut [Marks], ends: &mut [u16; ROWS], dims: Dims)
-    requires { IsPlane places.old ends.old }
-    ensures plane { IsPlane places.new ends.new }
+/// Takes the marks of a grid's places away, in the rows that were marked.
+fn clear_rows(places: &mut [Marks], marked: &mut [bool; ROWS], dims: Dims)
+    requires { IsPlane places.old dims marked.old }
+    ensures plane { IsPlane places.new dims marked.new }
     ensures marks { (at : Place) → IsInside largest at
         → slice_index_or places.new (index_of largest at) no_marks ≡ (if is_inside dims at
         then no_marks else slice_index_or places.old (index_of largest at) no_marks) }
 {
     for row in 0..usize::from(dims.h) {
-        let end = ends[row];
-        if end > 0 {
+        if marked[row] {
+            marked[row] = false;
             let first = row * usize::from(MAX_COLUMNS);
-            if end <= dims.w {
-                clear_from(places, first, usize::from(end));
-                ends[row] = 0;
-            } else {
-                clear_from(places, first, usize::from(dims.w));
-            }
+            clear_from(places, first, usize::from(dims.w));
         }
     }
 }

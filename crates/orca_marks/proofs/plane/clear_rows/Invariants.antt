@@ -8,7 +8,7 @@ use Rattle.orca_marks.proofs.plane.clear_rows.Given as goal
 -- the rows before `row` have no marks in the grid
 abbrev pub invariant-loop-row : goal.invariant-loop-row
 invariant-loop-row l = record {
-  plane : IsPlane l.places l.ends;
+  plane : IsPlane l.places l.fn.dims l.marked;
   marks : (at : Place) → IsInside largest at
       → slice_index_or l.places (index_of largest at) no_marks
       ≡ (if nat_lt at.y l.row && nat_lt at.x l.fn.dims.w then no_marks

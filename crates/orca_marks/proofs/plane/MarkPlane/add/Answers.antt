@@ -5,6 +5,6 @@ use Rattle.orca_marks.proofs.plane.MarkPlane.add.Goals as goal
 
 pub invariant_of-self : goal.invariant_of-self
 invariant_of-self c =
-    plane_set _ _ _ c.args.at.y c.args.at.x _ _ c.self.invariant c.requires.row c.requires.column
-    (c.index-index.ensures.index ∙ ap (λ (d : Size). index_of d c.args.at) c.largest.ensures)
-    c.raise.ensures
+    rw c.from.ensures (plane_set _ _ _ c.args.at.y c.args.at.x _ _ c.self.invariant c.requires.row
+    c.requires.column
+    (c.index-index.ensures.index ∙ ap (λ (d : Size). index_of d c.args.at) c.largest.ensures))
