@@ -12,8 +12,8 @@ use Rattle.orca_op.specs.Rules.{rule}
 use Rattle.orca_op.specs.Scan.{state_after_places, scan_deeds, scan, written_places, busy, busy_of, places}
 use Rattle.orca_op.specs.State.{State, fresh}
 use Rattle.orca_op.proofs.SlateFacts.{residue-of_sheet}
-use Rattle.orca_frame.specs.Skips.{HoldsNone, IsInert, IsAtRest}
-use Rattle.orca_frame.proofs.SkipLemmas.{state-skip, deeds-skip, busy-skip}
+use Rattle.orca_frame.specs.Skips.{IsInert, IsAtRest}
+use Rattle.orca_frame.proofs.SkipLemmas.{HoldsNone, state-skip, deeds-skip, busy-skip, idle-none}
 
 -- none of all places holds an operator as the frame begins
 none_at_first : (g : Sheet) (now : Now) → IsSheet g → IsInert g → HoldsNone rule 0 (places g) g now
@@ -27,7 +27,7 @@ scan-rest : (g : Sheet) (now : Now) → HoldsNone rule 0 (places g) g now → sc
 unfolding scan
 scan-rest g now none =
     ap (λ (n : ℕ). state_after_places rule n g now) (sym (zero-add (places g)))
-    ∙ state-skip rule 0 (places g) g now none
+    ∙ state-skip rule 0 (places g) g now (idle-none rule 0 (places g) g now none)
 
 written-rest : (g : Sheet) (now : Now) → HoldsNone rule 0 (places g) g now
     → written_places g now ≡ []
@@ -35,7 +35,7 @@ unfolding written_places
 written-rest g now none =
     let deeds : scan_deeds (places g) g now ≡ [] =
     ap (λ (n : ℕ). scan_deeds n g now) (sym (zero-add (places g)))
-    ∙ deeds-skip 0 (places g) g now none
+    ∙ deeds-skip 0 (places g) g now (idle-none rule 0 (places g) g now none)
     in
     ap (λ (ds : List Deed). list_after_all g.dims g.dims [] ds) deeds
 

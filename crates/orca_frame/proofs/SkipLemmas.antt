@@ -1,5 +1,5 @@
--- Over places that hold no operator the scan changes nothing.
-use Rattle.std.proofs.Common.{◌≡◌, ℕ, zero, suc, ◌+◌, ◌*◌, ◌<◌, ◌≤◌, Bool, true, false, not, ◌&&◌, ◌||◌, arith, ap, sym, ◌∙◌, subst, refl, List, [], add-zero}
+-- Over idle places the scan changes nothing, and over those that hold no operator none is counted.
+use Rattle.std.proofs.Common.{◌≡◌, ℕ, zero, suc, ◌+◌, ◌*◌, ◌<◌, ◌≤◌, Bool, true, false, ◌&&◌, arith, ap, sym, ◌∙◌, subst, refl, List, [], add-zero}
 use Rattle.std.specs.Prelude.{if◌then◌else◌, IfSome, IsTrue, None, Option, Some, ◌-◌, nat_lt, unwrap_or}
 use Rattle.std.proofs.lemmas.List.{append-nil}
 use Rattle.std.proofs.lemmas.Bool.{lt-ltb, ltb-true}
@@ -16,53 +16,62 @@ use Rattle.orca_op.specs.Rules.{rule}
 use Rattle.orca_op.specs.Scan.{Rules, visit_deeds, is_idle, state_after_visit, state_after_places, scan_deeds, busy, busy_of}
 use Rattle.orca_op.specs.State.{State, sheet_of, state_glyph}
 use Rattle.orca_frame.specs.Frames.{slate_after_places, most_steps}
-use Rattle.orca_frame.specs.Skips.{HoldsNone}
+use Rattle.orca_frame.specs.Skips.{AreIdle}
 use Rattle.orca_frame.proofs.FrameLemmas.{dims_slate, inside_slate, visit_slate, busy_more}
 
-idle_if : (operator lock sleep waits : Bool) (deeds : List Deed) → operator ≡ false
-    → (if not operator || lock || sleep || waits then [] else deeds) ≡ []
-idle_if true lock sleep waits deeds none = cc
-idle_if false lock sleep waits deeds none = refl
-
--- a place that holds no operator has no deeds
-no_deeds : (rules : Rules) (s : State) (at : Place) (now : Now)
-    → is_operator (state_glyph s at) ≡ false → visit_deeds rules s at now ≡ []
-unfolding visit_deeds is_idle
-no_deeds rules s at now none = idle_if _ _ _ _ (rules (state_glyph s at) s at now) none
+-- an idle place has no deeds
+no_deeds : (rules : Rules) (s : State) (at : Place) (now : Now) → is_idle s at ≡ true
+    → visit_deeds rules s at now ≡ []
+unfolding visit_deeds
+no_deeds rules s at now idle = rw idle refl
 
 after_none : (s : State) (deeds : List Deed) → deeds ≡ [] → after_all s deeds ≡ s
 after_none s deeds none = ap (after_all s) none
 
--- the state stays over places that hold no operator
-pub state-skip : (rules : Rules) (n many : ℕ) (g : Sheet) (now : Now) → HoldsNone rules n many g now
+-- the state stays over idle places
+pub state-skip : (rules : Rules) (n many : ℕ) (g : Sheet) (now : Now) → AreIdle rules n many g now
     → state_after_places rules (n + many) g now ≡ state_after_places rules n g now
-state-skip rules n zero g now none = rw add-zero refl
-state-skip rules n (suc many) g now none =
+state-skip rules n zero g now idle = rw add-zero refl
+state-skip rules n (suc many) g now idle =
     let s = state_after_places rules n g now in
     let at = place_of g.dims (n + many) in
     let before : state_after_places rules (n + many) g now ≡ s = state-skip rules n many g now
-    (λ i below. none i (omega arith)) in
+    (λ i below. idle i (omega arith)) in
     let next : n + suc many ≡ suc (n + many) = omega arith in
     rw next (
     ap (λ (t : State). state_after_visit rules t at now) before
-    ∙ after_none s (visit_deeds rules s at now) (no_deeds rules s at now (none many (omega arith))))
+    ∙ after_none s (visit_deeds rules s at now) (no_deeds rules s at now (idle many (omega arith))))
 
 -- so do the deeds of the frame
-pub deeds-skip : (n many : ℕ) (g : Sheet) (now : Now) → HoldsNone rule n many g now
+pub deeds-skip : (n many : ℕ) (g : Sheet) (now : Now) → AreIdle rule n many g now
     → scan_deeds (n + many) g now ≡ scan_deeds n g now
-deeds-skip n zero g now none = rw add-zero refl
-deeds-skip n (suc many) g now none =
+deeds-skip n zero g now idle = rw add-zero refl
+deeds-skip n (suc many) g now idle =
     let s = state_after_places rule n g now in
     let at = place_of g.dims (n + many) in
-    let less : HoldsNone rule n many g now = λ i below. none i (omega arith) in
+    let less : AreIdle rule n many g now = λ i below. idle i (omega arith) in
     let before : scan_deeds (n + many) g now ≡ scan_deeds n g now = deeds-skip n many g now less in
     let here : visit_deeds rule (state_after_places rule (n + many) g now) at now ≡ [] =
     ap (λ (t : State). visit_deeds rule t at now) (state-skip rule n many g now less)
-    ∙ no_deeds rule s at now (none many (omega arith)) in
+    ∙ no_deeds rule s at now (idle many (omega arith)) in
     let next : n + suc many ≡ suc (n + many) = omega arith in
     rw (next, before, here) (append-nil (scan_deeds n g now))
 
--- and the count of busy places
+-- ---- places that hold no operator
+
+-- after n places were visited, none of the next `many` holds an operator
+abbrev pub HoldsNone : Rules → ℕ → ℕ → Sheet → Now → Type 0
+HoldsNone rules n many g now =
+    (i : ℕ) → i < many
+    → is_operator (state_glyph (state_after_places rules n g now) (place_of g.dims (n + i))) ≡ false
+
+-- they are idle
+pub idle-none : (rules : Rules) (n many : ℕ) (g : Sheet) (now : Now) → HoldsNone rules n many g now
+    → AreIdle rules n many g now
+unfolding is_idle
+idle-none rules n many g now none i below = rw (none i below) refl
+
+-- the count of busy places stays over them
 pub busy-skip : (n many : ℕ) (g : Sheet) (now : Now) → HoldsNone rule n many g now
     → busy_of (n + many) g now ≡ busy_of n g now
 busy-skip n zero g now none = rw add-zero refl
@@ -71,25 +80,25 @@ busy-skip n (suc many) g now none =
     let less : HoldsNone rule n many g now = λ i below. none i (omega arith) in
     let before : busy_of (n + many) g now ≡ busy_of n g now = busy-skip n many g now less in
     let here : is_operator (state_glyph (state_after_places rule (n + many) g now) at) ≡ false =
-    ap (λ (t : State). is_operator (state_glyph t at)) (state-skip rule n many g now less)
+    ap (λ (t : State). is_operator (state_glyph t at)) (state-skip rule n many g now (idle-none rule n many g now less))
     ∙ none many (omega arith) in
     let next : n + suc many ≡ suc (n + many) = omega arith in
     rw (next, here) (omega (arith, before))
 
-slate-skip : (n many : ℕ) (g : Sheet) (now : Now) → HoldsNone rule n many g now
+slate-skip : (n many : ℕ) (g : Sheet) (now : Now) → AreIdle rule n many g now
     → slate_after_places (n + many) g now ≡ slate_after_places n g now
-slate-skip n many g now none =
+slate-skip n many g now idle =
     ap (λ (s : State). record {
       scan = s;
       began = g;
       listed = list_after_all g.dims g.dims []
           (scan_deeds (n + many) g now);
-    }) (state-skip rule n many g now none)
+    }) (state-skip rule n many g now idle)
     ∙ ap (λ (deeds : List Deed). record {
       scan = state_after_places rule n g now;
       began = g;
       listed = list_after_all g.dims g.dims [] deeds;
-    }) (deeds-skip n many g now none)
+    }) (deeds-skip n many g now idle)
 
 -- ---- a row
 
@@ -133,7 +142,8 @@ pub pass_over : (d : Slate) (g : Sheet) (now : Now) (row from to : ℕ)
 pass_over d g now row from to is high grows wide none =
     let passed = none_in_row d g now row from to is high wide none in
     let number : row * g.dims.w + from + (to - from) ≡ row * g.dims.w + to = omega arith in (
-      is ∙ (sym (slate-skip (row * g.dims.w + from) (to - from) g now passed)
+      is ∙ (sym (slate-skip (row * g.dims.w + from) (to - from) g now
+          (idle-none rule (row * g.dims.w + from) (to - from) g now passed))
           ∙ ap (λ (m : ℕ). slate_after_places m g now) number),
       ap (λ (m : ℕ). busy_of m g now) (sym number) ∙ busy-skip (row * g.dims.w + from) (to - from) g
           now passed,

@@ -1,23 +1,22 @@
 -- Places that the scan may pass over.
-use Rattle.std.specs.Prelude.{ℕ, ◌+◌, ◌<◌, ◌≡◌, false, slice_index}
+use Rattle.std.specs.Prelude.{ℕ, ◌+◌, ◌<◌, ◌≡◌, true, false, slice_index}
 use Rattle.orca_base.specs.declared.now.Now.{Now}
 use Rattle.orca_base.specs.Glyphs.{is_operator}
 use Rattle.orca_base.specs.Grids.{Sheet, place_of}
 use Rattle.orca_op.specs.Slate.{Slate, slate_of_sheet}
-use Rattle.orca_op.specs.Scan.{Rules, state_after_places, places}
-use Rattle.orca_op.specs.State.{state_glyph}
+use Rattle.orca_op.specs.Scan.{Rules, is_idle, state_after_places, places}
 use Rattle.orca_frame.specs.Frames.{IsFramed, most_steps}
 
--- after n places were visited, none of the next `many` holds an operator
-abbrev pub HoldsNone : Rules → ℕ → ℕ → Sheet → Now → Type 0
-HoldsNone rules n many g now =
+-- after n places were visited, each of the next `many` is idle
+abbrev pub AreIdle : Rules → ℕ → ℕ → Sheet → Now → Type 0
+AreIdle rules n many g now =
     (i : ℕ) → i < many
-    → is_operator (state_glyph (state_after_places rules n g now) (place_of g.dims (n + i))) ≡ false
+    → is_idle (state_after_places rules n g now) (place_of g.dims (n + i)) ≡ true
 
--- the scan changes nothing over places that hold no operator, so a walk may pass over them
+-- the scan changes nothing over idle places, so a walk may pass over them
 abbrev pub IsSkipping : Rules → Type 0
 IsSkipping rules =
-    (n many : ℕ) (g : Sheet) (now : Now) → HoldsNone rules n many g now
+    (n many : ℕ) (g : Sheet) (now : Now) → AreIdle rules n many g now
     → state_after_places rules (n + many) g now ≡ state_after_places rules n g now
 
 -- no place of the grid holds an operator
