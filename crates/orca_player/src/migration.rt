@@ -11,7 +11,7 @@ use crate::Status;
 use crate::concert::settled;
 use orca_course::Desk;
 use orca_cues::{check_any_script, print_script};
-use orca_rig::House;
+use orca_rig::{Disk, House};
 use orca_words::Migration;
 use std::alloc::Global;
 
@@ -71,7 +71,7 @@ fn print_and_save<H: House>(
     let Ok(()) = print_script(text, migration.seed, &mut script) else {
         return Status::Memory;
     };
-    match desk.save(migration.out, script.as_slice()) {
+    match desk.save(migration.out, script.as_slice(), Disk::Awaited) {
         Ok(()) => settled(Status::Done, desk),
         Err(_) => Status::Memory,
     }
