@@ -2,7 +2,7 @@
 
 ghost use Rattle.std.specs.Prelude.{◌≡◌, ◌<◌};
 
-use orca_base::{Command, Dims, Glyph, Look, Place, Reply, Rule, Steps};
+use orca_base::{Command, Dims, Glyph, Look, Mark, Marks, Message, Place, Reply, Rule, Steps};
 use orca_grid::Grid;
 use orca_jam::{Crew, Denial, Jam, JamFault, JamReply, NOBODY, Owner};
 use orca_notes::Messages;
@@ -51,11 +51,15 @@ fn strike<L: Ledger>(
     }
 }
 
-/// Two hands at a row of four dots, with a history of ten entries.
-fn two_hands(alloc: Global) -> Result<Jam<Session>, Fail> {
-    let grid = Grid::blank(alloc, Dims { h: 1, w: 4 })?;
-    let session = Session::start(alloc, &grid, 1, 10)?;
+/// Two hands at a grid, with a history of ten entries.
+fn two_hands_at(alloc: Global, grid: &Grid) -> Result<Jam<Session>, Fail> {
+    let session = Session::start(alloc, grid, 1, 10)?;
     Ok(Jam::start(alloc, session, 2, SCREEN)?)
+}
+
+/// Two hands at a row of four dots.
+fn two_hands(alloc: Global) -> Result<Jam<Session>, Fail> {
+    two_hands_at(alloc, &Grid::blank(alloc, Dims { h: 1, w: 4 })?)
 }
 
 /// What becomes of a glyph that is written in this column.
@@ -96,6 +100,23 @@ fn glyph_in(jam: &Jam<Session>, x: u16) -> u8 {
     0
 }
 
+/// The marks of a column of the first row.
+fn marks_in(jam: &Jam<Session>, x: u16) -> Marks {
+    let machine = jam.machine();
+    if x < machine.dims().w {
+        return machine.marks_at(Place { y: 0, x });
+    }
+    Marks::none()
+}
+
+/// The column of a hand's cursor.
+fn cursor_of(jam: &Jam<Session>, hand: u8) -> Option<u16> {
+    if hand < jam.hands() {
+        return Some(jam.editor(hand).x);
+    }
+    None
+}
+
 /// Hands press keys at this session.
 fn press(
     rt: &impl Abort,
@@ -129,6 +150,7 @@ fn check_undo(rt: &impl Abort, alloc: Global, jam: &mut Jam<Session>) -> Result<
     assert!(rt; glyph_in(jam, 0) == b'.' && glyph_in(jam, 1) == b'.');
     let (hand, edit) = (NOBODY, false);
     assert!(rt; jam.owner(0) == Some(Owner { hand, edit }) && jam.owner(1) == None);
+    assert!(rt; cursor_of(jam, 0) == Some(0) && cursor_of(jam, 1) == Some(1));
     Ok(())
 }
 
@@ -165,6 +187,50 @@ fn check_keys(rt: &impl Abort, alloc: Global, jam: &mut Jam<Session>) -> Result<
 #[test]
 fn some_keys_are_the_first_hands(rt: HostRuntime) -> Result<(), Fail> {
     check_keys(&rt, rt.alloc(), &mut two_hands(rt.alloc())?)
+}
+
+/// A delay over a note: its bang starts the note in the first frame.
+const DELAYED: &[u8] = b"D8\n.:03C";
+
+/// A frame of the clock starts the note, and the close ends it, with a counter of steps of its own.
+fn play<L: Ledger>(rt: &impl Abort, jam: &mut Jam<Session>, messages: &mut Messages, blank: Blank)
+    requires name { blank.name ≡ L.name }
+    requires parts { blank.parts ≡ L.parts }
+    requires some { 0 < blank.parts }
+{
+    let mut steps = Steps::<L>::start(blank);
+    let (channel, key, velocity) = (0, 36, 127);
+    messages.clear();
+    assert_eq!(rt;
+        jam.clock(messages, &mut steps),
+        Ok(Reply::Framed { tick: 0 })
+    );
+    let on = Message::On {
+        channel,
+        key,
+        velocity,
+    };
+    assert!(rt; messages.as_slice() == [on].as_slice());
+    jam.preview_marks(&mut steps);
+    messages.clear();
+    jam.close(messages);
+    assert!(rt; messages.as_slice() == [Message::Off { channel, key }].as_slice());
+}
+
+/// A frame of the clock is nobody's, and leaves the marks of its ports.
+fn check_clock(rt: &impl Abort, alloc: Global, jam: &mut Jam<Session>) -> Result<(), Fail> {
+    let mut messages = Messages::start(alloc)?;
+    play::<Brand>(rt, jam, &mut messages, Blank::new(1));
+    let (hand, edit) = (NOBODY, false);
+    assert!(rt; jam.owner(0) == Some(Owner { hand, edit }) && jam.owner(1) == None);
+    assert!(rt; marks_in(jam, 1).has(Mark::Input) && marks_in(jam, 0).is_empty());
+    Ok(())
+}
+
+#[test]
+fn a_frame_of_the_clock_is_nobodys(rt: HostRuntime) -> Result<(), Fail> {
+    let grid = Grid::read(rt.alloc(), DELAYED)?;
+    check_clock(&rt, rt.alloc(), &mut two_hands_at(rt.alloc(), &grid)?)
 }
 
 #[test]
