@@ -46,9 +46,10 @@ pub(crate) fn tell(case: Case, answer: &mut Answer) -> Result<()> {
 
 /// The world of a case. Nobody has called it.
 fn world_of(outside: Outside) -> Result<World>
-    ensures files { IfOk result (λ world. world.files.asked ≡ []) }
-    ensures ports { IfOk result (λ world. (world.outs.handed ≡ []) × (world.outs.attached ≡ [])) }
-    ensures inbox { IfOk result (λ world. (world.inbox.log ≡ empty_log)
+    ensures files { IfOk result (λ world. (world.files.asked ≡ []) × (world.files.wants ≡ 0)) }
+    ensures ports { IfOk result (λ world. (world.outs.handed ≡ []) × (world.outs.attached ≡ [])
+        × (world.outs.wants ≡ 0)) }
+    ensures inbox { IfOk result (λ world. (world.inbox.log ≡ empty_log) × (world.inbox.wants ≡ 0)
         × (world.inbox.listened ≡ false) × (world.inbox.ended ≡ false)) }
 {
     let Outside {
@@ -68,7 +69,7 @@ fn world_of(outside: Outside) -> Result<World>
 
 /// The files of a case, and which calls of them fail.
 fn files_of(files: Vec<(String, Vec<u8>)>, failing: Vec<u64>) -> Result<MemFiles>
-    ensures { IfOk result (λ files. files.asked ≡ []) }
+    ensures { IfOk result (λ files. (files.asked ≡ []) × (files.wants ≡ 0)) }
 {
     ensure!(names_differ(&files), "two files have one name");
     let Ok(files) = MemFiles::new(files, failing) else {
@@ -79,7 +80,8 @@ fn files_of(files: Vec<(String, Vec<u8>)>, failing: Vec<u64>) -> Result<MemFiles
 
 /// The ports of a case, and which sends fail.
 fn outs_of(failing: Vec<(Port, u64)>) -> Result<MemOuts>
-    ensures { IfOk result (λ outs. (outs.handed ≡ []) × (outs.attached ≡ [])) }
+    ensures { IfOk result (λ outs. (outs.handed ≡ []) × (outs.attached ≡ [])
+        × (outs.wants ≡ 0)) }
 {
     let Ok(outs) = MemOuts::new(failing) else {
         bail!("memory was refused");
@@ -89,8 +91,8 @@ fn outs_of(failing: Vec<(Port, u64)>) -> Result<MemOuts>
 
 /// The inbox of a case, and which calls of it fail.
 fn inbox_of(start: u64, answers: Vec<MemAnswer>, failing: Vec<u64>) -> Result<MemInbox>
-    ensures { IfOk result (λ inbox. (inbox.log ≡ empty_log) × (inbox.listened ≡ false)
-        × (inbox.ended ≡ false)) }
+    ensures { IfOk result (λ inbox. (inbox.log ≡ empty_log) × (inbox.wants ≡ 0)
+        × (inbox.listened ≡ false) × (inbox.ended ≡ false)) }
 {
     ensure!(
         is_in_order(start, &answers),
@@ -106,9 +108,10 @@ fn inbox_of(start: u64, answers: Vec<MemAnswer>, failing: Vec<u64>) -> Result<Me
 /// Does the run at a desk in this world, and adds the lines of what came of it.
 fn tell_run<L: Ledger>(asked: &Asked, world: World, blank: Blank, answer: &mut Answer) -> Result<()>
     // Nobody has called the world.
-    requires files { world.files.asked ≡ [] }
-    requires ports { (world.outs.handed ≡ []) × (world.outs.attached ≡ []) }
-    requires log { world.inbox.log ≡ empty_log }
+    requires files { (world.files.asked ≡ []) × (world.files.wants ≡ 0) }
+    requires ports { (world.outs.handed ≡ []) × (world.outs.attached ≡ [])
+        × (world.outs.wants ≡ 0) }
+    requires log { (world.inbox.log ≡ empty_log) × (world.inbox.wants ≡ 0) }
     requires fresh { world.inbox.listened ≡ false }
     requires open { world.inbox.ended ≡ false }
     requires name { blank.name ≡ L.name }

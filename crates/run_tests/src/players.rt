@@ -5,7 +5,7 @@ ghost use Rattle.std.specs.Prelude.{◌≡◌, ◌<◌, Some, length};
 use orca_base::{Port, Steps};
 use orca_course::{Desk, Rooms, desk_of};
 use orca_player::Status;
-use orca_rig::{MemFiles, MemInbox, MemOuts, Outs, OutsideFault, names_differ};
+use orca_rig::{MemFiles, MemInbox, MemOuts, Misses, Outs, OutsideFault, names_differ};
 use std::alloc::Global;
 use std::marker::Brand;
 use std::process::Abort;
@@ -18,20 +18,7 @@ struct Tight {
     kept: MemOuts,
     tight: u64,
     sends: u64,
-    refused: u64,
-}
-
-impl Tight {
-    /// Counts that memory was refused.
-    fn count(&mut self, done: Result<(), OutsideFault>) -> Result<(), OutsideFault>
-        ensures same { result ≡ done }
-        ensures kept { self.new.kept ≡ self.old.kept }
-    {
-        if done == Err(OutsideFault::Memory) {
-            self.refused = self.refused.saturating_add(1);
-        }
-        done
-    }
+    misses: Misses,
 }
 
 impl Outs for Tight {
@@ -41,20 +28,22 @@ impl Outs for Tight {
 
     ghost sent = { λ o. length o.kept.handed };
 
-    ghost faults = { λ o. o.kept.faults };
+    ghost faults = { λ o. o.misses.faults };
+
+    ghost wants = { λ o. o.misses.wants };
 
     fn attach(&mut self, port: Port, name: &str) -> Result<(), OutsideFault> {
         let done = self.kept.attach(port, name);
-        self.count(done)
+        self.misses.count(done)
     }
 
     fn send(&mut self, port: Port, bytes: &[u8]) -> Result<(), OutsideFault> {
         self.sends = self.sends.saturating_add(1);
         if self.sends == self.tight {
-            return self.count(Err(OutsideFault::Memory));
+            return self.misses.count(Err(OutsideFault::Memory));
         }
         let done = self.kept.send(port, bytes);
-        self.count(done)
+        self.misses.count(done)
     }
 
     fn sent(&self) -> u64 {
@@ -94,7 +83,7 @@ fn run<L: Ledger>(
         kept: MemOuts::new(Vec::new(alloc))?,
         tight,
         sends: 0,
-        refused: 0,
+        misses: Misses::none(),
     };
     let inbox = MemInbox::new(0, Vec::new(alloc), Vec::new(alloc))?;
     let mut desk = desk_of(files, outs, inbox, Steps::<L>::start(blank));
@@ -120,7 +109,7 @@ fn try_run<L: Ledger>(rt: &impl Abort, alloc: Global, wanted: Run, blank: Blank)
         index = index.saturating_add(1);
     }
     assert_eq!(rt; desk.outs().kept.handed_at(index), None);
-    assert_eq!(rt; desk.outs().refused, u64::from(tight > 0));
+    assert_eq!(rt; desk.outs().misses.wants, u64::from(tight > 0));
     Ok(())
 }
 
