@@ -89,7 +89,8 @@ swap d p m (Write q g) =
       cells_of_marks d.scan (marks_after d.scan (place_in d.scan.dims p) m)
           (place_in d.scan.dims q) g,
     ) refl
-swap d p m (Set v g) = rw (marks_of_vars d.scan (set d.scan.vars v g) (place_in d.scan.dims p) m) refl
+swap d p m (Set v g) =
+    rw (marks_of_vars d.scan (set d.scan.vars v g) (place_in d.scan.dims p) m) refl
 swap d p m (Emit e) =
     rw (marks_of_events d.scan (d.scan.events ++ e ∷ []) (place_in d.scan.dims p) m) refl
 
@@ -103,7 +104,8 @@ swap_all d p m (x ∷ xs) =
 
 -- marks that are added each before other deeds may be added before all of them
 pub in_front : (d : Slate) (n : ℕ) (spot : ℕ → Spot) (m : MarkSet) (rest : ℕ → List Deed)
-    → slate_after_all (slate_after_all d (each_below n (λ i. Mark (spot i) m ∷ []))) (each_below n rest)
+    → slate_after_all (slate_after_all d (each_below n (λ i. Mark (spot i) m ∷ [])))
+    (each_below n rest)
     ≡ slate_after_all d (each_below n (λ i. Mark (spot i) m ∷ rest i))
 in_front d zero spot m rest = refl
 in_front d (suc n) spot m rest =

@@ -58,8 +58,8 @@ fn concatenate<B: Bench, L: Ledger>(bench: &mut B, at: Place, length: u8, steps:
 /// Writes the variables of the first `length` names below them, and marks no name.
 fn store<B: Bench, L: Ledger>(bench: &mut B, at: Place, length: u8, steps: &mut Steps<L>)
     requires { length < BASE }
-    ensures deeds { B.slate bench.new
-        ≡ slate_after_all (B.slate bench.old) (each_below length (store_at (B.slate bench.old).scan at)) }
+    ensures deeds { let old = B.slate bench.old in
+        B.slate bench.new ≡ slate_after_all old (each_below length (store_at old.scan at)) }
     ensures steps { steps.new ≤ steps.old + 4 * length }
     ensures later { steps.old ≤ steps.new }
 {

@@ -199,7 +199,8 @@ pub rounded_more : (changes new : List Change) (rounds : List ℕ) (round room r
     → i ≡ index_of largest change.at
     → get_or (flags_of round rounds) i false ≡ false → i < length rounds
     → new ≡ changes ++ change ∷ [] → room ≤ room' → IsRounded new (set rounds i round) round room'
-rounded_more changes new rounds round room room' i change inside kept number off below pushed grows =
+rounded_more changes new rounds round room room' i change inside kept number off below pushed
+    grows =
     let flagged = flagged_more changes new (flags_of round rounds) room room' i change inside
     kept.flagged number off
     (omega (arith, below, length-map rounds (λ (r : ℕ). r == round))) pushed grows in

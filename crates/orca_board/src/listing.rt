@@ -78,8 +78,8 @@ impl Listing {
         }
     }
 
-    /// No change any more, for a grid of this size. It begins a round, so it takes no longer for a larger
-    /// grid nor for more changes.
+    /// No change any more, for a grid of this size. It begins a round, so it takes no longer for a
+    /// larger grid, nor for more changes.
     pub fn begin(&mut self, dims: Dims)
         ensures { self.new ≡ record { began = dims; changes = [] } }
     {
@@ -89,7 +89,8 @@ impl Listing {
     }
 }
 
-/// The next round, in which no place was listed. Where the numbers end, the places forget their rounds.
+/// The next round, in which no place was listed. Where the numbers end, the places forget their
+/// rounds.
 fn next_round(rounds: &mut [u16], round: u16) -> u16
     requires past { (i : ℕ) → slice_index_or rounds.old i 0 ≤ round }
     ensures size { length rounds.new ≡ length rounds.old }

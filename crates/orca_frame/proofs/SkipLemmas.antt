@@ -80,7 +80,8 @@ busy-skip n (suc many) g now none =
     let less : HoldsNone rule n many g now = λ i below. none i (omega arith) in
     let before : busy_of (n + many) g now ≡ busy_of n g now = busy-skip n many g now less in
     let here : is_operator (state_glyph (state_after_places rule (n + many) g now) at) ≡ false =
-    ap (λ (t : State). is_operator (state_glyph t at)) (state-skip rule n many g now (idle-none rule n many g now less))
+    ap (λ (t : State). is_operator (state_glyph t at))
+    (state-skip rule n many g now (idle-none rule n many g now less))
     ∙ none many (omega arith) in
     let next : n + suc many ≡ suc (n + many) = omega arith in
     rw (next, here) (omega (arith, before))

@@ -3,9 +3,9 @@ ghost use Rattle.orca_base.specs.Grids.{IsSheet, Sheet};
 ghost use Rattle.orca_frame.specs.Skips.{IsAtRest, IsInert, IsSkipping};
 ghost use Rattle.orca_op.specs.Scan.{Rules};
 
-/// Over idle places the scan changes nothing, whatever the rules are: over those that hold no operator, that
-/// are locked or asleep, or that wait for a bang. So a walk that goes from one operator to the next leaves
-/// what a visit of every place leaves. It does nothing.
+/// Over idle places the scan changes nothing, whatever the rules are: over those that hold no
+/// operator, are locked or asleep, or wait for a bang. So a walk that goes from one operator to the
+/// next leaves what a visit of every place leaves. It does nothing.
 pub fn skipping_law()
     ensures { (rules : Rules) → IsSkipping rules }
 {}

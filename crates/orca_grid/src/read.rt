@@ -89,8 +89,8 @@ fn fill(grid: &mut Grid, bytes: &[u8])
     }
 }
 
-/// Whether the byte is a cell for which there is room: `height` rows have ended before it, and `column`
-/// cells of its row stand before it.
+/// Whether the byte is a cell for which there is room: `height` rows have ended before it, and
+/// `column` cells of its row stand before it.
 fn is_cell_with_room(byte: u8, height: u16, column: u16) -> bool
     ensures { result ≡ (is_cell_byte byte && nat_lt column MAX_COLUMNS && nat_lt height MAX_ROWS) }
 {

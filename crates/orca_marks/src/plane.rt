@@ -91,8 +91,8 @@ impl MarkPlane {
         self.marks.iter().filter(|place| !place.is_empty()).count() as u32
     }
 
-    /// Takes the marks of a grid's places away. It goes over the rows that were marked, and over all
-    /// rows of the grid where the size is another one than at the last clearing.
+    /// Takes the marks of a grid's places away. It goes over the rows that were marked, and over
+    /// all rows of the grid where the size is another one than at the last clearing.
     pub fn clear(&mut self, dims: Dims)
         ensures size { length self.new ≡ MAX_CELLS }
         ensures marks { (at : Place) → IsInside largest at

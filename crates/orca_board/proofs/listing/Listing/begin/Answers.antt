@@ -12,6 +12,7 @@ invariant_of-self c =
       put_over c.next_round-self-inside.new.rounds c.self.inside.rounds.items
           c.self.inside.rounds.len same (omega (arith, c.self.inside.rounds.ok.0)),
     )
-    (rounded_none c.next_round-self-inside.new.rounds c.next_round-self-inside.result _ (same ∙ c.self.invariant.size)
+    (rounded_none c.next_round-self-inside.new.rounds c.next_round-self-inside.result _
+    (same ∙ c.self.invariant.size)
     c.next_round-self-inside.ensures.later
     (omega (arith, c.clear.ensures.capacity, c.self.invariant.flagged.roomy)))
