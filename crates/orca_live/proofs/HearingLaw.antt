@@ -10,7 +10,7 @@ use Rattle.std.proofs.lemmas.List.{get_or-set_other, get_or-set_same, length-map
 use Rattle.orca_base.specs.declared.command.Command.TheVariants.{Frame}
 use Rattle.orca_base.specs.declared.limits.TheConstants.{MAX_POLLS}
 use Rattle.orca_concert.specs.Concerts.{command_course as obey_course}
-use Rattle.orca_course.specs.Acts.{Act, keys_in}
+use Rattle.orca_course.specs.Acts.{Act}
 use Rattle.orca_course.specs.Courses.{Course, each, ended, mapped, onward, still}
 use Rattle.orca_course.specs.Performers.{attended, begun, heard, opened, polled, spent}
 use Rattle.orca_course.specs.declared.ending.Ending.{Ending}
