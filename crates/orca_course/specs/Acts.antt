@@ -13,8 +13,8 @@ use Rattle.orca_term.specs.declared.keys.Key.{Key}
 use Rattle.orca_course.specs.Standings.{Standing}
 
 -- one call on the outside, with its answer where that decides what follows; and, between calls, the
--- commands, where they leave the run, the keys that hands struck, the pictures that were painted, and
--- the sizes of the terminal that were told
+-- commands, where they leave the run, the keys that hands struck, the pictures that were painted,
+-- and the sizes of the terminal that were told
 pub data Act : Type 0 where
   -- a port is attached to a name
   Attach : Attached → Act

@@ -63,7 +63,8 @@ impl<H: House> Model for Desk<H> {
         Tells (H.Outs.handed d.outs) (H.Outs.attached d.outs) (H.Files.asked d.files)
         (H.Inbox.log d.inbox) d.trace.calls
         × AreWanted (H.Outs.wants d.outs) (H.Files.wants d.files) (H.Inbox.wants d.inbox)
-        d.trace.calls × Records d.failed d.unstored (H.Inbox.listened d.inbox) (H.Inbox.ended d.inbox)
+        d.trace.calls
+        × Records d.failed d.unstored (H.Inbox.listened d.inbox) (H.Inbox.ended d.inbox)
         d.trace.calls };
 }
 

@@ -52,7 +52,7 @@ abbrev pub IsBeside : List ℕ → List ℕ → List ℕ → Type 0
 IsBeside fresh kept target =
     (kept ≡ target) × ((name : List ℕ) × (fresh ≡ path_with_file_name target name))
 
--- whether a journal may take the place of a file that holds this: of nothing, and of an older journal,
+-- whether a journal may take the place of a file that holds this: of nothing, and of an older one,
 -- which begins as each script does
 abbrev pub gives_way : List ℕ → Bool
 gives_way held = length held == 0 || bytes_eq (take 6 held) (codes "!orca ")

@@ -91,8 +91,8 @@ pub record IsMadeBy (keys : List Key) (e f : Editor) : Type 0 where
 
 -- wherever a performance stands, its session is the one after its commands, in the order in which
 -- they came; and, unless it ended, whatever the other hands sent, the reader of each hand stands
--- where its own bytes and the due frames have left it, its keys are those that these have ended, and
--- these keys alone have moved its editor
+-- where its own bytes and the due frames have left it, its keys are those that these have ended,
+-- and these keys alone have moved its editor
 pub record HearsEach (s : LiveState) : Type 0 where
   pub obeys : (polls : List Poll)
       → let c = so_far s polls in

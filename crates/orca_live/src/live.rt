@@ -44,8 +44,8 @@ pub struct Live<'a, M> {
 }
 
 impl<'a, M: Machine> Live<'a, M> {
-    /// A performance of these hands, before its first picture, that starts at a moment in microseconds.
-    /// [`Memory`] if the room for the pictures is refused.
+    /// A performance of these hands, before its first picture, that starts at a moment in
+    /// microseconds. [`Memory`] if the room for the pictures is refused.
     pub fn start(
         alloc: Global,
         stage: Stage<M, Silent>,

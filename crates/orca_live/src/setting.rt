@@ -25,7 +25,8 @@ pub struct Setting<'a> {
     ghost some_bpm: { 1 ≤ bpm },
     ghost few_bpm: { bpm ≤ MAX_BPM },
     ghost rows: { (MIN_SCREEN_ROWS ≤ screen.rows) × (screen.rows ≤ MAX_SCREEN_ROWS) },
-    ghost columns: { (MIN_SCREEN_COLUMNS ≤ screen.columns) × (screen.columns ≤ MAX_SCREEN_COLUMNS) },
+    ghost columns: { (MIN_SCREEN_COLUMNS ≤ screen.columns)
+        × (screen.columns ≤ MAX_SCREEN_COLUMNS) },
 }
 
 impl<'a> Setting<'a> {

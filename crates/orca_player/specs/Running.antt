@@ -57,8 +57,8 @@ unfoldable pub Went : Outline → World → Status → World → Type 0
 Went o x Memory y = WasRefused o x y
 Went o x status y = WasDone o x status y
 
--- the last send: the line of the status, and no call was refused memory; out of memory it is missing
--- if its port refused memory for a line
+-- the last send: the line of the status, and no call was refused memory; out of memory it is
+-- missing if its port refused memory for a line
 abbrev pub IsLast : Status → List Sent → World → World → Type 0
 IsLast Memory said x y =
     ((said ≡ status_sends Memory) × Sated x y) ⊎ ((said ≡ []) × IsUnsaid x y)

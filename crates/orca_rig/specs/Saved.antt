@@ -16,8 +16,8 @@ OthersStay name (Some old) (Some new) =
 OthersStay name None None = Unit {0}
 OthersStay name old new = ⊥
 
--- after a save, and a begin, the file of this name holds exactly these bytes; after a failure it may hold any,
--- and the others are as before; where memory was refused all are as before
+-- after a save, and a begin, the file of this name holds exactly these bytes; after a failure it may
+-- hold any, and the others are as before; where memory was refused all are as before
 abbrev pub IsSaved : {T : Type 0}
     → Result T OutsideFault → List ℕ → List ℕ → Option Contents → Option Contents → Type 0
 IsSaved (Ok done) name bytes old new = new ≡ option_map (λ files. insert files name bytes) old
