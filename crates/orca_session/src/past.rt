@@ -376,6 +376,7 @@ impl Past {
     pub fn is_spaced(&self)
         ensures { IsSpaced (plain_machine self.now) (numbers_of self.now) }
     {
+        // For the proof alone: the clauses of this call have what holds.
         let _spacing = self.checkpoints.spacing();
     }
 
