@@ -2,8 +2,9 @@
 use Rattle.std.proofs.Common.{◌≡◌, List, [], ◌∷◌, ◌++◌, refl, append_assoc, arith}
 use Rattle.std.specs.Prelude.{Bool, ◌||◌}
 use Rattle.std.specs.List.{list_any}
+use Rattle.std.proofs.lemmas.List.Sums.{fold-append}
 use Rattle.orca_trace.specs.Calls.{Call}
-use Rattle.orca_course.specs.Answered.{done_in, is_inbox_fault, is_last_poll, refused_in}
+use Rattle.orca_course.specs.Answered.{done_in, is_inbox_fault, is_last_poll, no_outcomes, outcomes_by, outcomes_of, refused_in}
 use Rattle.orca_course.proofs.ActLemmas.{ended_after, lost_after}
 
 pub done_in-append : (xs ys : List Call) → done_in (xs ++ ys) ≡ done_in xs ++ done_in ys
@@ -14,6 +15,11 @@ pub refused_in-append : (xs ys : List Call)
     → refused_in (xs ++ ys) ≡ refused_in xs ++ refused_in ys
 refused_in-append [] ys = refl
 refused_in-append (x ∷ xs) ys = grind (arith, append_assoc, refused_in-append xs ys)
+
+pub outcomes_more : (calls : List Call) (call : Call)
+    → outcomes_of (calls ++ call ∷ []) ≡ outcomes_by (outcomes_of calls) call
+unfolding outcomes_of
+outcomes_more calls call = fold-append outcomes_by no_outcomes calls (call ∷ [])
 
 -- the inbox has failed at a call exactly if it has by what the calls did
 pub lost_after-done : (calls : List Call) (b : Bool)

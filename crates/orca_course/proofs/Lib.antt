@@ -6,5 +6,7 @@ pub mod WorldLemmas
 pub mod CourseLemmas
 pub mod DoingLemmas
 pub mod CallLemmas
+pub mod ItemLemmas
+pub mod TurnLemmas
 pub mod PollLemmas
 pub mod PerformanceLemmas

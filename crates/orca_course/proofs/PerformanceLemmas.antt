@@ -1,27 +1,32 @@
 -- Performances by any part: how they end, and that more answers only add acts.
-use Rattle.std.proofs.Common.{◌≡◌, ◌≢◌, ◌⊎◌, inl, inr, ℕ, ◌+◌, ◌<◌, Bool, true, false, length, List, [], ◌∷◌, ◌++◌, refl, sym, ◌∙◌, ap, append_assoc, append-nil, arith}
+use Rattle.std.proofs.Common.{◌≡◌, ◌≢◌, ◌⊎◌, inl, ℕ, ◌+◌, ◌<◌, Bool, true, false, length, List, [], ◌∷◌, ◌++◌, map, refl, sym, ◌∙◌, ap, append_assoc, append-nil, arith}
 use Rattle.std.specs.Prelude.{if◌then◌else◌, nat_le, Option, Some, None, IfSome, count_by, cond, not}
+use Rattle.std.specs.List.{flat_map}
 use Rattle.std.specs.Option.{option_map}
 use Rattle.std.proofs.lemmas.Bool.{lt-leb}
-use Rattle.std.proofs.lemmas.List.Sums.{sum_by-append, sum_by-cons}
+use Rattle.std.proofs.lemmas.Grind.{flat_map-append}
+use Rattle.std.proofs.lemmas.List.Sums.{sum_by-cons}
 use Rattle.orca_base.specs.declared.limits.TheConstants.{MAX_POLLS}
 use Rattle.orca_edit.proofs.FoldLemmas.{piece_after-closed}
 use Rattle.orca_edit.specs.Pieces.{Piece}
 use Rattle.orca_rig.specs.Arrived.{is_ending}
 use Rattle.orca_rig.specs.declared.inbox.Answer.{Answer}
 use Rattle.orca_rig.specs.declared.inbox.Answer.TheVariants as answer
-use Rattle.orca_trace.specs.Calls.{Poll}
 use Rattle.orca_course.specs.Acts.{Act}
-use Rattle.orca_course.specs.Courses.{Course, each, ended, lastly, lastly_by, mapped, onward, onward_by, still}
+use Rattle.orca_course.specs.Courses.{Course, each, lastly, lastly_by, mapped, onward, onward_by}
 use Rattle.orca_course.specs.Following.{sounding}
-use Rattle.orca_course.specs.Performers.{Part, attended, begun, finished, heard, opened, performance, polled, spent}
+use Rattle.orca_course.specs.Performers.{Heard, Part, Turn, answer_turns, attended, begun, finished, first_turns, given_course, items_of, last_turns, performance, spent, turn_course, turns_of}
+use Rattle.orca_course.specs.Performers.Turn.{Asked, Given, Learned, Over}
 use Rattle.orca_course.specs.Standings.{Standing, notes_of, standing_closed}
 use Rattle.orca_course.specs.declared.ending.Ending.{Ending}
 use Rattle.orca_course.specs.declared.ending.Ending.TheVariants.{Lost, Spent, Stopped}
 use Rattle.orca_course.specs.declared.ending.Stop.{Stop}
 use Rattle.orca_course.specs.declared.ending.Stop.TheVariants.{Full, Left}
+use Rattle.orca_course.specs.declared.item.Came.{Came}
+use Rattle.orca_course.specs.declared.item.Item.{Item}
+use Rattle.orca_course.specs.declared.item.Item.TheVariants as item
 use Rattle.orca_course.proofs.CourseLemmas.{each-append, each-longer, goes_both, onward-kind}
-use Rattle.orca_course.proofs.PollLemmas.{heard_goes}
+use Rattle.orca_course.proofs.PollLemmas.{answer_goes}
 
 -- no note sounds after a close
 pub notes-standing_closed : (s : Standing) → notes_of (standing_closed s) ≡ []
@@ -30,60 +35,66 @@ notes-standing_closed s =
     ap (λ (p : Piece). p.notes)
     (piece_after-closed m.opened m.seed m.history (length m.history) m.closed (omega arith))
 
--- how a performer comes to its end: what comes first does not end it, an answer ends it by leaving
--- or by a full history alone, and where it has finished no note sounds
+-- how a performer comes to its end: what comes first does not end it, an item ends it by leaving or
+-- by a full history alone, and where it has finished no note sounds
 pub record EndsWell {S : Type 0} (p : Part S) : Type 0 where
-  pub opens : (s : S) → (p.opens s).ending ≡ None
-  pub hears : (a : Answer) (bytes : List ℕ) (s : S)
-      → IfSome (p.hears a bytes s).ending (λ stop. (stop ≡ Left) ⊎ (stop ≡ Full))
+  pub opens : (came : Came) (s : S) → (p.takes (item.Open came) s).ending ≡ None
+  pub takes : (i : Item) (s : S)
+      → IfSome (p.takes i s).ending (λ stop. (stop ≡ Left) ⊎ (stop ≡ Full))
   pub silent : (ending : Ending) (s : S)
-      → sounding (p.stance.standing (p.finishes ending s).state) ≡ []
+      → sounding (p.stance.standing (p.takes (item.Ended ending) s).state) ≡ []
 
 -- ---- the last note
 
-lastly_silent : {S : Type 0} (p : Part S)
-    → ((ending : Ending) (s : S) → sounding (p.stance.standing (p.finishes ending s).state) ≡ [])
-    → (end : Option Ending) (c : Course S Ending) (e : Ending)
-    → (lastly_by end c (finished p)).ending ≡ Some e
+-- where a performer has finished no note sounds
+abbrev pub IsSilent : {S : Type 0} → Part S → Type 0
+IsSilent {S} p =
+    (ending : Ending) (s : S)
+    → sounding (p.stance.standing (p.takes (item.Ended ending) s).state) ≡ []
+
+lastly_silent : {S : Type 0} (p : Part S) → IsSilent p → (end : Option Ending)
+    (c : Course S Ending) (e : Ending) → (lastly_by end c (finished p)).ending ≡ Some e
     → sounding (p.stance.standing (lastly_by end c (finished p)).state) ≡ []
 unfolding finished mapped
 lastly_silent p silent None c e is = absurd cc
 lastly_silent p silent (Some end) c e is = silent end c.state
 
 -- a whole performance ends with no note
-pub performance_silent : {S : Type 0} (p : Part S)
-    → ((ending : Ending) (s : S) → sounding (p.stance.standing (p.finishes ending s).state) ≡ [])
-    → (s : S) (polls : List Poll) (e : Ending) → (performance p s polls).ending ≡ Some e
-    → sounding (p.stance.standing (performance p s polls).state) ≡ []
+pub performance_silent : {S : Type 0} (p : Part S) → IsSilent p → (s : S) (opening : Came)
+    (heard : List Heard) (e : Ending) → (performance p s opening heard).ending ≡ Some e
+    → sounding (p.stance.standing (performance p s opening heard).state) ≡ []
 unfolding performance lastly
-performance_silent p silent s polls e is =
-    lastly_silent p silent (begun p s polls).ending (begun p s polls) e is
+performance_silent p silent s opening heard e is =
+    let c = begun p s opening heard in lastly_silent p silent c.ending c e is
 
 -- ---- the number of answers
 
 -- a poll counts if it does not end the performance
-abbrev pub turn_at : Poll → ℕ
-turn_at poll = cond (not (is_ending poll.answer)) 1 0
+abbrev pub turn_at : Heard → ℕ
+turn_at h = cond (not (is_ending h.poll.answer)) 1 0
 
 -- how many polls were answered by bytes or a due moment
-abbrev pub turns : List Poll → ℕ
-turns polls = count_by (λ poll. not (is_ending poll.answer)) polls
+abbrev pub turns : List Heard → ℕ
+turns heard = count_by (λ (h : Heard). not (is_ending h.poll.answer)) heard
 
-turns_more : (poll : Poll) (polls : List Poll) → is_ending poll.answer ≡ false
-    → turns (poll ∷ polls) ≡ 1 + turns polls
-turns_more poll polls off =
-    sum_by-cons turn_at poll polls ∙ ap (λ (b : Bool). cond (not b) 1 0 + turns polls) off
+turns_more : (h : Heard) (heard : List Heard) → is_ending h.poll.answer ≡ false
+    → turns (h ∷ heard) ≡ 1 + turns heard
+turns_more h heard off =
+    sum_by-cons turn_at h heard ∙ ap (λ (b : Bool). cond (not b) 1 0 + turns heard) off
 
 -- all polls count of a performance that goes on
-all_turns : {S : Type 0} (p : Part S) (polls : List Poll) (s : S)
-    → (each (polled p) polls s).ending ≡ None → turns polls ≡ length polls
-unfolding each polled
+all_turns : {S : Type 0} (p : Part S) (heard : List Heard) (s : S)
+    → (each (turn_course p) (flat_map turns_of heard) s).ending ≡ None → turns heard ≡ length heard
+unfolding each turn_course
 all_turns p [] s goes = refl
-all_turns p (poll ∷ polls) s goes =
-    let both = goes_both (polled p poll s) (each (polled p) polls) goes in
-    let on = goes_both _ (heard p poll.answer poll.bytes) both.0 in
-    let more = turns_more poll polls (heard_goes p poll.answer poll.bytes s on.1) in
-    let rest = all_turns p polls (polled p poll s).state both.1 in
+all_turns p (h ∷ heard) s goes =
+    let now = answer_turns h.poll.answer h.poll.bytes h.came in
+    let is = each-append (turn_course p) now (flat_map turns_of heard) s in
+    let both = goes_both (each (turn_course p) now s) (each (turn_course p) (flat_map turns_of heard))
+    (rw is at (goes_both _ (each (turn_course p) (now ++ flat_map turns_of heard)) goes).1) in
+    let off = answer_goes p h.poll.answer h.poll.bytes h.came s both.0 in
+    let more = turns_more h heard off in
+    let rest = all_turns p heard (each (turn_course p) now s).state both.1 in
     omega (arith, more, rest)
 
 -- ---- in which ways it ends
@@ -100,77 +111,71 @@ stopped_in : (P : Stop → Type 0) (end : Option Stop) → IfSome end P
 stopped_in P None ends = tt
 stopped_in P (Some stop) ends = ends
 
-heard_in : {S : Type 0} (P : Stop → Type 0) (p : Part S) → P Left → (a : Answer)
-    (bytes : List ℕ) (s : S) → IfSome (p.hears a bytes s).ending P
-    → EndsIn P (heard p a bytes s).ending
-unfolding heard mapped
-heard_in P p left (answer.Bytes hand count at) bytes s ends = stopped_in P _ ends
-heard_in P p left (answer.Due at) bytes s ends = stopped_in P _ ends
-heard_in P p left answer.End bytes s ends = left
-heard_in P p left answer.Failed bytes s ends = tt
+-- each of these items, where it is taken, ends the performance in one of these ways, if it does
+abbrev pub TakesIn : {S : Type 0} → (Stop → Type 0) → Part S → S → List Turn → Type 0
+TakesIn P p s turns =
+    (before : List Turn) (i : Item) (more : List Turn) → turns ≡ before ++ Given i ∷ more
+    → (each (turn_course p) before s).ending ≡ None
+    → IfSome (p.takes i (each (turn_course p) before s).state).ending P
 
--- each of these answers, where it is heard, ends the performance in one of these ways, if it does
-abbrev pub HearsIn : {S : Type 0} → (Stop → Type 0) → Part S → S → List Poll → Type 0
-HearsIn P p s polls =
-    (before : List Poll) (poll : Poll) (more : List Poll) → polls ≡ before ++ poll ∷ more
-    → (begun p s before).ending ≡ None
-    → IfSome (p.hears poll.answer poll.bytes (begun p s before).state).ending P
+-- turns that end a performance in one of these ways alone, but for their items
+abbrev AreFine : (Stop → Type 0) → List Turn → Type 0
+AreFine P [] = Unit {0}
+AreFine P (Over ending ∷ turns) = EndsIn P (Some ending) × AreFine P turns
+AreFine P (_ ∷ turns) = AreFine P turns
 
-module _ {S : Type 0} (P : Stop → Type 0) (left : P Left) (p : Part S) (s : S)
-    (opens : (opened p s).ending ≡ None) where
-  -- where it stands after these polls
-  abbrev stands : List Poll → Course S Ending
-  stands before = each (polled p) before (opened p s).state
+fine_append : (P : Stop → Type 0) (xs ys : List Turn) → AreFine P xs → AreFine P ys
+    → AreFine P (xs ++ ys)
+fine_append P [] ys first second = second
+fine_append P (x ∷ xs) ys first second = grind (arith, fine_append P xs ys)
 
-  -- a performance so far, if it goes on
-  record SoFar (before : List Poll) : Type 0 where
-    pub ending : (begun p s before).ending ≡ None
-    pub state : (begun p s before).state ≡ (stands before).state
+fine_items : (P : Stop → Type 0) (items : List Item) → AreFine P (map Given items)
+fine_items P [] = tt
+fine_items P (i ∷ items) = fine_items P items
 
-  begun_so : (before : List Poll) → (stands before).ending ≡ None → length before < MAX_POLLS
-      → SoFar before
-  unfolding begun attended spent onward
-  begun_so before goes few =
-      let off = lt-leb MAX_POLLS (length before) few in
-      record { ending = rw (opens, goes, off); state = rw (opens, goes, off) }
+fine_last : (P : Stop → Type 0) → P Left → (a : Answer) (came : Came) → AreFine P (last_turns a came)
+fine_last P left (answer.Bytes hand count at) came = tt
+fine_last P left (answer.Due at) came = tt
+fine_last P left answer.End came = (left, tt)
+fine_last P left answer.Failed came = (tt, tt)
 
-  each_so : (before : List Poll) (poll : Poll) → (stands before).ending ≡ None
-      → (polled p poll (stands before).state).ending ≡ None
-      → ((stands (before ++ poll ∷ [])).ending ≡ None)
-      × ((stands (before ++ poll ∷ [])).state ≡ (polled p poll (stands before).state).state)
-  unfolding onward each
-  each_so before poll goes next =
-      let is = each-append (polled p) before (poll ∷ []) (opened p s).state in
-      (rw (is, goes, next), rw (is, goes, next))
+fine_heard : (P : Stop → Type 0) → P Left → (heard : List Heard)
+    → AreFine P (flat_map turns_of heard)
+fine_heard P left [] = tt
+fine_heard P left (h ∷ heard) =
+    let items = map Given (items_of h.poll.answer h.poll.bytes) in
+    let last = last_turns h.poll.answer h.came in
+    fine_append P (items ++ last) (flat_map turns_of heard)
+    (fine_append P items last (fine_items P (items_of h.poll.answer h.poll.bytes))
+    (fine_last P left h.poll.answer h.came))
+    (fine_heard P left heard)
 
-  ends_from : (before rest : List Poll) → HearsIn P p s (before ++ rest)
-      → turns (before ++ rest) < MAX_POLLS → (stands before).ending ≡ None
-      → EndsIn P (each (polled p) rest (stands before).state).ending
-  unfolding each polled
-  ends_from before [] hears few goes = tt
-  ends_from before (poll ∷ more) hears few goes =
-      let u = (stands before).state in
-      let below : length before < MAX_POLLS =
-      omega (arith, few, all_turns p before _ goes, sum_by-append turn_at before (poll ∷ more)) in
-      let so = begun_so before goes below in
-      let all = append_assoc before (poll ∷ []) more in
-      onward-kind (EndsIn P) (polled p poll u) (each (polled p) more)
-      (onward-kind (EndsIn P) _ (heard p poll.answer poll.bytes) tt
-      (λ on. heard_in P p left poll.answer poll.bytes u
-      (rw so.state at (hears before poll more refl so.ending))))
-      (λ on.
-      let next = each_so before poll goes on in
-      rw next.1 at (ends_from (before ++ poll ∷ []) more (rw all hears) (rw all few) next.0))
+turn_in : {S : Type 0} (P : Stop → Type 0) (p : Part S) (turn : Turn) (turns : List Turn) (s : S)
+    → AreFine P (turn ∷ turns) → TakesIn P p s (turn ∷ turns)
+    → EndsIn P (turn_course p turn s).ending × AreFine P turns
+unfolding turn_course given_course mapped each
+turn_in P p (Asked poll) turns s fine takes = (tt, fine)
+turn_in P p (Learned came) turns s fine takes = (tt, fine)
+turn_in P p (Given i) turns s fine takes = (stopped_in P _ (takes [] i turns refl refl), fine)
+turn_in P p (Over ending) turns s fine takes = fine
 
-  attended_in : (polls : List Poll) → HearsIn P p s polls → turns polls < MAX_POLLS
-      → EndsIn P (attended p polls (opened p s).state).ending
-  unfolding attended spent each
-  attended_in polls hears few =
-      onward-kind (EndsIn P) (each (polled p) polls (opened p s).state) (spent polls)
-      (ends_from [] polls hears few refl)
-      (λ goes.
-      let below : length polls < MAX_POLLS = omega (arith, few, all_turns p polls _ goes) in
-      rw (lt-leb MAX_POLLS (length polls) below) tt)
+takes_later : {S : Type 0} (P : Stop → Type 0) (p : Part S) (turn : Turn) (turns : List Turn) (s : S)
+    → (turn_course p turn s).ending ≡ None → TakesIn P p s (turn ∷ turns)
+    → TakesIn P p (turn_course p turn s).state turns
+unfolding each onward
+takes_later P p turn turns s goes takes before i more is on =
+    let now = takes (turn ∷ before) i more (ap (λ turns. turn ∷ turns) is) in
+    rw goes at now on
+
+turns_in : {S : Type 0} (P : Stop → Type 0) (p : Part S) (turns : List Turn) (s : S)
+    → AreFine P turns → TakesIn P p s turns → EndsIn P (each (turn_course p) turns s).ending
+unfolding each
+turns_in P p [] s fine takes = tt
+turns_in P p (turn ∷ turns) s fine takes =
+    let first = turn_in P p turn turns s fine takes in
+    onward-kind (EndsIn P) (turn_course p turn s) (each (turn_course p) turns) first.0
+    (λ goes. turns_in P p turns (turn_course p turn s).state first.1
+    (takes_later P p turn turns s goes takes))
 
 lastly_in : {S : Type 0} (P : Stop → Type 0) (p : Part S) (end : Option Ending)
     (c : Course S Ending) → EndsIn P end → EndsIn P (lastly_by end c (finished p)).ending
@@ -178,24 +183,58 @@ unfolding finished mapped
 lastly_in P p None c ends = tt
 lastly_in P p (Some end) c ends = ends
 
--- a performance with few polls, whose answers end it in these ways alone, ends so
+-- the turns before the polls are spent
+abbrev pub turns_before : Came → List Heard → List Turn
+turns_before opening heard = first_turns opening ++ flat_map turns_of heard
+
+begun_before : {S : Type 0} (p : Part S) (s : S) (opening : Came) (heard : List Heard)
+    → begun p s opening heard
+    ≡ onward (each (turn_course p) (turns_before opening heard) s) (each (turn_course p) (spent heard))
+unfolding begun
+begun_before p s opening heard =
+    each-append (turn_course p) (turns_before opening heard) (spent heard) s
+
+-- what was said of the turns before, where it goes on, holds of the polls that were spent
+spent_in : {S : Type 0} (P : Stop → Type 0) (p : Part S) (s : S) (opening : Came)
+    (heard : List Heard)
+    → (each (turn_course p) (turns_before opening heard) s).ending ≡ None → turns heard < MAX_POLLS
+    → EndsIn P (each (turn_course p) (spent heard)
+    (each (turn_course p) (turns_before opening heard) s).state).ending
+unfolding each
+spent_in P p s opening heard goes few =
+    let is = each-append (turn_course p) (first_turns opening) (flat_map turns_of heard) s in
+    let both = goes_both (each (turn_course p) (first_turns opening) s)
+    (each (turn_course p) (flat_map turns_of heard)) (rw is at goes) in
+    let many = all_turns p heard (each (turn_course p) (first_turns opening) s).state both.1 in
+    let below : length heard < MAX_POLLS = omega (arith, few, many) in
+    rw (lt-leb MAX_POLLS (length heard) below) tt
+
+-- a performance with few polls, whose items end it in these ways alone, ends so
 pub performance_in : {S : Type 0} (P : Stop → Type 0) → P Left → (p : Part S) (s : S)
-    (polls : List Poll) → (p.opens s).ending ≡ None → HearsIn P p s polls
-    → turns polls < MAX_POLLS → EndsIn P (performance p s polls).ending
-unfolding performance lastly begun opened mapped
-performance_in P left p s polls opens hears few =
-    let first : (opened p s).ending ≡ None = ap (option_map Stopped) opens in
-    lastly_in P p _ (begun p s polls)
-    (onward-kind (EndsIn P) (opened p s) (attended p polls) (rw first tt)
-    (λ on. attended_in P left p s first polls hears few))
+    (opening : Came) (heard : List Heard) → TakesIn P p s (turns_before opening heard)
+    → turns heard < MAX_POLLS → EndsIn P (performance p s opening heard).ending
+unfolding performance lastly
+performance_in P left p s opening heard takes few =
+    let c = each (turn_course p) (turns_before opening heard) s in
+    let ends = turns_in P p (turns_before opening heard) s (fine_heard P left heard) takes in
+    lastly_in P p _ (begun p s opening heard)
+    (rw (begun_before p s opening heard)
+    (onward-kind (EndsIn P) c (each (turn_course p) (spent heard)) ends
+    (λ goes. spent_in P p s opening heard goes few)))
+
+-- the items of a performance that ends well end it by leaving or by a full history
+well_in : {S : Type 0} (p : Part S) → EndsWell p → (s : S) (turns : List Turn)
+    → TakesIn (λ stop. (stop ≡ Left) ⊎ (stop ≡ Full)) p s turns
+well_in p well s turns before i more is goes = well.takes i (each (turn_course p) before s).state
 
 -- one that ends well, and not by a full history, ends by leaving, or since the inbox failed
-pub performance_well : {S : Type 0} (p : Part S) → EndsWell p → (s : S) (polls : List Poll)
-    → turns polls < MAX_POLLS → (performance p s polls).ending ≢ Some (Stopped Full)
-    → EndsIn (λ stop. stop ≡ Left) (performance p s polls).ending
-performance_well p well s polls few room =
-    let ends = performance_in (λ stop. (stop ≡ Left) ⊎ (stop ≡ Full)) (inl refl) p s polls
-    (well.opens s) (λ before poll more is goes. well.hears poll.answer poll.bytes _) few in
+pub performance_well : {S : Type 0} (p : Part S) → EndsWell p → (s : S) (opening : Came)
+    (heard : List Heard) → turns heard < MAX_POLLS
+    → (performance p s opening heard).ending ≢ Some (Stopped Full)
+    → EndsIn (λ stop. stop ≡ Left) (performance p s opening heard).ending
+performance_well p well s opening heard few room =
+    let ends = performance_in (λ stop. (stop ≡ Left) ⊎ (stop ≡ Full)) (inl refl) p s opening heard
+    (well_in p well s (turns_before opening heard)) few in
     grind (arith, ends, room)
 
 -- ---- more answers only add acts
@@ -204,36 +243,48 @@ performance_well p well s polls few room =
 abbrev pub done_of : {S : Type 0} → Course S Ending → List Act × S
 done_of c = (c.acts, c.state)
 
-spent_by : {S : Type 0} (last : Bool) (end : Option Ending) (c : Course S Ending)
-    → done_of (onward_by end c (λ s. if last then ended Spent s else still s)) ≡ done_of c
-spent_by true None c = cc (append-nil c.acts)
-spent_by false None c = cc (append-nil c.acts)
-spent_by last (Some e) c = refl
+spent_by : {S : Type 0} (p : Part S) (last : Bool) (end : Option Ending) (c : Course S Ending)
+    → done_of (onward_by end c (each (turn_course p) (if last then Over Spent ∷ [] else [])))
+    ≡ done_of c
+unfolding each turn_course onward
+spent_by p true None c = cc (append-nil c.acts)
+spent_by p false None c = cc (append-nil c.acts)
+spent_by p last (Some e) c = refl
 
 -- that the polls are spent adds nothing
-pub attended_done : {S : Type 0} (p : Part S) (polls : List Poll) (s : S)
-    → done_of (attended p polls s) ≡ done_of (each (polled p) polls s)
-unfolding attended onward spent
-attended_done p polls s =
-    let c = each (polled p) polls s in
-    spent_by (nat_le MAX_POLLS (length polls)) c.ending c
+pub attended_done : {S : Type 0} (p : Part S) (heard : List Heard) (s : S)
+    → done_of (attended p s heard) ≡ done_of (each (turn_course p) (flat_map turns_of heard) s)
+unfolding attended onward
+attended_done p heard s =
+    let c = each (turn_course p) (flat_map turns_of heard) s in
+    rw (each-append (turn_course p) (flat_map turns_of heard) (spent heard) s)
+    (spent_by p (nat_le MAX_POLLS (length heard)) c.ending c)
+
+begun_done : {S : Type 0} (p : Part S) (s : S) (opening : Came) (heard : List Heard)
+    → done_of (begun p s opening heard)
+    ≡ done_of (each (turn_course p) (turns_before opening heard) s)
+unfolding onward
+begun_done p s opening heard =
+    let c = each (turn_course p) (turns_before opening heard) s in
+    rw (begun_before p s opening heard)
+    (spent_by p (nat_le MAX_POLLS (length heard)) c.ending c)
 
 -- one course has the acts of another, and then these
 abbrev pub Adds : {S : Type 0} → Course S Ending → Course S Ending → Type 0
 Adds c d = (tail : List Act) × (d.acts ≡ c.acts ++ tail)
 
-adds_by : {S : Type 0} (p : Part S) (end : Option Ending) (c : Course S Ending)
-    (polls more : List Poll)
-    → Adds (onward_by end c (attended p polls)) (onward_by end c (attended p (polls ++ more)))
-adds_by {S = S} p None c polls more =
-    let longer = each-longer (polled p) polls more c.state in
-    let acts = λ (polls : List Poll).
-    ap (λ (done : List Act × S). done.0) (attended_done p polls c.state) in
-    (longer.0, simp (acts, longer.1, append_assoc))
-adds_by p (Some e) c polls more = ([], sym (append-nil c.acts))
-
-pub begun_adds : {S : Type 0} (p : Part S) (polls more : List Poll) (s : S)
-    → Adds (begun p s polls) (begun p s (polls ++ more))
-unfolding begun onward
-begun_adds p polls more s =
-    let c = opened p s in adds_by p c.ending c polls more
+pub begun_adds : {S : Type 0} (p : Part S) (opening : Came) (heard more : List Heard) (s : S)
+    → Adds (begun p s opening heard) (begun p s opening (heard ++ more))
+begun_adds {S = S} p opening heard more s =
+    let first = turns_before opening heard in
+    let longer = each-longer (turn_course p) first (flat_map turns_of more) s in
+    let acts = λ (heard : List Heard).
+    ap (λ (done : List Act × S). done.0) (begun_done p s opening heard) in
+    let all : turns_before opening (heard ++ more) ≡ first ++ flat_map turns_of more =
+    rw (flat_map-append turns_of heard more)
+    (sym (append_assoc (first_turns opening) (flat_map turns_of heard) (flat_map turns_of more))) in (
+      longer.0,
+      acts (heard ++ more)
+          ∙ (ap (λ turns. (each (turn_course p) turns s).acts) all
+          ∙ (longer.1 ∙ ap (λ acts. acts ++ longer.0) (sym (acts heard)))),
+    )

@@ -1,8 +1,8 @@
 -- What acts make of the world, one list of them after another.
-use Rattle.std.proofs.Common.{◌≡◌, ℕ, ◌+◌, ◌≤◌, List, [], ◌∷◌, ◌++◌, refl, sym, ap, ◌∙◌, append_assoc, append-nil, arith}
+use Rattle.std.proofs.Common.{◌≡◌, inl, inr, ℕ, ◌+◌, ◌≤◌, List, [], ◌∷◌, ◌++◌, refl, sym, ap, ◌∙◌, append_assoc, append-nil, arith}
 use Rattle.std.proofs.lemmas.List.Folds.{list_any-append}
 use Rattle.std.specs.List.{list_any}
-use Rattle.std.specs.Prelude.{Bool, true, false, ◌||◌, All, Option, None, Result, Ok, Err}
+use Rattle.std.specs.Prelude.{Bool, true, false, ◌||◌, ◌⊎◌, All, Option, None, Result, Ok, Err}
 use Rattle.orca_base.specs.declared.command.Command.{Command}
 use Rattle.orca_term.specs.Picture.{IsPrintable}
 use Rattle.orca_term.specs.declared.cell.Cell.{Cell}
@@ -15,11 +15,12 @@ use Rattle.orca_rig.specs.declared.inbox.Answer.{Answer}
 use Rattle.orca_rig.specs.declared.fault.OutsideFault.TheVariants.{Memory}
 use Rattle.orca_trace.specs.Calls.{Call}
 use Rattle.orca_trace.specs.Calls.Call.{Await as CallAwait, Give as CallGive}
-use Rattle.orca_course.specs.Acts.{Act, ArePrintable, calls_in, given}
-use Rattle.orca_course.specs.Acts.Act.{Append, Await, Begin, Give, Load, Obey, Save, Screen, Show, Stand, Strike}
-use Rattle.orca_course.specs.Answered.{done_in, is_file_fault, refused_in}
+use Rattle.orca_course.specs.Acts.{Act, ArePrintable, AreUntold, calls_in, given}
+use Rattle.orca_course.specs.Acts.Act.{Append, Await, Begin, Give, Learn, Load, Obey, Save, Screen, Show, Stand, Strike}
+use Rattle.orca_course.specs.Answered.{came_of, done_in, is_file_fault, refused_in}
 use Rattle.orca_course.specs.Standings.{Standing}
-use Rattle.orca_course.specs.Worlds.{AreCalled, AreCounted, AreStored, Called, Counts, IsCounted, Made, Polled, Sated, Stores, Unsent, Wants, World, has_ended, has_failed, is_lost, is_unstored, owing}
+use Rattle.orca_course.specs.Worlds.{AreCalled, AreCounted, AreStored, Called, Counts, IsCounted, Learns, Made, Polled, Sated, Stores, Unsent, Wants, World, has_ended, has_failed, is_lost, is_unstored, owing}
+use Rattle.orca_course.specs.declared.item.Came.{Came}
 use Rattle.orca_course.specs.declared.refused.NoMemory.{NoMemory}
 use Rattle.orca_course.specs.declared.refused.NoMemory.TheVariants.{InSend, Elsewhere}
 use Rattle.orca_course.proofs.ActLemmas.{ArePrintable-append, calls_in-append, ended_after, ended_after-calls, given-append, lost_after, lost_after-calls}
@@ -48,6 +49,72 @@ counted_twice xs ys a b c first second = record {
   inbox = rw list_any-append (counted_once _ _ _ _ _ first.inbox second.inbox);
 }
 
+-- what is told of calls
+
+-- where something stands in a list and another one, it stands in the first or in the second
+abbrev StandsIn : {X : Type 0} → List X → List X → List X → X → List X → Type 0
+StandsIn {X} xs ys before a after =
+    ((rest : List X) × (xs ≡ before ++ a ∷ rest))
+    ⊎ ((front : List X) × (before ≡ xs ++ front) × (ys ≡ front ++ a ∷ after))
+
+stands_in : {X : Type 0} (xs ys before : List X) (a : X) (after : List X)
+    → xs ++ ys ≡ before ++ a ∷ after → StandsIn xs ys before a after
+stands_in [] ys before a after is = inr (before, refl, is)
+stands_in (x ∷ xs) ys [] a after is = inl (xs, cc is)
+stands_in (x ∷ xs) ys (b ∷ before) a after is =
+    elim (stands_in xs ys before a after (cc is)) [
+      | inl at ↦ inl (at.0, cc (is, at.1))
+      | inr at ↦ inr (at.0, cc (is, at.1), at.2)
+    ]
+
+untold_none : (before : List Act) (came : Came) (after : List Act)
+    → AreUntold (before ++ Learn came ∷ after) → ⊥
+untold_none [] came after none = none
+untold_none (x ∷ before) came after none = grind (arith, untold_none before came after)
+
+learns_untold : (acts : List Act) (old new : List Call) → AreUntold acts → Learns acts old new
+unfolding Learns
+learns_untold acts old new none before came after is =
+    absurd (untold_none before came after (rw is at none))
+
+learns_now : (calls : List Call) → Learns (Learn (came_of calls) ∷ []) calls calls
+unfolding Learns
+learns_now calls [] came after is = record {
+  since = [];
+  later = [];
+  calls = sym (append-nil calls);
+  done = refl;
+  is = grind (arith, append-nil, is);
+}
+learns_now calls (x ∷ []) came after is = absurd cc
+learns_now calls (x ∷ y ∷ before) came after is = absurd cc
+
+learns_twice : (xs ys : List Act) (a b c first second : List Call) → b ≡ a ++ first
+    → c ≡ b ++ second → done_in first ≡ calls_in xs → Learns xs a b → Learns ys b c
+    → Learns (xs ++ ys) a c
+unfolding Learns
+learns_twice xs ys a b c first second calls more done one two before came after is =
+    elim (stands_in xs ys before (Learn came) after is) [
+      | inl at ↦
+          let so = one before came at.0 at.1 in
+          record {
+            since = so.since;
+            later = so.later ++ second;
+            calls = grind (arith, append_assoc, more, so.calls);
+            done = so.done;
+            is = so.is;
+          }
+      | inr at ↦
+          let so = two at.0 came after at.2 in
+          record {
+            since = first ++ so.since;
+            later = so.later;
+            calls = grind (arith, append_assoc, calls, so.calls);
+            done = grind (arith, done_in-append, calls_in-append, at.1, done, so.done);
+            is = grind (arith, append_assoc, calls, so.is);
+          }
+    ]
+
 -- acts that were done
 
 called_none : (x y : World) → y.calls ≡ x.calls → y.contents ≡ x.contents → y.faults ≡ x.faults
@@ -59,6 +126,7 @@ called_none x y calls contents faults = (
   refl,
   contents,
   rw faults (record { ports = refl; files = refl; inbox = refl }),
+  learns_untold [] x.calls y.calls tt,
 )
 
 -- no call was made
@@ -74,12 +142,9 @@ called_twice xs ys x y z first second = (
   grind (arith, done_in-append, calls_in-append, first.2, second.2),
   stored_twice first.0 second.0 _ _ _ first.3 second.3,
   counted_twice first.0 second.0 _ _ _ first.4 second.4,
+  learns_twice xs ys x.calls y.calls z.calls first.0 second.0 first.1 second.1 first.2 first.5
+      second.5,
 )
-
-called_alike : (xs ys : List Act) (x y : World) → calls_in ys ≡ calls_in xs → AreCalled xs x y
-    → AreCalled ys x y
-unfolding AreCalled
-called_alike xs ys x y same made = (made.0, made.1, made.2 ∙ sym same, made.3, made.4)
 
 called_owing : (acts : List Act) (x y : World) (m n : ℕ) → AreCalled acts x y
     → AreCalled acts (owing m x) (owing n y)
@@ -92,13 +157,21 @@ unfolding AreCalled
 called_clear acts x y m n made = made
 
 pub made_none : (x : World) → Made [] 0 x x
-made_none x = record { called = called_none x x refl refl refl; shows = tt; paid = omega arith }
+made_none x = record {
+  called = called_none x x refl refl refl;
+  shows = tt;
+  paid = omega arith;
+}
 
 -- steps alone were taken
 pub made_paid : (bill : ℕ) (x y : World) → y.calls ≡ x.calls → y.contents ≡ x.contents
     → y.faults ≡ x.faults → y.paid ≤ x.paid + bill → Made [] bill x y
 made_paid bill x y calls contents faults paid =
-    record { called = called_none x y calls contents faults; shows = tt; paid = paid }
+    record {
+      called = called_none x y calls contents faults;
+      shows = tt;
+      paid = paid;
+    }
 
 pub made_twice : {xs ys : List Act} {m n : ℕ} {x y z : World} → Made xs m x y → Made ys n y z
     → Made (xs ++ ys) (m + n) x z
@@ -131,34 +204,61 @@ made_clear {xs = xs} {x = x} {y = y} n made = record {
   paid = omega (arith, made.paid);
 }
 
--- the same calls
+-- where the run stands, a command, a key, a picture, a size and what calls came to are no calls
 
-made_alike : {xs ys : List Act} {bill : ℕ} {x y : World} → calls_in ys ≡ calls_in xs
-    → ArePrintable ys → Made xs bill x y → Made ys bill x y
-made_alike {xs = xs} {ys = ys} {x = x} {y = y} same shows made =
-    record { called = called_alike xs ys x y same made.called; shows = shows; paid = made.paid }
+called_mark : (acts : List Act) (x : World) → calls_in acts ≡ [] → Learns acts x.calls x.calls
+    → AreCalled acts x x
+unfolding AreCalled
+called_mark acts x none learns = (
+  [],
+  sym (append-nil x.calls),
+  sym none,
+  refl,
+  record { ports = refl; files = refl; inbox = refl },
+  learns,
+)
 
--- where the run stands, a command, a key, a picture and a size are no calls
+made_mark : (act : Act) (x : World) → calls_in (act ∷ []) ≡ [] → AreUntold (act ∷ [])
+    → ArePrintable (act ∷ []) → Made (act ∷ []) 0 x x
+made_mark act x none untold shows = record {
+  called = called_mark (act ∷ []) x none (learns_untold (act ∷ []) x.calls x.calls untold);
+  shows = shows;
+  paid = omega arith;
+}
+
+made_after : {acts : List Act} {bill : ℕ} {x y : World} (act : Act) → calls_in (act ∷ []) ≡ []
+    → AreUntold (act ∷ []) → ArePrintable (act ∷ []) → Made acts bill x y
+    → Made (act ∷ acts) bill x y
+made_after {bill = bill} {x = x} act none untold shows made =
+    made_within bill (omega arith) (made_twice (made_mark act x none untold shows) made)
 
 pub made_stand : {acts : List Act} {bill : ℕ} {x y : World} (s : Standing) → Made acts bill x y
     → Made (Stand s ∷ acts) bill x y
-made_stand s made = made_alike refl made.shows made
+made_stand s made = made_after (Stand s) refl tt tt made
 
 pub made_obey : {acts : List Act} {bill : ℕ} {x y : World} (command : Command) → Made acts bill x y
     → Made (Obey command ∷ acts) bill x y
-made_obey command made = made_alike refl made.shows made
+made_obey command made = made_after (Obey command) refl tt tt made
 
 pub made_strike : {acts : List Act} {bill : ℕ} {x y : World} (hand : ℕ) (key : Key)
     → Made acts bill x y → Made (Strike hand key ∷ acts) bill x y
-made_strike hand key made = made_alike refl made.shows made
+made_strike hand key made = made_after (Strike hand key) refl tt tt made
 
 pub made_show : {acts : List Act} {bill : ℕ} {x y : World} (cells : List Cell)
     → All IsPrintable cells → Made acts bill x y → Made (Show cells ∷ acts) bill x y
-made_show cells printable made = made_alike refl (printable, made.shows) made
+made_show cells printable made = made_after (Show cells) refl tt (printable, tt) made
 
 pub made_screen : {acts : List Act} {bill : ℕ} {x y : World} (d : ScreenSize)
     → Made acts bill x y → Made (Screen d ∷ acts) bill x y
-made_screen d made = made_alike refl made.shows made
+made_screen d made = made_after (Screen d) refl tt tt made
+
+-- what all calls so far came to
+pub made_learn : (x : World) → Made (Learn (came_of x.calls) ∷ []) 0 x x
+made_learn x = record {
+  called = called_mark (Learn (came_of x.calls) ∷ []) x refl (learns_now x.calls);
+  shows = tt;
+  paid = omega arith;
+}
 
 -- the inbox has failed exactly if it had, or failed at one of the acts
 pub lost_made : {acts : List Act} {bill : ℕ} {x y : World} → Made acts bill x y
@@ -274,10 +374,17 @@ pub record IsNext (call : Call) (x y : World) : Type 0 where
   pub paid : y.paid ≡ x.paid
 
 next_made : (call : Call) (acts : List Act) {x y : World} → done_in (call ∷ []) ≡ calls_in acts
-    → ArePrintable acts → IsNext call x y → Made acts 0 x y
+    → ArePrintable acts → AreUntold acts → IsNext call x y → Made acts 0 x y
 unfolding AreCalled
-next_made call acts done shows next = record {
-  called = (call ∷ [], next.calls, done, (_, next.stored, refl), next.counted);
+next_made call acts {x = x} {y = y} done shows untold next = record {
+  called = (
+    call ∷ [],
+    next.calls,
+    done,
+    (_, next.stored, refl),
+    next.counted,
+    learns_untold acts x.calls y.calls untold,
+  );
   shows = shows;
   paid = omega (arith, next.paid);
 }
@@ -289,9 +396,10 @@ next_sated call x y none next = rw (next.calls, refused_in-append, none) (append
 -- it was done
 pub next_done : {T : Type 0} {done : T} (call : Call) (act : Act) {x y : World}
     → done_in (call ∷ []) ≡ calls_in (act ∷ []) → refused_in (call ∷ []) ≡ []
-    → ArePrintable (act ∷ []) → IsNext call x y → Called (Ok done) act x y
-next_done call act done none shows next = record {
-  called = (next_made call (act ∷ []) done shows next, next_sated call _ _ none next);
+    → ArePrintable (act ∷ []) → AreUntold (act ∷ []) → IsNext call x y
+    → Called (Ok done) act x y
+next_done call act done none shows untold next = record {
+  called = (next_made call (act ∷ []) done shows untold next, next_sated call _ _ none next);
 }
 
 -- it was refused memory, and is no send
@@ -299,7 +407,7 @@ pub next_refused : {T : Type 0} (call : Call) (act : Act) {x y : World} → done
     → given (refused_in (call ∷ [])) ≡ [] → IsNext call x y → Called {T = T} (Err Elsewhere) act x y
 next_refused call act {x = x} none other next = record {
   called = (
-    next_made call [] none tt next,
+    next_made call [] none tt tt next,
     rw (next.calls, refused_in-append, given-append, other) (append-nil (given (refused_in x.calls))),
   );
 }
@@ -312,7 +420,7 @@ next_unsent sent answer {x = x} memory next =
     let refused = rw memory at next in
     record {
       called = (
-        next_made (CallGive sent (Err Memory)) [] refl tt refused,
+        next_made (CallGive sent (Err Memory)) [] refl tt tt refused,
         record {
           sent = sent;
           later = [];
@@ -335,6 +443,6 @@ pub next_polled : (answer : Answer) {until : Option ℕ} {bytes : List ℕ} {x y
     → IsNext (CallAwait (record { until = until; answer = answer; bytes = bytes })) x y
     → Polled until answer bytes x y
 next_polled answer next = record {
-  made = next_made _ _ (polled_done answer _ _).0 tt next;
+  made = next_made _ _ (polled_done answer _ _).0 tt tt next;
   sated = next_sated _ _ _ (polled_done answer _ _).1 next;
 }

@@ -11,6 +11,7 @@ use Rattle.orca_term.specs.declared.cell.Cell.{Cell}
 use Rattle.orca_term.specs.declared.cell.ScreenSize.{ScreenSize}
 use Rattle.orca_term.specs.declared.keys.Key.{Key}
 use Rattle.orca_course.specs.Standings.{Standing}
+use Rattle.orca_course.specs.declared.item.Came.{Came}
 
 -- one call on the outside, with its answer where that decides what follows; and, between calls, the
 -- commands, where they leave the run, the keys that hands struck, the pictures that were painted,
@@ -42,6 +43,8 @@ pub data Act : Type 0 where
   Show : List Cell → Act
   -- from here on the terminal has this size, and shows whatever it shows; no call
   Screen : ScreenSize → Act
+  -- what all calls so far came to is told; no call
+  Learn : Came → Act
 
 -- ---- calls
 
@@ -53,6 +56,7 @@ calls_in (Stand s ∷ acts) = calls_in acts
 calls_in (Strike hand key ∷ acts) = calls_in acts
 calls_in (Show cells ∷ acts) = calls_in acts
 calls_in (Screen d ∷ acts) = calls_in acts
+calls_in (Learn came ∷ acts) = calls_in acts
 calls_in (act ∷ acts) = act ∷ calls_in acts
 
 -- the sends among acts
@@ -118,6 +122,12 @@ abbrev pub ArePrintable : List Act → Type 0
 ArePrintable [] = Unit {0}
 ArePrintable (Show cells ∷ acts) = All IsPrintable cells × ArePrintable acts
 ArePrintable (_ ∷ acts) = ArePrintable acts
+
+-- what calls came to is not told among acts
+abbrev pub AreUntold : List Act → Type 0
+AreUntold [] = Unit {0}
+AreUntold (Learn came ∷ acts) = ⊥
+AreUntold (_ ∷ acts) = AreUntold acts
 
 -- the inbox is not asked among acts
 abbrev pub AreDeaf : List Act → Type 0

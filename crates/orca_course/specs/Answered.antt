@@ -1,6 +1,8 @@
 -- What calls did, by what they answered.
-use Rattle.std.specs.Prelude.{Bool, true, false, List, [], ◌∷◌, ◌++◌, Option, Some, Err}
+use Rattle.std.specs.Prelude.{Bool, true, false, ◌||◌, List, [], ◌∷◌, ◌++◌, fold, Option, Some, Ok, Err}
 use Rattle.std.specs.Result.{result_ok}
+use Rattle.orca_base.specs.declared.port.Port.{Port}
+use Rattle.orca_base.specs.declared.port.Port.TheVariants as port
 use Rattle.orca_rig.specs.Arrived.{is_ending}
 use Rattle.orca_rig.specs.declared.fault.OutsideFault.{OutsideFault}
 use Rattle.orca_rig.specs.declared.fault.OutsideFault.TheVariants.{Failed, Memory}
@@ -10,6 +12,9 @@ use Rattle.orca_trace.specs.Calls.{Call, fault_of}
 use Rattle.orca_trace.specs.Calls.Call.{Append as CallAppend, Attach as CallAttach, Await as CallAwait, Begin as CallBegin, Give as CallGive, Listen as CallListen, Load as CallLoad, Save as CallSave}
 use Rattle.orca_course.specs.Acts.{Act}
 use Rattle.orca_course.specs.Acts.Act.{Append, Attach, Await, Begin, Give, Listen, Load, Save}
+use Rattle.orca_course.specs.declared.item.Came.{Came}
+use Rattle.orca_course.specs.declared.notes.Outcomes.{Outcomes}
+use Rattle.orca_course.specs.declared.notes.Ports.{Ports}
 
 -- a call as an act: with its answer where that decides what follows
 abbrev pub act_of : Call → Act
@@ -96,3 +101,53 @@ is_listen other = false
 abbrev pub is_last_poll : Call → Bool
 is_last_poll (CallAwait poll) = is_ending poll.answer
 is_last_poll other = false
+
+-- ---- what calls came to
+
+-- it holds of a port of messages, or not
+abbrev pub ports_with : Port → Bool → Ports → Ports
+ports_with port.Midi holds ports = record ports { midi = holds }
+ports_with port.Udp holds ports = record ports { udp = holds }
+ports_with port.Osc holds ports = record ports { osc = holds }
+ports_with port.Text holds ports = ports
+ports_with port.Fault holds ports = ports
+ports_with port.View holds ports = ports
+
+-- after a call: which ports could not be attached, and of which the last send has failed; whether a
+-- begin or an append has failed; and whether the last save has. What was refused memory counts for
+-- nothing
+unfoldable pub outcomes_by : Outcomes → Call → Outcomes
+outcomes_by o (CallAttach attached (Err Failed)) =
+    record o { unattached = ports_with attached.port true o.unattached }
+outcomes_by o (CallGive sent (Ok done)) =
+    record o { unsent = ports_with sent.port false o.unsent }
+outcomes_by o (CallGive sent (Err Failed)) =
+    record o { unsent = ports_with sent.port true o.unsent }
+outcomes_by o (CallSave name bytes (Ok done)) = record o { unsaved = false }
+outcomes_by o (CallSave name bytes (Err Failed)) = record o { unsaved = true }
+outcomes_by o (CallBegin name bytes (Err Failed)) = record o { journal = true }
+outcomes_by o (CallAppend name bytes (Err Failed)) = record o { journal = true }
+outcomes_by o other = o
+
+abbrev pub no_ports : Ports
+no_ports = record { midi = false; udp = false; osc = false }
+
+abbrev pub no_outcomes : Outcomes
+no_outcomes =
+    record { unattached = no_ports; unsent = no_ports; journal = false; unsaved = false }
+
+unfoldable pub outcomes_of : List Call → Outcomes
+outcomes_of calls = fold outcomes_by no_outcomes calls
+
+abbrev pub came_in : Outcomes → Came
+came_in o = record {
+  midi = o.unattached.midi || o.unsent.midi;
+  udp = o.unattached.udp || o.unsent.udp;
+  osc = o.unattached.osc || o.unsent.osc;
+  journal = o.journal;
+  unsaved = o.unsaved;
+}
+
+-- what calls came to
+abbrev pub came_of : List Call → Came
+came_of calls = came_in (outcomes_of calls)

@@ -1,74 +1,112 @@
--- What a performer does, and a whole performance.
-use Rattle.std.specs.Prelude.{◌≡◌, ℕ, ◌≤◌, Bool, true, if◌then◌else◌, nat_le, List, [], ◌∷◌, length, Option, Some, Result, Ok, Err}
+-- What a performer does for an item, and a whole performance.
+use Rattle.std.specs.Prelude.{◌≡◌, ℕ, ◌≤◌, Bool, true, if◌then◌else◌, nat_le, List, [], ◌∷◌, ◌++◌, length, map, Option, Some, Result, Ok, Err}
+use Rattle.std.specs.List.{flat_map, range_with_len}
 use Rattle.std.specs.Option.{option_map}
-use Rattle.orca_base.specs.declared.limits.TheConstants.{MAX_POLLS}
+use Rattle.orca_base.specs.declared.limits.TheConstants.{MAX_HANDS, MAX_POLLS}
 use Rattle.orca_trace.specs.Calls.{Poll}
 use Rattle.orca_rig.specs.declared.inbox.Answer.{Answer}
 use Rattle.orca_rig.specs.declared.inbox.Answer.TheVariants as answer
 use Rattle.orca_course.specs.Acts.{AreDeaf, polls_in}
-use Rattle.orca_course.specs.Acts.Act.{Await}
-use Rattle.orca_course.specs.Courses.{Course, course, each, ended, lastly, mapped, onward, still}
+use Rattle.orca_course.specs.Acts.Act.{Await, Learn}
+use Rattle.orca_course.specs.Courses.{Course, course, each, ended, lastly, mapped}
 use Rattle.orca_course.specs.Doing.{Does, Stance}
 use Rattle.orca_course.specs.Worlds.{World, is_lost}
 use Rattle.orca_course.specs.declared.ending.Ending.{Ending}
 use Rattle.orca_course.specs.declared.ending.Ending.TheVariants.{Lost, Spent, Stopped}
 use Rattle.orca_course.specs.declared.ending.Stop.{Stop}
 use Rattle.orca_course.specs.declared.ending.Stop.TheVariants.{Left}
+use Rattle.orca_course.specs.declared.item.Came.{Came}
+use Rattle.orca_course.specs.declared.item.Item.{Item}
+use Rattle.orca_course.specs.declared.item.Item.TheVariants as item
 use Rattle.orca_course.specs.declared.refused.NoMemory.{NoMemory}
 
 -- where a performer stands in a state; the moment that its next poll waits for; and what it does
--- first, for an answer by bytes or a due moment, and at the end
+-- for an item
 pub record Part (S : Type 0) : Type 0 where
   pub stance : Stance S
   pub until : S → Option ℕ
-  pub opens : S → Course S Stop
-  pub hears : Answer → List ℕ → S → Course S Stop
-  pub finishes : Ending → S → Course S Stop
+  pub takes : Item → S → Course S Stop
 
 -- a performer does not ask the inbox: the loop alone does
-pub record IsDeaf {S : Type 0} (p : Part S) : Type 0 where
-  pub opens : (s : S) → AreDeaf (p.opens s).acts
-  pub hears : (a : Answer) (bytes : List ℕ) (s : S) → AreDeaf (p.hears a bytes s).acts
-  pub finishes : (ending : Ending) (s : S) → AreDeaf (p.finishes ending s).acts
+unfoldable pub IsDeaf : {S : Type 0} → Part S → Type 0
+IsDeaf {S} p = (i : Item) (s : S) → AreDeaf (p.takes i s).acts
 
--- what an answer brings
-unfoldable pub heard : {S : Type 0} → Part S → Answer → List ℕ → S → Course S Ending
-heard p (answer.Bytes hand count at) bytes s =
-    mapped (λ t. t) (option_map Stopped) (p.hears (answer.Bytes hand count at) bytes s)
-heard p (answer.Due at) bytes s =
-    mapped (λ t. t) (option_map Stopped) (p.hears (answer.Due at) bytes s)
-heard p answer.End bytes s = ended (Stopped Left) s
-heard p answer.Failed bytes s = ended Lost s
+-- what is done for an item
+unfoldable pub given_course : {S : Type 0} → Part S → Item → S → Course S Ending
+given_course p i s = mapped (λ t. t) (option_map Stopped) (p.takes i s)
 
--- a poll that waits for the moment that is due, and what its answer brings
-unfoldable pub polled : {S : Type 0} → Part S → Poll → S → Course S Ending
-polled p poll s =
-    onward (course (Await (record poll { until = p.until s }) ∷ []) 0 s)
-    (heard p poll.answer poll.bytes)
+-- ---- a performance
+
+-- an answer that was heard: a poll, and what all calls had come to when what it brought was over
+pub record Heard : Type 0 where
+  pub poll : Poll
+  pub came : Came
+
+-- one turn of a performance: the inbox is asked, what calls came to is learnt, an item is given, or
+-- it ends
+pub data Turn : Type 0 where
+  Asked : Poll → Turn
+  Learned : Came → Turn
+  Given : Item → Turn
+  Over : Ending → Turn
+
+-- a poll waits for the moment that is due
+unfoldable pub turn_course : {S : Type 0} → Part S → Turn → S → Course S Ending
+turn_course p (Asked poll) s = course (Await (record poll { until = p.until s }) ∷ []) 0 s
+turn_course p (Learned came) s = course (Learn came ∷ []) 0 s
+turn_course p (Given i) s = given_course p i s
+turn_course p (Over ending) s = ended ending s
+
+-- the hands, in their order
+unfoldable pub hands : List ℕ
+hands = range_with_len 0 MAX_HANDS
+
+-- what an answer brings: each byte; or, before a moment is due, that nothing came of each hand
+abbrev pub items_of : Answer → List ℕ → List Item
+items_of (answer.Bytes hand count at) bytes = map (item.Byte hand at) bytes
+items_of (answer.Due at) bytes = map (λ hand. item.Lull hand at) hands ++ item.Due at ∷ []
+items_of answer.End bytes = []
+items_of answer.Failed bytes = []
+
+-- that it was all; the last answers end the performance
+abbrev pub last_turns : Answer → Came → List Turn
+last_turns (answer.Bytes hand count at) came = Learned came ∷ Given (item.Over came) ∷ []
+last_turns (answer.Due at) came = Learned came ∷ Given (item.Over came) ∷ []
+last_turns answer.End came = Over (Stopped Left) ∷ []
+last_turns answer.Failed came = Over Lost ∷ []
+
+abbrev pub answer_turns : Answer → List ℕ → Came → List Turn
+answer_turns a bytes came = map Given (items_of a bytes) ++ last_turns a came
+
+abbrev pub turns_of : Heard → List Turn
+turns_of h = Asked h.poll ∷ answer_turns h.poll.answer h.poll.bytes h.came
 
 -- as many polls as may be were answered
-unfoldable pub spent : {S : Type 0} → List Poll → S → Course S Ending
-spent polls s = if nat_le MAX_POLLS (length polls) then ended Spent s else still s
+abbrev pub spent : List Heard → List Turn
+spent heard = if nat_le MAX_POLLS (length heard) then Over Spent ∷ [] else []
 
--- the polls, one after another
-unfoldable pub attended : {S : Type 0} → Part S → List Poll → S → Course S Ending
-attended p polls s = onward (each (polled p) polls s) (spent polls)
+-- the answers, one after another
+abbrev pub heard_turns : List Heard → List Turn
+heard_turns heard = flat_map turns_of heard ++ spent heard
+
+unfoldable pub attended : {S : Type 0} → Part S → S → List Heard → Course S Ending
+attended p s heard = each (turn_course p) (heard_turns heard) s
 
 -- what comes first
-unfoldable pub opened : {S : Type 0} → Part S → S → Course S Ending
-opened p s = mapped (λ t. t) (option_map Stopped) (p.opens s)
+abbrev pub first_turns : Came → List Turn
+first_turns came = Learned came ∷ Given (item.Open came) ∷ []
 
--- what comes first, and then the polls
-unfoldable pub begun : {S : Type 0} → Part S → S → List Poll → Course S Ending
-begun p s polls = onward (opened p s) (attended p polls)
+-- what comes first, and then the answers
+unfoldable pub begun : {S : Type 0} → Part S → S → Came → List Heard → Course S Ending
+begun p s opening heard = each (turn_course p) (first_turns opening ++ heard_turns heard) s
 
 -- what comes last; the performance has ended already
 unfoldable pub finished : {S : Type 0} → Part S → Ending → S → Course S Ending
-finished p ending s = mapped (λ t. t) (λ end. Some ending) (p.finishes ending s)
+finished p ending s = mapped (λ t. t) (λ end. Some ending) (p.takes (item.Ended ending) s)
 
 -- a whole performance
-unfoldable pub performance : {S : Type 0} → Part S → S → List Poll → Course S Ending
-performance p s polls = lastly (begun p s polls) (finished p)
+unfoldable pub performance : {S : Type 0} → Part S → S → Came → List Heard → Course S Ending
+performance p s opening heard = lastly (begun p s opening heard) (finished p)
 
 -- the inbox has failed exactly if that ended the performance
 abbrev pub IsLostBy : Result (Option Ending) NoMemory → Bool → Bool → Type 0
@@ -76,13 +114,17 @@ IsLostBy (Ok (Some Lost)) was is = is ≡ true
 IsLostBy (Ok end) was is = is ≡ was
 IsLostBy (Err refused) was is = Unit {0}
 
+-- the polls of what was heard
+abbrev pub polls_of : List Heard → List Poll
+polls_of = map (λ (h : Heard). h.poll)
+
 -- some polls were answered, no more than may be: exactly those that are among the acts; and this
 -- was done of what they make
-pub record DoesPolls {S : Type 0} (v : Stance S) (c : List Poll → Course S Ending)
+pub record DoesPolls {S : Type 0} (v : Stance S) (c : List Heard → Course S Ending)
     (s : S) (x : World) (result : Result (Option Ending) NoMemory) (t : S) (y : World)
     : Type 0 where
-  pub polls : List Poll
-  pub few : length polls ≤ MAX_POLLS
-  pub all : polls_in (c polls).acts ≡ polls
+  pub heard : List Heard
+  pub few : length heard ≤ MAX_POLLS
+  pub all : polls_in (c heard).acts ≡ polls_of heard
   pub lost : IsLostBy result (is_lost x) (is_lost y)
-  pub did : Does v (c polls) s x result t y
+  pub did : Does v (c heard) s x result t y

@@ -9,18 +9,19 @@ ghost use Rattle.orca_rig.specs.Arrived.{arrived};
 ghost use Rattle.orca_base.specs.declared.limits.TheConstants.{MAX_HANDS};
 ghost use Rattle.orca_course.specs.Acts.{given};
 ghost use Rattle.orca_course.specs.Acts.Act.{Append, Attach, Begin, Give, Listen, Load, Save};
-ghost use Rattle.orca_course.specs.Answered.{done_in};
+ghost use Rattle.orca_course.specs.Answered.{came_of, done_in};
 ghost use Rattle.orca_course.specs.Told.{IsLogOf, Records, Tells, asked_in, attached_in};
 ghost use Rattle.orca_course.specs.Worlds.{Called, LeavesInbox, Made, Polled, Sated, has_ended, has_failed, has_listened, is_unstored, owing, listen_moment, loaded_text};
 
-use crate::NoMemory;
+use crate::notes::Notes;
 use crate::polling::arrived;
+use crate::{Came, NoMemory};
 use orca_base::limits::ARRIVAL_BYTES;
 use orca_base::{Command, Fault, Port, Reply, Steps};
 use orca_edit::Machine;
 use orca_notes::Messages;
 use orca_rig::{Answer, Disk, Files, House, Inbox, Outs, OutsideFault};
-use orca_trace::{Kind, Trace};
+use orca_trace::Kind;
 use std::alloc::Global;
 use std::marker::{Model, PhantomData};
 use std::sync::ledger::Ledger;
@@ -34,7 +35,7 @@ pub struct Desk<H: House> {
     outs: H::Outs,
     inbox: H::Inbox,
     steps: Steps<H::Ledger>,
-    trace: Trace,
+    notes: Notes,
     failed: bool,
     unstored: bool,
 }
@@ -49,7 +50,7 @@ impl<H: House> Model for Desk<H> {
     ghost coded = { Prim.hlevel (codes, contents_code) };
 
     ghost view = { λ d. record {
-      calls = d.trace.calls;
+      calls = d.notes;
       contents = H.Files.contents d.files;
       faults = record {
         ports = H.Outs.faults d.outs;
@@ -61,11 +62,11 @@ impl<H: House> Model for Desk<H> {
 
     ghost invariant = { λ d.
         Tells (H.Outs.handed d.outs) (H.Outs.attached d.outs) (H.Files.asked d.files)
-        (H.Inbox.log d.inbox) d.trace.calls
+        (H.Inbox.log d.inbox) d.notes
         × AreWanted (H.Outs.wants d.outs) (H.Files.wants d.files) (H.Inbox.wants d.inbox)
-        d.trace.calls
-        × Records d.failed d.unstored (H.Inbox.listened d.inbox) (H.Inbox.ended d.inbox)
-        d.trace.calls };
+         d.notes
+         × Records d.failed d.unstored (H.Inbox.listened d.inbox) (H.Inbox.ended d.inbox)
+         d.notes };
 }
 
 /// A house of any types that fit.
@@ -112,7 +113,7 @@ pub fn desk_of<F: Files, O: Outs, I: Inbox, L: Ledger>(
         outs,
         inbox,
         steps,
-        trace: Trace::new(),
+        notes: Notes::new(),
         failed: false,
         unstored: false,
     }
@@ -162,6 +163,13 @@ impl<H: House> Desk<H> {
         self.unstored
     }
 
+    /// What the calls so far came to.
+    pub fn came(&self) -> Came
+        ensures { result ≡ came_of self.now.calls }
+    {
+        self.notes.came()
+    }
+
     /// Connects a port to a name. A failure is recorded, and the run goes on.
     pub fn attach(&mut self, port: Port, name: &str) -> Result<(), NoMemory>
         ensures called { Called result (Attach (record { port = port; name = name.now }))
@@ -169,7 +177,7 @@ impl<H: House> Desk<H> {
         ensures inbox { LeavesInbox self.old self.new }
     {
         let answer = self.outs.attach(port, name);
-        self.trace
+        self.notes
             .note(&Kind::Attach(port, answer), name.as_bytes(), &[]);
         self.failed |= matches!(answer, Err(OutsideFault::Failed));
         match answer {
@@ -186,7 +194,7 @@ impl<H: House> Desk<H> {
         ensures in_send { result ≢ Err NoMemory.Elsewhere }
     {
         let answer = self.outs.send(port, bytes);
-        self.trace.note(&Kind::Give(port, answer), &[], bytes);
+        self.notes.note(&Kind::Give(port, answer), &[], bytes);
         self.failed |= matches!(answer, Err(OutsideFault::Failed));
         match answer {
             Ok(()) => Ok(()),
@@ -203,7 +211,7 @@ impl<H: House> Desk<H> {
     {
         let mut text = Vec::new(alloc);
         let answer = self.files.load(name, &mut text);
-        self.trace.note(&Kind::Load(answer), name.as_bytes(), &text);
+        self.notes.note(&Kind::Load(answer), name.as_bytes(), &text);
         self.unstored |= matches!(answer, Err(OutsideFault::Failed));
         match answer {
             Ok(()) => Ok(Some(text)),
@@ -217,7 +225,7 @@ impl<H: House> Desk<H> {
         ensures { Called result (Save name.now bytes.now) self.old self.new }
     {
         let answer = self.files.save(name, bytes, disk);
-        self.trace.note(&Kind::Save(answer), name.as_bytes(), bytes);
+        self.notes.note(&Kind::Save(answer), name.as_bytes(), bytes);
         self.unstored |= matches!(answer, Err(OutsideFault::Failed));
         match answer {
             Ok(()) => Ok(()),
@@ -232,7 +240,7 @@ impl<H: House> Desk<H> {
         ensures { Called result (Begin name.now bytes.now) self.old self.new }
     {
         let answer = self.files.begin(name, bytes);
-        self.trace
+        self.notes
             .note(&Kind::Begin(answer), name.as_bytes(), bytes);
         self.unstored |= matches!(answer, Err(OutsideFault::Failed));
         match answer {
@@ -247,7 +255,7 @@ impl<H: House> Desk<H> {
         ensures { Called result (Append name.now bytes.now) self.old self.new }
     {
         let answer = self.files.append(name, bytes);
-        self.trace
+        self.notes
             .note(&Kind::Append(answer), name.as_bytes(), bytes);
         self.unstored |= matches!(answer, Err(OutsideFault::Failed));
         match answer {
@@ -267,7 +275,7 @@ impl<H: House> Desk<H> {
         ensures open { has_ended self.new ≡ has_ended self.old }
     {
         let answer = self.inbox.listen_hands(name, hands);
-        self.trace
+        self.notes
             .note(&Kind::Listen(hands, answer), name.as_bytes(), &[]);
         match answer {
             Ok(at) => Ok(Some(at)),
@@ -283,7 +291,7 @@ impl<H: House> Desk<H> {
         ensures { Polled until result (arrived result bytes.new) self.old self.new }
     {
         let answer = self.inbox.poll(&self.outs, until, bytes);
-        self.trace
+        self.notes
             .note(&Kind::Await(until, answer), &[], arrived(answer, bytes));
         answer
     }

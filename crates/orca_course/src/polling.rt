@@ -1,13 +1,14 @@
-//! The loop that polls the inbox, and hands its answers to a performer.
+//! The loop that polls the inbox, and gives its answers to a performer, item by item.
 
-ghost use Rattle.std.specs.Prelude.{◌≡◌, false};
-ghost use Rattle.orca_course.specs.Performed.{Performs, PerformsPolls};
-ghost use Rattle.orca_course.specs.Performers.{attended, begun, heard, opened, performance};
+ghost use Rattle.std.specs.Prelude.{◌≡◌, ◌<◌, ◌∷◌, ◌+◌, drop, false, length};
+ghost use Rattle.orca_course.specs.Courses.{each};
+ghost use Rattle.orca_course.specs.Performed.{Performs, PerformsCame, PerformsFrom, PerformsPolls};
+ghost use Rattle.orca_course.specs.Performers.{answer_turns, attended, begun, first_turns, given_course, items_of, last_turns, performance, turn_course};
 ghost use Rattle.orca_course.specs.Worlds.{has_ended};
 ghost use Rattle.orca_rig.specs.Arrived.{arrived};
 
-use crate::{Desk, Ending, NoMemory, Performer, Stop};
-use orca_base::limits::{ARRIVAL_BYTES, MAX_POLLS};
+use crate::{Desk, Ending, Item, NoMemory, Performer, Stop};
+use orca_base::limits::{ARRIVAL_BYTES, MAX_HANDS, MAX_POLLS};
 use orca_rig::{Answer, House};
 
 /// The bytes that came with an answer.
@@ -20,31 +21,117 @@ pub(crate) fn arrived(answer: Answer, filled: &[u8; ARRIVAL_BYTES]) -> &[u8]
     }
 }
 
-/// Does what an answer brings.
-#[tactic(auto, using(crate::proofs::WorldLemmas::called_still), unfolding(crate::specs::Performers::heard, crate::specs::Courses::mapped))]
+/// How many items an answer brings.
+#[tactic(auto, using(crate::proofs::ItemLemmas::bytes_length, crate::proofs::ItemLemmas::due_length))]
+fn item_count(answer: Answer, bytes: &[u8]) -> usize
+    ensures { result ≡ length (items_of answer bytes.now) }
+{
+    match answer {
+        Answer::Bytes { .. } => bytes.len(),
+        Answer::Due { .. } => usize::from(MAX_HANDS) + 1,
+        Answer::End | Answer::Failed => 0,
+    }
+}
+
+/// The item of that index. It goes before those after it.
+fn item_at(answer: Answer, bytes: &[u8], index: usize) -> Item
+    requires { index < length (items_of answer bytes.now) }
+    ensures { drop index (items_of answer bytes.now)
+        ≡ result ∷ drop (index + 1) (items_of answer bytes.now) }
+{
+    match answer {
+        Answer::Bytes { hand, at, .. } => Item::Byte {
+            hand,
+            at,
+            byte: bytes[index],
+        },
+        Answer::Due { at } => {
+            if index < usize::from(MAX_HANDS) {
+                Item::Lull {
+                    hand: index as u8,
+                    at,
+                }
+            } else {
+                Item::Due { at }
+            }
+        }
+        Answer::End | Answer::Failed => unreachable!(),
+    }
+}
+
+/// Gives an item to a performer.
+fn give<P: Performer, H: House>(
+    performer: &mut P,
+    desk: &mut Desk<H>,
+    item: Item,
+) -> Result<Option<Ending>, NoMemory>
+    ensures { Performs P.Performer.own (given_course P.part item)
+        performer.old desk.old result performer.new desk.new }
+{
+    let end = performer.take(desk, item)?;
+    Ok(end.map(Ending::Stopped))
+}
+
+/// Gives what an answer brings, one by one. What comes after the end of the performance is dropped.
+#[tactic(auto, using(crate::proofs::DoingLemmas::far_none, crate::proofs::DoingLemmas::far_over, std::proofs::lemmas::List::drop_all))]
+fn give_items<P: Performer, H: House>(
+    performer: &mut P,
+    desk: &mut Desk<H>,
+    answer: Answer,
+    bytes: &[u8],
+) -> Result<Option<Ending>, NoMemory>
+    ensures { Performs P.Performer.own (each (given_course P.part) (items_of answer bytes.now))
+        performer.old desk.old result performer.new desk.new }
+{
+    for index in 0..item_count(answer, bytes) {
+        if let Some(ending) = give(performer, desk, item_at(answer, bytes, index))? {
+            return Ok(Some(ending));
+        }
+    }
+    Ok(None)
+}
+
+/// Gives that it was all, and what the calls came to. The last answers end the performance.
+fn give_last<P: Performer, H: House>(
+    performer: &mut P,
+    desk: &mut Desk<H>,
+    answer: Answer,
+) -> Result<Option<Ending>, NoMemory>
+    ensures { PerformsCame P.Performer.own
+        (λ came. each (turn_course P.part) (last_turns answer came))
+        performer.old desk.old result performer.new desk.new }
+{
+    match answer {
+        Answer::End => Ok(Some(Ending::Stopped(Stop::Left))),
+        Answer::Failed => Ok(Some(Ending::Lost)),
+        Answer::Bytes { .. } | Answer::Due { .. } => {
+            let came = desk.came();
+            give(performer, desk, Item::Over(came))
+        }
+    }
+}
+
+/// Gives what an answer brings, and that it was all.
 fn heed<P: Performer, H: House>(
     performer: &mut P,
     desk: &mut Desk<H>,
     answer: Answer,
     bytes: &[u8],
 ) -> Result<Option<Ending>, NoMemory>
-    ensures { Performs P.Performer.own (heard P.part answer bytes.now)
+    ensures { PerformsCame P.Performer.own
+        (λ came. each (turn_course P.part) (answer_turns answer bytes.now came))
         performer.old desk.old result performer.new desk.new }
 {
-    match answer {
-        Answer::End => Ok(Some(Ending::Stopped(Stop::Left))),
-        Answer::Failed => Ok(Some(Ending::Lost)),
-        Answer::Bytes { .. } | Answer::Due { .. } => match performer.hear(desk, answer, bytes)? {
-            Some(stop) => Ok(Some(Ending::Stopped(stop))),
-            None => Ok(None),
-        },
+    if let Some(ending) = give_items(performer, desk, answer, bytes)? {
+        return Ok(Some(ending));
     }
+    give_last(performer, desk, answer)
 }
 
-/// Polls the inbox, and does what each answer brings, until the performance ends.
+/// Polls the inbox, and gives what each answer brings, until the performance ends.
 fn attend<P: Performer, H: House>(performer: &mut P, desk: &mut Desk<H>) -> Result<Ending, NoMemory>
     requires { has_ended desk.old ≡ false }
-    ensures { PerformsPolls P.Performer.own (λ s polls. attended P.part polls s)
+    ensures { PerformsPolls P.Performer.own (attended P.part)
         performer.old desk.old result performer.new desk.new }
 {
     performer.is_deaf();
@@ -58,26 +145,22 @@ fn attend<P: Performer, H: House>(performer: &mut P, desk: &mut Desk<H>) -> Resu
     Ok(Ending::Spent)
 }
 
-/// Does what comes first.
-#[tactic(auto, unfolding(crate::specs::Performers::opened, crate::specs::Courses::mapped))]
+/// Gives that the performance begins, and what the calls before it came to.
 fn open<P: Performer, H: House>(
     performer: &mut P,
     desk: &mut Desk<H>,
 ) -> Result<Option<Ending>, NoMemory>
-    ensures { Performs P.Performer.own (opened P.part)
+    ensures { PerformsCame P.Performer.own (λ came. each (turn_course P.part) (first_turns came))
         performer.old desk.old result performer.new desk.new }
 {
-    match performer.open(desk)? {
-        Some(stop) => Ok(Some(Ending::Stopped(stop))),
-        None => Ok(None),
-    }
+    let came = desk.came();
+    give(performer, desk, Item::Open(came))
 }
 
-/// Does what comes first, and then polls until the performance ends.
-#[tactic(auto, using(crate::proofs::PollLemmas::begun_left))]
+/// Gives what comes first, and then polls until the performance ends.
 fn begin<P: Performer, H: House>(performer: &mut P, desk: &mut Desk<H>) -> Result<Ending, NoMemory>
     requires { has_ended desk.old ≡ false }
-    ensures { PerformsPolls P.Performer.own (begun P.part)
+    ensures { PerformsFrom P.Performer.own (begun P.part)
         performer.old desk.old result performer.new desk.new }
 {
     performer.is_deaf();
@@ -91,18 +174,17 @@ fn begin<P: Performer, H: House>(performer: &mut P, desk: &mut Desk<H>) -> Resul
 ///
 /// If memory is refused by a send, nothing follows it. If it is refused elsewhere, the notes still
 /// sound: the caller ends them.
-#[tactic(auto, using(crate::proofs::PollLemmas::performance_err))]
 pub fn perform<P: Performer, H: House>(
     performer: &mut P,
     desk: &mut Desk<H>,
 ) -> Result<Ending, NoMemory>
     // The inbox has not ended.
     requires { has_ended desk.old ≡ false }
-    ensures { PerformsPolls P.Performer.own (performance P.part)
+    ensures { PerformsFrom P.Performer.own (performance P.part)
         performer.old desk.old result performer.new desk.new }
 {
     performer.is_deaf();
     let ending = begin(performer, desk)?;
-    performer.finish(desk, ending)?;
+    performer.take(desk, Item::Ended(ending))?;
     Ok(ending)
 }

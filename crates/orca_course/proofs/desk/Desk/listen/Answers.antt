@@ -13,10 +13,10 @@ pub returns-clause-called : goal.returns-clause-called
 returns-clause-called g c =
     rw (← c.self.view_is) (elim c.match-answer.branch [
       | in-Ok w ↦
-          rw w.result-is (next_done (CallListen _ _ c.listen_hands-answer.result) _ (grind arith) (grind arith) tt
+          rw w.result-is (next_done (CallListen _ _ c.listen_hands-answer.result) _ (grind arith) (grind arith) tt tt
           (is_next c.note.ensures (grind (arith, common_steps)) (grind (arith, common_steps)) refl))
       | in-Err-Failed w ↦
-          rw w.result-is (next_done (CallListen _ _ c.listen_hands-answer.result) _ (grind arith) (grind arith) tt
+          rw w.result-is (next_done (CallListen _ _ c.listen_hands-answer.result) _ (grind arith) (grind arith) tt tt
           (is_next c.note.ensures (grind (arith, common_steps)) (grind (arith, common_steps)) refl))
       | in-Err-Memory w ↦
           rw w.result-is (next_refused (CallListen _ _ c.listen_hands-answer.result) _ (grind arith) (grind arith)

@@ -9,7 +9,7 @@ invariant_of-self g c = grind (arith, common_steps, one_more)
 
 pub returns-in-Ok-clause-called : goal.returns-in-Ok-clause-called
 returns-in-Ok-clause-called g c =
-    rw (← c.self.view_is) (next_done _ _ (grind arith) (grind arith) tt
+    rw (← c.self.view_is) (next_done _ _ (grind arith) (grind arith) tt tt
     (is_next c.note.ensures (grind (arith, common_steps)) (grind (arith, common_steps)) refl))
 
 pub invariant_of-self-in-Err-Failed-answer : goal.invariant_of-self-in-Err-Failed-answer
@@ -17,7 +17,7 @@ invariant_of-self-in-Err-Failed-answer g c = grind (arith, common_steps, one_mor
 
 pub returns-in-Err-Failed-answer-clause-called : goal.returns-in-Err-Failed-answer-clause-called
 returns-in-Err-Failed-answer-clause-called g c =
-    rw (← c.self.view_is) (next_done _ _ (grind arith) (grind arith) tt
+    rw (← c.self.view_is) (next_done _ _ (grind arith) (grind arith) tt tt
     (is_next c.note.ensures (grind (arith, common_steps)) (grind (arith, common_steps)) refl))
 
 pub invariant_of-self-2 : goal.invariant_of-self-2

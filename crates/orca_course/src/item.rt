@@ -1,0 +1,33 @@
+use crate::Ending;
+
+/// What the calls so far came to.
+#[derive(Clone, Copy, Debug, PartialEq, Eq)]
+pub struct Came {
+    /// The MIDI port could not be attached, or its last send has failed.
+    pub midi: bool,
+    /// So of the UDP port.
+    pub udp: bool,
+    /// So of the OSC port.
+    pub osc: bool,
+    /// A begin or an append of a file has failed.
+    pub journal: bool,
+    /// The last save has failed.
+    pub unsaved: bool,
+}
+
+/// What a performer is given, one after another. Moments are in microseconds.
+#[derive(Clone, Copy, Debug, PartialEq, Eq)]
+pub enum Item {
+    /// The performance begins.
+    Open(Came),
+    /// A byte of a hand, which came at a moment.
+    Byte { hand: u8, at: u64, byte: u8 },
+    /// Nothing came of a hand up to a moment.
+    Lull { hand: u8, at: u64 },
+    /// A moment is due.
+    Due { at: u64 },
+    /// All that an answer brought was given.
+    Over(Came),
+    /// The performance has ended so: what comes last.
+    Ended(Ending),
+}
