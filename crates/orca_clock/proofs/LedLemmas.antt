@@ -6,28 +6,29 @@ use Rattle.std.specs.Option.{option_map}
 use Rattle.std.proofs.lemmas.Bool.Decides.{nat_tests}
 use Rattle.std.proofs.lemmas.List.{replicate-append-replicate}
 use Rattle.orca_base.specs.Ascii.{space}
-use Rattle.orca_base.specs.declared.limits.TheConstants.{MAX_POLLS}
 use Rattle.orca_base.specs.declared.command.Command.TheVariants as command
 use Rattle.orca_base.specs.declared.port.Port.TheVariants as port
 use Rattle.orca_base.specs.Ranges.{IsSendable}
 use Rattle.orca_concert.specs.Concerts.{concert_with, handed_of}
 use Rattle.orca_concert.specs.Manners.{Manner}
 use Rattle.orca_course.specs.Acts.{Act, commands_in, gives}
-use Rattle.orca_course.specs.Acts.Act.{Await, Give, Obey, Stand}
-use Rattle.orca_course.specs.Courses.{Course, each, mapped, onward, still}
+use Rattle.orca_course.specs.Acts.Act.{Await, Give, Learn, Obey, Stand}
+use Rattle.orca_course.specs.Courses.{Course, mapped, onward, still}
 use Rattle.orca_course.specs.Following.{midi_sent}
-use Rattle.orca_course.specs.Performers.{attended, heard, polled, spent}
+use Rattle.orca_course.specs.Performers.{Heard, Turn, attended, given_course, heard_turns, turn_course}
+use Rattle.orca_course.specs.Performers.Turn.{Asked, Given, Learned, Over}
 use Rattle.orca_course.specs.Standings.{standing_after}
 use Rattle.orca_course.specs.declared.ending.Ending.TheVariants.{Stopped}
 use Rattle.orca_course.specs.declared.ending.Stop.TheVariants.{Full}
+use Rattle.orca_course.specs.declared.item.Came.{Came}
+use Rattle.orca_course.specs.declared.item.Item.TheVariants as item
 use Rattle.orca_course.proofs.ActLemmas.{commands_in-append, handed_commands}
+use Rattle.orca_course.proofs.TurnLemmas.{IsInner, inner_heard}
 use Rattle.orca_edit.specs.Frames.{machine_after}
 use Rattle.orca_edit.specs.Obeying.{MachineState, obey, piece_of}
 use Rattle.orca_edit.proofs.FrameLemmas.{IsPlayed, frame_plays, framed}
 use Rattle.orca_op.specs.Laws.{IsLawful}
 use Rattle.orca_op.specs.Rules.{rule}
-use Rattle.orca_rig.specs.declared.inbox.Answer.{Answer}
-use Rattle.orca_rig.specs.declared.inbox.Answer.TheVariants as answer
 use Rattle.orca_sync.specs.Clocks.{beat_in, beats_from}
 use Rattle.orca_sync.specs.Leading.{clocked_at, plays}
 use Rattle.orca_sync.specs.RealTime.{timing_clock}
@@ -38,8 +39,8 @@ use Rattle.orca_sync.proofs.LeadLaws.{step}
 use Rattle.orca_trace.specs.Calls.{Poll}
 use Rattle.orca_clock.specs.Clocked.{clock_frame_course}
 use Rattle.orca_clock.specs.Laws.{TellsAtEnd, midi_bytes_in}
-use Rattle.orca_clock.specs.Leaders.{Led, clocked_course, clock_due_course, lead_key_course, lead_course, lead_part, quit, toggle_course, with_metronome}
-use Rattle.orca_clock.proofs.GoingLemmas.{each_holds, onward_holds}
+use Rattle.orca_clock.specs.Leaders.{Led, clocked_course, clock_due_course, hand_key_course, lead_key_course, lead_course, lead_part, quit, toggle_course, with_metronome}
+use Rattle.orca_clock.proofs.GoingLemmas.{turns_hold}
 use Rattle.orca_clock.proofs.MidiLemmas.{handed_no_clock, midi_bytes-append}
 use Rattle.orca_clock.proofs.TellingLemmas.{Goes, command_told}
 
@@ -242,7 +243,7 @@ module _ {R : Type 0} (m : Manner R) (tells : TellsAtEnd m) (lawful : IsLawful r
       let led = frame_led at s on counts (grind (arith, nat_tests)) in
       rw (due_runs at s on) (λ other. rw (goes.acts, goes.state) led)
 
-  -- ---- answers
+  -- ---- keys
 
   key_by : (at byte : ℕ) (s : Led R) (pauses leaves : Bool) → (byte == space) ≡ pauses
       → (byte == quit) ≡ leaves → Leads s (lead_key_course at byte s).acts (lead_key_course at byte s).state
@@ -252,38 +253,13 @@ module _ {R : Type 0} (m : Manner R) (tells : TellsAtEnd m) (lawful : IsLawful r
   key_by at byte s false true is other = rw (is, other) (led_none s)
   key_by at byte s false false is other = rw (is, other) (led_none s)
 
-  keys_led : (at : ℕ) (bytes : List ℕ) (s : Led R)
-      → LeadsUnless Full s (each (lead_key_course at) bytes s)
-  keys_led at bytes s =
-      each_holds (λ s acts t. Leads s acts t) Full led_both (lead_key_course at) led_none
-      (λ byte s other. key_by at byte s (byte == space) (byte == quit) refl refl) bytes s
+  byte_led : (hand at byte : ℕ) (s : Led R) (first : Bool) → (hand == 0) ≡ first
+      → Leads s (hand_key_course hand at byte s).acts (hand_key_course hand at byte s).state
+  unfolding hand_key_course
+  byte_led hand at byte s true is = rw is (key_by at byte s (byte == space) (byte == quit) refl refl)
+  byte_led hand at byte s false is = rw is (led_none s)
 
-  hand_led : (hand count at : ℕ) (bytes : List ℕ) (s : Led R) (first : Bool) → (hand == 0) ≡ first
-      → LeadsUnless Full s (lead_course m (answer.Bytes hand count at) bytes s)
-  unfolding lead_course
-  hand_led hand count at bytes s true is = rw is (keys_led at bytes s)
-  hand_led hand count at bytes s false is = rw is (λ other. led_none s)
-
-  hears_led : (a : Answer) (bytes : List ℕ) (s : Led R)
-      → LeadsUnless Full s (lead_course m a bytes s)
-  unfolding lead_course
-  hears_led (answer.Bytes hand count at) bytes s =
-      hand_led hand count at bytes s (hand == 0) refl
-  hears_led (answer.Due at) bytes s =
-      due_led at s s.metronome.pulse.runs (plays s.metronome)
-      (nat_le (machine_of s).limit (length (machine_of s).history)) refl refl refl
-  hears_led answer.End bytes s = λ other. led_none s
-  hears_led answer.Failed bytes s = λ other. led_none s
-
-  heard_led : (a : Answer) (bytes : List ℕ) (s : Led R)
-      → LeadsUnless (Stopped Full) s (heard (lead_part m) a bytes s)
-  unfolding heard mapped
-  heard_led (answer.Bytes hand count at) bytes s = λ other.
-      hears_led (answer.Bytes hand count at) bytes s (λ is. other (ap (option_map Stopped) is))
-  heard_led (answer.Due at) bytes s = λ other.
-      hears_led (answer.Due at) bytes s (λ is. other (ap (option_map Stopped) is))
-  heard_led answer.End bytes s = λ other. led_none s
-  heard_led answer.Failed bytes s = λ other. led_none s
+  -- ---- turns
 
   -- a poll gives no byte and no command
   await_led : (poll : Poll) (s : Led R) → Leads s (Await poll ∷ []) s
@@ -298,26 +274,38 @@ module _ {R : Type 0} (m : Manner R) (tells : TellsAtEnd m) (lawful : IsLawful r
     ready = ready;
   }
 
-  polled_led : (poll : Poll) (s : Led R)
-      → LeadsUnless (Stopped Full) s (polled (lead_part m) poll s)
-  unfolding polled
-  polled_led poll s =
-      onward_holds (λ s acts t. Leads s acts t) (Stopped Full) led_both s _
-      (heard (lead_part m) poll.answer poll.bytes)
-      (λ other. await_led _ s) (λ t. heard_led poll.answer poll.bytes t)
+  -- nor does what calls came to
+  learn_led : (came : Came) (s : Led R) → Leads s (Learn came ∷ []) s
+  unfolding midi_sent
+  learn_led came s ready = record {
+    frames = 0;
+    commands = refl;
+    beats = λ rest. refl;
+    machine = refl;
+    longer = omega arith;
+    limit = refl;
+    ready = ready;
+  }
 
-  spent_by : (polls : List Poll) (s : Led R) (all : Bool) → nat_le MAX_POLLS (length polls) ≡ all
-      → LeadsUnless (Stopped Full) s (spent polls s)
-  unfolding spent
-  spent_by polls s true is = rw is (λ other. led_none s)
-  spent_by polls s false is = rw is (λ other. led_none s)
+  turn_led : (turn : Turn) → IsInner turn → (s : Led R)
+      → LeadsUnless (Stopped Full) s (turn_course (lead_part m) turn s)
+  unfolding turn_course given_course lead_course mapped
+  turn_led (Asked poll) inner s = λ other. await_led _ s
+  turn_led (Learned came) inner s = λ other. learn_led came s
+  turn_led (Over ending) inner s = λ other. led_none s
+  turn_led (Given (item.Byte hand at byte)) inner s = λ other. byte_led hand at byte s (hand == 0) refl
+  turn_led (Given (item.Due at)) inner s = λ other.
+      due_led at s s.metronome.pulse.runs (plays s.metronome)
+      (nat_le (machine_of s).limit (length (machine_of s).history)) refl refl refl
+      (λ is. other (ap (option_map Stopped) is))
+  turn_led (Given (item.Open came)) inner s = absurd inner
+  turn_led (Given (item.Ended ending)) inner s = absurd inner
+  turn_led (Given (item.Lull hand at)) inner s = λ other. led_none s
+  turn_led (Given (item.Over came)) inner s = λ other. led_none s
 
-  pub attended_led : (polls : List Poll) (s : Led R)
-      → LeadsUnless (Stopped Full) s (attended (lead_part m) polls s)
+  pub attended_led : (heard : List Heard) (s : Led R)
+      → LeadsUnless (Stopped Full) s (attended (lead_part m) s heard)
   unfolding attended
-  attended_led polls s =
-      onward_holds (λ s acts t. Leads s acts t) (Stopped Full) led_both s
-      (each (polled (lead_part m)) polls s) (spent polls)
-      (each_holds (λ s acts t. Leads s acts t) (Stopped Full) led_both (polled (lead_part m))
-      led_none polled_led polls s)
-      (λ t. spent_by polls t (nat_le MAX_POLLS (length polls)) refl)
+  attended_led heard s =
+      turns_hold (λ s acts t. Leads s acts t) (Stopped Full) led_both (lead_part m) led_none turn_led
+      (heard_turns heard) (inner_heard heard) s

@@ -1,5 +1,4 @@
 pub mod ClockLemmas
-pub mod FollowedLemmas
 pub mod GoingLemmas
 pub mod HeardLemmas
 pub mod LedLemmas

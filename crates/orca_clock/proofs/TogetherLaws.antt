@@ -10,14 +10,15 @@ use Rattle.orca_base.specs.declared.port.Port.TheVariants as port
 use Rattle.orca_concert.specs.Manners.{Manner}
 use Rattle.orca_course.specs.Acts.{Act, commands_in}
 use Rattle.orca_course.specs.Acts.Act.{Give, Stand}
-use Rattle.orca_course.specs.Courses.{Course, mapped, onward}
+use Rattle.orca_course.specs.Courses.{Course, each, mapped, onward}
 use Rattle.orca_course.specs.Following.{midi_sent}
-use Rattle.orca_course.specs.Performers.{attended, begun, opened, performance}
+use Rattle.orca_course.specs.Performers.{Heard, attended, begun, given_course, performance, turn_course}
 use Rattle.orca_course.specs.Standings.{Standing, notes_of, standing_closed}
 use Rattle.orca_course.specs.declared.ending.Ending.{Ending}
 use Rattle.orca_course.specs.declared.ending.Ending.TheVariants.{Stopped}
 use Rattle.orca_course.specs.declared.ending.Stop.{Stop}
 use Rattle.orca_course.specs.declared.ending.Stop.TheVariants.{Full, Left}
+use Rattle.orca_course.specs.declared.item.Came.{Came}
 use Rattle.orca_course.proofs.ActLemmas.{commands_in-append}
 use Rattle.orca_edit.specs.Frames.{machine_after}
 use Rattle.orca_edit.specs.Obeying.{MachineState, accept, entry_of, extend, machine_at_start, machine_closed, obey, piece_of, rule_against, taken_area}
@@ -34,14 +35,12 @@ use Rattle.orca_sync.specs.RealTime.{is_clock, stop}
 use Rattle.orca_sync.specs.declared.follower.Beat.TheVariants as beat
 use Rattle.orca_sync.proofs.ClockLaws.{others_drop}
 use Rattle.orca_sync.proofs.LeadLaws.{drops}
-use Rattle.orca_trace.specs.Calls.{Poll}
 use Rattle.orca_clock.specs.Laws.{FollowsBytes, HeedsClock, FollowerIsLed, TellsAtEnd, commands_of_beat, heard_in, midi_bytes_in, opened_concert as opened_grid}
 use Rattle.orca_clock.specs.Clocked.{end_course}
 use Rattle.orca_clock.specs.Followers.{follow_at_start, follow_part}
-use Rattle.orca_clock.specs.Leaders.{Led, lead_at_start, lead_finish, lead_open, lead_part}
-use Rattle.orca_clock.proofs.FollowedLemmas.{follow_played, machine_by}
+use Rattle.orca_clock.specs.Leaders.{Led, lead_at_start, lead_course, lead_finish, lead_open, lead_part}
 use Rattle.orca_clock.proofs.GoingLemmas.{has_ended}
-use Rattle.orca_clock.proofs.HeardLemmas.{follow_heard}
+use Rattle.orca_clock.proofs.HeardLemmas.{follow_heard, follow_played, machine_by}
 use Rattle.orca_clock.proofs.LedLemmas.{IsReady, attended_led, machine_of}
 use Rattle.orca_clock.proofs.MidiLemmas.{end_commands, handed_no_clock, midi_bytes-append}
 use Rattle.orca_clock.proofs.TellingLemmas.{end_told}
@@ -49,14 +48,14 @@ use Rattle.orca_clock.proofs.TellingLemmas.{end_told}
 -- ---- a follower
 
 pub follows_bytes : FollowsBytes
-follows_bytes m s polls tells = follow_heard m tells polls (follow_at_start s)
+follows_bytes m s opening heard tells = follow_heard m tells opening heard (follow_at_start s)
 
 pub heeds_clock : HeedsClock
-heeds_clock m s polls others tells left also alike =
-    let first = follow_played m tells polls (follow_at_start s) left in
-    let second = follow_played m tells others (follow_at_start s) also in
-    let beats : beats_from stopped (heard_in polls) ≡ beats_from stopped (heard_in others) =
-    sym (others_drop stopped (heard_in polls))
+heeds_clock m s opening other heard others tells left also alike =
+    let first = follow_played m tells opening heard (follow_at_start s) left in
+    let second = follow_played m tells other others (follow_at_start s) also in
+    let beats : beats_from stopped (heard_in heard) ≡ beats_from stopped (heard_in others) =
+    sym (others_drop stopped (heard_in heard))
     ∙ (ap (beats_from stopped) alike ∙ others_drop stopped (heard_in others)) in (
       first.0 ∙ (ap (flat_map commands_of_beat) beats ∙ sym second.0),
       first.1
@@ -121,23 +120,24 @@ module _ {R : Type 0} (m : Manner R) (tells : TellsAtEnd m) (lawful : IsLawful r
         machine = ap (λ (t : Standing). t.machine) told.standing;
       }
 
-  lead_all : (polls : List Poll) (s : Led R) → IsReady (machine_of s)
+  lead_all : (opening : Came) (heard : List Heard) (s : Led R) → IsReady (machine_of s)
       → s.metronome.pulse ≡ running 0
-      → let c = performance (lead_part m) s polls in c.ending ≡ Some (Stopped Left)
+      → let c = performance (lead_part m) s opening heard in c.ending ≡ Some (Stopped Left)
       → HasLedAll s c
-  unfolding begun opened lead_open onward mapped heed beats_from midi_sent
-  lead_all polls s ready new left =
-      let whole = has_ended (lead_part m) s polls (Stopped Left) left in
-      let c = attended (lead_part m) polls s in
+  unfolding begun attended each turn_course given_course lead_course lead_open onward mapped heed
+      beats_from midi_sent
+  lead_all opening heard s ready new left =
+      let whole = has_ended (lead_part m) s opening heard (Stopped Left) left in
+      let c = attended (lead_part m) s heard in
       let ends : c.ending ≡ Some (Stopped Left) = whole.ending in
       let other : c.ending ≢ Some (Stopped Full) = λ full. absurd cc in
-      let led = attended_led m tells lawful polls s other ready in
+      let led = attended_led m tells lawful heard s other ready in
       let end = stopped_all c.state led.ready in
       record {
         frames = led.frames;
-        commands = end_commands _ (begun (lead_part m) s polls).acts
+        commands = end_commands _ (begun (lead_part m) s opening heard).acts
             (lead_finish m (Stopped Left) c.state).acts _ whole.acts led.commands end.commands;
-        beats = λ p. all_beats _ (begun (lead_part m) s polls).acts
+        beats = λ p. all_beats _ (begun (lead_part m) s opening heard).acts
             (lead_finish m (Stopped Left) c.state).acts led.frames p c.state.metronome.pulse
             whole.acts
             (λ rest. ap (λ beats. beat.Restart ∷ beats)
@@ -208,14 +208,14 @@ closed_same : (m : MachineState) → silence (piece_of (machine_closed m)) ≡ s
 closed_same m = silence-closes m.opened m.seed m.history (length m.history) m.closed
 
 pub leads_follower : FollowerIsLed
-leads_follower lawful m n tells others sheet seed limit other bpm at kept spare tally count polls
-    heard is room ends left heard_all =
+leads_follower lawful m n tells others sheet seed limit other bpm at kept spare tally count opening
+    started answers heard is room ends left heard_all =
     let s = lead_at_start bpm at (opened_grid sheet seed limit kept tally) in
     let t = follow_at_start (opened_grid sheet seed other spare count) in
-    let lead = performance (lead_part m) s polls in
-    let follow = performance (follow_part n) t heard in
-    let led = lead_all m tells lawful polls s (ready_at_start sheet seed limit is) refl ends in
-    let played = follow_played n others heard t left in
+    let lead = performance (lead_part m) s opening answers in
+    let follow = performance (follow_part n) t started heard in
+    let led = lead_all m tells lawful opening answers s (ready_at_start sheet seed limit is) refl ends in
+    let played = follow_played n others started heard t left in
     let beats : beats_from stopped (heard_in heard)
     ≡ beat.Restart ∷ replicate led.frames beat.Frame =
     ap (beats_from stopped) heard_all ∙ led.beats stopped in

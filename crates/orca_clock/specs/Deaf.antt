@@ -1,26 +1,25 @@
 -- Neither a follower nor a leader asks the inbox: the loop alone does.
-use Rattle.std.proofs.Common.{◌≡◌, ℕ, Bool, true, false, List, arith, refl}
+use Rattle.std.proofs.Common.{◌≡◌, ℕ, Bool, true, false, arith, refl}
 use Rattle.orca_base.specs.declared.command.Command.TheVariants as command
 use Rattle.orca_concert.specs.Concerts.{Concert, final_course}
 use Rattle.orca_concert.specs.Manners.{IsQuiet, Manner}
 use Rattle.orca_concert.proofs.DeafLemmas.{close_is_deaf, command_is_deaf}
 use Rattle.orca_course.specs.Acts.{AreDeaf}
-use Rattle.orca_course.specs.Courses.{afterwards, each, mapped, onward}
+use Rattle.orca_course.specs.Courses.{afterwards, mapped, onward}
 use Rattle.orca_course.specs.Performers.{IsDeaf}
 use Rattle.orca_course.specs.declared.ending.Ending.{Ending}
 use Rattle.orca_course.specs.declared.ending.Ending.TheVariants.{Lost, Spent, Stopped}
 use Rattle.orca_course.specs.declared.ending.Stop.TheVariants.{Full, Left, SongTooLong, WaveTooLong}
+use Rattle.orca_course.specs.declared.item.Item.{Item}
+use Rattle.orca_course.specs.declared.item.Item.TheVariants as item
 use Rattle.orca_course.proofs.ActLemmas.{AreDeaf-append}
-use Rattle.orca_course.proofs.CourseLemmas.{each-holds}
-use Rattle.orca_rig.specs.declared.inbox.Answer.{Answer}
-use Rattle.orca_rig.specs.declared.inbox.Answer.TheVariants as answer
 use Rattle.orca_sync.specs.Clocks.{heed}
 use Rattle.orca_sync.specs.Leading.{Metronome}
 use Rattle.orca_sync.specs.declared.follower.Beat.{Beat}
 use Rattle.orca_sync.specs.declared.follower.Beat.TheVariants as beat
 use Rattle.orca_clock.specs.Clocked.{end_course, clock_frame_course, last_text_course}
-use Rattle.orca_clock.specs.Followers.{Followed, beat_course, clock_byte_course, follow_course, follow_finish, follow_part}
-use Rattle.orca_clock.specs.Leaders.{Led, clocked_course, clock_due_course, lead_key_course, lead_course, lead_finish, lead_open, lead_part, toggle_course}
+use Rattle.orca_clock.specs.Followers.{Followed, beat_course, clock_byte_course, follow_course, follow_part, hand_byte_course}
+use Rattle.orca_clock.specs.Leaders.{Led, clocked_course, clock_due_course, hand_key_course, lead_key_course, lead_course, lead_finish, lead_open, lead_part, toggle_course}
 
 -- ---- what both share
 
@@ -60,29 +59,24 @@ byte_deaf : {R : Type 0} (m : Manner R) (byte : ℕ) (s : Followed R) → IsQuie
 unfolding clock_byte_course mapped
 byte_deaf m byte s quiet = beat_deaf m (heed s.pulse byte).beat s.concert quiet
 
-bytes_deaf : {R : Type 0} (m : Manner R) (bytes : List ℕ) (s : Followed R) → IsQuiet m
-    → AreDeaf (each (clock_byte_course m) bytes s).acts
-bytes_deaf m bytes s quiet =
-    each-holds (λ s xs t. AreDeaf xs) (clock_byte_course m) (λ s. tt)
-    (λ r s t xs ys first second. AreDeaf-append xs ys first second)
-    (λ byte s. byte_deaf m byte s quiet) bytes s
+hand_deaf : {R : Type 0} (m : Manner R) (hand byte : ℕ) (s : Followed R) → IsQuiet m
+    → AreDeaf (hand_byte_course m hand byte s).acts
+unfolding hand_byte_course
+hand_deaf m hand byte s quiet = grind (arith, byte_deaf m byte s quiet)
 
-follow_hears : {R : Type 0} (m : Manner R) (a : Answer) (bytes : List ℕ) (s : Followed R)
-    → IsQuiet m → AreDeaf (follow_course m a bytes s).acts
-unfolding follow_course
-follow_hears m (answer.Bytes hand count at) bytes s quiet =
-    grind (arith, bytes_deaf m bytes s quiet)
-follow_hears m (answer.Due at) bytes s quiet = tt
-follow_hears m answer.End bytes s quiet = tt
-follow_hears m answer.Failed bytes s quiet = tt
+follow_takes : {R : Type 0} (m : Manner R) (i : Item) (s : Followed R) → IsQuiet m
+    → AreDeaf (follow_course m i s).acts
+unfolding follow_course mapped
+follow_takes m (item.Open came) s quiet = tt
+follow_takes m (item.Byte hand at byte) s quiet = hand_deaf m hand byte s quiet
+follow_takes m (item.Lull hand at) s quiet = tt
+follow_takes m (item.Due at) s quiet = tt
+follow_takes m (item.Over came) s quiet = tt
+follow_takes m (item.Ended ending) s quiet = end_deaf m ending s.concert quiet
 
 pub follow_is_deaf : {R : Type 0} (m : Manner R) → IsQuiet m → IsDeaf (follow_part m)
-unfolding follow_finish mapped
-follow_is_deaf m quiet = record {
-  opens = λ s. tt;
-  hears = λ a bytes s. follow_hears m a bytes s quiet;
-  finishes = λ ending s. end_deaf m ending s.concert quiet;
-}
+unfolding IsDeaf
+follow_is_deaf m quiet = λ i s. follow_takes m i s quiet
 
 -- ---- a leader
 
@@ -101,20 +95,10 @@ key_deaf : {R : Type 0} (at byte : ℕ) (s : Led R) → AreDeaf (lead_key_course
 unfolding lead_key_course toggle_course mapped
 key_deaf at byte s = grind arith
 
-keys_deaf : {R : Type 0} (at : ℕ) (bytes : List ℕ) (s : Led R)
-    → AreDeaf (each (lead_key_course at) bytes s).acts
-keys_deaf at bytes s =
-    each-holds (λ s xs t. AreDeaf xs) (lead_key_course at) (λ s. tt)
-    (λ r s t xs ys first second. AreDeaf-append xs ys first second)
-    (λ byte s. key_deaf at byte s) bytes s
-
-lead_hears : {R : Type 0} (m : Manner R) (a : Answer) (bytes : List ℕ) (s : Led R) → IsQuiet m
-    → AreDeaf (lead_course m a bytes s).acts
-unfolding lead_course
-lead_hears m (answer.Bytes hand count at) bytes s quiet = grind (arith, keys_deaf at bytes s)
-lead_hears m (answer.Due at) bytes s quiet = due_if m at s s.metronome.pulse.runs quiet refl
-lead_hears m answer.End bytes s quiet = tt
-lead_hears m answer.Failed bytes s quiet = tt
+hand_key_deaf : {R : Type 0} (hand at byte : ℕ) (s : Led R)
+    → AreDeaf (hand_key_course hand at byte s).acts
+unfolding hand_key_course
+hand_key_deaf hand at byte s = grind (arith, key_deaf at byte s)
 
 lead_finishes : {R : Type 0} (m : Manner R) (ending : Ending) (s : Led R) → IsQuiet m
     → AreDeaf (lead_finish m ending s).acts
@@ -122,10 +106,16 @@ unfolding lead_finish end_course onward mapped
 lead_finishes m ending s quiet =
     AreDeaf-append (end_course m ending s.concert).acts _ (end_deaf m ending s.concert quiet) tt
 
+lead_takes : {R : Type 0} (m : Manner R) (i : Item) (s : Led R) → IsQuiet m
+    → AreDeaf (lead_course m i s).acts
+unfolding lead_course lead_open mapped
+lead_takes m (item.Open came) s quiet = tt
+lead_takes m (item.Byte hand at byte) s quiet = hand_key_deaf hand at byte s
+lead_takes m (item.Lull hand at) s quiet = tt
+lead_takes m (item.Due at) s quiet = due_if m at s s.metronome.pulse.runs quiet refl
+lead_takes m (item.Over came) s quiet = tt
+lead_takes m (item.Ended ending) s quiet = lead_finishes m ending s quiet
+
 pub lead_is_deaf : {R : Type 0} (m : Manner R) → IsQuiet m → IsDeaf (lead_part m)
-unfolding lead_open mapped
-lead_is_deaf m quiet = record {
-  opens = λ s. tt;
-  hears = λ a bytes s. lead_hears m a bytes s quiet;
-  finishes = λ ending s. lead_finishes m ending s quiet;
-}
+unfolding IsDeaf
+lead_is_deaf m quiet = λ i s. lead_takes m i s quiet

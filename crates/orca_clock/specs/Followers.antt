@@ -1,20 +1,19 @@
 -- The definition of a performance that follows a clock.
-use Rattle.std.specs.Prelude.{ℕ, ◌==◌, if◌then◌else◌, List, Option, Some, None, Result}
+use Rattle.std.specs.Prelude.{ℕ, ◌==◌, if◌then◌else◌, Option, Some, None, Result}
 use Rattle.orca_base.specs.declared.command.Command.TheVariants as command
-use Rattle.orca_course.specs.Courses.{Course, each, mapped, still}
+use Rattle.orca_course.specs.Courses.{Course, mapped, still}
 use Rattle.orca_course.specs.Doing.{Does, Stance}
 use Rattle.orca_course.specs.Performers.{Part}
 use Rattle.orca_course.specs.Worlds.{World, owing}
-use Rattle.orca_course.specs.declared.ending.Ending.{Ending}
 use Rattle.orca_course.specs.declared.ending.Stop.{Stop}
+use Rattle.orca_course.specs.declared.item.Item.{Item}
+use Rattle.orca_course.specs.declared.item.Item.TheVariants as item
 use Rattle.orca_course.specs.declared.refused.NoMemory.{NoMemory}
 use Rattle.orca_concert.specs.Concerts.{Concert, command_course}
 use Rattle.orca_concert.specs.Manners.{Manner}
 use Rattle.orca_concert.specs.Stages.{concert_at}
 use Rattle.orca_concert.specs.declared.report.Report.{Ghosts as ReportGhosts}
 use Rattle.orca_edit.specs.declared.machine.Machine.{Ghosts}
-use Rattle.orca_rig.specs.declared.inbox.Answer.{Answer}
-use Rattle.orca_rig.specs.declared.inbox.Answer.TheVariants as answer
 use Rattle.orca_sync.specs.Clocks.{Pulse, heed, stopped}
 use Rattle.orca_sync.specs.declared.follower.Beat.{Beat}
 use Rattle.orca_sync.specs.declared.follower.Beat.TheVariants as beat
@@ -73,29 +72,27 @@ unfoldable pub clock_byte_course : {R : Type 0} → Manner R → ℕ → Followe
 clock_byte_course m byte s =
     with_pulse (heed s.pulse byte).pulse (beat_course m (heed s.pulse byte).beat s.concert)
 
+-- a byte of a hand; those of other hands than the first are dropped
+unfoldable pub hand_byte_course : {R : Type 0} → Manner R → ℕ → ℕ → Followed R
+    → Course (Followed R) Stop
+hand_byte_course m hand byte s = if hand == 0 then clock_byte_course m byte s else still s
+
 -- ---- a performance
 
--- what an answer brings; the bytes of other hands are dropped. No moment is waited for, so none
--- comes
-unfoldable pub follow_course : {R : Type 0} → Manner R → Answer → List ℕ → Followed R
+-- what an item brings. No moment is waited for, so none comes
+unfoldable pub follow_course : {R : Type 0} → Manner R → Item → Followed R
     → Course (Followed R) Stop
-follow_course m (answer.Bytes hand count at) bytes s =
-    if hand == 0 then each (clock_byte_course m) bytes s else still s
-follow_course m (answer.Due at) bytes s = still s
-follow_course m answer.End bytes s = still s
-follow_course m answer.Failed bytes s = still s
-
--- the end
-unfoldable pub follow_finish : {R : Type 0} → Manner R → Ending → Followed R
-    → Course (Followed R) Stop
-follow_finish m ending s = with_pulse s.pulse (end_course m ending s.concert)
+follow_course m (item.Open came) s = still s
+follow_course m (item.Byte hand at byte) s = hand_byte_course m hand byte s
+follow_course m (item.Lull hand at) s = still s
+follow_course m (item.Due at) s = still s
+follow_course m (item.Over came) s = still s
+follow_course m (item.Ended ending) s = with_pulse s.pulse (end_course m ending s.concert)
 
 -- what a follower does
 abbrev pub follow_part : {R : Type 0} → Manner R → Part (Followed R)
 follow_part m = record {
   stance = follow_stance m;
   until = λ s. None;
-  opens = still;
-  hears = follow_course m;
-  finishes = follow_finish m;
+  takes = follow_course m;
 }

@@ -13,11 +13,12 @@ use Rattle.orca_concert.specs.Manners.{Manner}
 use Rattle.orca_course.specs.Acts.{Act, commands_in, given}
 use Rattle.orca_course.specs.Courses.{Course, still}
 use Rattle.orca_course.specs.Following.{midi_sent}
-use Rattle.orca_course.specs.Performers.{performance}
+use Rattle.orca_course.specs.Performers.{Heard, performance}
 use Rattle.orca_course.specs.Standings.{Standing, standing}
 use Rattle.orca_course.specs.declared.ending.Ending.{Ending}
 use Rattle.orca_course.specs.declared.ending.Ending.TheVariants.{Stopped}
 use Rattle.orca_course.specs.declared.ending.Stop.TheVariants.{Full, Left}
+use Rattle.orca_course.specs.declared.item.Came.{Came}
 use Rattle.orca_course.specs.declared.tally.Tally.{Tally}
 use Rattle.orca_edit.specs.Obeying.{machine_at_start, piece_of}
 use Rattle.orca_edit.specs.Pieces.{Piece}
@@ -30,22 +31,21 @@ use Rattle.orca_sync.specs.Clocks.{beats_from, stopped}
 use Rattle.orca_sync.specs.RealTime.{is_clock}
 use Rattle.orca_sync.specs.declared.follower.Beat.{Beat}
 use Rattle.orca_sync.specs.declared.follower.Beat.TheVariants as beat
-use Rattle.orca_trace.specs.Calls.{Poll}
 use Rattle.orca_clock.specs.Followers.{Followed, follow_at_start, follow_part}
 use Rattle.orca_clock.specs.Leaders.{Led, lead_at_start, lead_part}
 
 -- ---- bytes and commands
 
--- the bytes of the first hand that polls bring, up to the end of the inbox
+-- the bytes of the first hand that answers bring, up to the end of the inbox
 abbrev pub bytes_before : List ℕ → Answer → List ℕ → List ℕ
 bytes_before bytes (answer.Bytes hand count at) more = if hand == 0 then bytes ++ more else more
 bytes_before bytes (answer.Due at) more = more
 bytes_before bytes answer.End more = []
 bytes_before bytes answer.Failed more = []
 
-abbrev pub heard_in : List Poll → List ℕ
+abbrev pub heard_in : List Heard → List ℕ
 heard_in [] = []
-heard_in (poll ∷ polls) = bytes_before poll.bytes poll.answer (heard_in polls)
+heard_in (h ∷ heard) = bytes_before h.poll.bytes h.poll.answer (heard_in heard)
 
 -- the bytes that acts give to the MIDI port, one after another
 abbrev pub midi_bytes_in : List Act → List ℕ
@@ -89,20 +89,22 @@ pub record AreDone {E : Type 0} (full : E) (end : Option E) (done all : List Com
 -- cut into answers, and no others; a full history alone has kept it from the last of them
 abbrev pub FollowsBytes : Type 0
 FollowsBytes =
-    (m : Manner (Unit {0})) (s : Concert (Unit {0})) (polls : List Poll) → TellsAtEnd m
-    → let c = performance (follow_part m) (follow_at_start s) polls in
+    (m : Manner (Unit {0})) (s : Concert (Unit {0})) (opening : Came) (heard : List Heard)
+    → TellsAtEnd m
+    → let c = performance (follow_part m) (follow_at_start s) opening heard in
     AreDone (Stopped Full) c.ending (commands_in c.acts)
-    (flat_map commands_of_beat (beats_from stopped (heard_in polls)))
+    (flat_map commands_of_beat (beats_from stopped (heard_in heard)))
 
 -- whatever other bytes stand between those of the clock: the same commands, and the same session at
 -- last
 abbrev pub HeedsClock : Type 0
 HeedsClock =
-    (m : Manner (Unit {0})) (s : Concert (Unit {0})) (polls others : List Poll) → TellsAtEnd m
-    → let c = performance (follow_part m) (follow_at_start s) polls in
-    let d = performance (follow_part m) (follow_at_start s) others in
+    (m : Manner (Unit {0})) (s : Concert (Unit {0})) (opening other : Came)
+    (heard others : List Heard) → TellsAtEnd m
+    → let c = performance (follow_part m) (follow_at_start s) opening heard in
+    let d = performance (follow_part m) (follow_at_start s) other others in
     c.ending ≡ Some (Stopped Left) → d.ending ≡ Some (Stopped Left)
-    → filter is_clock (heard_in polls) ≡ filter is_clock (heard_in others)
+    → filter is_clock (heard_in heard) ≡ filter is_clock (heard_in others)
     → (commands_in c.acts ≡ commands_in d.acts)
     × (c.state.concert.standing.machine ≡ d.state.concert.standing.machine)
 
@@ -122,10 +124,10 @@ abbrev pub FollowerIsLed : Type 0
 FollowerIsLed =
     IsLawful rule → (m n : Manner (Unit {0})) → TellsAtEnd m → TellsAtEnd n
     → (sheet : Sheet) (seed limit other bpm at : ℕ) (kept spare : Kept) (tally count : Tally)
-    (polls heard : List Poll) → IsSheet sheet → limit < other
+    (opening started : Came) (answers heard : List Heard) → IsSheet sheet → limit < other
     → let s = lead_at_start bpm at (opened_concert sheet seed limit kept tally) in
     let t = follow_at_start (opened_concert sheet seed other spare count) in
-    let lead = performance (lead_part m) s polls in
-    let follow = performance (follow_part n) t heard in
+    let lead = performance (lead_part m) s opening answers in
+    let follow = performance (follow_part n) t started heard in
     lead.ending ≡ Some (Stopped Left) → follow.ending ≡ Some (Stopped Left)
     → heard_in heard ≡ midi_bytes_in lead.acts → IsLed lead follow

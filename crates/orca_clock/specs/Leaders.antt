@@ -1,21 +1,21 @@
 -- The definition of a performance that gives a clock.
-use Rattle.std.specs.Prelude.{ℕ, ◌==◌, if◌then◌else◌, List, Option, Some, Result}
+use Rattle.std.specs.Prelude.{ℕ, ◌==◌, if◌then◌else◌, Option, Some, Result}
 use Rattle.orca_base.specs.Ascii.{space}
-use Rattle.orca_course.specs.Courses.{Course, each, ended, mapped, onward, still}
+use Rattle.orca_course.specs.Courses.{Course, ended, mapped, onward, still}
 use Rattle.orca_course.specs.Doing.{Does, Stance}
 use Rattle.orca_course.specs.Performers.{Part}
 use Rattle.orca_course.specs.Worlds.{World, owing}
 use Rattle.orca_course.specs.declared.ending.Ending.{Ending}
 use Rattle.orca_course.specs.declared.ending.Stop.{Stop}
 use Rattle.orca_course.specs.declared.ending.Stop.TheVariants.{Left}
+use Rattle.orca_course.specs.declared.item.Item.{Item}
+use Rattle.orca_course.specs.declared.item.Item.TheVariants as item
 use Rattle.orca_course.specs.declared.refused.NoMemory.{NoMemory}
 use Rattle.orca_concert.specs.Concerts.{Concert}
 use Rattle.orca_concert.specs.Manners.{Manner}
 use Rattle.orca_concert.specs.Stages.{concert_at}
 use Rattle.orca_concert.specs.declared.report.Report.{Ghosts as ReportGhosts}
 use Rattle.orca_edit.specs.declared.machine.Machine.{Ghosts}
-use Rattle.orca_rig.specs.declared.inbox.Answer.{Answer}
-use Rattle.orca_rig.specs.declared.inbox.Answer.TheVariants as answer
 use Rattle.orca_sync.specs.Leading.{Metronome, clocked_at, due_of, metronome_from, plays, toggle_byte, toggled_at}
 use Rattle.orca_sync.specs.RealTime.{start, stop, timing_clock}
 use Rattle.orca_clock.specs.Clocked.{clock_course, end_course, clock_frame_course}
@@ -91,32 +91,34 @@ lead_key_course at byte s =
     if byte == space then toggle_course at s
     else (if byte == quit then ended Left s else still s)
 
+-- a byte of a hand; those of other hands than the first are dropped
+unfoldable pub hand_key_course : {R : Type 0} → ℕ → ℕ → ℕ → Led R → Course (Led R) Stop
+hand_key_course hand at byte s = if hand == 0 then lead_key_course at byte s else still s
+
 -- ---- a performance
 
 -- the start of the clock is given
 unfoldable pub lead_open : {R : Type 0} → Led R → Course (Led R) Stop
 lead_open s = with_metronome s.metronome (clock_course start s.concert)
 
--- what an answer brings; the bytes of other hands are dropped
-unfoldable pub lead_course : {R : Type 0} → Manner R → Answer → List ℕ → Led R
-    → Course (Led R) Stop
-lead_course m (answer.Bytes hand count at) bytes s =
-    if hand == 0 then each (lead_key_course at) bytes s else still s
-lead_course m (answer.Due at) bytes s = clock_due_course m at s
-lead_course m answer.End bytes s = still s
-lead_course m answer.Failed bytes s = still s
-
 -- the end, and then the stop of the clock, also where it is paused
 unfoldable pub lead_finish : {R : Type 0} → Manner R → Ending → Led R → Course (Led R) Stop
 lead_finish m ending s =
     with_metronome s.metronome (onward (end_course m ending s.concert) (clock_course stop))
+
+-- what an item brings
+unfoldable pub lead_course : {R : Type 0} → Manner R → Item → Led R → Course (Led R) Stop
+lead_course m (item.Open came) s = lead_open s
+lead_course m (item.Byte hand at byte) s = hand_key_course hand at byte s
+lead_course m (item.Lull hand at) s = still s
+lead_course m (item.Due at) s = clock_due_course m at s
+lead_course m (item.Over came) s = still s
+lead_course m (item.Ended ending) s = lead_finish m ending s
 
 -- what a leader does
 abbrev pub lead_part : {R : Type 0} → Manner R → Part (Led R)
 lead_part m = record {
   stance = lead_stance m;
   until = λ s. due_of s.metronome;
-  opens = lead_open;
-  hears = lead_course m;
-  finishes = lead_finish m;
+  takes = lead_course m;
 }

@@ -2,14 +2,14 @@
 
 ghost use Rattle.std.specs.Prelude.{◌≡◌, ◌≢◌, Err, Some};
 ghost use Rattle.orca_course.specs.Acts.{gives};
-ghost use Rattle.orca_course.specs.Courses.{each};
 ghost use Rattle.orca_course.specs.Doing.{goes_of};
 ghost use Rattle.orca_course.specs.Following.{Accompanies};
 ghost use Rattle.orca_course.specs.Standings.{notes_of, standing_closed};
 ghost use Rattle.orca_course.specs.Worlds.{Calls};
 ghost use Rattle.orca_concert.specs.Concerts.{handed_of};
 ghost use Rattle.orca_concert.specs.Stages.{StageDid, concert_at};
-ghost use Rattle.orca_clock.specs.Followers.{FollowDid, beat_course, clock_byte_course, follow_at_start, follow_course, follow_finish, follow_residue, follow_state};
+ghost use Rattle.orca_clock.specs.Clocked.{end_course};
+ghost use Rattle.orca_clock.specs.Followers.{FollowDid, beat_course, clock_byte_course, follow_at_start, follow_residue, follow_state, hand_byte_course, with_pulse};
 ghost use Rattle.orca_notes.specs.Sound.{ends};
 ghost use Rattle.orca_send.specs.Sending.{sends_of};
 
@@ -17,9 +17,9 @@ use crate::ending::end;
 use crate::frame::do_frame;
 use orca_base::Command;
 use orca_concert::{Report, Stage, close_early};
-use orca_course::{Desk, Ending, NoMemory, Performer, Stop};
+use orca_course::{Desk, Ending, Item, NoMemory, Performer, Stop};
 use orca_edit::Machine;
-use orca_rig::{Answer, House};
+use orca_rig::House;
 use orca_sync::{Beat, Follower};
 
 /// The hand whose bytes are those of the clock.
@@ -76,26 +76,20 @@ impl<M: Machine, R: Report> Performer for Follow<M, R> {
 
     ghost part = { follow_part R.manner };
 
-    #[tactic(auto, using(orca_course::proofs::WorldLemmas::called_still))]
-    fn open<H: House>(&mut self, _: &mut Desk<H>) -> Result<Option<Stop>, NoMemory> {
-        Ok(None)
-    }
-
     fn until(&self) -> Option<u64> {
         None
     }
 
-    fn hear<H: House>(
-        &mut self,
-        desk: &mut Desk<H>,
-        answer: Answer,
-        bytes: &[u8],
-    ) -> Result<Option<Stop>, NoMemory> {
-        hear(self, desk, answer, bytes)
-    }
-
-    fn finish<H: House>(&mut self, desk: &mut Desk<H>, ending: Ending) -> Result<(), NoMemory> {
-        finish(self, desk, ending)
+    #[tactic(auto, using(orca_course::proofs::WorldLemmas::called_still), unfolding(crate::specs::Followers::follow_course))]
+    fn take<H: House>(&mut self, desk: &mut Desk<H>, item: Item) -> Result<Option<Stop>, NoMemory> {
+        match item {
+            Item::Byte { hand, byte, .. } => hear(self, desk, hand, byte),
+            Item::Ended(ending) => {
+                finish(self, desk, ending)?;
+                Ok(None)
+            }
+            Item::Open(_) | Item::Lull { .. } | Item::Due { .. } | Item::Over(_) => Ok(None),
+        }
     }
 
     ghost deaf = { follow_is_deaf R.manner R.quiet };
@@ -131,44 +125,21 @@ fn do_byte<M: Machine, R: Report, H: House>(
     do_beat(&mut follow.stage, desk, beat)
 }
 
-/// Does what bytes ask for, one by one. Those after the end of the performance are dropped.
-#[tactic(auto, using(orca_course::proofs::DoingLemmas::far_more, orca_course::proofs::DoingLemmas::far_none, orca_course::proofs::DoingLemmas::far_over, std::proofs::lemmas::List::drop_all, std::proofs::lemmas::List::drop_more))]
-fn do_bytes<M: Machine, R: Report, H: House>(
-    follow: &mut Follow<M, R>,
-    desk: &mut Desk<H>,
-    bytes: &[u8],
-) -> Result<Option<Stop>, NoMemory>
-    ensures { FollowDid M.Machine.own R.Report.own (each (clock_byte_course R.manner) bytes.now)
-        follow.old desk.old result follow.new desk.new }
-{
-    for byte in bytes {
-        if let Some(stop) = do_byte(follow, desk, *byte)? {
-            return Ok(Some(stop));
-        }
-    }
-    Ok(None)
-}
-
-/// Does what an answer brings. The bytes of other hands are dropped.
-#[tactic(auto, using(orca_course::proofs::WorldLemmas::called_still), unfolding(crate::specs::Followers::follow_course))]
+/// Hears a byte. Those of other hands are dropped.
+#[tactic(auto, using(orca_course::proofs::WorldLemmas::called_still), unfolding(crate::specs::Followers::hand_byte_course))]
 fn hear<M: Machine, R: Report, H: House>(
     follow: &mut Follow<M, R>,
     desk: &mut Desk<H>,
-    answer: Answer,
-    bytes: &[u8],
+    hand: u8,
+    byte: u8,
 ) -> Result<Option<Stop>, NoMemory>
-    ensures { FollowDid M.Machine.own R.Report.own (follow_course R.manner answer bytes.now)
+    ensures { FollowDid M.Machine.own R.Report.own (hand_byte_course R.manner hand byte)
         follow.old desk.old result follow.new desk.new }
 {
-    match answer {
-        Answer::Bytes { hand, .. } => {
-            if hand != CLOCK {
-                return Ok(None);
-            }
-            do_bytes(follow, desk, bytes)
-        }
-        Answer::Due { .. } | Answer::End | Answer::Failed => Ok(None),
+    if hand != CLOCK {
+        return Ok(None);
     }
+    do_byte(follow, desk, byte)
 }
 
 /// Tells where the run stands at last, if the player has left, and ends every note.
@@ -177,7 +148,8 @@ fn finish<M: Machine, R: Report, H: House>(
     desk: &mut Desk<H>,
     ending: Ending,
 ) -> Result<(), NoMemory>
-    ensures { FollowDid M.Machine.own R.Report.own (follow_finish R.manner ending)
+    ensures { FollowDid M.Machine.own R.Report.own
+        (λ s. with_pulse s.pulse (end_course R.manner ending s.concert))
         follow.old desk.old (goes_of result) follow.new desk.new }
 {
     end(&mut follow.stage, desk, ending)

@@ -3,14 +3,13 @@
 ghost use Rattle.std.specs.Prelude.{◌≡◌, ◌≢◌, ◌≤◌, Err, Some};
 ghost use Rattle.orca_base.specs.declared.limits.TheConstants.{MAX_BPM};
 ghost use Rattle.orca_course.specs.Acts.{gives};
-ghost use Rattle.orca_course.specs.Courses.{each};
 ghost use Rattle.orca_course.specs.Doing.{goes_of};
 ghost use Rattle.orca_course.specs.Following.{Accompanies};
 ghost use Rattle.orca_course.specs.Standings.{notes_of, standing_closed};
 ghost use Rattle.orca_course.specs.Worlds.{Calls};
 ghost use Rattle.orca_concert.specs.Concerts.{handed_of};
 ghost use Rattle.orca_concert.specs.Stages.{concert_at};
-ghost use Rattle.orca_clock.specs.Leaders.{LeadDid, clock_due_course, lead_key_course, lead_at_start, lead_course, lead_finish, lead_open, lead_residue, lead_state, toggle_course};
+ghost use Rattle.orca_clock.specs.Leaders.{LeadDid, clock_due_course, hand_key_course, lead_key_course, lead_at_start, lead_finish, lead_open, lead_residue, lead_state, toggle_course};
 ghost use Rattle.orca_notes.specs.Sound.{ends};
 ghost use Rattle.orca_send.specs.Sending.{sends_of};
 
@@ -19,9 +18,9 @@ use crate::frame::do_frame;
 use crate::sending::give_byte;
 use orca_base::limits::MAX_BPM;
 use orca_concert::{Report, Stage, close_early};
-use orca_course::{Desk, Ending, NoMemory, Performer, Stop};
+use orca_course::{Desk, Ending, Item, NoMemory, Performer, Stop};
 use orca_edit::Machine;
-use orca_rig::{Answer, House};
+use orca_rig::House;
 use orca_sync::Leader;
 use orca_sync::real_time::{START, STOP, TIMING_CLOCK};
 
@@ -88,26 +87,25 @@ impl<M: Machine, R: Report> Performer for Lead<M, R> {
 
     ghost part = { lead_part R.manner };
 
-    fn open<H: House>(&mut self, desk: &mut Desk<H>) -> Result<Option<Stop>, NoMemory> {
-        open(self, desk)?;
-        Ok(None)
-    }
-
     fn until(&self) -> Option<u64> {
         self.leader.due_at()
     }
 
-    fn hear<H: House>(
-        &mut self,
-        desk: &mut Desk<H>,
-        answer: Answer,
-        bytes: &[u8],
-    ) -> Result<Option<Stop>, NoMemory> {
-        hear(self, desk, answer, bytes)
-    }
-
-    fn finish<H: House>(&mut self, desk: &mut Desk<H>, ending: Ending) -> Result<(), NoMemory> {
-        finish(self, desk, ending)
+    #[tactic(auto, using(orca_course::proofs::WorldLemmas::called_still), unfolding(crate::specs::Leaders::lead_course))]
+    fn take<H: House>(&mut self, desk: &mut Desk<H>, item: Item) -> Result<Option<Stop>, NoMemory> {
+        match item {
+            Item::Open(_) => {
+                open(self, desk)?;
+                Ok(None)
+            }
+            Item::Byte { hand, at, byte } => hear(self, desk, hand, at, byte),
+            Item::Due { at } => do_due(self, desk, at),
+            Item::Ended(ending) => {
+                finish(self, desk, ending)?;
+                Ok(None)
+            }
+            Item::Lull { .. } | Item::Over(_) => Ok(None),
+        }
     }
 
     ghost deaf = { lead_is_deaf R.manner R.quiet };
@@ -180,46 +178,22 @@ fn do_key<M: Machine, R: Report, H: House>(
     }
 }
 
-/// Does what keys ask for, one by one. Those after the end of the performance are dropped.
-#[tactic(auto, using(orca_course::proofs::DoingLemmas::far_more, orca_course::proofs::DoingLemmas::far_none, orca_course::proofs::DoingLemmas::far_over, std::proofs::lemmas::List::drop_all, std::proofs::lemmas::List::drop_more))]
-fn do_keys<M: Machine, R: Report, H: House>(
-    lead: &mut Lead<M, R>,
-    desk: &mut Desk<H>,
-    at: u64,
-    bytes: &[u8],
-) -> Result<Option<Stop>, NoMemory>
-    ensures { LeadDid M.Machine.own R.Report.own (each (lead_key_course at) bytes.now)
-        lead.old desk.old result lead.new desk.new }
-{
-    for byte in bytes {
-        if let Some(stop) = do_key(lead, desk, at, *byte)? {
-            return Ok(Some(stop));
-        }
-    }
-    Ok(None)
-}
-
-/// Does what an answer brings. The bytes of other hands are dropped.
-#[tactic(auto, using(orca_course::proofs::WorldLemmas::called_still), unfolding(crate::specs::Leaders::lead_course))]
+/// Hears a byte that came at a moment. Those of other hands are dropped.
+#[tactic(auto, using(orca_course::proofs::WorldLemmas::called_still), unfolding(crate::specs::Leaders::hand_key_course))]
 fn hear<M: Machine, R: Report, H: House>(
     lead: &mut Lead<M, R>,
     desk: &mut Desk<H>,
-    answer: Answer,
-    bytes: &[u8],
+    hand: u8,
+    at: u64,
+    byte: u8,
 ) -> Result<Option<Stop>, NoMemory>
-    ensures { LeadDid M.Machine.own R.Report.own (lead_course R.manner answer bytes.now)
+    ensures { LeadDid M.Machine.own R.Report.own (hand_key_course hand at byte)
         lead.old desk.old result lead.new desk.new }
 {
-    match answer {
-        Answer::Bytes { hand, at, .. } => {
-            if hand != PLAYER {
-                return Ok(None);
-            }
-            do_keys(lead, desk, at, bytes)
-        }
-        Answer::Due { at } => do_due(lead, desk, at),
-        Answer::End | Answer::Failed => Ok(None),
+    if hand != PLAYER {
+        return Ok(None);
     }
+    do_key(lead, desk, at, byte)
 }
 
 /// Tells where the run stands at last, if the player has left, ends every note, and then gives the

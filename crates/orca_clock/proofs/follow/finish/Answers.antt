@@ -1,7 +1,5 @@
-use Rattle.orca_clock.specs.Followers.{follow_finish}
 use Rattle.orca_clock.proofs.PartLemmas.{followed_did}
 use Rattle.orca_clock.proofs.follow.finish.Goals as goal
 
 pub returns : goal.returns
-unfolding follow_finish
 returns g c = followed_did g.R.Report.manner _ _ _ _ _ c.end.ensures
