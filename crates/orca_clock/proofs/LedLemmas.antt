@@ -300,7 +300,6 @@ module _ {R : Type 0} (m : Manner R) (tells : TellsAtEnd m) (lawful : IsLawful r
       (λ is. other (ap (option_map Stopped) is))
   turn_led (Given (item.Open came)) inner s = absurd inner
   turn_led (Given (item.Ended ending)) inner s = absurd inner
-  turn_led (Given (item.Lull hand at)) inner s = λ other. led_none s
   turn_led (Given (item.Over came)) inner s = λ other. led_none s
 
   pub attended_led : (heard : List Heard) (s : Led R)

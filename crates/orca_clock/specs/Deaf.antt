@@ -69,7 +69,6 @@ follow_takes : {R : Type 0} (m : Manner R) (i : Item) (s : Followed R) → IsQui
 unfolding follow_course mapped
 follow_takes m (item.Open came) s quiet = tt
 follow_takes m (item.Byte hand at byte) s quiet = hand_deaf m hand byte s quiet
-follow_takes m (item.Lull hand at) s quiet = tt
 follow_takes m (item.Due at) s quiet = tt
 follow_takes m (item.Over came) s quiet = tt
 follow_takes m (item.Ended ending) s quiet = end_deaf m ending s.concert quiet
@@ -111,7 +110,6 @@ lead_takes : {R : Type 0} (m : Manner R) (i : Item) (s : Led R) → IsQuiet m
 unfolding lead_course lead_open mapped
 lead_takes m (item.Open came) s quiet = tt
 lead_takes m (item.Byte hand at byte) s quiet = hand_key_deaf hand at byte s
-lead_takes m (item.Lull hand at) s quiet = tt
 lead_takes m (item.Due at) s quiet = due_if m at s s.metronome.pulse.runs quiet refl
 lead_takes m (item.Over came) s quiet = tt
 lead_takes m (item.Ended ending) s quiet = lead_finishes m ending s quiet

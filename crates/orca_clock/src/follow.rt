@@ -88,7 +88,7 @@ impl<M: Machine, R: Report> Performer for Follow<M, R> {
                 finish(self, desk, ending)?;
                 Ok(None)
             }
-            Item::Open(_) | Item::Lull { .. } | Item::Due { .. } | Item::Over(_) => Ok(None),
+            Item::Open(_) | Item::Due { .. } | Item::Over(_) => Ok(None),
         }
     }
 

@@ -104,7 +104,7 @@ impl<M: Machine, R: Report> Performer for Lead<M, R> {
                 finish(self, desk, ending)?;
                 Ok(None)
             }
-            Item::Lull { .. } | Item::Over(_) => Ok(None),
+            Item::Over(_) => Ok(None),
         }
     }
 

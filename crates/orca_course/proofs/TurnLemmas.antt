@@ -5,7 +5,7 @@ use Rattle.std.specs.List.{flat_map}
 use Rattle.orca_base.specs.declared.limits.TheConstants.{MAX_POLLS}
 use Rattle.orca_rig.specs.declared.inbox.Answer.{Answer}
 use Rattle.orca_rig.specs.declared.inbox.Answer.TheVariants as answer
-use Rattle.orca_course.specs.Performers.{Heard, Turn, hands, heard_turns, items_of, last_turns, spent, turns_of}
+use Rattle.orca_course.specs.Performers.{Heard, Turn, heard_turns, items_of, last_turns, spent, turns_of}
 use Rattle.orca_course.specs.Performers.Turn.{Given, Over}
 use Rattle.orca_course.specs.declared.ending.Ending.TheVariants.{Spent}
 use Rattle.orca_course.specs.declared.item.Came.{Came}
@@ -29,14 +29,9 @@ inner_bytes : (hand at : ℕ) (bytes : List ℕ) → AreInner (map Given (map (i
 inner_bytes hand at [] = tt
 inner_bytes hand at (byte ∷ bytes) = (tt, inner_bytes hand at bytes)
 
-inner_due : (at : ℕ) (hands : List ℕ)
-    → AreInner (map Given (map (λ hand. item.Lull hand at) hands ++ item.Due at ∷ []))
-inner_due at [] = (tt, tt)
-inner_due at (hand ∷ hands) = (tt, inner_due at hands)
-
 inner_items : (a : Answer) (bytes : List ℕ) → AreInner (map Given (items_of a bytes))
 inner_items (answer.Bytes hand count at) bytes = inner_bytes hand at bytes
-inner_items (answer.Due at) bytes = inner_due at hands
+inner_items (answer.Due at) bytes = (tt, tt)
 inner_items answer.End bytes = tt
 inner_items answer.Failed bytes = tt
 

@@ -1,8 +1,8 @@
 -- What a performer does for an item, and a whole performance.
 use Rattle.std.specs.Prelude.{◌≡◌, ℕ, ◌≤◌, Bool, true, if◌then◌else◌, nat_le, List, [], ◌∷◌, ◌++◌, length, map, Option, Some, Result, Ok, Err}
-use Rattle.std.specs.List.{flat_map, range_with_len}
+use Rattle.std.specs.List.{flat_map}
 use Rattle.std.specs.Option.{option_map}
-use Rattle.orca_base.specs.declared.limits.TheConstants.{MAX_HANDS, MAX_POLLS}
+use Rattle.orca_base.specs.declared.limits.TheConstants.{MAX_POLLS}
 use Rattle.orca_trace.specs.Calls.{Poll}
 use Rattle.orca_rig.specs.declared.inbox.Answer.{Answer}
 use Rattle.orca_rig.specs.declared.inbox.Answer.TheVariants as answer
@@ -57,14 +57,10 @@ turn_course p (Learned came) s = course (Learn came ∷ []) 0 s
 turn_course p (Given i) s = given_course p i s
 turn_course p (Over ending) s = ended ending s
 
--- the hands, in their order
-unfoldable pub hands : List ℕ
-hands = range_with_len 0 MAX_HANDS
-
--- what an answer brings: each byte; or, before a moment is due, that nothing came of each hand
+-- what an answer brings: each byte, or a moment that is due
 abbrev pub items_of : Answer → List ℕ → List Item
 items_of (answer.Bytes hand count at) bytes = map (item.Byte hand at) bytes
-items_of (answer.Due at) bytes = map (λ hand. item.Lull hand at) hands ++ item.Due at ∷ []
+items_of (answer.Due at) bytes = item.Due at ∷ []
 items_of answer.End bytes = []
 items_of answer.Failed bytes = []
 

@@ -22,9 +22,7 @@ pub enum Item {
     Open(Came),
     /// A byte of a hand, which came at a moment.
     Byte { hand: u8, at: u64, byte: u8 },
-    /// Nothing came of a hand up to a moment.
-    Lull { hand: u8, at: u64 },
-    /// A moment is due.
+    /// A moment is due, and nothing came before it.
     Due { at: u64 },
     /// All that an answer brought was given.
     Over(Came),

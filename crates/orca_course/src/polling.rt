@@ -8,7 +8,7 @@ ghost use Rattle.orca_course.specs.Worlds.{has_ended};
 ghost use Rattle.orca_rig.specs.Arrived.{arrived};
 
 use crate::{Desk, Ending, Item, NoMemory, Performer, Stop};
-use orca_base::limits::{ARRIVAL_BYTES, MAX_HANDS, MAX_POLLS};
+use orca_base::limits::{ARRIVAL_BYTES, MAX_POLLS};
 use orca_rig::{Answer, House};
 
 /// The bytes that came with an answer.
@@ -22,13 +22,13 @@ pub(crate) fn arrived(answer: Answer, filled: &[u8; ARRIVAL_BYTES]) -> &[u8]
 }
 
 /// How many items an answer brings.
-#[tactic(auto, using(crate::proofs::ItemLemmas::bytes_length, crate::proofs::ItemLemmas::due_length))]
+#[tactic(auto, using(crate::proofs::ItemLemmas::bytes_length))]
 fn item_count(answer: Answer, bytes: &[u8]) -> usize
     ensures { result ≡ length (items_of answer bytes.now) }
 {
     match answer {
         Answer::Bytes { .. } => bytes.len(),
-        Answer::Due { .. } => usize::from(MAX_HANDS) + 1,
+        Answer::Due { .. } => 1,
         Answer::End | Answer::Failed => 0,
     }
 }
@@ -45,16 +45,7 @@ fn item_at(answer: Answer, bytes: &[u8], index: usize) -> Item
             at,
             byte: bytes[index],
         },
-        Answer::Due { at } => {
-            if index < usize::from(MAX_HANDS) {
-                Item::Lull {
-                    hand: index as u8,
-                    at,
-                }
-            } else {
-                Item::Due { at }
-            }
-        }
+        Answer::Due { at } => Item::Due { at },
         Answer::End | Answer::Failed => unreachable!(),
     }
 }

@@ -12,7 +12,7 @@ use Rattle.orca_base.specs.Grids.{IsSheet}
 use Rattle.orca_concert.specs.Concerts.{Concert, after_cue, command_course, concert_with, concert_course, cue_course, cues_course, final_course, halt_of, last_course, order_course, saved_course}
 use Rattle.orca_concert.specs.Manners.{Manner}
 use Rattle.orca_course.specs.Acts.{Act}
-use Rattle.orca_course.specs.Acts.Act.{Obey, Screen, Show, Stand, Strike}
+use Rattle.orca_course.specs.Acts.Act.{Learn, Obey, Screen, Show, Stand, Strike}
 use Rattle.orca_course.specs.Courses.{Course, afterwards, each, keeping, mapped, onward}
 use Rattle.orca_course.specs.Standings.{standing}
 use Rattle.orca_course.specs.declared.ending.Stop.{Stop}
@@ -68,6 +68,7 @@ no_calls (Stand s ∷ xs) ys none = no_calls xs ys none
 no_calls (Strike hand key ∷ xs) ys none = no_calls xs ys none
 no_calls (Show cells ∷ xs) ys none = no_calls xs ys none
 no_calls (Screen d ∷ xs) ys none = no_calls xs ys none
+no_calls (Learn came ∷ xs) ys none = no_calls xs ys none
 no_calls (_ ∷ xs) ys none = absurd cc
 
 -- a report that ends at an order ends the run

@@ -4,7 +4,7 @@ use Rattle.orca_base.specs.Grids.{Sheet}
 use Rattle.orca_concert.specs.Concerts.{Concert, concert_with, concert_course}
 use Rattle.orca_concert.specs.Manners.{Manner}
 use Rattle.orca_course.specs.Acts.{Act}
-use Rattle.orca_course.specs.Acts.Act.{Obey, Screen, Show, Stand, Strike}
+use Rattle.orca_course.specs.Acts.Act.{Learn, Obey, Screen, Show, Stand, Strike}
 use Rattle.orca_course.specs.Courses.{Course}
 use Rattle.orca_course.specs.Standings.{standing}
 use Rattle.orca_course.specs.declared.ending.Stop.{Stop}
@@ -37,4 +37,5 @@ outside_calls (Stand s ∷ acts) = outside_calls acts
 outside_calls (Strike hand key ∷ acts) = outside_calls acts
 outside_calls (Show cells ∷ acts) = outside_calls acts
 outside_calls (Screen d ∷ acts) = outside_calls acts
+outside_calls (Learn came ∷ acts) = outside_calls acts
 outside_calls (act ∷ acts) = act ∷ outside_calls acts
