@@ -64,9 +64,9 @@ impl<H: House> Model for Desk<H> {
         Tells (H.Outs.handed d.outs) (H.Outs.attached d.outs) (H.Files.asked d.files)
         (H.Inbox.log d.inbox) d.notes
         × AreWanted (H.Outs.wants d.outs) (H.Files.wants d.files) (H.Inbox.wants d.inbox)
-         d.notes
-         × Records d.failed d.unstored (H.Inbox.listened d.inbox) (H.Inbox.ended d.inbox)
-         d.notes };
+        d.notes
+        × Records d.failed d.unstored (H.Inbox.listened d.inbox) (H.Inbox.ended d.inbox)
+        d.notes };
 }
 
 /// A house of any types that fit.

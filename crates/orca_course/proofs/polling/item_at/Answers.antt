@@ -1,4 +1,4 @@
-use Rattle.std.proofs.Common.{refl, arith}
+use Rattle.std.proofs.Common.{◌≡◌, refl, arith}
 use Rattle.orca_course.proofs.ItemLemmas.{byte_at, bytes_length}
 use Rattle.orca_course.proofs.polling.item_at.Goals as goal
 
