@@ -113,10 +113,12 @@ ports_with port.Text holds ports = ports
 ports_with port.Fault holds ports = ports
 ports_with port.View holds ports = ports
 
--- after a call: which ports could not be attached, and of which the last send has failed; whether a
+-- after a call: of which ports the last attach has failed, and of which the last send; whether a
 -- begin or an append has failed; and whether the last save has. What was refused memory counts for
 -- nothing
 unfoldable pub outcomes_by : Outcomes → Call → Outcomes
+outcomes_by o (CallAttach attached (Ok done)) =
+    record o { unattached = ports_with attached.port false o.unattached }
 outcomes_by o (CallAttach attached (Err Failed)) =
     record o { unattached = ports_with attached.port true o.unattached }
 outcomes_by o (CallGive sent (Ok done)) =

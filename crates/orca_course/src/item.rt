@@ -3,7 +3,7 @@ use crate::Ending;
 /// What the calls so far came to.
 #[derive(Clone, Copy, Debug, PartialEq, Eq)]
 pub struct Came {
-    /// The MIDI port could not be attached, or its last send has failed.
+    /// The last attach of the MIDI port has failed, or its last send.
     pub midi: bool,
     /// So of the UDP port.
     pub udp: bool,

@@ -35,7 +35,7 @@ impl Ports {
 /// What is kept of calls.
 #[derive(Clone, Copy)]
 pub(crate) struct Outcomes {
-    /// The ports that could not be attached.
+    /// The ports whose last attach has failed.
     pub(crate) unattached: Ports,
     /// The ports whose last send has failed.
     pub(crate) unsent: Ports,
@@ -69,6 +69,7 @@ impl Outcomes {
         ensures { self.new ≡ outcomes_by self.old (call_of kind.now _name.now _bytes.now) }
     {
         match *kind {
+            Kind::Attach(port, Ok(())) => self.unattached.set(port, false),
             Kind::Attach(port, Err(OutsideFault::Failed)) => self.unattached.set(port, true),
             Kind::Give(port, Ok(())) => self.unsent.set(port, false),
             Kind::Give(port, Err(OutsideFault::Failed)) => self.unsent.set(port, true),
