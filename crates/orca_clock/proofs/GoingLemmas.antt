@@ -1,43 +1,31 @@
 -- What holds of a performance between its ends, and of its end.
-use Rattle.std.proofs.Common.{◌≡◌, ◌≢◌, List, [], ◌∷◌, ◌++◌, refl}
+use Rattle.std.proofs.Common.{◌≡◌, ◌≢◌, List, [], ◌++◌, refl}
 use Rattle.std.specs.Prelude.{Option, Some, None}
 use Rattle.orca_course.specs.Acts.{Act}
-use Rattle.orca_course.specs.Courses.{Course, each, lastly, lastly_by, mapped, onward, onward_by}
-use Rattle.orca_course.specs.Performers.{Heard, Part, Turn, begun, finished, performance, turn_course}
+use Rattle.orca_course.specs.Courses.{Course, lastly, lastly_by, mapped}
+use Rattle.orca_course.specs.Performers.{Heard, Part, Turn, attended, begun, finished, heard_turns, performance, turn_course}
 use Rattle.orca_course.specs.declared.ending.Ending.{Ending}
 use Rattle.orca_course.specs.declared.item.Came.{Came}
 use Rattle.orca_course.specs.declared.item.Item.TheVariants as item
-use Rattle.orca_course.proofs.TurnLemmas.{AreInner, IsInner}
+use Rattle.orca_course.proofs.TurnLemmas.{IsInner, inner_heard, turns_hold}
 
 -- ---- unless it ends so
 
 -- this holds of a course, unless it has this ending
-abbrev pub Holds : {S E : Type 0} → (S → List Act → S → Type 0) → E → S → Course S E → Type 0
-Holds holds bad s c = c.ending ≢ Some bad → holds s c.acts c.state
+abbrev pub Unless : {S E : Type 0} → (S → List Act → S → Type 0) → E → S → Course S E → Type 0
+Unless holds bad s c = c.ending ≢ Some bad → holds s c.acts c.state
 
-module _ {S : Type 0} (holds : S → List Act → S → Type 0) (bad : Ending)
-    (both : (r s t : S) (xs ys : List Act) → holds r xs s → holds s ys t → holds r (xs ++ ys) t)
-  where
-    onward_holds_by : (end : Option Ending) (s : S) (c : Course S Ending)
-        (next : S → Course S Ending) → c.ending ≡ end → Holds holds bad s c
-        → ((t : S) → Holds holds bad t (next t)) → Holds holds bad s (onward_by end c next)
-    onward_holds_by None s c next is first second = λ other.
-        let open_ended : c.ending ≢ Some bad = λ ends. absurd cc in
-        both s c.state (next c.state).state c.acts (next c.state).acts (first open_ended)
-        (second c.state other)
-    onward_holds_by (Some e) s c next is first second = first
-
-    -- what holds of each turn between the ends holds of all of them
-    pub turns_hold : (p : Part S) → ((s : S) → holds s [] s)
-        → ((turn : Turn) → IsInner turn → (s : S) → Holds holds bad s (turn_course p turn s))
-        → (turns : List Turn) → AreInner turns
-        → (s : S) → Holds holds bad s (each (turn_course p) turns s)
-    unfolding each onward
-    turns_hold p none one [] inner s = λ other. none s
-    turns_hold p none one (turn ∷ turns) inner s =
-        onward_holds_by (turn_course p turn s).ending s (turn_course p turn s)
-        (each (turn_course p) turns) refl (one turn inner.0 s)
-        (λ t. turns_hold p none one turns inner.1 t)
+-- what holds of each turn between the ends holds of what was heard
+pub attended_holds : {S : Type 0} (holds : S → List Act → S → Type 0) (bad : Ending) (p : Part S)
+    → ((s : S) → holds s [] s)
+    → ((r s t : S) (xs ys : List Act) → holds r xs s → holds s ys t → holds r (xs ++ ys) t)
+    → ((turn : Turn) → IsInner turn → (s : S) → Unless holds bad s (turn_course p turn s))
+    → (heard : List Heard) (s : S) → Unless holds bad s (attended p s heard)
+unfolding attended
+attended_holds holds bad p none both one heard s =
+    turns_hold (λ end s acts t. end ≢ Some bad → holds s acts t)
+    (λ end r s t xs ys first second other. both r s t xs ys (first (λ is. absurd cc)) (second other))
+    IsInner (turn_course p) (λ s other. none s) one (heard_turns heard) (inner_heard heard) s
 
 -- ---- a performance that ended
 

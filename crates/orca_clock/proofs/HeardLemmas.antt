@@ -23,7 +23,7 @@ use Rattle.orca_course.specs.declared.item.Item.{Item}
 use Rattle.orca_course.specs.declared.item.Item.TheVariants as item
 use Rattle.orca_course.proofs.ActLemmas.{commands_in-append, handed_commands}
 use Rattle.orca_course.proofs.CourseLemmas.{onward_ended, onward_goes}
-use Rattle.orca_course.proofs.TurnLemmas.{IsInner, inner_heard}
+use Rattle.orca_course.proofs.TurnLemmas.{IsInner}
 use Rattle.orca_edit.specs.Obeying.{MachineState, machine_closed, obey}
 use Rattle.orca_notes.specs.Sound.{ends}
 use Rattle.orca_rig.specs.declared.inbox.Answer.{Answer}
@@ -34,7 +34,7 @@ use Rattle.orca_sync.specs.declared.follower.Beat.TheVariants as beat
 use Rattle.orca_clock.specs.Clocked.{clock_frame_course, end_course, last_text_course}
 use Rattle.orca_clock.specs.Followers.{Followed, beat_course, clock_byte_course, follow_course, follow_part, hand_byte_course, with_pulse}
 use Rattle.orca_clock.specs.Laws.{AreDone, TellsAtEnd, bytes_before, commands_of_beat, heard_in}
-use Rattle.orca_clock.proofs.GoingLemmas.{has_ended, turns_hold}
+use Rattle.orca_clock.proofs.GoingLemmas.{attended_holds, has_ended}
 use Rattle.orca_clock.proofs.MidiLemmas.{end_commands}
 use Rattle.orca_clock.proofs.TellingLemmas.{close_told, command_told, end_told}
 
@@ -318,10 +318,9 @@ module _ {R : Type 0} (m : Manner R) (tells : TellsAtEnd m) where
   attended_made : (heard : List Heard) (s : Followed R)
       → let c = attended (follow_part m) s heard in
       c.ending ≢ Some (Stopped Full) → IsMade s c.acts c.state
-  unfolding attended
   attended_made heard s =
-      turns_hold IsMade (Stopped Full) made_both (follow_part m) (λ s. refl)
-      (λ turn inner s other. turn_made turn inner s) (heard_turns heard) (inner_heard heard) s
+      attended_holds IsMade (Stopped Full) (follow_part m) (λ s. refl) made_both
+      (λ turn inner s other. turn_made turn inner s) heard s
 
   -- a whole performance that its player has left: all commands were done, and then every note ended
   pub follow_played : (opening : Came) (heard : List Heard) (s : Followed R)

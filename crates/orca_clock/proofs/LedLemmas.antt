@@ -23,7 +23,7 @@ use Rattle.orca_course.specs.declared.ending.Stop.TheVariants.{Full}
 use Rattle.orca_course.specs.declared.item.Came.{Came}
 use Rattle.orca_course.specs.declared.item.Item.TheVariants as item
 use Rattle.orca_course.proofs.ActLemmas.{commands_in-append, handed_commands}
-use Rattle.orca_course.proofs.TurnLemmas.{IsInner, inner_heard}
+use Rattle.orca_course.proofs.TurnLemmas.{IsInner}
 use Rattle.orca_edit.specs.Frames.{machine_after}
 use Rattle.orca_edit.specs.Obeying.{MachineState, obey, piece_of}
 use Rattle.orca_edit.proofs.FrameLemmas.{IsPlayed, frame_plays, framed}
@@ -40,7 +40,7 @@ use Rattle.orca_trace.specs.Calls.{Poll}
 use Rattle.orca_clock.specs.Clocked.{clock_frame_course}
 use Rattle.orca_clock.specs.Laws.{TellsAtEnd, midi_bytes_in}
 use Rattle.orca_clock.specs.Leaders.{Led, clocked_course, clock_due_course, hand_key_course, lead_key_course, lead_course, lead_part, quit, toggle_course, with_metronome}
-use Rattle.orca_clock.proofs.GoingLemmas.{turns_hold}
+use Rattle.orca_clock.proofs.GoingLemmas.{attended_holds}
 use Rattle.orca_clock.proofs.MidiLemmas.{handed_no_clock, midi_bytes-append}
 use Rattle.orca_clock.proofs.TellingLemmas.{Goes, command_told}
 
@@ -304,7 +304,6 @@ module _ {R : Type 0} (m : Manner R) (tells : TellsAtEnd m) (lawful : IsLawful r
 
   pub attended_led : (heard : List Heard) (s : Led R)
       → LeadsUnless (Stopped Full) s (attended (lead_part m) s heard)
-  unfolding attended
   attended_led heard s =
-      turns_hold (λ s acts t. Leads s acts t) (Stopped Full) led_both (lead_part m) led_none turn_led
-      (heard_turns heard) (inner_heard heard) s
+      attended_holds (λ s acts t. Leads s acts t) (Stopped Full) (lead_part m) led_none led_both
+      turn_led heard s
