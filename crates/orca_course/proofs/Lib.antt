@@ -10,3 +10,5 @@ pub mod ItemLemmas
 pub mod TurnLemmas
 pub mod PollLemmas
 pub mod PerformanceLemmas
+pub mod MidwayLemmas
+pub mod CuttingLemmas

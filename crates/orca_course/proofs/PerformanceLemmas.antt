@@ -83,7 +83,7 @@ turns_more h heard off =
     sum_by-cons turn_at h heard ∙ ap (λ (b : Bool). cond (not b) 1 0 + turns heard) off
 
 -- all polls count of a performance that goes on
-all_turns : {S : Type 0} (p : Part S) (heard : List Heard) (s : S)
+pub all_turns : {S : Type 0} (p : Part S) (heard : List Heard) (s : S)
     → (each (turn_course p) (flat_map turns_of heard) s).ending ≡ None → turns heard ≡ length heard
 unfolding each turn_course
 all_turns p [] s goes = refl
