@@ -4,5 +4,5 @@ use Rattle.orca_live.specs.Laws.{OnlyAppends}
 use Rattle.orca_live.specs.Performing.{live_part}
 
 pub only_appends : OnlyAppends
-only_appends polls more s =
-    let adds = begun_adds live_part polls more s in record { tail = adds.0; acts = adds.1 }
+only_appends opening heard more s =
+    let adds = begun_adds live_part opening heard more s in record { tail = adds.0; acts = adds.1 }

@@ -1,66 +1,60 @@
 -- What holds of each step of a performance, and of two in turn, holds of all of it.
-use Rattle.std.proofs.Common.{List, [], ◌∷◌, ℕ, sym, subst}
+use Rattle.std.proofs.Common.{ℕ, List, [], ◌∷◌}
 use Rattle.std.specs.Prelude.{Option, Some, None}
 use Rattle.orca_course.specs.Acts.{Act}
-use Rattle.orca_course.specs.Acts.Act.{Await}
-use Rattle.orca_course.specs.Courses.{Course, lastly, lastly_by, mapped, onward}
-use Rattle.orca_course.specs.Performers.{attended, begun, finished, heard, opened, performance, polled}
+use Rattle.orca_course.specs.Acts.Act.{Await, Learn}
+use Rattle.orca_course.specs.Courses.{Course, lastly, lastly_by, mapped}
+use Rattle.orca_course.specs.Performers.{Heard, Turn, begun, finished, given_course, performance, turn_course}
+use Rattle.orca_course.specs.Performers.Turn.{Asked, Given, Learned, Over}
 use Rattle.orca_course.specs.declared.ending.Ending.{Ending}
-use Rattle.orca_course.proofs.CourseLemmas.{each-holds}
-use Rattle.orca_course.proofs.PerformanceLemmas.{attended_done}
+use Rattle.orca_course.specs.declared.ending.Stop.{Stop}
+use Rattle.orca_course.specs.declared.item.Came.{Came}
+use Rattle.orca_course.proofs.MidwayLemmas.{IsMidway, all_midway}
+use Rattle.orca_course.proofs.TurnLemmas.{turns_hold}
 use Rattle.orca_trace.specs.Calls.{Poll}
-use Rattle.orca_rig.specs.declared.inbox.Answer.{Answer}
-use Rattle.orca_rig.specs.declared.inbox.Answer.TheVariants as answer
-use Rattle.orca_live.specs.Carrying.{Along, BeginsJournal, Carries, Silences, finish_carried, heard_carried, looks_same, onward_carried, open_carried}
-use Rattle.orca_live.specs.Performing.{live_part}
+use Rattle.orca_live.specs.Carrying.{BeginsJournal, Carries, Silences, finish_carried, looks_same, midway_carried}
+use Rattle.orca_live.specs.Performing.{live_part, take_course}
 use Rattle.orca_live.specs.States.{LiveState}
 
--- it holds of a poll too
-abbrev pub Awaits : (LiveState → List Act → LiveState → Type 0) → Type 0
-Awaits holds = (poll : Poll) (s : LiveState) → holds s (Await poll ∷ []) s
+-- whoever gave the commands, and whether or not they ended the performance
+abbrev pub Anyhow : (LiveState → List Act → LiveState → Type 0)
+    → ℕ → Option Stop → LiveState → List Act → LiveState → Type 0
+Anyhow holds who end s acts t = holds s acts t
 
-module _ {holds : LiveState → List Act → LiveState → Type 0} (carry : Carries holds)
-    (awaits : Awaits holds) (begins : BeginsJournal holds) where
-  answered_carried : (a : Answer) (bytes : List ℕ) (s : LiveState)
-      → Along holds (heard live_part a bytes s) s
-  unfolding heard mapped
-  answered_carried (answer.Bytes hand count at) bytes s =
-      heard_carried carry (answer.Bytes hand count at) bytes s
-  answered_carried (answer.Due at) bytes s = heard_carried carry (answer.Due at) bytes s
-  answered_carried answer.End bytes s = carry.none s s (looks_same s)
-  answered_carried answer.Failed bytes s = carry.none s s (looks_same s)
+-- it holds of what the loop does too
+pub record Attends (holds : LiveState → List Act → LiveState → Type 0) : Type 0 where
+  pub asks : (poll : Poll) (s : LiveState) → holds s (Await poll ∷ []) s
+  pub learns : (came : Came) (s : LiveState) → holds s (Learn came ∷ []) s
 
-  polled_carried : (poll : Poll) (s : LiveState) → Along holds (polled live_part poll s) s
-  unfolding polled onward
-  polled_carried poll s =
-      carry.both s s _ _ _ (awaits (record poll { until = live_part.until s }) s)
-      (answered_carried poll.answer poll.bytes s)
+module _ {holds : LiveState → List Act → LiveState → Type 0} (carry : Carries (Anyhow holds))
+    (attends : Attends holds) (begins : BeginsJournal (Anyhow holds)) where
+  turn_carried : (turn : Turn) → IsMidway turn → (s : LiveState)
+      → holds s (turn_course live_part turn s).acts (turn_course live_part turn s).state
+  unfolding turn_course given_course mapped
+  turn_carried (Asked poll) midway s = attends.asks (record poll { until = live_part.until s }) s
+  turn_carried (Learned came) midway s = attends.learns came s
+  turn_carried (Given i) midway s = midway_carried carry begins 0 i s midway
+  turn_carried (Over ending) midway s = carry.none 0 s s (looks_same s)
 
-  attended_carried : (polls : List Poll) (s : LiveState)
-      → Along holds (attended live_part polls s) s
-  attended_carried polls s =
-      subst (λ (done : List Act × LiveState). holds s done.0 done.1)
-      (sym (attended_done live_part polls s))
-      (each-holds holds (polled live_part) (λ t. carry.none t t (looks_same t)) carry.both
-      polled_carried polls s)
+  pub begun_carried : (s : LiveState) (opening : Came) (heard : List Heard)
+      → let c = begun live_part s opening heard in holds s c.acts c.state
+  unfolding begun
+  begun_carried s opening heard =
+      turns_hold (λ end. holds) (λ end. carry.both 0 None) IsMidway (turn_course live_part)
+      (λ t. carry.none 0 t t (looks_same t)) turn_carried _
+      (all_midway opening heard) s
 
-  pub begun_carried : (s : LiveState) (polls : List Poll) → Along holds (begun live_part s polls) s
-  unfolding begun opened onward mapped
-  begun_carried s polls =
-      let c = opened live_part s in
-      onward_carried carry s c.ending c (attended live_part polls) (open_carried carry begins s)
-      (attended_carried polls)
+  lastly_carried : Silences (Anyhow holds) → (end : Option Ending) (c : Course LiveState Ending)
+      (s : LiveState) → holds s c.acts c.state
+      → let d = lastly_by end c (finished live_part) in holds s d.acts d.state
+  unfolding finished take_course mapped
+  lastly_carried silences None c s done = done
+  lastly_carried silences (Some e) c s done =
+      carry.both 0 None s c.state _ c.acts _ done (finish_carried carry silences 0 c.state)
 
-  lastly_carried : Silences holds → (end : Option Ending) (c : Course LiveState Ending)
-      (s : LiveState) → Along holds c s → Along holds (lastly_by end c (finished live_part)) s
-  unfolding finished mapped
-  lastly_carried silences None c s first = first
-  lastly_carried silences (Some e) c s first =
-      carry.both s c.state _ c.acts _ first (finish_carried carry silences c.state)
-
-  pub performance_carried : Silences holds → (s : LiveState) (polls : List Poll)
-      → Along holds (performance live_part s polls) s
+  pub performance_carried : Silences (Anyhow holds) → (s : LiveState) (opening : Came)
+      (heard : List Heard) → let c = performance live_part s opening heard in holds s c.acts c.state
   unfolding performance lastly
-  performance_carried silences s polls =
-      let c = begun live_part s polls in
-      lastly_carried silences c.ending c s (begun_carried s polls)
+  performance_carried silences s opening heard =
+      let c = begun live_part s opening heard in
+      lastly_carried silences c.ending c s (begun_carried s opening heard)

@@ -18,6 +18,7 @@ use Rattle.orca_jam.specs.Crews.{fitted_player}
 use Rattle.orca_jam.specs.declared.player.Player.{Player}
 use Rattle.orca_term.specs.declared.cell.Cell.{Cell}
 use Rattle.orca_live.specs.Performing.{additions, hush_course, hand_course, finish_course, header_course, if_named, journal_course, saves_course, last_grid_course, last_script_course, lines_course, open_course, paint_course, painted_course, preview_course, save_course, script_course, show_course, update_course, view_sends, write_course}
+use Rattle.orca_live.specs.Starting.{nothing_failed}
 use Rattle.orca_live.specs.States.{LiveState, dims_at, fitted, piece_at}
 
 -- ---- the commands of acts
@@ -45,13 +46,14 @@ paint_commands marks s = simp views_commands
 
 -- ---- what matters to the session
 
--- no moments, no pace, nothing that is shown, and no line that waits for the journal
+-- no moments, no pace, nothing that is shown, no line that waits for the journal, and no failure
 abbrev pub plain : LiveState → LiveState
 plain s = record s {
   pace = record { bpm = 0; parts = 0; due = 0 };
   shown = None;
   unwritten = [];
   at = 0;
+  came = nothing_failed;
 }
 
 -- and the editors as they fit the grid

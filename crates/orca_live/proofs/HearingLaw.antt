@@ -1,56 +1,60 @@
 -- The reader of each hand stands where its own bytes and the due frames have left it, and the keys
 -- that these have ended are those that it struck, and moved its editor.
 use Rattle.std.proofs.Common.{◌≡◌, ℕ, zero, suc, ◌+◌, ◌<◌, ◌≤◌, Bool, true, false, List, [], ◌∷◌, ◌++◌, length, refl, sym, ◌∙◌, ap, subst, arith, append_assoc, append-nil}
-use Rattle.std.specs.Prelude.{if◌then◌else◌, ◌==◌, map, nat_le, nat_lt, slice_index_or, slice_set, Option, Some, None}
+use Rattle.std.specs.Prelude.{if◌then◌else◌, ◌==◌, nat_lt, slice_index_or, slice_set, Option, Some, None}
 use Rattle.std.specs.List.{flat_map, range_with_len}
 use Rattle.std.specs.Option.{option_map}
 use Rattle.std.proofs.lemmas.Bool.{eqb-true, eqb-false, ltb-true}
 use Rattle.std.proofs.lemmas.Bool.Decides.{nat_tests}
+use Rattle.std.proofs.lemmas.Option.{none-some}
 use Rattle.std.proofs.lemmas.List.{get_or-set_other, get_or-set_same, length-map, length-set}
 use Rattle.orca_base.specs.declared.command.Command.TheVariants.{Frame}
-use Rattle.orca_base.specs.declared.limits.TheConstants.{MAX_POLLS}
 use Rattle.orca_concert.specs.Concerts.{command_course as obey_course}
-use Rattle.orca_course.specs.Acts.{Act}
-use Rattle.orca_course.specs.Courses.{Course, each, ended, mapped, onward, still}
-use Rattle.orca_course.specs.Performers.{attended, begun, heard, opened, polled, spent}
+use Rattle.orca_course.specs.Acts.{Act, keys_in}
+use Rattle.orca_course.specs.Acts.Act.{Await, Learn}
+use Rattle.orca_course.specs.Courses.{Course, course, each, ended, mapped, onward, still}
+use Rattle.orca_course.specs.Performers.{Heard, Turn, begun, first_turns, given_course, heard_turns, turn_course}
+use Rattle.orca_course.specs.Performers.Turn.{Asked, Given, Learned, Over}
 use Rattle.orca_course.specs.declared.ending.Ending.{Ending}
-use Rattle.orca_course.specs.declared.ending.Ending.TheVariants.{Spent, Stopped}
+use Rattle.orca_course.specs.declared.ending.Ending.TheVariants.{Stopped}
 use Rattle.orca_course.specs.declared.ending.Stop.{Stop}
 use Rattle.orca_course.specs.declared.ending.Stop.TheVariants.{Full}
+use Rattle.orca_course.specs.declared.item.Came.{Came}
+use Rattle.orca_course.specs.declared.item.Item.{Item}
+use Rattle.orca_course.specs.declared.item.Item.TheVariants as item
 use Rattle.orca_course.proofs.CourseLemmas.{goes_both, onward_goes}
-use Rattle.orca_course.proofs.PollLemmas.{heard_goes}
+use Rattle.orca_course.proofs.CuttingLemmas.{counted, counting}
+use Rattle.orca_course.proofs.CuttingLemmas.Worth.{Counts, Nothing}
+use Rattle.orca_course.proofs.MidwayLemmas.{AreMidway, IsMidway, all_midway}
 use Rattle.orca_jam.specs.Crews.{asked, denial_of, new_player, player_at, struck_by, turned_by, turned_player}
 use Rattle.orca_jam.specs.declared.denial.Denial.{Denial}
 use Rattle.orca_jam.specs.declared.owner.TheConstants.{NOBODY}
 use Rattle.orca_jam.specs.declared.player.Player.{Player}
-use Rattle.orca_rig.specs.Arrived.{is_ending}
-use Rattle.orca_rig.specs.declared.inbox.Answer.{Answer}
-use Rattle.orca_rig.specs.declared.inbox.Answer.TheVariants as answer
-use Rattle.orca_term.specs.Keys.{Byte, Due, Item, turn}
+use Rattle.orca_term.specs.Keys.{Byte, Due, Item as KeyItem, turn}
 use Rattle.orca_term.specs.declared.editor.Editor.{Editor}
 use Rattle.orca_term.specs.declared.editor.Wish.{Wish}
 use Rattle.orca_term.specs.declared.editor.Wish.TheVariants as wish
 use Rattle.orca_term.specs.declared.keys.Key.{Key}
 use Rattle.orca_term.specs.declared.keys.Pending.{Pending}
-use Rattle.orca_trace.specs.Calls.{Poll}
 use Rattle.orca_live.specs.Hands.{EachIsHeard, IsMadeBy, items_for, key_of, keys_after, pending_after}
-use Rattle.orca_live.specs.Items.{ByteOf, HeardItem, items_by, items_of}
+use Rattle.orca_live.specs.Items.{ByteOf, HeardItem, items_of}
 use Rattle.orca_live.specs.Laws.{so_far}
-use Rattle.orca_live.specs.Performing.{answer_course, answered_at, byte_course, hand_course, denied_course, due_course, fired, frame_course, heard_course, item_course, key_course, live_part, lull_course, open_course, press_course, read_course, save_course, struck_course, struck_where, update_course, wish_course}
+use Rattle.orca_live.specs.Performing.{answered_at, byte_course, denied_course, due_course, fired, frame_course, hand_course, item_course, key_course, knowing, live_part, lull_course, press_course, read_course, save_course, struck_course, struck_where, take_course, wish_course}
 use Rattle.orca_live.specs.States.{LiveState, Setting, around_at, dims_at, editor_at, fitted, hands_in, is_full, is_hand, leader_at}
 use Rattle.orca_live.proofs.CuttingLaw.{keys_fitted, owning_hands}
 use Rattle.orca_live.proofs.GivenLemmas.{core, open_aside, update_aside}
 use Rattle.orca_live.proofs.ScriptLaw.{obeys_commands}
 use Rattle.orca_live.proofs.StrikingLemmas.{Strikes, frame_strikes, open_silent, read_other, read_own, strikes_same, strikes_twice, update_silent}
+use Rattle.orca_live.proofs.WorthLemmas.{all_counted, worth_of}
 
 -- ---- what a reader was given
 
-pending_after-append : (full : Bool) (p : Pending) (xs ys : List Item)
+pending_after-append : (full : Bool) (p : Pending) (xs ys : List KeyItem)
     → pending_after full p (xs ++ ys) ≡ pending_after full (pending_after full p xs) ys
 pending_after-append full p [] ys = refl
 pending_after-append full p (x ∷ xs) ys = pending_after-append full (turn full p x).pending xs ys
 
-keys_after-append : (full : Bool) (p : Pending) (xs ys : List Item)
+keys_after-append : (full : Bool) (p : Pending) (xs ys : List KeyItem)
     → keys_after full p (xs ++ ys)
     ≡ keys_after full p xs ++ keys_after full (pending_after full p xs) ys
 keys_after-append full p [] ys = refl
@@ -61,14 +65,14 @@ keys_after-append full p (x ∷ xs) ys =
 
 -- from one state to another the reader of a hand was given these items, and the setting and the
 -- number of hands are as they were
-record Reads (hand : ℕ) (items : List Item) (s t : LiveState) : Type 0 where
+record Reads (hand : ℕ) (items : List KeyItem) (s t : LiveState) : Type 0 where
   pub setting : t.setting ≡ s.setting
   pub hands : length t.crew.players ≡ length s.crew.players
   pub keys : (player_at t.crew hand).keys
       ≡ pending_after s.setting.full (player_at s.crew hand).keys items
 
 -- and among acts it struck the keys that these items have ended
-record Hears (hand : ℕ) (items : List Item) (s : LiveState) (acts : List Act) (t : LiveState)
+record Hears (hand : ℕ) (items : List KeyItem) (s : LiveState) (acts : List Act) (t : LiveState)
     : Type 0 where
   pub reads : Reads hand items s t
   pub strikes : Strikes hand (keys_after s.setting.full (player_at s.crew hand).keys items) s acts t
@@ -76,7 +80,7 @@ record Hears (hand : ℕ) (items : List Item) (s : LiveState) (acts : List Act) 
 reads_none : (hand : ℕ) (s : LiveState) → Reads hand [] s s
 reads_none hand s = record { setting = refl; hands = refl; keys = refl }
 
-reads_twice : (hand : ℕ) (xs ys : List Item) (r s t : LiveState) → Reads hand xs r s
+reads_twice : (hand : ℕ) (xs ys : List KeyItem) (r s t : LiveState) → Reads hand xs r s
     → Reads hand ys s t → Reads hand (xs ++ ys) r t
 reads_twice hand xs ys r s t first second = record {
   setting = second.setting ∙ first.setting;
@@ -88,7 +92,7 @@ reads_twice hand xs ys r s t first second = record {
       ∙ sym (pending_after-append r.setting.full (player_at r.crew hand).keys xs ys)));
 }
 
-hears_twice : (hand : ℕ) (xs ys : List Item) (r s t : LiveState) (begun more : List Act)
+hears_twice : (hand : ℕ) (xs ys : List KeyItem) (r s t : LiveState) (begun more : List Act)
     → Hears hand xs r begun s → Hears hand ys s more t → Hears hand (xs ++ ys) r (begun ++ more) t
 hears_twice hand xs ys r s t begun more first second =
     let full = r.setting.full in
@@ -212,7 +216,7 @@ press_reads hand other (Some key) s =
 -- ---- items
 
 -- its own item moves a reader
-turned_own : (hand : ℕ) (item : Item) (s : LiveState) → is_hand hand s ≡ true
+turned_own : (hand : ℕ) (item : KeyItem) (s : LiveState) → is_hand hand s ≡ true
     → Reads hand (item ∷ []) s (record s { crew = turned_by s.setting.full hand item s.crew })
 turned_own hand item s is =
     let full = s.setting.full in
@@ -226,7 +230,7 @@ turned_own hand item s is =
     }
 
 -- and that of another hand does not
-turned_other : (hand other : ℕ) (item : Item) (s : LiveState) → (other == hand) ≡ false
+turned_other : (hand other : ℕ) (item : KeyItem) (s : LiveState) → (other == hand) ≡ false
     → Reads hand [] s (record s { crew = turned_by s.setting.full other item s.crew })
 turned_other hand other item s differs =
     let full = s.setting.full in
@@ -240,10 +244,10 @@ turned_other hand other item s differs =
     }
 
 -- the items of one for the reader of another
-abbrev given : ℕ → ℕ → Item → List Item
+abbrev given : ℕ → ℕ → KeyItem → List KeyItem
 given hand other item = if other == hand then item ∷ [] else []
 
-read_strikes : (hand other : ℕ) (item : Item) (s : LiveState) (own : Bool) → (other == hand) ≡ own
+read_strikes : (hand other : ℕ) (item : KeyItem) (s : LiveState) (own : Bool) → (other == hand) ≡ own
     → is_hand other s ≡ true
     → Strikes hand
     (keys_after s.setting.full (player_at s.crew hand).keys (if own then item ∷ [] else [])) s
@@ -257,7 +261,7 @@ read_strikes hand other item s true own is =
     (rw append-nil (read_own other item s is))
 read_strikes hand other item s false differs is = read_other hand other item s differs
 
-read_reads : (hand other : ℕ) (item : Item) (s : LiveState) (own : Bool) → (other == hand) ≡ own
+read_reads : (hand other : ℕ) (item : KeyItem) (s : LiveState) (own : Bool) → (other == hand) ≡ own
     → is_hand other s ≡ true
     → Reads hand (if own then item ∷ [] else []) s (read_course other item s).state
 unfolding read_course
@@ -279,7 +283,7 @@ no_hand : (hand other n : ℕ) → nat_lt hand n ≡ true → nat_lt other n ≡
     → (other == hand) ≡ false
 no_hand hand other n is off = grind (arith, nat_tests)
 
-item_by : (hand other : ℕ) (item : Item) (s : LiveState) (is : Bool) → is_hand hand s ≡ true
+item_by : (hand other : ℕ) (item : KeyItem) (s : LiveState) (is : Bool) → is_hand hand s ≡ true
     → is_hand other s ≡ is
     → let c : Course LiveState Stop = if is then read_course other item s else still s in
     Hears hand (given hand other item) s c.acts c.state
@@ -290,7 +294,7 @@ item_by hand other item s true there is = record {
 item_by hand other item s false there off =
     rw (no_hand hand other (length s.crew.players) there off) (hears_none hand s)
 
-item_hears : (hand other : ℕ) (item : Item) (s : LiveState) → is_hand hand s ≡ true
+item_hears : (hand other : ℕ) (item : KeyItem) (s : LiveState) → is_hand hand s ≡ true
     → Hears hand (given hand other item) s (item_course other item s).acts
     (item_course other item s).state
 unfolding item_course
@@ -323,7 +327,7 @@ dues_by : (own : Bool) (hand a n : ℕ) → (a == hand) ≡ own → a ≤ hand �
     ≡ Due ∷ []
 dues_by true hand a n own low high more =
     let same = eqb-true a hand own in
-    ap (λ (items : List Item). Due ∷ items) (dues_none hand (a + 1) n (omega arith))
+    ap (λ (items : List KeyItem). Due ∷ items) (dues_none hand (a + 1) n (omega arith))
 dues_by false hand a n own low high more =
     let differs = eqb-false a hand own in
     more (omega arith) (grind (arith, nat_tests))
@@ -339,12 +343,12 @@ dues_once hand a (suc n) low high =
 
 module _ (hand n : ℕ) (there : nat_lt hand n ≡ true) where
   -- where the course goes on, the hand was heard by these items
-  abbrev Heeds : {E : Type 0} → List Item → (LiveState → Course LiveState E) → Type 0
+  abbrev Heeds : {E : Type 0} → List KeyItem → (LiveState → Course LiveState E) → Type 0
   Heeds items f =
       (s : LiveState) → length s.crew.players ≡ n → (f s).ending ≡ None
       → Hears hand items s (f s).acts (f s).state
 
-  heeds_onward : {E : Type 0} (xs ys : List Item) (f next : LiveState → Course LiveState E)
+  heeds_onward : {E : Type 0} (xs ys : List KeyItem) (f next : LiveState → Course LiveState E)
       → Heeds xs f → Heeds ys next → Heeds (xs ++ ys) (λ s. onward (f s) next)
   heeds_onward {E = E} xs ys f next first more s are goes =
       let both = goes_both (f s) next goes in
@@ -355,7 +359,10 @@ module _ (hand n : ℕ) (there : nat_lt hand n ≡ true) where
       (hears_twice hand xs ys s (f s).state d.state (f s).acts d.acts one
       (more (f s).state (one.reads.hands ∙ are) both.1))
 
-  heeds_each : {X E : Type 0} (g : X → List Item) (f : X → LiveState → Course LiveState E)
+  there_at : (s : LiveState) → length s.crew.players ≡ n → is_hand hand s ≡ true
+  there_at s are = ap (λ (hands : ℕ). nat_lt hand hands) are ∙ there
+
+  heeds_each : {X E : Type 0} (g : X → List KeyItem) (f : X → LiveState → Course LiveState E)
       → ((x : X) → Heeds (g x) (f x)) → (xs : List X) → Heeds (flat_map g xs) (each f xs)
   unfolding each
   heeds_each g f one [] s are goes = hears_none hand s
@@ -363,10 +370,7 @@ module _ (hand n : ℕ) (there : nat_lt hand n ≡ true) where
       heeds_onward (g x) (flat_map g xs) (f x) (each f xs) (one x) (heeds_each g f one xs) s are
       goes
 
-  there_at : (s : LiveState) → length s.crew.players ≡ n → is_hand hand s ≡ true
-  there_at s are = ap (λ (hands : ℕ). nat_lt hand hands) are ∙ there
-
-  heeds_item : (other : ℕ) (item : Item)
+  heeds_item : (other : ℕ) (item : KeyItem)
       → Heeds (given hand other item) (item_course other item)
   heeds_item other item s are goes = item_hears hand other item s (there_at s are)
 
@@ -389,163 +393,117 @@ module _ (hand n : ℕ) (there : nat_lt hand n ≡ true) where
   unfolding due_course
   heeds_due = heeds_onward (Due ∷ []) [] lull_course frame_course heeds_lull heeds_frame
 
-  -- ---- answers
-
-  -- what an answer brings to the reader of the hand
-  abbrev brought : Answer → List ℕ → List Item
-  brought (answer.Bytes other count at) bytes =
-      flat_map (λ byte. given hand other (Byte byte)) bytes
-  brought (answer.Due at) bytes = Due ∷ []
-  brought answer.End bytes = []
-  brought answer.Failed bytes = []
-
-  -- a moment is kept
+  -- a moment is nothing to a hand
   hears_at : (at : ℕ) (s : LiveState) → Hears hand [] s [] (answered_at at s)
   hears_at at s = hears_same hand s (answered_at at s) refl refl
 
-  heeds_answer : (a : Answer) (bytes : List ℕ) → Heeds (brought a bytes) (answer_course a bytes)
-  unfolding answer_course byte_course
-  heeds_answer (answer.Bytes other count at) bytes s are goes =
+  -- ---- turns
+
+  -- what the reader of the hand is given
+  abbrev given_by : Item → List KeyItem
+  given_by (item.Byte other at byte) = given hand other (Byte byte)
+  given_by (item.Due at) = Due ∷ []
+  given_by (item.Open came) = []
+  given_by (item.Over came) = []
+  given_by (item.Ended ending) = []
+
+  byte_given : (is own : Bool) (other byte : ℕ) (items : List HeardItem) → nat_lt other n ≡ is
+      → (other == hand) ≡ own
+      → items_for hand (counting (if is then Counts (ByteOf other byte) else Nothing) items)
+      ≡ given hand other (Byte byte) ++ items_for hand items
+  byte_given true true other byte items is mine = rw mine refl
+  byte_given true false other byte items is mine = rw mine refl
+  byte_given false own other byte items is mine = rw (no_hand hand other n there is) refl
+
+  item_given : (i : Item) (items : List HeardItem)
+      → items_for hand (counting (worth_of n i) items) ≡ given_by i ++ items_for hand items
+  item_given (item.Byte other at byte) items =
+      byte_given (nat_lt other n) (other == hand) other byte items refl refl
+  item_given _ items = refl
+
+  heeds_take : (i : Item) → IsMidway (Given i) → Heeds (given_by i) (take_course i)
+  unfolding take_course byte_course
+  heeds_take (item.Byte other at byte) midway s are goes =
       let t = answered_at at s in
-      hears_twice hand [] (brought (answer.Bytes other count at) bytes) s t _ [] _ (hears_at at s)
-      (heeds_each (λ byte. given hand other (Byte byte)) (byte_course other)
-      (λ byte. heeds_item other (Byte byte)) bytes t are goes)
-  heeds_answer (answer.Due at) bytes s are goes =
+      hears_twice hand [] (given hand other (Byte byte)) s t _ [] _ (hears_at at s)
+      (heeds_item other (Byte byte) t are goes)
+  heeds_take (item.Due at) midway s are goes =
       let t = answered_at at s in
       hears_twice hand [] (Due ∷ []) s t _ [] _ (hears_at at s) (heeds_due t are goes)
-  heeds_answer answer.End bytes s are goes = hears_none hand s
-  heeds_answer answer.Failed bytes s are goes = hears_none hand s
-
-  heeds_update : Heeds [] update_course
-  heeds_update s are goes = record {
-    reads = reads_core hand s (update_course s).state (update_aside s).same;
-    strikes = (update_silent hand s).strikes;
-  }
-
-  heeds_heard_course : (a : Answer) (bytes : List ℕ)
-      → Heeds (brought a bytes) (heard_course a bytes)
-  unfolding heard_course
-  heeds_heard_course a bytes s are goes =
-      let some = heeds_onward (brought a bytes) [] (answer_course a bytes) update_course
-      (heeds_answer a bytes) heeds_update s are goes in
-      rw append-nil at some
+  heeds_take (item.Open came) midway s are goes =
+      let strikes = (open_silent hand (knowing came s)).strikes in
+      record {
+        reads = reads_core hand s _ (open_aside (knowing came s)).same;
+        strikes = record { own = strikes.own; moves = strikes.moves };
+      }
+  heeds_take (item.Over came) midway s are goes =
+      let strikes = (update_silent hand (knowing came s)).strikes in
+      record {
+        reads = reads_core hand s _ (update_aside (knowing came s)).same;
+        strikes = record { own = strikes.own; moves = strikes.moves };
+      }
+  heeds_take (item.Ended ending) midway s are goes = absurd midway
 
   stops_not : (end : Option Stop) → option_map {U = Ending} Stopped end ≡ None → end ≡ None
   stops_not None goes = refl
   stops_not (Some stop) goes = absurd cc
 
-  heeds_heard : (a : Answer) (bytes : List ℕ) → Heeds (brought a bytes) (heard live_part a bytes)
-  unfolding heard mapped
-  heeds_heard (answer.Bytes other count at) bytes s are goes =
-      heeds_heard_course (answer.Bytes other count at) bytes s are (stops_not _ goes)
-  heeds_heard (answer.Due at) bytes s are goes =
-      heeds_heard_course (answer.Due at) bytes s are (stops_not _ goes)
-  heeds_heard answer.End bytes s are goes = hears_none hand s
-  heeds_heard answer.Failed bytes s are goes = hears_none hand s
+  heeds_given : (i : Item) → IsMidway (Given i) → Heeds (given_by i) (given_course live_part i)
+  unfolding given_course mapped
+  heeds_given i midway s are goes = heeds_take i midway s are (stops_not _ goes)
 
-  -- ---- polls
-
-  own_bytes : (own : Bool) (other : ℕ) (bytes : List ℕ) (rest : List HeardItem)
-      → (other == hand) ≡ own
-      → items_for hand (map (ByteOf other) bytes ++ rest)
-      ≡ flat_map (λ byte. given hand other (Byte byte)) bytes ++ items_for hand rest
-  own_bytes own other [] rest is = refl
-  own_bytes true other (byte ∷ bytes) rest is =
-      rw is (ap (λ (items : List Item). Byte byte ∷ items) (own_bytes true other bytes rest is))
-  own_bytes false other (byte ∷ bytes) rest is = rw is (own_bytes false other bytes rest is)
-
-  -- bytes of a hand that there is not
-  no_bytes : (other : ℕ) (bytes : List ℕ) → (other == hand) ≡ false
-      → flat_map (λ byte. given hand other (Byte byte)) bytes ≡ []
-  no_bytes other [] differs = refl
-  no_bytes other (byte ∷ bytes) differs = rw differs (no_bytes other bytes differs)
-
-  items_brought : (is : Bool) (other : ℕ) (bytes : List ℕ) (rest : List HeardItem)
-      → nat_lt other n ≡ is
-      → items_for hand (if is then map (ByteOf other) bytes ++ rest else rest)
-      ≡ flat_map (λ byte. given hand other (Byte byte)) bytes ++ items_for hand rest
-  items_brought true other bytes rest is = own_bytes (other == hand) other bytes rest refl
-  items_brought false other bytes rest off =
-      rw (no_bytes other bytes (no_hand hand other n there off)) refl
-
-  -- the items of a poll that does not end the performance
-  poll_items : (a : Answer) (bytes : List ℕ) (rest : List HeardItem) → is_ending a ≡ false
-      → items_for hand (items_by n a bytes rest) ≡ brought a bytes ++ items_for hand rest
-  poll_items (answer.Bytes other count at) bytes rest goes =
-      items_brought (nat_lt other n) other bytes rest refl
-  poll_items (answer.Due at) bytes rest goes = refl
-  poll_items answer.End bytes rest goes = absurd cc
-  poll_items answer.Failed bytes rest goes = absurd cc
-
-  heeds_poll : (poll : Poll) → Heeds (brought poll.answer poll.bytes) (polled live_part poll)
-  unfolding polled onward
-  heeds_poll poll s are goes =
-      let all = heeds_heard poll.answer poll.bytes s are goes in
-      record {
-        reads = all.reads;
-        strikes = record { own = all.strikes.own; moves = all.strikes.moves };
-      }
-
-  poll_goes : (poll : Poll) (s : LiveState) → (polled live_part poll s).ending ≡ None
-      → is_ending poll.answer ≡ false
-  unfolding polled onward
-  poll_goes poll s goes = heard_goes live_part poll.answer poll.bytes s goes
-
-  heeds_polls : (polls : List Poll)
-      → Heeds (items_for hand (items_of n polls)) (each (polled live_part) polls)
-  unfolding each
-  heeds_polls [] s are goes = hears_none hand s
-  heeds_polls (poll ∷ polls) s are goes =
-      let both = goes_both (polled live_part poll s) (each (polled live_part) polls) goes in
-      rw (poll_items poll.answer poll.bytes (items_of n polls) (poll_goes poll s both.0))
-      (heeds_onward (brought poll.answer poll.bytes) (items_for hand (items_of n polls))
-      (polled live_part poll) (each (polled live_part) polls) (heeds_poll poll)
-      (heeds_polls polls) s are goes)
-
-  -- ---- a performance
-
-  spent_hears : (all : Bool) (s : LiveState)
-      → let c : Course LiveState Ending = if all then ended Spent s else still s in
-      Hears hand [] s c.acts c.state
-  spent_hears true s = hears_none hand s
-  spent_hears false s = hears_none hand s
-
-  heeds_spent : (polls : List Poll) → Heeds [] (spent polls)
-  unfolding spent
-  heeds_spent polls s are goes = spent_hears (nat_le MAX_POLLS (length polls)) s
-
-  heeds_attended : (polls : List Poll)
-      → Heeds (items_for hand (items_of n polls)) (attended live_part polls)
-  unfolding attended
-  heeds_attended polls s are goes =
-      let some = heeds_onward (items_for hand (items_of n polls)) [] (each (polled live_part) polls)
-      (spent polls) (heeds_polls polls) (heeds_spent polls) s are goes in
-      rw append-nil at some
-
-  heeds_opened : Heeds [] (opened live_part)
-  unfolding opened mapped
-  heeds_opened s are goes = record {
-    reads = reads_core hand s (open_course s).state (open_aside s).same;
-    strikes = (open_silent hand s).strikes;
+  -- an act of the loop
+  heeds_act : (act : Act) → keys_in hand (act ∷ []) ≡ []
+      → Heeds [] (λ s. course {E = Ending} (act ∷ []) 0 s)
+  heeds_act act none s are goes = record {
+    reads = reads_none hand s;
+    strikes = strikes_same hand s (act ∷ []) s none refl;
   }
 
-  heeds_begun : (polls : List Poll)
-      → Heeds (items_for hand (items_of n polls)) (λ s. begun live_part s polls)
+  -- turns, by what they come to
+  abbrev brought_by : List Turn → List KeyItem
+  brought_by turns = items_for hand (counted (worth_of n) turns)
+
+  heeds_turns : (turns : List Turn) → AreMidway turns
+      → Heeds (brought_by turns) (each (turn_course live_part) turns)
+  unfolding each turn_course
+  heeds_turns [] midway s are goes = hears_none hand s
+  heeds_turns (Asked poll ∷ turns) midway s are goes =
+      heeds_onward [] (brought_by turns)
+      (λ t. course (Await (record poll { until = live_part.until s }) ∷ []) 0 t)
+      (each (turn_course live_part) turns) (heeds_act _ refl) (heeds_turns turns midway.1) s are
+      goes
+  heeds_turns (Learned came ∷ turns) midway s are goes =
+      heeds_onward [] (brought_by turns) (λ t. course (Learn came ∷ []) 0 t)
+      (each (turn_course live_part) turns) (heeds_act _ refl) (heeds_turns turns midway.1) s are
+      goes
+  heeds_turns (Given i ∷ turns) midway s are goes =
+      rw item_given
+      (heeds_onward (given_by i) (brought_by turns) (given_course live_part i)
+      (each (turn_course live_part) turns) (heeds_given i midway.0) (heeds_turns turns midway.1) s
+      are goes)
+  heeds_turns (Over ending ∷ turns) midway s are goes =
+      let both = goes_both (ended ending s) (each (turn_course live_part) turns) goes in
+      absurd (none-some ending (sym both.0))
+
+  heeds_begun : (opening : Came) (heard : List Heard)
+      → Heeds (items_for hand (items_of n heard)) (λ s. begun live_part s opening heard)
   unfolding begun
-  heeds_begun polls =
-      heeds_onward [] (items_for hand (items_of n polls)) (opened live_part)
-      (attended live_part polls) heeds_opened (heeds_attended polls)
+  heeds_begun opening heard s are goes =
+      let turns = first_turns opening ++ heard_turns heard in
+      let c = each (turn_course live_part) turns s in
+      subst (λ (items : List HeardItem). Hears hand (items_for hand items) s c.acts c.state)
+      (all_counted n heard) (heeds_turns turns (all_midway opening heard) s are goes)
 
 pub each_is_heard : EachIsHeard
 each_is_heard s = record {
   obeys = obeys_commands s;
-  reads = λ polls hand is goes.
-      (heeds_begun hand (length s.crew.players) is polls s refl goes).reads.keys;
-  keys = λ polls hand is goes.
-      (heeds_begun hand (length s.crew.players) is polls s refl goes).strikes.own;
-  moves = λ polls hand is goes.
-      let heard = (heeds_begun hand (length s.crew.players) is polls s refl goes).strikes in
-      let last = editor_at hand (so_far s polls).state in
-      subst (λ (keys : List Key). IsMadeBy keys (editor_at hand s) last) (sym heard.own)
-      heard.moves;
+  reads = λ opening heard hand is goes.
+      (heeds_begun hand (length s.crew.players) is opening heard s refl goes).reads.keys;
+  keys = λ opening heard hand is goes.
+      (heeds_begun hand (length s.crew.players) is opening heard s refl goes).strikes.own;
+  moves = λ opening heard hand is goes.
+      let all = (heeds_begun hand (length s.crew.players) is opening heard s refl goes).strikes in
+      let last = editor_at hand (so_far s opening heard).state in
+      subst (λ (keys : List Key). IsMadeBy keys (editor_at hand s) last) (sym all.own) all.moves;
 }

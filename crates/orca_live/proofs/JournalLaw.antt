@@ -5,6 +5,7 @@ use Rattle.std.specs.List.{flat_map}
 use Rattle.std.specs.Option.{option_map}
 use Rattle.std.specs.Str.{bytes_eq}
 use Rattle.std.proofs.lemmas.Grind.{flat_map-append}
+use Rattle.std.proofs.lemmas.Option.{same_Some}
 use Rattle.std.proofs.lemmas.Slice.Eq.{bytes_eq-Decides}
 use Rattle.orca_base.specs.declared.command.Command.{Command}
 use Rattle.orca_base.specs.MarkSet.{MarkSet}
@@ -13,14 +14,16 @@ use Rattle.orca_concert.specs.Concerts.{close_course as silence_course, command_
 use Rattle.orca_course.specs.Acts.{Act, commands_in, gives}
 use Rattle.orca_course.specs.Acts.Act.{Append, Await, Begin, Obey, Save, Show, Stand}
 use Rattle.orca_course.specs.Courses.{Course, course, each, joined, lastly, lastly_by, mapped, onward, onward_by}
-use Rattle.orca_course.specs.Performers.{attended, begun, finished, heard, opened, performance, polled}
+use Rattle.orca_course.specs.Performers.{Heard, Turn, begun, finished, given_course, heard_turns, performance, turn_course}
+use Rattle.orca_course.specs.Performers.Turn.{Asked, Given, Learned, Over}
 use Rattle.orca_course.specs.Standings.{Standing, notes_of, standing_after, standing_closed}
 use Rattle.orca_course.specs.declared.ending.Ending.{Ending}
-use Rattle.orca_course.specs.declared.ending.Ending.TheVariants.{Stopped}
+use Rattle.orca_course.specs.declared.item.Came.{Came}
+use Rattle.orca_course.specs.declared.item.Item.TheVariants as item
 use Rattle.orca_course.specs.declared.ending.Stop.{Stop}
-use Rattle.orca_course.proofs.PerformanceLemmas.{attended_done}
+use Rattle.orca_course.proofs.MidwayLemmas.{AreHeard, IsHeard, after_turn, all_heard}
+use Rattle.orca_course.proofs.TurnLemmas.{AreInner, IsInner, inner_heard}
 use Rattle.orca_edit.specs.Obeying.{obey}
-use Rattle.orca_jam.specs.declared.denial.Denial.{Denial}
 use Rattle.orca_notes.specs.Sound.{ends}
 use Rattle.orca_rig.specs.declared.inbox.Answer.{Answer}
 use Rattle.orca_rig.specs.declared.inbox.Answer.TheVariants as answer
@@ -29,10 +32,11 @@ use Rattle.orca_script.specs.Runs.{printed_header}
 use Rattle.orca_term.specs.Viewing.{painting_bytes}
 use Rattle.orca_term.specs.declared.cell.Cell.{Cell}
 use Rattle.orca_trace.specs.Calls.{Poll}
-use Rattle.orca_live.specs.Carrying.{Carries, IsSavedName, answer_carried, finish_carried, first_carried, heard_carried}
+use Rattle.orca_live.specs.Carrying.{Carries, IsSavedName, finish_carried, later_carried, paint_carried}
 use Rattle.orca_live.specs.Journals.{IsApart, JournalsPerformance, held_after, journal_text}
-use Rattle.orca_live.specs.Performing.{additions, answer_course, hush_course, hand_course, denied_course, finish_course, header_course, heard_course, if_named, journal_course, saves_course, last_grid_course, last_script_course, lines_course, live_part, noted, open_course, paint_course, painted_course, picture_at, preview_course, save_course, script_course, show_course, update_course, view_sends, write_course}
+use Rattle.orca_live.specs.Performing.{finish_course, hand_course, header_course, hush_course, if_named, journal_course, knowing, last_grid_course, last_script_course, lines_course, live_part, noted, open_course, paint_course, painted_course, picture_at, preview_course, save_course, saves_course, script_course, show_course, take_course, update_course, view_sends, write_course}
 use Rattle.orca_live.specs.States.{LiveState, Setting}
+use Rattle.orca_live.proofs.Carried.{Anyhow}
 
 -- ---- acts after acts
 
@@ -224,20 +228,16 @@ views_writes : (name : List ℕ) (seed : ℕ) (after : Option (List ℕ) → Lis
 views_writes name seed after held given [] cells last = last
 views_writes name seed after held given (byte ∷ bytes) cells last = last
 
--- the lines that wait are added
-added_writes : (name : List ℕ) (seed : ℕ) (lines : List ℕ) (held : Option (List ℕ))
-    (given : List Command) → Waits seed lines held given
-    → Journaled name seed (Waits seed []) held given (additions name lines)
-added_writes name seed [] held given waits = waits
-added_writes name seed (byte ∷ lines) held given waits =
-    let all = waits.0 ++ byte ∷ lines in (
-      waits_begun seed (byte ∷ lines) held given waits,
-      rw (same_name name, waits.1) (all, refl, append-nil all ∙ waits.2),
-    )
-
 -- a file is begun with the first line with a seed
 abbrev begins_with : List ℕ → ℕ → LiveState → Course LiveState Stop
 begins_with name seed s = course (Begin name (printed_header seed) ∷ []) 0 s
+
+-- ---- turns
+
+-- where no more is given of an answer no line waits
+abbrev IsWritten : Option Answer → LiveState → Type 0
+IsWritten None s = s.unwritten ≡ []
+IsWritten (Some a) s = Unit {0}
 
 module _ (name : List ℕ) (set : Setting) (kept : set.journal ≡ Some name)
     (apart : IsApart name set) where
@@ -271,11 +271,6 @@ module _ (name : List ℕ) (set : Setting) (kept : set.journal ≡ Some name)
         ),
       )
 
-  writes_denied : (hand : ℕ) (denial : Denial) (s : LiveState)
-      → Writes name set s (denied_course hand denial s).acts s
-  unfolding denied_course
-  writes_denied hand denial s is = (is, λ held given waits. waits)
-
   writes_close : (s : LiveState)
       → Writes name set s (hush_course s).acts (hush_course s).state
   unfolding hush_course silence_course onward mapped
@@ -296,20 +291,21 @@ module _ (name : List ℕ) (set : Setting) (kept : set.journal ≡ Some name)
     ),
   )
 
-  writes_named : (journal : Option (List ℕ)) (s : LiveState) → journal ≡ Some name
-      → let c = if_named journal lines_course s in Writes name set s c.acts c.state
-  unfolding lines_course
-  writes_named journal s named =
-      rw named (λ is. (
+  -- the lines that wait are added
+  writes_append : (other : List ℕ) (byte : ℕ) (bytes : List ℕ) (s : LiveState)
+      → s.setting.journal ≡ Some other → s.unwritten ≡ byte ∷ bytes
+      → Writes name set s (Append other (byte ∷ bytes) ∷ []) (record s { unwritten = [] })
+  writes_append other byte bytes s named lines is =
+      let same : name ≡ other =
+      same_Some _ _ (sym kept ∙ (ap (λ (set : Setting). set.journal) (sym is) ∙ named)) in (
         is,
         λ held given waits.
-            added_writes name set.seed s.unwritten held given waits,
-      ))
-
-  writes_write : (s : LiveState) → Writes name set s (write_course s).acts (write_course s).state
-  unfolding write_course
-  writes_write s is =
-      writes_named s.setting.journal s (ap (λ (set : Setting). set.journal) is ∙ kept) is
+            let told = rw lines at waits in
+            let all = told.0 ++ byte ∷ bytes in (
+              waits_begun set.seed (byte ∷ bytes) held given told,
+              rw (sym same, same_name name, told.1) (all, refl, append-nil all ∙ told.2),
+            ),
+      )
 
   writes_paint : (marks : List MarkSet) (s : LiveState)
       → Writes name set s (painted_course marks s).acts (painted_course marks s).state
@@ -322,120 +318,93 @@ module _ (name : List ℕ) (set : Setting) (kept : set.journal ≡ Some name)
             (painting_bytes s.screen s.shown cells) cells waits,
       )
 
-  writes_carries : Carries (Writes name set)
+  writes_carries : Carries (Anyhow (Writes name set))
   writes_carries = record {
-    none = λ s t alike is.
+    none = λ who s t alike is.
         (alike.setting ∙ is, λ held given waits. rw alike.unwritten waits);
-    both = writes_twice;
+    both = λ who end. writes_twice;
+    leaves = λ who. writes_none;
+    full = λ s is. writes_none s;
     command = λ who command s other. writes_command who command s;
-    struck = λ hand key s is. (is, λ held given waits. waits);
-    denied = writes_denied;
-    save = writes_save;
-    write = writes_write;
-    paint = writes_paint;
-    screen = λ d s is same. (same, λ held given waits. waits);
+    struck = λ who hand key s is. (is, λ held given waits. waits);
+    denied = λ who hand denial s is. (is, λ held given waits. waits);
+    save = λ who. writes_save;
+    append = λ who. writes_append;
+    paint = λ who. writes_paint;
+    screen = λ who d s is same. (same, λ held given waits. waits);
   }
 
-  -- ---- answers
+  -- ---- turns
 
-  -- after an answer nothing waits, unless the performance ended
+  writes_turn : (turn : Turn) (a : Option Answer) (s : LiveState) → IsInner turn
+      → IsHeard turn a → IsWritten a s
+      → let c = turn_course live_part turn s in Writes name set s c.acts c.state
+  unfolding turn_course given_course mapped
+  writes_turn (Asked poll) None s inner heard none = λ is. (
+    is,
+    λ held given waits. (waits_none set.seed s.unwritten held given none waits, waits),
+  )
+  writes_turn (Asked poll) (Some a) s inner heard none = absurd heard
+  writes_turn (Learned came) a s inner heard none = λ is. (is, λ held given waits. waits)
+  writes_turn (Over ending) a s inner heard none = writes_none s
+  writes_turn (Given i) a s inner heard none = later_carried writes_carries 0 i s inner
+
+  -- after an answer nothing waits
   update_written : (s : LiveState) → s.setting ≡ set → (update_course s).state.unwritten ≡ []
   unfolding update_course write_course lines_course show_course preview_course paint_course painted_course onward
   update_written s is = rw (is, kept) refl
 
-  heard_by : (end : Option Stop) (c : Course LiveState Stop) → c.ending ≡ end
-      → c.state.setting ≡ set → (onward_by end c update_course).ending ≡ None
-      → (onward_by end c update_course).state.unwritten ≡ []
-  heard_by None c ends is goes = update_written c.state is
-  heard_by (Some stop) c ends is goes = absurd cc
+  turn_written : (turn : Turn) (a : Option Answer) (s : LiveState) → s.setting ≡ set
+      → IsInner turn → IsHeard turn a → IsWritten a s
+      → IsWritten (after_turn turn a) (turn_course live_part turn s).state
+  unfolding turn_course given_course take_course mapped
+  turn_written (Asked poll) a s is inner heard none = tt
+  turn_written (Learned came) a s is inner heard none = none
+  turn_written (Over ending) a s is inner heard none = none
+  turn_written (Given (item.Over came)) a s is inner heard none =
+      update_written (knowing came s) is
+  turn_written (Given (item.Open came)) a s is inner heard none = absurd inner
+  turn_written (Given (item.Ended ending)) a s is inner heard none = absurd inner
+  turn_written (Given i) None s is inner heard none = absurd heard
+  turn_written (Given i) (Some a) s is inner heard none = tt
 
-  heard_written : (a : Answer) (bytes : List ℕ) (s : LiveState) → s.setting ≡ set
-      → (heard_course a bytes s).ending ≡ None → (heard_course a bytes s).state.unwritten ≡ []
-  unfolding heard_course onward
-  heard_written a bytes s is =
-      let c = answer_course a bytes s in
-      heard_by c.ending c refl (answer_carried writes_carries a bytes s is).0
+  turns_by : (end : Option Ending) (c : Course LiveState Ending) (turns : List Turn)
+      (s : LiveState) → Writes name set s c.acts c.state
+      → (c.state.setting ≡ set → let d = each (turn_course live_part) turns c.state in
+      Writes name set c.state d.acts d.state)
+      → let e = onward_by end c (each (turn_course live_part) turns) in
+      Writes name set s e.acts e.state
+  turns_by None c turns s first more = λ is.
+      let d = each (turn_course live_part) turns c.state in
+      writes_twice s c.state d.state c.acts d.acts first (more (first is).0) is
+  turns_by (Some e) c turns s first more = first
 
-  goes_by : (end : Option Stop) → option_map {U = Ending} Stopped end ≡ None → end ≡ None
-  goes_by None goes = refl
-  goes_by (Some stop) goes = absurd cc
-
-  -- a course keeps the journal, and nothing waits if it goes on
-  record Keeps (s : LiveState) (c : Course LiveState Ending) : Type 0 where
-    pub writes : Writes name set s c.acts c.state
-    pub written : s.setting ≡ set → c.ending ≡ None → c.state.unwritten ≡ []
-
-  keeps_answer : (a : Answer) (bytes : List ℕ) (s : LiveState) → Keeps s (heard live_part a bytes s)
-  unfolding heard mapped
-  keeps_answer (answer.Bytes hand count at) bytes s =
-      let a = answer.Bytes hand count at in
-      record {
-        writes = heard_carried writes_carries a bytes s;
-        written = λ is goes. heard_written a bytes s is (goes_by _ goes);
-      }
-  keeps_answer (answer.Due at) bytes s = record {
-    writes = heard_carried writes_carries (answer.Due at) bytes s;
-    written = λ is goes. heard_written (answer.Due at) bytes s is (goes_by _ goes);
-  }
-  keeps_answer answer.End bytes s =
-      record { writes = writes_none s; written = λ is goes. absurd cc }
-  keeps_answer answer.Failed bytes s =
-      record { writes = writes_none s; written = λ is goes. absurd cc }
-
-  -- where nothing waits, the inbox may be asked
-  keeps_poll : (poll : Poll) (s : LiveState) → s.unwritten ≡ [] → Keeps s (polled live_part poll s)
-  unfolding polled onward
-  keeps_poll poll s none =
-      let keeps = keeps_answer poll.answer poll.bytes s in
-      record {
-        writes = λ is.
-            let first = keeps.writes is in (
-              first.0,
-              λ held given waits.
-                  (waits_none set.seed s.unwritten held given none waits, first.1 held given waits),
-            );
-        written = λ is goes. keeps.written is goes;
-      }
-
-  polls_by : (end : Option Ending) (c : Course LiveState Ending) (polls : List Poll) (s : LiveState)
-      → c.ending ≡ end → Keeps s c
-      → ((t : LiveState) → t.unwritten ≡ []
-      → let d = each (polled live_part) polls t in Writes name set t d.acts d.state)
-      → Writes name set s (onward_by end c (each (polled live_part) polls)).acts
-      (onward_by end c (each (polled live_part) polls)).state
-  polls_by None c polls s ends keeps more = λ is.
-      writes_twice s c.state (each (polled live_part) polls c.state).state c.acts
-      (each (polled live_part) polls c.state).acts keeps.writes
-      (more c.state (keeps.written is ends)) is
-  polls_by (Some e) c polls s ends keeps more = keeps.writes
-
-  writes_polls : (polls : List Poll) (s : LiveState) → s.unwritten ≡ []
-      → let c = each (polled live_part) polls s in Writes name set s c.acts c.state
-  unfolding each onward
-  writes_polls [] s none = writes_none s
-  writes_polls (poll ∷ polls) s none =
-      let c = polled live_part poll s in
-      polls_by c.ending c polls s refl (keeps_poll poll s none) (writes_polls polls)
-
-  writes_attended : (polls : List Poll) (s : LiveState) → s.unwritten ≡ []
-      → Writes name set s (attended live_part polls s).acts (attended live_part polls s).state
-  writes_attended polls s none =
-      subst (λ (done : List Act × LiveState). Writes name set s done.0 done.1)
-      (sym (attended_done live_part polls s)) (writes_polls polls s none)
+  writes_turns : (turns : List Turn) (a : Option Answer) (s : LiveState) → AreInner turns
+      → AreHeard turns a → IsWritten a s
+      → let c = each (turn_course live_part) turns s in Writes name set s c.acts c.state
+  unfolding each onward turn_course
+  writes_turns [] a s inner heard none = writes_none s
+  writes_turns (Over ending ∷ turns) a s inner heard none = writes_none s
+  writes_turns (turn ∷ turns) a s inner heard none = λ is.
+      let c = turn_course live_part turn s in
+      turns_by c.ending c turns s (writes_turn turn a s inner.0 heard.0 none)
+      (λ same. writes_turns turns (after_turn turn a) c.state inner.1 heard.1
+      (turn_written turn a s is inner.0 heard.0 none)) is
 
   -- ---- a performance
 
-  -- the first picture, and then the polls
-  writes_first : (polls : List Poll) (s : LiveState) → s.unwritten ≡ []
+  -- the first picture, and then other turns
+  writes_first : (turns : List Turn) (s : LiveState) → AreInner turns → AreHeard turns None
+      → s.unwritten ≡ []
       → let p = paint_course [] s in
-      Writes name set s (p.acts ++ (attended live_part polls p.state).acts)
-      (attended live_part polls p.state).state
+      let c = each (turn_course live_part) turns p.state in
+      Writes name set s (p.acts ++ c.acts) c.state
   unfolding paint_course painted_course
-  writes_first polls s none =
+  writes_first turns s inner heard none =
       let p = paint_course [] s in
-      writes_twice s p.state (attended live_part polls p.state).state p.acts
-      (attended live_part polls p.state).acts (first_carried writes_carries s)
-      (writes_attended polls p.state none)
+      let c = each (turn_course live_part) turns p.state in
+      writes_twice s p.state c.state p.acts c.acts (paint_carried writes_carries 0 [] s)
+      (writes_turns turns None p.state inner heard none)
 
   -- the journal begins first
   open_is : (s : LiveState) → s.setting ≡ set
@@ -448,26 +417,29 @@ module _ (name : List ℕ) (set : Setting) (kept : set.journal ≡ Some name)
       ∙ ap (λ (seed : ℕ). joined (begins_with name seed s) (paint_course [] s))
       (ap (λ (set : Setting). set.seed) is)
 
-  begun_journaled : (s : LiveState) (polls : List Poll) → s.setting ≡ set → s.unwritten ≡ []
-      → ((begun live_part s polls).state.setting ≡ set)
-      × Journaled name set.seed (Waits set.seed (begun live_part s polls).state.unwritten) None []
-      (begun live_part s polls).acts
-  unfolding begun opened paint_course painted_course onward mapped
-  begun_journaled s polls is none =
-      let first = writes_first polls s none is in
+  begun_journaled : (s : LiveState) (opening : Came) (heard : List Heard) → s.setting ≡ set
+      → s.unwritten ≡ []
+      → let c = begun live_part s opening heard in
+      (c.state.setting ≡ set)
+      × Journaled name set.seed (Waits set.seed c.state.unwritten) None [] c.acts
+  unfolding begun each turn_course given_course take_course paint_course painted_course onward mapped
+  begun_journaled s opening heard is none =
+      let t = knowing opening s in
+      let writes =
+      writes_first (heard_turns heard) t (inner_heard heard) (all_heard heard) none is in
       let header = printed_header set.seed in
-      let waits : Waits set.seed s.unwritten (Some header) [] =
+      let waits : Waits set.seed t.unwritten (Some header) [] =
       (header, refl, ap (λ lines. header ++ lines) none) in
-      rw (open_is s is) (first.0, (tt, rw same_name (first.1 (Some header) [] waits)))
+      rw (open_is t is) (writes.0, (tt, rw same_name (writes.1 (Some header) [] waits)))
 
   lastly_journaled : (end : Option Ending) (c : Course LiveState Ending) → c.state.setting ≡ set
       → Journaled name set.seed (Waits set.seed c.state.unwritten) None [] c.acts
       → let d = lastly_by end c (finished live_part) in
       Journaled name set.seed (Waits set.seed d.state.unwritten) None [] d.acts
-  unfolding finished mapped
+  unfolding finished take_course mapped
   lastly_journaled None c is journaled = journaled
   lastly_journaled (Some e) c is journaled =
-      let last = finish_carried writes_carries writes_close c.state is in
+      let last = finish_carried writes_carries (λ who. writes_close) 0 c.state is in
       journaled_twice name set.seed (Waits set.seed c.state.unwritten)
       (Waits set.seed (finish_course c.state).state.unwritten) None [] c.acts
       (finish_course c.state).acts journaled last.1
@@ -480,16 +452,16 @@ module _ (name : List ℕ) (set : Setting) (kept : set.journal ≡ Some name)
   last_written : (end : Option Ending) (c : Course LiveState Ending) → c.state.setting ≡ set
       → (lastly_by end c (finished live_part)).ending ≢ None
       → (lastly_by end c (finished live_part)).state.unwritten ≡ []
-  unfolding finished mapped
+  unfolding finished take_course mapped
   last_written None c is ends = absurd (ends refl)
   last_written (Some e) c is ends = finish_written c.state is
 
 pub journals_performance : JournalsPerformance
 unfolding performance lastly
-journals_performance s polls name kept apart none =
-    let c = begun live_part s polls in
-    let first = begun_journaled name s.setting kept apart s polls refl none in
-    let d = performance live_part s polls in
+journals_performance s came heard name kept apart none =
+    let c = begun live_part s came heard in
+    let first = begun_journaled name s.setting kept apart s came heard refl none in
+    let d = performance live_part s came heard in
     let seed = s.setting.seed in
     let all = lastly_journaled name s.setting kept apart c.ending c first.0 first.1 in
     let after = Waits seed d.state.unwritten in

@@ -4,6 +4,7 @@ pub mod AppendingLaw
 pub mod PaintingLaw
 pub mod GivenLemmas
 pub mod ScriptLaw
+pub mod WorthLemmas
 pub mod CuttingLaw
 pub mod LeavingLemmas
 pub mod JournalLaw

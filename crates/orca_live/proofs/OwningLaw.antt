@@ -16,9 +16,10 @@ use Rattle.orca_base.specs.Histories.{is_edit, last_edit}
 use Rattle.orca_base.specs.MarkSet.{MarkSet}
 use Rattle.orca_concert.specs.Concerts.{command_course as obey_course}
 use Rattle.orca_course.specs.Acts.{Act}
-use Rattle.orca_course.specs.Courses.{Course, mapped, onward}
+use Rattle.orca_course.specs.Courses.{mapped, onward}
+use Rattle.orca_course.specs.Performers.{Heard}
 use Rattle.orca_course.specs.Standings.{refusal_of, standing_after}
-use Rattle.orca_course.specs.declared.ending.Stop.{Stop}
+use Rattle.orca_course.specs.declared.item.Came.{Came}
 use Rattle.orca_edit.specs.Obeying.{MachineState, Obeyed, accept, adds_entry, carry_out, clip_after, entry_of, jump_to, obey, piece_of, refuse, rule_against, taken_area}
 use Rattle.orca_edit.proofs.RuleLemmas.{entered, has-room, some-moment}
 use Rattle.orca_jam.specs.Crews.{CrewState, denial_of, struck_by}
@@ -27,12 +28,11 @@ use Rattle.orca_jam.specs.declared.denial.Denial.{Denial}
 use Rattle.orca_jam.specs.Owners.{owned}
 use Rattle.orca_jam.proofs.OwnerLaws.{keeps_owners, undo_spares}
 use Rattle.orca_term.specs.declared.keys.Key.TheVariants as key
-use Rattle.orca_trace.specs.Calls.{Poll}
 use Rattle.orca_live.specs.Carrying.{Carries}
-use Rattle.orca_live.proofs.Carried.{begun_carried}
+use Rattle.orca_live.proofs.Carried.{Anyhow, begun_carried}
 use Rattle.orca_live.specs.Hands.{HasOwners, StartsWithOwners}
 use Rattle.orca_live.specs.Laws.{so_far}
-use Rattle.orca_live.specs.Performing.{hand_course, denied_course, header_course, if_named, journal_course, key_course, lines_course, obeyed_by, owning, painted_course, struck_course, struck_where, wish_course, write_course}
+use Rattle.orca_live.specs.Performing.{hand_course, denied_course, key_course, obeyed_by, owning, painted_course, struck_course, struck_where, wish_course}
 use Rattle.orca_live.specs.States.{LiveState, around_at, fitted}
 
 -- the last edit is in the history
@@ -209,37 +209,24 @@ unfolding hand_course obey_course onward mapped
 owns_command who c s may has =
     owns_by who c s (rule_against s.standing.machine c) refl (may has.shared) has
 
-owns_named : (name : Option (List ℕ)) (next : List ℕ → LiveState → Course LiveState Stop)
-    (s : LiveState) → ((name : List ℕ) → Owns s [] (next name s).state)
-    → Owns s [] (if_named name next s).state
-owns_named None next s owns has = has
-owns_named (Some name) next s owns has = owns name has
-
-owns_write : (s : LiveState) → Owns s [] (write_course s).state
-unfolding write_course lines_course
-owns_write s =
-    owns_named s.setting.journal lines_course s
-    (λ name has. owns_same s (record s { unwritten = [] }) refl refl has)
-
-owns_journal : (s : LiveState) → Owns s [] (journal_course s).state
-unfolding journal_course header_course
-owns_journal s = owns_named s.setting.journal header_course s (λ name has. has)
-
 owns_paint : (marks : List MarkSet) (s : LiveState) → Owns s [] (painted_course marks s).state
 unfolding painted_course
 owns_paint marks s has = owns_same s (painted_course marks s).state refl refl has
 
-owns_carries : Carries Owns
+owns_carries : Carries (Anyhow Owns)
 owns_carries = record {
-  none = λ s t alike has. owns_same s t alike.standing alike.crew has;
-  both = λ r s t xs ys first second has. second (first has);
+  none = λ who s t alike has. owns_same s t alike.standing alike.crew has;
+  both = λ who end r s t xs ys first second has. second (first has);
+  leaves = λ who s has. has;
+  full = λ s is has. has;
   command = owns_command;
-  struck = λ hand key s has. has;
-  denied = λ hand denial s has. has;
-  save = λ name bytes s saved has. has;
-  write = owns_write;
-  paint = owns_paint;
-  screen = λ d s is has. owns_same s (record s { screen = d; shown = None }) refl refl has;
+  struck = λ who hand key s has. has;
+  denied = λ who hand denial s has. has;
+  save = λ who name bytes s saved has. has;
+  append = λ who name byte bytes s named is has.
+      owns_same s (record s { unwritten = [] }) refl refl has;
+  paint = λ who. owns_paint;
+  screen = λ who d s is has. owns_same s (record s { screen = d; shown = None }) refl refl has;
 }
 
 -- ---- a performance
@@ -252,9 +239,11 @@ starts_with_owners set hands room at begins none fits = record {
   owners = rw none refl;
 }
 
-pub owns_so_far : (s : LiveState) (polls : List Poll) → HasOwners s
-    → HasOwners (so_far s polls).state
-owns_so_far s polls = begun_carried owns_carries (λ poll t has. has) owns_journal s polls
+pub owns_so_far : (s : LiveState) (opening : Came) (heard : List Heard) → HasOwners s
+    → HasOwners (so_far s opening heard).state
+owns_so_far s opening heard =
+    begun_carried owns_carries (record { asks = λ poll t has. has; learns = λ came t has. has })
+    (λ who name s has. has) s opening heard
 
 -- the edits of other hands stay
 abbrev Spares : ℕ → LiveState → LiveState → Type 0

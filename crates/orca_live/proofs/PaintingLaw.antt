@@ -1,6 +1,6 @@
 -- A terminal that is sent all paintings since its size was told shows each picture.
 use Rattle.std.proofs.Common.{◌≡◌, ℕ, true, length, List, [], ◌∷◌, ◌++◌, refl, sym, ◌∙◌, ap, append-nil}
-use Rattle.std.specs.Prelude.{All, IfSome, None, Option, Some}
+use Rattle.std.specs.Prelude.{All, IfSome, Option, Some}
 use Rattle.std.proofs.lemmas.List.FromFn.{length-map-range_with_len}
 use Rattle.orca_base.specs.declared.command.Command.{Command}
 use Rattle.orca_base.specs.declared.message.Message.{Message}
@@ -9,10 +9,9 @@ use Rattle.orca_base.specs.MarkSet.{MarkSet}
 use Rattle.orca_concert.specs.Concerts.{close_course as silence_course, command_course as obey_course, handed_of}
 use Rattle.orca_course.specs.Acts.{Act, ArePrintable, gives}
 use Rattle.orca_course.specs.Acts.Act.{Give, Screen, Show, Stand}
-use Rattle.orca_course.specs.Courses.{Course, mapped, onward}
+use Rattle.orca_course.specs.Courses.{mapped, onward}
 use Rattle.orca_course.specs.Performers.{performance}
 use Rattle.orca_course.specs.Standings.{Standing, notes_of, standing_after, standing_closed}
-use Rattle.orca_course.specs.declared.ending.Stop.{Stop}
 use Rattle.orca_edit.specs.Obeying.{obey}
 use Rattle.orca_jam.specs.declared.denial.Denial.{Denial}
 use Rattle.orca_notes.specs.Sound.{ends}
@@ -22,9 +21,9 @@ use Rattle.orca_term.specs.declared.cell.Cell.{Cell}
 use Rattle.orca_term.specs.declared.cell.ScreenSize.{ScreenSize}
 use Rattle.orca_term.proofs.Views.{shown_bytes}
 use Rattle.orca_live.specs.Carrying.{Carries}
-use Rattle.orca_live.proofs.Carried.{performance_carried}
+use Rattle.orca_live.proofs.Carried.{Anyhow, performance_carried}
 use Rattle.orca_live.specs.Paintings.{ShowsPerformance, ShowsPictures, viewed, views_in}
-use Rattle.orca_live.specs.Performing.{additions, hush_course, hand_course, denied_course, header_course, if_named, journal_course, lines_course, live_part, painted_course, picture_at, view_sends, write_course}
+use Rattle.orca_live.specs.Performing.{hush_course, hand_course, live_part, painted_course, picture_at, telling, view_sends}
 use Rattle.orca_live.specs.States.{LiveState}
 
 -- ---- acts after acts
@@ -114,8 +113,7 @@ displays_command who command s d sent seen =
     o.messages sent seen
 
 displays_denied : (hand : ℕ) (denial : Denial) (s : LiveState)
-    → Displays s (denied_course hand denial s).acts s
-unfolding denied_course
+    → Displays s (telling hand denial ∷ []) s
 displays_denied hand denial s d sent seen = rw append-nil seen
 
 displays_close : (s : LiveState) → Displays s (hush_course s).acts (hush_course s).state
@@ -151,54 +149,33 @@ displays_paint marks s d sent seen =
     }) sent seen.shows in
     (shows, record { size = seen.size; screen = seen.screen; whole = whole; shows = shows }))
 
--- ---- the journal
-
-displays_named : (name : Option (List ℕ)) (next : List ℕ → LiveState → Course LiveState Stop)
-    (s : LiveState) → ((name : List ℕ) → Displays s (next name s).acts (next name s).state)
-    → Displays s (if_named name next s).acts (if_named name next s).state
-displays_named None next s displays d sent seen = seen
-displays_named (Some name) next s displays d sent seen = displays name d sent seen
-
-displays_added : (name bytes : List ℕ) (s : LiveState)
-    → Displays s (additions name bytes) (record s { unwritten = [] })
-displays_added name [] s d sent seen = seen
-displays_added name (byte ∷ bytes) s d sent seen = seen
-
-displays_write : (s : LiveState) → Displays s (write_course s).acts (write_course s).state
-unfolding write_course lines_course
-displays_write s =
-    displays_named s.setting.journal lines_course s (λ name. displays_added name s.unwritten s)
-
-displays_journal : (s : LiveState) → Displays s (journal_course s).acts (journal_course s).state
-unfolding journal_course header_course
-displays_journal s =
-    displays_named s.setting.journal header_course s (λ name d sent seen. seen)
-
 -- ---- a performance
 
-displays_carries : Carries Displays
+displays_carries : Carries (Anyhow Displays)
 displays_carries = record {
-  none = λ s t alike d sent seen. rw (alike.screen, alike.shown) seen;
-  both = λ r s t xs ys first second d sent seen.
+  none = λ who s t alike d sent seen. rw (alike.screen, alike.shown) seen;
+  both = λ who end r s t xs ys first second d sent seen.
       shown_twice d (λ e sent. IsSeen e s.screen s.shown sent)
       (λ e sent. IsSeen e t.screen t.shown sent) sent xs ys (first d sent seen) second;
+  leaves = λ who s d sent seen. seen;
+  full = λ s is d sent seen. seen;
   command = λ who command s other. displays_command who command s;
-  struck = λ hand key s d sent seen. seen;
-  denied = displays_denied;
-  save = λ name bytes s saved d sent seen. seen;
-  write = displays_write;
-  paint = displays_paint;
-  screen = λ e s is d sent seen.
+  struck = λ who hand key s d sent seen. seen;
+  denied = λ who. displays_denied;
+  save = λ who name bytes s saved d sent seen. seen;
+  append = λ who name byte bytes s named is d sent seen. seen;
+  paint = λ who. displays_paint;
+  screen = λ who e s is d sent seen.
       record { size = refl; screen = is; whole = tt; shows = refl };
 }
 
 pub shows_performance : ShowsPerformance
-shows_performance s polls begun left screen nothing splits printable =
-    let last = (performance live_part s polls).state in
+shows_performance s opening heard begun left screen nothing splits printable =
+    let last = (performance live_part s opening heard).state in
     let shows =
-    performance_carried displays_carries (λ poll t d sent seen. seen) displays_journal
-    displays_close s polls
-    s.screen []
+    performance_carried displays_carries
+    (record { asks = λ poll t d sent seen. seen; learns = λ came t d sent seen. seen })
+    (λ who name s d sent seen. seen) (λ who. displays_close) s opening heard s.screen []
     (rw nothing (record { size = refl; screen = screen; whole = tt; shows = refl })) in
     shows_front s.screen (λ e sent. IsSeen e last.screen last.shown sent) [] begun left
     (rw splits at shows) printable

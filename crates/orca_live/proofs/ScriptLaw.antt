@@ -12,26 +12,25 @@ use Rattle.orca_concert.specs.Concerts.{Concert, after_cue, command_course as ob
 use Rattle.orca_concert.specs.Manners.{Manner}
 use Rattle.orca_course.specs.Acts.{Act, commands_in}
 use Rattle.orca_course.specs.Courses.{Course, each, lastly, lastly_by, mapped, onward}
-use Rattle.orca_course.specs.Performers.{begun, finished, performance}
+use Rattle.orca_course.specs.Performers.{Heard, begun, finished, performance}
 use Rattle.orca_course.specs.Standings.{Standing, refusal_of}
 use Rattle.orca_course.specs.declared.ending.Ending.{Ending}
 use Rattle.orca_course.specs.declared.ending.Stop.{Stop}
+use Rattle.orca_course.specs.declared.item.Came.{Came}
 use Rattle.orca_course.proofs.ActLemmas.{commands_in-append}
 use Rattle.orca_cues.specs.Scripts.{cue_asking, cues_asking}
 use Rattle.orca_cues.specs.declared.source.Order.TheVariants.{Do as Once}
 use Rattle.orca_edit.specs.Obeying.{MachineState, accept, entry_of, machine_closed, obey, refuse, rule_against}
-use Rattle.orca_jam.specs.declared.denial.Denial.{Denial}
 use Rattle.orca_script.specs.Runs.{commands_of, lines_behind}
 use Rattle.orca_script.specs.declared.format_2.Line.{Line}
 use Rattle.orca_script.specs.declared.format_2.Line.TheVariants as asks
 use Rattle.orca_script.proofs.RunsReadBack.{behind_same}
-use Rattle.orca_trace.specs.Calls.{Poll}
 use Rattle.orca_live.specs.Carrying.{Carries}
-use Rattle.orca_live.proofs.Carried.{begun_carried}
+use Rattle.orca_live.proofs.Carried.{Anyhow, Attends, begun_carried}
 use Rattle.orca_live.specs.Hands.{after_commands}
 use Rattle.orca_live.specs.Journals.{LeadsBack}
 use Rattle.orca_live.specs.Laws.{GoesOn, Replays, ReplaysScript, replayed, so_far}
-use Rattle.orca_live.specs.Performing.{additions, hand_course, denied_course, header_course, if_named, journal_course, lines_course, live_part, painted_course, write_course}
+use Rattle.orca_live.specs.Performing.{hand_course, live_part, painted_course, take_course}
 use Rattle.orca_live.specs.States.{LiveState}
 use Rattle.orca_live.proofs.GivenLemmas.{command_once, finish_closes, paint_commands}
 
@@ -80,49 +79,29 @@ keeps_command : (who : ℕ) (command : Command) (s : LiveState)
 unfolding hand_course obey_course onward mapped
 keeps_command who command s = ap (λ commands. after commands s) (sym (command_once who command s))
 
-keeps_denied : (hand : ℕ) (denial : Denial) (s : LiveState)
-    → Keeps s (denied_course hand denial s).acts s
-unfolding denied_course
-keeps_denied hand denial s = keeps_none s
-
 keeps_paint : (marks : List MarkSet) (s : LiveState)
     → Keeps s (painted_course marks s).acts (painted_course marks s).state
 unfolding painted_course
 keeps_paint marks s =
     keeps_none s ∙ ap (λ commands. after commands s) (sym (paint_commands marks s))
 
-keeps_named : (name : Option (List ℕ)) (next : List ℕ → LiveState → Course LiveState Stop)
-    (s : LiveState) → ((name : List ℕ) → Keeps s (next name s).acts (next name s).state)
-    → Keeps s (if_named name next s).acts (if_named name next s).state
-keeps_named None next s keeps = keeps_none s
-keeps_named (Some name) next s keeps = keeps name
-
-keeps_added : (name bytes : List ℕ) (s : LiveState)
-    → Keeps s (additions name bytes) (record s { unwritten = [] })
-keeps_added name [] s = keeps_none s
-keeps_added name (byte ∷ bytes) s = keeps_none s
-
-keeps_write : (s : LiveState) → Keeps s (write_course s).acts (write_course s).state
-unfolding write_course lines_course
-keeps_write s =
-    keeps_named s.setting.journal lines_course s (λ name. keeps_added name s.unwritten s)
-
-keeps_journal : (s : LiveState) → Keeps s (journal_course s).acts (journal_course s).state
-unfolding journal_course header_course
-keeps_journal s = keeps_named s.setting.journal header_course s (λ name. keeps_none s)
-
-keeps_carries : Carries Keeps
+keeps_carries : Carries (Anyhow Keeps)
 keeps_carries = record {
-  none = λ s t alike. rw (alike.given, alike.standing) (keeps_none s);
-  both = keeps_twice;
+  none = λ who s t alike. rw (alike.given, alike.standing) (keeps_none s);
+  both = λ who end. keeps_twice;
+  leaves = λ who s. keeps_none s;
+  full = λ s is. keeps_none s;
   command = λ who command s other. keeps_command who command s;
-  struck = λ hand key s. keeps_none s;
-  denied = keeps_denied;
-  save = λ name bytes s saved. keeps_none s;
-  write = keeps_write;
-  paint = keeps_paint;
-  screen = λ d s is. keeps_none s;
+  struck = λ who hand key s. keeps_none s;
+  denied = λ who hand denial s. keeps_none s;
+  save = λ who name bytes s saved. keeps_none s;
+  append = λ who name byte bytes s named is. keeps_none s;
+  paint = λ who. keeps_paint;
+  screen = λ who d s is. keeps_none s;
 }
+
+keeps_attends : Attends Keeps
+keeps_attends = record { asks = λ poll s. keeps_none s; learns = λ came s. keeps_none s }
 
 -- ---- cues
 
@@ -217,7 +196,7 @@ replays_by : (end : Option Ending) (c : Course LiveState Ending) (s : LiveState)
     → s.given ≡ Some [] → Keeps s c.acts c.state
     → ((lastly_by end c (finished live_part)).ending ≡ None → ⊥)
     → Replays (lastly_by end c (finished live_part)) s
-unfolding finished mapped
+unfolding finished take_course mapped
 replays_by None c s empty keeps ends = absurd (ends refl)
 replays_by (Some e) c s empty keeps ends =
     let closes = finish_closes c.state in
@@ -236,18 +215,18 @@ replays_by (Some e) c s empty keeps ends =
 
 pub replays_script : ReplaysScript
 unfolding performance lastly
-replays_script polls s empty ends =
-    let c = begun live_part s polls in
+replays_script opening heard s empty ends =
+    let c = begun live_part s opening heard in
     replays_by c.ending c s empty
-    (begun_carried keeps_carries (λ poll t. keeps_none t) keeps_journal s polls) ends
+    (begun_carried keeps_carries keeps_attends (λ who name s. keeps_none s) s opening heard) ends
 
 -- its commands lead to the session
-pub obeys_commands : (s : LiveState) (polls : List Poll)
-    → (so_far s polls).state.standing.machine
-    ≡ after_commands (commands_in (so_far s polls).acts) s.standing.machine
-obeys_commands s polls =
+pub obeys_commands : (s : LiveState) (opening : Came) (heard : List Heard)
+    → let c = so_far s opening heard in
+    c.state.standing.machine ≡ after_commands (commands_in c.acts) s.standing.machine
+obeys_commands s opening heard =
     ap (λ (x : Option (List Command) × MachineState). x.1)
-    (begun_carried keeps_carries (λ poll t. keeps_none t) keeps_journal s polls)
+    (begun_carried keeps_carries keeps_attends (λ who name s. keeps_none s) s opening heard)
 
 -- ---- one command on each line
 
@@ -256,9 +235,9 @@ lines_same [] = refl
 lines_same (command ∷ commands) = ap (λ rest. command ∷ rest) (lines_same commands)
 
 pub leads_back : LeadsBack
-leads_back polls s m goes =
-    let commands = commands_in (so_far s polls).acts in
+leads_back opening heard s m goes =
+    let commands = commands_in (so_far s opening heard).acts in
     ap (λ (x : MachineState × Option Stop). x.0)
     (cues_replay m goes (map asks.Do commands) 2 (concert_with s.standing tt))
     ∙ (ap (λ list. after_commands list s.standing.machine) (lines_same commands)
-    ∙ sym (obeys_commands s polls))
+    ∙ sym (obeys_commands s opening heard))

@@ -1,26 +1,30 @@
 -- One hand whose edits are its own plays as one that plays alone: what is done from its states is
 -- done from those of one that plays alone too, and it stays such a hand.
-use Rattle.std.proofs.Common.{◌≡◌, ◌≢◌, ℕ, zero, suc, arith, length, Bool, true, false, List, [], ◌∷◌, ◌++◌, refl, ◌∙◌, ap, subst}
-use Rattle.std.specs.Prelude.{if◌then◌else◌, map, nat_le, nat_lt, All, Option, Some, None}
+use Rattle.std.proofs.Common.{◌≡◌, ◌≢◌, ℕ, zero, suc, arith, length, Bool, true, false, List, [], ◌∷◌, ◌++◌, refl, sym, ◌∙◌, ap, subst}
+use Rattle.std.specs.Prelude.{if◌then◌else◌, nat_le, nat_lt, Option, Some, None}
 use Rattle.std.specs.Option.{option_map}
 use Rattle.std.proofs.lemmas.Bool.{le-ltb}
 use Rattle.std.proofs.lemmas.List.{length-map, length-set}
-use Rattle.std.proofs.lemmas.List.Elements.{All-cons, All-head, All-nil, All-tail}
+use Rattle.std.proofs.lemmas.List.Elements.{All-head, All-tail}
 use Rattle.orca_base.specs.declared.command.Command.{Command}
 use Rattle.orca_base.specs.declared.command.Command.TheVariants.{Frame}
 use Rattle.orca_base.specs.declared.command.Rule.{Rule}
 use Rattle.orca_base.specs.MarkSet.{MarkSet}
-use Rattle.orca_base.specs.declared.limits.TheConstants.{MAX_POLLS}
 use Rattle.orca_concert.specs.Concerts.{close_course as silence_course, command_course as obey_course}
 use Rattle.orca_course.specs.Acts.Act.{Strike}
 use Rattle.orca_course.specs.Courses.{Course, course, each, ended, joined, lastly, lastly_by, mapped, onward, onward_by, still}
-use Rattle.orca_course.specs.Performers.{attended, begun, finished, heard, opened, performance, polled, spent}
+use Rattle.orca_course.specs.Performers.{Heard, Turn, begun, finished, first_turns, given_course, heard_turns, performance, turn_course}
+use Rattle.orca_course.specs.Performers.Turn.{Asked, Given, Learned, Over}
 use Rattle.orca_course.specs.declared.ending.Ending.{Ending}
-use Rattle.orca_course.specs.declared.ending.Ending.TheVariants.{Spent, Stopped}
+use Rattle.orca_course.specs.declared.ending.Ending.TheVariants.{Stopped}
 use Rattle.orca_course.specs.declared.ending.Stop.{Stop}
 use Rattle.orca_course.specs.declared.ending.Stop.TheVariants.{Full}
-use Rattle.orca_course.proofs.CourseLemmas.{goes_both}
-use Rattle.orca_course.proofs.PollLemmas.{heard_goes}
+use Rattle.orca_course.specs.declared.item.Came.{Came}
+use Rattle.orca_course.specs.declared.item.Item.{Item}
+use Rattle.orca_course.specs.declared.item.Item.TheVariants as item
+use Rattle.orca_course.proofs.CuttingLemmas.{Worth, counted, counting}
+use Rattle.orca_course.proofs.CuttingLemmas.Worth.{Counts, Nothing}
+use Rattle.orca_course.proofs.MidwayLemmas.{AreMidway, IsMidway, all_midway}
 use Rattle.orca_edit.specs.Machines.{preview_of}
 use Rattle.orca_jam.specs.Crews.{CrewState, asked, denial_of, fitted_player, player_at, struck_by, took_by, turned_by, with_player}
 use Rattle.orca_jam.specs.Laws.{AreLeaders}
@@ -30,20 +34,17 @@ use Rattle.orca_jam.specs.declared.owner.Owner.{Owner}
 use Rattle.orca_jam.specs.declared.owner.TheConstants.{NOBODY}
 use Rattle.orca_jam.specs.declared.player.Player.{Player}
 use Rattle.orca_jam.proofs.LeaderLaws.{leader_is_free, leader_stays_free}
-use Rattle.orca_rig.specs.Arrived.{is_ending}
-use Rattle.orca_rig.specs.declared.inbox.Answer.{Answer}
-use Rattle.orca_rig.specs.declared.inbox.Answer.TheVariants as answer
-use Rattle.orca_term.specs.Keys.{Byte, Due, Item, turn}
+use Rattle.orca_term.specs.Keys.{Byte, Due, Item as KeyItem, turn}
 use Rattle.orca_term.specs.declared.around.Around.{Around}
 use Rattle.orca_term.specs.declared.editor.Wish.{Wish}
 use Rattle.orca_term.specs.declared.editor.Wish.TheVariants as wish
 use Rattle.orca_term.specs.declared.keys.Key.{Key}
-use Rattle.orca_trace.specs.Calls.{Poll}
-use Rattle.orca_live.specs.Items.{ByteOf, FrameDue, HeardItem, items_by, items_of}
-use Rattle.orca_live.specs.Performing.{answer_course, answered_at, byte_course, hush_course, hand_course, due_course, finish_course, fired, frame_course, header_course, heard_course, if_named, item_course, journal_course, key_course, saves_course, last_grid_course, last_script_course, lines_course, live_part, lull_course, open_course, owning, paint_course, painted_course, press_course, preview_course, read_course, save_course, script_course, show_course, struck_course, struck_where, update_course, wish_course, write_course}
+use Rattle.orca_live.specs.Items.{ByteOf, HeardItem, items_of}
+use Rattle.orca_live.specs.Performing.{answered_at, byte_course, due_course, finish_course, fired, frame_course, hand_course, header_course, hush_course, if_named, item_course, journal_course, key_course, knowing, last_grid_course, last_script_course, lines_course, live_part, lull_course, open_course, owning, paint_course, painted_course, press_course, preview_course, read_course, save_course, saves_course, script_course, show_course, struck_course, struck_where, take_course, update_course, wish_course, write_course}
 use Rattle.orca_live.specs.Solo.{HasNoRedo, IsSolo, PlaysAlone, as_alone, redo_byte}
 use Rattle.orca_live.specs.States.{LiveState, around_at, dims_at, fitted, hands_in, is_full, is_hand, leader_at, piece_at}
 use Rattle.orca_live.proofs.RedoKey.{IsOther, IsSpared, is_redo, turn_other}
+use Rattle.orca_live.proofs.WorthLemmas.{all_counted, worth_of}
 
 -- ---- courses
 
@@ -87,15 +88,6 @@ onward_agrees {E = E} {c = c} next first more =
       same = ap (λ (d : Course LiveState E). onward_by d.ending d next) first.same ∙ all.same;
       solo = all.solo;
     }
-
-each_agrees : {X E : Type 0} (f : X → LiveState → Course LiveState E) (xs : List X)
-    → All (λ x. Alike (f x)) xs → Alike (each f xs)
-unfolding each
-each_agrees f [] all s solo = agreed _ solo
-each_agrees {X = X} f (x ∷ xs) all s solo =
-    let P : X → Type 0 = λ (x : X). Alike (f x) in
-    onward_agrees (each f xs) (All-head P x xs all s solo)
-    (λ on. each_agrees f xs (All-tail P x xs all))
 
 if_agrees : {E : Type 0} {c d e f : Course LiveState E} (b : Bool) → Agrees c d → Agrees e f
     → Agrees (if b then c else e) (if b then d else f)
@@ -222,7 +214,7 @@ press_agrees (Some k) other s solo =
     joined_agrees (course {E = Stop} (Strike LEADER k ∷ []) 0 s)
     (struck_agrees k other (fitted s) (fitted_solo s solo))
 
-read_agrees : (item : Item) → IsSpared item → Alike (read_course LEADER item)
+read_agrees : (item : KeyItem) → IsSpared item → Alike (read_course LEADER item)
 unfolding read_course
 read_agrees item spared s solo =
     let full = s.setting.full in
@@ -234,7 +226,7 @@ read_agrees item spared s solo =
 no_other : (hand : ℕ) (c : CrewState) → IsSolo c → nat_lt (suc hand) (length c.players) ≡ false
 no_other hand c solo = le-ltb (suc hand) (length c.players) (omega (arith, solo.one))
 
-item_agrees : (hand : ℕ) (item : Item) → (hand ≡ LEADER → IsSpared item)
+item_agrees : (hand : ℕ) (item : KeyItem) → (hand ≡ LEADER → IsSpared item)
     → Alike (item_course hand item)
 unfolding item_course
 item_agrees zero item spared s solo =
@@ -242,6 +234,13 @@ item_agrees zero item spared s solo =
 item_agrees (suc hand) item spared s solo = rw (no_other hand s.crew solo) (agreed (still s) solo)
 
 -- ---- the clock
+
+lulls_agree : (hands : List ℕ) → Alike (each (λ hand. item_course hand Due) hands)
+unfolding each
+lulls_agree [] s solo = agreed _ solo
+lulls_agree (hand ∷ hands) s solo =
+    onward_agrees (each (λ hand. item_course hand Due) hands)
+    (item_agrees hand Due (λ is. tt) s solo) (λ on. lulls_agree hands)
 
 frame_agrees : Alike frame_course
 unfolding frame_course
@@ -251,15 +250,10 @@ frame_agrees s solo =
     (command_agrees NOBODY Frame (λ owners n all. (leader_stays_free owners Frame n all).1) s solo)
     (λ on t one. agreed (still (fired t)) one))
 
-lull_agrees : Alike lull_course
-unfolding lull_course
-lull_agrees s solo =
-    each_agrees (λ (hand : ℕ). item_course hand Due) (hands_in s)
-    (λ k hand at. item_agrees _ Due (λ is. tt)) s solo
-
 due_agrees : Alike due_course
-unfolding due_course
-due_agrees s solo = onward_agrees frame_course (lull_agrees s solo) (λ on. frame_agrees)
+unfolding due_course lull_course
+due_agrees s solo =
+    onward_agrees frame_course (lulls_agree (hands_in s) s solo) (λ on. frame_agrees)
 
 -- ---- what is shown and written
 
@@ -281,104 +275,6 @@ update_agrees : Alike update_course
 unfolding update_course
 update_agrees s solo = onward_agrees show_course (write_agrees s solo) (λ on. show_agrees)
 
--- ---- answers
-
--- an item is not the byte of the key
-abbrev IsNoRedo : HeardItem → Type 0
-IsNoRedo item = (hand : ℕ) → item ≢ ByteOf hand redo_byte
-
--- neither are the bytes of the first hand, nor what comes after them
-none_in : (bytes : List ℕ) (rest : List HeardItem)
-    → HasNoRedo (map (ByteOf LEADER) bytes ++ rest)
-    → All (λ byte. IsSpared (Byte byte)) bytes × HasNoRedo rest
-none_in [] rest none = (All-nil (λ (byte : ℕ). IsSpared (Byte byte)), none)
-none_in (byte ∷ bytes) rest none =
-    let more = map (ByteOf LEADER) bytes ++ rest in
-    let here = All-head IsNoRedo (ByteOf LEADER byte) more none in
-    let both = none_in bytes rest (All-tail IsNoRedo (ByteOf LEADER byte) more none) in (
-      All-cons (λ (byte : ℕ). IsSpared (Byte byte)) byte bytes
-          (λ is. here LEADER (ap (ByteOf LEADER) is)) both.0,
-      both.1,
-    )
-
-answer_agrees : (a : Answer) (bytes : List ℕ) (rest : List HeardItem)
-    → HasNoRedo (items_by 1 a bytes rest) → Alike (answer_course a bytes)
-unfolding answer_course byte_course
-answer_agrees (answer.Bytes zero count at) bytes rest none s solo =
-    each_agrees (λ (byte : ℕ). item_course LEADER (Byte byte)) bytes
-    (λ k byte in'. item_agrees LEADER (Byte _) (λ is. (none_in bytes rest none).0 k byte in'))
-    (answered_at at s) solo
-answer_agrees (answer.Bytes (suc hand) count at) bytes rest none s solo =
-    each_agrees (λ (byte : ℕ). item_course (suc hand) (Byte byte)) bytes
-    (λ k byte in'. item_agrees (suc hand) (Byte _) (λ is. absurd cc)) (answered_at at s) solo
-answer_agrees (answer.Due at) bytes rest none s solo = due_agrees (answered_at at s) solo
-answer_agrees answer.End bytes rest none s solo = agreed _ solo
-answer_agrees answer.Failed bytes rest none s solo = agreed _ solo
-
-hears_agrees : (a : Answer) (bytes : List ℕ) (rest : List HeardItem)
-    → HasNoRedo (items_by 1 a bytes rest) → Alike (heard_course a bytes)
-unfolding heard_course
-hears_agrees a bytes rest none s solo =
-    onward_agrees update_course (answer_agrees a bytes rest none s solo) (λ on. update_agrees)
-
-heard_agrees : (a : Answer) (bytes : List ℕ) (rest : List HeardItem)
-    → HasNoRedo (items_by 1 a bytes rest) → Alike (heard live_part a bytes)
-unfolding heard
-heard_agrees (answer.Bytes hand count at) bytes rest none s solo =
-    mapped_agrees (option_map Stopped)
-    (hears_agrees (answer.Bytes hand count at) bytes rest none s solo)
-heard_agrees (answer.Due at) bytes rest none s solo =
-    mapped_agrees (option_map Stopped) (hears_agrees (answer.Due at) bytes rest none s solo)
-heard_agrees answer.End bytes rest none s solo = agreed _ solo
-heard_agrees answer.Failed bytes rest none s solo = agreed _ solo
-
--- ---- polls
-
-polled_agrees : (poll : Poll) (rest : List HeardItem)
-    → HasNoRedo (items_by 1 poll.answer poll.bytes rest) → Alike (polled live_part poll)
-unfolding polled
-polled_agrees poll rest none s solo =
-    onward_agrees (heard live_part poll.answer poll.bytes) (agreed _ solo)
-    (λ on. heard_agrees poll.answer poll.bytes rest none)
-
--- what comes after an answer that is no last one
-rest_none : (a : Answer) (bytes : List ℕ) (rest : List HeardItem) → is_ending a ≡ false
-    → HasNoRedo (items_by 1 a bytes rest) → HasNoRedo rest
-rest_none (answer.Bytes zero count at) bytes rest on none = (none_in bytes rest none).1
-rest_none (answer.Bytes (suc hand) count at) bytes rest on none =
-    rw (le-ltb (suc hand) 1 (omega arith)) at none
-rest_none (answer.Due at) bytes rest on none = All-tail IsNoRedo FrameDue rest none
-rest_none answer.End bytes rest on none = absurd cc
-rest_none answer.Failed bytes rest on none = absurd cc
-
-poll_goes : (poll : Poll) (s : LiveState) → (polled live_part poll s).ending ≡ None
-    → is_ending poll.answer ≡ false
-unfolding polled
-poll_goes poll s on =
-    heard_goes live_part poll.answer poll.bytes s
-    (goes_both _ (heard live_part poll.answer poll.bytes) on).1
-
-polls_agree : (polls : List Poll) → HasNoRedo (items_of 1 polls)
-    → Alike (each (polled live_part) polls)
-unfolding each
-polls_agree [] none s solo = agreed _ solo
-polls_agree (poll ∷ polls) none s solo =
-    let rest = items_of 1 polls in
-    onward_agrees (each (polled live_part) polls) (polled_agrees poll rest none s solo)
-    (λ on. polls_agree polls (rest_none poll.answer poll.bytes rest (poll_goes poll s on) none))
-
-spent_agrees : (polls : List Poll) → Alike (spent polls)
-unfolding spent
-spent_agrees polls s solo =
-    if_agrees (nat_le MAX_POLLS (length polls)) (agreed (ended Spent s) solo)
-    (agreed (still s) solo)
-
-attended_agrees : (polls : List Poll) → HasNoRedo (items_of 1 polls)
-    → Alike (attended live_part polls)
-unfolding attended
-attended_agrees polls none s solo =
-    onward_agrees (spent polls) (polls_agree polls none s solo) (λ on. spent_agrees polls)
-
 -- ---- the start
 
 journal_agrees : Alike journal_course
@@ -391,12 +287,63 @@ unfolding open_course
 open_agrees s solo =
     onward_agrees (paint_course []) (journal_agrees s solo) (λ on. paint_agrees [])
 
-begun_agrees : (polls : List Poll) → HasNoRedo (items_of 1 polls)
-    → Alike (λ s. begun live_part s polls)
-unfolding begun opened
-begun_agrees polls none s solo =
-    onward_agrees (attended live_part polls)
-    (mapped_agrees (option_map Stopped) (open_agrees s solo)) (λ on. attended_agrees polls none)
+-- ---- turns
+
+-- an item is not the byte of the key
+abbrev IsNoRedo : HeardItem → Type 0
+IsNoRedo item = (hand : ℕ) → item ≢ ByteOf hand redo_byte
+
+-- nor is what an item comes to, which is not the end
+take_agrees : (i : Item) (rest : List HeardItem) → IsMidway (Given i)
+    → HasNoRedo (counting (worth_of 1 i) rest) → Alike (take_course i)
+unfolding take_course byte_course
+take_agrees (item.Open came) rest midway none s solo = open_agrees (knowing came s) solo
+take_agrees (item.Byte zero at byte) rest midway none s solo =
+    let other = All-head IsNoRedo (ByteOf LEADER byte) rest none in
+    item_agrees LEADER (Byte byte) (λ own is. other LEADER (ap (ByteOf LEADER) is))
+    (answered_at at s) solo
+take_agrees (item.Byte (suc hand) at byte) rest midway none s solo =
+    item_agrees (suc hand) (Byte byte) (λ is. absurd cc) (answered_at at s) solo
+take_agrees (item.Due at) rest midway none s solo = due_agrees (answered_at at s) solo
+take_agrees (item.Over came) rest midway none s solo = update_agrees (knowing came s) solo
+take_agrees (item.Ended ending) rest midway none s solo = absurd midway
+
+-- nor are those after it
+none_after : (w : Worth HeardItem) (rest : List HeardItem) → HasNoRedo (counting w rest)
+    → HasNoRedo rest
+none_after Nothing rest none = none
+none_after (Counts item) rest none = All-tail IsNoRedo item rest none
+
+given_agrees : (i : Item) (rest : List HeardItem) → IsMidway (Given i)
+    → HasNoRedo (counting (worth_of 1 i) rest) → Alike (given_course live_part i)
+unfolding given_course
+given_agrees i rest midway none s solo =
+    mapped_agrees (option_map Stopped) (take_agrees i rest midway none s solo)
+
+turns_agree : (turns : List Turn) → AreMidway turns → HasNoRedo (counted (worth_of 1) turns)
+    → Alike (each (turn_course live_part) turns)
+unfolding each turn_course
+turns_agree [] midway none s solo = agreed _ solo
+turns_agree (Asked poll ∷ turns) midway none s solo =
+    onward_agrees (each (turn_course live_part) turns) (agreed _ solo)
+    (λ on. turns_agree turns midway.1 none)
+turns_agree (Learned came ∷ turns) midway none s solo =
+    onward_agrees (each (turn_course live_part) turns) (agreed _ solo)
+    (λ on. turns_agree turns midway.1 none)
+turns_agree (Given i ∷ turns) midway none s solo =
+    let rest = counted (worth_of 1) turns in
+    onward_agrees (each (turn_course live_part) turns) (given_agrees i rest midway.0 none s solo)
+    (λ on. turns_agree turns midway.1 (none_after (worth_of 1 i) rest none))
+turns_agree (Over ending ∷ turns) midway none s solo =
+    onward_agrees (each (turn_course live_part) turns) (agreed (ended ending s) solo)
+    (λ on. absurd cc)
+
+begun_agrees : (opening : Came) (heard : List Heard) → HasNoRedo (items_of 1 heard)
+    → Alike (λ s. begun live_part s opening heard)
+unfolding begun
+begun_agrees opening heard none s solo =
+    turns_agree (first_turns opening ++ heard_turns heard) (all_midway opening heard)
+    (subst HasNoRedo (sym (all_counted 1 heard)) none) s solo
 
 -- ---- the end
 
@@ -426,17 +373,18 @@ finish_agrees s solo =
 
 finished_agrees : (end : Option Ending) (c : Course LiveState Ending) → IsSolo c.state.crew
     → Agrees (lastly_by end c (finished live_part)) (lastly_by end (lone c) (finished live_part))
-unfolding finished
+unfolding finished take_course
 finished_agrees None c solo = agreed _ solo
 finished_agrees (Some e) c solo =
     joined_agrees c (mapped_agrees (λ end. Some e) (finish_agrees c.state solo))
 
 pub plays_alone : PlaysAlone
 unfolding performance lastly
-plays_alone s polls solo none =
-    let c = begun live_part s polls in
+plays_alone s came heard solo none =
+    let c = begun live_part s came heard in
     let first =
-    begun_agrees polls (subst (λ (n : ℕ). HasNoRedo (items_of n polls)) solo.one none) s solo in
+    begun_agrees came heard (subst (λ (n : ℕ). HasNoRedo (items_of n heard)) solo.one none) s solo
+    in
     let same =
     ap (λ (d : Course LiveState Ending). lastly_by d.ending d (finished live_part)) first.same
     ∙ (finished_agrees c.ending c first.solo).same in

@@ -1,5 +1,5 @@
--- What holds of each step of a performance, and of two in turn, holds of each of its parts. It is
--- proved here, since that a player is deaf is said of it as a performer, and follows from this.
+-- What holds of each step of a performance, and of two in turn, holds of each item. It is proved
+-- here, since that a player is deaf is said of it as a performer, and follows from this.
 use Rattle.std.proofs.Common.{◌≡◌, ◌≢◌, ◌⊎◌, inl, inr, ℕ, arith, Bool, true, false, List, [], ◌∷◌, ◌++◌, length, refl, sym, ap}
 use Rattle.std.specs.Prelude.{if◌then◌else◌, Option, Some, None, Ok, Err, unwrap_or}
 use Rattle.std.specs.Option.{option_map_or}
@@ -8,27 +8,34 @@ use Rattle.orca_base.specs.declared.command.Command.{Command}
 use Rattle.orca_base.specs.declared.command.Command.TheVariants.{Frame, Redo}
 use Rattle.orca_base.specs.MarkSet.{MarkSet}
 use Rattle.orca_course.specs.Acts.{Act}
-use Rattle.orca_course.specs.Acts.Act.{Save, Screen, Strike}
-use Rattle.orca_course.specs.Courses.{Course, each, ended, onward, onward_by, still}
+use Rattle.orca_course.specs.Acts.Act.{Append, Begin, Save, Screen, Strike}
+use Rattle.orca_course.specs.Courses.{Course, each, onward, onward_by, still}
+use Rattle.orca_course.specs.Performers.Turn.{Given}
+use Rattle.orca_course.proofs.MidwayLemmas.{IsMidway}
+use Rattle.orca_course.proofs.TurnLemmas.{IsInner}
 use Rattle.orca_course.specs.declared.ending.Stop.{Stop}
-use Rattle.orca_course.specs.declared.ending.Stop.TheVariants.{Full}
-use Rattle.orca_course.proofs.CourseLemmas.{each-holds}
+use Rattle.orca_course.specs.declared.ending.Stop.TheVariants.{Full, Left}
+use Rattle.orca_course.specs.declared.item.Came.{Came}
+use Rattle.orca_course.specs.declared.item.Item.{Item}
+use Rattle.orca_course.specs.declared.item.Item.TheVariants as item
 use Rattle.orca_edit.specs.Machines.{preview_of}
 use Rattle.orca_jam.specs.Crews.{asked, denial_of, fitted_player, player_at, struck_by, turned_by}
 use Rattle.orca_jam.specs.declared.denial.Denial.{Denial}
 use Rattle.orca_jam.specs.declared.owner.TheConstants.{NOBODY}
 use Rattle.orca_jam.specs.declared.player.Player.{Player}
 use Rattle.orca_jam.proofs.JamLemmas.{asks-no-redo}
-use Rattle.orca_rig.specs.declared.inbox.Answer.{Answer}
-use Rattle.orca_rig.specs.declared.inbox.Answer.TheVariants as answer
-use Rattle.orca_term.specs.Keys.{Byte, Due, Item, turn}
+use Rattle.orca_script.specs.Runs.{printed_header}
+use Rattle.orca_term.specs.Keys.{Byte, Due, Item as KeyItem, turn}
 use Rattle.orca_term.specs.Pacing.{Pace, faster, pace_from, retimed, slower}
 use Rattle.orca_term.specs.Picture.{IsScreen, screen_inside}
 use Rattle.orca_term.specs.declared.cell.ScreenSize.{ScreenSize}
 use Rattle.orca_term.specs.declared.editor.Wish.{Wish}
 use Rattle.orca_term.specs.declared.editor.Wish.TheVariants as wish
 use Rattle.orca_term.specs.declared.keys.Key.{Key}
-use Rattle.orca_live.specs.Performing.{answer_course, answered_at, byte_course, hush_course, hand_course, denied_course, due_course, finish_course, fired, frame_course, heard_course, if_named, item_course, journal_course, key_course, saves_course, last_grid_course, last_script_course, lull_course, open_course, paced, paint_course, painted_course, press_course, preview_course, read_course, save_course, script_course, show_course, struck_course, struck_where, update_course, toggled, wish_course, write_course}
+use Rattle.orca_term.specs.declared.keys.Key.TheVariants as key
+use Rattle.orca_term.specs.declared.keys.Pending.{Pending}
+use Rattle.orca_term.specs.declared.keys.Pending.TheVariants.{Nothing, Lone, Sequence, Overlong}
+use Rattle.orca_live.specs.Performing.{additions, answered_at, byte_course, denied_course, due_course, finish_course, fired, frame_course, hand_course, header_course, hush_course, if_named, item_course, journal_course, key_course, knowing, last_grid_course, last_script_course, lines_course, lull_course, open_course, paced, paint_course, painted_course, press_course, preview_course, read_course, save_course, saves_course, script_course, show_course, struck_course, struck_where, take_course, telling, toggled, update_course, wish_course, write_course}
 use Rattle.orca_live.specs.States.{LiveState, Setting, around_at, dims_at, fitted, hands_in, is_full, is_hand, key_name, leader_at, piece_at}
 
 -- two states are the same to the session, to the terminal, to the script and to the journal, and
@@ -43,11 +50,13 @@ pub record LooksAlike (s t : LiveState) : Type 0 where
   pub hands : length t.crew.players ≡ length s.crew.players
   pub crew : t.crew ≡ record s.crew { players = t.crew.players }
 
--- the keys and the editors of the hands, the pace and the moment are nothing to these
-looks_so : (s : LiveState) (players : List Player) (pace : Pace) (at : ℕ)
+-- the keys and the editors of the hands, the pace, the moment and what calls came to are nothing to
+-- these
+looks_so : (s : LiveState) (players : List Player) (pace : Pace) (at : ℕ) (came : Came)
     → length players ≡ length s.crew.players
-    → LooksAlike s (record s { crew = record s.crew { players = players }; pace = pace; at = at })
-looks_so s players pace at hands = record {
+    → LooksAlike s
+    (record s { crew = record s.crew { players = players }; pace = pace; at = at; came = came })
+looks_so s players pace at came hands = record {
   setting = refl;
   standing = refl;
   screen = refl;
@@ -59,67 +68,53 @@ looks_so s players pace at hands = record {
 }
 
 pub looks_same : (s : LiveState) → LooksAlike s s
-looks_same s = looks_so s s.crew.players s.pace s.at refl
+looks_same s = looks_so s s.crew.players s.pace s.at s.came refl
 
 -- the editors are fitted
 looks_fitted : (s : LiveState) → LooksAlike s (fitted s)
 looks_fitted s =
-    looks_so s (fitted s).crew.players s.pace s.at
+    looks_so s (fitted s).crew.players s.pace s.at s.came
     (length-map s.crew.players (fitted_player (dims_at s)))
 
 -- a name that the grid or the script is saved under: by the key, or at the end
 abbrev pub IsSavedName : List ℕ → Setting → Type 0
 IsSavedName name set = (name ≡ key_name set) ⊎ (set.save ≡ Some name) ⊎ (set.script ≡ Some name)
 
--- what holds of each step, and of two in turn
-pub record Carries (holds : LiveState → List Act → LiveState → Type 0) : Type 0 where
-  pub none : (s t : LiveState) → LooksAlike s t → holds s [] t
-  pub both : (r s t : LiveState) (xs ys : List Act) → holds r xs s → holds s ys t
-      → holds r (xs ++ ys) t
-  -- hands that share a session do nothing again that was taken back
-  pub command : (who : ℕ) (command : Command) (s : LiveState)
-      → (s.crew.alone ≡ false → command ≢ Redo)
-      → holds s (hand_course who command s).acts (hand_course who command s).state
-  pub struck : (hand : ℕ) (key : Key) (s : LiveState) → holds s (Strike hand key ∷ []) s
-  pub denied : (hand : ℕ) (denial : Denial) (s : LiveState)
-      → holds s (denied_course hand denial s).acts s
-  pub save : (name bytes : List ℕ) (s : LiveState) → IsSavedName name s.setting
-      → holds s (Save name bytes ∷ []) s
-  pub write : (s : LiveState) → holds s (write_course s).acts (write_course s).state
-  pub paint : (marks : List MarkSet) (s : LiveState)
-      → holds s (painted_course marks s).acts (painted_course marks s).state
-  pub screen : (d : ScreenSize) (s : LiveState) → IsScreen d
-      → holds s (Screen d ∷ []) (record s { screen = d; shown = None })
+-- what may hold of acts from one state to another: by whose commands they are, and whether they end
+-- the performance
+abbrev pub Holds : Type 1
+Holds = ℕ → Option Stop → LiveState → List Act → LiveState → Type 0
 
 -- it holds of a course
-abbrev pub Along : {E : Type 0} → (LiveState → List Act → LiveState → Type 0)
-    → Course LiveState E → LiveState → Type 0
-Along holds c s = holds s c.acts c.state
+abbrev pub Along : Holds → ℕ → Course LiveState Stop → LiveState → Type 0
+Along holds who c s = holds who c.ending s c.acts c.state
 
--- ---- courses
+-- what holds of each step, and of two in turn
+pub record Carries (holds : Holds) : Type 0 where
+  pub none : (who : ℕ) (s t : LiveState) → LooksAlike s t → holds who None s [] t
+  pub both : (who : ℕ) (end : Option Stop) (r s t : LiveState) (xs ys : List Act)
+      → holds who None r xs s → holds who end s ys t → holds who end r (xs ++ ys) t
+  -- the player leaves, or a frame is due where the history is full
+  pub leaves : (who : ℕ) (s : LiveState) → holds who (Some Left) s [] s
+  pub full : (s : LiveState) → is_full s ≡ true → holds NOBODY (Some Full) s [] s
+  -- hands that share a session do nothing again that was taken back
+  pub command : (who : ℕ) (command : Command) (s : LiveState)
+      → (s.crew.alone ≡ false → command ≢ Redo) → Along holds who (hand_course who command s) s
+  pub struck : (who hand : ℕ) (key : Key) (s : LiveState)
+      → holds who None s (Strike hand key ∷ []) s
+  pub denied : (who hand : ℕ) (denial : Denial) (s : LiveState)
+      → holds who None s (telling hand denial ∷ []) s
+  pub save : (who : ℕ) (name bytes : List ℕ) (s : LiveState) → IsSavedName name s.setting
+      → holds who None s (Save name bytes ∷ []) s
+  pub append : (who : ℕ) (name : List ℕ) (byte : ℕ) (bytes : List ℕ) (s : LiveState)
+      → s.setting.journal ≡ Some name → s.unwritten ≡ byte ∷ bytes
+      → holds who None s (Append name (byte ∷ bytes) ∷ []) (record s { unwritten = [] })
+  pub paint : (who : ℕ) (marks : List MarkSet) (s : LiveState)
+      → Along holds who (painted_course marks s) s
+  pub screen : (who : ℕ) (d : ScreenSize) (s : LiveState) → IsScreen d
+      → holds who None s (Screen d ∷ []) (record s { screen = d; shown = None })
 
--- from a state that looks alike
-from_alike : {holds : LiveState → List Act → LiveState → Type 0} {E : Type 0} → Carries holds
-    → (r s : LiveState) (c : Course LiveState E) → LooksAlike r s → Along holds c s
-    → Along holds c r
-from_alike carry r s c alike more = carry.both r s c.state [] c.acts (carry.none r s alike) more
-
-pub onward_carried : {holds : LiveState → List Act → LiveState → Type 0} {E : Type 0}
-    → Carries holds → (s : LiveState) (end : Option E) (c : Course LiveState E)
-    (next : LiveState → Course LiveState E) → Along holds c s
-    → ((t : LiveState) → Along holds (next t) t) → Along holds (onward_by end c next) s
-onward_carried carry s None c next first more =
-    carry.both s c.state (next c.state).state c.acts (next c.state).acts first (more c.state)
-onward_carried carry s (Some e) c next first more = first
-
-if_carried : (holds : LiveState → List Act → LiveState → Type 0) {E : Type 0} (s : LiveState)
-    (b : Bool) (c d : Course LiveState E) → Along holds c s → Along holds d s
-    → Along holds (if b then c else d) s
-if_carried holds s true c d first second = first
-if_carried holds s false c d first second = second
-
--- ---- keys
-
+-- the pause
 toggled_by : (paused : Bool) (s t : LiveState) → LooksAlike s t
     → LooksAlike s (if paused then s else t)
 toggled_by true s t alike = looks_same s
@@ -129,10 +124,10 @@ toggled_alike : (s : LiveState) → LooksAlike s (toggled s)
 toggled_alike s =
     let pace = pace_from s.pace.bpm s.at in
     toggled_by (leader_at s).paused s (record s { pace = pace })
-    (looks_so s s.crew.players pace s.at refl)
+    (looks_so s s.crew.players pace s.at s.came refl)
 
 paced_alike : (bpm : ℕ) (s : LiveState) → LooksAlike s (paced bpm s)
-paced_alike bpm s = looks_so s s.crew.players (retimed bpm s.pace) s.at refl
+paced_alike bpm s = looks_so s s.crew.players (retimed bpm s.pace) s.at s.came refl
 
 -- a size that is brought into those that a screen may have is one of them
 inside_is_screen : (d : ScreenSize) → IsScreen (screen_inside d)
@@ -143,206 +138,294 @@ inside_is_screen d = record {
   few_columns = omega arith;
 }
 
-wish_carried : {holds : LiveState → List Act → LiveState → Type 0} → Carries holds → (hand : ℕ)
-    (w : Wish) (s : LiveState) → (s.crew.alone ≡ false → w ≢ wish.Do Redo)
-    → Along holds (wish_course hand w s) s
-unfolding wish_course save_course
-wish_carried carry hand wish.Nothing s other = carry.none s s (looks_same s)
-wish_carried carry hand (wish.Do command) s other =
-    carry.command hand command s (λ shared is. other shared (ap wish.Do is))
-wish_carried carry hand wish.Toggle s other = carry.none s (toggled s) (toggled_alike s)
-wish_carried carry hand wish.Save s other = carry.save _ _ s (inl refl)
-wish_carried carry hand wish.Quit s other = carry.none s s (looks_same s)
-wish_carried carry hand (wish.Slower beats) s other =
-    carry.none s (paced (slower beats s.pace.bpm) s) (paced_alike (slower beats s.pace.bpm) s)
-wish_carried carry hand (wish.Faster beats) s other =
-    carry.none s (paced (faster beats s.pace.bpm) s) (paced_alike (faster beats s.pace.bpm) s)
-wish_carried carry hand (wish.Redraw size) s other =
-    let d = unwrap_or size s.screen in carry.screen (screen_inside d) s (inside_is_screen d)
-
-where_carried : {holds : LiveState → List Act → LiveState → Type 0} → Carries holds → (hand : ℕ)
-    (key : Key) (s : LiveState) (denial : Option Denial) → denial_of s.crew hand key ≡ denial
-    → Along holds (struck_where hand key s denial) s
-unfolding denied_course
-where_carried carry hand key s (Some denial) is = carry.denied hand denial s
-where_carried carry hand key s None is =
-    let around = around_at hand s in
-    let t : LiveState = record s { crew = struck_by hand key around s.crew } in
-    let w = asked s.crew hand key around in
-    from_alike carry s t (wish_course hand w t)
-    (looks_so s t.crew.players s.pace s.at (length-set s.crew.players hand _))
-    (wish_carried carry hand w t
-    (λ shared. asks-no-redo s.crew hand key around w shared
-    (ap (λ (denial : Option Denial). option_map_or Err denial (Ok w)) (sym is))))
-
-struck_carried : {holds : LiveState → List Act → LiveState → Type 0} → Carries holds → (hand : ℕ)
-    (key : Key) (s : LiveState) → Along holds (struck_course hand key s) s
-unfolding struck_course
-struck_carried carry hand key s = where_carried carry hand key s (denial_of s.crew hand key) refl
-
-press_carried : {holds : LiveState → List Act → LiveState → Type 0} → Carries holds → (hand : ℕ)
-    (key : Option Key) (s : LiveState) → Along holds (press_course hand key s) s
-unfolding press_course key_course
-press_carried carry hand None s = carry.none s s (looks_same s)
-press_carried carry hand (Some key) s =
-    let c = struck_course hand key (fitted s) in
-    carry.both s s c.state (Strike hand key ∷ []) c.acts (carry.struck hand key s)
-    (from_alike carry s (fitted s) c (looks_fitted s) (struck_carried carry hand key (fitted s)))
-
-read_carried : {holds : LiveState → List Act → LiveState → Type 0} → Carries holds → (hand : ℕ)
-    (item : Item) (s : LiveState) → Along holds (read_course hand item s) s
-unfolding read_course
-read_carried carry hand item s =
-    let t : LiveState = record s { crew = turned_by s.setting.full hand item s.crew } in
-    let key = (turn s.setting.full (player_at s.crew hand).keys item).key in
-    from_alike carry s t (press_course hand key t)
-    (looks_so s t.crew.players s.pace s.at (length-set s.crew.players hand _))
-    (press_carried carry hand key t)
-
-item_carried : {holds : LiveState → List Act → LiveState → Type 0} → Carries holds → (hand : ℕ)
-    (item : Item) (s : LiveState) → Along holds (item_course hand item s) s
-unfolding item_course
-item_carried {holds = holds} carry hand item s =
-    if_carried holds s (is_hand hand s) (read_course hand item s) (still s)
-    (read_carried carry hand item s) (carry.none s s (looks_same s))
-
-bytes_carried : {holds : LiveState → List Act → LiveState → Type 0} → Carries holds → (hand : ℕ)
-    (bytes : List ℕ) (s : LiveState) → Along holds (each (byte_course hand) bytes s) s
-unfolding byte_course
-bytes_carried {holds = holds} carry hand bytes s =
-    each-holds holds (byte_course hand) (λ t. carry.none t t (looks_same t)) carry.both
-    (λ byte t. item_carried carry hand (Byte byte) t) bytes s
-
--- ---- the clock
-
 -- a frame is no redo
 plays_on : Frame ≢ Redo
 plays_on is = cc
 
-frame_carried : {holds : LiveState → List Act → LiveState → Type 0} → Carries holds
-    → (s : LiveState) → Along holds (frame_course s) s
-unfolding frame_course onward
-frame_carried {holds = holds} carry s =
-    let next : LiveState → Course LiveState Stop = λ (t : LiveState). still (fired t) in
-    let c = hand_course NOBODY Frame s in
-    if_carried holds s (is_full s) (ended Full s) (onward c next) (carry.none s s (looks_same s))
-    (onward_carried carry s c.ending c next
-    (carry.command NOBODY Frame s (λ shared. plays_on))
-    (λ t. carry.none t (fired t) (looks_so t t.crew.players (fired t).pace t.at refl)))
+-- whose commands an item brings: those of the hand whose byte it is, and of nobody at a frame
+abbrev pub giver_of : ℕ → Item → ℕ
+giver_of who (item.Byte hand at byte) = hand
+giver_of who (item.Due at) = NOBODY
+giver_of who _ = who
 
-lull_carried : {holds : LiveState → List Act → LiveState → Type 0} → Carries holds
-    → (s : LiveState) → Along holds (lull_course s) s
-unfolding lull_course
-lull_carried {holds = holds} carry s =
-    each-holds holds (λ hand. item_course hand Due) (λ t. carry.none t t (looks_same t)) carry.both
-    (λ hand t. item_carried carry hand Due t) (hands_in s) s
+-- it holds of a close and of the start of a journal too
+abbrev pub Silences : Holds → Type 0
+Silences holds = (who : ℕ) (s : LiveState) → Along holds who (hush_course s) s
 
-due_carried : {holds : LiveState → List Act → LiveState → Type 0} → Carries holds
-    → (s : LiveState) → Along holds (due_course s) s
-unfolding due_course onward
-due_carried carry s =
-    let c = lull_course s in
-    onward_carried carry s c.ending c frame_course (lull_carried carry s)
-    (frame_carried carry)
+abbrev pub BeginsJournal : Holds → Type 0
+BeginsJournal holds =
+    (who : ℕ) (name : List ℕ) (s : LiveState)
+    → holds who None s (Begin name (printed_header s.setting.seed) ∷ []) s
 
--- ---- what is shown
+module _ {holds : Holds} (carry : Carries holds) where
+  -- ---- courses
 
-paint_carried : {holds : LiveState → List Act → LiveState → Type 0} → Carries holds
-    → (marks : List MarkSet) (s : LiveState) → Along holds (paint_course marks s) s
-unfolding paint_course
-paint_carried carry marks s =
-    from_alike carry s (fitted s) (painted_course marks (fitted s)) (looks_fitted s)
-    (carry.paint marks (fitted s))
+  -- from a state that looks alike
+  from_alike : (who : ℕ) (r s : LiveState) (c : Course LiveState Stop) → LooksAlike r s
+      → Along holds who c s → Along holds who c r
+  from_alike who r s c alike more =
+      carry.both who c.ending r s c.state [] c.acts (carry.none who r s alike) more
 
-show_carried : {holds : LiveState → List Act → LiveState → Type 0} → Carries holds
-    → (s : LiveState) → Along holds (show_course s) s
-unfolding show_course preview_course
-show_carried carry s = paint_carried carry (preview_of (piece_at s)) s
+  pub onward_carried : (who : ℕ) (s : LiveState) (end : Option Stop) (c : Course LiveState Stop)
+      (next : LiveState → Course LiveState Stop) → c.ending ≡ end → Along holds who c s
+      → ((t : LiveState) → Along holds who (next t) t)
+      → Along holds who (onward_by end c next) s
+  onward_carried who s None c next is first more =
+      let d = next c.state in
+      carry.both who d.ending s c.state d.state c.acts d.acts (rw is at first) (more c.state)
+  onward_carried who s (Some e) c next is first more = first
 
--- ---- answers
+  -- ---- keys
 
-pub answer_carried : {holds : LiveState → List Act → LiveState → Type 0} → Carries holds
-    → (a : Answer) (bytes : List ℕ) (s : LiveState) → Along holds (answer_course a bytes s) s
-unfolding answer_course
-answer_carried carry (answer.Bytes hand count at) bytes s =
-    let t = answered_at at s in
-    from_alike carry s t (each (byte_course hand) bytes t)
-    (looks_so s s.crew.players s.pace at refl)
-    (bytes_carried carry hand bytes t)
-answer_carried carry (answer.Due at) bytes s =
-    let t = answered_at at s in
-    from_alike carry s t (due_course t) (looks_so s s.crew.players s.pace at refl)
-    (due_carried carry t)
-answer_carried carry answer.End bytes s = carry.none s s (looks_same s)
-answer_carried carry answer.Failed bytes s = carry.none s s (looks_same s)
+  wish_carried : (hand : ℕ) (w : Wish) (s : LiveState)
+      → (s.crew.alone ≡ false → w ≢ wish.Do Redo) → Along holds hand (wish_course hand w s) s
+  unfolding wish_course save_course
+  wish_carried hand wish.Nothing s other = carry.none hand s s (looks_same s)
+  wish_carried hand (wish.Do command) s other =
+      carry.command hand command s (λ shared is. other shared (ap wish.Do is))
+  wish_carried hand wish.Toggle s other = carry.none hand s (toggled s) (toggled_alike s)
+  wish_carried hand wish.Save s other = carry.save hand _ _ s (inl refl)
+  wish_carried hand wish.Quit s other = carry.leaves hand s
+  wish_carried hand (wish.Slower beats) s other =
+      let bpm = slower beats s.pace.bpm in carry.none hand s (paced bpm s) (paced_alike bpm s)
+  wish_carried hand (wish.Faster beats) s other =
+      let bpm = faster beats s.pace.bpm in carry.none hand s (paced bpm s) (paced_alike bpm s)
+  wish_carried hand (wish.Redraw size) s other =
+      let d = unwrap_or size s.screen in
+      carry.screen hand (screen_inside d) s (inside_is_screen d)
 
-update_carried : {holds : LiveState → List Act → LiveState → Type 0} → Carries holds
-    → (s : LiveState) → Along holds (update_course s) s
-unfolding update_course onward
-update_carried carry s =
-    let c = write_course s in
-    onward_carried carry s c.ending c show_course (carry.write s) (show_carried carry)
+  where_carried : (hand : ℕ) (key : Key) (s : LiveState) (denial : Option Denial)
+      → denial_of s.crew hand key ≡ denial → Along holds hand (struck_where hand key s denial) s
+  unfolding denied_course
+  where_carried hand key s (Some denial) is = carry.denied hand hand denial s
+  where_carried hand key s None is =
+      let around = around_at hand s in
+      let t : LiveState = record s { crew = struck_by hand key around s.crew } in
+      let w = asked s.crew hand key around in
+      from_alike hand s t (wish_course hand w t)
+      (looks_so s t.crew.players s.pace s.at s.came (length-set s.crew.players hand _))
+      (wish_carried hand w t
+      (λ shared. asks-no-redo s.crew hand key around w shared
+      (ap (λ (denial : Option Denial). option_map_or Err denial (Ok w)) (sym is))))
 
-pub heard_carried : {holds : LiveState → List Act → LiveState → Type 0} → Carries holds
-    → (a : Answer) (bytes : List ℕ) (s : LiveState) → Along holds (heard_course a bytes s) s
-unfolding heard_course onward
-heard_carried carry a bytes s =
-    let c = answer_course a bytes s in
-    onward_carried carry s c.ending c update_course (answer_carried carry a bytes s)
-    (update_carried carry)
+  -- a key that was ended is struck, where the editors are fitted
+  key_carried : (who hand : ℕ) (key : Key) (s : LiveState)
+      → ((t : LiveState) → Along holds who (struck_course hand key t) t)
+      → Along holds who (press_course hand (Some key) s) s
+  unfolding press_course key_course
+  key_carried who hand key s more =
+      let c = struck_course hand key (fitted s) in
+      carry.both who c.ending s s c.state (Strike hand key ∷ []) c.acts
+      (carry.struck who hand key s)
+      (from_alike who s (fitted s) c (looks_fitted s) (more (fitted s)))
 
--- ---- the end
+  press_carried : (hand : ℕ) (key : Option Key) (s : LiveState)
+      → Along holds hand (press_course hand key s) s
+  unfolding press_course struck_course
+  press_carried hand None s = carry.none hand s s (looks_same s)
+  press_carried hand (Some key) s =
+      key_carried hand hand key s
+      (λ t. where_carried hand key t (denial_of t.crew hand key) refl)
 
-grid_carried : {holds : LiveState → List Act → LiveState → Type 0} → Carries holds
-    → (name : Option (List ℕ)) (s : LiveState) → s.setting.save ≡ name
-    → Along holds (if_named name save_course s) s
-unfolding save_course
-grid_carried carry None s is = carry.none s s (looks_same s)
-grid_carried carry (Some name) s is = carry.save name _ s (inr (inl is))
+  -- an ESC that stands alone is a key that asks for nothing
+  escape_where : (hand : ℕ) (s : LiveState) (denial : Option Denial)
+      → Along holds NOBODY (struck_where hand key.Escape s denial) s
+  unfolding denied_course wish_course
+  escape_where hand s (Some denial) = carry.denied NOBODY hand denial s
+  escape_where hand s None =
+      let t : LiveState =
+      record s { crew = struck_by hand key.Escape (around_at hand s) s.crew } in
+      carry.none NOBODY s t
+      (looks_so s t.crew.players s.pace s.at s.came (length-set s.crew.players hand _))
 
-script_carried : {holds : LiveState → List Act → LiveState → Type 0} → Carries holds
-    → (name : Option (List ℕ)) (s : LiveState) → s.setting.script ≡ name
-    → Along holds (if_named name script_course s) s
-unfolding script_course
-script_carried carry None s is = carry.none s s (looks_same s)
-script_carried carry (Some name) s is = carry.save name _ s (inr (inr is))
+  escape_press : (hand : ℕ) (full : Bool) (p : Pending) (s : LiveState)
+      → Along holds NOBODY (press_course hand (turn full p Due).key s) s
+  unfolding turn press_course struck_course
+  escape_press hand full Nothing s = carry.none NOBODY s s (looks_same s)
+  escape_press hand full Lone s =
+      key_carried NOBODY hand key.Escape s
+      (λ t. escape_where hand t (denial_of t.crew hand key.Escape))
+  escape_press hand full (Sequence bytes) s = carry.none NOBODY s s (looks_same s)
+  escape_press hand full Overlong s = carry.none NOBODY s s (looks_same s)
 
-last_carried : {holds : LiveState → List Act → LiveState → Type 0} → Carries holds
-    → (s : LiveState) → Along holds (saves_course s) s
-unfolding saves_course last_grid_course last_script_course onward
-last_carried carry s =
-    let c = last_grid_course s in
-    onward_carried carry s c.ending c last_script_course (grid_carried carry s.setting.save s refl)
-    (λ t. script_carried carry t.setting.script t refl)
+  -- a reader is given an item of the keys
+  read_by : (is : Bool) (who hand : ℕ) (item : KeyItem) (s : LiveState)
+      → ((t : LiveState)
+      → Along holds who
+      (press_course hand (turn s.setting.full (player_at s.crew hand).keys item).key t) t)
+      → Along holds who (if is then read_course hand item s else still s) s
+  unfolding read_course
+  read_by true who hand item s more =
+      let t : LiveState = record s { crew = turned_by s.setting.full hand item s.crew } in
+      let key = (turn s.setting.full (player_at s.crew hand).keys item).key in
+      from_alike who s t (press_course hand key t)
+      (looks_so s t.crew.players s.pace s.at s.came (length-set s.crew.players hand _)) (more t)
+  read_by false who hand item s more = carry.none who s s (looks_same s)
 
--- it holds of a close too
-abbrev pub Silences : (LiveState → List Act → LiveState → Type 0) → Type 0
-Silences holds = (s : LiveState) → Along holds (hush_course s) s
+  read_carried : (who hand : ℕ) (item : KeyItem) (s : LiveState)
+      → ((t : LiveState)
+      → Along holds who
+      (press_course hand (turn s.setting.full (player_at s.crew hand).keys item).key t) t)
+      → Along holds who (item_course hand item s) s
+  unfolding item_course
+  read_carried who hand item s more = read_by (is_hand hand s) who hand item s more
 
-pub finish_carried : {holds : LiveState → List Act → LiveState → Type 0} → Carries holds
-    → Silences holds → (s : LiveState) → Along holds (finish_course s) s
-unfolding finish_course onward
-finish_carried carry silences s =
-    let c = hush_course s in
-    let next : LiveState → Course LiveState Stop =
-    λ (t : LiveState). onward_by (write_course t).ending (write_course t) saves_course in
-    onward_carried carry s c.ending c next (silences s)
-    (λ t. onward_carried carry t (write_course t).ending (write_course t) saves_course
-    (carry.write t) (last_carried carry))
+  -- ---- the clock
 
--- ---- the start
+  frame_by : (full : Bool) (s : LiveState) → is_full s ≡ full → Along holds NOBODY (frame_course s) s
+  unfolding frame_course onward
+  frame_by true s is = rw is (carry.full s is)
+  frame_by false s is =
+      let c = hand_course NOBODY Frame s in
+      rw is (onward_carried NOBODY s c.ending c (λ t. still (fired t)) refl
+      (carry.command NOBODY Frame s (λ shared. plays_on))
+      (λ t. carry.none NOBODY t (fired t)
+      (looks_so t t.crew.players (fired t).pace t.at t.came refl)))
 
--- it holds of the start of a journal too
-abbrev pub BeginsJournal : (LiveState → List Act → LiveState → Type 0) → Type 0
-BeginsJournal holds = (s : LiveState) → Along holds (journal_course s) s
+  lulls_carried : (hands : List ℕ) (s : LiveState)
+      → Along holds NOBODY (each (λ hand. item_course hand Due) hands s) s
+  unfolding each onward
+  lulls_carried [] s = carry.none NOBODY s s (looks_same s)
+  lulls_carried (hand ∷ hands) s =
+      let c = item_course hand Due s in
+      onward_carried NOBODY s c.ending c (each (λ hand. item_course hand Due) hands) refl
+      (read_carried NOBODY hand Due s (λ t. escape_press hand _ _ t)) (lulls_carried hands)
 
-pub first_carried : {holds : LiveState → List Act → LiveState → Type 0} → Carries holds
-    → (s : LiveState) → Along holds (paint_course [] s) s
-first_carried carry s = paint_carried carry [] s
+  due_carried : (s : LiveState) → Along holds NOBODY (due_course s) s
+  unfolding due_course lull_course onward
+  due_carried s =
+      let c = lull_course s in
+      onward_carried NOBODY s c.ending c frame_course refl (lulls_carried (hands_in s) s)
+      (λ t. frame_by (is_full t) t refl)
 
-pub open_carried : {holds : LiveState → List Act → LiveState → Type 0} → Carries holds
-    → BeginsJournal holds → (s : LiveState) → Along holds (open_course s) s
-unfolding open_course onward
-open_carried carry begins s =
-    let c = journal_course s in
-    onward_carried carry s c.ending c (paint_course []) (begins s) (first_carried carry)
+  -- ---- what is shown and written
+
+  pub paint_carried : (who : ℕ) (marks : List MarkSet) (s : LiveState)
+      → Along holds who (paint_course marks s) s
+  unfolding paint_course
+  paint_carried who marks s =
+      from_alike who s (fitted s) (painted_course marks (fitted s)) (looks_fitted s)
+      (carry.paint who marks (fitted s))
+
+  show_carried : (who : ℕ) (s : LiveState) → Along holds who (show_course s) s
+  unfolding show_course preview_course
+  show_carried who s = paint_carried who (preview_of (piece_at s)) s
+
+  added_carried : (who : ℕ) (name lines : List ℕ) (s : LiveState)
+      → s.setting.journal ≡ Some name → s.unwritten ≡ lines
+      → holds who None s (additions name lines) (record s { unwritten = [] })
+  added_carried who name [] s named is =
+      carry.none who s (record s { unwritten = [] }) (record {
+        setting = refl;
+        standing = refl;
+        screen = refl;
+        shown = refl;
+        given = refl;
+        unwritten = sym is;
+        hands = refl;
+        crew = refl;
+      })
+  added_carried who name (byte ∷ lines) s named is = carry.append who name byte lines s named is
+
+  written_by : (who : ℕ) (name : Option (List ℕ)) (s : LiveState) → s.setting.journal ≡ name
+      → Along holds who (if_named name lines_course s) s
+  unfolding lines_course
+  written_by who None s named = carry.none who s s (looks_same s)
+  written_by who (Some name) s named = added_carried who name s.unwritten s named refl
+
+  write_carried : (who : ℕ) (s : LiveState) → Along holds who (write_course s) s
+  unfolding write_course
+  write_carried who s = written_by who s.setting.journal s refl
+
+  update_carried : (who : ℕ) (s : LiveState) → Along holds who (update_course s) s
+  unfolding update_course onward
+  update_carried who s =
+      let c = write_course s in
+      onward_carried who s c.ending c show_course refl (write_carried who s) (show_carried who)
+
+  begun_by : BeginsJournal holds → (who : ℕ) (name : Option (List ℕ)) (s : LiveState)
+      → Along holds who (if_named name header_course s) s
+  unfolding header_course
+  begun_by begins who None s = carry.none who s s (looks_same s)
+  begun_by begins who (Some name) s = begins who name s
+
+  open_carried : BeginsJournal holds → (who : ℕ) (s : LiveState)
+      → Along holds who (open_course s) s
+  unfolding open_course journal_course onward
+  open_carried begins who s =
+      let c = journal_course s in
+      onward_carried who s c.ending c (paint_course []) refl (begun_by begins who s.setting.journal s)
+      (paint_carried who [])
+
+  -- ---- the end
+
+  grid_carried : (who : ℕ) (name : Option (List ℕ)) (s : LiveState) → s.setting.save ≡ name
+      → Along holds who (if_named name save_course s) s
+  unfolding save_course
+  grid_carried who None s is = carry.none who s s (looks_same s)
+  grid_carried who (Some name) s is = carry.save who name _ s (inr (inl is))
+
+  script_carried : (who : ℕ) (name : Option (List ℕ)) (s : LiveState) → s.setting.script ≡ name
+      → Along holds who (if_named name script_course s) s
+  unfolding script_course
+  script_carried who None s is = carry.none who s s (looks_same s)
+  script_carried who (Some name) s is = carry.save who name _ s (inr (inr is))
+
+  saves_carried : (who : ℕ) (s : LiveState) → Along holds who (saves_course s) s
+  unfolding saves_course last_grid_course last_script_course onward
+  saves_carried who s =
+      let c = last_grid_course s in
+      onward_carried who s c.ending c last_script_course refl
+      (grid_carried who s.setting.save s refl)
+      (λ t. script_carried who t.setting.script t refl)
+
+  pub finish_carried : Silences holds → (who : ℕ) (s : LiveState)
+      → Along holds who (finish_course s) s
+  unfolding finish_course onward
+  finish_carried silences who s =
+      let c = hush_course s in
+      let next : LiveState → Course LiveState Stop =
+      λ (t : LiveState). onward_by (write_course t).ending (write_course t) saves_course in
+      onward_carried who s c.ending c next refl (silences who s)
+      (λ t. onward_carried who t (write_course t).ending (write_course t) saves_course refl
+      (write_carried who t) (saves_carried who))
+
+  -- ---- items
+
+  -- between the first one and the last
+  pub later_carried : (who : ℕ) (i : Item) (s : LiveState) → IsInner (Given i)
+      → Along holds (giver_of who i) (take_course i s) s
+  unfolding take_course byte_course
+  later_carried who (item.Open came) s inner = absurd inner
+  later_carried who (item.Byte hand at byte) s inner =
+      let t = answered_at at s in
+      from_alike hand s t (byte_course hand byte t)
+      (looks_so s s.crew.players s.pace at s.came refl)
+      (read_carried hand hand (Byte byte) t (λ u. press_carried hand _ u))
+  later_carried who (item.Due at) s inner =
+      let t = answered_at at s in
+      from_alike NOBODY s t (due_course t) (looks_so s s.crew.players s.pace at s.came refl)
+      (due_carried t)
+  later_carried who (item.Over came) s inner =
+      let t = knowing came s in
+      from_alike who s t (update_course t) (looks_so s s.crew.players s.pace s.at came refl)
+      (update_carried who t)
+  later_carried who (item.Ended ending) s inner = absurd inner
+
+  -- of all but the last
+  pub midway_carried : BeginsJournal holds → (who : ℕ) (i : Item) (s : LiveState)
+      → IsMidway (Given i) → Along holds (giver_of who i) (take_course i s) s
+  unfolding take_course
+  midway_carried begins who (item.Open came) s midway =
+      let t = knowing came s in
+      from_alike who s t (open_course t) (looks_so s s.crew.players s.pace s.at came refl)
+      (open_carried begins who t)
+  midway_carried begins who (item.Ended ending) s midway = absurd midway
+  midway_carried begins who i s midway = later_carried who i s tt
+
+  -- and where it may be
+  pub take_carried : BeginsJournal holds → Silences holds → (who : ℕ) (i : Item) (s : LiveState)
+      → Along holds (giver_of who i) (take_course i s) s
+  unfolding take_course
+  take_carried begins silences who (item.Ended ending) s = finish_carried silences who s
+  take_carried begins silences who i s = midway_carried begins who i s tt

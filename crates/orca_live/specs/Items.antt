@@ -1,7 +1,7 @@
--- What the hands of a performance are heard to do by polls.
+-- What the hands of a performance are heard to do by answers.
 use Rattle.std.specs.Prelude.{ℕ, not, nat_lt, if◌then◌else◌, List, [], ◌∷◌, ◌++◌, map, count_by}
 use Rattle.orca_rig.specs.Arrived.{is_ending}
-use Rattle.orca_trace.specs.Calls.{Poll}
+use Rattle.orca_course.specs.Performers.{Heard}
 use Rattle.orca_rig.specs.declared.inbox.Answer.{Answer}
 use Rattle.orca_rig.specs.declared.inbox.Answer.TheVariants as answer
 
@@ -19,11 +19,11 @@ items_by hands (answer.Due at) bytes rest = FrameDue ∷ rest
 items_by hands answer.End bytes rest = []
 items_by hands answer.Failed bytes rest = []
 
--- the items of polls, up to the first one that ends them
-abbrev pub items_of : ℕ → List Poll → List HeardItem
+-- the items of answers, up to the first one that ends them
+abbrev pub items_of : ℕ → List Heard → List HeardItem
 items_of hands [] = []
-items_of hands (poll ∷ polls) = items_by hands poll.answer poll.bytes (items_of hands polls)
+items_of hands (h ∷ heard) = items_by hands h.poll.answer h.poll.bytes (items_of hands heard)
 
 -- how many polls were answered by bytes or a due frame
-abbrev pub turns_of : List Poll → ℕ
-turns_of polls = count_by (λ poll. not (is_ending poll.answer)) polls
+abbrev pub turns_of : List Heard → ℕ
+turns_of heard = count_by (λ (h : Heard). not (is_ending h.poll.answer)) heard

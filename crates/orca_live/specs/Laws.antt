@@ -9,24 +9,24 @@ use Rattle.orca_concert.specs.Concerts.{concert_with, cues_course}
 use Rattle.orca_concert.specs.Manners.{Manner}
 use Rattle.orca_course.specs.Acts.{Act, commands_in}
 use Rattle.orca_course.specs.Courses.{Course}
-use Rattle.orca_course.specs.Performers.{begun, performance}
+use Rattle.orca_course.specs.Performers.{Heard, begun, performance}
 use Rattle.orca_course.specs.Standings.{Standing}
 use Rattle.orca_course.specs.declared.ending.Ending.{Ending}
+use Rattle.orca_course.specs.declared.item.Came.{Came}
 use Rattle.orca_cues.specs.Scripts.{cues_asking}
 use Rattle.orca_edit.specs.Obeying.{MachineState, machine_closed}
-use Rattle.orca_trace.specs.Calls.{Poll}
 use Rattle.orca_script.specs.Runs.{lines_behind}
 use Rattle.orca_live.specs.Items.{items_of}
 use Rattle.orca_live.specs.Performing.{live_part}
 use Rattle.orca_live.specs.States.{LiveState}
 
 -- a performance up to its end
-abbrev pub so_far : LiveState → List Poll → Course LiveState Ending
-so_far s polls = begun live_part s polls
+abbrev pub so_far : LiveState → Came → List Heard → Course LiveState Ending
+so_far s opening heard = begun live_part s opening heard
 
 -- the whole of it
-abbrev pub whole_performance : LiveState → List Poll → Course LiveState Ending
-whole_performance s polls = performance live_part s polls
+abbrev pub whole_performance : LiveState → Came → List Heard → Course LiveState Ending
+whole_performance s opening heard = performance live_part s opening heard
 
 -- the answers do not break off
 abbrev pub HasEnded : Course LiveState Ending → Type 0
@@ -39,7 +39,8 @@ pub record AppendsActs (c d : Course LiveState Ending) : Type 0 where
 
 abbrev pub OnlyAppends : Type 0
 OnlyAppends =
-    (polls more : List Poll) (s : LiveState) → AppendsActs (so_far s polls) (so_far s (polls ++ more))
+    (opening : Came) (heard more : List Heard) (s : LiveState)
+    → AppendsActs (so_far s opening heard) (so_far s opening (heard ++ more))
 
 -- two states with the same setting, session, hands, screen and kept commands; moments, the pace and
 -- what is shown may differ
@@ -59,11 +60,11 @@ pub record PlayAlike (c d : Course LiveState Ending) : Type 0 where
 -- how the same items of the hands that are heard were cut into answers changes no command
 abbrev pub ItemsDecide : Type 0
 ItemsDecide =
-    (polls others : List Poll) (s t : LiveState)
+    (opening other : Came) (heard others : List Heard) (s t : LiveState)
     → let hands = length s.crew.players in
-    items_of hands polls ≡ items_of hands others → AreAlike s t
-    → HasEnded (whole_performance s polls) → HasEnded (whole_performance t others)
-    → PlayAlike (whole_performance s polls) (whole_performance t others)
+    items_of hands heard ≡ items_of hands others → AreAlike s t
+    → HasEnded (whole_performance s opening heard) → HasEnded (whole_performance t other others)
+    → PlayAlike (whole_performance s opening heard) (whole_performance t other others)
 
 -- what is printed of commands does not end the run
 abbrev pub GoesOn : Manner (Unit {0}) → Type 0
@@ -86,5 +87,5 @@ pub record Replays (c : Course LiveState Ending) (s : LiveState) : Type 0 where
 -- so it is for every performance that ends, if no command was kept before
 abbrev pub ReplaysScript : Type 0
 ReplaysScript =
-    (polls : List Poll) (s : LiveState) → s.given ≡ Some [] → HasEnded (whole_performance s polls)
-    → Replays (whole_performance s polls) s
+    (opening : Came) (heard : List Heard) (s : LiveState) → s.given ≡ Some []
+    → HasEnded (whole_performance s opening heard) → Replays (whole_performance s opening heard) s

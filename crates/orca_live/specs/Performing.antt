@@ -1,5 +1,4 @@
--- The definition of a performance: what is done for a key, a byte, a due frame, an answer of the
--- inbox, and at the end.
+-- The definition of a performance: what is done for a key, for an item, and at the end.
 use Rattle.std.specs.Prelude.{ℕ, nat_le, if◌then◌else◌, List, [], ◌∷◌, ◌++◌, length, Option, Some, None, unwrap_or}
 use Rattle.std.specs.Option.{option_map}
 use Rattle.orca_base.specs.declared.command.Command.{Command}
@@ -15,6 +14,9 @@ use Rattle.orca_course.specs.Performers.{Part}
 use Rattle.orca_course.specs.Standings.{Standing}
 use Rattle.orca_course.specs.declared.ending.Stop.{Stop}
 use Rattle.orca_course.specs.declared.ending.Stop.TheVariants.{Full, Left}
+use Rattle.orca_course.specs.declared.item.Came.{Came}
+use Rattle.orca_course.specs.declared.item.Item.{Item}
+use Rattle.orca_course.specs.declared.item.Item.TheVariants as item
 use Rattle.orca_edit.specs.Machines.{preview_of}
 use Rattle.orca_edit.specs.Prices.{preview_price}
 use Rattle.orca_grid.specs.GridText.{text_of}
@@ -22,11 +24,9 @@ use Rattle.orca_jam.specs.Crews.{CrewState, asked, denial_of, player_at, struck_
 use Rattle.orca_jam.specs.Denials.{denial_line}
 use Rattle.orca_jam.specs.declared.denial.Denial.{Denial}
 use Rattle.orca_jam.specs.declared.owner.TheConstants.{NOBODY}
-use Rattle.orca_rig.specs.declared.inbox.Answer.{Answer}
-use Rattle.orca_rig.specs.declared.inbox.Answer.TheVariants as answer
 use Rattle.orca_script.specs.Canonical.{printed}
 use Rattle.orca_script.specs.Runs.{printed_header, printed_script}
-use Rattle.orca_term.specs.Keys.{Byte, Due, Item, turn}
+use Rattle.orca_term.specs.Keys.{Byte, Due, Item as KeyItem, turn}
 use Rattle.orca_term.specs.Pacing.{due_after, faster, pace_from, retimed, slower}
 use Rattle.orca_term.specs.Picture.{picture, scene_of, screen_inside}
 use Rattle.orca_term.specs.Viewing.{painting_bytes}
@@ -174,13 +174,13 @@ press_course hand (Some key) s =
     joined (course {E = Stop} (Strike hand key ∷ []) 0 s) (key_course hand key s)
 
 -- the reader of a hand is given an item: a byte, or that nothing came for a while
-unfoldable pub read_course : ℕ → Item → LiveState → Course LiveState Stop
+unfoldable pub read_course : ℕ → KeyItem → LiveState → Course LiveState Stop
 read_course hand item s =
     press_course hand (turn s.setting.full (player_at s.crew hand).keys item).key
     (record s { crew = turned_by s.setting.full hand item s.crew })
 
 -- an item of a hand. What comes of a hand that there is not is dropped
-unfoldable pub item_course : ℕ → Item → LiveState → Course LiveState Stop
+unfoldable pub item_course : ℕ → KeyItem → LiveState → Course LiveState Stop
 item_course hand item s = if is_hand hand s then read_course hand item s else still s
 
 -- a byte of a hand
@@ -239,27 +239,9 @@ preview_course s = course [] (preview_price (piece_at s)) s
 unfoldable pub show_course : LiveState → Course LiveState Stop
 show_course s = joined (preview_course s) (paint_course (preview_of (piece_at s)) s)
 
--- ---- answers of the inbox
-
--- the moment of an answer is kept
-abbrev pub answered_at : ℕ → LiveState → LiveState
-answered_at at s = record s { at = at }
-
--- what an answer brings. The loop asks nothing of an answer that ends the performance
-unfoldable pub answer_course : Answer → List ℕ → LiveState → Course LiveState Stop
-answer_course (answer.Bytes hand count at) bytes s =
-    each (byte_course hand) bytes (answered_at at s)
-answer_course (answer.Due at) bytes s = due_course (answered_at at s)
-answer_course answer.End bytes s = still s
-answer_course answer.Failed bytes s = still s
-
 -- the journal and then the picture are brought up to date
 unfoldable pub update_course : LiveState → Course LiveState Stop
 update_course s = onward (write_course s) show_course
-
--- what an answer brings, and then the journal and the picture, unless the performance ended
-unfoldable pub heard_course : Answer → List ℕ → LiveState → Course LiveState Stop
-heard_course answer bytes s = onward (answer_course answer bytes s) update_course
 
 -- ---- the end
 
@@ -290,12 +272,22 @@ finish_course s = onward (hush_course s) (λ t. onward (write_course t) saves_co
 unfoldable pub open_course : LiveState → Course LiveState Stop
 open_course s = onward (journal_course s) (paint_course [])
 
+-- the moment of an item is kept
+abbrev pub answered_at : ℕ → LiveState → LiveState
+answered_at at s = record s { at = at }
+
+-- and so is what the calls came to
+abbrev pub knowing : Came → LiveState → LiveState
+knowing came s = record s { came = came }
+
+-- what an item brings
+unfoldable pub take_course : Item → LiveState → Course LiveState Stop
+take_course (item.Open came) s = open_course (knowing came s)
+take_course (item.Byte hand at byte) s = byte_course hand byte (answered_at at s)
+take_course (item.Due at) s = due_course (answered_at at s)
+take_course (item.Over came) s = update_course (knowing came s)
+take_course (item.Ended ending) s = finish_course s
+
 -- what a player does
 abbrev pub live_part : Part LiveState
-live_part = record {
-  stance = live_stance;
-  until = until_at;
-  opens = open_course;
-  hears = heard_course;
-  finishes = λ ending s. finish_course s;
-}
+live_part = record { stance = live_stance; until = until_at; takes = take_course }

@@ -1,10 +1,16 @@
 -- A performance before its first picture.
-use Rattle.std.specs.Prelude.{ℕ, [], None}
+use Rattle.std.specs.Prelude.{ℕ, false, [], None}
 use Rattle.std.specs.Option.{option_map}
 use Rattle.orca_course.specs.Standings.{Standing}
+use Rattle.orca_course.specs.declared.item.Came.{Came}
 use Rattle.orca_jam.specs.Crews.{CrewState}
 use Rattle.orca_live.specs.States.{LiveState, Setting}
 use Rattle.orca_term.specs.Pacing.{pace_from}
+
+-- no call has failed, as far as was told
+abbrev pub nothing_failed : Came
+nothing_failed =
+    record { midi = false; udp = false; osc = false; journal = false; unsaved = false }
 
 -- a pacer starts at this moment, nothing was painted, and no command was given, so none waits for
 -- the journal
@@ -19,4 +25,5 @@ live_at_start set crew at standing = record {
   given = option_map (λ name. []) set.script;
   unwritten = [];
   at = at;
+  came = nothing_failed;
 }

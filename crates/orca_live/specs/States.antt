@@ -12,6 +12,7 @@ use Rattle.orca_course.specs.Doing.{Does, Stance}
 use Rattle.orca_course.specs.Standings.{Standing, notes_of}
 use Rattle.orca_course.specs.Worlds.{World, owing}
 use Rattle.orca_course.specs.declared.ending.Stop.{Stop}
+use Rattle.orca_course.specs.declared.item.Came.{Came}
 use Rattle.orca_course.specs.declared.refused.NoMemory.{NoMemory}
 use Rattle.orca_edit.specs.Obeying.{piece_of}
 use Rattle.orca_edit.specs.Pieces.{Piece}
@@ -74,6 +75,8 @@ pub record LiveState : Type 0 where
   pub unwritten : List ℕ
   -- the moment of the last answer of the inbox
   pub at : ℕ
+  -- what the calls came to, as it was told last
+  pub came : Came
 
 -- the state of a performance, by the ghost members of its session's bound. By this and by what its
 -- session has to clear, and by nothing else, a contract of another crate sees it
@@ -88,6 +91,7 @@ live_state g live = record {
   given = option_map (λ commands. commands.items) live.given;
   unwritten = live.unwritten.items;
   at = live.at;
+  came = live.came;
 }
 
 -- how much its session has to clear: it pays for steps that are still to come

@@ -242,7 +242,7 @@ pub(crate) fn press<M: Machine, H: House>(
 
 /// Reads a byte of a hand. What comes of a hand that there is not is dropped.
 #[tactic(auto, using(orca_course::proofs::WorldLemmas::called_still, crate::proofs::DoneLemmas::read_did), unfolding(crate::specs::Performing::byte_course, crate::specs::Performing::item_course))]
-fn do_byte<M: Machine, H: House>(
+pub(crate) fn do_byte<M: Machine, H: House>(
     live: &mut Live<'_, M>,
     desk: &mut Desk<H>,
     hand: u8,
@@ -255,23 +255,4 @@ fn do_byte<M: Machine, H: House>(
     }
     let key = live.crew.feed(live.setting.full, hand, byte);
     press(live, desk, hand, key)
-}
-
-/// Reads bytes of a hand, one by one. Those after the end of the performance are dropped.
-#[tactic(auto, using(orca_course::proofs::DoingLemmas::far_more, orca_course::proofs::DoingLemmas::far_none, orca_course::proofs::DoingLemmas::far_over, std::proofs::lemmas::List::drop_all, std::proofs::lemmas::List::drop_more))]
-pub(crate) fn do_bytes<M: Machine, H: House>(
-    live: &mut Live<'_, M>,
-    desk: &mut Desk<H>,
-    hand: u8,
-    bytes: &[u8],
-) -> Result<Option<Stop>, NoMemory>
-    ensures { LiveDid M.Machine.own (each (byte_course hand) bytes.now)
-        live.old desk.old result live.new desk.new }
-{
-    for byte in bytes {
-        if let Some(stop) = do_byte(live, desk, hand, *byte)? {
-            return Ok(Some(stop));
-        }
-    }
-    Ok(None)
 }

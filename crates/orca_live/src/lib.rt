@@ -1,7 +1,7 @@
 //! A performance: a piece that plays while it is edited by keys.
 //!
 //! [`Live`] is a [`Performer`](orca_course::Performer): it paints the first picture, and then does
-//! what the answers of an inbox bring. Keys go to the editor, its commands to the session, and a
+//! what items bring. Keys go to the editor, its commands to the session, and a
 //! due moment plays a frame. Each message is sent at once, and after each answer the picture is
 //! painted. At the end every note ends, and the grid and the script of the commands are saved. If a
 //! journal is kept, the commands of each answer are added to it before the picture.

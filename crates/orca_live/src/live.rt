@@ -13,7 +13,7 @@ ghost use Rattle.orca_notes.specs.Sound.{ends};
 use crate::{Setting, Silent};
 use orca_base::{Command, Memory};
 use orca_concert::{Stage, close_early};
-use orca_course::{Desk, NoMemory};
+use orca_course::{Came, Desk, NoMemory};
 use orca_edit::Machine;
 use orca_jam::Crew;
 use orca_rig::House;
@@ -39,6 +39,8 @@ pub struct Live<'a, M> {
     pub(crate) unwritten: Vec<u8>,
     /// The moment of the last answer of the inbox, in microseconds.
     pub(crate) at: u64,
+    /// What the calls came to, as it was told last.
+    pub(crate) came: Came,
     /// Room for what is saved.
     pub(crate) text: Vec<u8>,
 }
@@ -69,6 +71,13 @@ impl<'a, M: Machine> Live<'a, M> {
             given: setting.script.map(|_| Vec::new(alloc)),
             unwritten: Vec::new(alloc),
             at,
+            came: Came {
+                midi: false,
+                udp: false,
+                osc: false,
+                journal: false,
+                unsaved: false,
+            },
             text: Vec::new(alloc),
         })
     }

@@ -1,19 +1,19 @@
-//! What a player does with the answers of an inbox.
+//! What a player does with items.
 
 ghost use Rattle.orca_course.specs.Doing.{goes_of};
-ghost use Rattle.orca_live.specs.Performing.{answer_course, hush_course, finish_course, heard_course, saves_course, open_course, update_course};
+ghost use Rattle.orca_live.specs.Performing.{finish_course, hush_course, open_course, saves_course, take_course, update_course};
 ghost use Rattle.orca_live.specs.States.{LiveDid};
 
 use crate::Live;
 use crate::clock::do_due;
 use crate::journal::{begin_journal, write_journal};
-use crate::keyboard::do_bytes;
+use crate::keyboard::do_byte;
 use crate::painting::{paint_first, show};
 use crate::saving::{save_last_grid, save_last_script};
 use orca_concert::close;
-use orca_course::{Desk, Ending, NoMemory, Performer, Stop};
+use orca_course::{Desk, Item, NoMemory, Performer, Stop};
 use orca_edit::Machine;
-use orca_rig::{Answer, House};
+use orca_rig::House;
 
 impl<'a, M: Machine> Performer for Live<'a, M> {
     ghost use Rattle.orca_live.specs.Deaf.{live_is_deaf};
@@ -28,26 +28,12 @@ impl<'a, M: Machine> Performer for Live<'a, M> {
 
     ghost part = { live_part };
 
-    fn open<H: House>(&mut self, desk: &mut Desk<H>) -> Result<Option<Stop>, NoMemory> {
-        open(self, desk)?;
-        Ok(None)
-    }
-
     fn until(&self) -> Option<u64> {
         self.until_moment()
     }
 
-    fn hear<H: House>(
-        &mut self,
-        desk: &mut Desk<H>,
-        answer: Answer,
-        bytes: &[u8],
-    ) -> Result<Option<Stop>, NoMemory> {
-        hear(self, desk, answer, bytes)
-    }
-
-    fn finish<H: House>(&mut self, desk: &mut Desk<H>, _: Ending) -> Result<(), NoMemory> {
-        finish(self, desk)
+    fn take<H: House>(&mut self, desk: &mut Desk<H>, item: Item) -> Result<Option<Stop>, NoMemory> {
+        take(self, desk, item)
     }
 
     ghost deaf = { live_is_deaf };
@@ -62,30 +48,6 @@ fn open<M: Machine, H: House>(live: &mut Live<'_, M>, desk: &mut Desk<H>) -> Res
     paint_first(live, desk)
 }
 
-/// Does what an answer brings.
-#[tactic(auto, using(orca_course::proofs::WorldLemmas::called_still, orca_course::proofs::DoingLemmas::does_from), unfolding(crate::specs::Performing::answer_course))]
-fn do_answer<M: Machine, H: House>(
-    live: &mut Live<'_, M>,
-    desk: &mut Desk<H>,
-    answer: Answer,
-    bytes: &[u8],
-) -> Result<Option<Stop>, NoMemory>
-    ensures { LiveDid M.Machine.own (answer_course answer bytes.now)
-        live.old desk.old result live.new desk.new }
-{
-    match answer {
-        Answer::Bytes { hand, at, .. } => {
-            live.at = at;
-            do_bytes(live, desk, hand, bytes)
-        }
-        Answer::Due { at } => {
-            live.at = at;
-            do_due(live, desk)
-        }
-        Answer::End | Answer::Failed => Ok(None),
-    }
-}
-
 /// Brings the journal and then the picture up to date.
 #[tactic(auto, using(orca_course::proofs::DoingLemmas::does_cut, orca_course::proofs::DoingLemmas::goes_err), unfolding(crate::specs::Performing::update_course))]
 fn update<M: Machine, H: House>(live: &mut Live<'_, M>, desk: &mut Desk<H>) -> Result<(), NoMemory>
@@ -93,25 +55,6 @@ fn update<M: Machine, H: House>(live: &mut Live<'_, M>, desk: &mut Desk<H>) -> R
 {
     write_journal(live, desk)?;
     show(live, desk)
-}
-
-/// Does what an answer brings, and then brings the journal and the picture up to date, unless the
-/// performance ended.
-#[tactic(auto, using(orca_course::proofs::DoingLemmas::does_cut, orca_course::proofs::DoingLemmas::does_err), unfolding(crate::specs::Performing::heard_course))]
-fn hear<M: Machine, H: House>(
-    live: &mut Live<'_, M>,
-    desk: &mut Desk<H>,
-    answer: Answer,
-    bytes: &[u8],
-) -> Result<Option<Stop>, NoMemory>
-    ensures { LiveDid M.Machine.own (heard_course answer bytes.now)
-        live.old desk.old result live.new desk.new }
-{
-    if let Some(stop) = do_answer(live, desk, answer, bytes)? {
-        return Ok(Some(stop));
-    }
-    update(live, desk)?;
-    Ok(None)
 }
 
 /// Ends every note.
@@ -145,4 +88,39 @@ fn finish<M: Machine, H: House>(live: &mut Live<'_, M>, desk: &mut Desk<H>) -> R
     do_close(live, desk)?;
     write_journal(live, desk)?;
     save_last(live, desk)
+}
+
+/// Does what an item brings.
+#[tactic(auto, using(orca_course::proofs::DoingLemmas::does_from, orca_course::proofs::DoingLemmas::does_err), unfolding(crate::specs::Performing::take_course))]
+fn take<M: Machine, H: House>(
+    live: &mut Live<'_, M>,
+    desk: &mut Desk<H>,
+    item: Item,
+) -> Result<Option<Stop>, NoMemory>
+    ensures { LiveDid M.Machine.own (take_course item) live.old desk.old result live.new desk.new }
+{
+    match item {
+        Item::Open(came) => {
+            live.came = came;
+            open(live, desk)?;
+            Ok(None)
+        }
+        Item::Byte { hand, at, byte } => {
+            live.at = at;
+            do_byte(live, desk, hand, byte)
+        }
+        Item::Due { at } => {
+            live.at = at;
+            do_due(live, desk)
+        }
+        Item::Over(came) => {
+            live.came = came;
+            update(live, desk)?;
+            Ok(None)
+        }
+        Item::Ended(_) => {
+            finish(live, desk)?;
+            Ok(None)
+        }
+    }
 }
