@@ -5,6 +5,7 @@ use Rattle.orca_base.specs.declared.limits.TheConstants.{MAX_POLLS}
 use Rattle.orca_course.specs.Acts.{Act, AreMute, commands_in, given, gives, open_after, polls_in, stand_after}
 use Rattle.orca_course.specs.Acts.Act.{Attach, Listen, Load}
 use Rattle.orca_course.specs.Courses.{Course}
+use Rattle.orca_course.specs.Performers.{Heard as Hearing, polls_of}
 use Rattle.orca_course.specs.Standings.{Standing}
 use Rattle.orca_course.specs.Following.{Follows, keys_after_acts, sounding}
 use Rattle.orca_course.specs.Answered.{refused_in}
@@ -15,7 +16,6 @@ use Rattle.orca_course.proofs.FollowLemmas.{follows-mute, keys-mute}
 use Rattle.orca_course.proofs.WorldLemmas.{lost_made, made_none, made_twice, made_within, sated_twice, stored_made, unsent_after, unstored_made}
 use Rattle.orca_notes.specs.Device.{Voice}
 use Rattle.orca_notes.specs.Sound.{ends}
-use Rattle.orca_trace.specs.Calls.{Poll}
 use Rattle.orca_term.specs.Picture.{IsScreen}
 use Rattle.orca_words.specs.Requests.{Setup}
 use Rattle.orca_player.specs.Doing.{Came, CameBy, IsBlamed, IsWholeRun, KeepsTake, ReadsBack, WasRefused, status_at}
@@ -262,15 +262,15 @@ attached setup {x = x} calls =
 
 -- ---- what an outline asks, paints and saves
 
-pub record IsKind (o : Outline) (heard : List Poll) (status : Status) : Type 0 where
-  pub polls : polls_in o.course.acts ≡ heard
-  pub few : length heard ≤ MAX_POLLS
+pub record IsKind (o : Outline) (hearings : List Hearing) (status : Status) : Type 0 where
+  pub polls : polls_in o.course.acts ≡ polls_of hearings
+  pub few : length hearings ≤ MAX_POLLS
   pub sized : IfSome o.screen IsScreen
   pub reads : status ≢ Memory → IfSome o.given ReadsBack
   pub takes : status ≢ Memory → KeepsTake o
 
 pub by : {o : Brought → Outline} (b : Brought) {x y : World} {status : Status}
-    → IsKind (o b) b.polls status → Came (o b) x status y → CameBy o x status y
+    → IsKind (o b) b.hearings status → Came (o b) x status y → CameBy o x status y
 by b kind came = record {
   brought = b;
   polls = kind.polls;
@@ -336,7 +336,7 @@ by_unread next is called = by_memory (rw is (refl, tt)) (came_still _ called.cal
 
 -- calls by what was brought, and then the rest
 pub by_after : {acts : List Act} {o : Brought → Outline} {more : Outline} {x y z : World}
-    {status : Status} (b : Brought) → Before acts x y → IsKind more b.polls status
+    {status : Status} (b : Brought) → Before acts x y → IsKind more b.hearings status
     → Came more y status z → o b ≡ preceded acts more → CameBy o x status z
 by_after {acts = acts} {more = more} b before kind came is =
     let bare = calls_bare acts before.calls in
@@ -349,7 +349,7 @@ by_after {acts = acts} {more = more} b before kind came is =
     })) (rw is (came_after more before came))
 
 pub kind_of : {o : Brought → Outline} {x y : World} {status : Status} (did : CameBy o x status y)
-    → IsKind (o did.brought) did.brought.polls status
+    → IsKind (o did.brought) did.brought.hearings status
 kind_of did = assumption did
 
 -- the same calls, whatever was brought

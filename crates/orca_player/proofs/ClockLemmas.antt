@@ -1,36 +1,41 @@
 -- Performances by a clock: how they end, and that how bytes are cut into answers changes no command.
-use Rattle.std.proofs.Common.{◌≡◌, ◌⊎◌, inl, inr, ℕ, ◌==◌, Bool, true, false, List, [], refl, ◌∙◌, ap, arith}
-use Rattle.std.specs.Prelude.{if◌then◌else◌, IfSome, Some}
+use Rattle.std.proofs.Common.{◌≡◌, ◌⊎◌, inl, inr, ℕ, zero, suc, ◌==◌, Bool, true, false, [], refl, ◌∙◌, ap, subst, arith}
+use Rattle.std.specs.Prelude.{if◌then◌else◌, nat_lt, IfSome, Some}
+use Rattle.std.proofs.lemmas.Bool.Decides.{nat_tests}
 use Rattle.orca_base.specs.Ascii.{space}
 use Rattle.orca_base.specs.declared.command.Command.{Command}
 use Rattle.orca_base.specs.declared.command.Command.TheVariants as command
 use Rattle.orca_clock.specs.Clocked.{end_course, clock_frame_course, last_text_course}
-use Rattle.orca_clock.specs.Followers.{Followed, beat_course, clock_byte_course, follow_course, follow_finish, follow_part}
-use Rattle.orca_clock.specs.Leaders.{Led, clocked_course, clock_due_course, lead_key_course, lead_course, lead_finish, lead_open, lead_part, quit, toggle_course}
+use Rattle.orca_clock.specs.Followers.{Followed, beat_course, clock_byte_course, follow_course, follow_part, hand_byte_course}
+use Rattle.orca_clock.specs.Leaders.{Led, clocked_course, clock_due_course, hand_key_course, lead_key_course, lead_course, lead_finish, lead_open, lead_part, quit, toggle_course}
 use Rattle.orca_concert.specs.Concerts.{Concert, close_course, command_course, final_course}
 use Rattle.orca_concert.specs.Manners.{Manner}
 use Rattle.orca_concert.proofs.EndingLemmas.{Ends}
 use Rattle.orca_course.specs.Acts.{commands_in}
 use Rattle.orca_course.specs.Courses.{Course, afterwards, ended, mapped, onward, still}
-use Rattle.orca_course.specs.Following.{sounding}
+use Rattle.orca_course.specs.Performers.Turn.{Given}
 use Rattle.orca_course.specs.Standings.{standing_closed}
 use Rattle.orca_course.specs.declared.ending.Ending.{Ending}
 use Rattle.orca_course.specs.declared.ending.Ending.TheVariants.{Lost, Spent, Stopped}
 use Rattle.orca_course.specs.declared.ending.Stop.{Stop}
 use Rattle.orca_course.specs.declared.ending.Stop.TheVariants.{Full, Left, SongTooLong, WaveTooLong}
+use Rattle.orca_course.specs.declared.item.Item.{Item}
+use Rattle.orca_course.specs.declared.item.Item.TheVariants as item
 use Rattle.orca_course.proofs.ActLemmas.{commands_in-append, handed_commands}
-use Rattle.orca_course.proofs.CourseLemmas.{each-kind}
+use Rattle.orca_course.proofs.CuttingLemmas.{Brings, ByItems, Told, quiet, told}
+use Rattle.orca_course.proofs.CuttingLemmas.Worth.{Counts, Nothing}
+use Rattle.orca_course.proofs.MidwayLemmas.{IsMidway}
 use Rattle.orca_course.proofs.PerformanceLemmas.{EndsWell, notes-standing_closed}
+use Rattle.orca_live.specs.Items.{ByteOf, FrameDue, HeardItem}
+use Rattle.orca_live.proofs.WorthLemmas.{worth_of}
 use Rattle.orca_reports.specs.Manners.{state_manner}
-use Rattle.orca_rig.specs.declared.inbox.Answer.{Answer}
-use Rattle.orca_rig.specs.declared.inbox.Answer.TheVariants as answer
 use Rattle.orca_sync.specs.Clocks.{heed}
 use Rattle.orca_sync.specs.Leading.{Metronome}
 use Rattle.orca_sync.specs.declared.follower.Beat.{Beat}
 use Rattle.orca_sync.specs.declared.follower.Beat.TheVariants as beat
-use Rattle.orca_term.specs.Keys.{Byte, Due, Item}
 use Rattle.orca_term.specs.Pacing.{Pace}
-use Rattle.orca_player.proofs.ItemLemmas.{ByItems, Told, quiet, told}
+use Rattle.orca_player.specs.Performances.{EndsSilent}
+use Rattle.orca_player.specs.declared.live.TheConstants.{ALONE}
 
 -- a performance may end by leaving and by a full history, and what is printed of commands ends it in
 -- no other way
@@ -56,14 +61,13 @@ module _ {R : Type 0} (m : Manner R) (P : Stop → Type 0) (left : P Left) (full
   unfolding clock_byte_course mapped
   byte_ends byte s = beat_ends (heed s.pulse byte).beat s.concert
 
-  pub follow_ends : (a : Answer) (bytes : List ℕ) (s : Followed R)
-      → IfSome (follow_course m a bytes s).ending P
-  unfolding follow_course
-  follow_ends (answer.Bytes hand count at) bytes s =
-      grind (arith, each-kind (λ end. IfSome end P) (clock_byte_course m) tt byte_ends bytes s)
-  follow_ends (answer.Due at) bytes s = tt
-  follow_ends answer.End bytes s = tt
-  follow_ends answer.Failed bytes s = tt
+  pub follow_ends : (i : Item) (s : Followed R) → IfSome (follow_course m i s).ending P
+  unfolding follow_course hand_byte_course end_course mapped
+  follow_ends (item.Open came) s = tt
+  follow_ends (item.Byte hand at byte) s = grind (arith, byte_ends byte s)
+  follow_ends (item.Due at) s = tt
+  follow_ends (item.Over came) s = tt
+  follow_ends (item.Ended ending) s = tt
 
   -- ---- a leader
 
@@ -82,26 +86,23 @@ module _ {R : Type 0} (m : Manner R) (P : Stop → Type 0) (left : P Left) (full
   unfolding lead_key_course toggle_course mapped
   key_ends at byte s = grind (arith, left)
 
-  pub lead_ends : (a : Answer) (bytes : List ℕ) (s : Led R)
-      → IfSome (lead_course m a bytes s).ending P
-  unfolding lead_course
-  lead_ends (answer.Bytes hand count at) bytes s =
-      grind (arith, each-kind (λ end. IfSome end P) (lead_key_course at) tt (key_ends at) bytes s)
-  lead_ends (answer.Due at) bytes s = due_ends at s s.metronome.pulse.runs refl
-  lead_ends answer.End bytes s = tt
-  lead_ends answer.Failed bytes s = tt
+  pub lead_ends : (i : Item) (s : Led R) → IfSome (lead_course m i s).ending P
+  unfolding lead_course hand_key_course lead_open lead_finish end_course onward mapped
+  lead_ends (item.Open came) s = tt
+  lead_ends (item.Byte hand at byte) s = grind (arith, key_ends at byte s)
+  lead_ends (item.Due at) s = due_ends at s s.metronome.pulse.runs refl
+  lead_ends (item.Over came) s = tt
+  lead_ends (item.Ended ending) s = tt
 
 -- ---- the last note
 
-pub follow_silent : {R : Type 0} (m : Manner R) (ending : Ending) (s : Followed R)
-    → sounding (Some (follow_finish m ending s).state.concert.standing) ≡ []
-unfolding follow_finish end_course afterwards close_course onward mapped
+pub follow_silent : {R : Type 0} (m : Manner R) → EndsSilent (follow_part m)
+unfolding follow_course end_course afterwards close_course onward mapped
 follow_silent m ending s =
     notes-standing_closed (last_text_course m ending s.concert).state.standing
 
-pub lead_silent : {R : Type 0} (m : Manner R) (ending : Ending) (s : Led R)
-    → sounding (Some (lead_finish m ending s).state.concert.standing) ≡ []
-unfolding lead_finish end_course afterwards close_course onward mapped
+pub lead_silent : {R : Type 0} (m : Manner R) → EndsSilent (lead_part m)
+unfolding lead_course lead_finish end_course afterwards close_course onward mapped
 lead_silent m ending s =
     notes-standing_closed (last_text_course m ending s.concert).state.standing
 
@@ -112,17 +113,18 @@ abbrev pub IsLeft : Stop → Type 0
 IsLeft stop = (stop ≡ Left) ⊎ (stop ≡ Full)
 
 pub follow_ends_well : {R : Type 0} (m : Manner R) → Ends IsLeft m → EndsWell (follow_part m)
+unfolding follow_course
 follow_ends_well m ends = record {
-  opens = λ s. refl;
-  hears = follow_ends m IsLeft (inl refl) (inr refl) ends;
+  opens = λ came s. refl;
+  takes = follow_ends m IsLeft (inl refl) (inr refl) ends;
   silent = follow_silent m;
 }
 
 pub lead_ends_well : {R : Type 0} (m : Manner R) → Ends IsLeft m → EndsWell (lead_part m)
-unfolding lead_open mapped
+unfolding lead_course lead_open mapped
 lead_ends_well m ends = record {
-  opens = λ s. refl;
-  hears = lead_ends m IsLeft (inl refl) (inr refl) ends;
+  opens = λ came s. refl;
+  takes = lead_ends m IsLeft (inl refl) (inr refl) ends;
   silent = lead_silent m;
 }
 
@@ -162,24 +164,59 @@ end_closes ending s =
 
 -- ---- any cutting
 
--- a byte asks for its beat, and no moment is waited for
-abbrev follow_step : Item → Followed (Unit {0}) → Told (Followed (Unit {0}))
-follow_step (Byte byte) s = told (λ t. t) (clock_byte_course state_manner byte s)
-follow_step Due s = quiet false s
+-- one hand is heard, the first
+one_hand : (hand : ℕ) → (hand == 0) ≡ nat_lt hand ALONE
+one_hand zero = refl
+one_hand (suc hand) = grind (arith, nat_tests)
 
-pub follow_by_items : ByItems (follow_part state_manner) (λ s. s)
-unfolding follow_course follow_finish mapped
+-- a byte of it counts, and that of another is dropped
+module _ {S : Type 0} (core : S → S) (does : HeardItem → S → Told S) where
+  byte_by : (mine : Bool) (hand byte : ℕ) (c : Course S Stop) (s : S)
+      → told core c ≡ does (ByteOf hand byte) (core s)
+      → Brings core does (if mine then Counts (ByteOf hand byte) else Nothing)
+      (told core (if mine then c else still s)) s
+  byte_by true hand byte c s is = is
+  byte_by false hand byte c s is = refl
+
+  byte_brings : (hand byte : ℕ) (c : Course S Stop) (s : S)
+      → told core c ≡ does (ByteOf hand byte) (core s)
+      → Brings core does (if nat_lt hand ALONE then Counts (ByteOf hand byte) else Nothing)
+      (told core (if hand == 0 then c else still s)) s
+  byte_brings hand byte c s is =
+      subst (λ (b : Bool). Brings core does (if b then Counts (ByteOf hand byte) else Nothing)
+      (told core (if hand == 0 then c else still s)) s)
+      (one_hand hand) (byte_by (hand == 0) hand byte c s is)
+
+-- a byte asks for its beat, and no moment is waited for
+abbrev follow_does : HeardItem → Followed (Unit {0}) → Told (Followed (Unit {0}))
+follow_does (ByteOf hand byte) s = told (λ t. t) (clock_byte_course state_manner byte s)
+follow_does FrameDue s = quiet false s
+
+follow_brings : (i : Item) (s : Followed (Unit {0})) → IsMidway (Given i)
+    → Brings (λ t. t) follow_does (worth_of ALONE i)
+    (told (λ t. t) (follow_course state_manner i s)) s
+unfolding follow_course hand_byte_course
+follow_brings (item.Open came) s midway = refl
+follow_brings (item.Byte hand at byte) s midway =
+    byte_brings (λ t. t) follow_does hand byte (clock_byte_course state_manner byte s) s refl
+follow_brings (item.Due at) s midway = refl
+follow_brings (item.Over came) s midway = refl
+follow_brings (item.Ended ending) s midway = absurd midway
+
+-- where nothing is kept
+abbrev pub Anywhere : {S : Type 0} → S → Type 0
+Anywhere s = Unit {0}
+
+pub follow_by_items : ByItems (worth_of ALONE) (follow_part state_manner) (λ s. s) Anywhere
+    (λ s. Some s.concert.standing)
+unfolding follow_course mapped
 follow_by_items = record {
-  step = follow_step;
-  byte = λ at byte s. clock_byte_course state_manner byte s;
+  does = follow_does;
   last = λ s. Some (standing_closed s.concert.standing);
-  hears = λ hand count at bytes s. refl;
-  bytes = λ at byte s. refl;
-  due = λ at bytes s. refl;
-  goes = λ s. refl;
-  opens = λ s. refl;
+  keeping = λ i s midway kept. tt;
+  brings = λ i s midway kept. follow_brings i s midway;
   silent = λ ending s. (end_closes ending s.concert).commands;
-  stands = λ ending s. ap Some (end_closes ending s.concert).standing;
+  sees = λ ending s. ap Some (end_closes ending s.concert).standing;
 }
 
 -- the moments of a leader change no command
@@ -189,9 +226,9 @@ still_pace = record { bpm = 0; parts = 0; due = 0 }
 abbrev pub lead_core : Led (Unit {0}) → Led (Unit {0})
 lead_core s = record s { metronome = record s.metronome { pace = still_pace } }
 
-abbrev lead_step : Item → Led (Unit {0}) → Told (Led (Unit {0}))
-lead_step (Byte byte) s = told lead_core (lead_key_course 0 byte s)
-lead_step Due s = told lead_core (clock_due_course state_manner 0 s)
+abbrev lead_does : HeardItem → Led (Unit {0}) → Told (Led (Unit {0}))
+lead_does (ByteOf hand byte) s = told lead_core (lead_key_course 0 byte s)
+lead_does FrameDue s = told lead_core (clock_due_course state_manner 0 s)
 
 due_core : (at : ℕ) (s : Led (Unit {0})) (runs : Bool) → s.metronome.pulse.runs ≡ runs
     → told lead_core (clock_due_course state_manner at s)
@@ -216,23 +253,33 @@ key_if at s false true = refl
 key_if at s false false = refl
 
 key_core : (at byte : ℕ) (s : Led (Unit {0}))
-    → told lead_core (lead_key_course at byte s) ≡ told lead_core (lead_key_course 0 byte (lead_core s))
+    → told lead_core (lead_key_course at byte s)
+    ≡ told lead_core (lead_key_course 0 byte (lead_core s))
 unfolding lead_key_course
 key_core at byte s = key_if at s (byte == space) (byte == quit)
 
-pub lead_by_items : ByItems (lead_part state_manner) lead_core
-unfolding lead_open lead_course lead_finish end_course onward mapped
+lead_brings : (i : Item) (s : Led (Unit {0})) → IsMidway (Given i)
+    → Brings lead_core lead_does (worth_of ALONE i)
+    (told lead_core (lead_course state_manner i s)) s
+unfolding lead_course hand_key_course lead_open mapped
+lead_brings (item.Open came) s midway = refl
+lead_brings (item.Byte hand at byte) s midway =
+    byte_brings lead_core lead_does hand byte (lead_key_course at byte s) s (key_core at byte s)
+lead_brings (item.Due at) s midway = due_core at s s.metronome.pulse.runs refl
+lead_brings (item.Over came) s midway = refl
+lead_brings (item.Ended ending) s midway = absurd midway
+
+pub lead_by_items : ByItems (worth_of ALONE) (lead_part state_manner) lead_core Anywhere
+    (λ s. Some s.concert.standing)
+unfolding lead_course lead_finish end_course onward mapped
 lead_by_items = record {
-  step = lead_step;
-  byte = lead_key_course;
+  does = lead_does;
   last = λ s. Some (standing_closed s.concert.standing);
-  hears = λ hand count at bytes s. refl;
-  bytes = key_core;
-  due = λ at bytes s. due_core at s s.metronome.pulse.runs refl;
-  goes = λ s. refl;
-  opens = λ s. refl;
-  silent = λ ending s. let end = end_closes ending s.concert in
+  keeping = λ i s midway kept. tt;
+  brings = λ i s midway kept. lead_brings i s midway;
+  silent = λ ending s.
+      let end = end_closes ending s.concert in
       commands_in-append (end_course state_manner ending s.concert).acts _
       ∙ rw end.commands refl;
-  stands = λ ending s. ap Some (end_closes ending s.concert).standing;
+  sees = λ ending s. ap Some (end_closes ending s.concert).standing;
 }

@@ -1,6 +1,6 @@
 -- What was done of an opened session, and the courses of a list of commands and of a performance.
 use Rattle.std.proofs.Common.{◌≡◌, ◌≢◌, ◌⊎◌, inl, inr, ℕ, ◌+◌, List, [], ◌∷◌, ◌++◌, append-nil, refl, sym, ◌∙◌, ap, subst, arith}
-use Rattle.std.specs.Prelude.{Option, Some, None, IfSome, Ok, Result, Err}
+use Rattle.std.specs.Prelude.{Option, Some, IfSome, Ok, Result, Err}
 use Rattle.std.proofs.lemmas.List.{map-append}
 use Rattle.orca_base.specs.Grids.{Sheet}
 use Rattle.orca_base.specs.Ports.{Sent}
@@ -37,7 +37,7 @@ use Rattle.orca_script.specs.Runs.{ScriptReadsBack}
 use Rattle.orca_term.specs.Picture.{IsScreen}
 use Rattle.orca_words.specs.Requests.{Performance, Setup}
 use Rattle.orca_player.specs.Doing.{Came, CameBy, IsBlamed, status_at}
-use Rattle.orca_player.specs.Outlines.{concert, follow_outline, follow_start, followed, lead_outline, lead_start, led, live_outline, live_start, opening, performed_outline, played, standing_at, status_of_end, status_of_ending}
+use Rattle.orca_player.specs.Outlines.{concert, follow_outline, follow_start, followed, lead_outline, lead_start, led, live_outline, live_start, nothing, opening, performed_outline, played, standing_at, status_of_end, status_of_ending}
 use Rattle.orca_player.specs.Performances.{IsSilenced, Performed}
 use Rattle.orca_player.specs.declared.status.Status.{Status}
 use Rattle.orca_player.specs.declared.status.Status.TheVariants.{Memory}
@@ -212,10 +212,10 @@ lost_by ending x y lost = grind arith
 -- one that neither paints nor saves
 pub performed_by : {S : Type 0} (p : Part S) (s : Standing) {u t : S} {x y : World}
     {status : Status} → p.stance.standing u ≡ Some s → Performed p u x status t y
-    → CameBy (λ b. performed_outline p s u b.polls) x status y
+    → CameBy (λ b. performed_outline p s u b) x status y
 unfolding opening mapped
 performed_by p s stands did =
-    by (record { script = None; start = None; polls = did.polls }) (record {
+    by did.brought (record {
       polls = did.all;
       few = did.few;
       sized = tt;
@@ -225,48 +225,49 @@ performed_by p s stands did =
 
 -- memory was refused before anything was done
 pub performed_none : {S : Type 0} (p : Part S) → IsDeaf p → (s : Standing) (u : S) (x : World)
-    → CameBy (λ b. performed_outline p s u b.polls) x Memory x
+    → CameBy (λ b. performed_outline p s u b) x Memory x
 unfolding opening mapped
-performed_none p deaf s u x = by_memory (polls_none p deaf u, tt) (came_none _ x)
+performed_none p deaf s u x = by_memory (polls_none p deaf nothing.opening u, tt) (came_none _ x)
 
 -- ---- a player
 
 pub played_by : {s t : LiveState} {x y : World} {status : Status}
     → Performed live_part s x status t y → IsScreen s.screen
-    → IfSome t.given (ScriptReadsBack s.setting.seed) → CameBy (λ b. played s b.polls) x status y
+    → IfSome t.given (ScriptReadsBack s.setting.seed) → CameBy (λ b. played s b) x status y
 unfolding opening mapped
 played_by {s = s} did sized reads =
-    by (record { script = None; start = None; polls = did.polls }) (record {
+    by did.brought (record {
       polls = did.all;
       few = did.few;
       sized = sized;
       reads = λ other. grind (arith, did.state other, reads);
       takes = λ other ends. tt;
-    }) (came_plain (played s did.polls) (did.came s.standing refl))
+    }) (came_plain (played s did.brought) (did.came s.standing refl))
 
 -- memory was refused before anything was done
 pub live_none : (s : LiveState) (x : World) → IsScreen s.screen
-    → CameBy (λ b. played s b.polls) x Memory x
+    → CameBy (λ b. played s b) x Memory x
 unfolding opening mapped
-live_none s x sized = by_memory (polls_none live_part live_is_deaf s, sized) (came_none _ x)
+live_none s x sized =
+    by_memory (polls_none live_part live_is_deaf nothing.opening s, sized) (came_none _ x)
 
 pub live_from : (setup : Setup) (play : Performance) (at : ℕ) (s : Standing) (u : LiveState)
     {x y : World} {status : Status} → u ≡ live_start setup play at s
-    → CameBy (λ b. played u b.polls) x status y
-    → CameBy (λ b. live_outline setup play b.polls s at) x status y
+    → CameBy (λ b. played u b) x status y
+    → CameBy (λ b. live_outline setup play b s at) x status y
 unfolding live_outline
 live_from setup play at s u is did = rw is at did
 
 -- ---- a clock
 
 pub follow_from : (s : Standing) (u : Followed (Unit {0})) {x y : World} {status : Status}
-    → u ≡ follow_start s → CameBy (λ b. followed state_manner u b.polls) x status y
-    → CameBy (λ b. follow_outline b.polls s) x status y
+    → u ≡ follow_start s → CameBy (λ b. followed state_manner u b) x status y
+    → CameBy (λ b. follow_outline b s) x status y
 unfolding follow_outline
 follow_from s u is did = rw is at did
 
 pub lead_from : (bpm at : ℕ) (s : Standing) (u : Led (Unit {0})) {x y : World} {status : Status}
-    → u ≡ lead_start bpm at s → CameBy (λ b. led state_manner u b.polls) x status y
-    → CameBy (λ b. lead_outline bpm b.polls s at) x status y
+    → u ≡ lead_start bpm at s → CameBy (λ b. led state_manner u b) x status y
+    → CameBy (λ b. lead_outline bpm b s at) x status y
 unfolding lead_outline
 lead_from bpm at s u is did = rw is at did

@@ -15,7 +15,6 @@ use Rattle.orca_live.specs.Items.{items_of}
 use Rattle.orca_live.specs.Laws.{whole_performance}
 use Rattle.orca_live.specs.Solo.{HasNoRedo, PlaysAlone, PlaysSame, as_alone}
 use Rattle.orca_live.specs.States.{LiveState}
-use Rattle.orca_trace.specs.Calls.{Poll}
 use Rattle.orca_words.specs.Requests.{Perform, Performance, Play, Setup}
 use Rattle.orca_player.specs.Hands.{SharesFairly}
 use Rattle.orca_player.specs.Outlines.{Brought, Heard, grid_outline, listening, live_outline, live_start, loading, opening, outline, performed, played, request_outline, setting_of, start_of, work_outline}
@@ -43,41 +42,41 @@ no_owner : AreLeaders []
 no_owner = All-nil (λ (owner : Owner). owner.edit ≡ true → owner.hand ≡ LEADER)
 
 -- performances that do the same
-same_played : (u : LiveState) (polls : List Poll)
-    → PlaysSame (whole_performance u polls) (whole_performance (as_alone u) polls)
-    → played u polls ≡ played (as_alone u) polls
+same_played : (u : LiveState) (b : Brought)
+    → PlaysSame (whole_performance u b.opening b.hearings)
+    (whole_performance (as_alone u) b.opening b.hearings)
+    → played u b ≡ played (as_alone u) b
 unfolding opening mapped
-same_played u polls same = rw (same.acts, same.bill, same.ending, same.state) refl
+same_played u b same = rw (same.acts, same.bill, same.ending, same.state) refl
 
-solo_live : PlaysAlone → (setup : Setup) (play : Performance) (polls : List Poll) (s : Standing)
-    (at : ℕ) → HasNoRedo (items_of ALONE polls)
-    → live_outline setup (with_hands (Some 1) play) polls s at
-    ≡ live_outline setup (with_hands None play) polls s at
+solo_live : PlaysAlone → (setup : Setup) (play : Performance) (b : Brought) (s : Standing)
+    (at : ℕ) → HasNoRedo (items_of ALONE b.hearings)
+    → live_outline setup (with_hands (Some 1) play) b s at
+    ≡ live_outline setup (with_hands None play) b s at
 unfolding live_outline
-solo_live law setup play polls s at none =
+solo_live law setup play b s at none =
     let u = live_start setup (with_hands (Some 1) play) at s in
-    same_played u polls (law u polls (record { one = refl; own = no_owner }) none)
+    same_played u b (law u b.opening b.hearings (record { one = refl; own = no_owner }) none)
 
-solo_listening : PlaysAlone → (setup : Setup) (play : Performance) (polls : List Poll)
-    (s : Standing) (start : Option ℕ) → HasNoRedo (items_of ALONE polls)
-    → listening play.address ALONE start (live_outline setup (with_hands (Some 1) play) polls s)
-    ≡ listening play.address ALONE start (live_outline setup (with_hands None play) polls s)
+solo_listening : PlaysAlone → (setup : Setup) (play : Performance) (b : Brought)
+    (s : Standing) (start : Option ℕ) → HasNoRedo (items_of ALONE b.hearings)
+    → listening play.address ALONE start (live_outline setup (with_hands (Some 1) play) b s)
+    ≡ listening play.address ALONE start (live_outline setup (with_hands None play) b s)
 unfolding listening
-solo_listening law setup play polls s None none = refl
-solo_listening law setup play polls s (Some at) none =
-    rw (solo_live law setup play polls s at none) refl
+solo_listening law setup play b s None none = refl
+solo_listening law setup play b s (Some at) none = rw (solo_live law setup play b s at none) refl
 
 solo_grid : PlaysAlone → (setup : Setup) (play : Performance) (b : Brought)
-    (read : Result Sheet GridRefusal) → HasNoRedo (items_of ALONE b.polls)
+    (read : Result Sheet GridRefusal) → HasNoRedo (items_of ALONE b.hearings)
     → grid_outline setup (Play (with_hands (Some 1) play)) b read
     ≡ grid_outline setup (Play (with_hands None play)) b read
 unfolding grid_outline work_outline
 solo_grid law setup play b (Err refusal) none = refl
 solo_grid law setup play b (Ok sheet) none =
-    solo_listening law setup play b.polls (start_of setup sheet) b.start none
+    solo_listening law setup play b (start_of setup sheet) b.start none
 
 solo_loaded : PlaysAlone → (setup : Setup) (play : Performance) (b : Brought)
-    (grid : Option (List ℕ)) → HasNoRedo (items_of ALONE b.polls)
+    (grid : Option (List ℕ)) → HasNoRedo (items_of ALONE b.hearings)
     → performed setup (Play (with_hands (Some 1) play)) (record { grid = grid; brought = b })
     ≡ performed setup (Play (with_hands None play)) (record { grid = grid; brought = b })
 unfolding performed loading
@@ -86,7 +85,7 @@ solo_loaded law setup play b (Some text) none =
     rw (solo_grid law setup play b (grid_text text) none) refl
 
 solo_request : PlaysAlone → (setup : Setup) (play : Performance) (h : Heard)
-    → play.hands ≡ Some 1 → HasNoRedo (items_of ALONE h.brought.polls)
+    → play.hands ≡ Some 1 → HasNoRedo (items_of ALONE h.brought.hearings)
     → request_outline (Perform setup (Play play)) h
     ≡ request_outline (Perform setup (Play (with_hands None play))) h
 unfolding request_outline

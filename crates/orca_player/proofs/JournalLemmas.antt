@@ -115,19 +115,20 @@ journal_apart setup play name journal own =
     × IfSome setup.midi (λ other. name ≢ other))) journal own in
     record { grid = apart.0; save = apart.1; script = apart.2 }
 
-kept_live : JournalsPerformance → (setup : Setup) (play : Performance) (polls : List Poll)
+kept_live : JournalsPerformance → (setup : Setup) (play : Performance) (b : Brought)
     (s : Standing) (name : List ℕ) → play.journal ≡ Some name → HasOwnJournal setup (Play play)
-    → (at : ℕ) → Kept name setup.seed (live_outline setup play polls s at)
+    → (at : ℕ) → Kept name setup.seed (live_outline setup play b s at)
 unfolding live_outline opening mapped
-kept_live law setup play polls s name journal own at =
+kept_live law setup play b s name journal own at =
     let u = live_start setup play at s in
-    let keeps = law u polls name journal (journal_apart setup play name journal own) refl in
+    let keeps = law u b.opening b.hearings name journal (journal_apart setup play name journal own)
+    refl in
     tells_before (Stand s)
     (record { same = λ xs. refl; deaf = λ poll is. cc })
     (record {
       asked = keeps.asked;
       begun = keeps.begun;
-      last = λ ends. keeps.ended (ended_by (performance live_part u polls).ending ends);
+      last = λ ends. keeps.ended (ended_by (performance live_part u b.opening b.hearings).ending ends);
     })
 
 -- what is not there ends the run, and the rest keeps the journal
@@ -146,7 +147,7 @@ kept_grid law setup play b (Err refusal) name journal own = tt
 kept_grid law setup play b (Ok sheet) name journal own =
     kept_by name setup.seed _ _ (Listen play.address (hands_of play) b.start ∷ []) _ tt
     (kept_or name setup.seed InboxFault b.start _
-    (kept_live law setup play b.polls (start_of setup sheet) name journal own))
+    (kept_live law setup play b (start_of setup sheet) name journal own))
 
 kept_request : JournalsPerformance → (setup : Setup) (play : Performance) (h : Heard)
     (name : List ℕ) → play.journal ≡ Some name → HasOwnJournal setup (Play play)

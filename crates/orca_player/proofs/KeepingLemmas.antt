@@ -11,9 +11,9 @@ use Rattle.orca_clock.specs.Leaders.{Led, lead_part}
 use Rattle.orca_concert.specs.Concerts.{concert_with}
 use Rattle.orca_course.specs.Acts.{Act, commands_in, polls_in}
 use Rattle.orca_course.specs.Acts.Act.{Listen, Load}
-use Rattle.orca_course.specs.Courses.{mapped}
+use Rattle.orca_course.specs.Courses.{Course, mapped}
 use Rattle.orca_course.specs.Following.{midi_sent}
-use Rattle.orca_course.specs.Performers.{Part, performance}
+use Rattle.orca_course.specs.Performers.{Heard as Hearing, Part, performance, polls_of}
 use Rattle.orca_course.specs.Standings.{tally_at_start}
 use Rattle.orca_course.specs.declared.ending.Ending.{Ending}
 use Rattle.orca_course.specs.declared.ending.Ending.TheVariants.{Stopped}
@@ -38,6 +38,10 @@ use Rattle.orca_player.proofs.SheetLemmas.{sheet_read}
 
 -- ---- what was played, if a session was opened
 
+-- a performance by what was brought
+abbrev brought_course : {S : Type 0} → Part S → S → Brought → Course S Ending
+brought_course p s b = performance p s b.opening b.hearings
+
 -- a performance on a grid that was read, from a moment: its commands, its MIDI bytes, its ending and
 -- where it stands are those of the run
 record Opens {S : Type 0} (p : Part S) (from : Sheet → ℕ → S) (h : Heard) (o : Outline) : Type 0
@@ -46,13 +50,13 @@ record Opens {S : Type 0} (p : Part S) (from : Sheet → ℕ → S) (h : Heard) 
     pub at : ℕ
     pub read : option_map grid_text h.grid ≡ Some (Ok sheet)
     pub commands : commands_in o.course.acts
-        ≡ commands_in (performance p (from sheet at) h.brought.polls).acts
+        ≡ commands_in (brought_course p (from sheet at) h.brought).acts
     pub bytes : midi_bytes_in o.course.acts
-        ≡ midi_bytes_in (performance p (from sheet at) h.brought.polls).acts
+        ≡ midi_bytes_in (brought_course p (from sheet at) h.brought).acts
     pub ending : o.course.ending
-        ≡ option_map status_of_ending (performance p (from sheet at) h.brought.polls).ending
+        ≡ option_map status_of_ending (brought_course p (from sheet at) h.brought).ending
     pub stands : o.course.state
-        ≡ p.stance.standing (performance p (from sheet at) h.brought.polls).state
+        ≡ p.stance.standing (brought_course p (from sheet at) h.brought).state
 
 -- no session was opened
 record IsClosed (o : Outline) : Type 0 where
@@ -100,18 +104,18 @@ module _ {S : Type 0} (p : Part S) (from : Sheet → ℕ → S) (setup : Setup) 
     (address : List ℕ) (short : is_too_long work ≡ false)
     (works : (sheet : Sheet) (b : Brought) → work_outline setup work sheet b
     ≡ listening address ALONE b.start
-    (λ at. performed_outline p (start_of setup sheet) (from sheet at) b.polls)) where
+    (λ at. performed_outline p (start_of setup sheet) (from sheet at) b)) where
   listened_by : (h : Heard) (sheet : Sheet) (start : Option ℕ)
       → option_map grid_text h.grid ≡ Some (Ok sheet)
       → Opened p from h (listening address ALONE start
-      (λ at. performed_outline p (start_of setup sheet) (from sheet at) h.brought.polls))
+      (λ at. performed_outline p (start_of setup sheet) (from sheet at) h.brought))
   unfolding listening opening mapped midi_sent
   listened_by h sheet None read =
       opened_after (Listen address ALONE None ∷ []) (stopped_outline InboxFault) tt
       (inr (closed_at InboxFault (λ is. cc)))
   listened_by h sheet (Some at) read =
       opened_after (Listen address ALONE (Some at) ∷ [])
-      (performed_outline p (start_of setup sheet) (from sheet at) h.brought.polls) tt
+      (performed_outline p (start_of setup sheet) (from sheet at) h.brought) tt
       (inl (record {
         sheet = sheet;
         at = at;
@@ -199,17 +203,23 @@ grid_sheet (Some text) sheet is = sheet_read text sheet (cc)
 
 -- ---- the laws
 
+-- where no poll was made there was no answer
+no_hearings : (hearings : List Hearing) → polls_of hearings ≡ [] → hearings ≡ []
+no_hearings [] is = refl
+no_hearings (h ∷ hearings) is = absurd cc
+
 beats_kept : FollowsBytes → (words : List (List ℕ)) (setup : Setup) (address : List ℕ) (h : Heard)
     → AskFor words setup (Follow address)
     → let o = outline words h in
-    polls_in o.course.acts ≡ h.brought.polls
+    polls_in o.course.acts ≡ polls_of h.brought.hearings
     → AreDone HistoryFull o.course.ending (commands_in o.course.acts)
-    (flat_map commands_of_beat (beats_from stopped (heard_in h.brought.polls)))
+    (flat_map commands_of_beat (beats_from stopped (heard_in h.brought.hearings)))
 unfolding beats_from
 beats_kept law words setup address h asks hears =
     elim (follow_opened words setup address h asks) [
       | inl opens ↦
-          let done = law state_manner (concert_with (start_of setup opens.sheet) tt) h.brought.polls tells in
+          let done = law state_manner (concert_with (start_of setup opens.sheet) tt)
+          h.brought.opening h.brought.hearings tells in
           record {
             left = done.left;
             splits = ap (λ commands. commands ++ done.left) opens.commands ∙ done.splits;
@@ -217,12 +227,13 @@ beats_kept law words setup address h asks hears =
                 other (opens.ending ∙ ap (option_map status_of_ending) full));
           }
       | inr closed ↦
-          let none : h.brought.polls ≡ [] = sym hears ∙ closed.polls in
+          let none = no_hearings h.brought.hearings (sym hears ∙ closed.polls) in
           record {
             left = [];
             splits = append-nil (commands_in (outline words h).course.acts)
                 ∙ (closed.commands
-                ∙ sym (ap (λ polls. flat_map commands_of_beat (beats_from stopped (heard_in polls))) none));
+                ∙ sym (ap (λ heard.
+                flat_map commands_of_beat (beats_from stopped (heard_in heard))) none));
             none = λ other. refl;
           }
     ]
@@ -230,15 +241,15 @@ beats_kept law words setup address h asks hears =
 bytes_kept : HeedsClock → (words : List (List ℕ)) (setup : Setup) (address : List ℕ)
     (h k : Heard) → AskFor words setup (Follow address) → k.grid ≡ h.grid
     → DoesAll (outline words h) → DoesAll (outline words k)
-    → filter is_clock (heard_in h.brought.polls) ≡ filter is_clock (heard_in k.brought.polls)
+    → filter is_clock (heard_in h.brought.hearings) ≡ filter is_clock (heard_in k.brought.hearings)
     → RunsAlike (outline words h) (outline words k)
 bytes_kept law words setup address h k asks grid all others same =
     let one = opens_all (follow_opened words setup address h asks) all in
     let two = opens_all (follow_opened words setup address k asks) others in
     let sheet : one.sheet ≡ two.sheet =
     same_sheet one.read two.read (ap (option_map grid_text) (sym grid)) in
-    let alike = law state_manner (concert_with (start_of setup two.sheet) tt) h.brought.polls
-    k.brought.polls tells
+    let alike = law state_manner (concert_with (start_of setup two.sheet) tt) h.brought.opening
+    k.brought.opening h.brought.hearings k.brought.hearings tells
     (rw sheet at (left_by _ (sym one.ending ∙ all))) (left_by _ (sym two.ending ∙ others)) same in
     record {
       commands = (rw sheet at one.commands) ∙ (alike.0 ∙ sym two.commands);
@@ -251,7 +262,7 @@ leads_kept : IsLawful rule → FollowerIsLed → (words others : List (List ℕ)
     → AskFor others other (Lead lead)
     → option_map grid_text h.grid ≡ option_map grid_text k.grid → setup.seed ≡ other.seed
     → other.limit < setup.limit → DoesAll (outline words h) → DoesAll (outline others k)
-    → heard_in h.brought.polls ≡ midi_bytes_in (outline others k).course.acts
+    → heard_in h.brought.hearings ≡ midi_bytes_in (outline others k).course.acts
     → RunIsLed (outline others k) (outline words h)
 leads_kept lawful law words others setup other address lead h k asks leads grid seed room all most
     hears =
@@ -261,7 +272,7 @@ leads_kept lawful law words others setup other address lead h k asks leads grid 
     let is_sheet : IsSheet two.sheet = grid_sheet k.grid two.sheet two.read in
     let led = law lawful state_manner state_manner tells tells two.sheet other.seed other.limit
     setup.limit lead.bpm two.at kept_at_start kept_at_start tally_at_start tally_at_start
-    k.brought.polls h.brought.polls is_sheet room (left_by _ (sym two.ending ∙ most))
+    k.brought.opening h.brought.opening k.brought.hearings h.brought.hearings is_sheet room (left_by _ (sym two.ending ∙ most))
     (rw (sheet, seed) at (left_by _ (sym one.ending ∙ all))) (hears ∙ two.bytes) in
     record {
       commands = (rw (sheet, seed) at one.commands)

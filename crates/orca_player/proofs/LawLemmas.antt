@@ -1,7 +1,7 @@
 -- The laws of performances, on the outlines of runs.
 use Rattle.std.proofs.Common.{◌≡◌, ◌≢◌, ℕ, Bool, List, length, [], ◌++◌, refl, sym, ◌∙◌, ap, arith, ◌∷◌}
 use Rattle.std.specs.Prelude.{Option, Some, None, unwrap_or, Result, Ok, Err, IfSome}
-use Rattle.std.specs.Option.{option_map, option_map_or}
+use Rattle.std.specs.Option.{is_some, option_map, option_map_or}
 use Rattle.std.proofs.lemmas.List.{length-replicate}
 use Rattle.orca_base.specs.declared.command.Command.{Command}
 use Rattle.orca_base.specs.Grids.{Sheet}
@@ -13,6 +13,7 @@ use Rattle.orca_course.specs.Courses.{mapped}
 use Rattle.orca_course.specs.Performers.{Part, performance}
 use Rattle.orca_course.specs.Standings.{Standing}
 use Rattle.orca_course.specs.declared.ending.Ending.{Ending}
+use Rattle.orca_course.proofs.CuttingLemmas.{ByItems, items_alike}
 use Rattle.orca_cues.specs.Scripts.{any_script_of, cues_asking, seed_in}
 use Rattle.orca_cues.proofs.Printed.{script2_read}
 use Rattle.orca_edit.specs.Obeying.{MachineState, machine_closed}
@@ -22,8 +23,8 @@ use Rattle.orca_jam.specs.Crews.{crew_alone, crew_at_start, new_player}
 use Rattle.orca_live.specs.Items.{items_of}
 use Rattle.orca_live.specs.Laws.{ItemsDecide, ReplaysScript as LiveReplays, replayed}
 use Rattle.orca_live.specs.Performing.{live_part}
+use Rattle.orca_live.proofs.WorthLemmas.{all_counted, worth_of}
 use Rattle.orca_reports.specs.Manners.{replay_manner, state_manner}
-use Rattle.orca_trace.specs.Calls.{Poll}
 use Rattle.orca_script.specs.Runs.{lines_behind, printed_script}
 use Rattle.orca_words.specs.Requests.{Follow, Lead, Perform, Performance, Play, Replay, Request, Setup, Work, request_of}
 use Rattle.orca_course.specs.Acts.Act.{Attach, Listen, Load, Stand}
@@ -31,13 +32,12 @@ use Rattle.orca_live.specs.Paintings.{ShowsPerformance, ShowsPictures}
 use Rattle.orca_term.specs.Picture.{IsScreen}
 use Rattle.orca_term.specs.declared.cell.ScreenSize.{ScreenSize}
 use Rattle.orca_player.specs.Doing.{ReadsBack}
-use Rattle.orca_player.specs.Laws.{CutsAlike, EndAlike, HasEnd, HearAlike, IsReplayed, ReplaysAlike, hands_heard}
+use Rattle.orca_player.specs.Laws.{CutsAlike, EndAlike, HasEnd, IsReplayed, ReplaysAlike, hands_heard}
 use Rattle.orca_player.specs.Outlines.{Brought, Heard, Outline, Script, preceded, asked_outline, attach_acts, concert, follow_outline, follow_start, grid_outline, lead_outline, lead_start, listening, live_outline, live_start, loading, made_outline, migrated, opening, outline, performed, performed_outline, reading_outline, request_outline, script_kept, script_outline, standing_at, start_of, status_of_ending, stopped_run, work_outline}
 use Rattle.orca_player.specs.declared.live.TheConstants.{ALONE}
 use Rattle.orca_player.specs.declared.status.Status.TheVariants.{FileFault}
 use Rattle.orca_player.proofs.CameLemmas.{attaches-calls, calls_bare, AreCalls}
-use Rattle.orca_player.proofs.ClockLemmas.{follow_by_items, lead_by_items, lead_core}
-use Rattle.orca_player.proofs.ItemLemmas.{ByItems, items_alike}
+use Rattle.orca_player.proofs.ClockLemmas.{Anywhere, follow_by_items, lead_by_items, lead_core}
 use Rattle.orca_concert.proofs.EndingLemmas.{concert-standing}
 
 -- each beginning of acts shows its pictures
@@ -83,15 +83,15 @@ abbrev Sized : Outline → Type 0
 Sized o = IfSome o.screen IsScreen
 
 shown_listened : ShowsPerformance → (address : List ℕ) (hands : ℕ) (setup : Setup)
-    (play : Performance) (at : ℕ) (polls : List Poll) (s : Standing)
-    → Sized (live_outline setup play polls s at)
-    → Shown (preceded (Listen address hands (Some at) ∷ []) (live_outline setup play polls s at))
+    (play : Performance) (at : ℕ) (b : Brought) (s : Standing)
+    → Sized (live_outline setup play b s at)
+    → Shown (preceded (Listen address hands (Some at) ∷ []) (live_outline setup play b s at))
 unfolding live_outline opening mapped
-shown_listened law address hands setup play at polls s sized =
+shown_listened law address hands setup play at b s sized =
     show_calls (Listen address hands (Some at) ∷ []) _ tt
     (show_before (Stand s) (λ bs prints. prints) (λ bs shows. shows) (record {
       show = λ begun left is printable.
-          law (live_start setup play at s) polls begun left sized refl is printable;
+          law (live_start setup play at s) b.opening b.hearings begun left sized refl is printable;
     }))
 
 shown_grid : ShowsPerformance → (setup : Setup) (work : Work) (b : Brought)
@@ -146,16 +146,13 @@ ended_by end is none = grind arith
 
 -- ---- any cutting
 
-abbrev brings : Option (List ℕ) → Option ℕ → List Poll → Brought
-brings script start polls = record { script = script; start = start; polls = polls }
-
-abbrev hears : Option (List ℕ) → Option (List ℕ) → Option ℕ → List Poll → Heard
-hears grid script start polls = record { grid = grid; brought = brings script start polls }
+abbrev brings : Option (List ℕ) → Option ℕ → Brought → Brought
+brings script start b = record b { script = script; start = start }
 
 -- the same items of so many hands, cut into answers in two ways
-abbrev AreCut : ℕ → Option ℕ → Option ℕ → List Poll → List Poll → Type 0
-AreCut hands a b polls others =
-    HearAlike hands (hears None None a polls) (hears None None b others)
+abbrev AreCut : ℕ → Option ℕ → Option ℕ → Brought → Brought → Type 0
+AreCut hands start other b c =
+    (is_some other ≡ is_some start) × (items_of hands b.hearings ≡ items_of hands c.hearings)
 
 -- if both have an end
 abbrev Alike : Outline → Outline → Type 0
@@ -164,18 +161,21 @@ Alike o p = HasEnd o → HasEnd p → EndAlike o p
 alike_none : (o : Outline) → Alike o o
 alike_none o = λ ends others. record { commands = refl; standing = refl; given = refl }
 
--- performances that go by items
-alike_by : {S : Type 0} (p : Part S) (core : S → S) (by : ByItems p core) (address : List ℕ)
-    (hands a b : ℕ) (s : Standing) (polls others : List Poll) (u v : S)
-    → items_of ALONE polls ≡ items_of ALONE others → core u ≡ core v
-    → Alike (preceded (Listen address hands (Some a) ∷ []) (performed_outline p s u polls))
-    (preceded (Listen address hands (Some b) ∷ []) (performed_outline p s v others))
+-- performances that go by items, from states that are alike in what matters
+alike_by : {S : Type 0} (p : Part S) (core : S → S)
+    → ByItems (worth_of ALONE) p core Anywhere p.stance.standing
+    → (address : List ℕ) (at other : ℕ) (s : Standing) (b c : Brought) (u v : S)
+    → items_of ALONE b.hearings ≡ items_of ALONE c.hearings → core u ≡ core v
+    → Alike (preceded (Listen address ALONE (Some at) ∷ []) (performed_outline p s u b))
+    (preceded (Listen address ALONE (Some other) ∷ []) (performed_outline p s v c))
 unfolding opening mapped
-alike_by p core by address hands a b s polls others u v items same = λ ends other_ends.
-    let alike = items_alike p core by polls others u v items same
-    (ended_by (performance p u polls).ending ends)
-    (ended_by (performance p v others).ending other_ends) in
-    record { commands = alike.commands; standing = alike.standing; given = refl }
+alike_by p core by address at other s b c u v items same = λ ends other_ends.
+    let alike = items_alike (worth_of ALONE) p core Anywhere p.stance.standing by u v b.opening
+    c.opening b.hearings c.hearings tt tt
+    (all_counted ALONE b.hearings ∙ (items ∙ sym (all_counted ALONE c.hearings))) same
+    (ended_by (performance p u b.opening b.hearings).ending ends)
+    (ended_by (performance p v c.opening c.hearings).ending other_ends) in
+    record { commands = alike.commands; standing = alike.seen; given = refl }
 
 -- the crew of a performance has the hands that it listens for
 crew_counted : (full : Bool) (limit : ℕ) (hands : Option ℕ)
@@ -185,19 +185,19 @@ crew_counted full limit None = refl
 crew_counted full limit (Some hands) = length-replicate hands (new_player full)
 
 work_alike : ItemsDecide → (setup : Setup) (work : Work) (sheet : Sheet) (script : Option (List ℕ))
-    (a b : Option ℕ) (polls others : List Poll)
-    → AreCut (hands_heard (Some (Perform setup work))) a b polls others
-    → Alike (work_outline setup work sheet (brings script a polls))
-    (work_outline setup work sheet (brings script b others))
+    (start other : Option ℕ) (b c : Brought)
+    → AreCut (hands_heard (Some (Perform setup work))) start other b c
+    → Alike (work_outline setup work sheet (brings script start b))
+    (work_outline setup work sheet (brings script other c))
 unfolding work_outline listening live_outline follow_outline lead_outline opening mapped
-work_alike cutting setup (Play play) sheet script None None polls others cut = alike_none _
-work_alike cutting setup (Play play) sheet script (Some a) (Some b) polls others cut =
+work_alike cutting setup (Play play) sheet script None None b c cut = alike_none _
+work_alike cutting setup (Play play) sheet script (Some start) (Some other) b c cut =
     λ ends other_ends.
     let s = start_of setup sheet in
-    let u = live_start setup play a s in
-    let v = live_start setup play b s in
-    let alike = cutting polls others u v
-    (rw (crew_counted play.full setup.limit play.hands) cut.items)
+    let u = live_start setup play start s in
+    let v = live_start setup play other s in
+    let alike = cutting b.opening c.opening b.hearings c.hearings u v
+    (rw (crew_counted play.full setup.limit play.hands) cut.1)
     (record {
       setting = refl;
       standing = refl;
@@ -205,55 +205,56 @@ work_alike cutting setup (Play play) sheet script (Some a) (Some b) polls others
       screen = refl;
       given = refl;
     })
-    (ended_by (performance live_part u polls).ending ends)
-    (ended_by (performance live_part v others).ending other_ends) in
+    (ended_by (performance live_part u b.opening b.hearings).ending ends)
+    (ended_by (performance live_part v c.opening c.hearings).ending other_ends) in
     record {
       commands = alike.commands;
       standing = ap Some alike.standing;
       given = ap (script_kept play.script setup.seed) alike.given;
     }
-work_alike cutting setup (Play play) sheet script _ _ polls others cut = absurd cc
-work_alike cutting setup (Follow address) sheet script None None polls others cut = alike_none _
-work_alike cutting setup (Follow address) sheet script (Some a) (Some b) polls others cut =
+work_alike cutting setup (Play play) sheet script _ _ b c cut = absurd cc
+work_alike cutting setup (Follow address) sheet script None None b c cut = alike_none _
+work_alike cutting setup (Follow address) sheet script (Some start) (Some other) b c cut =
     let s = start_of setup sheet in
-    let u = follow_start s in
-    alike_by (follow_part state_manner) (λ s. s) follow_by_items address ALONE a b s polls others u u
-    cut.items refl
-work_alike cutting setup (Follow address) sheet script _ _ polls others cut = absurd cc
-work_alike cutting setup (Lead lead) sheet script None None polls others cut = alike_none _
-work_alike cutting setup (Lead lead) sheet script (Some a) (Some b) polls others cut =
+    alike_by (follow_part state_manner) (λ s. s) follow_by_items address start other s b c
+    (follow_start s) (follow_start s) cut.1 refl
+work_alike cutting setup (Follow address) sheet script _ _ b c cut = absurd cc
+work_alike cutting setup (Lead lead) sheet script None None b c cut = alike_none _
+work_alike cutting setup (Lead lead) sheet script (Some start) (Some other) b c cut =
     let s = start_of setup sheet in
-    alike_by (lead_part state_manner) lead_core lead_by_items lead.address ALONE a b s polls others
-    (lead_start lead.bpm a s) (lead_start lead.bpm b s) cut.items refl
-work_alike cutting setup (Lead lead) sheet script _ _ polls others cut = absurd cc
-work_alike cutting setup _ sheet script a b polls others cut = alike_none _
+    alike_by (lead_part state_manner) lead_core lead_by_items lead.address start other s b c
+    (lead_start lead.bpm start s) (lead_start lead.bpm other s) cut.1 refl
+work_alike cutting setup (Lead lead) sheet script _ _ b c cut = absurd cc
+work_alike cutting setup _ sheet script start other b c cut = alike_none _
 
 commands_attached : (setup : Setup) (more : List Act)
     → commands_in (attach_acts setup ++ more) ≡ commands_in more
 commands_attached setup = (calls_bare (attach_acts setup) (attaches-calls setup)).commands
 
 asked_alike : ItemsDecide → (request : Option Request) (grid script : Option (List ℕ))
-    (a b : Option ℕ) (polls others : List Poll) → AreCut (hands_heard request) a b polls others
-    → Alike (asked_outline request (hears grid script a polls))
-    (asked_outline request (hears grid script b others))
+    (start other : Option ℕ) (b c : Brought) → AreCut (hands_heard request) start other b c
+    → Alike (asked_outline request (record { grid = grid; brought = brings script start b }))
+    (asked_outline request (record { grid = grid; brought = brings script other c }))
 unfolding request_outline performed loading grid_outline
-asked_alike cutting (Some (Perform setup work)) grid script a b polls others cut =
+asked_alike cutting (Some (Perform setup work)) grid script start other b c cut =
     λ ends other_ends.
-    let same : (sheet : Sheet) → Alike (work_outline setup work sheet (brings script a polls))
-    (work_outline setup work sheet (brings script b others)) =
-    λ sheet. work_alike cutting setup work sheet script a b polls others cut in
+    let same : (sheet : Sheet) → Alike (work_outline setup work sheet (brings script start b))
+    (work_outline setup work sheet (brings script other c)) =
+    λ sheet. work_alike cutting setup work sheet script start other b c cut in
     grind (arith, same, commands_attached)
-asked_alike cutting request grid script a b polls others cut = alike_none _
+asked_alike cutting request grid script start other b c cut = alike_none _
 
 pub cuts_alike : (cutting : ItemsDecide) (words : List (List ℕ)) → CutsAlike words
 unfolding outline
 cuts_alike cutting words h k same ends others =
-    let cut : AreCut (hands_heard (request_of words)) h.brought.start k.brought.start
-    h.brought.polls k.brought.polls = assumption same in
     let alike : Alike (outline words h)
-    (outline words (hears k.grid k.brought.script k.brought.start k.brought.polls)) =
+    (outline words (record {
+      grid = k.grid;
+      brought = brings k.brought.script k.brought.start k.brought;
+    })) =
     rw (same.grid, same.script)
-    (asked_alike cutting (request_of words) h.grid h.brought.script _ _ _ _ cut) in
+    (asked_alike cutting (request_of words) h.grid h.brought.script h.brought.start k.brought.start
+    h.brought k.brought (same.starts, same.items)) in
     alike ends others
 
 -- ---- the script
@@ -291,19 +292,19 @@ kept_script : (name : Option (List ℕ)) (seed : ℕ) (given : Option (List Comm
     × (option_map {U = List Command} (λ name. []) name ≡ Some [])
 kept_script name seed given script is = grind arith
 
-live_again : LiveReplays → (setup : Setup) (play : Performance) (at : ℕ)
-    (polls : List Poll) (sheet : Sheet) (script : Script)
-    → let o = live_outline setup play polls (start_of setup sheet) at in
+live_again : LiveReplays → (setup : Setup) (play : Performance) (at : ℕ) (b : Brought)
+    (sheet : Sheet) (script : Script)
+    → let o = live_outline setup play b (start_of setup sheet) at in
     HasEnd o → o.given ≡ Some script → ReadsBack script → IsPlayed setup script o
     (λ other. script_outline sheet other.seed other.limit
     (printed_script script.seed script.commands))
 unfolding live_outline opening mapped
-live_again replays setup play at polls sheet script = λ ends given reads.
+live_again replays setup play at b sheet script = λ ends given reads.
     let s = start_of setup sheet in
     let u = live_start setup play at s in
-    let c = performance live_part u polls in
+    let c = performance live_part u b.opening b.hearings in
     let kept = kept_script play.script setup.seed c.state.given script given in
-    let again = replays polls u kept.2 (ended_by c.ending ends) in
+    let again = replays b.opening b.hearings u kept.2 (ended_by c.ending ends) in
     let all : script.commands ≡ commands_in c.acts =
     ap (λ (list : Option (List Command)). unwrap_or list []) (sym kept.1 ∙ again.given) in
     let read = script2_read script.seed script.commands reads in
@@ -317,18 +318,18 @@ live_again replays setup play at polls sheet script = λ ends given reads.
     }
 
 grid_again : LiveReplays → (setup : Setup) (play : Performance) (old : Option (List ℕ))
-    (start : Option ℕ) (polls : List Poll) (read : Result Sheet GridRefusal) (script : Script)
-    (name : List ℕ) → HasEnd (grid_outline setup (Play play) (brings old start polls) read)
-    → (grid_outline setup (Play play) (brings old start polls) read).given ≡ Some script
+    (start : Option ℕ) (b : Brought) (read : Result Sheet GridRefusal) (script : Script)
+    (name : List ℕ) → HasEnd (grid_outline setup (Play play) (brings old start b) read)
+    → (grid_outline setup (Play play) (brings old start b) read).given ≡ Some script
     → ReadsBack script
-    → IsPlayed setup script (grid_outline setup (Play play) (brings old start polls) read)
+    → IsPlayed setup script (grid_outline setup (Play play) (brings old start b) read)
     (λ other. grid_outline other (Replay name)
-    (brings (Some (printed_script script.seed script.commands)) start polls) read)
+    (brings (Some (printed_script script.seed script.commands)) start b) read)
 unfolding grid_outline work_outline listening loading
-grid_again replays setup play old start polls (Err refusal) script name ends given reads = absurd cc
-grid_again replays setup play old None polls (Ok sheet) script name ends given reads = absurd cc
-grid_again replays setup play old (Some at) polls (Ok sheet) script name ends given reads =
-    assumption (live_again replays setup play at polls sheet script ends given reads)
+grid_again replays setup play old start b (Err refusal) script name ends given reads = absurd cc
+grid_again replays setup play old None b (Ok sheet) script name ends given reads = absurd cc
+grid_again replays setup play old (Some at) b (Ok sheet) script name ends given reads =
+    assumption (live_again replays setup play at (brings old (Some at) b) sheet script ends given reads)
 
 request_again : LiveReplays → (setup : Setup) (play : Performance) (grid : Option (List ℕ))
     (b : Brought) (script : Script)
@@ -339,8 +340,8 @@ unfolding request_outline performed loading
 request_again replays setup play None b script = λ ends given reads. absurd cc
 request_again replays setup play (Some text) b script = λ ends given reads.
     let played = λ (name : List ℕ).
-    grid_again replays setup play b.script b.start b.polls (grid_text text) script name ends given
-    reads in
+    grid_again replays setup play b.script b.start b (grid_text text) script name ends given reads
+    in
     record {
       seed = (played []).seed;
       all = (played []).all ∙ sym (commands_attached setup _);

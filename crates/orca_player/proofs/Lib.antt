@@ -1,8 +1,8 @@
 pub mod CameLemmas
 pub mod ClockLemmas
 pub mod CourseLemmas
+pub mod DueLemmas
 pub mod EndLemmas
-pub mod ItemLemmas
 pub mod KeepingLemmas
 pub mod HandLemmas
 pub mod LawLemmas

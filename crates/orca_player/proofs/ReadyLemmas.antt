@@ -1,6 +1,6 @@
 -- How a run can end: without a refusal if all is ready, and for faulty words alone as such.
-use Rattle.std.proofs.Common.{◌≡◌, ◌≢◌, ℕ, ◌*◌, ◌<◌, ◌≤◌, arith, zero-add, false, List, ◌∷◌, ◌++◌, sym, ◌∙◌, ap, subst, refl}
-use Rattle.std.specs.Prelude.{Option, Some, IfSome, IsSomeAnd, None}
+use Rattle.std.proofs.Common.{◌≡◌, ◌≢◌, ℕ, ◌*◌, ◌<◌, ◌≤◌, arith, zero-add, false, List, sym, ◌∙◌, ap, subst, refl}
+use Rattle.std.specs.Prelude.{Option, Some, IfSome, IsSomeAnd}
 use Rattle.std.specs.Option.{option_map}
 use Rattle.std.proofs.lemmas.Bool.Decides.{nat_tests}
 use Rattle.orca_base.specs.declared.limits.TheConstants.{MAX_POLLS}
@@ -16,21 +16,18 @@ use Rattle.orca_course.specs.Standings.{Standing}
 use Rattle.orca_course.specs.declared.ending.Ending.{Ending}
 use Rattle.orca_course.specs.declared.ending.Stop.{Stop}
 use Rattle.orca_course.specs.declared.ending.Stop.TheVariants.{Left}
-use Rattle.orca_course.proofs.PerformanceLemmas.{EndsIn, performance_in, performance_well}
+use Rattle.orca_course.specs.declared.item.Item.TheVariants as item
+use Rattle.orca_course.proofs.PerformanceLemmas.{EndsIn, TakesIn, performance_in, performance_well, turns_before}
 use Rattle.orca_cues.specs.Cues.{frames_cue}
 use Rattle.orca_cues.specs.declared.source.Cue.{Cue}
 use Rattle.orca_live.specs.Items.{turns_of}
-use Rattle.orca_live.specs.Laws.{so_far}
 use Rattle.orca_live.specs.Performing.{live_part}
 use Rattle.orca_live.specs.States.{LiveState}
-use Rattle.orca_live.proofs.LeavingLemmas.{AtFull, heard_ends, live_ends_well}
+use Rattle.orca_live.proofs.LeavingLemmas.{take_ends}
 use Rattle.orca_reports.specs.Manners.{events_manner, make_manner, replay_manner, run_manner, state_manner}
 use Rattle.orca_reports.specs.Songs.{recording_at_start, smf_manner}
 use Rattle.orca_reports.specs.Waves.{frame_samples, wav_manner, wave_at_start}
 use Rattle.orca_reports.proofs.EndingLemmas.{AnyRoom, IsLong, Never, WaveRoom, smf-closes, smf-frames, wav-frames}
-use Rattle.orca_rig.specs.declared.inbox.Answer.{Answer}
-use Rattle.orca_rig.specs.declared.inbox.Answer.TheVariants as answer
-use Rattle.orca_trace.specs.Calls.{Poll}
 use Rattle.orca_wav.specs.declared.limits.TheConstants.{MAX_WAVE_BYTES, SAMPLE_BYTES}
 use Rattle.orca_words.specs.Requests.{Events, Follow, Lead, Performance, Play, Recording, Replay, Request, Run, Setup, Smf, Wav, Work, request_of}
 use Rattle.orca_player.specs.Outlines.{Brought, Heard, Outline, concert, follow_outline, follow_start, grid_outline, is_too_long, lead_outline, lead_start, listening, live_outline, live_start, loading, made_outline, migrated, opening, outline, performed, performed_outline, reading_outline, request_outline, script_outline, standing_at, start_of, status_of_end, status_of_ending, wave_bytes, work_outline}
@@ -38,6 +35,7 @@ use Rattle.orca_player.specs.Ready.{CanDo, HasFrameRoom, IsReady, NeverFull}
 use Rattle.orca_player.specs.declared.status.Status.{Status}
 use Rattle.orca_player.specs.declared.status.Status.TheVariants.{Done, FileFault, InboxFault, Usage}
 use Rattle.orca_player.proofs.ClockLemmas.{follow_ends_well, lead_ends_well}
+use Rattle.orca_player.proofs.DueLemmas.{due_at}
 
 -- a run that would end without a refusal: all is done, or something outside fails
 abbrev pub IsFine : Status → Type 0
@@ -91,49 +89,48 @@ make_fine cues s =
 -- ---- performances
 
 -- a performance that ends by leaving, or since the inbox failed
-performed_fine : {S : Type 0} (p : Part S) (s : Standing) (u : S) (polls : List Poll)
-    → EndsIn (λ stop. stop ≡ Left) (performance p u polls).ending
-    → FineOutline (performed_outline p s u polls)
+performed_fine : {S : Type 0} (p : Part S) (s : Standing) (u : S) (b : Brought)
+    → EndsIn (λ stop. stop ≡ Left) (performance p u b.opening b.hearings).ending
+    → FineOutline (performed_outline p s u b)
 unfolding opening mapped
-performed_fine p s u polls ends = grind (arith, ends)
+performed_fine p s u b ends = grind (arith, ends)
 
--- where the history has room for the frame of an answer, none is full there
-room_at : (Q : Type 0) (s : LiveState) (before more : List Poll) (poll : Poll) (a : Answer)
-    → HasFrameRoom s (before ++ poll ∷ more) → (so_far s before).ending ≡ None → poll.answer ≡ a
-    → AtFull Q a (so_far s before).state
-room_at Q s before more poll (answer.Due at) room goes is = λ full.
-    let off = room before poll more at refl is goes in absurd (grind (arith, off, full))
-room_at Q s before more poll _ room goes is = tt
+-- the items of a performance end it by leaving alone, if there is room where a moment is due
+live_takes : (s : LiveState) (b : Brought) → turns_of b.hearings < MAX_POLLS → HasFrameRoom s b
+    → TakesIn (λ stop. stop ≡ Left) live_part s (turns_before b.opening b.hearings)
+live_takes s b few room before (item.Due at) more is goes =
+    let due = due_at live_part s b.opening b.hearings before more at few is goes in
+    let off = room due.front due.h due.others at due.splits due.is due.goes in
+    take_ends (λ stop. stop ≡ Left) refl (item.Due at) _
+    (λ full. absurd (grind (arith, off, full, due.state)))
+live_takes s b few room before i more is goes = take_ends (λ stop. stop ≡ Left) refl i _ tt
 
-live_fine : (setup : Setup) (play : Performance) (at : ℕ) (polls : List Poll) (s : Standing)
-    → turns_of polls < MAX_POLLS → HasFrameRoom (live_start setup play at s) polls
-    → FineOutline (live_outline setup play polls s at)
+live_fine : (setup : Setup) (play : Performance) (at : ℕ) (b : Brought) (s : Standing)
+    → turns_of b.hearings < MAX_POLLS → HasFrameRoom (live_start setup play at s) b
+    → FineOutline (live_outline setup play b s at)
 unfolding live_outline
-live_fine setup play at polls s few room =
+live_fine setup play at b s few room =
     let u = live_start setup play at s in
-    performed_fine live_part s u polls
-    (performance_in (λ stop. stop ≡ Left) refl live_part u polls (live_ends_well.opens u)
-    (λ before poll more is goes.
-    heard_ends (λ stop. stop ≡ Left) refl poll.answer poll.bytes _
-    (room_at _ u before more poll poll.answer (subst (HasFrameRoom u) is room) goes refl)) few)
+    performed_fine live_part s u b
+    (performance_in (λ stop. stop ≡ Left) refl live_part u b.opening b.hearings
+    (live_takes u b few room) few)
 
-follow_fine : (polls : List Poll) (s : Standing) → turns_of polls < MAX_POLLS
-    → NeverFull (follow_part state_manner) (follow_start s) polls
-    → FineOutline (follow_outline polls s)
+follow_fine : (b : Brought) (s : Standing) → turns_of b.hearings < MAX_POLLS
+    → NeverFull (follow_part state_manner) (follow_start s) b → FineOutline (follow_outline b s)
 unfolding follow_outline
-follow_fine polls s few room =
-    performed_fine (follow_part state_manner) s (follow_start s) polls
-    (performance_well _ (follow_ends_well state_manner (λ line answer messages r. tt)) _ polls few
-    room)
+follow_fine b s few room =
+    performed_fine (follow_part state_manner) s (follow_start s) b
+    (performance_well _ (follow_ends_well state_manner (λ line answer messages r. tt)) _ b.opening
+    b.hearings few room)
 
-lead_fine : (bpm : ℕ) (polls : List Poll) (s : Standing) (at : ℕ) → turns_of polls < MAX_POLLS
-    → NeverFull (lead_part state_manner) (lead_start bpm at s) polls
-    → FineOutline (lead_outline bpm polls s at)
+lead_fine : (bpm : ℕ) (b : Brought) (s : Standing) (at : ℕ) → turns_of b.hearings < MAX_POLLS
+    → NeverFull (lead_part state_manner) (lead_start bpm at s) b
+    → FineOutline (lead_outline bpm b s at)
 unfolding lead_outline
-lead_fine bpm polls s at few room =
-    performed_fine (lead_part state_manner) s (lead_start bpm at s) polls
-    (performance_well _ (lead_ends_well state_manner (λ line answer messages r. tt)) _ polls few
-    room)
+lead_fine bpm b s at few room =
+    performed_fine (lead_part state_manner) s (lead_start bpm at s) b
+    (performance_well _ (lead_ends_well state_manner (λ line answer messages r. tt)) _ b.opening
+    b.hearings few room)
 
 -- ---- requests
 

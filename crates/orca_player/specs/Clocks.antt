@@ -6,6 +6,7 @@ use Rattle.std.specs.Option.{option_map}
 use Rattle.orca_base.specs.declared.command.Command.TheVariants as command
 use Rattle.orca_clock.specs.Laws.{AreDone, commands_of_beat, heard_in, midi_bytes_in}
 use Rattle.orca_course.specs.Acts.{commands_in, polls_in}
+use Rattle.orca_course.specs.Performers.{polls_of}
 use Rattle.orca_edit.specs.Obeying.{MachineState, piece_of}
 use Rattle.orca_edit.specs.Pieces.{Piece}
 use Rattle.orca_grid.specs.GridText.{grid_text}
@@ -51,14 +52,15 @@ pub record KeepsTime (words : List (List ℕ)) : Type 0 where
   pub beats : (setup : Setup) (address : List ℕ) (h : Heard)
       → AskFor words setup (Follow address)
       → let o = outline words h in
-      polls_in o.course.acts ≡ h.brought.polls
+      polls_in o.course.acts ≡ polls_of h.brought.hearings
       → AreDone HistoryFull o.course.ending (commands_in o.course.acts)
-      (flat_map commands_of_beat (beats_from stopped (heard_in h.brought.polls)))
+      (flat_map commands_of_beat (beats_from stopped (heard_in h.brought.hearings)))
   -- whatever other bytes stand between those of the clock
   pub bytes : (setup : Setup) (address : List ℕ) (h k : Heard)
       → AskFor words setup (Follow address)
       → k.grid ≡ h.grid → DoesAll (outline words h) → DoesAll (outline words k)
-      → filter is_clock (heard_in h.brought.polls) ≡ filter is_clock (heard_in k.brought.polls)
+      → filter is_clock (heard_in h.brought.hearings)
+      ≡ filter is_clock (heard_in k.brought.hearings)
       → RunsAlike (outline words h) (outline words k)
   -- one that hears exactly the MIDI bytes of a run that leads, and then the end, on the same grid with
   -- the same seed, and with room for one entry more
@@ -66,5 +68,5 @@ pub record KeepsTime (words : List (List ℕ)) : Type 0 where
       (h k : Heard) → AskFor words setup (Follow address) → AskFor others other (Lead lead)
       → option_map grid_text h.grid ≡ option_map grid_text k.grid → setup.seed ≡ other.seed
       → other.limit < setup.limit → DoesAll (outline words h) → DoesAll (outline others k)
-      → heard_in h.brought.polls ≡ midi_bytes_in (outline others k).course.acts
+      → heard_in h.brought.hearings ≡ midi_bytes_in (outline others k).course.acts
       → RunIsLed (outline others k) (outline words h)

@@ -5,6 +5,7 @@ use Rattle.orca_base.specs.Ports.{Sent}
 use Rattle.orca_concert.specs.Concerts.{handed_of}
 use Rattle.orca_course.specs.Acts.{Act, given, gives, open_after, polls_in, stand_after}
 use Rattle.orca_course.specs.Following.{Follows, keys_after_acts, sounding}
+use Rattle.orca_course.specs.Performers.{polls_of}
 use Rattle.orca_course.specs.Worlds.{Made, Sated, Unsent, World, has_failed, is_lost, is_unstored}
 use Rattle.orca_grid.specs.declared.refusal.GridRefusal.{GridRefusal}
 use Rattle.orca_grid.specs.declared.refusal.GridRefusal.TheVariants as refused
@@ -116,12 +117,12 @@ pub record Came (o : Outline) (x : World) (status : Status) (y : World) : Type 0
   pub came : CameSo o x status y
 
 -- an outline was done by what the outside brought: the polls that were answered are exactly those of
--- its acts, and no more than may be; the screen is one that a view may have; the script that was saved reads back; and the
--- file that was saved is that of what was recorded
+-- its acts, and no more than may be; the screen is one that a view may have; the script that was
+-- saved reads back; and the file that was saved is that of what was recorded
 pub record CameBy (o : Brought → Outline) (x : World) (status : Status) (y : World) : Type 0 where
   pub brought : Brought
-  pub polls : polls_in (o brought).course.acts ≡ brought.polls
-  pub few : length brought.polls ≤ MAX_POLLS
+  pub polls : polls_in (o brought).course.acts ≡ polls_of brought.hearings
+  pub few : length brought.hearings ≤ MAX_POLLS
   pub came : Came (o brought) x status y
   pub sized : IfSome (o brought).screen IsScreen
   pub reads : status ≢ Memory → IfSome (o brought).given ReadsBack

@@ -26,5 +26,5 @@ pub record SharesFairly (words : List (List ℕ)) : Type 0 where
   pub alone : (others : List (List ℕ)) (setup : Setup) (play : Performance) (h : Heard)
       → AskFor words setup (Play play) → play.hands ≡ Some 1
       → AskFor others setup (Play (record play { hands = None }))
-      → HasNoRedo (items_of ALONE h.brought.polls)
+      → HasNoRedo (items_of ALONE h.brought.hearings)
       → outline words h ≡ outline others h

@@ -26,7 +26,7 @@ pub record HearAlike (hands : ℕ) (h k : Heard) : Type 0 where
   pub grid : k.grid ≡ h.grid
   pub script : k.brought.script ≡ h.brought.script
   pub starts : is_some k.brought.start ≡ is_some h.brought.start
-  pub items : items_of hands h.brought.polls ≡ items_of hands k.brought.polls
+  pub items : items_of hands h.brought.hearings ≡ items_of hands k.brought.hearings
 
 -- the same commands, the same session at last, and the same script that is saved
 pub record EndAlike (o p : Outline) : Type 0 where

@@ -15,12 +15,13 @@ use Rattle.orca_course.specs.Acts.{Act}
 use Rattle.orca_course.specs.Acts.Act.{Attach, Listen, Load, Save, Stand}
 use Rattle.orca_course.specs.Courses.{Course, course, ended, joined, mapped}
 use Rattle.orca_course.specs.Doing.{Stance}
-use Rattle.orca_course.specs.Performers.{Part, performance}
+use Rattle.orca_course.specs.Performers.{Heard as Hearing, Part, performance}
 use Rattle.orca_course.specs.Standings.{Standing, standing, tally_at_start}
 use Rattle.orca_course.specs.declared.ending.Ending.{Ending}
 use Rattle.orca_course.specs.declared.ending.Ending.TheVariants.{Stopped, Lost, Spent}
 use Rattle.orca_course.specs.declared.ending.Stop.{Stop}
 use Rattle.orca_course.specs.declared.ending.Stop.TheVariants.{Left, Full, SongTooLong, WaveTooLong}
+use Rattle.orca_course.specs.declared.item.Came.{Came as Losses}
 use Rattle.orca_cues.specs.Cues.{frames_cue}
 use Rattle.orca_cues.specs.Made.{made_cues, made_sheet}
 use Rattle.orca_cues.specs.Scripts.{any_script_of, commands_of_cues, seed_in}
@@ -32,14 +33,13 @@ use Rattle.orca_grid.specs.GridText.{grid_text}
 use Rattle.orca_grid.specs.declared.refusal.GridRefusal.{GridRefusal}
 use Rattle.orca_live.specs.Performing.{live_part}
 use Rattle.orca_jam.specs.Crews.{CrewState, crew_alone, crew_at_start}
-use Rattle.orca_live.specs.Starting.{live_at_start}
+use Rattle.orca_live.specs.Starting.{live_at_start, nothing_failed}
 use Rattle.orca_live.specs.States.{LiveState, Setting}
 use Rattle.orca_reports.specs.Manners.{events_manner, make_manner, replay_manner, run_manner, state_manner}
 use Rattle.orca_reports.specs.SavedSongs.{song_of}
 use Rattle.orca_reports.specs.SavedWaves.{wave_of}
 use Rattle.orca_reports.specs.Songs.{recording_at_start, smf_manner}
 use Rattle.orca_reports.specs.Waves.{frame_samples, wav_manner, wave_at_start}
-use Rattle.orca_trace.specs.Calls.{Poll}
 use Rattle.orca_script.specs.Runs.{printed_script}
 use Rattle.orca_term.specs.declared.cell.ScreenSize.{ScreenSize}
 use Rattle.orca_wav.specs.declared.limits.TheConstants.{MAX_WAVE_BYTES, SAMPLE_BYTES}
@@ -50,16 +50,18 @@ use Rattle.orca_player.specs.declared.status.Status.{Status}
 use Rattle.orca_player.specs.declared.status.Status.TheVariants.{Done, Usage, GridRefused, FileFault, ScriptRefused, HistoryFull, InboxFault, TurnsSpent, SmfTooLong, WavTooLong}
 
 -- what the outside gives to the work on a grid: the text of the file of its script, unless its load
--- fails; the moment at which its inbox listens, unless that fails; and the polls of the inbox with
--- their answers
+-- fails; the moment at which its inbox listens, unless that fails; what the calls before a
+-- performance came to; and the polls of the inbox with their answers, each with what the calls had
+-- come to when all was done that it brought
 pub record Brought : Type 0 where
   pub script : Option (List ℕ)
   pub start : Option ℕ
-  pub polls : List Poll
+  pub opening : Losses
+  pub hearings : List Hearing
 
 -- nothing
 abbrev pub nothing : Brought
-nothing = record { script = None; start = None; polls = [] }
+nothing = record { script = None; start = None; opening = nothing_failed; hearings = [] }
 
 -- and to a run: the text of the file of its grid too, unless its load fails
 pub record Heard : Type 0 where
@@ -169,9 +171,9 @@ status_of_ending Lost = InboxFault
 status_of_ending Spent = TurnsSpent
 
 -- the session is opened, and a performance by any performer, which stands there in this state
-abbrev pub performed_outline : {S : Type 0} → Part S → Standing → S → List Poll → Outline
-performed_outline p s u polls =
-    opening p.stance (option_map status_of_ending) s (performance p u polls)
+abbrev pub performed_outline : {S : Type 0} → Part S → Standing → S → Brought → Outline
+performed_outline p s u b =
+    opening p.stance (option_map status_of_ending) s (performance p u b.opening b.hearings)
 
 -- the inbox listens at an address for so many hands, and answers the moment at which a performance
 -- starts; one that can't listen ends the run
@@ -221,41 +223,42 @@ script_kept (Some name) seed given =
     option_map (λ commands. record { seed = seed; commands = commands }) given
 
 -- the session is opened, and a player plays from there
-abbrev pub played : LiveState → List Poll → Outline
-played s polls = record (performed_outline live_part s.standing s polls) {
+abbrev pub played : LiveState → Brought → Outline
+played s b = record (performed_outline live_part s.standing s b) {
   screen = Some s.screen;
-  given = script_kept s.setting.script s.setting.seed (performance live_part s polls).state.given;
+  given = script_kept s.setting.script s.setting.seed
+      (performance live_part s b.opening b.hearings).state.given;
 }
 
 -- the same from its start
-unfoldable pub live_outline : Setup → Performance → List Poll → Standing → ℕ → Outline
-live_outline setup play polls s at = played (live_start setup play at s) polls
+unfoldable pub live_outline : Setup → Performance → Brought → Standing → ℕ → Outline
+live_outline setup play b s at = played (live_start setup play at s) b
 
 -- ---- a clock
 
 -- the session is opened, and it plays by a clock that comes in
-abbrev pub followed : {R : Type 0} → Manner R → Followed R → List Poll → Outline
-followed m s polls = performed_outline (follow_part m) s.concert.standing s polls
+abbrev pub followed : {R : Type 0} → Manner R → Followed R → Brought → Outline
+followed m s b = performed_outline (follow_part m) s.concert.standing s b
 
 -- no clock has started it so far
 abbrev pub follow_start : Standing → Followed (Unit {0})
 follow_start s = follow_at_start (concert_with s tt)
 
 -- the same from its start
-unfoldable pub follow_outline : List Poll → Standing → Outline
-follow_outline polls s = followed state_manner (follow_start s) polls
+unfoldable pub follow_outline : Brought → Standing → Outline
+follow_outline b s = followed state_manner (follow_start s) b
 
 -- the session is opened, and it plays and gives a clock
-abbrev pub led : {R : Type 0} → Manner R → Led R → List Poll → Outline
-led m s polls = performed_outline (lead_part m) s.concert.standing s polls
+abbrev pub led : {R : Type 0} → Manner R → Led R → Brought → Outline
+led m s b = performed_outline (lead_part m) s.concert.standing s b
 
 -- with so many beats a minute, from a moment on
 abbrev pub lead_start : ℕ → ℕ → Standing → Led (Unit {0})
 lead_start bpm at s = lead_at_start bpm at (concert_with s tt)
 
 -- the same from its start
-unfoldable pub lead_outline : ℕ → List Poll → Standing → ℕ → Outline
-lead_outline bpm polls s at = led state_manner (lead_start bpm at s) polls
+unfoldable pub lead_outline : ℕ → Brought → Standing → ℕ → Outline
+lead_outline bpm b s at = led state_manner (lead_start bpm at s) b
 
 -- ---- a grid
 
@@ -282,12 +285,11 @@ work_outline setup (Replay name) sheet b =
     loading name b.script (script_outline sheet setup.seed setup.limit)
 work_outline setup (Play play) sheet b =
     listening play.address (hands_of play) b.start
-    (live_outline setup play b.polls (start_of setup sheet))
+    (live_outline setup play b (start_of setup sheet))
 work_outline setup (Follow address) sheet b =
-    listening address ALONE b.start (λ at. follow_outline b.polls (start_of setup sheet))
+    listening address ALONE b.start (λ at. follow_outline b (start_of setup sheet))
 work_outline setup (Lead lead) sheet b =
-    listening lead.address ALONE b.start
-    (lead_outline lead.bpm b.polls (start_of setup sheet))
+    listening lead.address ALONE b.start (lead_outline lead.bpm b (start_of setup sheet))
 
 -- a text that is no grid ends the run
 unfoldable pub grid_outline : Setup → Work → Brought → Result Sheet GridRefusal → Outline

@@ -1,21 +1,21 @@
 -- What was done of a performance by any performer.
-use Rattle.std.specs.Prelude.{◌≡◌, ◌≢◌, ◌≤◌, Bool, List, [], length, Option, Some, Result, Err}
+use Rattle.std.specs.Prelude.{◌≡◌, ◌≢◌, ◌≤◌, Bool, [], length, Option, Some, Result, Err}
 use Rattle.std.specs.Option.{option_map}
 use Rattle.orca_base.specs.declared.limits.TheConstants.{MAX_POLLS}
 use Rattle.orca_concert.specs.Concerts.{handed_of}
 use Rattle.orca_course.specs.Acts.{gives, polls_in}
 use Rattle.orca_course.specs.Following.{Accompanies, sounding}
-use Rattle.orca_course.specs.Performers.{Part, performance}
+use Rattle.orca_course.specs.Performers.{Part, performance, polls_of}
 use Rattle.orca_course.specs.Standings.{Standing, standing_closed}
 use Rattle.orca_course.specs.Worlds.{Calls, World}
 use Rattle.orca_course.specs.declared.ending.Ending.{Ending}
+use Rattle.orca_course.specs.declared.item.Item.TheVariants as item
 use Rattle.orca_course.specs.declared.refused.NoMemory.{NoMemory}
 use Rattle.orca_course.specs.declared.refused.NoMemory.TheVariants.{Elsewhere}
 use Rattle.orca_notes.specs.Sound.{ends}
 use Rattle.orca_send.specs.Sending.{sends_of}
-use Rattle.orca_trace.specs.Calls.{Poll}
 use Rattle.orca_player.specs.Doing.{Came}
-use Rattle.orca_player.specs.Outlines.{performed_outline}
+use Rattle.orca_player.specs.Outlines.{Brought, performed_outline}
 use Rattle.orca_player.specs.declared.status.Status.{Status}
 use Rattle.orca_player.specs.declared.status.Status.TheVariants.{Memory}
 
@@ -31,16 +31,18 @@ pub record IsSilenced {T : Type 0} (hands : Bool) (at : Option Standing)
 -- where a performer has finished, no note sounds
 abbrev pub EndsSilent : {S : Type 0} → Part S → Type 0
 EndsSilent {S} p =
-    (ending : Ending) (s : S) → sounding (p.stance.standing (p.finishes ending s).state) ≡ []
+    (ending : Ending) (s : S)
+    → sounding (p.stance.standing (p.takes (item.Ended ending) s).state) ≡ []
 
 -- a performance was done, from a state in which a session stands that was opened: the polls that were
 -- answered are exactly those of its acts, and no more than may be; and it led to this state, unless
 -- memory was refused
 pub record Performed {S : Type 0} (p : Part S) (s : S) (x : World) (status : Status) (t : S)
     (y : World) : Type 0 where
-  pub polls : List Poll
-  pub few : length polls ≤ MAX_POLLS
-  pub all : polls_in (performance p s polls).acts ≡ polls
-  pub state : status ≢ Memory → (performance p s polls).state ≡ t
+  pub brought : Brought
+  pub few : length brought.hearings ≤ MAX_POLLS
+  pub all : polls_in (performance p s brought.opening brought.hearings).acts
+      ≡ polls_of brought.hearings
+  pub state : status ≢ Memory → (performance p s brought.opening brought.hearings).state ≡ t
   pub came : (u : Standing) → p.stance.standing s ≡ Some u
-      → Came (performed_outline p u s polls) x status y
+      → Came (performed_outline p u s brought) x status y

@@ -6,7 +6,7 @@ use Rattle.orca_base.specs.Grids.{Sheet}
 use Rattle.orca_clock.specs.Followers.{follow_part}
 use Rattle.orca_clock.specs.Leaders.{lead_part}
 use Rattle.orca_concert.specs.Concerts.{concert_with, concert_course}
-use Rattle.orca_course.specs.Performers.{Part, performance}
+use Rattle.orca_course.specs.Performers.{Heard as Hearing, Part, performance}
 use Rattle.orca_course.specs.declared.ending.Ending.TheVariants.{Stopped}
 use Rattle.orca_course.specs.declared.ending.Stop.TheVariants.{Full, SongTooLong}
 use Rattle.orca_cues.specs.Cues.{frames_cue}
@@ -19,7 +19,6 @@ use Rattle.orca_live.specs.Performing.{answered_at, lull_course}
 use Rattle.orca_live.specs.States.{LiveState, is_full}
 use Rattle.orca_reports.specs.Manners.{state_manner}
 use Rattle.orca_reports.specs.Songs.{recording_at_start, smf_manner}
-use Rattle.orca_trace.specs.Calls.{Poll}
 use Rattle.orca_rig.specs.declared.inbox.Answer.TheVariants as answer
 use Rattle.orca_words.specs.Requests.{Events, Follow, Lead, Make, Migrate, Perform, Play, Recording, Replay, Request, Run, Setup, Smf, Wav, Work}
 use Rattle.orca_player.specs.Outlines.{Brought, Heard, follow_start, is_too_long, lead_start, live_start, start_of}
@@ -33,16 +32,16 @@ abbrev pub before_frame : ℕ → LiveState → LiveState
 before_frame at s = (lull_course (answered_at at s)).state
 
 -- wherever a frame is due, the history has room for it
-abbrev pub HasFrameRoom : LiveState → List Poll → Type 0
-HasFrameRoom s polls =
-    (before : List Poll) (poll : Poll) (others : List Poll) (at : ℕ)
-    → polls ≡ before ++ poll ∷ others → poll.answer ≡ answer.Due at
-    → (so_far s before).ending ≡ None
-    → is_full (before_frame at (so_far s before).state) ≡ false
+abbrev pub HasFrameRoom : LiveState → Brought → Type 0
+HasFrameRoom s b =
+    (before : List Hearing) (h : Hearing) (others : List Hearing) (at : ℕ)
+    → b.hearings ≡ before ++ h ∷ others → h.poll.answer ≡ answer.Due at
+    → (so_far s b.opening before).ending ≡ None
+    → is_full (before_frame at (so_far s b.opening before).state) ≡ false
 
 -- no frame of a clock is due where the history is full, which would end the performance
-abbrev pub NeverFull : {S : Type 0} → Part S → S → List Poll → Type 0
-NeverFull p s polls = (performance p s polls).ending ≢ Some (Stopped Full)
+abbrev pub NeverFull : {S : Type 0} → Part S → S → Brought → Type 0
+NeverFull p s b = (performance p s b.opening b.hearings).ending ≢ Some (Stopped Full)
 
 -- a song of these frames does not end the run since it is too long
 abbrev pub SongFits : Setup → Recording → Sheet → Type 0
@@ -60,16 +59,16 @@ CanDo setup (Smf song) sheet b = (song.frames ≤ setup.limit) × SongFits setup
 CanDo setup (Wav wave) sheet b = wave.frames ≤ setup.limit
 CanDo setup (Replay name) sheet b = IfSome b.script IsScript
 CanDo setup (Play play) sheet b =
-    (turns_of b.polls < MAX_POLLS)
-    × IfSome b.start (λ at. HasFrameRoom (live_start setup play at (start_of setup sheet)) b.polls)
+    (turns_of b.hearings < MAX_POLLS)
+    × IfSome b.start (λ at. HasFrameRoom (live_start setup play at (start_of setup sheet)) b)
 CanDo setup (Follow address) sheet b =
-    (turns_of b.polls < MAX_POLLS)
+    (turns_of b.hearings < MAX_POLLS)
     × IfSome b.start (λ at. NeverFull (follow_part state_manner)
-    (follow_start (start_of setup sheet)) b.polls)
+    (follow_start (start_of setup sheet)) b)
 CanDo setup (Lead lead) sheet b =
-    (turns_of b.polls < MAX_POLLS)
+    (turns_of b.hearings < MAX_POLLS)
     × IfSome b.start (λ at. NeverFull (lead_part state_manner)
-    (lead_start lead.bpm at (start_of setup sheet)) b.polls)
+    (lead_start lead.bpm at (start_of setup sheet)) b)
 
 -- all that a request asks for can be done, unless something outside fails
 abbrev pub IsReady : Request → Heard → Type 0

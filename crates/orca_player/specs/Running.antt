@@ -4,6 +4,7 @@ use Rattle.orca_base.specs.declared.limits.TheConstants.{MAX_POLLS}
 use Rattle.orca_base.specs.Ports.{Sent}
 use Rattle.orca_course.specs.Acts.{Act, ArePrintable, given, gives, polls_in}
 use Rattle.orca_course.specs.Following.{Follows, midi_sent}
+use Rattle.orca_course.specs.Performers.{polls_of}
 use Rattle.orca_course.specs.Worlds.{IsSound, Made, Sated, World, has_failed, is_lost, is_unstored}
 use Rattle.orca_grid.specs.declared.refusal.GridRefusal.TheVariants as refused
 use Rattle.orca_live.specs.Paintings.{ShowsPictures}
@@ -76,8 +77,8 @@ pub record Ran (words : List (List ℕ)) (x : World) (status : Status) (y : Worl
   pub last : IsLast status said over y
   pub line : Made (gives said) 0 over y
   -- the polls that were heard are exactly those among the acts, and no more than may be
-  pub polls : polls_in (outline words heard).course.acts ≡ heard.brought.polls
-  pub few : length heard.brought.polls ≤ MAX_POLLS
+  pub polls : polls_in (outline words heard).course.acts ≡ polls_of heard.brought.hearings
+  pub few : length heard.brought.hearings ≤ MAX_POLLS
   -- wherever a picture is painted in a beginning that was done, each terminal of the size that was
   -- told last, whatever it showed, that was sent all bytes since then shows it; a beginning that was
   -- done has pictures of printable cells alone

@@ -24,7 +24,7 @@ use orca_rig::House;
 pub(crate) fn follow<H: House>(opening: &Opening, address: &str, desk: &mut Desk<H>) -> Status
     requires fresh { has_listened desk.old ≡ false }
     requires open { has_ended desk.old ≡ false }
-    ensures { CameBy (λ b. listening address.now ALONE b.start (λ at. follow_outline b.polls
+    ensures { CameBy (λ b. listening address.now ALONE b.start (λ at. follow_outline b
         (standing_at opening.now.grid opening.now.seed opening.now.limit)))
         desk.old result desk.new }
 {
@@ -38,7 +38,7 @@ pub(crate) fn follow<H: House>(opening: &Opening, address: &str, desk: &mut Desk
 /// Opens a session, which no clock has started so far, and plays the grid by the clock.
 fn start<H: House>(opening: &Opening, desk: &mut Desk<H>) -> Status
     requires open { has_ended desk.old ≡ false }
-    ensures { CameBy (λ b. follow_outline b.polls
+    ensures { CameBy (λ b. follow_outline b
         (standing_at opening.now.grid opening.now.seed opening.now.limit))
         desk.old result desk.new }
 {
@@ -61,7 +61,7 @@ fn follow_all<M: Machine, R: Report, H: House>(
         notes_of s.concert.standing ≡ [] }
     requires residue { follow_residue M.Machine.own follow.old ≡ 0 }
     ensures { CameBy (λ b. followed R.manner
-        (follow_state M.Machine.own R.Report.own follow.old) b.polls)
+        (follow_state M.Machine.own R.Report.own follow.old) b)
         desk.old result desk.new }
 {
     perform_all(follow, desk)

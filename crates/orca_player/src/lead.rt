@@ -28,7 +28,7 @@ pub(crate) fn lead<H: House>(opening: &Opening, leading: &Leading<'_>, desk: &mu
     requires fresh { has_listened desk.old ≡ false }
     requires open { has_ended desk.old ≡ false }
     ensures { CameBy (λ b. listening leading.now.address.now ALONE b.start
-        (lead_outline leading.now.bpm b.polls
+        (lead_outline leading.now.bpm b
         (standing_at opening.now.grid opening.now.seed opening.now.limit)))
         desk.old result desk.new }
 {
@@ -43,7 +43,7 @@ fn start<H: House>(opening: &Opening, bpm: u16, at: u64, desk: &mut Desk<H>) -> 
     requires open { has_ended desk.old ≡ false }
     requires some { 1 ≤ bpm }
     requires few { bpm ≤ MAX_BPM }
-    ensures { CameBy (λ b. lead_outline bpm b.polls
+    ensures { CameBy (λ b. lead_outline bpm b
         (standing_at opening.now.grid opening.now.seed opening.now.limit) at)
         desk.old result desk.new }
 {
@@ -62,7 +62,7 @@ fn lead_all<M: Machine, R: Report, H: House>(lead: &mut Lead<M, R>, desk: &mut D
     requires begins { let s = lead_state M.Machine.own R.Report.own lead.old in
         notes_of s.concert.standing ≡ [] }
     requires residue { lead_residue M.Machine.own lead.old ≡ 0 }
-    ensures { CameBy (λ b. led R.manner (lead_state M.Machine.own R.Report.own lead.old) b.polls)
+    ensures { CameBy (λ b. led R.manner (lead_state M.Machine.own R.Report.own lead.old) b)
         desk.old result desk.new }
 {
     perform_all(lead, desk)

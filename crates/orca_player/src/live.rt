@@ -42,7 +42,7 @@ pub(crate) fn play<H: House>(
     requires same { (opening.now.seed ≡ setup.now.seed) × (opening.now.limit ≡ setup.now.limit) }
     ensures { CameBy (λ b. listening performance.now.address.now
         (hands_of (performance_in performance.now)) b.start
-        (live_outline (setup_in setup.now) (performance_in performance.now) b.polls
+        (live_outline (setup_in setup.now) (performance_in performance.now) b
         (standing_at opening.now.grid opening.now.seed opening.now.limit)))
         desk.old result desk.new }
 {
@@ -64,7 +64,7 @@ fn start<H: House>(
     requires open { has_ended desk.old ≡ false }
     requires same { (opening.now.seed ≡ setup.now.seed) × (opening.now.limit ≡ setup.now.limit) }
     ensures { CameBy (λ b. live_outline (setup_in setup.now) (performance_in performance.now)
-        b.polls (standing_at opening.now.grid opening.now.seed opening.now.limit) at)
+        b (standing_at opening.now.grid opening.now.seed opening.now.limit) at)
         desk.old result desk.new }
 {
     match open_live(opening, setup, performance, at) {
@@ -79,7 +79,7 @@ fn play_all<M: Machine, H: House>(live: &mut Live<'_, M>, desk: &mut Desk<H>) ->
     requires begins { notes_of (live_state M.Machine.own live.old).standing ≡ [] }
     requires residue { residue_of M.Machine.own live.old ≡ 0 }
     requires sized { IsScreen (live_state M.Machine.own live.old).screen }
-    ensures { CameBy (λ b. played (live_state M.Machine.own live.old) b.polls)
+    ensures { CameBy (λ b. played (live_state M.Machine.own live.old) b)
         desk.old result desk.new }
 {
     let seed = live.seed();

@@ -1,6 +1,6 @@
-use Rattle.std.proofs.Common.{[], refl}
-use Rattle.std.specs.Prelude.{None, Some}
-use Rattle.orca_player.specs.Outlines.{loading}
+use Rattle.std.proofs.Common.{refl}
+use Rattle.std.specs.Prelude.{Some}
+use Rattle.orca_player.specs.Outlines.{loading, nothing}
 use Rattle.orca_player.proofs.CameLemmas.{by_after, by_unloaded, by_unread, loaded}
 use Rattle.orca_player.proofs.TopLemmas.{kind_moved}
 use Rattle.orca_player.proofs.migration.migrate.Goals as goal
@@ -8,7 +8,7 @@ use Rattle.orca_player.proofs.migration.migrate.Goals as goal
 pub returns-in-Ok-Some : goal.returns-in-Ok-Some
 unfolding loading
 returns-in-Ok-Some g c =
-    by_after (record { script = Some _; start = None; polls = [] })
+    by_after (record nothing { script = Some _ })
     (loaded (rw c.in-Ok-Some.field-0-is at c.in-Ok-Some.ensures.called))
     (kind_moved _ _ (rw c.as_slice.ensures.value at c.check_and_save.ensures.reads))
     (rw c.as_slice.ensures.value at c.check_and_save.ensures.came) refl

@@ -1,6 +1,6 @@
-use Rattle.std.proofs.Common.{[], refl}
-use Rattle.std.specs.Prelude.{None, Some}
-use Rattle.orca_player.specs.Outlines.{loading, script_outline}
+use Rattle.std.proofs.Common.{refl}
+use Rattle.std.specs.Prelude.{Some}
+use Rattle.orca_player.specs.Outlines.{loading, nothing, script_outline}
 use Rattle.orca_player.proofs.CameLemmas.{by_after, by_unloaded, by_unread, loaded}
 use Rattle.orca_player.proofs.TopLemmas.{kind_read}
 use Rattle.orca_player.proofs.replay.replay.Goals as goal
@@ -10,7 +10,7 @@ unfolding loading script_outline
 returns-in-Ok-Some g c =
     let seed = rw (c.script_seed.ensures, c.as_slice-script.ensures.value) at c.unwrap_or-opening.ensures in
     let came = rw (c.as_slice-script.ensures.value, seed) at c.follow.ensures in
-    by_after (record { script = Some _; start = None; polls = [] })
+    by_after (record nothing { script = Some _ })
     (loaded (rw c.in-Ok-Some.field-0-is at c.in-Ok-Some.ensures.called))
     (kind_read _ _) came refl
 
