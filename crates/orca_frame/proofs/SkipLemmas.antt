@@ -1,12 +1,12 @@
 -- Over idle places the scan changes nothing, and over those that hold no operator none is counted.
-use Rattle.std.proofs.Common.{◌≡◌, ℕ, zero, suc, ◌+◌, ◌*◌, ◌<◌, ◌≤◌, Bool, true, false, ◌&&◌, arith, ap, sym, ◌∙◌, subst, refl, List, [], add-zero}
-use Rattle.std.specs.Prelude.{if◌then◌else◌, IfSome, IsTrue, None, Option, Some, ◌-◌, nat_lt, unwrap_or}
+use Rattle.std.proofs.Common.{◌≡◌, ℕ, zero, suc, ◌+◌, ◌*◌, ◌<◌, ◌≤◌, Bool, true, false, ◌&&◌, ◌||◌, arith, ap, sym, ◌∙◌, subst, refl, List, [], add-zero}
+use Rattle.std.specs.Prelude.{if◌then◌else◌, IfSome, IsTrue, None, Option, Some, ◌-◌, nat_lt, not, unwrap_or}
 use Rattle.std.proofs.lemmas.List.{append-nil}
 use Rattle.std.proofs.lemmas.Bool.{lt-ltb, ltb-true}
 use Rattle.orca_base.specs.declared.limits.TheConstants.{MAX_VISIT_STEPS}
 use Rattle.orca_base.specs.declared.now.Now.{Now}
 use Rattle.orca_base.specs.declared.place.Place.{Place}
-use Rattle.orca_base.specs.Glyphs.{is_operator}
+use Rattle.orca_base.specs.Glyphs.{is_operator, needs_bang}
 use Rattle.orca_base.specs.Grids.{Size, Sheet, IsInside, cells_of, place_of}
 use Rattle.orca_base.proofs.PlaceFacts.{place_of-index_of, index_of-below}
 use Rattle.orca_op.specs.Deeds.{Deed, after_all}
@@ -14,7 +14,7 @@ use Rattle.orca_op.specs.Slate.{Slate, slate_after_all, list_after_all, residue}
 use Rattle.orca_op.specs.Live.{is_live, HasNoLive}
 use Rattle.orca_op.specs.Rules.{rule}
 use Rattle.orca_op.specs.Scan.{Rules, visit_deeds, is_idle, state_after_visit, state_after_places, scan_deeds, busy, busy_of}
-use Rattle.orca_op.specs.State.{State, sheet_of, state_glyph}
+use Rattle.orca_op.specs.State.{State, has_bang, marks_at, sheet_of, state_glyph}
 use Rattle.orca_frame.specs.Frames.{slate_after_places, most_steps}
 use Rattle.orca_frame.specs.Skips.{AreIdle}
 use Rattle.orca_frame.proofs.FrameLemmas.{dims_slate, inside_slate, visit_slate, busy_more}
@@ -222,6 +222,26 @@ visited d e g now row from x finds high done =
       busy = rw next (busy_more d n g now at finds.reached here
           ∙ (ap (λ m. busy_of n g now + m) one ∙ ap (λ m. m + 1) finds.busy));
     }
+
+still_idle : (none lock sleep waits : Bool) → (lock || sleep) ≡ true
+    → (none || lock || sleep || waits) ≡ true
+still_idle true lock sleep waits still = refl
+still_idle false true sleep waits still = refl
+still_idle false false sleep waits still = rw still refl
+
+-- an operator that is locked or asleep is visited where it is passed over
+pub still_visited : (d : Slate) (g : Sheet) (now : Now) (row from x : ℕ) → Finds d g now row from x
+    → row < g.dims.h
+    → (let marks = marks_at d.scan (record { y = row; x = x }) in (marks.lock || marks.sleep) ≡ true)
+    → Visited d g now row from x
+unfolding is_idle
+still_visited d g now row from x finds high still =
+    let at : Place = record { y = row; x = x } in
+    let glyph = state_glyph d.scan at in
+    let idle = still_idle (not (is_operator glyph)) (marks_at d.scan at).lock (marks_at d.scan at).sleep
+    (needs_bang glyph && not (has_bang d.scan at)) still in
+    let none : visit_deeds rule d.scan at now ≡ [] = no_deeds rule d.scan at now idle in
+    visited d d g now row from x finds high (rw none refl)
 
 -- the columns up to the next operator, or to the end of the row, are passed over
 pub next_reached : (d : Slate) (g : Sheet) (now : Now) (row from : ℕ) (found : Option ℕ)

@@ -1,13 +1,16 @@
-ghost use Rattle.std.specs.Prelude.{◌≡◌, ◌+◌, ◌*◌, ◌<◌, ◌≤◌};
+ghost use Rattle.std.specs.Prelude.{◌≡◌, ◌+◌, ◌*◌, ◌<◌, ◌≤◌, ◌||◌, false, if◌then◌else◌, IfSome, IsTrue, unwrap_or};
+ghost use Rattle.std.specs.Option.{is_some};
 ghost use Rattle.orca_base.specs.declared.limits.TheConstants.{MAX_VISIT_STEPS};
 ghost use Rattle.orca_base.specs.Grids.{IsSheet};
+ghost use Rattle.orca_op.specs.Live.{is_live};
 ghost use Rattle.orca_op.specs.Rules.{rule};
 ghost use Rattle.orca_op.specs.Scan.{busy_of};
+ghost use Rattle.orca_op.specs.State.{marks_at};
 ghost use Rattle.orca_frame.specs.Covering.{IsCovering};
 ghost use Rattle.orca_frame.specs.Frames.{IsFramed, slate_after_places, most_steps};
 
 use crate::laws::table_laws;
-use crate::visit::visit_operator;
+use crate::visit::{is_still, visit_awake};
 use orca_base::{Now, Place, Steps};
 use orca_op::{Cursor, Walk};
 use std::sync::ledger::Ledger;
@@ -53,8 +56,53 @@ fn walk_row<B: Walk, L: Ledger>(board: &mut B, row: u16, now: Now, steps: &mut S
     let mut cursor = Cursor::start();
     // The first look stands before the loop, so that a row without operators costs little more.
     let mut found = cursor.first(board, row, steps);
-    while let Some(x) = found {
-        visit_operator(board, Place { y: row, x }, now, steps);
+    while let Some(x) = pass_still(&mut cursor, found, board, row, now, steps) {
+        visit_awake(board, Place { y: row, x }, now, steps);
         found = cursor.next(board, row, steps);
     }
+}
+
+/// From an operator on that the walk of a row has found, the first that is neither locked nor asleep;
+/// none where there is no more. A visit of those before it does nothing, so they are passed over, in a
+/// loop in which nothing is written: most operators of a crowded row are locked. `now` is that of the
+/// visits.
+#[inline(always)]
+fn pass_still<B: Walk, L: Ledger>(
+    cursor: &mut Cursor,
+    from: Option<u16>,
+    board: &B,
+    row: u16,
+    now: Now,
+    steps: &mut Steps<L>,
+) -> Option<u16>
+    requires row { row < (B.slate board.now).began.dims.h }
+    requires reached { let g = (B.slate board.now).began in
+        B.slate board.now ≡ slate_after_places (row * g.dims.w + unwrap_or from g.dims.w) g now }
+    requires live { IfSome from (λ x. IsTrue (is_live (B.slate board.now).scan row x)) }
+    requires behind { IfSome from (λ x. cursor.old ≡ x + 1) }
+    ensures reached { let g = (B.slate board.now).began in
+        B.slate board.now ≡ slate_after_places (row * g.dims.w + unwrap_or result g.dims.w) g now }
+    ensures live { IfSome result (λ x. IsTrue (is_live (B.slate board.now).scan row x)) }
+    ensures behind { IfSome result (λ x. cursor.new ≡ x + 1) }
+    ensures awake { IfSome result (λ x.
+        let marks = marks_at (B.slate board.now).scan (record { y = row; x = x }) in
+        (marks.lock || marks.sleep) ≡ false) }
+    ensures later { let g = (B.slate board.now).began in
+        unwrap_or from g.dims.w ≤ unwrap_or result g.dims.w }
+    // One look more than those at the operators that were passed over, where one was found.
+    ensures most { let g = (B.slate board.now).began in
+        let start = row * g.dims.w in
+        steps.new + MAX_VISIT_STEPS * busy_of (start + unwrap_or from g.dims.w) g now
+        ≤ steps.old + (if is_some result then 1 else 0)
+        + MAX_VISIT_STEPS * busy_of (start + unwrap_or result g.dims.w) g now }
+    ensures least { steps.old ≤ steps.new }
+{
+    let mut found = from;
+    while let Some(x) = found {
+        if !is_still(board, Place { y: row, x }, steps) {
+            return Some(x);
+        }
+        found = cursor.next(board, row, steps);
+    }
+    None
 }

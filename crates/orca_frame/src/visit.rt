@@ -1,4 +1,4 @@
-ghost use Rattle.std.specs.Prelude.{◌≡◌, ◌+◌, ◌*◌, ◌<◌, ◌≤◌, ◌||◌, ◌&&◌, not, IsTrue, if◌then◌else◌};
+ghost use Rattle.std.specs.Prelude.{◌≡◌, ◌+◌, ◌*◌, ◌<◌, ◌≤◌, ◌||◌, ◌&&◌, not, false, IsTrue, if◌then◌else◌};
 ghost use Rattle.orca_base.specs.declared.limits.TheConstants.{MAX_STEPS};
 ghost use Rattle.orca_base.specs.Glyphs.{is_operator, needs_bang};
 ghost use Rattle.orca_base.specs.Grids.{IsInside};
@@ -31,9 +31,9 @@ pub(crate) fn visit<B: Bench, L: Ledger>(bench: &mut B, at: Place, now: Now, ste
     act(bench, at, glyph, now, steps);
 }
 
-/// Visits a place that holds an operator. Most such places are locked, so the marks are looked at first.
+/// Visits a place that holds an operator which is neither locked nor asleep.
 #[tactic(auto, using(orca_op::proofs::HereFacts::peek_here), unfolding(orca_op::specs::Scan::visit_deeds, orca_op::specs::Scan::is_idle))]
-pub(crate) fn visit_operator<B: Bench, L: Ledger>(
+pub(crate) fn visit_awake<B: Bench, L: Ledger>(
     bench: &mut B,
     at: Place,
     now: Now,
@@ -41,15 +41,14 @@ pub(crate) fn visit_operator<B: Bench, L: Ledger>(
 )
     requires inside { IsInside (B.slate bench.old).scan.dims at }
     requires operator { IsTrue (is_operator (state_glyph (B.slate bench.old).scan at)) }
+    requires awake { let marks = marks_at (B.slate bench.old).scan at in
+        (marks.lock || marks.sleep) ≡ false }
     requires room { HasEventRoom (B.slate bench.old) }
     ensures deeds { B.slate bench.new
         ≡ slate_after_all (B.slate bench.old) (visit_deeds rule (B.slate bench.old).scan at now) }
-    ensures steps { steps.new ≤ steps.old + looks + MAX_STEPS }
+    ensures steps { steps.new + 1 ≤ steps.old + looks + MAX_STEPS }
     ensures later { steps.old ≤ steps.new }
 {
-    if is_still(bench, at, steps) {
-        return;
-    }
     let glyph = bench.peek_here(at, steps);
     if glyph.needs_bang() && !bench.beside_bang(at, steps) {
         return;
@@ -59,7 +58,7 @@ pub(crate) fn visit_operator<B: Bench, L: Ledger>(
 
 /// Whether a place is locked or asleep.
 #[tactic(auto, using(orca_op::proofs::HereFacts::marked_here))]
-fn is_still<B: Bench, L: Ledger>(bench: &B, at: Place, steps: &mut Steps<L>) -> bool
+pub(crate) fn is_still<B: Bench, L: Ledger>(bench: &B, at: Place, steps: &mut Steps<L>) -> bool
     requires { IsInside (B.slate bench.now).scan.dims at }
     ensures still { result ≡ ((marks_at (B.slate bench.now).scan at).lock
         || (marks_at (B.slate bench.now).scan at).sleep) }

@@ -7,8 +7,8 @@ use Rattle.orca_frame.specs.Frames.{slate_after_places}
 use Rattle.orca_frame.proofs.sparse.walk_row.Given as goal
 
 -- the columns before the next operator were visited or passed over, and the cursor stands after it
-abbrev pub invariant-loop-found : goal.invariant-loop-found
-invariant-loop-found g l =
+abbrev pub invariant-loop-x : goal.invariant-loop-x
+invariant-loop-x g l =
     let slate = g.B.Bench.slate l.board in
     let sheet = (g.B.Bench.slate l.fn.board).began in
     let start = l.row * sheet.dims.w in
@@ -21,7 +21,7 @@ invariant-loop-found g l =
       least : l.fn.steps + 1 ≤ l.steps;
     }
 
-abbrev pub decreases-loop-found : goal.decreases-loop-found
-decreases-loop-found g l =
+abbrev pub decreases-loop-x : goal.decreases-loop-x
+decreases-loop-x g l =
     let sheet = (g.B.Bench.slate l.fn.board).began in
     sheet.dims.w - unwrap_or l.found sheet.dims.w
