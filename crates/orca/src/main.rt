@@ -56,6 +56,7 @@ fn start<R, L: Ledger>(rt: &R, blank: Blank, streams: io::Result<()>) -> Status
 where
     R: AllocGlobal + Clock + Env + rt::Files + Net<Stream = TcpStream> + Print + Eprint,
     R::File: AsRawFd + IntoRawFd,
+    R::Listener: AsRawFd,
     requires name { blank.name ≡ L.name }
     requires parts { blank.parts ≡ L.parts }
     requires some { 0 < blank.parts }

@@ -1,7 +1,7 @@
 -- What a name says to several hands, and to one.
 use Rattle.std.specs.Prelude.{◌≡◌, [], ◌∷◌, Some, None, true, false, codes, refl}
 use Rattle.std.specs.Path.{rsplit_once}
-use Rattle.orca_edge.specs.Names.{file_and_address, are_of_files}
+use Rattle.orca_edge.specs.Names.{names_file, names_terminal, file_and_address, are_of_files}
 
 pipe_and_address : file_and_address 2 (codes "./keys,localhost:7")
     ≡ Some (codes "./keys", codes "localhost:7")
@@ -36,3 +36,18 @@ first_has_the_file = refl
 all_have_connections : are_of_files 2 (codes "h:7") ≡ false ∷ false ∷ []
 unfolding rsplit_once
 all_have_connections = refl
+
+-- the terminal on a leash, for one hand and for the first of several
+dash_is_the_terminal : names_terminal (codes "-") ≡ true
+dash_is_the_terminal = refl
+
+dash_is_a_file : names_file (codes "-") ≡ true
+dash_is_a_file = refl
+
+dash_of_a_folder : names_terminal (codes "./-") ≡ false
+dash_of_a_folder = refl
+
+terminal_and_address : file_and_address 2 (codes "-,localhost:7")
+    ≡ Some (codes "-", codes "localhost:7")
+unfolding rsplit_once
+terminal_and_address = refl

@@ -1,8 +1,8 @@
 -- What the streams of an inbox gave, and what is answered of it.
-use Rattle.std.specs.Prelude.{◌≡◌, ◌≢◌, ℕ, ◌+◌, ◌<◌, ◌≤◌, ◌==◌, if◌then◌else◌, List, [], length, take, slice_index_or, Option, Result, Ok, Err, Bool, true, false}
+use Rattle.std.specs.Prelude.{◌≡◌, ◌≢◌, ℕ, ◌+◌, ◌<◌, ◌≤◌, ◌==◌, ◌⊎◌, if◌then◌else◌, List, [], length, take, slice_index_or, Option, Result, Ok, Err, Bool, true, false}
 use Rattle.std.specs.List.{list_any}
 use Rattle.std.specs.IoError.{error_kind}
-use Rattle.std.specs.Io.KnownBytes.{Consumes}
+use Rattle.std.specs.Io.KnownBytes.{Consumes, Keeps}
 use Rattle.std.specs.declared.io.Error.{Error}
 use Rattle.std.specs.declared.io.ErrorKind.TheVariants.{WouldBlock, Interrupted}
 use Rattle.orca_base.specs.declared.limits.TheConstants.{ARRIVAL_BYTES}
@@ -31,6 +31,13 @@ IsPieceOf (Err error) piece.Nothing = error_kind error ≡ WouldBlock
 IsPieceOf (Err error) piece.Interrupted = error_kind error ≡ Interrupted
 IsPieceOf (Err error) piece.Broken =
     (error_kind error ≢ WouldBlock) × (error_kind error ≢ Interrupted)
+
+-- bytes are of one of two streams, and the other has given none
+abbrev pub IsOfOne : List ℕ → Option (List ℕ) → Option (List ℕ) → Option (List ℕ)
+    → Option (List ℕ) → Type 0
+IsOfOne bytes one one_left other other_left =
+    (Consumes one one_left bytes × Keeps other other_left)
+    ⊎ (Keeps one one_left × Consumes other other_left bytes)
 
 -- at least one byte, and no more than an arrival holds
 abbrev pub IsPiece : Piece → Type 0

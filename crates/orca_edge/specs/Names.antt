@@ -13,6 +13,10 @@ use Rattle.orca_edge.specs.declared.fresh.TheConstants.{MAX_LINKS}
 abbrev pub names_file : List ℕ → Bool
 names_file name = list_any (λ byte. byte == 47) name || not (list_any (λ byte. byte == 58) name)
 
+-- the name of the terminal on a leash
+abbrev pub names_terminal : List ℕ → Bool
+names_terminal name = bytes_eq name (codes "-")
+
 -- to several hands a name can say both: the file of hand 0, a comma (44), and the address of the
 -- others; the comma is the last one of the name, and what is before it names a file
 abbrev pub file_and_address : ℕ → List ℕ → Option (List ℕ × List ℕ)
@@ -26,10 +30,20 @@ file_and_address hands name =
 abbrev pub is_file : {F : Type 0} → Source F → Bool
 is_file (source.Connection stream) = false
 is_file (source.File file) = true
+is_file (source.Held held) = true
 
 -- whether a hand is heard over a file
 abbrev pub is_of_file : {F : Type 0} → Hand (Source F) → Bool
 is_of_file hand = is_file hand.stream
+
+-- whether a hand is heard over the terminal on a leash
+abbrev pub is_held : {F : Type 0} → Source F → Bool
+is_held (source.Connection stream) = false
+is_held (source.File file) = false
+is_held (source.Held held) = true
+
+abbrev pub is_on_leash : {F : Type 0} → Hand (Source F) → Bool
+is_on_leash hand = is_held hand.stream
 
 -- which of so many hands are heard over a file, hand 0 first, where what the name says was opened:
 -- one that is the name of a file has opened for one hand

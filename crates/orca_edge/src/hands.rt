@@ -17,17 +17,29 @@ use orca_base::limits::{ARRIVAL_BYTES, MAX_HANDS};
 use orca_rig::Answer;
 use std::alloc::{AllocError, AllocFailed, Global};
 use std::io::{ErrorKind, Read};
-use std::os::fd::AsRawFd;
+use std::os::fd::RawFd;
 use std::rt::Clock;
 use std::time::Duration;
 use std::{io, thread};
 
+/// The number of no descriptor, about which the system tells nothing.
+pub(crate) const NONE: RawFd = -1;
+
+/// The most descriptors that the system is asked about: two for each hand.
+const MOST_ASKED: usize = 2 * MAX_HANDS as usize;
+
 /// What the system is asked about a hand: nothing about one that is not open.
 const NOT_ASKED: pollfd = pollfd {
-    fd: -1,
+    fd: NONE,
     events: POLLIN,
     revents: 0,
 };
+
+/// A stream whose bytes can be waited for.
+pub(crate) trait Wakes {
+    /// The descriptors that have something when the stream has: one, and perhaps another.
+    fn wakers(&self) -> (RawFd, RawFd);
+}
 
 /// The hands, hand 0 first.
 #[derive(Drop)]
@@ -264,7 +276,7 @@ impl<S: Read> Hands<S> {
     }
 }
 
-impl<S: Read + AsRawFd> Hands<S> {
+impl<S: Read + Wakes> Hands<S> {
     /// Waits for bytes or for the moment. Bytes go before the moment where the last answer was a
     /// moment.
     pub(crate) fn wait<C: Clock>(
@@ -324,11 +336,16 @@ impl<S: Read + AsRawFd> Hands<S> {
     }
 
     /// What the system is asked: to wait for bytes of the hands that are open.
-    fn asked(&self) -> [pollfd; MAX_HANDS as usize] {
-        let mut asked = [NOT_ASKED; MAX_HANDS as usize];
-        for (place, hand) in asked.iter_mut().zip(self.hands.iter()) {
+    fn asked(&self) -> [pollfd; MOST_ASKED] {
+        let mut asked = [NOT_ASKED; MOST_ASKED];
+        let (first, second) = asked.split_at_mut(usize::from(MAX_HANDS));
+        for ((one, other), hand) in first
+            .iter_mut()
+            .zip(second.iter_mut())
+            .zip(self.hands.iter())
+        {
             if hand.state.is_open() {
-                place.fd = hand.stream.as_raw_fd();
+                (one.fd, other.fd) = hand.stream.wakers();
             }
         }
         asked

@@ -1,14 +1,17 @@
-ghost use Rattle.std.specs.Prelude.{◌≡◌, ◌≢◌, ◌≤◌, ◌<◌, ◌+◌, ◌++◌, ◌∷◌, [], true, false, None, length, map, replicate, IfOk, OnOk, OnErr, IfSome, IsErrOf, IsSomeAnd};
+ghost use Rattle.std.specs.Prelude.{◌≡◌, ◌≢◌, ◌≤◌, ◌<◌, ◌+◌, ◌++◌, ◌∷◌, [], true, false, None, length, map, replicate, take, IfOk, OnOk, OnErr, IfSome, IsErrOf, IsSomeAnd};
+ghost use Rattle.std.specs.Io.{ReadsAtMost};
 ghost use Rattle.std.specs.Option.{option_map};
 ghost use Rattle.orca_rig.specs.Outside.{Rose, wants_after};
 ghost use Rattle.orca_rig.specs.Arrived.{moment_after, is_ending};
-ghost use Rattle.orca_edge.specs.Heard.{is_moment};
-ghost use Rattle.orca_edge.specs.Names.{names_file, file_and_address, are_of_files, is_of_file};
+ghost use Rattle.orca_edge.specs.Heard.{is_moment, IsOfOne};
+ghost use Rattle.orca_edge.specs.Names.{names_file, names_terminal, file_and_address, are_of_files, is_of_file, is_on_leash};
 ghost use Rattle.orca_base.specs.declared.limits.TheConstants.{MAX_HANDS};
 
-use crate::hands::Hands;
-use crate::moments::{Watch, microseconds};
-use crate::whole::{TRIES, status_of, unless_interrupted};
+use crate::hands::{Hands, NONE, Wakes};
+use crate::moments::{FOREVER, Watch, microseconds};
+use crate::whole::{TRIES, status_of, unless_interrupted, unless_silent};
+use libc::net::{POLLIN, poll};
+use libc::types::pollfd;
 use orca_base::limits::{ARRIVAL_BYTES, MAX_HANDS};
 use orca_rig::{Answer, Inbox, Misses, Outs, OutsideFault};
 use std::io::{ErrorKind, Read};
@@ -17,12 +20,43 @@ use std::os::fd::{AsRawFd, RawFd};
 use std::rt::Clock;
 use std::{fs, io, rt};
 
+/// The terminal of the program, whichever that is.
+const TERMINAL: &str = "/dev/tty";
+
+/// What whoever started the program tells it by.
+const LEASH: &str = "/dev/stdin";
+
 /// What a hand is heard over.
 #[derive(Drop)]
 enum Source<F> {
     Connection(TcpStream),
     /// A terminal, a pipe, a device or a plain file.
     File(F),
+    /// The terminal of the program, and the leash on which whoever started it holds it.
+    Held(Held<F>),
+}
+
+/// A terminal and a leash.
+#[derive(Drop)]
+struct Held<F> {
+    terminal: F,
+    leash: F,
+}
+
+impl<F: Read> Held<F> {
+    /// Reads what has come. The leash goes first, so its end is the end also where keys come without
+    /// an end.
+    fn hear(&mut self, bytes: &mut [u8]) -> io::Result<usize>
+        ensures bound { ReadsAtMost result bytes.new }
+        ensures one { IfOk result (λ count. IsOfOne (take count bytes.new)
+            (F.remaining self.old.leash) (F.remaining self.new.leash)
+            (F.remaining self.old.terminal) (F.remaining self.new.terminal)) }
+    {
+        match unless_silent(self.leash.read(bytes)) {
+            Some(told) => told,
+            None => self.terminal.read(bytes),
+        }
+    }
 }
 
 impl<F: Read> Read for Source<F> {
@@ -30,15 +64,27 @@ impl<F: Read> Read for Source<F> {
         match self {
             Source::Connection(stream) => stream.read(bytes),
             Source::File(file) => file.read(bytes),
+            Source::Held(held) => held.hear(bytes),
         }
     }
 }
 
-impl<F: AsRawFd> AsRawFd for Source<F> {
-    fn as_raw_fd(&self) -> RawFd {
+impl<F: AsRawFd> Source<F> {
+    /// The descriptor of its leash, if it is on one.
+    fn leash(&self) -> RawFd {
         match self {
-            Source::Connection(stream) => stream.as_raw_fd(),
-            Source::File(file) => file.as_raw_fd(),
+            Source::Connection(_) | Source::File(_) => NONE,
+            Source::Held(held) => held.leash.as_raw_fd(),
+        }
+    }
+}
+
+impl<F: AsRawFd> Wakes for Source<F> {
+    fn wakers(&self) -> (RawFd, RawFd) {
+        match self {
+            Source::Connection(stream) => (stream.as_raw_fd(), NONE),
+            Source::File(file) => (file.as_raw_fd(), NONE),
+            Source::Held(held) => (held.terminal.as_raw_fd(), held.leash.as_raw_fd()),
         }
     }
 }
@@ -55,6 +101,11 @@ impl<F: AsRawFd> AsRawFd for Source<F> {
 /// before it names a file by the rule above. The file is hand 0. It is opened first, so that nobody
 /// else can be that. To one hand a comma is a letter of the name.
 ///
+/// The file `-` is the terminal of the program, `/dev/tty`, on a leash: the standard input is heard
+/// as the same hand, before the terminal, and the end of either is the end of the hand. So whoever
+/// starts the program can tell it the size of the window, and end its keys. `./-` is a file of that
+/// name.
+///
 /// | what happens | what is answered |
 /// |---|---|
 /// | the address is malformed or taken, or its name stands for none | `listen_hands` fails |
@@ -62,8 +113,10 @@ impl<F: AsRawFd> AsRawFd for Source<F> {
 /// | there are several hands, and the name is that of a file alone | `listen_hands` fails |
 /// | fewer connect than there are hands without a file | `listen_hands` waits |
 /// | nobody has the pipe open for writing | `listen_hands` waits |
+/// | whoever holds the leash of `-` closes it, or is killed, while it waits | `listen_hands` fails |
 /// | a peer closes its end, also inside the bytes of a key | its bytes, and then no more of it |
 /// | a pipe's last writer closes it, a plain file has been read, a terminal hangs up | the same |
+/// | whoever holds the leash closes it, or is killed | the same, also if more keys are there |
 /// | a peer resets its connection | no more of it; bytes that came before may be lost |
 /// | a device is taken away, or a read of a terminal fails that another job has now | the same |
 /// | all have gone | [`Answer::End`], or [`Answer::Failed`] if one broke |
@@ -97,6 +150,7 @@ impl<R> RealInbox<'_, R>
 where
     R: AllocGlobal + Net<Stream = TcpStream> + rt::Files + Clock,
     R::File: AsRawFd,
+    R::Listener: AsRawFd,
 {
     /// An inbox that opens what its `listen_hands` names.
     pub fn new(rt: &R) -> RealInbox<'_, R>
@@ -180,6 +234,7 @@ impl<R> Inbox for RealInbox<'_, R>
 where
     R: AllocGlobal + Net<Stream = TcpStream> + rt::Files + Clock,
     R::File: AsRawFd,
+    R::Listener: AsRawFd,
 {
     ghost log = { λ _. None };
 
@@ -251,6 +306,13 @@ fn is_file_name(name: &str) -> bool
     bytes.contains(&b'/') || !bytes.contains(&b':')
 }
 
+/// Whether a name is that of the terminal on a leash.
+fn names_terminal(name: &str) -> bool
+    ensures { result ≡ names_terminal name.now }
+{
+    name == "-"
+}
+
 /// The file of hand 0 and the address of the other hands, where the name says both.
 fn file_and_address(name: &str, hands: u8) -> Option<(&str, &str)>
     ensures parts { option_map (λ parts. (parts.0.now, parts.1.now)) result
@@ -282,29 +344,32 @@ fn open_named<R>(
 where
     R: AllocGlobal + Net<Stream = TcpStream> + rt::Files + Clock,
     R::File: AsRawFd,
+    R::Listener: AsRawFd,
     ensures count { OnOk result (length opened.new.hands.items
         ≡ length opened.old.hands.items + hands) }
     ensures files { OnOk result (map is_of_file opened.new.hands.items
         ≡ map is_of_file opened.old.hands.items ++ are_of_files hands name.now) }
 {
     if let Some((file, address)) = file_and_address(name, hands) {
-        open_file(rt, file, 1, opened)?;
-        accept_all(&listener_at(rt, bound, address)?, hands - 1, opened)
+        let leash = open_file(rt, file, 1, opened)?;
+        let listener = listener_at(rt, bound, address)?;
+        accept_all(&listener, leash, hands - 1, opened)
     } else if is_file_name(name) {
-        open_file(rt, name, hands, opened)
+        open_file(rt, name, hands, opened)?;
+        Ok(())
     } else {
-        accept_all(&listener_at(rt, bound, name)?, hands, opened)
+        accept_all(&listener_at(rt, bound, name)?, NONE, hands, opened)
     }
 }
 
-/// Opens the file for the one hand that there may be, so that no read of it waits. That a pipe is
-/// opened waits until somebody has it open for writing.
+/// Opens the file for the one hand that there may be, and gives the descriptor of its leash, if it
+/// is on one. That a pipe is opened waits until somebody has it open for writing.
 fn open_file<R: rt::Files>(
     rt: &R,
     name: &str,
     hands: u8,
     opened: &mut Hands<Source<R::File>>,
-) -> Result<(), OutsideFault>
+) -> Result<RawFd, OutsideFault>
 where
     R::File: AsRawFd,
     ensures alone { OnOk result (hands ≡ 1) }
@@ -312,13 +377,33 @@ where
         ≡ length opened.old.hands.items + 1) }
     ensures file { OnOk result (map is_of_file opened.new.hands.items
         ≡ map is_of_file opened.old.hands.items ++ true ∷ []) }
+    ensures held { OnOk result (map is_on_leash opened.new.hands.items
+        ≡ map is_on_leash opened.old.hands.items ++ names_terminal name.now ∷ []) }
 {
     if hands != 1 {
         return Err(OutsideFault::Failed);
     }
+    let source = if names_terminal(name) {
+        Source::Held(Held {
+            terminal: open_to_hear(rt, TERMINAL)?,
+            leash: open_to_hear(rt, LEASH)?,
+        })
+    } else {
+        Source::File(open_to_hear(rt, name)?)
+    };
+    let leash = source.leash();
+    opened.add(source)?;
+    Ok(leash)
+}
+
+/// Opens a file for reading, so that no read of it waits.
+fn open_to_hear<R: rt::Files>(rt: &R, name: &str) -> io::Result<R::File>
+where
+    R::File: AsRawFd,
+{
     let file = fs::open(rt, name)?;
     status_of(os::set_nonblocking(file.as_raw_fd(), true))?;
-    Ok(opened.add(Source::File(file))?)
+    Ok(file)
 }
 
 /// What is bound already, or else a listener at the address.
@@ -333,9 +418,10 @@ fn listener_at<R: Net>(
     }
 }
 
-/// Accepts so many connections, one after another.
-fn accept_all<L: OpenListener<Stream = TcpStream>, F: Read + Drop>(
+/// Accepts so many connections, one after another. The end of the leash, if there is one, ends that.
+fn accept_all<L: OpenListener<Stream = TcpStream> + AsRawFd, F: Read + Drop>(
     listener: &L,
+    leash: RawFd,
     hands: u8,
     opened: &mut Hands<Source<F>>,
 ) -> Result<(), OutsideFault>
@@ -345,7 +431,7 @@ fn accept_all<L: OpenListener<Stream = TcpStream>, F: Read + Drop>(
         ≡ map is_of_file opened.old.hands.items ++ replicate hands false) }
 {
     for _hand in 0..hands {
-        let stream = accept(listener)?;
+        let stream = accept(listener, leash)?;
         stream.set_nonblocking(true)?;
         opened.add(Source::Connection(stream))?;
     }
@@ -353,12 +439,38 @@ fn accept_all<L: OpenListener<Stream = TcpStream>, F: Read + Drop>(
 }
 
 /// Accepts one connection.
-fn accept<L: OpenListener>(listener: &L) -> io::Result<L::Stream> {
+fn accept<L: OpenListener + AsRawFd>(listener: &L, leash: RawFd) -> io::Result<L::Stream> {
     for _ in 0..TRIES {
-        if let Some(accepted) = unless_interrupted(listener.accept()) {
-            let (stream, _) = accepted?;
-            return Ok(stream);
+        if let Some(waited) = unless_interrupted(await_peer(listener.as_raw_fd(), leash)) {
+            waited?;
+            if let Some(accepted) = unless_interrupted(listener.accept()) {
+                let (stream, _) = accepted?;
+                return Ok(stream);
+            }
         }
     }
     Err(io::Error::from(ErrorKind::TimedOut))
+}
+
+/// Waits until somebody connects. Whoever held the leash may let it go meanwhile: then nobody is
+/// waited for any more.
+fn await_peer(listener: RawFd, leash: RawFd) -> io::Result<()> {
+    let connects = pollfd {
+        fd: listener,
+        events: POLLIN,
+        revents: 0,
+    };
+    // Of the end of a leash the system tells unasked.
+    let ends = pollfd {
+        fd: leash,
+        events: 0,
+        revents: 0,
+    };
+    let mut asked = [connects, ends];
+    status_of(poll(&mut asked, FOREVER))?;
+    if asked[1].revents == 0 {
+        Ok(())
+    } else {
+        Err(io::Error::from(ErrorKind::BrokenPipe))
+    }
 }

@@ -2,7 +2,7 @@
 
 ghost use Rattle.std.specs.Prelude.{◌≡◌, ◌≤◌, ◌<◌, ◌↔◌, ◌<ℤ◌, pos, length, IsNone, IsErr, IsErrAnd, OnOk, IfOk, IfSome};
 ghost use Rattle.std.specs.IoError.{error_kind};
-ghost use Rattle.std.specs.declared.io.ErrorKind.TheVariants.{Interrupted};
+ghost use Rattle.std.specs.declared.io.ErrorKind.TheVariants.{Interrupted, WouldBlock};
 ghost use Rattle.std.specs.Io.{WritesAtMost};
 ghost use Rattle.std.specs.Io.KnownBytes.{Appends, WriteAppends};
 ghost use Rattle.orca_base.specs.declared.limits.TheConstants.{MAX_FILE_BYTES};
@@ -79,6 +79,17 @@ pub fn unless_interrupted<T: Drop>(gave: io::Result<T>) -> Option<io::Result<T>>
 {
     match gave {
         Err(error) if error.kind() == ErrorKind::Interrupted => None,
+        gave => Some(gave),
+    }
+}
+
+/// What a read gave, but where it has nothing yet.
+pub(crate) fn unless_silent(gave: io::Result<usize>) -> Option<io::Result<usize>>
+    ensures silent { IsNone result ↔ IsErrAnd gave (λ error. error_kind error ≡ WouldBlock) }
+    ensures same { IfSome result (λ same. same ≡ gave) }
+{
+    match gave {
+        Err(error) if error.kind() == ErrorKind::WouldBlock => None,
         gave => Some(gave),
     }
 }

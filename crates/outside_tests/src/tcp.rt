@@ -86,6 +86,7 @@ fn seat<'a, R>(rt: &'a R, players: &mut Vec<Player>, name: &str) -> RealInbox<'a
 where
     R: AllocGlobal + Net<Stream = TcpStream> + Files + Clock + Abort,
     R::File: AsRawFd,
+    R::Listener: AsRawFd,
     ensures { result.ended ≡ false }
 {
     let listener = TcpListener::bind(rt, "127.0.0.1:0").expect(rt, "a listener");
@@ -107,6 +108,7 @@ fn open<R>(rt: &R) -> Room<'_, R>
 where
     R: AllocGlobal + Net<Stream = TcpStream> + Files + Clock + Abort,
     R::File: AsRawFd,
+    R::Listener: AsRawFd,
     ensures { result.inbox.ended ≡ false }
 {
     let mut players = Vec::new(rt.alloc());
@@ -119,6 +121,7 @@ fn open_with_pipe<R>(rt: &R) -> Room<'_, R>
 where
     R: AllocGlobal + Net<Stream = TcpStream> + Files + Clock + Abort,
     R::File: AsRawFd,
+    R::Listener: AsRawFd,
     ensures { result.inbox.ended ≡ false }
 {
     let (reader, writer) = io::pipe(rt).expect(rt, "a pipe");
@@ -132,6 +135,7 @@ where
 impl<R: AllocGlobal + Net<Stream = TcpStream> + Files + Clock> Room<'_, R>
 where
     R::File: AsRawFd,
+    R::Listener: AsRawFd,
 {
     fn step(&mut self, rt: &impl Abort, outs: &MemOuts, step: Step)
         requires { self.old.inbox.ended ≡ false }
@@ -191,6 +195,7 @@ fn check_steps<R>(rt: &R, room: &mut Room<'_, R>)
 where
     R: AllocGlobal + Net<Stream = TcpStream> + Files + Clock + Abort,
     R::File: AsRawFd,
+    R::Listener: AsRawFd,
     requires { room.old.inbox.ended ≡ false }
 {
     let outs = make_outs(rt, rt.alloc());
