@@ -1,5 +1,5 @@
 -- Files and pieces in memory, as the code goes over them.
-use Rattle.std.proofs.Common.{◌≡◌, ℕ, zero, suc, ◌+◌, ◌<◌, ◌≤◌, Bool, true, false, not, cond, List, [], ◌∷◌, ◌++◌, length, get_or, drop, refl, sym, ◌∙◌, ap, Some, String, string_bytes, Vec, count_by, arith, subst}
+use Rattle.std.proofs.Common.{◌≡◌, ℕ, zero, suc, ◌+◌, ◌<◌, ◌≤◌, Bool, true, false, not, cond, List, [], ◌∷◌, ◌++◌, filter, length, get_or, drop, refl, sym, ◌∙◌, ap, Some, String, string_bytes, Vec, count_by, arith, subst}
 use Rattle.std.specs.Prelude.{None, Option, nat_lt, position}
 use Rattle.std.proofs.lemmas.Bool.{ltb-true}
 use Rattle.std.proofs.lemmas.Bool.Decides.{nat_tests}
@@ -13,7 +13,7 @@ use Rattle.std.specs.Str.{bytes_eq}
 use Rattle.std.specs.Ordering.{nat_cmp}
 use Rattle.std.proofs.lemmas.Cmp.{nat_list_cmp_total}
 use Rattle.std.specs.Cmp.Lexicographic.{slice_cmp}
-use Rattle.std.specs.FinMap.{get, find, insert, from_entries, get-from_entries, get-insert, same_map, from_entries_push, nat_cmp-IsAntisymmetric, slice_cmp-IsAntisymmetric}
+use Rattle.std.specs.FinMap.{get, find, insert, remove, from_entries, get-from_entries, get-insert, get-remove, same_map, from_entries_push, nat_cmp-IsAntisymmetric, slice_cmp-IsAntisymmetric}
 use Rattle.std.specs.declared.alloc.Global.{Global}
 use Rattle.orca_base.specs.declared.port.Port.{Port}
 use Rattle.orca_base.specs.Ports.{is_same_port}
@@ -30,6 +30,10 @@ bytes_at name files = find (slice_cmp nat_cmp) name (named files)
 -- whether a file has the name
 abbrev pub has_name : List ℕ → File → Bool
 has_name name file = bytes_eq name (string_bytes file.0)
+
+-- whether it has another
+abbrev pub has_other : List ℕ → File → Bool
+has_other name file = not (has_name name file)
 
 -- what the files hold at a name is the first file of that name
 pub get_files_of : (files : List File) (name : List ℕ)
@@ -76,6 +80,10 @@ same_bytes_back xs ys same = (bytes_eq-Decides xs ys).1 same
 cond_twice : {A : Type 0} (b : Bool) (x y z : A) → cond b x z ≡ cond b x (cond b y z)
 cond_twice true x y z = refl
 cond_twice false x y z = refl
+
+cond_alike : {A : Type 0} (b : Bool) (x : A) → x ≡ cond b x x
+cond_alike true x = refl
+cond_alike false x = refl
 
 cond_exchange : {A : Type 0} (a b : Bool) (x y z : A) → (a ≡ true → b ≡ true → ⊥)
     → cond a x (cond b y z) ≡ cond b y (cond a x z)
@@ -183,3 +191,45 @@ pub unplaced : (files : List File) (name : List ℕ) → position (has_name name
 unplaced files name is =
     let place = place_of name files in
     unplaced_at place (length files) (nat_lt place (length files)) refl is
+
+without_at : (same : Bool) (file : File) (files : List File) (name q : List ℕ)
+    → has_name name file ≡ same
+    → bytes_at q (filter (has_other name) files)
+    ≡ cond (bytes_eq q name) None (bytes_at q files)
+    → bytes_at q (filter (has_other name) (file ∷ files))
+    ≡ cond (bytes_eq q name) None (bytes_at q (file ∷ files))
+without_at true file files name q is rest =
+    let held = string_bytes file.0 in
+    let same : name ≡ held = same_bytes name held is in
+    rw (is, is_eq-slice_cmp, rest, ← same)
+    (cond_twice (bytes_eq q name) None (Some file.1.items) (bytes_at q files))
+without_at false file files name q is rest =
+    let held = string_bytes file.0 in
+    rw (is, is_eq-slice_cmp, rest)
+    (cond_exchange (bytes_eq q held) (bytes_eq q name) (Some file.1.items) None
+    (bytes_at q files)
+    (λ first second.
+    let same : name ≡ held = sym (same_bytes q name second) ∙ same_bytes q held first in
+    absurd (cc (sym is ∙ same_bytes_back name held same))))
+
+-- without the files of a name this name has nothing, and the others have what they had
+find_without : (files : List File) (name q : List ℕ)
+    → bytes_at q (filter (has_other name) files) ≡ cond (bytes_eq q name) None (bytes_at q files)
+find_without [] name q = cond_alike (bytes_eq q name) None
+find_without (file ∷ files) name q =
+    without_at (has_name name file) file files name q refl (find_without files name q)
+
+-- a file is taken away
+pub files_of_without : (files : List File) (name : List ℕ)
+    → files_of (filter (has_other name) files) ≡ remove (files_of files) name
+files_of_without files name =
+    same_map nat_list_cmp_total (slice_cmp-IsAntisymmetric nat_cmp-IsAntisymmetric)
+    (files_of (filter (has_other name) files)) (remove (files_of files) name)
+    (λ q.
+    get_files_of (filter (has_other name) files) q
+    ∙ (find_without files name q
+    ∙ rw (
+      get-remove nat_list_cmp_total (files_of files) name q,
+      is_eq-slice_cmp,
+      get_files_of files q,
+    ) refl))

@@ -1,5 +1,6 @@
 -- What an inbox was asked and answered.
 use Rattle.std.specs.Prelude.{ℕ, ◌≤◌, Bool, true, false, List, [], ◌∷◌, ◌++◌, take, Option, Some, None, Result, Ok, Err, IsSomeAnd}
+use Rattle.std.specs.Option.{option_map_or, unwrap_or}
 use Rattle.orca_base.specs.declared.limits.TheConstants.{ARRIVAL_BYTES}
 use Rattle.orca_rig.specs.declared.inbox.Answer.{Answer}
 use Rattle.orca_rig.specs.declared.inbox.Answer.TheVariants as answer
@@ -14,17 +15,23 @@ pub record LoggedPoll : Type 0 where
   pub answer : Answer
   pub bytes : List ℕ
 
--- the name and the number of hands that `listen_hands` was given, the moment that it answered, and
--- the polls
+-- bytes for a hand
+pub record Told : Type 0 where
+  pub hand : ℕ
+  pub bytes : List ℕ
+
+-- the name and the number of hands that `listen_hands` was given, the moment that it answered, the
+-- polls, and what the hands were told
 pub record Log : Type 0 where
   pub name : Option (List ℕ)
   pub hands : Option ℕ
   pub start : Option ℕ
   pub polls : List LoggedPoll
+  pub told : List Told
 
 -- nothing was asked yet
 abbrev pub empty_log : Log
-empty_log = record { name = None; hands = None; start = None; polls = [] }
+empty_log = record { name = None; hands = None; start = None; polls = []; told = [] }
 
 -- it listened at a name for so many hands; and the moment that it answered, unless it failed
 abbrev pub with_listen : List ℕ → ℕ → Option ℕ → Log → Log
@@ -40,6 +47,15 @@ after_listen (Err Memory) name hands log = log
 -- a poll is kept as the last
 abbrev pub after_poll : LoggedPoll → Log → Log
 after_poll poll log = record log { polls = log.polls ++ poll ∷ [] }
+
+-- what a hand is told is kept as the last, unless memory was refused
+abbrev pub after_tell : {T E : Type 0} → Result T E → Told → Log → Log
+after_tell (Ok done) told log = record log { told = log.told ++ told ∷ [] }
+after_tell (Err refused) told log = log
+
+-- how many hands are heard: those of a `listen_hands` that went well
+abbrev pub hands_of : Log → ℕ
+hands_of log = option_map_or (λ _. unwrap_or log.hands 0) log.start 0
 
 -- how many bytes came with an answer
 abbrev pub count_of : Answer → ℕ

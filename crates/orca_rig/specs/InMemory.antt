@@ -1,24 +1,35 @@
 -- The files and the ports in memory.
-use Rattle.std.specs.Prelude.{◌≡◌, ℕ, ◌+◌, ◌<◌, ◌==◌, ◌&&◌, ◌⊎◌, Bool, true, is_none, List, [], ◌∷◌, map, length, count_by, IfSome, String, string_bytes, Vec, refl}
+use Rattle.std.specs.Prelude.{◌≡◌, ℕ, ◌+◌, ◌<◌, ◌==◌, ◌&&◌, ◌⊎◌, Bool, true, false, is_none, if◌then◌else◌, List, [], ◌∷◌, map, length, count_by, Option, Some, Result, Ok, Err, IfSome, String, string_bytes, Vec, refl}
 use Rattle.std.proofs.Common.{inl, inr}
 use Rattle.std.specs.List.{list_any}
+use Rattle.std.specs.Option.{option_map, option_map_or}
 use Rattle.std.specs.Ordering.{nat_cmp}
+use Rattle.std.specs.Str.{bytes_eq}
 use Rattle.std.specs.Cmp.Lexicographic.{slice_cmp}
 use Rattle.std.specs.FinMap as finite
-use Rattle.std.specs.Coded.{Coded, code_by, coded×, coded⊎, coded_list, coded_ℕ}
+use Rattle.std.specs.Coded.{Coded, code_by, coded×, coded⊎, coded_list, coded_option, coded_ℕ}
 use Rattle.std.specs.declared.alloc.Global.{Global}
 use Rattle.orca_base.specs.declared.limits.TheConstants.{MAX_FILE_BYTES}
 use Rattle.orca_base.specs.declared.port.Port.{Port}
 use Rattle.orca_base.specs.Ports.{Sent, is_same_port}
+use Rattle.orca_rig.specs.declared.fault.OutsideFault.{OutsideFault}
+use Rattle.orca_rig.specs.declared.files.Claim.{Claim}
+use Rattle.orca_rig.specs.declared.files.Claim.TheVariants as claim
+use Rattle.orca_rig.specs.declared.mem_files.Holds.{Holds}
 use Rattle.orca_rig.specs.declared.mem_files.Call.{Call}
 use Rattle.orca_rig.specs.declared.mem_files.Call.TheVariants as call
 use Rattle.orca_rig.specs.Outside.{Contents, Ask}
-use Rattle.orca_rig.specs.Outside.Ask.{Append, Begin, Load, Save}
+use Rattle.orca_rig.specs.Saved.{is_spoilt, names_of}
 use Rattle.orca_rig.specs.Handed.{Attached}
 
+-- the names that are held: that of the file that was claimed, and those that others hold
+pub record Claims : Type 0 where
+  pub own : Option (List ℕ)
+  pub others : List (List ℕ)
+
 -- a store in memory: its files, the calls so far, the numbers of the calls that are to fail, the
--- faults so far, how often memory was refused, and the names of the files of which a save, a begin
--- or an append has failed
+-- faults so far, how often memory was refused, the names of the files of which a save, a begin, an
+-- append or a claim has failed, and the names that are held
 pub record Store : Type 0 where
   pub contents : Contents
   pub asked : List Ask
@@ -26,6 +37,7 @@ pub record Store : Type 0 where
   pub faults : ℕ
   pub wants : ℕ
   pub spoilt : List (List ℕ)
+  pub claims : Claims
 
 -- ports in memory: what they were given, what they were attached to, the calls that are to fail, by
 -- port and number, the faults so far, and how often memory was refused
@@ -51,10 +63,12 @@ names_differ (file ∷ files) =
 
 -- a call of a store as clauses see it
 abbrev pub ask_of : Call → Ask
-ask_of (call.Load name) = Load (string_bytes name)
-ask_of (call.Save name bytes) = Save (string_bytes name) bytes.items
-ask_of (call.Begin name bytes) = Begin (string_bytes name) bytes.items
-ask_of (call.Append name bytes) = Append (string_bytes name) bytes.items
+ask_of (call.Load name) = Ask.Load (string_bytes name)
+ask_of (call.Save name bytes) = Ask.Save (string_bytes name) bytes.items
+ask_of (call.Begin name bytes) = Ask.Begin (string_bytes name) bytes.items
+ask_of (call.Append name bytes) = Ask.Append (string_bytes name) bytes.items
+ask_of (call.Claim name bytes) = Ask.Claim (string_bytes name) bytes.items
+ask_of (call.Remove name) = Ask.Remove (string_bytes name)
 
 abbrev pub asks_of : List Call → List Ask
 asks_of = map ask_of
@@ -66,6 +80,28 @@ is_to_fail fail calls = list_any (λ number. number == calls + 1) fail
 -- no file of that name can be loaded: if there is one, it is too long
 abbrev pub IsUnloadable : Contents → List ℕ → Type 0
 IsUnloadable files name = IfSome (finite.get files name) (λ bytes. MAX_FILE_BYTES < length bytes)
+
+-- the names that are held as clauses see them
+abbrev pub claims_of : Holds → Claims
+claims_of holds =
+    record { own = option_map string_bytes holds.own; others = names_of holds.others.items }
+
+-- whether a file is the one that was claimed
+abbrev pub is_own : Claims → List ℕ → Bool
+is_own claims name = option_map_or (bytes_eq name) claims.own false
+
+-- what a claim of this name finds: no file, or one that others hold, or one that nobody does
+abbrev pub found : Store → List ℕ → Claim
+found store name =
+    if is_none (finite.get store.contents name) then claim.Made
+    else (if is_spoilt store.claims.others name then claim.Held else claim.Left)
+
+-- what is held after a claim of this name
+abbrev pub claims_after : Result Claim OutsideFault → List ℕ → Claims → Claims
+claims_after (Ok claim.Made) name claims = record claims { own = Some name }
+claims_after (Ok claim.Left) name claims = claims
+claims_after (Ok claim.Held) name claims = claims
+claims_after (Err fault) name claims = claims
 
 -- how many pieces were given to a port
 abbrev pub sends_to : Port → List Sent → ℕ
@@ -95,52 +131,71 @@ attaches = map (λ attached. record { port = attached.0; name = string_bytes att
 -- a store is kept as the tuple of its parts
 abbrev pub store_code : Coded Store
 store_code =
-    code_by (Contents × (List Ask × (List ℕ × (ℕ × (ℕ × List (List ℕ))))))
-    (coded× (finite.code coded_bytes coded_bytes)
+    code_by (Contents × (List Ask × (List ℕ × (ℕ × (ℕ × (List Name × (Option Name × List Name)))))))
+    (coded× (finite.code coded_name coded_name)
     (coded× (coded_list ask_code)
-    (coded× coded_bytes (coded× coded_ℕ (coded× coded_ℕ (coded_list coded_bytes))))))
-    (λ s. (s.contents, (s.asked, (s.fail, (s.faults, (s.wants, s.spoilt))))))
+    (coded× coded_name
+    (coded× coded_ℕ
+    (coded× coded_ℕ
+    (coded× (coded_list coded_name)
+    (coded× (coded_option coded_name) (coded_list coded_name))))))))
+    (λ s. (
+      s.contents,
+      (s.asked, (s.fail, (s.faults, (s.wants, (s.spoilt, (s.claims.own, s.claims.others)))))),
+    ))
     (λ p. record {
       contents = p.0;
       asked = p.1.0;
       fail = p.1.1.0;
       faults = p.1.1.1.0;
       wants = p.1.1.1.1.0;
-      spoilt = p.1.1.1.1.1;
+      spoilt = p.1.1.1.1.1.0;
+      claims = record { own = p.1.1.1.1.1.1.0; others = p.1.1.1.1.1.1.1 };
     })
     (λ _. refl)
   where
-    coded_bytes : Coded (List ℕ)
-    coded_bytes = coded_list coded_ℕ
+    Name : Type 0
+    Name = List ℕ
+
+    coded_name : Coded Name
+    coded_name = coded_list coded_ℕ
 
     Named : Type 0
-    Named = List ℕ × List ℕ
+    Named = Name × List ℕ
 
     Parts : Type 0
-    Parts = List ℕ ⊎ (Named ⊎ (Named ⊎ Named))
+    Parts = (Name ⊎ Name) ⊎ ((Named ⊎ Named) ⊎ (Named ⊎ Named))
 
     parts_of : Ask → Parts
-    parts_of (Load name) = inl name
-    parts_of (Save name bytes) = inr (inl (name, bytes))
-    parts_of (Begin name bytes) = inr (inr (inl (name, bytes)))
-    parts_of (Append name bytes) = inr (inr (inr (name, bytes)))
+    parts_of (Ask.Load name) = inl (inl name)
+    parts_of (Ask.Remove name) = inl (inr name)
+    parts_of (Ask.Save name bytes) = inr (inl (inl (name, bytes)))
+    parts_of (Ask.Begin name bytes) = inr (inl (inr (name, bytes)))
+    parts_of (Ask.Append name bytes) = inr (inr (inl (name, bytes)))
+    parts_of (Ask.Claim name bytes) = inr (inr (inr (name, bytes)))
 
     ask_from : Parts → Ask
-    ask_from (inl name) = Load name
-    ask_from (inr (inl parts)) = Save parts.0 parts.1
-    ask_from (inr (inr (inl parts))) = Begin parts.0 parts.1
-    ask_from (inr (inr (inr parts))) = Append parts.0 parts.1
+    ask_from (inl (inl name)) = Ask.Load name
+    ask_from (inl (inr name)) = Ask.Remove name
+    ask_from (inr (inl (inl parts))) = Ask.Save parts.0 parts.1
+    ask_from (inr (inl (inr parts))) = Ask.Begin parts.0 parts.1
+    ask_from (inr (inr (inl parts))) = Ask.Append parts.0 parts.1
+    ask_from (inr (inr (inr parts))) = Ask.Claim parts.0 parts.1
 
-    ask_back : (ask : Ask) → ask_from (parts_of ask) ≡ ask
-    ask_back (Load name) = refl
-    ask_back (Save name bytes) = refl
-    ask_back (Begin name bytes) = refl
-    ask_back (Append name bytes) = refl
+    ask_back : (call : Ask) → ask_from (parts_of call) ≡ call
+    ask_back (Ask.Load name) = refl
+    ask_back (Ask.Remove name) = refl
+    ask_back (Ask.Save name bytes) = refl
+    ask_back (Ask.Begin name bytes) = refl
+    ask_back (Ask.Append name bytes) = refl
+    ask_back (Ask.Claim name bytes) = refl
 
     coded_named : Coded Named
-    coded_named = coded× coded_bytes coded_bytes
+    coded_named = coded× coded_name coded_name
 
     ask_code : Coded Ask
     ask_code =
-        code_by Parts (coded⊎ coded_bytes (coded⊎ coded_named (coded⊎ coded_named coded_named)))
+        code_by Parts
+        (coded⊎ (coded⊎ coded_name coded_name)
+        (coded⊎ (coded⊎ coded_named coded_named) (coded⊎ coded_named coded_named)))
         parts_of ask_from ask_back

@@ -2,8 +2,9 @@
 use Rattle.std.specs.Prelude.{◌≡◌, ◌+◌, ◌<◌, true, false, map, length, string_bytes, vec_len, vec_capacity}
 use Rattle.std.specs.Option.{option_map}
 use Rattle.orca_rig.specs.declared.mem_inbox.Polled.{Polled}
+use Rattle.orca_rig.specs.declared.mem_inbox.Telling.{Telling}
 use Rattle.orca_rig.specs.declared.mem_inbox.MemInbox.TheInside.{Inside}
-use Rattle.orca_rig.specs.Arrived.{LoggedPoll, Log}
+use Rattle.orca_rig.specs.Arrived.{LoggedPoll, Told, Log}
 use Rattle.orca_rig.specs.Schedule.{Schedule, is_in_order, are_arrivals}
 
 abbrev pub poll_of : Polled → LoggedPoll
@@ -14,12 +15,16 @@ poll_of polled = record {
   bytes = polled.bytes;
 }
 
+abbrev pub told_of : Telling → Told
+told_of telling = record { hand = telling.hand; bytes = telling.bytes.items }
+
 abbrev pub log_of : Inside → Log
 log_of inbox = record {
   name = option_map string_bytes inbox.name;
   hands = inbox.hands;
   start = inbox.start;
   polls = map poll_of inbox.polls.items;
+  told = map told_of inbox.told.items;
 }
 
 abbrev pub schedule_of : Inside → Schedule

@@ -11,13 +11,16 @@ use Rattle.orca_rig.specs.declared.fault.OutsideFault.TheVariants.{Failed, Memor
 abbrev pub Contents : Type 0
 Contents = FinMap (slice_cmp nat_cmp) (List ℕ)
 
--- a call of a store: a load of the file of this name, a save of these bytes under this name, a begin
--- of a file of this name with these bytes, or an append of these bytes to the file of this name
+-- a call of a store: a load of the file of this name, a save of these bytes under this name, a
+-- begin of a file of this name with these bytes, an append of these bytes to the file of this name,
+-- a claim of this name with these bytes, or a removal of the file of this name
 pub data Ask : Type 0 where
   Load : List ℕ → Ask
   Save : List ℕ → List ℕ → Ask
   Begin : List ℕ → List ℕ → Ask
   Append : List ℕ → List ℕ → Ask
+  Claim : List ℕ → List ℕ → Ask
+  Remove : List ℕ → Ask
 
 -- the last value of a counter of 64 bits, where it stands still
 abbrev pub last_count : ℕ

@@ -1,12 +1,14 @@
--- What a save, a begin and an append leave.
-use Rattle.std.specs.Prelude.{◌≡◌, ◌≢◌, ℕ, Bool, ◌||◌, List, ◌++◌, map, Option, Some, None, Result, Ok, Err, ◌⊎◌, String, string_bytes}
+-- What a save, a begin, an append, a claim and a removal leave.
+use Rattle.std.specs.Prelude.{◌≡◌, ◌≢◌, ℕ, Bool, ◌||◌, List, ◌++◌, map, Option, Some, None, IfSome, IsSome, Result, Ok, Err, ◌⊎◌, String, string_bytes}
 use Rattle.std.specs.List.{list_any}
 use Rattle.std.specs.Option.{option_map}
 use Rattle.std.specs.Str.{bytes_eq}
-use Rattle.std.specs.FinMap.{get, insert}
+use Rattle.std.specs.FinMap.{get, insert, remove}
 use Rattle.std.specs.declared.alloc.Global.{Global}
 use Rattle.orca_rig.specs.declared.fault.OutsideFault.{OutsideFault}
 use Rattle.orca_rig.specs.declared.fault.OutsideFault.TheVariants.{Failed, Memory}
+use Rattle.orca_rig.specs.declared.files.Claim.{Claim}
+use Rattle.orca_rig.specs.declared.files.Claim.TheVariants.{Made, Left, Held}
 use Rattle.orca_rig.specs.Outside.{Contents}
 
 -- every file but the one of this name is as before
@@ -41,6 +43,29 @@ IsAppended (Err Failed) name bytes old new =
     (new ≡ old) ⊎ ((more rest : List ℕ) × (bytes ≡ more ++ rest) × HasMore name more old new)
 IsAppended (Err Memory) name bytes old new = new ≡ old
 
+-- the file of this name is there, where it is told
+abbrev pub IsThere : List ℕ → Option Contents → Type 0
+IsThere name files = IfSome files (λ held. IsSome (get held name))
+
+-- a claim made the file of this name with exactly these bytes where none was there; where one was,
+-- all are as before; so they are where memory was refused; after a failure the file may hold any
+-- bytes, and the others are as before
+abbrev pub IsClaimed : Result Claim OutsideFault → List ℕ → List ℕ
+    → Option Contents → Option Contents → Type 0
+IsClaimed (Ok Made) name bytes old new =
+    IfSome old (λ files. get files name ≡ None)
+    × (new ≡ option_map (λ files. insert files name bytes) old)
+IsClaimed (Ok Left) name bytes old new = IsThere name old × (new ≡ old)
+IsClaimed (Ok Held) name bytes old new = IsThere name old × (new ≡ old)
+IsClaimed (Err Failed) name bytes old new = OthersStay name old new
+IsClaimed (Err Memory) name bytes old new = new ≡ old
+
+-- after a removal there is no file of this name; where it was not removed all are as before
+abbrev pub IsRemoved : {T : Type 0}
+    → Result T OutsideFault → List ℕ → Option Contents → Option Contents → Type 0
+IsRemoved (Ok done) name old new = new ≡ option_map (λ files. remove files name) old
+IsRemoved (Err fault) name old new = new ≡ old
+
 -- names as clauses see them
 abbrev pub names_of : List (String Global) → List (List ℕ)
 names_of = map string_bytes
@@ -49,8 +74,8 @@ names_of = map string_bytes
 abbrev pub is_spoilt : List (List ℕ) → List ℕ → Bool
 is_spoilt spoilt name = list_any (bytes_eq name) spoilt
 
--- whether a file is spoilt after a save, a begin or an append of the file of this name: it is if it
--- was, and if it has this name and the call has failed
+-- whether a file is spoilt after a save, a begin, an append or a claim of the file of this name: it
+-- is if it was, and if it has this name and the call has failed
 abbrev pub spoilt_after : {T : Type 0} → Result T OutsideFault → List ℕ → List ℕ → Bool → Bool
 spoilt_after (Ok done) name file was = was
 spoilt_after (Err Failed) name file was = bytes_eq file name || was

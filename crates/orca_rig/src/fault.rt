@@ -10,7 +10,8 @@ use std::alloc::{AllocError, AllocFailed};
 use std::io;
 use std::io::ErrorKind;
 
-/// Why a load, a save, a begin, an append, an attach, a send or a `listen_hands` did not succeed.
+/// Why a load, a save, a begin, an append, a claim, a removal, an attach, a send or a
+/// `listen_hands` did not succeed.
 #[derive(Clone, Copy, Debug, PartialEq, Eq)]
 pub enum OutsideFault {
     /// The object failed, and counted it. Some of the bytes of a send may have gone out.

@@ -2,8 +2,8 @@ ghost use Rattle.std.specs.Prelude.{◌≡◌, ◌≤◌, ℕ, Bool, true, false
 ghost use Rattle.std.specs.FinMap.{get};
 ghost use Rattle.orca_base.specs.declared.limits.TheConstants.{MAX_FILE_BYTES};
 ghost use Rattle.orca_rig.specs.Outside.{Contents, Ask, Rose, after_call, wants_after};
-ghost use Rattle.orca_rig.specs.Outside.Ask.{Append, Begin, Load, Save};
-ghost use Rattle.orca_rig.specs.Saved.{IsAppended, IsSaved, spoilt_after};
+ghost use Rattle.orca_rig.specs.Outside.Ask.{Append, Begin, Load, Remove, Save};
+ghost use Rattle.orca_rig.specs.Saved.{IsAppended, IsClaimed, IsRemoved, IsSaved, spoilt_after};
 
 use crate::OutsideFault;
 
@@ -15,6 +15,18 @@ pub enum Disk {
     Awaited,
     /// It does not wait: the disk has them some time later.
     NotAwaited,
+}
+
+/// What a [`claim`](Files::claim) found.
+#[derive(Clone, Copy, Debug, PartialEq, Eq)]
+pub enum Claim {
+    /// No file of that name was there. Now there is one with the bytes, and this program holds it
+    /// as long as it lives.
+    Made,
+    /// A file is there, and no program holds it.
+    Left,
+    /// A file is there, and a program holds it.
+    Held,
 }
 
 /// A store of files, by name.
@@ -32,8 +44,8 @@ pub trait Files: Drop {
     /// How often memory was refused to a call.
     ghost wants: { Self → ℕ };
 
-    /// Whether a [`save`](Files::save), a [`begin`](Files::begin) or an [`append`](Files::append) of
-    /// the file of that name has failed.
+    /// Whether a [`save`](Files::save), a [`begin`](Files::begin), an [`append`](Files::append) or
+    /// a [`claim`](Files::claim) of the file of that name has failed.
     ghost spoilt: { Self → List ℕ → Bool };
 
     /// Makes `into` exactly the bytes of the file of that name, which has at most
@@ -57,8 +69,9 @@ pub trait Files: Drop {
 
     /// Makes the file of that name hold exactly these bytes, whether or not there was one. After
     /// [`OutsideFault::Failed`] that file may hold any bytes or be missing, and the others are as
-    /// before; after [`OutsideFault::Memory`] all are as before. Once a save, a begin or an append of
-    /// a file has failed, no later append adds to that file, not even after a save that went well.
+    /// before; after [`OutsideFault::Memory`] all are as before. Once a save, a begin, an append or
+    /// a claim of a file has failed, no later append adds to that file, not even after a save that
+    /// went well.
     fn save(&mut self, name: &str, bytes: &[u8], disk: Disk) -> Result<(), OutsideFault>
         ensures saved { IsSaved result name.now bytes.now (contents self.old) (contents self.new) }
         ensures spoilt { (file : List ℕ) → spoilt self.new file
@@ -92,11 +105,11 @@ pub trait Files: Drop {
             → faults self.new ≡ faults self.old }
         ensures wants { wants self.new ≡ wants_after result (wants self.old) };
 
-    /// Adds the bytes at the end of the file of that name, which was begun. A store may also add to
-    /// one that is only there. After [`OutsideFault::Failed`] a beginning of them was added. After
-    /// [`OutsideFault::Memory`] all are as before. Once a save, a begin or an append of a file has
-    /// failed, no later append adds to that file: it may be an older one, or end in a piece that was
-    /// cut off. No other file is spoilt.
+    /// Adds the bytes at the end of the file of that name, which was begun or claimed. A store may
+    /// also add to one that is only there. After [`OutsideFault::Failed`] a beginning of them was
+    /// added. After [`OutsideFault::Memory`] all are as before. Once a save, a begin, an append or
+    /// a claim of a file has failed, no later append adds to that file: it may be an older one, or
+    /// end in a piece that was cut off. No other file is spoilt.
     fn append(&mut self, name: &str, bytes: &[u8]) -> Result<(), OutsideFault>
         ensures appended { IsAppended result name.now bytes.now
             (contents self.old) (contents self.new) }
@@ -106,6 +119,43 @@ pub trait Files: Drop {
         ensures last { spoilt self.old name.now ≡ true → contents self.new ≡ contents self.old }
         ensures asked { asked self.new
             ≡ after_call result (Append name.now bytes.now) (asked self.old) }
+
+        ensures count { faults self.old ≤ faults self.new }
+        ensures failed { IsErrOf result OutsideFault.Failed
+            → Rose (faults self.old) (faults self.new) }
+        ensures steady { OnOk result (faults self.new ≡ faults self.old) }
+        ensures steady_memory { IsErrOf result OutsideFault.Memory
+            → faults self.new ≡ faults self.old }
+        ensures wants { wants self.new ≡ wants_after result (wants self.old) };
+
+    /// Makes a file of that name with exactly these bytes, to be added to, if nothing has the name,
+    /// and holds it: no other program is told that nobody holds it, as long as this one lives. If
+    /// the name is taken, it says whether a program holds what has it, and all are as before. After
+    /// [`OutsideFault::Failed`] that file may hold any bytes or be missing, and the others are as
+    /// before; after [`OutsideFault::Memory`] all are as before.
+    fn claim(&mut self, name: &str, bytes: &[u8]) -> Result<Claim, OutsideFault>
+        ensures claimed { IsClaimed result name.now bytes.now
+            (contents self.old) (contents self.new) }
+        ensures spoilt { (file : List ℕ) → spoilt self.new file
+            ≡ spoilt_after result name.now file (spoilt self.old file) }
+        ensures asked { asked self.new
+            ≡ after_call result (Ask.Claim name.now bytes.now) (asked self.old) }
+
+        ensures count { faults self.old ≤ faults self.new }
+        ensures failed { IsErrOf result OutsideFault.Failed
+            → Rose (faults self.old) (faults self.new) }
+        ensures steady { OnOk result (faults self.new ≡ faults self.old) }
+        ensures steady_memory { IsErrOf result OutsideFault.Memory
+            → faults self.new ≡ faults self.old }
+        ensures wants { wants self.new ≡ wants_after result (wants self.old) };
+
+    /// Takes away the file of that name, which the last [`claim`](Files::claim) that answered
+    /// [`Claim::Made`] made, and holds it no more. Of any other name it is a failure, and so it is
+    /// after a removal. After an error all are as before.
+    fn remove(&mut self, name: &str) -> Result<(), OutsideFault>
+        ensures removed { IsRemoved result name.now (contents self.old) (contents self.new) }
+        ensures spoilt { spoilt self.new ≡ spoilt self.old }
+        ensures asked { asked self.new ≡ after_call result (Remove name.now) (asked self.old) }
 
         ensures count { faults self.old ≤ faults self.new }
         ensures failed { IsErrOf result OutsideFault.Failed

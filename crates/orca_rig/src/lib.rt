@@ -15,7 +15,7 @@ mod outs;
 mod spoilt;
 
 pub use fault::{Misses, OutsideFault};
-pub use files::{Disk, Files};
+pub use files::{Claim, Disk, Files};
 pub use house::House;
 pub use inbox::{Answer, Inbox};
 pub use mem_answer::{MemAnswer, are_arrivals, is_in_order};

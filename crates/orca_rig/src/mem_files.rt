@@ -1,29 +1,39 @@
-ghost use Rattle.std.specs.Prelude.{◌≡◌, ◌+◌, min, ◌<◌, ◌≤◌, ◌^◌, [], ◌∷◌, ◌++◌, true, false, ◌⊎◌, ℕ, List, IsNone, length, position, string_bytes, vec_len, vec_capacity, Some, IsTrue, IfSome, IfNone, IsOk, IfOk, OnOk, OnErr, IsErrOf};
+ghost use Rattle.std.specs.Prelude.{◌≡◌, ◌+◌, min, ◌<◌, ◌≤◌, ◌^◌, [], ◌∷◌, ◌++◌, true, false, not, ◌⊎◌, ℕ, List, IsNone, length, position, string_bytes, vec_len, vec_capacity, Some, None, IsTrue, IfSome, IfNone, IsOk, IfOk, OnOk, OnErr, IsErrOf};
 ghost use Rattle.std.specs.Str.{bytes_eq};
 ghost use Rattle.std.specs.Option.{option_copied};
 ghost use Rattle.orca_base.specs.declared.limits.TheConstants.{MAX_FILE_BYTES};
 ghost use Rattle.std.specs.Ordering.{nat_cmp};
 ghost use Rattle.std.specs.Cmp.Lexicographic.{slice_cmp};
-ghost use Rattle.std.specs.FinMap.{get, find, insert};
-ghost use Rattle.orca_rig.specs.Outside.{Rose, after_call, last_count, wants_after};
-ghost use Rattle.orca_rig.specs.Outside.Ask.{Append, Begin, Load, Save};
-ghost use Rattle.orca_rig.specs.Saved.{IsAppended, IsSaved, is_spoilt, names_of, spoilt_after};
-ghost use Rattle.orca_rig.specs.InMemory.{named, files_of, asks_of, ask_of, names_differ, is_to_fail, IsUnloadable};
+ghost use Rattle.std.specs.FinMap.{get, find, insert, remove};
+ghost use Rattle.orca_rig.specs.Outside.{Ask, Rose, after_call, last_count, wants_after};
+ghost use Rattle.orca_rig.specs.Outside.Ask.{Append, Begin, Load, Remove, Save};
+ghost use Rattle.orca_rig.specs.Saved.{IsAppended, IsClaimed, IsRemoved, IsSaved, is_spoilt, names_of, spoilt_after};
+ghost use Rattle.orca_rig.specs.InMemory.{named, files_of, asks_of, ask_of, names_differ, is_to_fail, IsUnloadable, claims_of, claims_after, found, is_own};
 
-use crate::{Disk, Files, Misses, OutsideFault, is_spoilt, keep_spoilt};
+use crate::{Claim, Disk, Files, Misses, OutsideFault, is_spoilt, keep_spoilt};
 use orca_base::Memory;
 use orca_base::limits::MAX_FILE_BYTES;
 use std::alloc::{AllocError, Global};
 use std::marker::Model;
 
 /// A call of a store: a load of the file of a name, a save of bytes under a name, a begin of a file
-/// of a name with bytes, or an append of bytes to the file of a name.
+/// of a name with bytes, an append of bytes to the file of a name, a claim of a name with bytes, or
+/// a removal of the file of a name.
 #[derive(Drop)]
 enum Call {
     Load(String),
     Save(String, Vec<u8>),
     Begin(String, Vec<u8>),
     Append(String, Vec<u8>),
+    Claim(String, Vec<u8>),
+    Remove(String),
+}
+
+/// The names that are held: that of the file that was claimed, and those that others hold.
+#[derive(Drop)]
+struct Holds {
+    own: Option<String>,
+    others: Vec<String>,
 }
 
 /// A store of files in memory. It fails where it is told to, and then holds what it held.
@@ -33,12 +43,13 @@ pub struct MemFiles {
     calls: Vec<Call>,
     to_fail: Vec<u64>,
     misses: Misses,
-    /// The names of the files of which a save, a begin or an append has failed.
+    /// The names of the files of which a save, a begin, an append or a claim has failed.
     spoilt: Vec<String>,
+    holds: Holds,
 }
 
 impl Model for MemFiles {
-    ghost use Rattle.orca_rig.specs.InMemory.{Store, store_code, files_of, asks_of};
+    ghost use Rattle.orca_rig.specs.InMemory.{Store, store_code, files_of, asks_of, claims_of};
     ghost use Rattle.orca_rig.specs.Saved.{names_of};
 
     ghost Value = { Store };
@@ -52,12 +63,13 @@ impl Model for MemFiles {
       faults = f.misses.faults;
       wants = f.misses.wants;
       spoilt = names_of f.spoilt.items;
+      claims = claims_of f.holds;
     } };
 }
 
 impl MemFiles {
-    /// A store that holds exactly these files, each a name and its bytes. `fail` lists the calls
-    /// that are to fail, by their numbers, counted from 1.
+    /// A store that holds exactly these files, each a name and its bytes. No other program holds
+    /// one. `fail` lists the calls that are to fail, by their numbers, counted from 1.
     pub fn new(contents: Vec<(String, Vec<u8>)>, fail: Vec<u64>) -> Result<MemFiles, Memory>
         // No name stands twice.
         requires { IsTrue (names_differ (named contents.items)) }
@@ -68,6 +80,8 @@ impl MemFiles {
         ensures faults { IfOk result (λ files. files.faults ≡ 0) }
         ensures wants { IfOk result (λ files. files.wants ≡ 0) }
         ensures spoilt { IfOk result (λ files. files.spoilt ≡ []) }
+        ensures claims { IfOk result (λ files. files.claims
+            ≡ record { own = None; others = [] }) }
     {
         let alloc = *contents.allocator();
         Ok(MemFiles {
@@ -76,7 +90,23 @@ impl MemFiles {
             to_fail: fail,
             misses: Misses::none(),
             spoilt: Vec::new(alloc),
+            holds: Holds {
+                own: None,
+                others: Vec::new(alloc),
+            },
         })
+    }
+
+    /// From now on another program holds the file of that name, as long as that is there.
+    pub fn hold(&mut self, name: String) -> Result<(), Memory>
+        ensures held { OnOk result (self.new ≡ record self.old {
+          claims = record self.old.claims {
+            others = self.old.claims.others ++ string_bytes name ∷ [];
+          };
+        }) }
+        ensures same { OnErr result (self.new ≡ self.old) }
+    {
+        Ok(self.holds.others.push(name)?)
     }
 
     /// The bytes of the file of that name; none exactly where no file has it.
@@ -147,6 +177,32 @@ fn put_file(files: &mut Vec<(String, Vec<u8>)>, name: String, bytes: Vec<u8>)
     }
 }
 
+/// Whether a file has another name.
+fn has_other(file: &(String, Vec<u8>), name: &str) -> bool
+    ensures { result ≡ not (bytes_eq name.now (string_bytes file.now.0)) }
+{
+    name != file.0.as_str()
+}
+
+/// Takes away the file of that name.
+fn drop_file(files: &mut Vec<(String, Vec<u8>)>, name: &str)
+    ensures { files_of files.new.items ≡ remove (files_of files.old.items) name.now }
+{
+    files.retain(|file| has_other(file, name));
+}
+
+impl Holds {
+    /// Whether the file of that name is the one that was claimed.
+    fn is_own(&self, name: &str) -> bool
+        ensures { result ≡ is_own (claims_of self.now) name.now }
+    {
+        match &self.own {
+            Some(own) => name == own.as_str(),
+            None => false,
+        }
+    }
+}
+
 /// Whether the next call is to fail.
 fn is_to_fail(to_fail: &[u64], calls: &[Call]) -> bool
     requires { length calls.now < 2 ^ 63 }
@@ -156,7 +212,8 @@ fn is_to_fail(to_fail: &[u64], calls: &[Call]) -> bool
     to_fail.contains(&number)
 }
 
-/// Takes the room of a save, a begin or an append: for its call, for a new file, and for a spoilt name.
+/// Takes the room of a save, a begin, an append or a claim: for its call, for a new file, and for a
+/// spoilt name.
 fn take_room(
     calls: &mut Vec<Call>,
     files: &mut Vec<(String, Vec<u8>)>,
@@ -194,6 +251,13 @@ fn append_call(alloc: Global, name: &str, bytes: &[u8]) -> Result<Call, AllocErr
     ensures { IfOk result (λ call. ask_of call ≡ Append name.now bytes.now) }
 {
     Ok(Call::Append(String::from_str(alloc, name)?, bytes.to_vec(alloc)?))
+}
+
+/// A claim, as it is kept.
+fn claim_call(alloc: Global, name: &str, bytes: &[u8]) -> Result<Call, AllocError>
+    ensures { IfOk result (λ call. ask_of call ≡ Ask.Claim name.now bytes.now) }
+{
+    Ok(Call::Claim(String::from_str(alloc, name)?, bytes.to_vec(alloc)?))
 }
 
 /// The bytes of a file with more at their end.
@@ -245,6 +309,7 @@ impl MemFiles {
         ensures fail { self.new.fail ≡ self.old.fail }
         ensures faults { self.new.faults ≡ self.old.faults }
         ensures wants { self.new.wants ≡ self.old.wants }
+        ensures claims { self.new.claims ≡ self.old.claims }
         ensures listed { IsErrOf result OutsideFault.Failed
             → IsTrue (is_to_fail self.old.fail (length self.old.asked)) }
         ensures not_listed { OnOk result (is_to_fail self.old.fail (length self.old.asked)
@@ -275,6 +340,7 @@ impl MemFiles {
         ensures fail { self.new.fail ≡ self.old.fail }
         ensures faults { self.new.faults ≡ self.old.faults }
         ensures wants { self.new.wants ≡ self.old.wants }
+        ensures claims { self.new.claims ≡ self.old.claims }
         ensures listed { IsErrOf result OutsideFault.Failed
             → IsTrue (is_to_fail self.old.fail (length self.old.asked)) }
         ensures not_listed { OnOk result (is_to_fail self.old.fail (length self.old.asked)
@@ -296,6 +362,7 @@ impl MemFiles {
         ensures fail { self.new.fail ≡ self.old.fail }
         ensures faults { self.new.faults ≡ self.old.faults }
         ensures wants { self.new.wants ≡ self.old.wants }
+        ensures claims { self.new.claims ≡ self.old.claims }
         ensures listed { IsErrOf result OutsideFault.Failed
             → IsTrue (is_to_fail self.old.fail (length self.old.asked)) }
         ensures not_listed { OnOk result (is_to_fail self.old.fail (length self.old.asked)
@@ -318,6 +385,7 @@ impl MemFiles {
         ensures fail { self.new.fail ≡ self.old.fail }
         ensures faults { self.new.faults ≡ self.old.faults }
         ensures wants { self.new.wants ≡ self.old.wants }
+        ensures claims { self.new.claims ≡ self.old.claims }
         ensures cause { IsErrOf result OutsideFault.Failed
             → is_to_fail self.old.fail (length self.old.asked) ≡ false
             → (is_spoilt self.old.spoilt name.now ≡ true)
@@ -337,6 +405,89 @@ impl MemFiles {
         let kept = joined(alloc, held, bytes)?;
         self.calls.push_reserved(call);
         put_file(&mut self.files, own, kept);
+        Ok(())
+    }
+
+    /// What a claim of that name finds.
+    fn find(&self, name: &str) -> Claim
+        ensures { result ≡ found self.now name.now }
+    {
+        if bytes_of(&self.files, name).is_none() {
+            Claim::Made
+        } else if is_spoilt(&self.holds.others, name) {
+            Claim::Held
+        } else {
+            Claim::Left
+        }
+    }
+
+    /// Does a claim. Nothing is counted.
+    fn make(&mut self, name: &str, bytes: &[u8]) -> Result<Claim, OutsideFault>
+        ensures claimed { IsClaimed result name.now bytes.now
+            (Some self.old.contents) (Some self.new.contents) }
+        ensures untouched { OnErr result (self.new.contents ≡ self.old.contents) }
+        ensures spoilt { (file : List ℕ) → is_spoilt self.new.spoilt file
+            ≡ spoilt_after result name.now file (is_spoilt self.old.spoilt file) }
+        ensures asked { Some self.new.asked
+            ≡ after_call result (Ask.Claim name.now bytes.now) (Some self.old.asked) }
+        ensures fail { self.new.fail ≡ self.old.fail }
+        ensures faults { self.new.faults ≡ self.old.faults }
+        ensures wants { self.new.wants ≡ self.old.wants }
+        ensures claims { self.new.claims ≡ claims_after result name.now self.old.claims }
+        ensures found { IfOk result (λ claim. claim ≡ found self.old name.now) }
+        ensures listed { IsErrOf result OutsideFault.Failed
+            → IsTrue (is_to_fail self.old.fail (length self.old.asked)) }
+        ensures not_listed { OnOk result (is_to_fail self.old.fail (length self.old.asked)
+            ≡ false) }
+    {
+        take_room(&mut self.calls, &mut self.files, &mut self.spoilt)?;
+        let alloc = *self.files.allocator();
+        let call = claim_call(alloc, name, bytes)?;
+        let held = String::from_str(alloc, name)?;
+        if is_to_fail(&self.to_fail, &self.calls) {
+            self.calls.push_reserved(call);
+            return keep_spoilt(&mut self.spoilt, held, Err(OutsideFault::Failed));
+        }
+        let claim = self.find(name);
+        if let Claim::Made = claim {
+            let kept = bytes.to_vec(alloc)?;
+            let own = String::from_str(alloc, name)?;
+            put_file(&mut self.files, held, kept);
+            self.holds.own = Some(own);
+        }
+        self.calls.push_reserved(call);
+        Ok(claim)
+    }
+
+    /// Does a removal. Nothing is counted.
+    fn take_away(&mut self, name: &str) -> Result<(), OutsideFault>
+        ensures removed { IsRemoved result name.now
+            (Some self.old.contents) (Some self.new.contents) }
+        ensures asked { Some self.new.asked
+            ≡ after_call result (Remove name.now) (Some self.old.asked) }
+        ensures same { self.new ≡ record self.old {
+          contents = self.new.contents;
+          asked = self.new.asked;
+          claims = self.new.claims;
+        } }
+        ensures gone { OnOk result (self.new.claims ≡ record self.old.claims { own = None }) }
+        ensures held { OnErr result (self.new.claims ≡ self.old.claims) }
+        ensures own { OnOk result (is_own self.old.claims name.now ≡ true) }
+        ensures cause { IsErrOf result OutsideFault.Failed
+            → is_to_fail self.old.fail (length self.old.asked) ≡ false
+            → is_own self.old.claims name.now ≡ false }
+        ensures not_listed { OnOk result (is_to_fail self.old.fail (length self.old.asked)
+            ≡ false) }
+    {
+        self.calls.reserve(1)?;
+        let call = Call::Remove(String::from_str(*self.files.allocator(), name)?);
+        let fails = is_to_fail(&self.to_fail, &self.calls);
+        self.calls.push_reserved(call);
+        if fails || !self.holds.is_own(name) {
+            return Err(OutsideFault::Failed);
+        }
+        drop_file(&mut self.files, name);
+        self.holds.own = None;
         Ok(())
     }
 }
@@ -369,6 +520,7 @@ impl Files for MemFiles {
         ensures wants { self.new.wants ≡ wants_after result self.old.wants }
 
         ensures fail { self.new.fail ≡ self.old.fail }
+        ensures claims { self.new.claims ≡ self.old.claims }
         ensures cause { IsErrOf result OutsideFault.Failed
             → is_to_fail self.old.fail (length self.old.asked) ≡ false
             → IsUnloadable self.old.contents name.now }
@@ -399,6 +551,7 @@ impl Files for MemFiles {
         ensures wants { self.new.wants ≡ wants_after result self.old.wants }
 
         ensures fail { self.new.fail ≡ self.old.fail }
+        ensures claims { self.new.claims ≡ self.old.claims }
         ensures untouched { OnErr result (self.new.contents ≡ self.old.contents) }
         ensures listed { IsErrOf result OutsideFault.Failed
             → IsTrue (is_to_fail self.old.fail (length self.old.asked)) }
@@ -429,6 +582,7 @@ impl Files for MemFiles {
         ensures wants { self.new.wants ≡ wants_after result self.old.wants }
 
         ensures fail { self.new.fail ≡ self.old.fail }
+        ensures claims { self.new.claims ≡ self.old.claims }
         ensures untouched { OnErr result (self.new.contents ≡ self.old.contents) }
         ensures listed { IsErrOf result OutsideFault.Failed
             → IsTrue (is_to_fail self.old.fail (length self.old.asked)) }
@@ -461,6 +615,7 @@ impl Files for MemFiles {
         ensures wants { self.new.wants ≡ wants_after result self.old.wants }
 
         ensures fail { self.new.fail ≡ self.old.fail }
+        ensures claims { self.new.claims ≡ self.old.claims }
         ensures untouched { OnErr result (self.new.contents ≡ self.old.contents) }
         ensures cause { IsErrOf result OutsideFault.Failed
             → is_to_fail self.old.fail (length self.old.asked) ≡ false
@@ -472,6 +627,67 @@ impl Files for MemFiles {
             → self.new.faults ≡ min (self.old.faults + 1) last_count }
     {
         let done = self.join(name, bytes);
+        self.misses.count(done)
+    }
+
+    fn claim(&mut self, name: &str, bytes: &[u8]) -> Result<Claim, OutsideFault>
+        ensures claimed { IsClaimed result name.now bytes.now
+            (Some self.old.contents) (Some self.new.contents) }
+        ensures spoilt { (file : List ℕ) → is_spoilt self.new.spoilt file
+            ≡ spoilt_after result name.now file (is_spoilt self.old.spoilt file) }
+        ensures asked { Some self.new.asked
+            ≡ after_call result (Ask.Claim name.now bytes.now) (Some self.old.asked) }
+
+        ensures count { self.old.faults ≤ self.new.faults }
+        ensures failed { IsErrOf result OutsideFault.Failed → Rose self.old.faults self.new.faults }
+        ensures steady { OnOk result (self.new.faults ≡ self.old.faults) }
+        ensures steady_memory { IsErrOf result OutsideFault.Memory
+            → self.new.faults ≡ self.old.faults }
+        ensures wants { self.new.wants ≡ wants_after result self.old.wants }
+
+        ensures fail { self.new.fail ≡ self.old.fail }
+        ensures claims { self.new.claims ≡ claims_after result name.now self.old.claims }
+        ensures found { IfOk result (λ claim. claim ≡ found self.old name.now) }
+        ensures untouched { OnErr result (self.new.contents ≡ self.old.contents) }
+        ensures listed { IsErrOf result OutsideFault.Failed
+            → IsTrue (is_to_fail self.old.fail (length self.old.asked)) }
+        ensures not_listed { OnOk result (is_to_fail self.old.fail (length self.old.asked)
+            ≡ false) }
+        ensures counted { IsErrOf result OutsideFault.Failed
+            → self.new.faults ≡ min (self.old.faults + 1) last_count }
+        ensures quiet { self.old.fail ≡ [] → self.new.faults ≡ self.old.faults }
+    {
+        let done = self.make(name, bytes);
+        self.misses.count(done)
+    }
+
+    fn remove(&mut self, name: &str) -> Result<(), OutsideFault>
+        ensures removed { IsRemoved result name.now
+            (Some self.old.contents) (Some self.new.contents) }
+        ensures spoilt { self.new.spoilt ≡ self.old.spoilt }
+        ensures asked { Some self.new.asked
+            ≡ after_call result (Remove name.now) (Some self.old.asked) }
+
+        ensures count { self.old.faults ≤ self.new.faults }
+        ensures failed { IsErrOf result OutsideFault.Failed → Rose self.old.faults self.new.faults }
+        ensures steady { OnOk result (self.new.faults ≡ self.old.faults) }
+        ensures steady_memory { IsErrOf result OutsideFault.Memory
+            → self.new.faults ≡ self.old.faults }
+        ensures wants { self.new.wants ≡ wants_after result self.old.wants }
+
+        ensures fail { self.new.fail ≡ self.old.fail }
+        ensures gone { OnOk result (self.new.claims ≡ record self.old.claims { own = None }) }
+        ensures held { OnErr result (self.new.claims ≡ self.old.claims) }
+        ensures own { OnOk result (is_own self.old.claims name.now ≡ true) }
+        ensures cause { IsErrOf result OutsideFault.Failed
+            → is_to_fail self.old.fail (length self.old.asked) ≡ false
+            → is_own self.old.claims name.now ≡ false }
+        ensures not_listed { OnOk result (is_to_fail self.old.fail (length self.old.asked)
+            ≡ false) }
+        ensures counted { IsErrOf result OutsideFault.Failed
+            → self.new.faults ≡ min (self.old.faults + 1) last_count }
+    {
+        let done = self.take_away(name);
         self.misses.count(done)
     }
 }

@@ -1,15 +1,16 @@
 ghost use Rattle.std.specs.Prelude.{◌≡◌, ◌≢◌, ◌≤◌, ◌↔◌, ℕ, ◌+◌, ◌<◌, ◌^◌, min, [], ◌∷◌, ◌++◌, true, false, length, is_some, if◌then◌else◌, vec_len, vec_capacity, Some, None, IsTrue, IsNone, IfOk, OnOk, OnErr, IsErrOf};
 ghost use Rattle.std.specs.Option.{option_map, option_to_list};
 ghost use Rattle.orca_rig.specs.Outside.{Rose, last_count, wants_after};
-ghost use Rattle.orca_rig.specs.Arrived.{empty_log, count_of, after_listen, after_poll, arrived, moment_after, is_ending, MayAnswer};
+ghost use Rattle.orca_rig.specs.Arrived.{empty_log, hands_of, count_of, after_listen, after_poll, after_tell, arrived, moment_after, is_ending, MayAnswer};
 ghost use Rattle.orca_rig.specs.InMemory.{is_to_fail};
 ghost use Rattle.orca_rig.specs.Schedule.{Schedule, is_in_order, is_arrival, are_arrivals, awaited, first_turn, served_after, served, calls_of, IsAnsweredInOrder};
 ghost use Rattle.orca_base.specs.declared.limits.TheConstants.{ARRIVAL_BYTES, MAX_HANDS};
-ghost use Rattle.orca_rig.specs.KeptPolls.{poll_of};
+ghost use Rattle.orca_rig.specs.KeptPolls.{poll_of, told_of};
 
 use crate::{Answer, Inbox, MemAnswer, Misses, Outs, OutsideFault};
 use orca_base::limits::ARRIVAL_BYTES;
 use orca_base::{Memory, Wire};
+use std::alloc::AllocError;
 use std::collections::VecDeque;
 use std::marker::Model;
 
@@ -22,6 +23,13 @@ struct Polled {
     bytes: Wire,
 }
 
+/// What a hand was told, as it is kept.
+#[derive(Drop)]
+struct Telling {
+    hand: u8,
+    bytes: Vec<u8>,
+}
+
 /// An inbox in memory: it gives the answers that it was made with, and fails where it is told to.
 #[derive(Drop)]
 pub struct MemInbox {
@@ -32,6 +40,7 @@ pub struct MemInbox {
     hands: Option<u8>,
     start: Option<u64>,
     polls: Vec<Polled>,
+    told: Vec<Telling>,
     listened: bool,
     ended: bool,
     misses: Misses,
@@ -81,6 +90,7 @@ impl MemInbox {
             hands: None,
             start: None,
             polls,
+            told: Vec::new(alloc),
             listened: false,
             ended: false,
             misses: Misses::none(),
@@ -107,6 +117,18 @@ impl MemInbox {
         }
         self.start = Some(self.last);
         Ok(self.last)
+    }
+
+    /// Keeps what a hand is told. Nothing is counted.
+    fn keep_told(&mut self, hand: u8, bytes: &[u8]) -> Result<(), AllocError>
+        ensures { self.new ≡ record self.old {
+          log = after_tell result (record { hand = hand; bytes = bytes.now }) self.old.log;
+        } }
+    {
+        self.told.reserve(1)?;
+        let bytes = bytes.to_vec(*self.told.allocator())?;
+        self.told.push_reserved(Telling { hand, bytes });
+        Ok(())
     }
 }
 
@@ -241,6 +263,8 @@ impl Inbox for MemInbox {
 
     ghost listened = { λ i. i.listened };
 
+    ghost hand_count = { λ i. hands_of i.log };
+
     ghost ended = { λ i. i.ended };
 
     ghost faults = { λ i. i.faults };
@@ -255,6 +279,7 @@ impl Inbox for MemInbox {
             ≡ Some (after_listen result name.now hands self.old.log) }
         ensures moment { IfOk result (λ at. at ≡ self.old.last) }
         ensures last { self.new.last ≡ self.old.last }
+        ensures hand_count { OnOk result (hands_of self.new.log ≡ hands) }
         ensures listened { self.new.listened ≡ true }
         ensures ended { self.new.ended ≡ self.old.ended }
         ensures count { self.old.faults ≤ self.new.faults }
@@ -295,6 +320,7 @@ impl Inbox for MemInbox {
         }) self.old.log) }
         ensures last { self.new.last ≡ moment_after result self.old.last }
         ensures listened { self.new.listened ≡ self.old.listened }
+        ensures hand_count { hands_of self.new.log ≡ hands_of self.old.log }
         ensures ended { self.new.ended ≡ is_ending result }
         ensures count { self.old.faults ≤ self.new.faults }
         ensures failed { result ≡ Answer.Failed → Rose self.old.faults self.new.faults }
@@ -319,5 +345,22 @@ impl Inbox for MemInbox {
         self.polls
             .push_reserved(poll_to_keep(outs, until, answer, bytes));
         answer
+    }
+
+    fn tell(&mut self, hand: u8, bytes: &[u8]) -> Result<(), Memory>
+        requires heard { self.old.listened ≡ true }
+        requires seated { hand < hands_of self.old.log }
+        ensures told { self.new ≡ record self.old {
+          log = after_tell result (record { hand = hand; bytes = bytes.now }) self.old.log;
+          wants = self.new.wants;
+        } }
+        ensures taken { OnOk result (self.new.wants ≡ self.old.wants) }
+        ensures refused { OnErr result (self.new.wants ≡ min (self.old.wants + 1) last_count) }
+    {
+        if self.keep_told(hand, bytes).is_err() {
+            self.misses.wants = self.misses.wants.saturating_add(1);
+            return Err(Memory);
+        }
+        Ok(())
     }
 }

@@ -13,18 +13,18 @@ pub fn is_spoilt(spoilt: &[String], name: &str) -> bool
     spoilt.iter().any(|other| name == other.as_str())
 }
 
-/// Keeps the name of a file whose save, begin or append has failed. There is room for it.
-pub fn keep_spoilt(
+/// Keeps the name of a file whose save, begin, append or claim has failed. There is room for it.
+pub fn keep_spoilt<T>(
     spoilt: &mut Vec<String>,
     name: String,
-    done: Result<(), OutsideFault>,
-) -> Result<(), OutsideFault>
+    done: Result<T, OutsideFault>,
+) -> Result<T, OutsideFault>
     requires { vec_len spoilt.old < vec_capacity spoilt.old }
     ensures same { result ≡ done }
     ensures spoilt { (file : List ℕ) → is_spoilt (names_of spoilt.new.items) file
         ≡ spoilt_after done (string_bytes name) file (is_spoilt (names_of spoilt.old.items) file) }
 {
-    if let Err(OutsideFault::Failed) = done {
+    if let Err(OutsideFault::Failed) = &done {
         put_name(spoilt, name);
     }
     done
