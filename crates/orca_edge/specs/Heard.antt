@@ -1,5 +1,5 @@
 -- What the streams of an inbox gave, and what is answered of it.
-use Rattle.std.specs.Prelude.{◌≡◌, ◌≢◌, ℕ, ◌+◌, ◌<◌, ◌≤◌, ◌==◌, ◌⊎◌, if◌then◌else◌, List, [], length, take, slice_index_or, Option, Result, Ok, Err, Bool, true, false}
+use Rattle.std.specs.Prelude.{◌≡◌, ◌≢◌, ℕ, ◌+◌, ◌<◌, ◌≤◌, ◌==◌, ◌⊎◌, if◌then◌else◌, List, [], ◌∷◌, length, take, slice_index_or, Option, Result, Ok, Err, Bool, true, false}
 use Rattle.std.specs.List.{list_any}
 use Rattle.std.specs.IoError.{error_kind}
 use Rattle.std.specs.Io.KnownBytes.{Consumes, Keeps}
@@ -105,11 +105,16 @@ is_broken state.Open = false
 is_broken state.Ended = false
 is_broken state.Broken = true
 
--- nothing yet while a hand is open; after that a failure if one has broken, and else the end
+-- the stream of hand 0 has broken
+abbrev pub is_first_broken : {S : Type 0} → List (Hand S) → Bool
+is_first_broken [] = false
+is_first_broken (hand ∷ hands) = is_broken hand.state
+
+-- nothing yet while a hand is open; after that a failure if hand 0 has broken, and else the end
 abbrev pub last_turn : {S : Type 0} → List (Hand S) → Glance
 last_turn hands =
     if list_any (λ hand. is_open hand.state) hands then turn.Nothing
-    else (if list_any (λ hand. is_broken hand.state) hands then turn.Answered answer.Failed
+    else (if is_first_broken hands then turn.Answered answer.Failed
     else turn.Answered answer.End)
 
 -- the turn in which a hand gave this piece: the bytes are answered, and the hands are read again

@@ -1,8 +1,9 @@
 -- Names of files, and of what hands are heard over.
-use Rattle.std.specs.Prelude.{ℕ, ◌-◌, ◌≡◌, ◌≤◌, nat_lt, codes, take, Bool, true, false, if◌then◌else◌, List, [], ◌∷◌, ◌==◌, ◌||◌, not, fold, length, replicate, Option, Some, None, option_and_then}
+use Rattle.std.specs.Prelude.{ℕ, ◌-◌, ◌≡◌, ◌≤◌, nat_lt, codes, take, Bool, true, false, if◌then◌else◌, List, [], ◌∷◌, ◌==◌, ◌||◌, not, fold, length, replicate, Option, Some, None, option_and_then, String, string_bytes}
 use Rattle.std.specs.List.{list_any}
-use Rattle.std.specs.Option.{is_some, unwrap_or}
+use Rattle.std.specs.Option.{is_some, unwrap_or, option_map_or}
 use Rattle.std.specs.Str.{bytes_eq}
+use Rattle.std.specs.declared.alloc.Global.{Global}
 use Rattle.std.specs.Path.{path_join, path_parent, path_with_file_name, rsplit_once}
 use Rattle.orca_edge.specs.declared.hands.Hand.{Hand}
 use Rattle.orca_edge.specs.declared.real_inbox.Source.{Source}
@@ -65,6 +66,10 @@ LeadsTo name path =
 abbrev pub IsBeside : List ℕ → List ℕ → List ℕ → Type 0
 IsBeside fresh kept target =
     (kept ≡ target) × ((name : List ℕ) × (fresh ≡ path_with_file_name target name))
+
+-- whether a file is the one that was claimed
+abbrev pub is_own : Option (String Global) → List ℕ → Bool
+is_own own name = option_map_or (λ held. bytes_eq name (string_bytes held)) own false
 
 -- whether a journal may take the place of a file that holds this: of nothing, and of an older one,
 -- which begins as each script does

@@ -6,11 +6,12 @@ ghost use Rattle.std.specs.Io.KnownBytes.{Appends};
 ghost use Rattle.orca_edge.specs.Names.{behind, LeadsTo, IsBeside};
 
 use crate::whole::{status_of, write_whole};
+use libc::{LOCK_EX, LOCK_NB};
 use orca_rig::{Disk, OutsideFault};
 use std::alloc::AllocError;
 use std::fs::{OpenFile, OpenOptions, Permissions};
 use std::io::{ErrorKind, Write};
-use std::os::fd::IntoRawFd;
+use std::os::fd::{AsRawFd, IntoRawFd};
 use std::os::unix::fs::OpenOptionsExt;
 use std::path::PathBuf;
 use std::{fs, io, rt};
@@ -21,7 +22,8 @@ const MAX_LINKS: u8 = 40;
 /// The most names that are tried for a new file.
 const MAX_NAMES: u16 = 1000;
 
-/// The mode of a new file that replaces another, until it gets the other's permissions.
+/// The mode of a new file that replaces another, until it gets the other's permissions, and that of
+/// one that is claimed.
 const PRIVATE: u32 = 0o600;
 
 /// The mode of a new file that replaces none, which the system narrows by the process's umask.
@@ -123,6 +125,23 @@ impl<F: Write + OpenFile + IntoRawFd + Drop> Fresh<F> {
     }
 }
 
+impl<F: OpenFile + AsRawFd + Drop> Fresh<F> {
+    /// Locks the new file, and gives it the name of the target too, if nothing has that: so the
+    /// name is never there without the lock. Then it gives the file, still open.
+    fn put_locked<R: rt::Files>(self, rt: &R, paths: &Paths) -> io::Result<Option<F>>
+        requires whole { self.is_whole ≡ true }
+        requires rights { self.has_rights ≡ true }
+    {
+        lock(&self.file, LOCK_EX)?;
+        let _told = sync(&self.file)?;
+        match fs::hard_link(rt, &paths.fresh, &paths.target) {
+            Ok(()) => Ok(Some(self.file)),
+            Err(error) if error.kind() == ErrorKind::AlreadyExists => Ok(None),
+            Err(error) => Err(error),
+        }
+    }
+}
+
 /// Puts a new file in the place of that name, whole or not at all.
 pub(crate) fn replace<R>(
     rt: &R,
@@ -159,6 +178,52 @@ where
     let file = settle(rt, done, &paths)?;
     sync_folder(rt, &paths.folder)?;
     Ok(file)
+}
+
+/// Makes a file of that name, which others may not read, and gives it, locked, to be added to; none
+/// if something has the name. The disk has it then.
+pub(crate) fn make_locked<R>(
+    rt: &R,
+    name: &str,
+    bytes: &[u8],
+) -> Result<Option<R::File>, OutsideFault>
+where
+    R: rt::Files + AllocGlobal,
+    R::File: AsRawFd + IntoRawFd,
+{
+    let target = PathBuf::from_str(rt.alloc(), name)?;
+    if is_there(rt, &target)? {
+        return Ok(None);
+    }
+    let (file, paths) = create_beside(rt, target, PRIVATE)?;
+    let made = lock_in(rt, file, bytes, &paths);
+    // It needs the name no more by which it was made.
+    let removed = fs::remove_file(rt, &paths.fresh);
+    let made = made?;
+    if removed.is_err() {
+        return Err(OutsideFault::Failed);
+    }
+    sync_folder(rt, &paths.folder)?;
+    Ok(made)
+}
+
+/// Whether something has this name, be it a link that leads nowhere.
+fn is_there<R: rt::Files>(rt: &R, path: &PathBuf) -> io::Result<bool> {
+    match fs::symlink_metadata(rt, path) {
+        Ok(_) => Ok(true),
+        Err(error) if error.kind() == ErrorKind::NotFound => Ok(false),
+        Err(error) => Err(error),
+    }
+}
+
+/// Fills the new file, and gives it the name too, locked; none if something has that.
+fn lock_in<R>(rt: &R, file: R::File, bytes: &[u8], paths: &Paths) -> io::Result<Option<R::File>>
+where
+    R: rt::Files,
+    R::File: AsRawFd + IntoRawFd,
+{
+    let permissions = None;
+    filled(file, Wanted { bytes, permissions })?.put_locked(rt, paths)
 }
 
 /// Fills the new file, and puts it in the place of the other.
@@ -293,6 +358,12 @@ fn folder_of<R: AllocGlobal>(rt: &R, file: &PathBuf) -> Result<PathBuf, AllocErr
         ≡ path_with_file_name (path_buf_bytes file.now) (codes ".")) }
 {
     file.with_file_name(rt.alloc(), ".")
+}
+
+/// Locks a file in this way, as long as it is open. A lock of another program that forbids it is
+/// [`ErrorKind::WouldBlock`].
+pub(crate) fn lock<F: AsRawFd>(file: &F, way: i32) -> io::Result<()> {
+    status_of(libc::flock(file.as_raw_fd(), way | LOCK_NB))
 }
 
 /// Waits until the disk has what was written to the file.

@@ -1,13 +1,13 @@
 //! The streams of the hands, the turns over them, and the waits between the turns.
 
-ghost use Rattle.std.specs.Prelude.{◌≡◌, ◌≤◌, ◌<◌, ◌+◌, ◌++◌, ◌∷◌, [], min, nat_le, true, false, None, if◌then◌else◌, IfOk, OnOk, length};
+ghost use Rattle.std.specs.Prelude.{◌≡◌, ◌≢◌, ◌≤◌, ◌<◌, ◌+◌, ◌++◌, ◌∷◌, [], ℕ, min, nat_le, true, false, None, if◌then◌else◌, IfOk, OnOk, length, slice_index_or};
 ghost use Rattle.std.specs.List.{list_any};
 ghost use Rattle.std.specs.Option.{option_map_or};
 ghost use Rattle.std.specs.Io.KnownBytes.{Consumes};
 ghost use Rattle.orca_base.specs.declared.limits.TheConstants.{ARRIVAL_BYTES};
 ghost use Rattle.orca_rig.specs.Arrived.{MayAnswer};
 ghost use Rattle.orca_rig.specs.Outside.{last_count};
-ghost use Rattle.orca_edge.specs.Heard.{IsPieceOf, IsPiece, piece_bytes, hand_bytes, turn_bytes, is_moment, AreHeard, IsHandTurn, IsNext, IsNextAfter, TellsRead, state_after, hand_turn, is_open, is_broken, last_turn};
+ghost use Rattle.orca_edge.specs.Heard.{IsPieceOf, IsPiece, piece_bytes, hand_bytes, turn_bytes, is_moment, AreHeard, IsHandTurn, IsNext, IsNextAfter, TellsRead, state_after, hand_turn, is_open, is_broken, is_first_broken, last_turn};
 
 use crate::moments::{FOREVER, Wait, Watch, has_come, milliseconds, wait_of};
 use crate::whole::{TRIES, status_of};
@@ -39,6 +39,12 @@ const NOT_ASKED: pollfd = pollfd {
 pub(crate) trait Wakes {
     /// The descriptors that have something when the stream has: one, and perhaps another.
     fn wakers(&self) -> (RawFd, RawFd);
+}
+
+/// A stream that may have somewhere to show something.
+pub(crate) trait Shows {
+    /// Shows these bytes there, as far as that takes them at once.
+    fn show(&mut self, bytes: &[u8]);
 }
 
 /// The hands, hand 0 first.
@@ -254,7 +260,7 @@ impl<S: Read> Hands<S> {
     {
         if self.is_open() {
             Glance::Nothing
-        } else if self.has_broken() {
+        } else if self.is_broken() {
             Glance::Answered(Answer::Failed)
         } else {
             Glance::Answered(Answer::End)
@@ -268,11 +274,37 @@ impl<S: Read> Hands<S> {
         self.hands.iter().any(|hand| hand.state.is_open())
     }
 
-    /// Whether a hand has broken.
-    fn has_broken(&self) -> bool
-        ensures { result ≡ list_any (λ hand. is_broken hand.state) self.now.hands.items }
+    /// Whether hand 0 has broken.
+    fn is_broken(&self) -> bool
+        ensures { result ≡ is_first_broken self.now.hands.items }
     {
-        self.hands.iter().any(|hand| hand.state.is_broken())
+        match self.hands.first() {
+            Some(hand) => hand.state.is_broken(),
+            None => false,
+        }
+    }
+}
+
+impl<S: Shows> Hands<S> {
+    /// Shows these bytes to a hand, if that is open.
+    pub(crate) fn tell(&mut self, hand: u8, bytes: &[u8])
+        ensures count { length self.new.hands.items ≡ length self.old.hands.items }
+        ensures others { (other : ℕ) (any : Hand S) → other ≢ hand
+            → slice_index_or self.new.hands.items other any
+            ≡ slice_index_or self.old.hands.items other any }
+        ensures state { (other : ℕ) (any : Hand S)
+            → (slice_index_or self.new.hands.items other any).state
+            ≡ (slice_index_or self.old.hands.items other any).state }
+        ensures closed { (any : Hand S)
+            → is_open (slice_index_or self.old.hands.items hand any).state ≡ false
+            → self.new.hands.items ≡ self.old.hands.items }
+        ensures turns { (self.new.next ≡ self.old.next) × (self.new.reads ≡ self.old.reads) }
+    {
+        if let Some(hand) = self.hands.get_mut(usize::from(hand)) {
+            if hand.state.is_open() {
+                hand.stream.show(bytes);
+            }
+        }
     }
 }
 

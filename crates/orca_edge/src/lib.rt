@@ -2,11 +2,13 @@
 //! the traits of orca_rig.
 #![tactic(auto)]
 
+mod claim;
 mod fresh;
 mod hands;
 mod journal;
 mod moments;
 mod owed;
+mod peer;
 mod real_files;
 mod real_inbox;
 mod real_outs;

@@ -1,13 +1,15 @@
-ghost use Rattle.std.specs.Prelude.{◌≡◌, ◌<◌, ◌≤◌, None, false, ℕ, List, length, position, string_bytes, vec_len, vec_capacity, IfOk, OnOk, OnErr, IsErr, IsErrOf};
+ghost use Rattle.std.specs.Prelude.{◌≡◌, ◌≢◌, true, ◌<◌, ◌≤◌, None, false, ℕ, List, length, position, string_bytes, vec_len, vec_capacity, IfOk, OnOk, OnErr, IsErr, IsErrOf};
 ghost use Rattle.std.specs.Str.{bytes_eq};
 ghost use Rattle.orca_base.specs.declared.limits.TheConstants.{MAX_FILE_BYTES};
 ghost use Rattle.orca_rig.specs.Saved.{is_spoilt, names_of, spoilt_after};
+ghost use Rattle.orca_edge.specs.Names.{is_own};
 
-use crate::fresh::sync_saved;
+use crate::claim::{holder_of, remove_held};
+use crate::fresh::{make_locked, sync_saved};
 use crate::journal::{append_file, begin_file};
 use crate::saving::save_file;
 use crate::whole::read_whole;
-use orca_rig::{Disk, Files, Misses, OutsideFault, is_spoilt, keep_spoilt, put_name};
+use orca_rig::{Claim, Disk, Files, Misses, OutsideFault, is_spoilt, keep_spoilt, put_name};
 use std::fs::OpenFile;
 use std::io::Write;
 use std::os::fd::{AsRawFd, IntoRawFd};
@@ -18,12 +20,14 @@ use std::{fs, rt};
 pub struct RealFiles<'a, R: rt::Files + AllocGlobal> {
     rt: &'a R,
     misses: Misses,
-    /// The names of the files of which a save, a begin or an append has failed.
+    /// The names of the files of which a save, a begin, an append or a claim has failed.
     spoilt: Vec<String>,
     /// The names of the files that were saved, and the disk was not awaited.
     unsynced: Vec<String>,
-    /// The files that were begun, open to be added to, each with its name.
+    /// The files that were begun or claimed, open to be added to, each with its name.
     begun: Vec<(String, R::File)>,
+    /// The name of the one that was claimed, if it was not removed.
+    own: Option<String>,
 }
 
 impl<R: rt::Files + AllocGlobal> Drop for RealFiles<'_, R> {
@@ -36,6 +40,7 @@ impl<R: rt::Files + AllocGlobal> Drop for RealFiles<'_, R> {
             spoilt: _,
             unsynced,
             begun: _,
+            own: _,
         } = self;
         for name in &unsynced {
             let _ = sync_saved(rt, name);
@@ -60,6 +65,7 @@ where
             spoilt: Vec::new(rt.alloc()),
             unsynced: Vec::new(rt.alloc()),
             begun: Vec::new(rt.alloc()),
+            own: None,
         }
     }
 
@@ -117,6 +123,72 @@ where
         };
         keep_spoilt(&mut self.spoilt, held, done)
     }
+
+    /// Does a claim. Nothing is counted.
+    fn take(&mut self, name: &str, bytes: &[u8]) -> Result<Claim, OutsideFault>
+        ensures spoilt { (file : List ℕ) → is_spoilt (names_of self.new.spoilt.items) file
+            ≡ spoilt_after result name.now file (is_spoilt (names_of self.old.spoilt.items) file) }
+        ensures misses { self.new.misses ≡ self.old.misses }
+        ensures own { IfOk result (λ claim. claim ≡ Claim.Made
+            → is_own self.new.own name.now ≡ true) }
+        ensures others { IfOk result (λ claim. claim ≢ Claim.Made
+            → self.new.own ≡ self.old.own) }
+    {
+        let held = make_room(&mut self.spoilt, name)?;
+        let done = self.make(name, bytes);
+        keep_spoilt(&mut self.spoilt, held, done)
+    }
+
+    /// Makes the file of that name, and keeps it open, if nothing has the name.
+    fn make(&mut self, name: &str, bytes: &[u8]) -> Result<Claim, OutsideFault>
+        ensures spoilt { self.new.spoilt ≡ self.old.spoilt }
+        ensures misses { self.new.misses ≡ self.old.misses }
+        ensures own { IfOk result (λ claim. claim ≡ Claim.Made
+            → is_own self.new.own name.now ≡ true) }
+        ensures others { IfOk result (λ claim. claim ≢ Claim.Made
+            → self.new.own ≡ self.old.own) }
+    {
+        let alloc = *self.begun.allocator();
+        let kept = String::from_str(alloc, name)?;
+        let own = String::from_str(alloc, name)?;
+        self.begun.reserve(1)?;
+        match make_locked(self.rt, name, bytes)? {
+            Some(file) => {
+                put_begun(&mut self.begun, kept, file);
+                self.own = Some(own);
+                Ok(Claim::Made)
+            }
+            None => holder_of(self.rt, name),
+        }
+    }
+
+    /// Does a removal. Nothing is counted.
+    fn take_away(&mut self, name: &str) -> Result<(), OutsideFault>
+        ensures spoilt { self.new.spoilt ≡ self.old.spoilt }
+        ensures misses { self.new.misses ≡ self.old.misses }
+        ensures own { OnOk result (is_own self.old.own name.now ≡ true) }
+        ensures gone { OnOk result (self.new.own ≡ None) }
+        ensures held { OnErr result (self.new.own ≡ self.old.own) }
+    {
+        let (Some(place), true) = (place_of(&self.begun, name), is_own(&self.own, name)) else {
+            return Err(OutsideFault::Failed);
+        };
+        remove_held(self.rt, &self.begun[place].1, name)?;
+        // Nobody finds the name any more, so the lock can go with the file.
+        let _ = self.begun.swap_remove(place);
+        self.own = None;
+        Ok(())
+    }
+}
+
+/// Whether a file is the one that was claimed.
+fn is_own(own: &Option<String>, name: &str) -> bool
+    ensures { result ≡ is_own own.now name.now }
+{
+    match own {
+        Some(own) => name == own.as_str(),
+        None => false,
+    }
 }
 
 /// Makes room for one more name, and gives the name. So a call that was made has the memory to keep
@@ -149,7 +221,8 @@ fn put_begun<F: Drop>(begun: &mut Vec<(String, F)>, name: String, file: F)
     }
 }
 
-/// Adds the bytes to the file of that name that was begun; where none was, that is a failure.
+/// Adds the bytes to the file of that name that was begun or claimed; where none was, that is a
+/// failure.
 fn append_begun<F: Write + OpenFile>(
     begun: &mut [(String, F)],
     name: &str,
@@ -226,12 +299,39 @@ where
         self.misses.count(done)
     }
 
-    /// Adds to the file that was begun, whatever has its name by now: a file that has taken the name
-    /// since is left as it is. An append to a name that was not begun is a failure, and so is one to
-    /// a file that has no name any more, since nobody could find what is added. Nothing waits for
-    /// the disk.
+    /// Adds to the file that was begun or claimed, whatever has its name by now: a file that has
+    /// taken the name since is left as it is. An append to a name that was neither is a failure,
+    /// and so is one to a file that has no name any more, since nobody could find what is added.
+    /// Nothing waits for the disk.
     fn append(&mut self, name: &str, bytes: &[u8]) -> Result<(), OutsideFault> {
         let done = self.add(name, bytes);
+        self.misses.count(done)
+    }
+
+    /// Makes a file that no other user may read, and locks it (flock(2)), so that nobody holds it
+    /// any more once this program has ended, also if it is killed. It gets its bytes and its lock
+    /// under a name of its own in the same folder, and only then this one: nobody finds it half
+    /// written, or not locked. The disk has it then. If the program is killed before that, the file
+    /// stays as `.orca-save-` and a number.
+    ///
+    /// | what stands under the name | what is answered |
+    /// |---|---|
+    /// | nothing | [`Claim::Made`] |
+    /// | a plain file that a program has locked | [`Claim::Held`] |
+    /// | a plain file that none has locked, or that may not be read and written | [`Claim::Left`] |
+    /// | a link, a folder, a pipe, a device, a socket | [`Claim::Left`], and it is not opened |
+    ///
+    /// A folder that takes no new file, a disk that is full, and a file system that knows no locks
+    /// or no second name of a file make it fail.
+    fn claim(&mut self, name: &str, bytes: &[u8]) -> Result<Claim, OutsideFault> {
+        let done = self.take(name, bytes);
+        self.misses.count(done)
+    }
+
+    /// Takes the name away, and then lets the file go. It fails if another file has taken the name
+    /// since, and that one stays.
+    fn remove(&mut self, name: &str) -> Result<(), OutsideFault> {
+        let done = self.take_away(name);
         self.misses.count(done)
     }
 }

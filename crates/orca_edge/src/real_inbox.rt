@@ -1,17 +1,19 @@
 ghost use Rattle.std.specs.Prelude.{◌≡◌, ◌≢◌, ◌≤◌, ◌<◌, ◌+◌, ◌++◌, ◌∷◌, [], true, false, None, length, map, replicate, take, IfOk, OnOk, OnErr, IfSome, IsErrOf, IsSomeAnd};
 ghost use Rattle.std.specs.Io.{ReadsAtMost};
-ghost use Rattle.std.specs.Option.{option_map};
+ghost use Rattle.std.specs.Option.{option_map, option_map_or};
 ghost use Rattle.orca_rig.specs.Outside.{Rose, wants_after};
 ghost use Rattle.orca_rig.specs.Arrived.{moment_after, is_ending};
 ghost use Rattle.orca_edge.specs.Heard.{is_moment, IsOfOne};
 ghost use Rattle.orca_edge.specs.Names.{names_file, names_terminal, file_and_address, are_of_files, is_of_file, is_on_leash};
 ghost use Rattle.orca_base.specs.declared.limits.TheConstants.{MAX_HANDS};
 
-use crate::hands::{Hands, NONE, Wakes};
+use crate::hands::{Hands, NONE, Shows, Wakes};
 use crate::moments::{FOREVER, Watch, microseconds};
+use crate::peer::Peer;
 use crate::whole::{TRIES, status_of, unless_interrupted, unless_silent};
 use libc::net::{POLLIN, poll};
 use libc::types::pollfd;
+use orca_base::Memory;
 use orca_base::limits::{ARRIVAL_BYTES, MAX_HANDS};
 use orca_rig::{Answer, Inbox, Misses, Outs, OutsideFault};
 use std::io::{ErrorKind, Read};
@@ -29,7 +31,7 @@ const LEASH: &str = "/dev/stdin";
 /// What a hand is heard over.
 #[derive(Drop)]
 enum Source<F> {
-    Connection(TcpStream),
+    Connection(Peer<TcpStream>),
     /// A terminal, a pipe, a device or a plain file.
     File(F),
     /// The terminal of the program, and the leash on which whoever started it holds it.
@@ -44,8 +46,8 @@ struct Held<F> {
 }
 
 impl<F: Read> Held<F> {
-    /// Reads what has come. The leash goes first, so its end is the end also where keys come without
-    /// an end.
+    /// Reads what has come. The leash goes first, so its end is the end also where keys come
+    /// without an end.
     fn hear(&mut self, bytes: &mut [u8]) -> io::Result<usize>
         ensures bound { ReadsAtMost result bytes.new }
         ensures one { IfOk result (λ count. IsOfOne (take count bytes.new)
@@ -62,9 +64,22 @@ impl<F: Read> Held<F> {
 impl<F: Read> Read for Source<F> {
     fn read(&mut self, bytes: &mut [u8]) -> io::Result<usize> {
         match self {
-            Source::Connection(stream) => stream.read(bytes),
+            Source::Connection(peer) => peer.read(bytes),
             Source::File(file) => file.read(bytes),
             Source::Held(held) => held.hear(bytes),
+        }
+    }
+}
+
+impl<F> Shows for Source<F> {
+    /// A connection shows it. What comes from a file has nowhere to show it here.
+    fn show(&mut self, bytes: &[u8]) {
+        match self {
+            Source::Connection(peer) => {
+                // What was given up is told by what the next one begins with.
+                let _ = peer.paint(bytes);
+            }
+            Source::File(_) | Source::Held(_) => {}
         }
     }
 }
@@ -82,7 +97,7 @@ impl<F: AsRawFd> Source<F> {
 impl<F: AsRawFd> Wakes for Source<F> {
     fn wakers(&self) -> (RawFd, RawFd) {
         match self {
-            Source::Connection(stream) => (stream.as_raw_fd(), NONE),
+            Source::Connection(peer) => (peer.as_raw_fd(), NONE),
             Source::File(file) => (file.as_raw_fd(), NONE),
             Source::Held(held) => (held.terminal.as_raw_fd(), held.leash.as_raw_fd()),
         }
@@ -113,13 +128,15 @@ impl<F: AsRawFd> Wakes for Source<F> {
 /// | there are several hands, and the name is that of a file alone | `listen_hands` fails |
 /// | fewer connect than there are hands without a file | `listen_hands` waits |
 /// | nobody has the pipe open for writing | `listen_hands` waits |
-/// | whoever holds the leash of `-` closes it, or is killed, while it waits | `listen_hands` fails |
+/// | whoever holds the leash of `-` closes it while others are waited for | `listen_hands` fails |
 /// | a peer closes its end, also inside the bytes of a key | its bytes, and then no more of it |
 /// | a pipe's last writer closes it, a plain file has been read, a terminal hangs up | the same |
 /// | whoever holds the leash closes it, or is killed | the same, also if more keys are there |
 /// | a peer resets its connection | no more of it; bytes that came before may be lost |
 /// | a device is taken away, or a read of a terminal fails that another job has now | the same |
-/// | all have gone | [`Answer::End`], or [`Answer::Failed`] if one broke |
+/// | all have gone | [`Answer::End`], or [`Answer::Failed`] if that of hand 0 broke |
+/// | a hand is told something | its connection gets that, but one that was closed, and no file |
+/// | a connection has no room for all of it | the rest is dropped; what follows begins with CAN |
 /// | nothing comes, or another program reads it first | a poll waits for its moment, or forever |
 /// | a signal interrupts a wait or a read | it is tried again |
 /// | the clock cannot be read, or the system refuses to wait for events | the call fails |
@@ -211,6 +228,7 @@ where
         ensures due { self.new.was_due ≡ is_moment answer }
         ensures ended { self.new.ended ≡ is_ending answer }
         ensures listened { self.new.listened ≡ self.old.listened }
+        ensures hands { self.new.hands ≡ self.old.hands }
         ensures count { self.old.misses.faults ≤ self.new.misses.faults }
         ensures failed { answer ≡ Answer.Failed
             → Rose self.old.misses.faults self.new.misses.faults }
@@ -242,6 +260,8 @@ where
 
     ghost listened = { λ i. i.listened };
 
+    ghost hand_count = { λ i. option_map_or (λ opened. length opened.hands.items) i.hands 0 };
+
     ghost ended = { λ i. i.ended };
 
     ghost faults = { λ i. i.misses.faults };
@@ -257,6 +277,8 @@ where
         ensures moment { IfOk result (λ at. self.new.clock.last ≡ at) }
         ensures later { self.old.clock.last ≤ self.new.clock.last }
         ensures unanswered { OnErr result (self.new.clock.last ≡ self.old.clock.last) }
+        ensures hand_count { OnOk result
+            (option_map_or (λ opened. length opened.hands.items) self.new.hands 0 ≡ hands) }
         ensures listened { self.new.listened ≡ true }
         ensures ended { self.new.ended ≡ self.old.ended }
         ensures count { self.old.misses.faults ≤ self.new.misses.faults }
@@ -295,6 +317,14 @@ where
         };
         self.keep(answer);
         answer
+    }
+
+    /// A connection gets the bytes, as far as it has room for them. It takes no memory.
+    fn tell(&mut self, hand: u8, bytes: &[u8]) -> Result<(), Memory> {
+        if let Some(hands) = &mut self.hands {
+            hands.tell(hand, bytes);
+        }
+        Ok(())
     }
 }
 
@@ -418,7 +448,8 @@ fn listener_at<R: Net>(
     }
 }
 
-/// Accepts so many connections, one after another. The end of the leash, if there is one, ends that.
+/// Accepts so many connections, one after another. The end of the leash, if there is one, ends
+/// that.
 fn accept_all<L: OpenListener<Stream = TcpStream> + AsRawFd, F: Read + Drop>(
     listener: &L,
     leash: RawFd,
@@ -433,7 +464,9 @@ fn accept_all<L: OpenListener<Stream = TcpStream> + AsRawFd, F: Read + Drop>(
     for _hand in 0..hands {
         let stream = accept(listener, leash)?;
         stream.set_nonblocking(true)?;
-        opened.add(Source::Connection(stream))?;
+        // A picture is to be seen at once, also if the one before it was not taken yet.
+        stream.set_nodelay(true)?;
+        opened.add(Source::Connection(Peer::new(stream)))?;
     }
     Ok(())
 }

@@ -21,7 +21,7 @@ use std::rt::Clock;
 /// sequence that was begun, and `ESC [ ? 1 l`, which resets the cursor key mode of a VT100, so that
 /// the arrows send `ESC [ A` to `ESC [ D`. Another terminal may have been attached while nothing
 /// was taken, and its arrows may send something else.
-const FRESH_START: [u8; 6] = *b"\x18\x1b[?1l";
+pub(crate) const FRESH_START: [u8; 6] = *b"\x18\x1b[?1l";
 
 /// Writes the first of the bytes, once there is room: as many as one write takes, and one at least.
 /// A write that was interrupted, or found no room after all, is tried again, and one that takes

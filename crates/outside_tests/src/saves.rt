@@ -15,7 +15,12 @@ const FAILED: Result<(), OutsideFault> = Err(OutsideFault::Failed);
 const HEAD: &[u8] = b"!orca 2 seed 1\n";
 
 /// A file of this name holds these bytes.
-fn check_held<R: Abort + AllocGlobal, F: Files>(rt: &R, files: &mut F, name: &str, held: &[u8]) {
+pub fn check_held<R: Abort + AllocGlobal, F: Files>(
+    rt: &R,
+    files: &mut F,
+    name: &str,
+    held: &[u8],
+) {
     let mut bytes = Vec::new(rt.alloc());
     assert!(rt; files.load(name, &mut bytes) == Ok(()));
     assert!(rt; bytes.as_slice() == held);

@@ -1,11 +1,13 @@
-ghost use Rattle.std.specs.Prelude.{◌≡◌, false};
+ghost use Rattle.std.specs.Prelude.{◌≡◌, ◌<◌, true, false, length};
+ghost use Rattle.std.specs.Option.{option_map_or};
+ghost use Rattle.orca_base.specs.declared.limits.TheConstants.{MAX_HANDS};
 
 use orca_base::limits::{ARRIVAL_BYTES, MAX_HANDS};
 use orca_edge::RealInbox;
 use orca_rig::{Answer, Inbox, MemOuts};
 use std::alloc::Global;
 use std::io;
-use std::io::{PipeWriter, Write};
+use std::io::{PipeWriter, Read, Write};
 use std::net::{Net, OpenListener, TcpListener, TcpStream};
 use std::os::fd::AsRawFd;
 use std::process::Abort;
@@ -87,7 +89,10 @@ where
     R: AllocGlobal + Net<Stream = TcpStream> + Files + Clock + Abort,
     R::File: AsRawFd,
     R::Listener: AsRawFd,
-    ensures { result.ended ≡ false }
+    ensures open { result.ended ≡ false }
+    ensures listened { result.listened ≡ true }
+    ensures hands { option_map_or (λ opened. length opened.hands.items) result.hands 0
+        ≡ MAX_HANDS }
 {
     let listener = TcpListener::bind(rt, "127.0.0.1:0").expect(rt, "a listener");
     let address = listener.local_addr().expect(rt, "an address");
@@ -109,7 +114,10 @@ where
     R: AllocGlobal + Net<Stream = TcpStream> + Files + Clock + Abort,
     R::File: AsRawFd,
     R::Listener: AsRawFd,
-    ensures { result.inbox.ended ≡ false }
+    ensures open { result.inbox.ended ≡ false }
+    ensures listened { result.inbox.listened ≡ true }
+    ensures hands { option_map_or (λ opened. length opened.hands.items) result.inbox.hands 0
+        ≡ MAX_HANDS }
 {
     let mut players = Vec::new(rt.alloc());
     let inbox = seat(rt, &mut players, "127.0.0.1:0");
@@ -122,7 +130,10 @@ where
     R: AllocGlobal + Net<Stream = TcpStream> + Files + Clock + Abort,
     R::File: AsRawFd,
     R::Listener: AsRawFd,
-    ensures { result.inbox.ended ≡ false }
+    ensures open { result.inbox.ended ≡ false }
+    ensures listened { result.inbox.listened ≡ true }
+    ensures hands { option_map_or (λ opened. length opened.hands.items) result.inbox.hands 0
+        ≡ MAX_HANDS }
 {
     let (reader, writer) = io::pipe(rt).expect(rt, "a pipe");
     let name = format!(in rt.alloc(); "/dev/fd/{},127.0.0.1:0", reader.as_raw_fd());
@@ -247,4 +258,109 @@ fn twenty_moments_come_on_time(rt: HostRuntime) {
     let taken = start.elapsed(&rt).expect(&rt, "a clock");
     assert!(rt; late < 10, "{late} came late");
     assert!(rt; taken > Duration::from_millis(190) && taken < Duration::from_secs(20));
+}
+
+/// A hand is told the bytes, which is never refused.
+fn tell<I: Inbox>(rt: &impl Abort, inbox: &mut I, hand: u8, bytes: &[u8])
+    requires listened { I.listened inbox.old ≡ true }
+    requires seated { hand < I.hand_count inbox.old }
+    ensures listened { I.listened inbox.new ≡ true }
+    ensures hands { I.hand_count inbox.new ≡ I.hand_count inbox.old }
+    ensures ended { I.ended inbox.new ≡ I.ended inbox.old }
+{
+    assert!(rt; inbox.tell(hand, bytes) == Ok(()));
+}
+
+/// Reads what comes within a tenth of a second, and says how much of the buffer that has filled.
+fn see(rt: &impl Abort, player: &mut Player, seen: &mut [u8; 65_536]) -> usize {
+    match player {
+        Player::Connection(stream) => {
+            let patience = Some(Duration::from_millis(100));
+            stream.set_read_timeout(patience).expect(rt, "a timeout");
+            stream.read(seen).unwrap_or(0)
+        }
+        Player::Pipe(_) => 0,
+    }
+}
+
+/// The player of this hand sees these bytes, and no more.
+fn check_seen(rt: &impl Abort, players: &mut [Player], hand: usize, wanted: &[u8]) {
+    let mut seen = [0; 65_536];
+    let player = players.get_mut(hand).expect(rt, "a player");
+    let count = see(rt, player, &mut seen);
+    assert!(rt; seen.get(..count) == Some(wanted), "hand {hand}");
+}
+
+/// The player of this hand reads all that was sent so far.
+fn catch_up(rt: &impl Abort, players: &mut [Player], hand: usize) {
+    let mut seen = [0; 65_536];
+    let player = players.get_mut(hand).expect(rt, "a player");
+    for _ in 0..100_000 {
+        if see(rt, player, &mut seen) == 0 {
+            return;
+        }
+    }
+}
+
+#[test]
+fn a_hand_is_told_over_its_connection(rt: HostRuntime) {
+    let mut room = open_with_pipe(&rt);
+    // A pipe has nowhere to show it.
+    tell(&rt, &mut room.inbox, 0, b"zero");
+    tell(&rt, &mut room.inbox, 1, b"one");
+    tell(&rt, &mut room.inbox, 7, b"");
+    tell(&rt, &mut room.inbox, 7, b"sev");
+    tell(&rt, &mut room.inbox, 7, b"en");
+    check_seen(&rt, &mut room.players, 1, b"one");
+    check_seen(&rt, &mut room.players, 2, b"");
+    check_seen(&rt, &mut room.players, 7, b"seven");
+    // Of one that leaves nobody hears.
+    room.players.truncate(7);
+    tell(&rt, &mut room.inbox, 7, b"late");
+    tell(&rt, &mut room.inbox, 7, b"later");
+    tell(&rt, &mut room.inbox, 6, b"six");
+    check_seen(&rt, &mut room.players, 6, b"six");
+}
+
+#[test]
+fn a_hand_that_reads_slowly_holds_nobody_up(rt: HostRuntime) {
+    let mut room = open(&rt);
+    let start = Instant::now(&rt).expect(&rt, "a clock");
+    // No connection has room for so many.
+    let flood = vec![in rt.alloc(); b'x'; 16_000_000].expect(&rt, "memory");
+    tell(&rt, &mut room.inbox, 1, &flood);
+    tell(&rt, &mut room.inbox, 1, b"lost");
+    tell(&rt, &mut room.inbox, 2, b"two");
+    check_seen(&rt, &mut room.players, 2, b"two");
+    let taken = start.elapsed(&rt).expect(&rt, "a clock");
+    assert!(rt; taken < Duration::from_secs(10));
+    // Once there is room again, what comes next begins anew.
+    catch_up(&rt, &mut room.players, 1);
+    tell(&rt, &mut room.inbox, 1, b"whole");
+    check_seen(&rt, &mut room.players, 1, b"\x18\x1b[?1lwhole");
+    tell(&rt, &mut room.inbox, 1, b"more");
+    check_seen(&rt, &mut room.players, 1, b"more");
+}
+
+/// What the last poll answers once all have gone, and the connection of this hand was reset.
+fn check_reset<R>(rt: &R, hand: u8, wanted: Answer)
+where
+    R: AllocGlobal + Net<Stream = TcpStream> + Files + Clock + Abort,
+    R::File: AsRawFd,
+    R::Listener: AsRawFd,
+    requires { hand < MAX_HANDS }
+{
+    let outs = make_outs(rt, rt.alloc());
+    let mut room = open(rt);
+    // A connection that is closed before all was read is reset.
+    tell(rt, &mut room.inbox, hand, b"unread");
+    room.players.truncate(0);
+    assert!(rt; room.last(&outs) == wanted, "hand {hand}");
+}
+
+#[test]
+fn a_reset_is_a_failure_of_the_first_hand_alone(rt: HostRuntime) {
+    check_reset(&rt, 0, Answer::Failed);
+    check_reset(&rt, 1, Answer::End);
+    check_reset(&rt, 7, Answer::End);
 }
