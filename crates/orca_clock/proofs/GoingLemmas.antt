@@ -3,9 +3,9 @@ use Rattle.std.proofs.Common.{◌≡◌, ◌≢◌, List, [], ◌++◌, refl}
 use Rattle.std.specs.Prelude.{Option, Some, None}
 use Rattle.orca_course.specs.Acts.{Act}
 use Rattle.orca_course.specs.Courses.{Course, lastly, lastly_by, mapped}
-use Rattle.orca_course.specs.Performers.{Heard, Part, Turn, attended, begun, finished, heard_turns, performance, turn_course}
+use Rattle.orca_course.specs.Performers.{Hearing, Part, Turn, attended, begun, finished, heard_turns, performance, turn_course}
 use Rattle.orca_course.specs.declared.ending.Ending.{Ending}
-use Rattle.orca_course.specs.declared.item.Came.{Came}
+use Rattle.orca_course.specs.declared.item.Losses.{Losses}
 use Rattle.orca_course.specs.declared.item.Item.TheVariants as item
 use Rattle.orca_course.proofs.TurnLemmas.{IsInner, inner_heard, turns_hold}
 
@@ -20,7 +20,7 @@ pub attended_holds : {S : Type 0} (holds : S → List Act → S → Type 0) (bad
     → ((s : S) → holds s [] s)
     → ((r s t : S) (xs ys : List Act) → holds r xs s → holds s ys t → holds r (xs ++ ys) t)
     → ((turn : Turn) → IsInner turn → (s : S) → Unless holds bad s (turn_course p turn s))
-    → (heard : List Heard) (s : S) → Unless holds bad s (attended p s heard)
+    → (heard : List Hearing) (s : S) → Unless holds bad s (attended p s heard)
 unfolding attended
 attended_holds holds bad p none both one heard s =
     turns_hold (λ end s acts t. end ≢ Some bad → holds s acts t)
@@ -44,7 +44,7 @@ has_ended_by p b e (Some other) is ends =
     let same : other ≡ e = cc in
     rw same (record { ending = rw same at is; acts = refl; state = refl })
 
-pub has_ended : {S : Type 0} (p : Part S) (s : S) (opening : Came) (heard : List Heard)
+pub has_ended : {S : Type 0} (p : Part S) (s : S) (opening : Losses) (heard : List Hearing)
     (e : Ending) → (performance p s opening heard).ending ≡ Some e
     → HasEnded p e (begun p s opening heard) (performance p s opening heard)
 unfolding performance lastly

@@ -12,13 +12,13 @@ use Rattle.orca_concert.specs.Concerts.{Concert, close_course, command_course, f
 use Rattle.orca_concert.specs.Manners.{Manner}
 use Rattle.orca_course.specs.Acts.{Act, commands_in}
 use Rattle.orca_course.specs.Courses.{Course, afterwards, each, lastly, lastly_by, mapped, onward}
-use Rattle.orca_course.specs.Performers.{Heard, Turn, answer_turns, attended, begun, finished, first_turns, given_course, heard_turns, performance, spent, turn_course, turns_of}
+use Rattle.orca_course.specs.Performers.{Hearing, Turn, answer_turns, attended, begun, finished, first_turns, given_course, heard_turns, performance, spent, turn_course, turns_of}
 use Rattle.orca_course.specs.Performers.Turn.{Asked, Given, Learned, Over}
 use Rattle.orca_course.specs.Standings.{Standing, notes_of, standing_after, standing_closed}
 use Rattle.orca_course.specs.declared.ending.Ending.{Ending}
 use Rattle.orca_course.specs.declared.ending.Ending.TheVariants.{Lost, Spent, Stopped}
 use Rattle.orca_course.specs.declared.ending.Stop.TheVariants.{Full, Left, SongTooLong, WaveTooLong}
-use Rattle.orca_course.specs.declared.item.Came.{Came}
+use Rattle.orca_course.specs.declared.item.Losses.{Losses}
 use Rattle.orca_course.specs.declared.item.Item.{Item}
 use Rattle.orca_course.specs.declared.item.Item.TheVariants as item
 use Rattle.orca_course.proofs.ActLemmas.{commands_in-append, handed_commands}
@@ -208,7 +208,7 @@ hand_bytes hand at (byte ∷ bytes) turns =
       | false ↦ refl
     ])
 
-answer_bytes : (a : Answer) (bytes : List ℕ) (came : Came) (turns : List Turn)
+answer_bytes : (a : Answer) (bytes : List ℕ) (came : Losses) (turns : List Turn)
     → bytes_in (answer_turns a bytes came ++ turns) ≡ bytes_before bytes a (bytes_in turns)
 answer_bytes (answer.Bytes hand count at) bytes came turns =
     let last = Learned came ∷ Given (item.Over came) ∷ [] in
@@ -218,7 +218,7 @@ answer_bytes (answer.Due at) bytes came turns = refl
 answer_bytes answer.End bytes came turns = refl
 answer_bytes answer.Failed bytes came turns = refl
 
-spent_bytes : (heard : List Heard) → bytes_in (spent heard) ≡ []
+spent_bytes : (heard : List Hearing) → bytes_in (spent heard) ≡ []
 spent_bytes heard =
     elim (nat_le MAX_POLLS (length heard)) as
     (λ over. bytes_in (if over then Over Spent ∷ [] else []) ≡ []) [
@@ -226,7 +226,7 @@ spent_bytes heard =
       | false ↦ refl
     ]
 
-heard_bytes : (heard : List Heard) (turns : List Turn) → bytes_in turns ≡ []
+heard_bytes : (heard : List Hearing) (turns : List Turn) → bytes_in turns ≡ []
     → bytes_in (flat_map turns_of heard ++ turns) ≡ heard_in heard
 heard_bytes [] turns none = none
 heard_bytes (h ∷ heard) turns none =
@@ -250,7 +250,7 @@ module _ {R : Type 0} (m : Manner R) (tells : TellsAtEnd m) where
     none = λ other. first.none (λ full. other (sym is ∙ full));
   }
 
-  pub follow_heard : (opening : Came) (heard : List Heard) (s : Followed R)
+  pub follow_heard : (opening : Losses) (heard : List Hearing) (s : Followed R)
       → Does (performance (follow_part m) s opening heard) (commands_from s.pulse (heard_in heard))
   unfolding performance lastly begun
   follow_heard opening heard s =
@@ -315,7 +315,7 @@ module _ {R : Type 0} (m : Manner R) (tells : TellsAtEnd m) where
   turn_made (Given (item.Due at)) inner s = refl
   turn_made (Given (item.Over came)) inner s = refl
 
-  attended_made : (heard : List Heard) (s : Followed R)
+  attended_made : (heard : List Hearing) (s : Followed R)
       → let c = attended (follow_part m) s heard in
       c.ending ≢ Some (Stopped Full) → IsMade s c.acts c.state
   attended_made heard s =
@@ -323,7 +323,7 @@ module _ {R : Type 0} (m : Manner R) (tells : TellsAtEnd m) where
       (λ turn inner s other. turn_made turn inner s) heard s
 
   -- a whole performance that its player has left: all commands were done, and then every note ended
-  pub follow_played : (opening : Came) (heard : List Heard) (s : Followed R)
+  pub follow_played : (opening : Losses) (heard : List Hearing) (s : Followed R)
       → let c = performance (follow_part m) s opening heard in c.ending ≡ Some (Stopped Left)
       → (commands_in c.acts ≡ commands_from s.pulse (heard_in heard))
       × (c.state.concert.standing.machine ≡ machine_closed (machine_by

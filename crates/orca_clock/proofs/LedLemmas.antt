@@ -15,12 +15,12 @@ use Rattle.orca_course.specs.Acts.{Act, commands_in, gives}
 use Rattle.orca_course.specs.Acts.Act.{Await, Give, Learn, Obey, Stand}
 use Rattle.orca_course.specs.Courses.{Course, mapped, onward, still}
 use Rattle.orca_course.specs.Following.{midi_sent}
-use Rattle.orca_course.specs.Performers.{Heard, Turn, attended, given_course, heard_turns, turn_course}
+use Rattle.orca_course.specs.Performers.{Hearing, Turn, attended, given_course, heard_turns, turn_course}
 use Rattle.orca_course.specs.Performers.Turn.{Asked, Given, Learned, Over}
 use Rattle.orca_course.specs.Standings.{standing_after}
 use Rattle.orca_course.specs.declared.ending.Ending.TheVariants.{Stopped}
 use Rattle.orca_course.specs.declared.ending.Stop.TheVariants.{Full}
-use Rattle.orca_course.specs.declared.item.Came.{Came}
+use Rattle.orca_course.specs.declared.item.Losses.{Losses}
 use Rattle.orca_course.specs.declared.item.Item.TheVariants as item
 use Rattle.orca_course.proofs.ActLemmas.{commands_in-append, handed_commands}
 use Rattle.orca_course.proofs.TurnLemmas.{IsInner}
@@ -275,7 +275,7 @@ module _ {R : Type 0} (m : Manner R) (tells : TellsAtEnd m) (lawful : IsLawful r
   }
 
   -- nor does what calls came to
-  learn_led : (came : Came) (s : Led R) → Leads s (Learn came ∷ []) s
+  learn_led : (came : Losses) (s : Led R) → Leads s (Learn came ∷ []) s
   unfolding midi_sent
   learn_led came s ready = record {
     frames = 0;
@@ -302,7 +302,7 @@ module _ {R : Type 0} (m : Manner R) (tells : TellsAtEnd m) (lawful : IsLawful r
   turn_led (Given (item.Ended ending)) inner s = absurd inner
   turn_led (Given (item.Over came)) inner s = λ other. led_none s
 
-  pub attended_led : (heard : List Heard) (s : Led R)
+  pub attended_led : (heard : List Hearing) (s : Led R)
       → LeadsUnless (Stopped Full) s (attended (lead_part m) s heard)
   attended_led heard s =
       attended_holds (λ s acts t. Leads s acts t) (Stopped Full) (lead_part m) led_none led_both

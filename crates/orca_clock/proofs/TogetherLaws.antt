@@ -12,13 +12,13 @@ use Rattle.orca_course.specs.Acts.{Act, commands_in}
 use Rattle.orca_course.specs.Acts.Act.{Give, Stand}
 use Rattle.orca_course.specs.Courses.{Course, each, mapped, onward}
 use Rattle.orca_course.specs.Following.{midi_sent}
-use Rattle.orca_course.specs.Performers.{Heard, attended, begun, given_course, performance, turn_course}
+use Rattle.orca_course.specs.Performers.{Hearing, attended, begun, given_course, performance, turn_course}
 use Rattle.orca_course.specs.Standings.{Standing, notes_of, standing_closed}
 use Rattle.orca_course.specs.declared.ending.Ending.{Ending}
 use Rattle.orca_course.specs.declared.ending.Ending.TheVariants.{Stopped}
 use Rattle.orca_course.specs.declared.ending.Stop.{Stop}
 use Rattle.orca_course.specs.declared.ending.Stop.TheVariants.{Full, Left}
-use Rattle.orca_course.specs.declared.item.Came.{Came}
+use Rattle.orca_course.specs.declared.item.Losses.{Losses}
 use Rattle.orca_course.proofs.ActLemmas.{commands_in-append}
 use Rattle.orca_edit.specs.Frames.{machine_after}
 use Rattle.orca_edit.specs.Obeying.{MachineState, accept, entry_of, extend, machine_at_start, machine_closed, obey, piece_of, rule_against, taken_area}
@@ -120,7 +120,7 @@ module _ {R : Type 0} (m : Manner R) (tells : TellsAtEnd m) (lawful : IsLawful r
         machine = ap (λ (t : Standing). t.machine) told.standing;
       }
 
-  lead_all : (opening : Came) (heard : List Heard) (s : Led R) → IsReady (machine_of s)
+  lead_all : (opening : Losses) (heard : List Hearing) (s : Led R) → IsReady (machine_of s)
       → s.metronome.pulse ≡ running 0
       → let c = performance (lead_part m) s opening heard in c.ending ≡ Some (Stopped Left)
       → HasLedAll s c

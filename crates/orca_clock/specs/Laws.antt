@@ -13,12 +13,12 @@ use Rattle.orca_concert.specs.Manners.{Manner}
 use Rattle.orca_course.specs.Acts.{Act, commands_in, given}
 use Rattle.orca_course.specs.Courses.{Course, still}
 use Rattle.orca_course.specs.Following.{midi_sent}
-use Rattle.orca_course.specs.Performers.{Heard, performance}
+use Rattle.orca_course.specs.Performers.{Hearing, performance}
 use Rattle.orca_course.specs.Standings.{Standing, standing}
 use Rattle.orca_course.specs.declared.ending.Ending.{Ending}
 use Rattle.orca_course.specs.declared.ending.Ending.TheVariants.{Stopped}
 use Rattle.orca_course.specs.declared.ending.Stop.TheVariants.{Full, Left}
-use Rattle.orca_course.specs.declared.item.Came.{Came}
+use Rattle.orca_course.specs.declared.item.Losses.{Losses}
 use Rattle.orca_course.specs.declared.tally.Tally.{Tally}
 use Rattle.orca_edit.specs.Obeying.{machine_at_start, piece_of}
 use Rattle.orca_edit.specs.Pieces.{Piece}
@@ -43,7 +43,7 @@ bytes_before bytes (answer.Due at) more = more
 bytes_before bytes answer.End more = []
 bytes_before bytes answer.Failed more = []
 
-abbrev pub heard_in : List Heard → List ℕ
+abbrev pub heard_in : List Hearing → List ℕ
 heard_in [] = []
 heard_in (h ∷ heard) = bytes_before h.poll.bytes h.poll.answer (heard_in heard)
 
@@ -89,7 +89,7 @@ pub record AreDone {E : Type 0} (full : E) (end : Option E) (done all : List Com
 -- cut into answers, and no others; a full history alone has kept it from the last of them
 abbrev pub FollowsBytes : Type 0
 FollowsBytes =
-    (m : Manner (Unit {0})) (s : Concert (Unit {0})) (opening : Came) (heard : List Heard)
+    (m : Manner (Unit {0})) (s : Concert (Unit {0})) (opening : Losses) (heard : List Hearing)
     → TellsAtEnd m
     → let c = performance (follow_part m) (follow_at_start s) opening heard in
     AreDone (Stopped Full) c.ending (commands_in c.acts)
@@ -99,8 +99,8 @@ FollowsBytes =
 -- last
 abbrev pub HeedsClock : Type 0
 HeedsClock =
-    (m : Manner (Unit {0})) (s : Concert (Unit {0})) (opening other : Came)
-    (heard others : List Heard) → TellsAtEnd m
+    (m : Manner (Unit {0})) (s : Concert (Unit {0})) (opening other : Losses)
+    (heard others : List Hearing) → TellsAtEnd m
     → let c = performance (follow_part m) (follow_at_start s) opening heard in
     let d = performance (follow_part m) (follow_at_start s) other others in
     c.ending ≡ Some (Stopped Left) → d.ending ≡ Some (Stopped Left)
@@ -124,7 +124,7 @@ abbrev pub FollowerIsLed : Type 0
 FollowerIsLed =
     IsLawful rule → (m n : Manner (Unit {0})) → TellsAtEnd m → TellsAtEnd n
     → (sheet : Sheet) (seed limit other bpm at : ℕ) (kept spare : Kept) (tally count : Tally)
-    (opening started : Came) (answers heard : List Heard) → IsSheet sheet → limit < other
+    (opening started : Losses) (answers heard : List Hearing) → IsSheet sheet → limit < other
     → let s = lead_at_start bpm at (opened_concert sheet seed limit kept tally) in
     let t = follow_at_start (opened_concert sheet seed other spare count) in
     let lead = performance (lead_part m) s opening answers in

@@ -6,12 +6,12 @@ use Rattle.std.specs.Option.{is_some, option_map}
 use Rattle.orca_base.specs.declared.command.Command.{Command}
 use Rattle.orca_course.specs.Acts.{commands_in}
 use Rattle.orca_course.specs.Courses.{Course, course, each, ended, lastly, lastly_by, mapped, onward, onward_by}
-use Rattle.orca_course.specs.Performers.{Heard, Part, Turn, begun, finished, first_turns, given_course, heard_turns, performance, turn_course}
+use Rattle.orca_course.specs.Performers.{Hearing, Part, Turn, begun, finished, first_turns, given_course, heard_turns, performance, turn_course}
 use Rattle.orca_course.specs.Performers.Turn.{Asked, Given, Learned, Over}
 use Rattle.orca_course.specs.declared.ending.Ending.{Ending}
 use Rattle.orca_course.specs.declared.ending.Ending.TheVariants.{Stopped}
 use Rattle.orca_course.specs.declared.ending.Stop.{Stop}
-use Rattle.orca_course.specs.declared.item.Came.{Came}
+use Rattle.orca_course.specs.declared.item.Losses.{Losses}
 use Rattle.orca_course.specs.declared.item.Item.{Item}
 use Rattle.orca_course.specs.declared.item.Item.TheVariants as item
 use Rattle.orca_course.proofs.ActLemmas.{commands_in-append}
@@ -96,7 +96,7 @@ counted worth (Given i ∷ turns) = counting (worth i) (counted worth turns)
 counted worth (Over ending ∷ turns) = []
 
 -- that of a performance
-abbrev pub counted_in : {X : Type 0} → (Item → Worth X) → Came → List Heard → List X
+abbrev pub counted_in : {X : Type 0} → (Item → Worth X) → Losses → List Hearing → List X
 counted_in worth opening heard = counted worth (first_turns opening ++ heard_turns heard)
 
 -- while this is kept, an item brings what it comes to, by what matters of a state; at the end no
@@ -170,7 +170,7 @@ module _ {S X V : Type 0} (worth : Item → Worth X) (p : Part S) (core : S → 
   abbrev ran : Course S Ending → Told S
   ran c = record (told core c) { over = false }
 
-  begun_told : (s : S) (opening : Came) (heard : List Heard) → keeps s
+  begun_told : (s : S) (opening : Losses) (heard : List Hearing) → keeps s
       → ran (begun p s opening heard) ≡ items_told (counted_in worth opening heard) (core s)
   unfolding begun
   begun_told s opening heard kept =
@@ -207,7 +207,7 @@ module _ {S X V : Type 0} (worth : Item → Worth X) (p : Part S) (core : S → 
   }
 
   -- two performances of items that come to the same, from states that are alike in what matters
-  pub items_alike : (s t : S) (opening other : Came) (heard others : List Heard) → keeps s → keeps t
+  pub items_alike : (s t : S) (opening other : Losses) (heard others : List Hearing) → keeps s → keeps t
       → counted_in worth opening heard ≡ counted_in worth other others → core s ≡ core t
       → (performance p s opening heard).ending ≢ None
       → (performance p t other others).ending ≢ None

@@ -7,10 +7,10 @@ use Rattle.orca_base.specs.declared.limits.TheConstants.{MAX_POLLS}
 use Rattle.orca_rig.specs.declared.inbox.Answer.{Answer}
 use Rattle.orca_rig.specs.declared.inbox.Answer.TheVariants as answer
 use Rattle.orca_course.specs.Courses.{each}
-use Rattle.orca_course.specs.Performers.{Heard, Part, Turn, answer_turns, begun, first_turns, heard_turns, turn_course, turns_of}
+use Rattle.orca_course.specs.Performers.{Hearing, Part, Turn, answer_turns, begun, first_turns, heard_turns, turn_course, turns_of}
 use Rattle.orca_course.specs.Performers.Turn.{Asked, Given, Learned, Over}
 use Rattle.orca_course.specs.declared.ending.Ending.TheVariants.{Spent}
-use Rattle.orca_course.specs.declared.item.Came.{Came}
+use Rattle.orca_course.specs.declared.item.Losses.{Losses}
 use Rattle.orca_course.specs.declared.item.Item.{Item}
 use Rattle.orca_course.specs.declared.item.Item.TheVariants as item
 use Rattle.orca_course.proofs.PerformanceLemmas.{turns_before}
@@ -34,12 +34,12 @@ all_inner : (turns : List Turn) → AreInner turns → AreMidway turns
 all_inner [] inner = tt
 all_inner (turn ∷ turns) inner = (midway_inner turn inner.0, all_inner turns inner.1)
 
-pub all_midway : (opening : Came) (heard : List Heard)
+pub all_midway : (opening : Losses) (heard : List Hearing)
     → AreMidway (first_turns opening ++ heard_turns heard)
 all_midway opening heard = (tt, (tt, all_inner (heard_turns heard) (inner_heard heard)))
 
 -- where fewer polls were answered than may be, that adds no turn
-pub begun_few : {S : Type 0} (p : Part S) (s : S) (opening : Came) (heard : List Heard)
+pub begun_few : {S : Type 0} (p : Part S) (s : S) (opening : Losses) (heard : List Hearing)
     → length heard < MAX_POLLS
     → begun p s opening heard ≡ each (turn_course p) (turns_before opening heard) s
 unfolding begun
@@ -77,7 +77,7 @@ AreHeard [] a = Unit {0}
 AreHeard (Over ending ∷ turns) a = Unit {0}
 AreHeard (turn ∷ turns) a = IsHeard turn a × AreHeard turns (after_turn turn a)
 
-bytes_heard : (hand count at : ℕ) (bytes : List ℕ) (came : Came) (rest : List Turn)
+bytes_heard : (hand count at : ℕ) (bytes : List ℕ) (came : Losses) (rest : List Turn)
     → AreHeard rest None
     → AreHeard (answer_turns (answer.Bytes hand count at) bytes came ++ rest)
     (Some (answer.Bytes hand count at))
@@ -85,7 +85,7 @@ bytes_heard hand count at [] came rest more = (tt, (tt, more))
 bytes_heard hand count at (byte ∷ bytes) came rest more =
     (refl, bytes_heard hand count at bytes came rest more)
 
-answer_heard : (a : Answer) (bytes : List ℕ) (came : Came) (rest : List Turn) → AreHeard rest None
+answer_heard : (a : Answer) (bytes : List ℕ) (came : Losses) (rest : List Turn) → AreHeard rest None
     → AreHeard (answer_turns a bytes came ++ rest) (Some a)
 answer_heard (answer.Bytes hand count at) bytes came rest more =
     bytes_heard hand count at bytes came rest more
@@ -93,7 +93,7 @@ answer_heard (answer.Due at) bytes came rest more = (tt, (tt, (tt, more)))
 answer_heard answer.End bytes came rest more = tt
 answer_heard answer.Failed bytes came rest more = tt
 
-answers_heard : (heard : List Heard) (rest : List Turn) → AreHeard rest None
+answers_heard : (heard : List Hearing) (rest : List Turn) → AreHeard rest None
     → AreHeard (flat_map turns_of heard ++ rest) None
 answers_heard [] rest more = more
 answers_heard (h ∷ heard) rest more =
@@ -105,5 +105,5 @@ spent_heard : (b : Bool) → AreHeard (if b then Over Spent ∷ [] else []) None
 spent_heard true = tt
 spent_heard false = tt
 
-pub all_heard : (heard : List Heard) → AreHeard (heard_turns heard) None
+pub all_heard : (heard : List Hearing) → AreHeard (heard_turns heard) None
 all_heard heard = answers_heard heard _ (spent_heard (nat_le MAX_POLLS (length heard)))

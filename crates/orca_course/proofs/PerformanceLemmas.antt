@@ -15,14 +15,14 @@ use Rattle.orca_rig.specs.declared.inbox.Answer.TheVariants as answer
 use Rattle.orca_course.specs.Acts.{Act}
 use Rattle.orca_course.specs.Courses.{Course, each, lastly, lastly_by, mapped, onward, onward_by}
 use Rattle.orca_course.specs.Following.{sounding}
-use Rattle.orca_course.specs.Performers.{Heard, Part, Turn, answer_turns, attended, begun, finished, first_turns, given_course, items_of, last_turns, performance, spent, turn_course, turns_of}
+use Rattle.orca_course.specs.Performers.{Hearing, Part, Turn, answer_turns, attended, begun, finished, first_turns, given_course, items_of, last_turns, performance, spent, turn_course, turns_of}
 use Rattle.orca_course.specs.Performers.Turn.{Asked, Given, Learned, Over}
 use Rattle.orca_course.specs.Standings.{Standing, notes_of, standing_closed}
 use Rattle.orca_course.specs.declared.ending.Ending.{Ending}
 use Rattle.orca_course.specs.declared.ending.Ending.TheVariants.{Lost, Spent, Stopped}
 use Rattle.orca_course.specs.declared.ending.Stop.{Stop}
 use Rattle.orca_course.specs.declared.ending.Stop.TheVariants.{Full, Left}
-use Rattle.orca_course.specs.declared.item.Came.{Came}
+use Rattle.orca_course.specs.declared.item.Losses.{Losses}
 use Rattle.orca_course.specs.declared.item.Item.{Item}
 use Rattle.orca_course.specs.declared.item.Item.TheVariants as item
 use Rattle.orca_course.proofs.CourseLemmas.{each-append, each-longer, goes_both, onward-kind}
@@ -38,7 +38,7 @@ notes-standing_closed s =
 -- how a performer comes to its end: what comes first does not end it, an item ends it by leaving or
 -- by a full history alone, and where it has finished no note sounds
 pub record EndsWell {S : Type 0} (p : Part S) : Type 0 where
-  pub opens : (came : Came) (s : S) → (p.takes (item.Open came) s).ending ≡ None
+  pub opens : (came : Losses) (s : S) → (p.takes (item.Open came) s).ending ≡ None
   pub takes : (i : Item) (s : S)
       → IfSome (p.takes i s).ending (λ stop. (stop ≡ Left) ⊎ (stop ≡ Full))
   pub silent : (ending : Ending) (s : S)
@@ -60,8 +60,8 @@ lastly_silent p silent None c e is = absurd cc
 lastly_silent p silent (Some end) c e is = silent end c.state
 
 -- a whole performance ends with no note
-pub performance_silent : {S : Type 0} (p : Part S) → IsSilent p → (s : S) (opening : Came)
-    (heard : List Heard) (e : Ending) → (performance p s opening heard).ending ≡ Some e
+pub performance_silent : {S : Type 0} (p : Part S) → IsSilent p → (s : S) (opening : Losses)
+    (heard : List Hearing) (e : Ending) → (performance p s opening heard).ending ≡ Some e
     → sounding (p.stance.standing (performance p s opening heard).state) ≡ []
 unfolding performance lastly
 performance_silent p silent s opening heard e is =
@@ -70,20 +70,20 @@ performance_silent p silent s opening heard e is =
 -- ---- the number of answers
 
 -- a poll counts if it does not end the performance
-abbrev pub turn_at : Heard → ℕ
+abbrev pub turn_at : Hearing → ℕ
 turn_at h = cond (not (is_ending h.poll.answer)) 1 0
 
 -- how many polls were answered by bytes or a due moment
-abbrev pub turns : List Heard → ℕ
-turns heard = count_by (λ (h : Heard). not (is_ending h.poll.answer)) heard
+abbrev pub turns : List Hearing → ℕ
+turns heard = count_by (λ (h : Hearing). not (is_ending h.poll.answer)) heard
 
-turns_more : (h : Heard) (heard : List Heard) → is_ending h.poll.answer ≡ false
+turns_more : (h : Hearing) (heard : List Hearing) → is_ending h.poll.answer ≡ false
     → turns (h ∷ heard) ≡ 1 + turns heard
 turns_more h heard off =
     sum_by-cons turn_at h heard ∙ ap (λ (b : Bool). cond (not b) 1 0 + turns heard) off
 
 -- all polls count of a performance that goes on
-pub all_turns : {S : Type 0} (p : Part S) (heard : List Heard) (s : S)
+pub all_turns : {S : Type 0} (p : Part S) (heard : List Hearing) (s : S)
     → (each (turn_course p) (flat_map turns_of heard) s).ending ≡ None → turns heard ≡ length heard
 unfolding each turn_course
 all_turns p [] s goes = refl
@@ -133,13 +133,13 @@ fine_items : (P : Stop → Type 0) (items : List Item) → AreFine P (map Given 
 fine_items P [] = tt
 fine_items P (i ∷ items) = fine_items P items
 
-fine_last : (P : Stop → Type 0) → P Left → (a : Answer) (came : Came) → AreFine P (last_turns a came)
+fine_last : (P : Stop → Type 0) → P Left → (a : Answer) (came : Losses) → AreFine P (last_turns a came)
 fine_last P left (answer.Bytes hand count at) came = tt
 fine_last P left (answer.Due at) came = tt
 fine_last P left answer.End came = (left, tt)
 fine_last P left answer.Failed came = (tt, tt)
 
-fine_heard : (P : Stop → Type 0) → P Left → (heard : List Heard)
+fine_heard : (P : Stop → Type 0) → P Left → (heard : List Hearing)
     → AreFine P (flat_map turns_of heard)
 fine_heard P left [] = tt
 fine_heard P left (h ∷ heard) =
@@ -184,10 +184,10 @@ lastly_in P p None c ends = tt
 lastly_in P p (Some end) c ends = ends
 
 -- the turns before the polls are spent
-abbrev pub turns_before : Came → List Heard → List Turn
+abbrev pub turns_before : Losses → List Hearing → List Turn
 turns_before opening heard = first_turns opening ++ flat_map turns_of heard
 
-begun_before : {S : Type 0} (p : Part S) (s : S) (opening : Came) (heard : List Heard)
+begun_before : {S : Type 0} (p : Part S) (s : S) (opening : Losses) (heard : List Hearing)
     → begun p s opening heard
     ≡ onward (each (turn_course p) (turns_before opening heard) s) (each (turn_course p) (spent heard))
 unfolding begun
@@ -195,8 +195,8 @@ begun_before p s opening heard =
     each-append (turn_course p) (turns_before opening heard) (spent heard) s
 
 -- what was said of the turns before, where it goes on, holds of the polls that were spent
-spent_in : {S : Type 0} (P : Stop → Type 0) (p : Part S) (s : S) (opening : Came)
-    (heard : List Heard)
+spent_in : {S : Type 0} (P : Stop → Type 0) (p : Part S) (s : S) (opening : Losses)
+    (heard : List Hearing)
     → (each (turn_course p) (turns_before opening heard) s).ending ≡ None → turns heard < MAX_POLLS
     → EndsIn P (each (turn_course p) (spent heard)
     (each (turn_course p) (turns_before opening heard) s).state).ending
@@ -211,7 +211,7 @@ spent_in P p s opening heard goes few =
 
 -- a performance with few polls, whose items end it in these ways alone, ends so
 pub performance_in : {S : Type 0} (P : Stop → Type 0) → P Left → (p : Part S) (s : S)
-    (opening : Came) (heard : List Heard) → TakesIn P p s (turns_before opening heard)
+    (opening : Losses) (heard : List Hearing) → TakesIn P p s (turns_before opening heard)
     → turns heard < MAX_POLLS → EndsIn P (performance p s opening heard).ending
 unfolding performance lastly
 performance_in P left p s opening heard takes few =
@@ -228,8 +228,8 @@ well_in : {S : Type 0} (p : Part S) → EndsWell p → (s : S) (turns : List Tur
 well_in p well s turns before i more is goes = well.takes i (each (turn_course p) before s).state
 
 -- one that ends well, and not by a full history, ends by leaving, or since the inbox failed
-pub performance_well : {S : Type 0} (p : Part S) → EndsWell p → (s : S) (opening : Came)
-    (heard : List Heard) → turns heard < MAX_POLLS
+pub performance_well : {S : Type 0} (p : Part S) → EndsWell p → (s : S) (opening : Losses)
+    (heard : List Hearing) → turns heard < MAX_POLLS
     → (performance p s opening heard).ending ≢ Some (Stopped Full)
     → EndsIn (λ stop. stop ≡ Left) (performance p s opening heard).ending
 performance_well p well s opening heard few room =
@@ -252,7 +252,7 @@ spent_by p false None c = cc (append-nil c.acts)
 spent_by p last (Some e) c = refl
 
 -- that the polls are spent adds nothing
-pub attended_done : {S : Type 0} (p : Part S) (heard : List Heard) (s : S)
+pub attended_done : {S : Type 0} (p : Part S) (heard : List Hearing) (s : S)
     → done_of (attended p s heard) ≡ done_of (each (turn_course p) (flat_map turns_of heard) s)
 unfolding attended onward
 attended_done p heard s =
@@ -260,7 +260,7 @@ attended_done p heard s =
     rw (each-append (turn_course p) (flat_map turns_of heard) (spent heard) s)
     (spent_by p (nat_le MAX_POLLS (length heard)) c.ending c)
 
-begun_done : {S : Type 0} (p : Part S) (s : S) (opening : Came) (heard : List Heard)
+begun_done : {S : Type 0} (p : Part S) (s : S) (opening : Losses) (heard : List Hearing)
     → done_of (begun p s opening heard)
     ≡ done_of (each (turn_course p) (turns_before opening heard) s)
 unfolding onward
@@ -273,12 +273,12 @@ begun_done p s opening heard =
 abbrev pub Adds : {S : Type 0} → Course S Ending → Course S Ending → Type 0
 Adds c d = (tail : List Act) × (d.acts ≡ c.acts ++ tail)
 
-pub begun_adds : {S : Type 0} (p : Part S) (opening : Came) (heard more : List Heard) (s : S)
+pub begun_adds : {S : Type 0} (p : Part S) (opening : Losses) (heard more : List Hearing) (s : S)
     → Adds (begun p s opening heard) (begun p s opening (heard ++ more))
 begun_adds {S = S} p opening heard more s =
     let first = turns_before opening heard in
     let longer = each-longer (turn_course p) first (flat_map turns_of more) s in
-    let acts = λ (heard : List Heard).
+    let acts = λ (heard : List Hearing).
     ap (λ (done : List Act × S). done.0) (begun_done p s opening heard) in
     let all : turns_before opening (heard ++ more) ≡ first ++ flat_map turns_of more =
     rw (flat_map-append turns_of heard more)

@@ -11,16 +11,16 @@ use Rattle.orca_rig.specs.declared.inbox.Answer.{Answer}
 use Rattle.orca_rig.specs.declared.inbox.Answer.TheVariants as answer
 use Rattle.orca_course.specs.Acts.{AreDeaf, polls_in}
 use Rattle.orca_course.specs.Acts.Act.{Learn}
-use Rattle.orca_course.specs.Answered.{came_of, is_failure}
+use Rattle.orca_course.specs.Answered.{losses_of, is_failure}
 use Rattle.orca_course.specs.Courses.{Course, course, each, ended, joined, lastly, mapped, onward}
 use Rattle.orca_course.specs.Doing.{Does}
-use Rattle.orca_course.specs.Performers.{DoesPolls, Heard, IsDeaf, IsLostBy, Part, answer_turns, attended, begun, finished, first_turns, given_course, heard_turns, items_of, last_turns, performance, polls_of, spent, turn_course, turns_of}
+use Rattle.orca_course.specs.Performers.{DoesPolls, Hearing, IsDeaf, IsLostBy, Part, answer_turns, attended, begun, finished, first_turns, given_course, heard_turns, items_of, last_turns, performance, polls_of, spent, turn_course, turns_of}
 use Rattle.orca_course.specs.Performers.Turn.{Given, Learned, Over}
 use Rattle.orca_course.specs.Worlds.{Polled, World, has_ended, is_lost, owing}
 use Rattle.orca_course.specs.declared.ending.Ending.{Ending}
 use Rattle.orca_course.specs.declared.ending.Ending.TheVariants.{Spent, Stopped}
 use Rattle.orca_course.specs.declared.ending.Stop.{Stop}
-use Rattle.orca_course.specs.declared.item.Came.{Came}
+use Rattle.orca_course.specs.declared.item.Losses.{Losses}
 use Rattle.orca_course.specs.declared.item.Item.{Item}
 use Rattle.orca_course.specs.declared.item.Item.TheVariants as item
 use Rattle.orca_course.specs.declared.refused.NoMemory.{NoMemory}
@@ -49,7 +49,7 @@ unfolding turn_course
 over_turn p e s = each-one (turn_course p) (Over e) s
 
 -- what calls came to is learnt, and then an item is given
-pub told_turns : {S : Type 0} (p : Part S) (came : Came) (i : Item) (s : S)
+pub told_turns : {S : Type 0} (p : Part S) (came : Losses) (i : Item) (s : S)
     → each (turn_course p) (Learned came ∷ Given i ∷ []) s
     ≡ joined (course {E = Ending} (Learn came ∷ []) 0 s) (given_course p i s)
 unfolding each turn_course onward
@@ -58,7 +58,7 @@ told_turns p came i s =
     (each-one (given_course p) i s)
 
 -- what an answer brings, and that it was all
-pub answer_each : {S : Type 0} (p : Part S) (a : Answer) (bytes : List ℕ) (came : Came) (s : S)
+pub answer_each : {S : Type 0} (p : Part S) (a : Answer) (bytes : List ℕ) (came : Losses) (s : S)
     → each (turn_course p) (answer_turns a bytes came) s
     ≡ onward (each (given_course p) (items_of a bytes) s) (each (turn_course p) (last_turns a came))
 answer_each p a bytes came s =
@@ -66,7 +66,7 @@ answer_each p a bytes came s =
     refl
 
 -- the turns of one answer more
-pub heard_more : {S : Type 0} (p : Part S) (heard : List Heard) (h : Heard) (s : S)
+pub heard_more : {S : Type 0} (p : Part S) (heard : List Hearing) (h : Hearing) (s : S)
     → each (turn_course p) (flat_map turns_of (heard ++ h ∷ [])) s
     ≡ onward (each (turn_course p) (flat_map turns_of heard) s) (each (turn_course p) (turns_of h))
 heard_more p heard h s =
@@ -92,18 +92,18 @@ items_deaf p deaf items s =
     (λ r s t xs ys first second. AreDeaf-append xs ys first second)
     (λ i s. given_deaf p deaf i s) items s
 
-told_deaf : {S : Type 0} (p : Part S) → IsDeaf p → (came : Came) (i : Item) (s : S)
+told_deaf : {S : Type 0} (p : Part S) → IsDeaf p → (came : Losses) (i : Item) (s : S)
     → AreDeaf (each (turn_course p) (Learned came ∷ Given i ∷ []) s).acts
 told_deaf p deaf came i s = rw told_turns (given_deaf p deaf i s)
 
-last_deaf : {S : Type 0} (p : Part S) → IsDeaf p → (a : Answer) (came : Came) (s : S)
+last_deaf : {S : Type 0} (p : Part S) → IsDeaf p → (a : Answer) (came : Losses) (s : S)
     → AreDeaf (each (turn_course p) (last_turns a came) s).acts
 last_deaf p deaf (answer.Bytes hand count at) came s = told_deaf p deaf came (item.Over came) s
 last_deaf p deaf (answer.Due at) came s = told_deaf p deaf came (item.Over came) s
 last_deaf p deaf answer.End came s = rw over_turn tt
 last_deaf p deaf answer.Failed came s = rw over_turn tt
 
-answer_deaf : {S : Type 0} (p : Part S) → IsDeaf p → (a : Answer) (bytes : List ℕ) (came : Came)
+answer_deaf : {S : Type 0} (p : Part S) → IsDeaf p → (a : Answer) (bytes : List ℕ) (came : Losses)
     (s : S) → AreDeaf (each (turn_course p) (answer_turns a bytes came) s).acts
 answer_deaf p deaf a bytes came s =
     rw answer_each
@@ -123,11 +123,11 @@ items_not_lost : {S : Type 0} (p : Part S) (items : List Item) (s : S)
 items_not_lost p items s =
     each-kind NotLost (given_course p) (λ was. refl) (λ i t. given_not_lost p i t) items s
 
-told_not_lost : {S : Type 0} (p : Part S) (came : Came) (i : Item) (s : S)
+told_not_lost : {S : Type 0} (p : Part S) (came : Losses) (i : Item) (s : S)
     → NotLost (each (turn_course p) (Learned came ∷ Given i ∷ []) s).ending
 told_not_lost p came i s = rw told_turns (given_not_lost p i s)
 
-answer_not_lost : {S : Type 0} (p : Part S) (items : List Item) (came : Came) (i : Item) (s : S)
+answer_not_lost : {S : Type 0} (p : Part S) (items : List Item) (came : Losses) (i : Item) (s : S)
     → NotLost
     (onward (each (given_course p) items s) (each (turn_course p) (Learned came ∷ Given i ∷ []))).ending
 answer_not_lost p items came i s =
@@ -137,7 +137,7 @@ answer_not_lost p items came i s =
 -- ---- an answer
 
 -- only an answer that is no last one goes on
-pub answer_goes : {S : Type 0} (p : Part S) (a : Answer) (bytes : List ℕ) (came : Came) (s : S)
+pub answer_goes : {S : Type 0} (p : Part S) (a : Answer) (bytes : List ℕ) (came : Losses) (s : S)
     → (each (turn_course p) (answer_turns a bytes came) s).ending ≡ None → is_ending a ≡ false
 answer_goes p (answer.Bytes hand count at) bytes came s goes = refl
 answer_goes p (answer.Due at) bytes came s goes = refl
@@ -150,7 +150,7 @@ lost_same end not true = not true
 lost_same end not false = not false
 
 -- the inbox has failed exactly if that is how it ended
-answer_lost : {S : Type 0} (p : Part S) (a : Answer) (bytes : List ℕ) (came : Came) (s : S)
+answer_lost : {S : Type 0} (p : Part S) (a : Answer) (bytes : List ℕ) (came : Losses) (s : S)
     (was : Bool)
     → IsLostBy (Ok (each (turn_course p) (answer_turns a bytes came) s).ending) was
     (was || is_failure a)
@@ -184,8 +184,8 @@ over_took p e s x = rw over_turn (does_end e x refl)
 
 module _ {S : Type 0} (p : Part S) {s t : S} {x y : World} where
   -- what calls came to was told with an item
-  pub told_took : (i : Came → Item) (came : Came) {result : Result (Option Ending) NoMemory}
-      → came ≡ came_of x.calls → Does p.stance (given_course p (i came) s) s x result t y
+  pub told_took : (i : Losses → Item) (came : Losses) {result : Result (Option Ending) NoMemory}
+      → came ≡ losses_of x.calls → Does p.stance (given_course p (i came) s) s x result t y
       → Does p.stance (each (turn_course p) (Learned came ∷ Given (i came) ∷ []) s) s x result t y
   unfolding each turn_course
   told_took i came is did =
@@ -194,7 +194,7 @@ module _ {S : Type 0} (p : Part S) {s t : S} {x y : World} where
       (given_only p (i came) did)
 
   -- an answer: its items, and that it was all
-  pub answer_then : (a : Answer) (bytes : List ℕ) (came : Came) {u : S} {z : World}
+  pub answer_then : (a : Answer) (bytes : List ℕ) (came : Losses) {u : S} {z : World}
       {result : Result (Option Ending) NoMemory}
       → Does p.stance (each (given_course p) (items_of a bytes) s) s x (Ok None) t y
       → Does p.stance (each (turn_course p) (last_turns a came) t) t y result u z
@@ -202,7 +202,7 @@ module _ {S : Type 0} (p : Part S) {s t : S} {x y : World} where
   answer_then a bytes came first second =
       rw answer_each (does_then (each (turn_course p) (last_turns a came)) first second)
 
-  pub answer_left : (a : Answer) (bytes : List ℕ) (came : Came)
+  pub answer_left : (a : Answer) (bytes : List ℕ) (came : Losses)
       (result : Result (Option Ending) NoMemory) → Ends result
       → Does p.stance (each (given_course p) (items_of a bytes) s) s x result t y
       → Does p.stance (each (turn_course p) (answer_turns a bytes came) s) s x result t y
@@ -213,17 +213,17 @@ module _ {S : Type 0} (p : Part S) {s t : S} {x y : World} where
 
 -- an answer that was heard
 abbrev pub heard_of : {until : Option ℕ} {a : Answer} {bytes : List ℕ} {x y : World}
-    → Polled until a bytes x y → Came → Heard
+    → Polled until a bytes x y → Losses → Hearing
 heard_of {until = until} {a = a} {bytes = bytes} polled came =
     record { poll = record { until = until; answer = a; bytes = bytes }; came = came }
 
 -- what is done for a poll
-abbrev pub heard_course : {S : Type 0} → Part S → Heard → S → Course S Ending
+abbrev pub heard_course : {S : Type 0} → Part S → Hearing → S → Course S Ending
 heard_course p h s = each (turn_course p) (turns_of h) s
 
 -- a poll, and what its answer brings
 pub poll_done : {S : Type 0} (p : Part S) {until : Option ℕ} {a : Answer} {filled bytes : List ℕ}
-    {s t : S} {x y z : World} {result : Result (Option Ending) NoMemory} (n : ℕ) (came : Came)
+    {s t : S} {x y z : World} {result : Result (Option Ending) NoMemory} (n : ℕ) (came : Losses)
     (poll : Polled until a bytes x y) → until ≡ p.until s → filled ≡ bytes
     → Does p.stance (each (turn_course p) (answer_turns a filled came) s) s (owing n y) result t z
     → Does p.stance (heard_course p (heard_of poll came) s) s (owing n x) result t z
@@ -234,7 +234,7 @@ poll_done p {a = a} {bytes = bytes} {s = s} n came poll waits filled did =
     (does_acts (made_owing n poll.made) poll.sated (rests_mute p.stance s s _ tt refl))
     (rw filled at did))
 
-polled_polls : {S : Type 0} (p : Part S) → IsDeaf p → (h : Heard) (s : S)
+polled_polls : {S : Type 0} (p : Part S) → IsDeaf p → (h : Hearing) (s : S)
     → h.poll.until ≡ p.until s → polls_in (heard_course p h s).acts ≡ h.poll ∷ []
 unfolding each turn_course onward
 polled_polls p deaf h s waits =
@@ -242,7 +242,7 @@ polled_polls p deaf h s waits =
     (answer_deaf p deaf h.poll.answer h.poll.bytes h.came s) in
     rw (← waits) (ap (λ more. h.poll ∷ more) rest)
 
-polled_hears : {S : Type 0} (p : Part S) → IsDeaf p → (h : Heard) {s t : S} {x y : World}
+polled_hears : {S : Type 0} (p : Part S) → IsDeaf p → (h : Hearing) {s t : S} {x y : World}
     → has_ended x ≡ false → Does p.stance (heard_course p h s) s x (Ok None) t y
     → has_ended y ≡ false
 unfolding each turn_course onward
@@ -253,7 +253,7 @@ polled_hears p deaf h {s = s} {x = x} hearing did =
     ended_made did.did.made
     ∙ (ended-deaf acts (has_ended x || is_ending h.poll.answer) deaf ∙ rw (hearing, off) refl)
 
-polled_lost : {S : Type 0} (p : Part S) → IsDeaf p → (h : Heard) {s t : S} {x y : World}
+polled_lost : {S : Type 0} (p : Part S) → IsDeaf p → (h : Hearing) {s t : S} {x y : World}
     → (result : Result (Option Ending) NoMemory)
     → Does p.stance (heard_course p h s) s x result t y → IsLostBy result (is_lost x) (is_lost y)
 unfolding each turn_course onward
@@ -271,7 +271,7 @@ polled_lost p deaf h (Err e) did = tt
 -- so many polls were answered, and it goes on
 pub record Answered {S : Type 0} (p : Part S) (n : ℕ) (s : S) (x : World) (t : S) (y : World)
     : Type 0 where
-  pub heard : List Heard
+  pub heard : List Hearing
   pub many : length heard ≡ n
   pub all : polls_in (each (turn_course p) (flat_map turns_of heard) s).acts ≡ polls_of heard
   pub hearing : has_ended y ≡ false
@@ -291,7 +291,7 @@ answered_none p s x hearing = record {
 }
 
 -- no poll comes after the last
-spent_deaf : {S : Type 0} (p : Part S) (heard : List Heard) (s : S)
+spent_deaf : {S : Type 0} (p : Part S) (heard : List Hearing) (s : S)
     → AreDeaf (each (turn_course p) (spent heard) s).acts
 unfolding each
 spent_deaf p heard s =
@@ -311,7 +311,7 @@ polls_lastly : {S E F : Type 0} (c : Course S E) (next : E → S → Course S F)
 unfolding lastly
 polls_lastly c next deaf = grind (arith, polls_in-append, polls-deaf, append-nil)
 
-polls_of-append : (xs ys : List Heard) → polls_of (xs ++ ys) ≡ polls_of xs ++ polls_of ys
+polls_of-append : (xs ys : List Hearing) → polls_of (xs ++ ys) ≡ polls_of xs ++ polls_of ys
 polls_of-append [] ys = refl
 polls_of-append (x ∷ xs) ys = grind (arith, polls_of-append xs ys)
 
@@ -322,7 +322,7 @@ Attends p s x result t y = DoesPolls p.stance (attended p s) s x result t y
 
 module _ {S : Type 0} {p : Part S} {n : ℕ} {s t : S} {x y : World} (deaf : IsDeaf p)
     (so_far : Answered p n s x t y) where
-  all_more : (h : Heard) → h.poll.until ≡ p.until t
+  all_more : (h : Hearing) → h.poll.until ≡ p.until t
       → polls_in (each (turn_course p) (flat_map turns_of (so_far.heard ++ h ∷ [])) s).acts
       ≡ polls_of (so_far.heard ++ h ∷ [])
   all_more h waits =
@@ -337,13 +337,13 @@ module _ {S : Type 0} {p : Part S} {n : ℕ} {s t : S} {x y : World} (deaf : IsD
         polls_of-append,
       ) refl
 
-  did_more : (h : Heard) {u : S} {z : World} {result : Result (Option Ending) NoMemory}
+  did_more : (h : Hearing) {u : S} {z : World} {result : Result (Option Ending) NoMemory}
       → Does p.stance (heard_course p h t) t y result u z
       → Does p.stance (each (turn_course p) (flat_map turns_of (so_far.heard ++ h ∷ [])) s) s x
       result u z
   did_more h did = rw heard_more (does_then (heard_course p h) so_far.did did)
 
-  pub answered_more : (h : Heard) {u : S} {z : World} → h.poll.until ≡ p.until t
+  pub answered_more : (h : Hearing) {u : S} {z : World} → h.poll.until ≡ p.until t
       → Does p.stance (heard_course p h t) t y (Ok None) u z → Answered p (n + 1) s x u z
   answered_more h waits did = record {
     heard = so_far.heard ++ h ∷ [];
@@ -354,7 +354,7 @@ module _ {S : Type 0} {p : Part S} {n : ℕ} {s t : S} {x y : World} (deaf : IsD
     did = did_more h did;
   }
 
-  pub answered_left : (h : Heard) {u : S} {z : World} (result : Result (Option Ending) NoMemory)
+  pub answered_left : (h : Hearing) {u : S} {z : World} (result : Result (Option Ending) NoMemory)
       → Ends result → h.poll.until ≡ p.until t → n < MAX_POLLS
       → Does p.stance (heard_course p h t) t y result u z → Attends p s x result u z
   unfolding attended
@@ -393,17 +393,17 @@ module _ {S : Type 0} {p : Part S} {n : ℕ} {s t : S} {x y : World} (deaf : IsD
 
 -- ---- what comes first
 
-begun_each : {S : Type 0} (p : Part S) (came : Came) (heard : List Heard) (s : S)
+begun_each : {S : Type 0} (p : Part S) (came : Losses) (heard : List Hearing) (s : S)
     → begun p s came heard
     ≡ onward (each (turn_course p) (first_turns came) s) (λ t. attended p t heard)
 unfolding begun attended
 begun_each p came heard s = each-append (turn_course p) (first_turns came) (heard_turns heard) s
 
-first_deaf : {S : Type 0} (p : Part S) → IsDeaf p → (came : Came) (s : S)
+first_deaf : {S : Type 0} (p : Part S) → IsDeaf p → (came : Losses) (s : S)
     → AreDeaf (each (turn_course p) (first_turns came) s).acts
 first_deaf p deaf came s = told_deaf p deaf came (item.Open came) s
 
-module _ {S : Type 0} (p : Part S) (deaf : IsDeaf p) (came : Came) {s t : S} {x y : World} where
+module _ {S : Type 0} (p : Part S) (deaf : IsDeaf p) (came : Losses) {s t : S} {x y : World} where
   -- the inbox has not ended before the first poll
   pub opened_hears : Does p.stance (each (turn_course p) (first_turns came) s) s x (Ok None) t y
       → has_ended x ≡ false → has_ended y ≡ false
@@ -470,7 +470,7 @@ last_lost p deaf e t u x y z (Ok end) lost more =
     subst (IsLostBy (Ok (Some e)) (is_lost x)) (sym same) lost
 last_lost p deaf e t u x y z (Err refused) lost more = tt
 
-module _ {S : Type 0} (p : Part S) (deaf : IsDeaf p) (came : Came) {s t : S} {x y : World} where
+module _ {S : Type 0} (p : Part S) (deaf : IsDeaf p) (came : Losses) {s t : S} {x y : World} where
   -- how it ended stays
   pub performance_last : {u : S} {z : World} {e : Ending} (result : Result (Option Stop) NoMemory)
       → DoesPolls p.stance (begun p s came) s x (Ok (Some e)) t y
@@ -498,7 +498,7 @@ module _ {S : Type 0} (p : Part S) (deaf : IsDeaf p) (came : Came) {s t : S} {x 
   }
 
 -- a performance without answers polls nothing
-pub polls_none : {S : Type 0} (p : Part S) → IsDeaf p → (came : Came) (s : S)
+pub polls_none : {S : Type 0} (p : Part S) → IsDeaf p → (came : Losses) (s : S)
     → polls_in (performance p s came []).acts ≡ []
 unfolding performance attended
 polls_none p deaf came s =

@@ -7,10 +7,10 @@ use Rattle.orca_rig.specs.declared.inbox.Answer.{Answer}
 use Rattle.orca_rig.specs.declared.inbox.Answer.TheVariants as answer
 use Rattle.orca_course.specs.Acts.{Act}
 use Rattle.orca_course.specs.Courses.{Course, each, onward, onward_by}
-use Rattle.orca_course.specs.Performers.{Heard, Turn, heard_turns, items_of, last_turns, spent, turns_of}
+use Rattle.orca_course.specs.Performers.{Hearing, Turn, heard_turns, items_of, last_turns, spent, turns_of}
 use Rattle.orca_course.specs.Performers.Turn.{Given, Over}
 use Rattle.orca_course.specs.declared.ending.Ending.TheVariants.{Spent}
-use Rattle.orca_course.specs.declared.item.Came.{Came}
+use Rattle.orca_course.specs.declared.item.Losses.{Losses}
 use Rattle.orca_course.specs.declared.item.Item.TheVariants as item
 
 -- ---- what holds of each turn
@@ -69,13 +69,13 @@ inner_items (answer.Due at) bytes = (tt, tt)
 inner_items answer.End bytes = tt
 inner_items answer.Failed bytes = tt
 
-inner_last : (a : Answer) (came : Came) → AreInner (last_turns a came)
+inner_last : (a : Answer) (came : Losses) → AreInner (last_turns a came)
 inner_last (answer.Bytes hand count at) came = (tt, (tt, tt))
 inner_last (answer.Due at) came = (tt, (tt, tt))
 inner_last answer.End came = (tt, tt)
 inner_last answer.Failed came = (tt, tt)
 
-inner_answers : (heard : List Heard) → AreInner (flat_map turns_of heard)
+inner_answers : (heard : List Hearing) → AreInner (flat_map turns_of heard)
 inner_answers [] = tt
 inner_answers (h ∷ heard) =
     let items = map Given (items_of h.poll.answer h.poll.bytes) in
@@ -86,7 +86,7 @@ inner_answers (h ∷ heard) =
           (inner_answers heard),
     )
 
-inner_spent : (heard : List Heard) → AreInner (spent heard)
+inner_spent : (heard : List Hearing) → AreInner (spent heard)
 inner_spent heard =
     elim (nat_le MAX_POLLS (length heard)) as
     (λ over. AreInner (if over then Over Spent ∷ [] else [])) [
@@ -94,6 +94,6 @@ inner_spent heard =
       | false ↦ tt
     ]
 
-pub inner_heard : (heard : List Heard) → AreInner (heard_turns heard)
+pub inner_heard : (heard : List Hearing) → AreInner (heard_turns heard)
 inner_heard heard =
     inner_append (flat_map turns_of heard) (spent heard) (inner_answers heard) (inner_spent heard)

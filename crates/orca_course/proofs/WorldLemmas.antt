@@ -17,10 +17,10 @@ use Rattle.orca_trace.specs.Calls.{Call}
 use Rattle.orca_trace.specs.Calls.Call.{Await as CallAwait, Give as CallGive}
 use Rattle.orca_course.specs.Acts.{Act, ArePrintable, AreUntold, calls_in, given}
 use Rattle.orca_course.specs.Acts.Act.{Append, Await, Begin, Give, Learn, Load, Obey, Save, Screen, Show, Stand, Strike}
-use Rattle.orca_course.specs.Answered.{came_of, done_in, is_file_fault, refused_in}
+use Rattle.orca_course.specs.Answered.{losses_of, done_in, is_file_fault, refused_in}
 use Rattle.orca_course.specs.Standings.{Standing}
 use Rattle.orca_course.specs.Worlds.{AreCalled, AreCounted, AreStored, Called, Counts, IsCounted, Learns, Made, Polled, Sated, Stores, Unsent, Wants, World, has_ended, has_failed, is_lost, is_unstored, owing}
-use Rattle.orca_course.specs.declared.item.Came.{Came}
+use Rattle.orca_course.specs.declared.item.Losses.{Losses}
 use Rattle.orca_course.specs.declared.refused.NoMemory.{NoMemory}
 use Rattle.orca_course.specs.declared.refused.NoMemory.TheVariants.{InSend, Elsewhere}
 use Rattle.orca_course.proofs.ActLemmas.{ArePrintable-append, calls_in-append, ended_after, ended_after-calls, given-append, lost_after, lost_after-calls}
@@ -67,7 +67,7 @@ stands_in (x ∷ xs) ys (b ∷ before) a after is =
       | inr at ↦ inr (at.0, cc (is, at.1), at.2)
     ]
 
-untold_none : (before : List Act) (came : Came) (after : List Act)
+untold_none : (before : List Act) (came : Losses) (after : List Act)
     → AreUntold (before ++ Learn came ∷ after) → ⊥
 untold_none [] came after none = none
 untold_none (x ∷ before) came after none = grind (arith, untold_none before came after)
@@ -77,7 +77,7 @@ unfolding Learns
 learns_untold acts old new none before came after is =
     absurd (untold_none before came after (rw is at none))
 
-learns_now : (calls : List Call) → Learns (Learn (came_of calls) ∷ []) calls calls
+learns_now : (calls : List Call) → Learns (Learn (losses_of calls) ∷ []) calls calls
 unfolding Learns
 learns_now calls [] came after is = record {
   since = [];
@@ -253,9 +253,9 @@ pub made_screen : {acts : List Act} {bill : ℕ} {x y : World} (d : ScreenSize)
 made_screen d made = made_after (Screen d) refl tt tt made
 
 -- what all calls so far came to
-pub made_learn : (x : World) → Made (Learn (came_of x.calls) ∷ []) 0 x x
+pub made_learn : (x : World) → Made (Learn (losses_of x.calls) ∷ []) 0 x x
 made_learn x = record {
-  called = called_mark (Learn (came_of x.calls) ∷ []) x refl (learns_now x.calls);
+  called = called_mark (Learn (losses_of x.calls) ∷ []) x refl (learns_now x.calls);
   shows = tt;
   paid = omega arith;
 }

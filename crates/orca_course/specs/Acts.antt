@@ -11,7 +11,7 @@ use Rattle.orca_term.specs.declared.cell.Cell.{Cell}
 use Rattle.orca_term.specs.declared.cell.ScreenSize.{ScreenSize}
 use Rattle.orca_term.specs.declared.keys.Key.{Key}
 use Rattle.orca_course.specs.Standings.{Standing}
-use Rattle.orca_course.specs.declared.item.Came.{Came}
+use Rattle.orca_course.specs.declared.item.Losses.{Losses}
 
 -- one call on the outside, with its answer where that decides what follows; and, between calls, the
 -- commands, where they leave the run, the keys that hands struck, the pictures that were painted,
@@ -44,7 +44,7 @@ pub data Act : Type 0 where
   -- from here on the terminal has this size, and shows whatever it shows; no call
   Screen : ScreenSize → Act
   -- what all calls so far came to is told; no call
-  Learn : Came → Act
+  Learn : Losses → Act
 
 -- ---- calls
 

@@ -12,7 +12,7 @@ use Rattle.orca_trace.specs.Calls.{Call, fault_of}
 use Rattle.orca_trace.specs.Calls.Call.{Append as CallAppend, Attach as CallAttach, Await as CallAwait, Begin as CallBegin, Give as CallGive, Listen as CallListen, Load as CallLoad, Save as CallSave}
 use Rattle.orca_course.specs.Acts.{Act}
 use Rattle.orca_course.specs.Acts.Act.{Append, Attach, Await, Begin, Give, Listen, Load, Save}
-use Rattle.orca_course.specs.declared.item.Came.{Came}
+use Rattle.orca_course.specs.declared.item.Losses.{Losses}
 use Rattle.orca_course.specs.declared.notes.Outcomes.{Outcomes}
 use Rattle.orca_course.specs.declared.notes.Ports.{Ports}
 
@@ -141,8 +141,8 @@ no_outcomes =
 unfoldable pub outcomes_of : List Call → Outcomes
 outcomes_of calls = fold outcomes_by no_outcomes calls
 
-abbrev pub came_in : Outcomes → Came
-came_in o = record {
+abbrev pub losses_in : Outcomes → Losses
+losses_in o = record {
   midi = o.unattached.midi || o.unsent.midi;
   udp = o.unattached.udp || o.unsent.udp;
   osc = o.unattached.osc || o.unsent.osc;
@@ -151,5 +151,5 @@ came_in o = record {
 }
 
 -- what calls came to
-abbrev pub came_of : List Call → Came
-came_of calls = came_in (outcomes_of calls)
+abbrev pub losses_of : List Call → Losses
+losses_of calls = losses_in (outcomes_of calls)

@@ -15,7 +15,7 @@ use Rattle.orca_course.specs.declared.ending.Ending.{Ending}
 use Rattle.orca_course.specs.declared.ending.Ending.TheVariants.{Lost, Spent, Stopped}
 use Rattle.orca_course.specs.declared.ending.Stop.{Stop}
 use Rattle.orca_course.specs.declared.ending.Stop.TheVariants.{Left}
-use Rattle.orca_course.specs.declared.item.Came.{Came}
+use Rattle.orca_course.specs.declared.item.Losses.{Losses}
 use Rattle.orca_course.specs.declared.item.Item.{Item}
 use Rattle.orca_course.specs.declared.item.Item.TheVariants as item
 use Rattle.orca_course.specs.declared.refused.NoMemory.{NoMemory}
@@ -38,15 +38,15 @@ given_course p i s = mapped (λ t. t) (option_map Stopped) (p.takes i s)
 -- ---- a performance
 
 -- an answer that was heard: a poll, and what all calls had come to when what it brought was over
-pub record Heard : Type 0 where
+pub record Hearing : Type 0 where
   pub poll : Poll
-  pub came : Came
+  pub came : Losses
 
 -- one turn of a performance: the inbox is asked, what calls came to is learnt, an item is given, or
 -- it ends
 pub data Turn : Type 0 where
   Asked : Poll → Turn
-  Learned : Came → Turn
+  Learned : Losses → Turn
   Given : Item → Turn
   Over : Ending → Turn
 
@@ -65,35 +65,35 @@ items_of answer.End bytes = []
 items_of answer.Failed bytes = []
 
 -- that it was all; the last answers end the performance
-abbrev pub last_turns : Answer → Came → List Turn
+abbrev pub last_turns : Answer → Losses → List Turn
 last_turns (answer.Bytes hand count at) came = Learned came ∷ Given (item.Over came) ∷ []
 last_turns (answer.Due at) came = Learned came ∷ Given (item.Over came) ∷ []
 last_turns answer.End came = Over (Stopped Left) ∷ []
 last_turns answer.Failed came = Over Lost ∷ []
 
-abbrev pub answer_turns : Answer → List ℕ → Came → List Turn
+abbrev pub answer_turns : Answer → List ℕ → Losses → List Turn
 answer_turns a bytes came = map Given (items_of a bytes) ++ last_turns a came
 
-abbrev pub turns_of : Heard → List Turn
+abbrev pub turns_of : Hearing → List Turn
 turns_of h = Asked h.poll ∷ answer_turns h.poll.answer h.poll.bytes h.came
 
 -- as many polls as may be were answered
-abbrev pub spent : List Heard → List Turn
+abbrev pub spent : List Hearing → List Turn
 spent heard = if nat_le MAX_POLLS (length heard) then Over Spent ∷ [] else []
 
 -- the answers, one after another
-abbrev pub heard_turns : List Heard → List Turn
+abbrev pub heard_turns : List Hearing → List Turn
 heard_turns heard = flat_map turns_of heard ++ spent heard
 
-unfoldable pub attended : {S : Type 0} → Part S → S → List Heard → Course S Ending
+unfoldable pub attended : {S : Type 0} → Part S → S → List Hearing → Course S Ending
 attended p s heard = each (turn_course p) (heard_turns heard) s
 
 -- what comes first
-abbrev pub first_turns : Came → List Turn
+abbrev pub first_turns : Losses → List Turn
 first_turns came = Learned came ∷ Given (item.Open came) ∷ []
 
 -- what comes first, and then the answers
-unfoldable pub begun : {S : Type 0} → Part S → S → Came → List Heard → Course S Ending
+unfoldable pub begun : {S : Type 0} → Part S → S → Losses → List Hearing → Course S Ending
 begun p s opening heard = each (turn_course p) (first_turns opening ++ heard_turns heard) s
 
 -- what comes last; the performance has ended already
@@ -101,7 +101,7 @@ unfoldable pub finished : {S : Type 0} → Part S → Ending → S → Course S 
 finished p ending s = mapped (λ t. t) (λ end. Some ending) (p.takes (item.Ended ending) s)
 
 -- a whole performance
-unfoldable pub performance : {S : Type 0} → Part S → S → Came → List Heard → Course S Ending
+unfoldable pub performance : {S : Type 0} → Part S → S → Losses → List Hearing → Course S Ending
 performance p s opening heard = lastly (begun p s opening heard) (finished p)
 
 -- the inbox has failed exactly if that ended the performance
@@ -111,15 +111,15 @@ IsLostBy (Ok end) was is = is ≡ was
 IsLostBy (Err refused) was is = Unit {0}
 
 -- the polls of what was heard
-abbrev pub polls_of : List Heard → List Poll
-polls_of = map (λ (h : Heard). h.poll)
+abbrev pub polls_of : List Hearing → List Poll
+polls_of = map (λ (h : Hearing). h.poll)
 
 -- some polls were answered, no more than may be: exactly those that are among the acts; and this
 -- was done of what they make
-pub record DoesPolls {S : Type 0} (v : Stance S) (c : List Heard → Course S Ending)
+pub record DoesPolls {S : Type 0} (v : Stance S) (c : List Hearing → Course S Ending)
     (s : S) (x : World) (result : Result (Option Ending) NoMemory) (t : S) (y : World)
     : Type 0 where
-  pub heard : List Heard
+  pub heard : List Hearing
   pub few : length heard ≤ MAX_POLLS
   pub all : polls_in (c heard).acts ≡ polls_of heard
   pub lost : IsLostBy result (is_lost x) (is_lost y)

@@ -16,8 +16,8 @@ use Rattle.orca_trace.specs.Calls.{Call}
 use Rattle.orca_trace.specs.Calls.Call.{Append as CallAppend, Begin as CallBegin, Give as CallGive, Load as CallLoad, Save as CallSave}
 use Rattle.orca_course.specs.Acts.{Act, ArePrintable, calls_in, given}
 use Rattle.orca_course.specs.Acts.Act.{Await, Give, Learn}
-use Rattle.orca_course.specs.Answered.{came_of, done_in, is_file_fault, is_inbox_fault, is_last_poll, is_listen, is_port_fault, refused_in}
-use Rattle.orca_course.specs.declared.item.Came.{Came}
+use Rattle.orca_course.specs.Answered.{losses_of, done_in, is_file_fault, is_inbox_fault, is_last_poll, is_listen, is_port_fault, refused_in}
+use Rattle.orca_course.specs.declared.item.Losses.{Losses}
 use Rattle.orca_course.specs.declared.refused.NoMemory.{NoMemory}
 use Rattle.orca_course.specs.declared.refused.NoMemory.TheVariants.{InSend, Elsewhere}
 
@@ -107,17 +107,17 @@ pub record AreCounted (calls : List Call) (before now : Counts) : Type 0 where
   pub inbox : IsCounted (list_any is_inbox_fault calls) before.inbox now.inbox
 
 -- after these acts the calls have come to this: all that were made before, and those of the acts
-pub record HaveCome (acts : List Act) (came : Came) (old new : List Call) : Type 0 where
+pub record HaveCome (acts : List Act) (came : Losses) (old new : List Call) : Type 0 where
   pub since : List Call
   pub later : List Call
   pub calls : new ≡ old ++ (since ++ later)
   pub done : done_in since ≡ calls_in acts
-  pub is : came ≡ came_of (old ++ since)
+  pub is : came ≡ losses_of (old ++ since)
 
 -- wherever acts tell what calls came to, it is what those came to that were made before
 unfoldable pub Learns : List Act → List Call → List Call → Type 0
 Learns acts old new =
-    (before : List Act) (came : Came) (after : List Act) → acts ≡ before ++ Learn came ∷ after
+    (before : List Act) (came : Losses) (after : List Act) → acts ≡ before ++ Learn came ∷ after
     → HaveCome before came old new
 
 -- the calls that were made since then did these acts, in order, and no others; files hold what the

@@ -9,13 +9,13 @@ ghost use Rattle.orca_rig.specs.Arrived.{arrived};
 ghost use Rattle.orca_base.specs.declared.limits.TheConstants.{MAX_HANDS};
 ghost use Rattle.orca_course.specs.Acts.{given};
 ghost use Rattle.orca_course.specs.Acts.Act.{Append, Attach, Begin, Give, Listen, Load, Save};
-ghost use Rattle.orca_course.specs.Answered.{came_of, done_in};
+ghost use Rattle.orca_course.specs.Answered.{losses_of, done_in};
 ghost use Rattle.orca_course.specs.Told.{IsLogOf, Records, Tells, asked_in, attached_in};
 ghost use Rattle.orca_course.specs.Worlds.{Called, LeavesInbox, Made, Polled, Sated, has_ended, has_failed, has_listened, is_unstored, owing, listen_moment, loaded_text};
 
 use crate::notes::Notes;
 use crate::polling::arrived;
-use crate::{Came, NoMemory};
+use crate::{Losses, NoMemory};
 use orca_base::limits::ARRIVAL_BYTES;
 use orca_base::{Command, Fault, Port, Reply, Steps};
 use orca_edit::Machine;
@@ -164,10 +164,10 @@ impl<H: House> Desk<H> {
     }
 
     /// What the calls so far came to.
-    pub fn came(&self) -> Came
-        ensures { result ≡ came_of self.now.calls }
+    pub fn losses(&self) -> Losses
+        ensures { result ≡ losses_of self.now.calls }
     {
-        self.notes.came()
+        self.notes.losses()
     }
 
     /// Connects a port to a name. A failure is recorded, and the run goes on.

@@ -1,8 +1,8 @@
 use crate::Ending;
 
-/// What the calls so far came to.
+/// What is lost, as the calls so far tell.
 #[derive(Clone, Copy, Debug, PartialEq, Eq)]
-pub struct Came {
+pub struct Losses {
     /// The last attach of the MIDI port has failed, or its last send.
     pub midi: bool,
     /// So of the UDP port.
@@ -19,13 +19,13 @@ pub struct Came {
 #[derive(Clone, Copy, Debug, PartialEq, Eq)]
 pub enum Item {
     /// The performance begins.
-    Open(Came),
+    Open(Losses),
     /// A byte of a hand, which came at a moment.
     Byte { hand: u8, at: u64, byte: u8 },
     /// A moment is due, and nothing came before it.
     Due { at: u64 },
     /// All that an answer brought was given.
-    Over(Came),
+    Over(Losses),
     /// The performance has ended so: what comes last.
     Ended(Ending),
 }

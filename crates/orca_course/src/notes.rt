@@ -1,10 +1,10 @@
 //! The calls of a desk, and what it keeps of them to tell what they came to.
 
 ghost use Rattle.std.specs.Prelude.{◌≡◌, ◌++◌, ◌∷◌, []};
-ghost use Rattle.orca_course.specs.Answered.{came_in, came_of, no_outcomes, outcomes_by, ports_with};
+ghost use Rattle.orca_course.specs.Answered.{losses_in, losses_of, no_outcomes, outcomes_by, ports_with};
 ghost use Rattle.orca_trace.specs.Calls.{call_of};
 
-use crate::Came;
+use crate::Losses;
 use orca_base::Port;
 use orca_rig::OutsideFault;
 use orca_trace::{Kind, Trace};
@@ -89,10 +89,10 @@ impl Outcomes {
     }
 
     /// What the calls came to.
-    fn came(&self) -> Came
-        ensures { result ≡ came_in self.now }
+    fn losses(&self) -> Losses
+        ensures { result ≡ losses_in self.now }
     {
-        Came {
+        Losses {
             midi: self.unattached.midi || self.unsent.midi,
             udp: self.unattached.udp || self.unsent.udp,
             osc: self.unattached.osc || self.unsent.osc,
@@ -143,9 +143,9 @@ impl Notes {
     }
 
     /// What they came to.
-    pub(crate) fn came(&self) -> Came
-        ensures { result ≡ came_of self.now }
+    pub(crate) fn losses(&self) -> Losses
+        ensures { result ≡ losses_of self.now }
     {
-        self.outcomes.came()
+        self.outcomes.losses()
     }
 }

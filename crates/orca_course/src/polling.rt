@@ -96,7 +96,7 @@ fn give_last<P: Performer, H: House>(
         Answer::End => Ok(Some(Ending::Stopped(Stop::Left))),
         Answer::Failed => Ok(Some(Ending::Lost)),
         Answer::Bytes { .. } | Answer::Due { .. } => {
-            let came = desk.came();
+            let came = desk.losses();
             give(performer, desk, Item::Over(came))
         }
     }
@@ -144,7 +144,7 @@ fn open<P: Performer, H: House>(
     ensures { PerformsCame P.Performer.own (λ came. each (turn_course P.part) (first_turns came))
         performer.old desk.old result performer.new desk.new }
 {
-    let came = desk.came();
+    let came = desk.losses();
     give(performer, desk, Item::Open(came))
 }
 

@@ -4,11 +4,11 @@ use Rattle.std.specs.Prelude.{Option, Some, None}
 use Rattle.orca_course.specs.Acts.{Act}
 use Rattle.orca_course.specs.Acts.Act.{Await, Learn}
 use Rattle.orca_course.specs.Courses.{Course, lastly, lastly_by, mapped}
-use Rattle.orca_course.specs.Performers.{Heard, Turn, begun, finished, given_course, performance, turn_course}
+use Rattle.orca_course.specs.Performers.{Hearing, Turn, begun, finished, given_course, performance, turn_course}
 use Rattle.orca_course.specs.Performers.Turn.{Asked, Given, Learned, Over}
 use Rattle.orca_course.specs.declared.ending.Ending.{Ending}
 use Rattle.orca_course.specs.declared.ending.Stop.{Stop}
-use Rattle.orca_course.specs.declared.item.Came.{Came}
+use Rattle.orca_course.specs.declared.item.Losses.{Losses}
 use Rattle.orca_course.proofs.MidwayLemmas.{IsMidway, all_midway}
 use Rattle.orca_course.proofs.TurnLemmas.{turns_hold}
 use Rattle.orca_trace.specs.Calls.{Poll}
@@ -24,7 +24,7 @@ Anyhow holds who end s acts t = holds s acts t
 -- it holds of what the loop does too
 pub record Attends (holds : LiveState → List Act → LiveState → Type 0) : Type 0 where
   pub asks : (poll : Poll) (s : LiveState) → holds s (Await poll ∷ []) s
-  pub learns : (came : Came) (s : LiveState) → holds s (Learn came ∷ []) s
+  pub learns : (came : Losses) (s : LiveState) → holds s (Learn came ∷ []) s
 
 module _ {holds : LiveState → List Act → LiveState → Type 0} (carry : Carries (Anyhow holds))
     (attends : Attends holds) (begins : BeginsJournal (Anyhow holds)) where
@@ -36,7 +36,7 @@ module _ {holds : LiveState → List Act → LiveState → Type 0} (carry : Carr
   turn_carried (Given i) midway s = midway_carried carry begins 0 i s midway
   turn_carried (Over ending) midway s = carry.none 0 s s (looks_same s)
 
-  pub begun_carried : (s : LiveState) (opening : Came) (heard : List Heard)
+  pub begun_carried : (s : LiveState) (opening : Losses) (heard : List Hearing)
       → let c = begun live_part s opening heard in holds s c.acts c.state
   unfolding begun
   begun_carried s opening heard =
@@ -52,8 +52,8 @@ module _ {holds : LiveState → List Act → LiveState → Type 0} (carry : Carr
   lastly_carried silences (Some e) c s done =
       carry.both 0 None s c.state _ c.acts _ done (finish_carried carry silences 0 c.state)
 
-  pub performance_carried : Silences (Anyhow holds) → (s : LiveState) (opening : Came)
-      (heard : List Heard) → let c = performance live_part s opening heard in holds s c.acts c.state
+  pub performance_carried : Silences (Anyhow holds) → (s : LiveState) (opening : Losses)
+      (heard : List Hearing) → let c = performance live_part s opening heard in holds s c.acts c.state
   unfolding performance lastly
   performance_carried silences s opening heard =
       let c = begun live_part s opening heard in

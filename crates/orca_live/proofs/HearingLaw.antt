@@ -13,13 +13,13 @@ use Rattle.orca_concert.specs.Concerts.{command_course as obey_course}
 use Rattle.orca_course.specs.Acts.{Act, keys_in}
 use Rattle.orca_course.specs.Acts.Act.{Await, Learn}
 use Rattle.orca_course.specs.Courses.{Course, course, each, ended, mapped, onward, still}
-use Rattle.orca_course.specs.Performers.{Heard, Turn, begun, first_turns, given_course, heard_turns, turn_course}
+use Rattle.orca_course.specs.Performers.{Hearing, Turn, begun, first_turns, given_course, heard_turns, turn_course}
 use Rattle.orca_course.specs.Performers.Turn.{Asked, Given, Learned, Over}
 use Rattle.orca_course.specs.declared.ending.Ending.{Ending}
 use Rattle.orca_course.specs.declared.ending.Ending.TheVariants.{Stopped}
 use Rattle.orca_course.specs.declared.ending.Stop.{Stop}
 use Rattle.orca_course.specs.declared.ending.Stop.TheVariants.{Full}
-use Rattle.orca_course.specs.declared.item.Came.{Came}
+use Rattle.orca_course.specs.declared.item.Losses.{Losses}
 use Rattle.orca_course.specs.declared.item.Item.{Item}
 use Rattle.orca_course.specs.declared.item.Item.TheVariants as item
 use Rattle.orca_course.proofs.CourseLemmas.{goes_both, onward_goes}
@@ -486,7 +486,7 @@ module _ (hand n : ℕ) (there : nat_lt hand n ≡ true) where
       let both = goes_both (ended ending s) (each (turn_course live_part) turns) goes in
       absurd (none-some ending (sym both.0))
 
-  heeds_begun : (opening : Came) (heard : List Heard)
+  heeds_begun : (opening : Losses) (heard : List Hearing)
       → Heeds (items_for hand (items_of n heard)) (λ s. begun live_part s opening heard)
   unfolding begun
   heeds_begun opening heard s are goes =

@@ -14,11 +14,11 @@ use Rattle.orca_concert.specs.Concerts.{close_course as silence_course, command_
 use Rattle.orca_course.specs.Acts.{Act, commands_in, gives}
 use Rattle.orca_course.specs.Acts.Act.{Append, Await, Begin, Obey, Save, Show, Stand}
 use Rattle.orca_course.specs.Courses.{Course, course, each, joined, lastly, lastly_by, mapped, onward, onward_by}
-use Rattle.orca_course.specs.Performers.{Heard, Turn, begun, finished, given_course, heard_turns, performance, turn_course}
+use Rattle.orca_course.specs.Performers.{Hearing, Turn, begun, finished, given_course, heard_turns, performance, turn_course}
 use Rattle.orca_course.specs.Performers.Turn.{Asked, Given, Learned, Over}
 use Rattle.orca_course.specs.Standings.{Standing, notes_of, standing_after, standing_closed}
 use Rattle.orca_course.specs.declared.ending.Ending.{Ending}
-use Rattle.orca_course.specs.declared.item.Came.{Came}
+use Rattle.orca_course.specs.declared.item.Losses.{Losses}
 use Rattle.orca_course.specs.declared.item.Item.TheVariants as item
 use Rattle.orca_course.specs.declared.ending.Stop.{Stop}
 use Rattle.orca_course.proofs.MidwayLemmas.{AreHeard, IsHeard, after_turn, all_heard}
@@ -417,7 +417,7 @@ module _ (name : List ℕ) (set : Setting) (kept : set.journal ≡ Some name)
       ∙ ap (λ (seed : ℕ). joined (begins_with name seed s) (paint_course [] s))
       (ap (λ (set : Setting). set.seed) is)
 
-  begun_journaled : (s : LiveState) (opening : Came) (heard : List Heard) → s.setting ≡ set
+  begun_journaled : (s : LiveState) (opening : Losses) (heard : List Hearing) → s.setting ≡ set
       → s.unwritten ≡ []
       → let c = begun live_part s opening heard in
       (c.state.setting ≡ set)

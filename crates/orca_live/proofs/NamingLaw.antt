@@ -12,11 +12,11 @@ use Rattle.orca_concert.specs.Concerts.{command_course as obey_course, handed_of
 use Rattle.orca_course.specs.Acts.{Act, gives}
 use Rattle.orca_course.specs.Acts.Act.{Show, Stand}
 use Rattle.orca_course.specs.Courses.{Course, each, mapped, onward, onward_by}
-use Rattle.orca_course.specs.Performers.{Heard, Turn, begun, first_turns, given_course, heard_turns, turn_course}
+use Rattle.orca_course.specs.Performers.{Hearing, Turn, begun, first_turns, given_course, heard_turns, turn_course}
 use Rattle.orca_course.specs.Performers.Turn.{Asked, Given, Learned, Over}
 use Rattle.orca_course.specs.Standings.{Standing, refusal_of, standing_after}
 use Rattle.orca_course.specs.declared.ending.Ending.{Ending}
-use Rattle.orca_course.specs.declared.item.Came.{Came}
+use Rattle.orca_course.specs.declared.item.Losses.{Losses}
 use Rattle.orca_course.specs.declared.item.Item.{Item}
 use Rattle.orca_course.specs.declared.item.Item.TheVariants as item
 use Rattle.orca_course.proofs.MidwayLemmas.{AreHeard, AreMidway, IsBrought, IsHeard, IsMidway, after_turn, all_heard, all_midway}
@@ -249,7 +249,7 @@ owns_turns (turn ∷ turns) a who s midway heard gives has =
     (owns_turns turns (after_turn turn a) (next_giver who turn) c.state midway.1 heard.1
     (gives_after turn a who gives))
 
-names_so_far : (s : LiveState) (opening : Came) (heard : List Heard) → HasOwners s
+names_so_far : (s : LiveState) (opening : Losses) (heard : List Hearing) → HasOwners s
     → Owns NOBODY s (so_far s opening heard).acts (so_far s opening heard).state
 unfolding begun
 names_so_far s opening heard has =

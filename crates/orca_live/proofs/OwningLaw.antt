@@ -17,9 +17,9 @@ use Rattle.orca_base.specs.MarkSet.{MarkSet}
 use Rattle.orca_concert.specs.Concerts.{command_course as obey_course}
 use Rattle.orca_course.specs.Acts.{Act}
 use Rattle.orca_course.specs.Courses.{mapped, onward}
-use Rattle.orca_course.specs.Performers.{Heard}
+use Rattle.orca_course.specs.Performers.{Hearing}
 use Rattle.orca_course.specs.Standings.{refusal_of, standing_after}
-use Rattle.orca_course.specs.declared.item.Came.{Came}
+use Rattle.orca_course.specs.declared.item.Losses.{Losses}
 use Rattle.orca_edit.specs.Obeying.{MachineState, Obeyed, accept, adds_entry, carry_out, clip_after, entry_of, jump_to, obey, piece_of, refuse, rule_against, taken_area}
 use Rattle.orca_edit.proofs.RuleLemmas.{entered, has-room, some-moment}
 use Rattle.orca_jam.specs.Crews.{CrewState, denial_of, struck_by}
@@ -239,7 +239,7 @@ starts_with_owners set hands room at begins none fits = record {
   owners = rw none refl;
 }
 
-pub owns_so_far : (s : LiveState) (opening : Came) (heard : List Heard) → HasOwners s
+pub owns_so_far : (s : LiveState) (opening : Losses) (heard : List Hearing) → HasOwners s
     → HasOwners (so_far s opening heard).state
 owns_so_far s opening heard =
     begun_carried owns_carries (record { asks = λ poll t has. has; learns = λ came t has. has })

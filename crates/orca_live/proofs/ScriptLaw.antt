@@ -12,11 +12,11 @@ use Rattle.orca_concert.specs.Concerts.{Concert, after_cue, command_course as ob
 use Rattle.orca_concert.specs.Manners.{Manner}
 use Rattle.orca_course.specs.Acts.{Act, commands_in}
 use Rattle.orca_course.specs.Courses.{Course, each, lastly, lastly_by, mapped, onward}
-use Rattle.orca_course.specs.Performers.{Heard, begun, finished, performance}
+use Rattle.orca_course.specs.Performers.{Hearing, begun, finished, performance}
 use Rattle.orca_course.specs.Standings.{Standing, refusal_of}
 use Rattle.orca_course.specs.declared.ending.Ending.{Ending}
 use Rattle.orca_course.specs.declared.ending.Stop.{Stop}
-use Rattle.orca_course.specs.declared.item.Came.{Came}
+use Rattle.orca_course.specs.declared.item.Losses.{Losses}
 use Rattle.orca_course.proofs.ActLemmas.{commands_in-append}
 use Rattle.orca_cues.specs.Scripts.{cue_asking, cues_asking}
 use Rattle.orca_cues.specs.declared.source.Order.TheVariants.{Do as Once}
@@ -221,7 +221,7 @@ replays_script opening heard s empty ends =
     (begun_carried keeps_carries keeps_attends (λ who name s. keeps_none s) s opening heard) ends
 
 -- its commands lead to the session
-pub obeys_commands : (s : LiveState) (opening : Came) (heard : List Heard)
+pub obeys_commands : (s : LiveState) (opening : Losses) (heard : List Hearing)
     → let c = so_far s opening heard in
     c.state.standing.machine ≡ after_commands (commands_in c.acts) s.standing.machine
 obeys_commands s opening heard =

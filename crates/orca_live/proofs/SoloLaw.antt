@@ -13,13 +13,13 @@ use Rattle.orca_base.specs.MarkSet.{MarkSet}
 use Rattle.orca_concert.specs.Concerts.{close_course as silence_course, command_course as obey_course}
 use Rattle.orca_course.specs.Acts.Act.{Strike}
 use Rattle.orca_course.specs.Courses.{Course, course, each, ended, joined, lastly, lastly_by, mapped, onward, onward_by, still}
-use Rattle.orca_course.specs.Performers.{Heard, Turn, begun, finished, first_turns, given_course, heard_turns, performance, turn_course}
+use Rattle.orca_course.specs.Performers.{Hearing, Turn, begun, finished, first_turns, given_course, heard_turns, performance, turn_course}
 use Rattle.orca_course.specs.Performers.Turn.{Asked, Given, Learned, Over}
 use Rattle.orca_course.specs.declared.ending.Ending.{Ending}
 use Rattle.orca_course.specs.declared.ending.Ending.TheVariants.{Stopped}
 use Rattle.orca_course.specs.declared.ending.Stop.{Stop}
 use Rattle.orca_course.specs.declared.ending.Stop.TheVariants.{Full}
-use Rattle.orca_course.specs.declared.item.Came.{Came}
+use Rattle.orca_course.specs.declared.item.Losses.{Losses}
 use Rattle.orca_course.specs.declared.item.Item.{Item}
 use Rattle.orca_course.specs.declared.item.Item.TheVariants as item
 use Rattle.orca_course.proofs.CuttingLemmas.{Worth, counted, counting}
@@ -338,7 +338,7 @@ turns_agree (Over ending ∷ turns) midway none s solo =
     onward_agrees (each (turn_course live_part) turns) (agreed (ended ending s) solo)
     (λ on. absurd cc)
 
-begun_agrees : (opening : Came) (heard : List Heard) → HasNoRedo (items_of 1 heard)
+begun_agrees : (opening : Losses) (heard : List Hearing) → HasNoRedo (items_of 1 heard)
     → Alike (λ s. begun live_part s opening heard)
 unfolding begun
 begun_agrees opening heard none s solo =

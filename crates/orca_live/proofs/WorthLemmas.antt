@@ -3,10 +3,10 @@ use Rattle.std.proofs.Common.{◌≡◌, ℕ, Bool, true, false, length, List, [
 use Rattle.std.specs.Prelude.{if◌then◌else◌, nat_le, nat_lt}
 use Rattle.std.specs.List.{flat_map}
 use Rattle.orca_base.specs.declared.limits.TheConstants.{MAX_POLLS}
-use Rattle.orca_course.specs.Performers.{Heard, Turn, answer_turns, heard_turns, turns_of}
+use Rattle.orca_course.specs.Performers.{Hearing, Turn, answer_turns, heard_turns, turns_of}
 use Rattle.orca_course.specs.Performers.Turn.{Over}
 use Rattle.orca_course.specs.declared.ending.Ending.TheVariants.{Spent}
-use Rattle.orca_course.specs.declared.item.Came.{Came}
+use Rattle.orca_course.specs.declared.item.Losses.{Losses}
 use Rattle.orca_course.specs.declared.item.Item.{Item}
 use Rattle.orca_course.specs.declared.item.Item.TheVariants as item
 use Rattle.orca_course.proofs.CuttingLemmas.{Worth, counted}
@@ -23,7 +23,7 @@ worth_of hands (item.Due at) = Counts FrameDue
 worth_of hands _ = Nothing
 
 module _ (hands : ℕ) where
-  bytes_counted : (is : Bool) (hand count at : ℕ) (bytes : List ℕ) (came : Came)
+  bytes_counted : (is : Bool) (hand count at : ℕ) (bytes : List ℕ) (came : Losses)
       (rest : List Turn) (items : List HeardItem) → nat_lt hand hands ≡ is
       → counted (worth_of hands) rest ≡ items
       → counted (worth_of hands) (answer_turns (answer.Bytes hand count at) bytes came ++ rest)
@@ -36,7 +36,7 @@ module _ (hands : ℕ) where
   bytes_counted false hand count at (byte ∷ bytes) came rest items is more =
       rw is (bytes_counted false hand count at bytes came rest items is more)
 
-  answer_counted : (a : Answer) (bytes : List ℕ) (came : Came) (rest : List Turn)
+  answer_counted : (a : Answer) (bytes : List ℕ) (came : Losses) (rest : List Turn)
       (items : List HeardItem) → counted (worth_of hands) rest ≡ items
       → counted (worth_of hands) (answer_turns a bytes came ++ rest) ≡ items_by hands a bytes items
   answer_counted (answer.Bytes hand count at) bytes came rest items more =
@@ -45,7 +45,7 @@ module _ (hands : ℕ) where
   answer_counted answer.End bytes came rest items more = refl
   answer_counted answer.Failed bytes came rest items more = refl
 
-  answers_counted : (heard : List Heard) (rest : List Turn) → counted (worth_of hands) rest ≡ []
+  answers_counted : (heard : List Hearing) (rest : List Turn) → counted (worth_of hands) rest ≡ []
       → counted (worth_of hands) (flat_map turns_of heard ++ rest) ≡ items_of hands heard
   answers_counted [] rest none = none
   answers_counted (h ∷ heard) rest none =
@@ -58,6 +58,6 @@ module _ (hands : ℕ) where
   spent_counted true = refl
   spent_counted false = refl
 
-  pub all_counted : (heard : List Heard)
+  pub all_counted : (heard : List Hearing)
       → counted (worth_of hands) (heard_turns heard) ≡ items_of hands heard
   all_counted heard = answers_counted heard _ (spent_counted (nat_le MAX_POLLS (length heard)))

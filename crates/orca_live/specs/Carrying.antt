@@ -15,7 +15,7 @@ use Rattle.orca_course.proofs.MidwayLemmas.{IsMidway}
 use Rattle.orca_course.proofs.TurnLemmas.{IsInner}
 use Rattle.orca_course.specs.declared.ending.Stop.{Stop}
 use Rattle.orca_course.specs.declared.ending.Stop.TheVariants.{Full, Left}
-use Rattle.orca_course.specs.declared.item.Came.{Came}
+use Rattle.orca_course.specs.declared.item.Losses.{Losses}
 use Rattle.orca_course.specs.declared.item.Item.{Item}
 use Rattle.orca_course.specs.declared.item.Item.TheVariants as item
 use Rattle.orca_edit.specs.Machines.{preview_of}
@@ -52,7 +52,7 @@ pub record LooksAlike (s t : LiveState) : Type 0 where
 
 -- the keys and the editors of the hands, the pace, the moment and what calls came to are nothing to
 -- these
-looks_so : (s : LiveState) (players : List Player) (pace : Pace) (at : ℕ) (came : Came)
+looks_so : (s : LiveState) (players : List Player) (pace : Pace) (at : ℕ) (came : Losses)
     → length players ≡ length s.crew.players
     → LooksAlike s
     (record s { crew = record s.crew { players = players }; pace = pace; at = at; came = came })

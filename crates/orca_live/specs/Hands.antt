@@ -6,9 +6,9 @@ use Rattle.orca_base.specs.declared.command.Command.TheVariants as command
 use Rattle.orca_base.specs.Grids.{Size}
 use Rattle.orca_course.specs.Acts.{Act, commands_in, keys_in}
 use Rattle.orca_course.specs.Acts.Act.{Await, Obey}
-use Rattle.orca_course.specs.Performers.{Heard}
+use Rattle.orca_course.specs.Performers.{Hearing}
 use Rattle.orca_course.specs.Standings.{Standing}
-use Rattle.orca_course.specs.declared.item.Came.{Came}
+use Rattle.orca_course.specs.declared.item.Losses.{Losses}
 use Rattle.orca_edit.specs.Obeying.{MachineState, obey, rule_against}
 use Rattle.orca_jam.specs.Crews.{crew_at_start, denial_of, player_at}
 use Rattle.orca_jam.specs.Laws.{AreOwners, edits_of_others}
@@ -95,22 +95,22 @@ pub record IsMadeBy (keys : List Key) (e f : Editor) : Type 0 where
 -- where its own bytes and the due frames have left it, its keys are those that these have ended,
 -- and these keys alone have moved its editor
 pub record HearsEach (s : LiveState) : Type 0 where
-  pub obeys : (opening : Came) (heard : List Heard)
+  pub obeys : (opening : Losses) (heard : List Hearing)
       → let c = so_far s opening heard in
       c.state.standing.machine ≡ after_commands (commands_in c.acts) s.standing.machine
-  pub reads : (opening : Came) (heard : List Heard) (hand : ℕ) → is_hand hand s ≡ true
+  pub reads : (opening : Losses) (heard : List Hearing) (hand : ℕ) → is_hand hand s ≡ true
       → let c = so_far s opening heard in
       c.ending ≡ None
       → (player_at c.state.crew hand).keys
       ≡ pending_after s.setting.full (player_at s.crew hand).keys
       (items_for hand (items_of (length s.crew.players) heard))
-  pub keys : (opening : Came) (heard : List Heard) (hand : ℕ) → is_hand hand s ≡ true
+  pub keys : (opening : Losses) (heard : List Hearing) (hand : ℕ) → is_hand hand s ≡ true
       → let c = so_far s opening heard in
       c.ending ≡ None
       → keys_in hand c.acts
       ≡ keys_after s.setting.full (player_at s.crew hand).keys
       (items_for hand (items_of (length s.crew.players) heard))
-  pub moves : (opening : Came) (heard : List Heard) (hand : ℕ) → is_hand hand s ≡ true
+  pub moves : (opening : Losses) (heard : List Hearing) (hand : ℕ) → is_hand hand s ≡ true
       → let c = so_far s opening heard in
       c.ending ≡ None → IsMadeBy (keys_in hand c.acts) (editor_at hand s) (editor_at hand c.state)
 
@@ -159,18 +159,18 @@ owners_after who (_ ∷ acts) machine owners = owners_after who acts machine own
 -- of a hand is this hand's, and a frame of the clock is nobody's. So an undo that is neither denied
 -- to a hand nor refused leaves every edit of every other hand, in order
 pub record SharesSession (s : LiveState) : Type 0 where
-  pub owners : (opening : Came) (heard : List Heard) → HasOwners (so_far s opening heard).state
-  pub names : (opening : Came) (heard : List Heard)
+  pub owners : (opening : Losses) (heard : List Hearing) → HasOwners (so_far s opening heard).state
+  pub names : (opening : Losses) (heard : List Hearing)
       → let c = so_far s opening heard in
       c.state.crew.owners ≡ owners_after NOBODY c.acts s.standing.machine s.crew.owners
-  pub spares : (opening : Came) (heard : List Heard) (hand : ℕ)
+  pub spares : (opening : Losses) (heard : List Hearing) (hand : ℕ)
       → let t = (so_far s opening heard).state in
       let u = (hand_course hand command.Undo t).state in
       denial_of t.crew hand key.Undo ≡ None → rule_against t.standing.machine command.Undo ≡ None
       → edits_of_others hand u.standing.machine.history u.crew.owners
       ≡ edits_of_others hand t.standing.machine.history t.crew.owners
   -- the key of it leaves them too, whatever becomes of the key
-  pub undoes : (opening : Came) (heard : List Heard) (hand : ℕ)
+  pub undoes : (opening : Losses) (heard : List Hearing) (hand : ℕ)
       → let t = (so_far s opening heard).state in
       let u = (key_course hand key.Undo t).state in
       edits_of_others hand u.standing.machine.history u.crew.owners

@@ -1,7 +1,7 @@
 -- What the hands of a performance are heard to do by answers.
 use Rattle.std.specs.Prelude.{ℕ, not, nat_lt, if◌then◌else◌, List, [], ◌∷◌, ◌++◌, map, count_by}
 use Rattle.orca_rig.specs.Arrived.{is_ending}
-use Rattle.orca_course.specs.Performers.{Heard}
+use Rattle.orca_course.specs.Performers.{Hearing}
 use Rattle.orca_rig.specs.declared.inbox.Answer.{Answer}
 use Rattle.orca_rig.specs.declared.inbox.Answer.TheVariants as answer
 
@@ -20,10 +20,10 @@ items_by hands answer.End bytes rest = []
 items_by hands answer.Failed bytes rest = []
 
 -- the items of answers, up to the first one that ends them
-abbrev pub items_of : ℕ → List Heard → List HeardItem
+abbrev pub items_of : ℕ → List Hearing → List HeardItem
 items_of hands [] = []
 items_of hands (h ∷ heard) = items_by hands h.poll.answer h.poll.bytes (items_of hands heard)
 
 -- how many polls were answered by bytes or a due frame
-abbrev pub turns_of : List Heard → ℕ
-turns_of heard = count_by (λ (h : Heard). not (is_ending h.poll.answer)) heard
+abbrev pub turns_of : List Hearing → ℕ
+turns_of heard = count_by (λ (h : Hearing). not (is_ending h.poll.answer)) heard

@@ -9,9 +9,9 @@ use Rattle.orca_concert.specs.Manners.{Manner}
 use Rattle.orca_course.specs.Acts.{Act, commands_in}
 use Rattle.orca_course.specs.Acts.Act.{Append, Await, Begin, Save}
 use Rattle.orca_course.specs.Courses.{Course}
-use Rattle.orca_course.specs.Performers.{Heard, performance}
+use Rattle.orca_course.specs.Performers.{Hearing, performance}
 use Rattle.orca_course.specs.Standings.{Standing}
-use Rattle.orca_course.specs.declared.item.Came.{Came}
+use Rattle.orca_course.specs.declared.item.Losses.{Losses}
 use Rattle.orca_cues.specs.Scripts.{any_script_of, cues_asking, seed_in}
 use Rattle.orca_edit.specs.Obeying.{MachineState}
 use Rattle.orca_script.specs.Canonical.{Extends, HasValues, line_of, printed}
@@ -65,7 +65,7 @@ pub record IsApart (name : List ℕ) (set : Setting) : Type 0 where
 -- a performance keeps its journal, if no other file of it has that name
 abbrev pub JournalsPerformance : Type 0
 JournalsPerformance =
-    (s : LiveState) (opening : Came) (heard : List Heard) (name : List ℕ)
+    (s : LiveState) (opening : Losses) (heard : List Hearing) (name : List ℕ)
     → s.setting.journal ≡ Some name → IsApart name s.setting → s.unwritten ≡ []
     → KeepsJournal name s.setting.seed (performance live_part s opening heard)
 
@@ -91,6 +91,6 @@ led_back m commands s =
 -- done again, the commands of a performance so far lead to its session as it stands
 abbrev pub LeadsBack : Type 0
 LeadsBack =
-    (opening : Came) (heard : List Heard) (s : LiveState) (m : Manner (Unit {0})) → GoesOn m
+    (opening : Losses) (heard : List Hearing) (s : LiveState) (m : Manner (Unit {0})) → GoesOn m
     → led_back m (commands_in (so_far s opening heard).acts) s.standing
     ≡ (so_far s opening heard).state.standing.machine

@@ -9,10 +9,10 @@ use Rattle.orca_concert.specs.Concerts.{concert_with, cues_course}
 use Rattle.orca_concert.specs.Manners.{Manner}
 use Rattle.orca_course.specs.Acts.{Act, commands_in}
 use Rattle.orca_course.specs.Courses.{Course}
-use Rattle.orca_course.specs.Performers.{Heard, begun, performance}
+use Rattle.orca_course.specs.Performers.{Hearing, begun, performance}
 use Rattle.orca_course.specs.Standings.{Standing}
 use Rattle.orca_course.specs.declared.ending.Ending.{Ending}
-use Rattle.orca_course.specs.declared.item.Came.{Came}
+use Rattle.orca_course.specs.declared.item.Losses.{Losses}
 use Rattle.orca_cues.specs.Scripts.{cues_asking}
 use Rattle.orca_edit.specs.Obeying.{MachineState, machine_closed}
 use Rattle.orca_script.specs.Runs.{lines_behind}
@@ -21,11 +21,11 @@ use Rattle.orca_live.specs.Performing.{live_part}
 use Rattle.orca_live.specs.States.{LiveState}
 
 -- a performance up to its end
-abbrev pub so_far : LiveState → Came → List Heard → Course LiveState Ending
+abbrev pub so_far : LiveState → Losses → List Hearing → Course LiveState Ending
 so_far s opening heard = begun live_part s opening heard
 
 -- the whole of it
-abbrev pub whole_performance : LiveState → Came → List Heard → Course LiveState Ending
+abbrev pub whole_performance : LiveState → Losses → List Hearing → Course LiveState Ending
 whole_performance s opening heard = performance live_part s opening heard
 
 -- the answers do not break off
@@ -39,7 +39,7 @@ pub record AppendsActs (c d : Course LiveState Ending) : Type 0 where
 
 abbrev pub OnlyAppends : Type 0
 OnlyAppends =
-    (opening : Came) (heard more : List Heard) (s : LiveState)
+    (opening : Losses) (heard more : List Hearing) (s : LiveState)
     → AppendsActs (so_far s opening heard) (so_far s opening (heard ++ more))
 
 -- two states with the same setting, session, hands, screen and kept commands; moments, the pace and
@@ -60,7 +60,7 @@ pub record PlayAlike (c d : Course LiveState Ending) : Type 0 where
 -- how the same items of the hands that are heard were cut into answers changes no command
 abbrev pub ItemsDecide : Type 0
 ItemsDecide =
-    (opening other : Came) (heard others : List Heard) (s t : LiveState)
+    (opening other : Losses) (heard others : List Hearing) (s t : LiveState)
     → let hands = length s.crew.players in
     items_of hands heard ≡ items_of hands others → AreAlike s t
     → HasEnded (whole_performance s opening heard) → HasEnded (whole_performance t other others)
@@ -87,5 +87,5 @@ pub record Replays (c : Course LiveState Ending) (s : LiveState) : Type 0 where
 -- so it is for every performance that ends, if no command was kept before
 abbrev pub ReplaysScript : Type 0
 ReplaysScript =
-    (opening : Came) (heard : List Heard) (s : LiveState) → s.given ≡ Some []
+    (opening : Losses) (heard : List Hearing) (s : LiveState) → s.given ≡ Some []
     → HasEnded (whole_performance s opening heard) → Replays (whole_performance s opening heard) s

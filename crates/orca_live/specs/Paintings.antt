@@ -5,8 +5,8 @@ use Rattle.orca_base.specs.declared.port.Port.TheVariants as port
 use Rattle.orca_base.specs.Ports.{Sent, is_same_port}
 use Rattle.orca_course.specs.Acts.{Act, ArePrintable}
 use Rattle.orca_course.specs.Acts.Act.{Give, Screen, Show}
-use Rattle.orca_course.specs.Performers.{Heard, performance}
-use Rattle.orca_course.specs.declared.item.Came.{Came}
+use Rattle.orca_course.specs.Performers.{Hearing, performance}
+use Rattle.orca_course.specs.declared.item.Losses.{Losses}
 use Rattle.orca_term.specs.Picture.{IsScreen}
 use Rattle.orca_term.specs.Viewing.{Shows}
 use Rattle.orca_term.specs.declared.cell.ScreenSize.{ScreenSize}
@@ -36,7 +36,7 @@ ShowsPictures d sent (_ ∷ acts) = ShowsPictures d sent acts
 -- each picture of a whole performance, and of each beginning of one, if it can show their cells
 abbrev pub ShowsPerformance : Type 0
 ShowsPerformance =
-    (s : LiveState) (opening : Came) (heard : List Heard) (begun left : List Act)
+    (s : LiveState) (opening : Losses) (heard : List Hearing) (begun left : List Act)
     → IsScreen s.screen → s.shown ≡ None
     → (performance live_part s opening heard).acts ≡ begun ++ left → ArePrintable begun
     → ShowsPictures s.screen [] begun

@@ -14,7 +14,7 @@ use Rattle.orca_course.specs.Performers.{Part}
 use Rattle.orca_course.specs.Standings.{Standing}
 use Rattle.orca_course.specs.declared.ending.Stop.{Stop}
 use Rattle.orca_course.specs.declared.ending.Stop.TheVariants.{Full, Left}
-use Rattle.orca_course.specs.declared.item.Came.{Came}
+use Rattle.orca_course.specs.declared.item.Losses.{Losses}
 use Rattle.orca_course.specs.declared.item.Item.{Item}
 use Rattle.orca_course.specs.declared.item.Item.TheVariants as item
 use Rattle.orca_edit.specs.Machines.{preview_of}
@@ -277,7 +277,7 @@ abbrev pub answered_at : ℕ → LiveState → LiveState
 answered_at at s = record s { at = at }
 
 -- and so is what the calls came to
-abbrev pub knowing : Came → LiveState → LiveState
+abbrev pub knowing : Losses → LiveState → LiveState
 knowing came s = record s { came = came }
 
 -- what an item brings

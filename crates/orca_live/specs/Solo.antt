@@ -2,9 +2,9 @@
 -- plays as one that plays alone.
 use Rattle.std.specs.Prelude.{◌≡◌, ◌≢◌, ℕ, true, All, List, [], length}
 use Rattle.orca_course.specs.Courses.{Course}
-use Rattle.orca_course.specs.Performers.{Heard}
+use Rattle.orca_course.specs.Performers.{Hearing}
 use Rattle.orca_course.specs.declared.ending.Ending.{Ending}
-use Rattle.orca_course.specs.declared.item.Came.{Came}
+use Rattle.orca_course.specs.declared.item.Losses.{Losses}
 use Rattle.orca_jam.specs.Crews.{CrewState}
 use Rattle.orca_jam.specs.Laws.{AreLeaders}
 use Rattle.orca_live.specs.Items.{ByteOf, HeardItem, items_of}
@@ -39,6 +39,6 @@ pub record PlaysSame (c d : Course LiveState Ending) : Type 0 where
 -- without the key of Redo such a hand plays as if it played alone
 abbrev pub PlaysAlone : Type 0
 PlaysAlone =
-    (s : LiveState) (opening : Came) (heard : List Heard) → IsSolo s.crew
+    (s : LiveState) (opening : Losses) (heard : List Hearing) → IsSolo s.crew
     → HasNoRedo (items_of (length s.crew.players) heard)
     → PlaysSame (whole_performance s opening heard) (whole_performance (as_alone s) opening heard)

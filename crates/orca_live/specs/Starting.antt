@@ -2,13 +2,13 @@
 use Rattle.std.specs.Prelude.{ℕ, false, [], None}
 use Rattle.std.specs.Option.{option_map}
 use Rattle.orca_course.specs.Standings.{Standing}
-use Rattle.orca_course.specs.declared.item.Came.{Came}
+use Rattle.orca_course.specs.declared.item.Losses.{Losses}
 use Rattle.orca_jam.specs.Crews.{CrewState}
 use Rattle.orca_live.specs.States.{LiveState, Setting}
 use Rattle.orca_term.specs.Pacing.{pace_from}
 
 -- no call has failed, as far as was told
-abbrev pub nothing_failed : Came
+abbrev pub nothing_failed : Losses
 nothing_failed =
     record { midi = false; udp = false; osc = false; journal = false; unsaved = false }
 

@@ -12,7 +12,7 @@ use Rattle.orca_course.specs.Doing.{Does, Stance}
 use Rattle.orca_course.specs.Standings.{Standing, notes_of}
 use Rattle.orca_course.specs.Worlds.{World, owing}
 use Rattle.orca_course.specs.declared.ending.Stop.{Stop}
-use Rattle.orca_course.specs.declared.item.Came.{Came}
+use Rattle.orca_course.specs.declared.item.Losses.{Losses}
 use Rattle.orca_course.specs.declared.refused.NoMemory.{NoMemory}
 use Rattle.orca_edit.specs.Obeying.{piece_of}
 use Rattle.orca_edit.specs.Pieces.{Piece}
@@ -76,7 +76,7 @@ pub record LiveState : Type 0 where
   -- the moment of the last answer of the inbox
   pub at : ℕ
   -- what the calls came to, as it was told last
-  pub came : Came
+  pub came : Losses
 
 -- the state of a performance, by the ghost members of its session's bound. By this and by what its
 -- session has to clear, and by nothing else, a contract of another crate sees it

@@ -13,7 +13,7 @@ ghost use Rattle.orca_notes.specs.Sound.{ends};
 use crate::{Setting, Silent};
 use orca_base::{Command, Memory};
 use orca_concert::{Stage, close_early};
-use orca_course::{Came, Desk, NoMemory};
+use orca_course::{Losses, Desk, NoMemory};
 use orca_edit::Machine;
 use orca_jam::Crew;
 use orca_rig::House;
@@ -40,7 +40,7 @@ pub struct Live<'a, M> {
     /// The moment of the last answer of the inbox, in microseconds.
     pub(crate) at: u64,
     /// What the calls came to, as it was told last.
-    pub(crate) came: Came,
+    pub(crate) came: Losses,
     /// Room for what is saved.
     pub(crate) text: Vec<u8>,
 }
@@ -71,7 +71,7 @@ impl<'a, M: Machine> Live<'a, M> {
             given: setting.script.map(|_| Vec::new(alloc)),
             unwritten: Vec::new(alloc),
             at,
-            came: Came {
+            came: Losses {
                 midi: false,
                 udp: false,
                 osc: false,

@@ -5,7 +5,7 @@ use Rattle.orca_base.specs.declared.limits.TheConstants.{MAX_POLLS}
 use Rattle.orca_course.specs.Acts.{Act, AreMute, commands_in, given, gives, open_after, polls_in, stand_after}
 use Rattle.orca_course.specs.Acts.Act.{Attach, Listen, Load}
 use Rattle.orca_course.specs.Courses.{Course}
-use Rattle.orca_course.specs.Performers.{Heard as Hearing, polls_of}
+use Rattle.orca_course.specs.Performers.{Hearing, polls_of}
 use Rattle.orca_course.specs.Standings.{Standing}
 use Rattle.orca_course.specs.Following.{Follows, keys_after_acts, sounding}
 use Rattle.orca_course.specs.Answered.{refused_in}

@@ -13,7 +13,7 @@ use Rattle.orca_course.specs.Acts.{Act, commands_in, polls_in}
 use Rattle.orca_course.specs.Acts.Act.{Listen, Load}
 use Rattle.orca_course.specs.Courses.{Course, mapped}
 use Rattle.orca_course.specs.Following.{midi_sent}
-use Rattle.orca_course.specs.Performers.{Heard as Hearing, Part, performance, polls_of}
+use Rattle.orca_course.specs.Performers.{Hearing, Part, performance, polls_of}
 use Rattle.orca_course.specs.Standings.{tally_at_start}
 use Rattle.orca_course.specs.declared.ending.Ending.{Ending}
 use Rattle.orca_course.specs.declared.ending.Ending.TheVariants.{Stopped}

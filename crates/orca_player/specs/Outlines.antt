@@ -15,13 +15,13 @@ use Rattle.orca_course.specs.Acts.{Act}
 use Rattle.orca_course.specs.Acts.Act.{Attach, Listen, Load, Save, Stand}
 use Rattle.orca_course.specs.Courses.{Course, course, ended, joined, mapped}
 use Rattle.orca_course.specs.Doing.{Stance}
-use Rattle.orca_course.specs.Performers.{Heard as Hearing, Part, performance}
+use Rattle.orca_course.specs.Performers.{Hearing, Part, performance}
 use Rattle.orca_course.specs.Standings.{Standing, standing, tally_at_start}
 use Rattle.orca_course.specs.declared.ending.Ending.{Ending}
 use Rattle.orca_course.specs.declared.ending.Ending.TheVariants.{Stopped, Lost, Spent}
 use Rattle.orca_course.specs.declared.ending.Stop.{Stop}
 use Rattle.orca_course.specs.declared.ending.Stop.TheVariants.{Left, Full, SongTooLong, WaveTooLong}
-use Rattle.orca_course.specs.declared.item.Came.{Came as Losses}
+use Rattle.orca_course.specs.declared.item.Losses.{Losses}
 use Rattle.orca_cues.specs.Cues.{frames_cue}
 use Rattle.orca_cues.specs.Made.{made_cues, made_sheet}
 use Rattle.orca_cues.specs.Scripts.{any_script_of, commands_of_cues, seed_in}

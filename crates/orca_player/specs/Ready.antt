@@ -6,7 +6,7 @@ use Rattle.orca_base.specs.Grids.{Sheet}
 use Rattle.orca_clock.specs.Followers.{follow_part}
 use Rattle.orca_clock.specs.Leaders.{lead_part}
 use Rattle.orca_concert.specs.Concerts.{concert_with, concert_course}
-use Rattle.orca_course.specs.Performers.{Heard as Hearing, Part, performance}
+use Rattle.orca_course.specs.Performers.{Hearing, Part, performance}
 use Rattle.orca_course.specs.declared.ending.Ending.TheVariants.{Stopped}
 use Rattle.orca_course.specs.declared.ending.Stop.TheVariants.{Full, SongTooLong}
 use Rattle.orca_cues.specs.Cues.{frames_cue}

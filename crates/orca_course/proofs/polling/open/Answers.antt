@@ -4,4 +4,4 @@ use Rattle.orca_course.proofs.polling.open.Goals as goal
 
 pub returns : goal.returns
 returns g c =
-    (c.came-came.result, told_took g.P.Performer.part item.Open _ c.came-came.ensures c.give.ensures)
+    (c.losses-came.result, told_took g.P.Performer.part item.Open _ c.losses-came.ensures c.give.ensures)
