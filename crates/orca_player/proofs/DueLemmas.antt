@@ -5,10 +5,10 @@ use Rattle.std.specs.List.{flat_map}
 use Rattle.std.proofs.lemmas.List.Sums.{sum_by-append}
 use Rattle.orca_base.specs.declared.limits.TheConstants.{MAX_POLLS}
 use Rattle.orca_course.specs.Courses.{Course, each, onward}
-use Rattle.orca_course.specs.Performers.{Heard, Part, Turn, answer_turns, begun, first_turns, turn_course, turns_of}
+use Rattle.orca_course.specs.Performers.{Hearing, Part, Turn, answer_turns, begun, first_turns, turn_course, turns_of}
 use Rattle.orca_course.specs.Performers.Turn.{Asked, Given, Learned}
 use Rattle.orca_course.specs.declared.ending.Ending.{Ending}
-use Rattle.orca_course.specs.declared.item.Came.{Came}
+use Rattle.orca_course.specs.declared.item.Losses.{Losses}
 use Rattle.orca_course.specs.declared.item.Item.TheVariants as item
 use Rattle.orca_course.proofs.CourseLemmas.{each-append, goes_both, onward_goes}
 use Rattle.orca_course.proofs.MidwayLemmas.{begun_few}
@@ -44,15 +44,15 @@ passed (x ∷ xs) ys (b ∷ before) more at undue is =
     (rest.0, cc, rest.2)
 
 -- the answer of these that brought it
-record IsDueIn (heard : List Heard) (before : List Turn) (at : ℕ) : Type 0 where
-  pub front : List Heard
-  pub h : Heard
-  pub others : List Heard
+record IsDueIn (heard : List Hearing) (before : List Turn) (at : ℕ) : Type 0 where
+  pub front : List Hearing
+  pub h : Hearing
+  pub others : List Hearing
   pub splits : heard ≡ front ++ h ∷ others
   pub is : h.poll.answer ≡ answer.Due at
   pub stands : before ≡ flat_map turns_of front ++ Asked h.poll ∷ []
 
-due_later : (h : Heard) (heard : List Heard) (before rest : List Turn) (at : ℕ)
+due_later : (h : Hearing) (heard : List Hearing) (before rest : List Turn) (at : ℕ)
     → before ≡ turns_of h ++ rest → IsDueIn heard rest at → IsDueIn (h ∷ heard) before at
 due_later h heard before rest at is due = record {
   front = h ∷ due.front;
@@ -65,24 +65,24 @@ due_later h heard before rest at is due = record {
       ∙ sym (append_assoc (turns_of h) (flat_map turns_of due.front) (Asked due.h.poll ∷ [])));
 }
 
-undue_bytes : (hand count at : ℕ) (bytes : List ℕ) (came : Came)
+undue_bytes : (hand count at : ℕ) (bytes : List ℕ) (came : Losses)
     → AreUndue (answer_turns (answer.Bytes hand count at) bytes came)
 undue_bytes hand count at [] came = (tt, (tt, tt))
 undue_bytes hand count at (byte ∷ bytes) came = (tt, undue_bytes hand count at bytes came)
 
 -- what comes after the first answer
-abbrev Later : List Heard → ℕ → List Turn → Type 0
+abbrev Later : List Hearing → ℕ → List Turn → Type 0
 Later heard at more =
     (rest : List Turn) → IsAfter rest at more (flat_map turns_of heard) → IsDueIn heard rest at
 
-due_passed : (h : Heard) (heard : List Heard) (before more : List Turn) (at : ℕ)
+due_passed : (h : Hearing) (heard : List Hearing) (before more : List Turn) (at : ℕ)
     → AreUndue (turns_of h) → IsAfter before at more (turns_of h ++ flat_map turns_of heard)
     → Later heard at more → IsDueIn (h ∷ heard) before at
 due_passed h heard before more at undue is later =
     let rest = passed (turns_of h) (flat_map turns_of heard) before more at undue is in
     due_later h heard before rest.0 at rest.1 (later rest.0 rest.2)
 
-due_here : (h : Heard) (heard : List Heard) (before more : List Turn) (moment at : ℕ)
+due_here : (h : Hearing) (heard : List Hearing) (before more : List Turn) (moment at : ℕ)
     → h.poll.answer ≡ answer.Due moment
     → IsAfter before at more ((Asked h.poll ∷ answer_turns (answer.Due moment) h.poll.bytes h.came)
     ++ flat_map turns_of heard)
@@ -114,7 +114,7 @@ due_here h heard (b ∷ c ∷ before) more moment at due is later =
     (Asked h.poll ∷ answer_turns a h.poll.bytes h.came) ++ rest.0) due))
     (later rest.0 rest.2)
 
-due_by : (h : Heard) (heard : List Heard) (a : Answer) → h.poll.answer ≡ a
+due_by : (h : Hearing) (heard : List Hearing) (a : Answer) → h.poll.answer ≡ a
     → (before more : List Turn) (at : ℕ)
     → IsAfter before at more (turns_of h ++ flat_map turns_of heard) → Later heard at more
     → IsDueIn (h ∷ heard) before at
@@ -130,7 +130,7 @@ due_by h heard answer.End a before more at is later =
 due_by h heard answer.Failed a before more at is later =
     due_passed h heard before more at (tt, rw a (tt, tt)) is later
 
-due_in : (heard : List Heard) (before more : List Turn) (at : ℕ)
+due_in : (heard : List Hearing) (before more : List Turn) (at : ℕ)
     → IsAfter before at more (flat_map turns_of heard) → IsDueIn heard before at
 due_in [] [] more at is = absurd cc
 due_in [] (b ∷ before) more at is = absurd cc
@@ -141,25 +141,25 @@ due_in (h ∷ heard) before more at is =
 -- ---- a performance up to there
 
 -- what was heard before, where it goes on, as it stands there
-pub record IsDueAt {S : Type 0} (p : Part S) (s : S) (opening : Came) (heard : List Heard)
+pub record IsDueAt {S : Type 0} (p : Part S) (s : S) (opening : Losses) (heard : List Hearing)
     (before : List Turn) (at : ℕ) : Type 0 where
-  pub front : List Heard
-  pub h : Heard
-  pub others : List Heard
+  pub front : List Hearing
+  pub h : Hearing
+  pub others : List Hearing
   pub splits : heard ≡ front ++ h ∷ others
   pub is : h.poll.answer ≡ answer.Due at
   pub goes : (begun p s opening front).ending ≡ None
   pub state : (each (turn_course p) before s).state ≡ (begun p s opening front).state
 
 -- fewer answers than may be came before
-few_before : {S : Type 0} (p : Part S) (front more : List Heard) (s : S)
+few_before : {S : Type 0} (p : Part S) (front more : List Hearing) (s : S)
     → (each (turn_course p) (flat_map turns_of front) s).ending ≡ None
     → turns (front ++ more) < MAX_POLLS → length front < MAX_POLLS
 few_before p front more s goes few =
     omega (arith, all_turns p front s goes, sum_by-append turn_at front more, few)
 
 -- the inbox was asked once more
-asked_once : {S : Type 0} (p : Part S) (turns : List Turn) (h : Heard) (s : S)
+asked_once : {S : Type 0} (p : Part S) (turns : List Turn) (h : Hearing) (s : S)
     → (each (turn_course p) (turns ++ Asked h.poll ∷ []) s).ending ≡ None
     → ((each (turn_course p) turns s).ending ≡ None)
     × ((each (turn_course p) (turns ++ Asked h.poll ∷ []) s).state
@@ -172,7 +172,7 @@ asked_once p turns h s goes =
     let both = goes_both c next (rw is at goes) in
     (both.0, rw is (rw (onward_goes c next both.0) refl))
 
-pub due_at : {S : Type 0} (p : Part S) (s : S) (opening : Came) (heard : List Heard)
+pub due_at : {S : Type 0} (p : Part S) (s : S) (opening : Losses) (heard : List Hearing)
     (before more : List Turn) (at : ℕ) → turns heard < MAX_POLLS
     → IsAfter before at more (turns_before opening heard)
     → (each (turn_course p) before s).ending ≡ None → IsDueAt p s opening heard before at
@@ -193,7 +193,7 @@ due_at {S = S} p s opening heard before more at few is goes =
     let both = goes_both (each f (first_turns opening) s) (each f (flat_map turns_of due.front))
     (subst (λ (c : Course S Ending). c.ending ≡ None) split once.0) in
     let below = few_before p due.front (due.h ∷ due.others) (each f (first_turns opening) s).state
-    both.1 (subst (λ (list : List Heard). turns list < MAX_POLLS) due.splits few) in
+    both.1 (subst (λ (list : List Hearing). turns list < MAX_POLLS) due.splits few) in
     let so_far = begun_few p s opening due.front below in
     record {
       front = due.front;
