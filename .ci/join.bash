@@ -33,16 +33,22 @@ connect() {
     exec {typed}>"/dev/tcp/127.0.0.1/$1"
 }
 
+# How many players have joined.
+joined=0
+
 # join WORD..: plays with these words and the keys of a pipe. Then $player is the program's process and $typed the pipe;
 # what it shows and says stands in the files view and fault. The program runs as $as_somebody.
 join() {
-    # The name is never free, or the process below that belongs to an earlier player could make a plain file of it.
-    mkfifo -m 666 keys_made
+    # The name is never free, and the pipe of each player has one of its own: the process below that belongs to an earlier
+    # player opens no other pipe, and makes no plain file.
+    local own=keys_of_$((joined += 1))
+    mkfifo -m 666 "$own"
+    ln "$own" keys_made
     mv -fT keys_made keys
     ${as_somebody:-} timeout 120 "$program" play "$@" keys >view 2>fault </dev/null &
     player=$!
     # A program that ends before it opens its keys would leave this waiting.
-    (tail --pid="$player" -f /dev/null && exec 3<>keys) 2>/dev/null &
+    (tail --pid="$player" -f /dev/null && exec 3<>"$own") 2>/dev/null &
     exec {typed}>keys
 }
 

@@ -303,17 +303,19 @@ try_stopped_save() {
 
 # A program is killed while it saves again and again. The piece is always whole.
 try_killed_save() {
-    local turn strays=0 row
+    local turn strays=0 row killed
     for ((turn = 0; turn < 10; turn++)); do
         make_blank
         join killed/piece --bpm 1 --rows 2 --cols 8
         for ((row = 0; row < 200; row++)); do printf '7\e[C\x13'; done >&"$typed"
         sleep "0.0$((RANDOM % 10))$((RANDOM % 10))"
         {
-            pkill -KILL -P "$player" || true
+            killed=$(pgrep -P "$player") && kill -KILL "$killed" || true
             kill -KILL "$player" || true
             wait "$player" || true
         } 2>/dev/null
+        # It may still be in the middle of a call.
+        [ -z "$killed" ] || timeout 60 tail --pid="$killed" -f -s 0.01 /dev/null
         player=
         exec {typed}>&-
         [ "$(sed 's/^7*//; s/^\.*$//' killed/piece | sort -u)" = "" ] && [ "$(stat -c %s killed/piece)" = "$(stat -c %s blank)" ] ||
