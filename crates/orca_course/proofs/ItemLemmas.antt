@@ -1,5 +1,5 @@
 -- The items that an answer brings, one after another.
-use Rattle.std.proofs.Common.{◌≡◌, drop, get_or, ℕ, ◌+◌, ◌<◌, length, List, [], ◌∷◌, map, refl, ap, ◌∙◌}
+use Rattle.std.proofs.Common.{◌≡◌, drop, get_or, ℕ, ◌+◌, ◌<◌, length, List, ◌∷◌, map, refl, ap, ◌∙◌}
 use Rattle.std.proofs.lemmas.List.{drop-map, drop_more, length-map}
 use Rattle.orca_course.specs.Performers.{items_of}
 use Rattle.orca_course.specs.declared.item.Item.TheVariants as item

@@ -15,7 +15,7 @@ use Rattle.orca_rig.specs.declared.inbox.Answer.TheVariants as answer
 use Rattle.orca_course.specs.Acts.{Act}
 use Rattle.orca_course.specs.Courses.{Course, each, lastly, lastly_by, mapped, onward, onward_by}
 use Rattle.orca_course.specs.Following.{sounding}
-use Rattle.orca_course.specs.Performers.{Hearing, Part, Turn, answer_turns, attended, begun, finished, first_turns, given_course, items_of, last_turns, performance, spent, turn_course, turns_of}
+use Rattle.orca_course.specs.Performers.{Hearing, Part, Turn, answer_turns, begun, finished, first_turns, given_course, items_of, last_turns, performance, spent, turn_course, turns_of}
 use Rattle.orca_course.specs.Performers.Turn.{Asked, Given, Learned, Over}
 use Rattle.orca_course.specs.Standings.{Standing, notes_of, standing_closed}
 use Rattle.orca_course.specs.declared.ending.Ending.{Ending}
@@ -239,35 +239,21 @@ performance_well p well s opening heard few room =
 
 -- ---- more answers only add acts
 
--- what was done, and where it led
-abbrev pub done_of : {S : Type 0} → Course S Ending → List Act × S
-done_of c = (c.acts, c.state)
-
-spent_by : {S : Type 0} (p : Part S) (last : Bool) (end : Option Ending) (c : Course S Ending)
-    → done_of (onward_by end c (each (turn_course p) (if last then Over Spent ∷ [] else [])))
-    ≡ done_of c
+spent_acts : {S : Type 0} (p : Part S) (last : Bool) (end : Option Ending) (c : Course S Ending)
+    → (onward_by end c (each (turn_course p) (if last then Over Spent ∷ [] else []))).acts ≡ c.acts
 unfolding each turn_course onward
-spent_by p true None c = cc (append-nil c.acts)
-spent_by p false None c = cc (append-nil c.acts)
-spent_by p last (Some e) c = refl
+spent_acts p true None c = append-nil c.acts
+spent_acts p false None c = append-nil c.acts
+spent_acts p last (Some e) c = refl
 
 -- that the polls are spent adds nothing
-pub attended_done : {S : Type 0} (p : Part S) (heard : List Hearing) (s : S)
-    → done_of (attended p s heard) ≡ done_of (each (turn_course p) (flat_map turns_of heard) s)
-unfolding attended onward
-attended_done p heard s =
-    let c = each (turn_course p) (flat_map turns_of heard) s in
-    rw (each-append (turn_course p) (flat_map turns_of heard) (spent heard) s)
-    (spent_by p (nat_le MAX_POLLS (length heard)) c.ending c)
-
-begun_done : {S : Type 0} (p : Part S) (s : S) (opening : Losses) (heard : List Hearing)
-    → done_of (begun p s opening heard)
-    ≡ done_of (each (turn_course p) (turns_before opening heard) s)
+begun_acts : {S : Type 0} (p : Part S) (s : S) (opening : Losses) (heard : List Hearing)
+    → (begun p s opening heard).acts ≡ (each (turn_course p) (turns_before opening heard) s).acts
 unfolding onward
-begun_done p s opening heard =
+begun_acts p s opening heard =
     let c = each (turn_course p) (turns_before opening heard) s in
     rw (begun_before p s opening heard)
-    (spent_by p (nat_le MAX_POLLS (length heard)) c.ending c)
+    (spent_acts p (nat_le MAX_POLLS (length heard)) c.ending c)
 
 -- one course has the acts of another, and then these
 abbrev pub Adds : {S : Type 0} → Course S Ending → Course S Ending → Type 0
@@ -275,11 +261,10 @@ Adds c d = (tail : List Act) × (d.acts ≡ c.acts ++ tail)
 
 pub begun_adds : {S : Type 0} (p : Part S) (opening : Losses) (heard more : List Hearing) (s : S)
     → Adds (begun p s opening heard) (begun p s opening (heard ++ more))
-begun_adds {S = S} p opening heard more s =
+begun_adds p opening heard more s =
     let first = turns_before opening heard in
     let longer = each-longer (turn_course p) first (flat_map turns_of more) s in
-    let acts = λ (heard : List Hearing).
-    ap (λ (done : List Act × S). done.0) (begun_done p s opening heard) in
+    let acts = begun_acts p s opening in
     let all : turns_before opening (heard ++ more) ≡ first ++ flat_map turns_of more =
     rw (flat_map-append turns_of heard more)
     (sym (append_assoc (first_turns opening) (flat_map turns_of heard) (flat_map turns_of more))) in (

@@ -10,23 +10,23 @@ use Rattle.orca_rig.specs.Arrived.{is_ending}
 use Rattle.orca_rig.specs.declared.inbox.Answer.{Answer}
 use Rattle.orca_rig.specs.declared.inbox.Answer.TheVariants as answer
 use Rattle.orca_course.specs.Acts.{AreDeaf, polls_in}
-use Rattle.orca_course.specs.Acts.Act.{Learn}
 use Rattle.orca_course.specs.Answered.{losses_of, is_failure}
-use Rattle.orca_course.specs.Courses.{Course, course, each, ended, joined, lastly, mapped, onward}
+use Rattle.orca_course.specs.Courses.{Course, each, ended, lastly, mapped, onward}
 use Rattle.orca_course.specs.Doing.{Does}
-use Rattle.orca_course.specs.Performers.{DoesPolls, Hearing, IsDeaf, IsLostBy, Part, answer_turns, attended, begun, finished, first_turns, given_course, heard_turns, items_of, last_turns, performance, polls_of, spent, turn_course, turns_of}
-use Rattle.orca_course.specs.Performers.Turn.{Given, Learned, Over}
+use Rattle.orca_course.specs.Performers.{DoesPolls, Hearing, IsDeaf, IsLostBy, Part, Turn, answer_turns, attended, begun, finished, first_turns, given_course, heard_turns, items_of, last_turns, performance, polls_of, spent, turn_course, turns_of}
+use Rattle.orca_course.specs.Performers.Turn.{Asked, Given, Learned, Over}
 use Rattle.orca_course.specs.Worlds.{Polled, World, has_ended, is_lost, owing}
 use Rattle.orca_course.specs.declared.ending.Ending.{Ending}
-use Rattle.orca_course.specs.declared.ending.Ending.TheVariants.{Spent, Stopped}
+use Rattle.orca_course.specs.declared.ending.Ending.TheVariants.{Lost, Spent, Stopped}
 use Rattle.orca_course.specs.declared.ending.Stop.{Stop}
 use Rattle.orca_course.specs.declared.item.Losses.{Losses}
 use Rattle.orca_course.specs.declared.item.Item.{Item}
 use Rattle.orca_course.specs.declared.item.Item.TheVariants as item
 use Rattle.orca_course.specs.declared.refused.NoMemory.{NoMemory}
 use Rattle.orca_course.proofs.ActLemmas.{AreDeaf-append, ended-deaf, lost-deaf, polls-deaf, polls_in-append}
-use Rattle.orca_course.proofs.CourseLemmas.{each-append, each-holds, each-kind, each-one, lastly_longer, onward-kind, onward_goes}
+use Rattle.orca_course.proofs.CourseLemmas.{each-append, each-one, lastly_longer, onward_goes}
 use Rattle.orca_course.proofs.DoingLemmas.{Ends, answered, does_acts, does_end, does_lastly, does_left, does_longer, does_mapped, does_still, does_then, rests_mute}
+use Rattle.orca_course.proofs.TurnLemmas.{Are, turns_hold}
 use Rattle.orca_course.proofs.WorldLemmas.{ended_made, lost_made, made_learn, made_owing}
 
 -- ---- turns
@@ -48,15 +48,6 @@ pub over_turn : {S : Type 0} (p : Part S) (e : Ending) (s : S)
 unfolding turn_course
 over_turn p e s = each-one (turn_course p) (Over e) s
 
--- what calls came to is learnt, and then an item is given
-pub told_turns : {S : Type 0} (p : Part S) (came : Losses) (i : Item) (s : S)
-    → each (turn_course p) (Learned came ∷ Given i ∷ []) s
-    ≡ joined (course {E = Ending} (Learn came ∷ []) 0 s) (given_course p i s)
-unfolding each turn_course onward
-told_turns p came i s =
-    ap (λ (c : Course _ Ending). joined (course {E = Ending} (Learn came ∷ []) 0 s) c)
-    (each-one (given_course p) i s)
-
 -- what an answer brings, and that it was all
 pub answer_each : {S : Type 0} (p : Part S) (a : Answer) (bytes : List ℕ) (came : Losses) (s : S)
     → each (turn_course p) (answer_turns a bytes came) s
@@ -73,66 +64,47 @@ heard_more p heard h s =
     rw (flat_map-append turns_of heard (h ∷ []), append-nil (turns_of h))
     (each-append (turn_course p) (flat_map turns_of heard) (turns_of h) s)
 
--- ---- what items do not do
+-- ---- what turns do not do
 
-given_deaf : {S : Type 0} (p : Part S) → IsDeaf p → (i : Item) (s : S)
-    → AreDeaf (given_course p i s).acts
-unfolding given_course mapped IsDeaf
-given_deaf p deaf i s = deaf i s
+-- the inbox is not asked, and has not failed
+abbrev IsPlain : Turn → Type 0
+IsPlain (Asked poll) = ⊥
+IsPlain (Over Lost) = ⊥
+IsPlain other = Unit {0}
 
-deaf_onward : {S E : Type 0} (c : Course S E) (next : S → Course S E) → AreDeaf c.acts
-    → ((s : S) → AreDeaf (next s).acts) → AreDeaf (onward c next).acts
-unfolding onward
-deaf_onward c next first second = grind (arith, AreDeaf-append, second)
+-- a course does not ask the inbox, and does not lose it
+abbrev IsQuiet : {S : Type 0} → Course S Ending → Type 0
+IsQuiet c = AreDeaf c.acts × ((was : Bool) → IsLostBy (Ok c.ending) was was)
 
-items_deaf : {S : Type 0} (p : Part S) → IsDeaf p → (items : List Item) (s : S)
-    → AreDeaf (each (given_course p) items s).acts
-items_deaf p deaf items s =
-    each-holds (λ s xs t. AreDeaf xs) (given_course p) (λ s. tt)
-    (λ r s t xs ys first second. AreDeaf-append xs ys first second)
-    (λ i s. given_deaf p deaf i s) items s
+module _ {S : Type 0} (p : Part S) (deaf : IsDeaf p) where
+  turn_quiet : (turn : Turn) → IsPlain turn → (s : S) → IsQuiet (turn_course p turn s)
+  unfolding turn_course given_course mapped IsDeaf
+  turn_quiet (Asked poll) plain s = absurd plain
+  turn_quiet (Learned came) plain s = (tt, λ was. refl)
+  turn_quiet (Given i) plain s = (deaf i s, λ was. grind arith)
+  turn_quiet (Over (Stopped stop)) plain s = (tt, λ was. refl)
+  turn_quiet (Over Lost) plain s = absurd plain
+  turn_quiet (Over Spent) plain s = (tt, λ was. refl)
 
-told_deaf : {S : Type 0} (p : Part S) → IsDeaf p → (came : Losses) (i : Item) (s : S)
-    → AreDeaf (each (turn_course p) (Learned came ∷ Given i ∷ []) s).acts
-told_deaf p deaf came i s = rw told_turns (given_deaf p deaf i s)
+  turns_quiet : (turns : List Turn) → Are IsPlain turns → (s : S)
+      → IsQuiet (each (turn_course p) turns s)
+  turns_quiet turns plain s =
+      turns_hold (λ end s acts t. AreDeaf acts × ((was : Bool) → IsLostBy (Ok end) was was))
+      (λ end r s t xs ys first second. (AreDeaf-append xs ys first.0 second.0, second.1)) IsPlain
+      (turn_course p) (λ s. (tt, λ was. refl)) turn_quiet turns plain s
 
-last_deaf : {S : Type 0} (p : Part S) → IsDeaf p → (a : Answer) (came : Losses) (s : S)
-    → AreDeaf (each (turn_course p) (last_turns a came) s).acts
-last_deaf p deaf (answer.Bytes hand count at) came s = told_deaf p deaf came (item.Over came) s
-last_deaf p deaf (answer.Due at) came s = told_deaf p deaf came (item.Over came) s
-last_deaf p deaf answer.End came s = rw over_turn tt
-last_deaf p deaf answer.Failed came s = rw over_turn tt
+  -- what comes first
+  first_quiet : (came : Losses) (s : S) → IsQuiet (each (turn_course p) (first_turns came) s)
+  first_quiet came s = turns_quiet (first_turns came) (tt, (tt, tt)) s
 
-answer_deaf : {S : Type 0} (p : Part S) → IsDeaf p → (a : Answer) (bytes : List ℕ) (came : Losses)
-    (s : S) → AreDeaf (each (turn_course p) (answer_turns a bytes came) s).acts
-answer_deaf p deaf a bytes came s =
-    rw answer_each
-    (deaf_onward (each (given_course p) (items_of a bytes) s) (each (turn_course p) (last_turns a came))
-    (items_deaf p deaf (items_of a bytes) s) (λ t. last_deaf p deaf a came t))
-
--- no item loses the inbox
-abbrev NotLost : Option Ending → Type 0
-NotLost end = (was : Bool) → IsLostBy (Ok end) was was
-
-given_not_lost : {S : Type 0} (p : Part S) (i : Item) (s : S) → NotLost (given_course p i s).ending
-unfolding given_course mapped
-given_not_lost p i s was = grind arith
-
-items_not_lost : {S : Type 0} (p : Part S) (items : List Item) (s : S)
-    → NotLost (each (given_course p) items s).ending
-items_not_lost p items s =
-    each-kind NotLost (given_course p) (λ was. refl) (λ i t. given_not_lost p i t) items s
-
-told_not_lost : {S : Type 0} (p : Part S) (came : Losses) (i : Item) (s : S)
-    → NotLost (each (turn_course p) (Learned came ∷ Given i ∷ []) s).ending
-told_not_lost p came i s = rw told_turns (given_not_lost p i s)
-
-answer_not_lost : {S : Type 0} (p : Part S) (items : List Item) (came : Losses) (i : Item) (s : S)
-    → NotLost
-    (onward (each (given_course p) items s) (each (turn_course p) (Learned came ∷ Given i ∷ []))).ending
-answer_not_lost p items came i s =
-    onward-kind NotLost (each (given_course p) items s) _ (items_not_lost p items s)
-    (λ on. told_not_lost p came i _)
+  -- no poll comes after the last
+  spent_deaf : (heard : List Hearing) (s : S) → AreDeaf (each (turn_course p) (spent heard) s).acts
+  spent_deaf heard s =
+      elim (nat_le MAX_POLLS (length heard)) as
+      (λ over. AreDeaf (each (turn_course p) (if over then Over Spent ∷ [] else []) s).acts) [
+        | true ↦ (turns_quiet (Over Spent ∷ []) (tt, tt) s).0
+        | false ↦ (turns_quiet [] tt s).0
+      ]
 
 -- ---- an answer
 
@@ -144,24 +116,31 @@ answer_goes p (answer.Due at) bytes came s goes = refl
 answer_goes p answer.End bytes came s goes = let goes = rw over_turn at goes in absurd cc
 answer_goes p answer.Failed bytes came s goes = let goes = rw over_turn at goes in absurd cc
 
-lost_same : (end : Option Ending) → NotLost end → (was : Bool)
+plain_bytes : (hand at : ℕ) (bytes : List ℕ) (came : Losses)
+    → Are IsPlain (map Given (map (item.Byte hand at) bytes)
+    ++ Learned came ∷ Given (item.Over came) ∷ [])
+plain_bytes hand at [] came = (tt, (tt, tt))
+plain_bytes hand at (byte ∷ bytes) came = (tt, plain_bytes hand at bytes came)
+
+lost_same : (end : Option Ending) → ((was : Bool) → IsLostBy (Ok end) was was) → (was : Bool)
     → IsLostBy (Ok end) was (was || false)
 lost_same end not true = not true
 lost_same end not false = not false
 
--- the inbox has failed exactly if that is how it ended
-answer_lost : {S : Type 0} (p : Part S) (a : Answer) (bytes : List ℕ) (came : Losses) (s : S)
-    (was : Bool)
-    → IsLostBy (Ok (each (turn_course p) (answer_turns a bytes came) s).ending) was
-    (was || is_failure a)
-answer_lost p (answer.Bytes hand count at) bytes came s was =
-    rw (answer_each p (answer.Bytes hand count at) bytes came s)
-    (lost_same _ (answer_not_lost p _ came (item.Over came) s) was)
-answer_lost p (answer.Due at) bytes came s was =
-    rw (answer_each p (answer.Due at) bytes came s)
-    (lost_same _ (answer_not_lost p _ came (item.Over came) s) was)
-answer_lost p answer.End bytes came s was = rw over_turn (grind arith)
-answer_lost p answer.Failed bytes came s was = rw over_turn (grind arith)
+-- an answer does not ask the inbox, which has failed exactly if that is how it ended
+answer_quiet : {S : Type 0} (p : Part S) → IsDeaf p → (a : Answer) (bytes : List ℕ) (came : Losses)
+    (s : S)
+    → let c = each (turn_course p) (answer_turns a bytes came) s in
+    AreDeaf c.acts × ((was : Bool) → IsLostBy (Ok c.ending) was (was || is_failure a))
+answer_quiet p deaf (answer.Bytes hand count at) bytes came s =
+    let quiet = turns_quiet p deaf _ (plain_bytes hand at bytes came) s in
+    (quiet.0, lost_same _ quiet.1)
+answer_quiet p deaf (answer.Due at) bytes came s =
+    let quiet = turns_quiet p deaf (Given (item.Due at) ∷ Learned came ∷ Given (item.Over came) ∷ [])
+    (tt, (tt, (tt, tt))) s in
+    (quiet.0, lost_same _ quiet.1)
+answer_quiet p deaf answer.End bytes came s = rw over_turn (tt, λ was. grind arith)
+answer_quiet p deaf answer.Failed bytes came s = rw over_turn (tt, λ was. grind arith)
 
 -- ---- what was done of items
 
@@ -239,7 +218,7 @@ polled_polls : {S : Type 0} (p : Part S) → IsDeaf p → (h : Hearing) (s : S)
 unfolding each turn_course onward
 polled_polls p deaf h s waits =
     let rest = polls-deaf (each (turn_course p) (answer_turns h.poll.answer h.poll.bytes h.came) s).acts
-    (answer_deaf p deaf h.poll.answer h.poll.bytes h.came s) in
+    (answer_quiet p deaf h.poll.answer h.poll.bytes h.came s).0 in
     rw (← waits) (ap (λ more. h.poll ∷ more) rest)
 
 polled_hears : {S : Type 0} (p : Part S) → IsDeaf p → (h : Hearing) {s t : S} {x y : World}
@@ -248,7 +227,7 @@ polled_hears : {S : Type 0} (p : Part S) → IsDeaf p → (h : Hearing) {s t : S
 unfolding each turn_course onward
 polled_hears p deaf h {s = s} {x = x} hearing did =
     let acts = (each (turn_course p) (answer_turns h.poll.answer h.poll.bytes h.came) s).acts in
-    let deaf = answer_deaf p deaf h.poll.answer h.poll.bytes h.came s in
+    let deaf = (answer_quiet p deaf h.poll.answer h.poll.bytes h.came s).0 in
     let off = answer_goes p h.poll.answer h.poll.bytes h.came s did.did.ending in
     ended_made did.did.made
     ∙ (ended-deaf acts (has_ended x || is_ending h.poll.answer) deaf ∙ rw (hearing, off) refl)
@@ -261,9 +240,9 @@ polled_lost p deaf h {s = s} {x = x} {y = y} (Ok end) did =
     let acts = (each (turn_course p) (answer_turns h.poll.answer h.poll.bytes h.came) s).acts in
     let lost = lost_made did.did.made
     ∙ lost-deaf acts (is_lost x || is_failure h.poll.answer)
-    (answer_deaf p deaf h.poll.answer h.poll.bytes h.came s) in
+    (answer_quiet p deaf h.poll.answer h.poll.bytes h.came s).0 in
     subst (λ last. IsLostBy (Ok last) (is_lost x) (is_lost y)) did.did.ending
-    (rw lost (answer_lost p h.poll.answer h.poll.bytes h.came s (is_lost x)))
+    (rw lost ((answer_quiet p deaf h.poll.answer h.poll.bytes h.came s).1 (is_lost x)))
 polled_lost p deaf h (Err e) did = tt
 
 -- ---- polls, one after another
@@ -290,16 +269,12 @@ answered_none p s x hearing = record {
   did = does_still x refl;
 }
 
--- no poll comes after the last
-spent_deaf : {S : Type 0} (p : Part S) (heard : List Hearing) (s : S)
-    → AreDeaf (each (turn_course p) (spent heard) s).acts
-unfolding each
-spent_deaf p heard s =
-    elim (nat_le MAX_POLLS (length heard)) as
-    (λ over. AreDeaf (each (turn_course p) (if over then Over Spent ∷ [] else []) s).acts) [
-      | true ↦ rw over_turn tt
-      | false ↦ tt
-    ]
+-- the answers, and then that the polls are spent
+attended_each : {S : Type 0} (p : Part S) (heard : List Hearing) (s : S)
+    → attended p s heard
+    ≡ onward (each (turn_course p) (flat_map turns_of heard) s) (each (turn_course p) (spent heard))
+unfolding attended
+attended_each p heard s = each-append (turn_course p) (flat_map turns_of heard) (spent heard) s
 
 polls_onward : {S E : Type 0} (c : Course S E) (next : S → Course S E)
     → ((s : S) → AreDeaf (next s).acts) → polls_in (onward c next).acts ≡ polls_in c.acts
@@ -357,37 +332,30 @@ module _ {S : Type 0} {p : Part S} {n : ℕ} {s t : S} {x y : World} (deaf : IsD
   pub answered_left : (h : Hearing) {u : S} {z : World} (result : Result (Option Ending) NoMemory)
       → Ends result → h.poll.until ≡ p.until t → n < MAX_POLLS
       → Does p.stance (heard_course p h t) t y result u z → Attends p s x result u z
-  unfolding attended
   answered_left h result ends waits below did =
       let heard = so_far.heard ++ h ∷ [] in
+      let last = each (turn_course p) (spent heard) in
       record {
         heard = heard;
         few = grind (arith, length-append, so_far.many);
-        all = rw (
-          each-append (turn_course p) (flat_map turns_of heard) (spent heard) s,
-          polls_onward _ (each (turn_course p) (spent heard)) (spent_deaf p heard),
-        ) (all_more h waits);
+        all = rw (attended_each p heard s, polls_onward _ last (spent_deaf p deaf heard))
+            (all_more h waits);
         lost = rw (← so_far.steady) (polled_lost p deaf h result did);
-        did = rw (each-append (turn_course p) (flat_map turns_of heard) (spent heard) s)
-            (does_left (each (turn_course p) (spent heard)) result ends (did_more h did));
+        did = rw (attended_each p heard s) (does_left last result ends (did_more h did));
       }
 
   -- as many as may be
   pub answered_over : n ≤ MAX_POLLS → MAX_POLLS ≤ n → Attends p s x (Ok (Some Spent)) t y
-  unfolding attended
   answered_over most all =
       let heard = so_far.heard in
       let full : MAX_POLLS ≤ length heard = omega (arith, all, so_far.many) in
+      let last = each (turn_course p) (spent heard) in
       record {
         heard = heard;
         few = omega (arith, most, so_far.many);
-        all = rw (
-          each-append (turn_course p) (flat_map turns_of heard) (spent heard) s,
-          polls_onward _ (each (turn_course p) (spent heard)) (spent_deaf p heard),
-        ) so_far.all;
+        all = rw (attended_each p heard s, polls_onward _ last (spent_deaf p deaf heard)) so_far.all;
         lost = so_far.steady;
-        did = rw (each-append (turn_course p) (flat_map turns_of heard) (spent heard) s)
-            (does_then (each (turn_course p) (spent heard)) so_far.did
+        did = rw (attended_each p heard s) (does_then last so_far.did
             (rw (le-leb MAX_POLLS (length heard) full, over_turn) (does_end Spent y refl)));
       }
 
@@ -399,25 +367,21 @@ begun_each : {S : Type 0} (p : Part S) (came : Losses) (heard : List Hearing) (s
 unfolding begun attended
 begun_each p came heard s = each-append (turn_course p) (first_turns came) (heard_turns heard) s
 
-first_deaf : {S : Type 0} (p : Part S) → IsDeaf p → (came : Losses) (s : S)
-    → AreDeaf (each (turn_course p) (first_turns came) s).acts
-first_deaf p deaf came s = told_deaf p deaf came (item.Open came) s
-
 module _ {S : Type 0} (p : Part S) (deaf : IsDeaf p) (came : Losses) {s t : S} {x y : World} where
   -- the inbox has not ended before the first poll
   pub opened_hears : Does p.stance (each (turn_course p) (first_turns came) s) s x (Ok None) t y
       → has_ended x ≡ false → has_ended y ≡ false
   opened_hears first hearing =
       ended_made first.did.made ∙ (ended-deaf (each (turn_course p) (first_turns came) s).acts
-      (has_ended x) (first_deaf p deaf came s) ∙ hearing)
+      (has_ended x) (first_quiet p deaf came s).0 ∙ hearing)
 
   opened_lost : (result : Result (Option Ending) NoMemory)
       → Does p.stance (each (turn_course p) (first_turns came) s) s x result t y
       → IsLostBy result (is_lost x) (is_lost y)
   opened_lost (Ok end) first =
       let lost = lost_made first.did.made
-      ∙ lost-deaf (each (turn_course p) (first_turns came) s).acts (is_lost x) (first_deaf p deaf came s) in
-      let not = told_not_lost p came (item.Open came) s (is_lost x) in
+      ∙ lost-deaf (each (turn_course p) (first_turns came) s).acts (is_lost x) (first_quiet p deaf came s).0 in
+      let not = (first_quiet p deaf came s).1 (is_lost x) in
       subst (λ last. IsLostBy (Ok last) (is_lost x) (is_lost y)) first.did.ending (rw lost not)
   opened_lost (Err e) first = tt
 
@@ -431,7 +395,7 @@ module _ {S : Type 0} (p : Part S) (deaf : IsDeaf p) (came : Losses) {s t : S} {
       begun_each p came more.heard s,
       onward_goes (each (turn_course p) (first_turns came) s) _ first.did.ending,
       polls_in-append,
-      polls-deaf (each (turn_course p) (first_turns came) s).acts (first_deaf p deaf came s),
+      polls-deaf (each (turn_course p) (first_turns came) s).acts (first_quiet p deaf came s).0,
       first.did.state,
     ) more.all;
     lost = rw (opened_lost (Ok None) first) at more.lost;
@@ -446,8 +410,8 @@ module _ {S : Type 0} (p : Part S) (deaf : IsDeaf p) (came : Losses) {s t : S} {
     heard = [];
     few = omega arith;
     all = rw (begun_each p came [] s)
-        (polls_onward (each (turn_course p) (first_turns came) s) _ (λ u. spent_deaf p [] u)
-        ∙ polls-deaf (each (turn_course p) (first_turns came) s).acts (first_deaf p deaf came s));
+        (polls_onward (each (turn_course p) (first_turns came) s) _ (λ u. spent_deaf p deaf [] u)
+        ∙ polls-deaf (each (turn_course p) (first_turns came) s).acts (first_quiet p deaf came s).0);
     lost = opened_lost result first;
     did = rw (begun_each p came [] s) (does_left (λ t. attended p t []) result ends first);
   }
@@ -504,5 +468,5 @@ unfolding performance attended
 polls_none p deaf came s =
     polls_lastly (begun p s came []) (finished p) (finished_deaf p deaf)
     ∙ rw (begun_each p came [] s)
-    (polls_onward (each (turn_course p) (first_turns came) s) _ (λ u. spent_deaf p [] u)
-    ∙ polls-deaf (each (turn_course p) (first_turns came) s).acts (first_deaf p deaf came s))
+    (polls_onward (each (turn_course p) (first_turns came) s) _ (λ u. spent_deaf p deaf [] u)
+    ∙ polls-deaf (each (turn_course p) (first_turns came) s).acts (first_quiet p deaf came s).0)

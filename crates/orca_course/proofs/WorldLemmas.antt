@@ -117,21 +117,27 @@ learns_twice xs ys a b c first second calls more done one two before came after 
 
 -- acts that were done
 
-called_none : (x y : World) → y.calls ≡ x.calls → y.contents ≡ x.contents → y.faults ≡ x.faults
-    → AreCalled [] x y
+-- no call was made
+called_none : (acts : List Act) (x y : World) → y.calls ≡ x.calls → y.contents ≡ x.contents
+    → y.faults ≡ x.faults → calls_in acts ≡ [] → Learns acts x.calls y.calls → AreCalled acts x y
 unfolding AreCalled
-called_none x y calls contents faults = (
+called_none acts x y calls contents faults none learns = (
   [],
   calls ∙ sym (append-nil x.calls),
-  refl,
+  sym none,
   contents,
   rw faults (record { ports = refl; files = refl; inbox = refl }),
-  learns_untold [] x.calls y.calls tt,
+  learns,
 )
 
--- no call was made
+-- nor is anything told of calls
+called_mute : (acts : List Act) (x y : World) → y.calls ≡ x.calls → y.contents ≡ x.contents
+    → y.faults ≡ x.faults → calls_in acts ≡ [] → AreUntold acts → AreCalled acts x y
+called_mute acts x y calls contents faults none untold =
+    called_none acts x y calls contents faults none (learns_untold acts x.calls y.calls untold)
+
 pub called_still : (acts : List Act) (x : World) → acts ≡ [] → AreCalled acts x x
-called_still acts x none = rw none (called_none x x refl refl refl)
+called_still acts x none = rw none (called_mute [] x x refl refl refl refl tt)
 
 called_twice : (xs ys : List Act) (x y z : World) → AreCalled xs x y → AreCalled ys y z
     → AreCalled (xs ++ ys) x z
@@ -146,19 +152,9 @@ called_twice xs ys x y z first second = (
       second.5,
 )
 
-called_owing : (acts : List Act) (x y : World) (m n : ℕ) → AreCalled acts x y
-    → AreCalled acts (owing m x) (owing n y)
-unfolding AreCalled
-called_owing acts x y m n made = made
-
-called_clear : (acts : List Act) (x y : World) (m n : ℕ)
-    → AreCalled acts (owing m x) (owing n y) → AreCalled acts x y
-unfolding AreCalled
-called_clear acts x y m n made = made
-
 pub made_none : (x : World) → Made [] 0 x x
 made_none x = record {
-  called = called_none x x refl refl refl;
+  called = called_mute [] x x refl refl refl refl tt;
   shows = tt;
   paid = omega arith;
 }
@@ -167,11 +163,7 @@ made_none x = record {
 pub made_paid : (bill : ℕ) (x y : World) → y.calls ≡ x.calls → y.contents ≡ x.contents
     → y.faults ≡ x.faults → y.paid ≤ x.paid + bill → Made [] bill x y
 made_paid bill x y calls contents faults paid =
-    record {
-      called = called_none x y calls contents faults;
-      shows = tt;
-      paid = paid;
-    }
+    record { called = called_mute [] x y calls contents faults refl tt; shows = tt; paid = paid }
 
 pub made_twice : {xs ys : List Act} {m n : ℕ} {x y z : World} → Made xs m x y → Made ys n y z
     → Made (xs ++ ys) (m + n) x z
@@ -189,8 +181,9 @@ made_within n more made = search arith
 -- what is owed before and after alike
 pub made_owing : {xs : List Act} {m : ℕ} {x y : World} (n : ℕ) → Made xs m x y
     → Made xs m (owing n x) (owing n y)
-made_owing {xs = xs} {x = x} {y = y} n made = record {
-  called = called_owing xs x y n n made.called;
+unfolding AreCalled
+made_owing n made = record {
+  called = made.called;
   shows = made.shows;
   paid = omega (arith, made.paid);
 }
@@ -198,30 +191,19 @@ made_owing {xs = xs} {x = x} {y = y} n made = record {
 -- nothing is owed on either side
 pub made_clear : {xs : List Act} {bill : ℕ} {x y : World} (n : ℕ)
     → Made xs bill (owing 0 x) (owing n y) → Made xs bill x y
-made_clear {xs = xs} {x = x} {y = y} n made = record {
-  called = called_clear xs x y 0 n made.called;
+unfolding AreCalled
+made_clear n made = record {
+  called = made.called;
   shows = made.shows;
   paid = omega (arith, made.paid);
 }
 
 -- where the run stands, a command, a key, a picture, a size and what calls came to are no calls
 
-called_mark : (acts : List Act) (x : World) → calls_in acts ≡ [] → Learns acts x.calls x.calls
-    → AreCalled acts x x
-unfolding AreCalled
-called_mark acts x none learns = (
-  [],
-  sym (append-nil x.calls),
-  sym none,
-  refl,
-  record { ports = refl; files = refl; inbox = refl },
-  learns,
-)
-
 made_mark : (act : Act) (x : World) → calls_in (act ∷ []) ≡ [] → AreUntold (act ∷ [])
     → ArePrintable (act ∷ []) → Made (act ∷ []) 0 x x
 made_mark act x none untold shows = record {
-  called = called_mark (act ∷ []) x none (learns_untold (act ∷ []) x.calls x.calls untold);
+  called = called_mute (act ∷ []) x x refl refl refl none untold;
   shows = shows;
   paid = omega arith;
 }
@@ -255,7 +237,7 @@ made_screen d made = made_after (Screen d) refl tt tt made
 -- what all calls so far came to
 pub made_learn : (x : World) → Made (Learn (losses_of x.calls) ∷ []) 0 x x
 made_learn x = record {
-  called = called_mark (Learn (losses_of x.calls) ∷ []) x refl (learns_now x.calls);
+  called = called_none (Learn (losses_of x.calls) ∷ []) x x refl refl refl refl (learns_now x.calls);
   shows = tt;
   paid = omega arith;
 }
