@@ -24,7 +24,8 @@ pub attended_holds : {S : Type 0} (holds : S → List Act → S → Type 0) (bad
 unfolding attended
 attended_holds holds bad p none both one heard s =
     turns_hold (λ end s acts t. end ≢ Some bad → holds s acts t)
-    (λ end r s t xs ys first second other. both r s t xs ys (first (λ is. absurd cc)) (second other))
+    (λ end r s t xs ys first second other.
+    both r s t xs ys (first (λ is. absurd cc)) (second other))
     IsInner (turn_course p) (λ s other. none s) one (heard_turns heard) (inner_heard heard) s
 
 -- ---- a performance that ended

@@ -15,7 +15,7 @@ use Rattle.orca_course.specs.Acts.{Act, commands_in, gives}
 use Rattle.orca_course.specs.Acts.Act.{Await, Give, Learn, Obey, Stand}
 use Rattle.orca_course.specs.Courses.{Course, mapped, onward, still}
 use Rattle.orca_course.specs.Following.{midi_sent}
-use Rattle.orca_course.specs.Performers.{Hearing, Turn, attended, given_course, heard_turns, turn_course}
+use Rattle.orca_course.specs.Performers.{Hearing, Turn, attended, given_course, turn_course}
 use Rattle.orca_course.specs.Performers.Turn.{Asked, Given, Learned, Over}
 use Rattle.orca_course.specs.Standings.{standing_after}
 use Rattle.orca_course.specs.declared.ending.Ending.TheVariants.{Stopped}

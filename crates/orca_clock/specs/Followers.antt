@@ -68,7 +68,8 @@ abbrev pub with_pulse : {R : Type 0} → Pulse → Course (Concert R) Stop → C
 with_pulse pulse c = mapped (λ t. record { concert = t; pulse = pulse }) (λ end. end) c
 
 -- a byte: its beat is played
-unfoldable pub clock_byte_course : {R : Type 0} → Manner R → ℕ → Followed R → Course (Followed R) Stop
+unfoldable pub clock_byte_course : {R : Type 0} → Manner R → ℕ → Followed R
+    → Course (Followed R) Stop
 clock_byte_course m byte s =
     with_pulse (heed s.pulse byte).pulse (beat_course m (heed s.pulse byte).beat s.concert)
 

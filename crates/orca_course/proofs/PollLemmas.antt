@@ -136,8 +136,8 @@ answer_quiet p deaf (answer.Bytes hand count at) bytes came s =
     let quiet = turns_quiet p deaf _ (plain_bytes hand at bytes came) s in
     (quiet.0, lost_same _ quiet.1)
 answer_quiet p deaf (answer.Due at) bytes came s =
-    let quiet = turns_quiet p deaf (Given (item.Due at) ∷ Learned came ∷ Given (item.Over came) ∷ [])
-    (tt, (tt, (tt, tt))) s in
+    let turns = Given (item.Due at) ∷ Learned came ∷ Given (item.Over came) ∷ [] in
+    let quiet = turns_quiet p deaf turns (tt, (tt, (tt, tt))) s in
     (quiet.0, lost_same _ quiet.1)
 answer_quiet p deaf answer.End bytes came s = rw over_turn (tt, λ was. grind arith)
 answer_quiet p deaf answer.Failed bytes came s = rw over_turn (tt, λ was. grind arith)
@@ -353,7 +353,8 @@ module _ {S : Type 0} {p : Part S} {n : ℕ} {s t : S} {x y : World} (deaf : IsD
       record {
         heard = heard;
         few = omega (arith, most, so_far.many);
-        all = rw (attended_each p heard s, polls_onward _ last (spent_deaf p deaf heard)) so_far.all;
+        all = rw (attended_each p heard s, polls_onward _ last (spent_deaf p deaf heard))
+            so_far.all;
         lost = so_far.steady;
         did = rw (attended_each p heard s) (does_then last so_far.did
             (rw (le-leb MAX_POLLS (length heard) full, over_turn) (does_end Spent y refl)));
@@ -379,9 +380,10 @@ module _ {S : Type 0} (p : Part S) (deaf : IsDeaf p) (came : Losses) {s t : S} {
       → Does p.stance (each (turn_course p) (first_turns came) s) s x result t y
       → IsLostBy result (is_lost x) (is_lost y)
   opened_lost (Ok end) first =
+      let quiet = first_quiet p deaf came s in
       let lost = lost_made first.did.made
-      ∙ lost-deaf (each (turn_course p) (first_turns came) s).acts (is_lost x) (first_quiet p deaf came s).0 in
-      let not = (first_quiet p deaf came s).1 (is_lost x) in
+      ∙ lost-deaf (each (turn_course p) (first_turns came) s).acts (is_lost x) quiet.0 in
+      let not = quiet.1 (is_lost x) in
       subst (λ last. IsLostBy (Ok last) (is_lost x) (is_lost y)) first.did.ending (rw lost not)
   opened_lost (Err e) first = tt
 
@@ -411,7 +413,8 @@ module _ {S : Type 0} (p : Part S) (deaf : IsDeaf p) (came : Losses) {s t : S} {
     few = omega arith;
     all = rw (begun_each p came [] s)
         (polls_onward (each (turn_course p) (first_turns came) s) _ (λ u. spent_deaf p deaf [] u)
-        ∙ polls-deaf (each (turn_course p) (first_turns came) s).acts (first_quiet p deaf came s).0);
+        ∙ polls-deaf (each (turn_course p) (first_turns came) s).acts
+        (first_quiet p deaf came s).0);
     lost = opened_lost result first;
     did = rw (begun_each p came [] s) (does_left (λ t. attended p t []) result ends first);
   }

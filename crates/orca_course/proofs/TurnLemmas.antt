@@ -21,7 +21,8 @@ Are kind [] = Unit {0}
 Are kind (turn ∷ turns) = kind turn × Are kind turns
 
 -- this holds of a course, by how it ended
-abbrev pub Along : {S E : Type 0} → (Option E → S → List Act → S → Type 0) → S → Course S E → Type 0
+abbrev pub Along : {S E : Type 0} → (Option E → S → List Act → S → Type 0) → S → Course S E
+    → Type 0
 Along holds s c = holds c.ending s c.acts c.state
 
 module _ {S E : Type 0} (holds : Option E → S → List Act → S → Type 0)
@@ -34,8 +35,9 @@ module _ {S E : Type 0} (holds : Option E → S → List Act → S → Type 0)
     onward_holds None s c next is first second = both _ _ _ _ _ _ (rw is at first) second
     onward_holds (Some e) s c next is first second = first
 
-    -- what holds of nothing, of two in turn, and of each turn of a kind, holds of turns of that kind
-    pub turns_hold : (kind : Turn → Type 0) (f : Turn → S → Course S E) → ((s : S) → holds None s [] s)
+    -- what holds of nothing, of two in turn, and of each turn of a kind, holds of turns of it
+    pub turns_hold : (kind : Turn → Type 0) (f : Turn → S → Course S E)
+        → ((s : S) → holds None s [] s)
         → ((turn : Turn) → kind turn → (s : S) → Along holds s (f turn s)) → (turns : List Turn)
         → Are kind turns → (s : S) → Along holds s (each f turns s)
     unfolding each onward
