@@ -10,6 +10,7 @@ use Rattle.orca_base.specs.declared.command.Command.TheVariants as command
 use Rattle.orca_base.specs.declared.limits.TheConstants.{MAX_POLLS}
 use Rattle.orca_concert.specs.Concerts.{Concert, close_course, command_course, final_course, handed_of}
 use Rattle.orca_concert.specs.Manners.{Manner}
+use Rattle.orca_concert.specs.Manners.News.{Stands}
 use Rattle.orca_course.specs.Acts.{Act, commands_in}
 use Rattle.orca_course.specs.Courses.{Course, afterwards, each, lastly, lastly_by, mapped, onward}
 use Rattle.orca_course.specs.Performers.{Hearing, Turn, answer_turns, attended, begun, finished, first_turns, given_course, heard_turns, performance, spent, turn_course, turns_of}
@@ -34,7 +35,7 @@ use Rattle.orca_clock.specs.Clocked.{clock_frame_course, end_course, last_text_c
 use Rattle.orca_clock.specs.Followers.{Followed, beat_course, clock_byte_course, follow_course, follow_part, hand_byte_course, with_pulse}
 use Rattle.orca_clock.specs.Laws.{AreDone, TellsAtEnd, bytes_before, commands_of_beat, heard_in}
 use Rattle.orca_clock.proofs.GoingLemmas.{attended_holds, has_ended}
-use Rattle.orca_clock.proofs.MidiLemmas.{end_commands}
+use Rattle.orca_clock.proofs.MidiLemmas.{end_commands, remark_commands}
 use Rattle.orca_clock.proofs.TellingLemmas.{close_told, command_told, end_told}
 
 -- ---- two in turn
@@ -147,7 +148,7 @@ module _ {R : Type 0} (m : Manner R) (tells : TellsAtEnd m) where
   text_none : (ending : Ending) (s : Concert R)
       → commands_in (last_text_course m ending s).acts ≡ []
   unfolding last_text_course final_course mapped
-  text_none (Stopped Left) s = tells.commands s.standing s.kept
+  text_none (Stopped Left) s = remark_commands (m.tells (Stands s.standing) s.kept).remark
   text_none (Stopped Full) s = refl
   text_none (Stopped SongTooLong) s = refl
   text_none (Stopped WaveTooLong) s = refl

@@ -11,6 +11,8 @@ use Rattle.orca_base.specs.declared.message.Message.{Message}
 use Rattle.orca_base.specs.declared.message.Message.TheVariants as message
 use Rattle.orca_base.specs.Ranges.{AreInRange, IsSendable}
 use Rattle.orca_concert.specs.Concerts.{handed_of}
+use Rattle.orca_concert.specs.Manners.{Remark, acts_of}
+use Rattle.orca_concert.specs.Manners.Remark.{File, Lines, Nothing, Text}
 use Rattle.orca_course.specs.Acts.{Act, commands_in, gives}
 use Rattle.orca_course.specs.Acts.Act.{Stand}
 use Rattle.orca_course.specs.Following.{midi_sent}
@@ -30,6 +32,23 @@ pub end_commands : (first xs ys : List Act) (commands : List Command) → first 
     → commands_in xs ≡ commands → commands_in ys ≡ [] → commands_in first ≡ commands
 end_commands first xs ys commands is some none =
     rw (is, commands_in-append, some, none) (append-nil _)
+
+-- ---- a report gives neither a command nor a MIDI message
+
+pub remark_commands : (r : Remark) → commands_in (acts_of r) ≡ []
+remark_commands Nothing = refl
+remark_commands (Text bytes) = refl
+remark_commands (Lines label []) = refl
+remark_commands (Lines label (m ∷ messages)) = remark_commands (Lines label messages)
+remark_commands (File name bytes) = refl
+
+pub remark_bytes : (r : Remark) → midi_bytes_in (acts_of r) ≡ []
+unfolding midi_sent
+remark_bytes Nothing = refl
+remark_bytes (Text bytes) = refl
+remark_bytes (Lines label []) = refl
+remark_bytes (Lines label (m ∷ messages)) = remark_bytes (Lines label messages)
+remark_bytes (File name bytes) = refl
 
 -- ---- no byte of a message is a clock
 

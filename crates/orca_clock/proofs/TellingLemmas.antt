@@ -3,7 +3,8 @@ use Rattle.std.proofs.Common.{◌≡◌, List, [], ◌∷◌, ◌++◌, refl, �
 use Rattle.std.specs.Prelude.{None}
 use Rattle.orca_base.specs.declared.command.Command.{Command}
 use Rattle.orca_concert.specs.Concerts.{Concert, close_course, command_course, concert_with, final_course, handed_of}
-use Rattle.orca_concert.specs.Manners.{Manner}
+use Rattle.orca_concert.specs.Manners.{Manner, acts_of}
+use Rattle.orca_concert.specs.Manners.News.{Stands}
 use Rattle.orca_course.specs.Acts.{Act, commands_in, gives}
 use Rattle.orca_course.specs.Acts.Act.{Obey, Stand}
 use Rattle.orca_course.specs.Courses.{Course, afterwards, mapped, onward}
@@ -16,7 +17,7 @@ use Rattle.orca_edit.specs.Obeying.{obey}
 use Rattle.orca_notes.specs.Sound.{ends}
 use Rattle.orca_clock.specs.Clocked.{end_course, last_text_course}
 use Rattle.orca_clock.specs.Laws.{TellsAtEnd, midi_bytes_in}
-use Rattle.orca_clock.proofs.MidiLemmas.{end_commands, midi_bytes-append}
+use Rattle.orca_clock.proofs.MidiLemmas.{end_commands, midi_bytes-append, remark_bytes, remark_commands}
 
 -- a course of these acts that goes on
 pub record Goes {R : Type 0} (c : Course (Concert R) Stop) (does : List Act) (to : Concert R)
@@ -61,15 +62,16 @@ module _ {R : Type 0} (m : Manner R) (tells : TellsAtEnd m) where
   pub end_told : (s : Concert R) → IsEnd m s (end_course m (Stopped Left) s)
   unfolding end_course last_text_course final_course afterwards mapped
   end_told s =
-      let text = m.final s.standing s.kept in
+      let text = m.tells (Stands s.standing) s.kept in
+      let acts = acts_of text.remark in
       let closing = close_course m (concert_with s.standing text.state) in
       let told = close_told (concert_with s.standing text.state) in
       record {
-        commands = end_commands _ text.acts closing.acts [] refl
-            (tells.commands s.standing s.kept)
+        commands = end_commands _ acts closing.acts [] refl
+            (remark_commands text.remark)
             (rw told.acts (handed_commands (handed_of m.hands (ends (notes_of s.standing)))
             (standing_closed s.standing)));
         standing = rw told.state refl;
-        bytes = midi_bytes-append text.acts closing.acts
-            ∙ rw (tells.bytes s.standing s.kept, told.acts) refl;
+        bytes = midi_bytes-append acts closing.acts
+            ∙ rw (remark_bytes text.remark, told.acts) refl;
       }

@@ -9,12 +9,13 @@ use Rattle.orca_base.specs.declared.command.Reply.{Reply}
 use Rattle.orca_base.specs.declared.command.Rule.{Rule}
 use Rattle.orca_base.specs.declared.message.Message.{Message}
 use Rattle.orca_concert.specs.Concerts.{Concert, concert_with}
-use Rattle.orca_concert.specs.Manners.{Manner}
+use Rattle.orca_concert.specs.Manners.{Manner, silence}
+use Rattle.orca_concert.specs.Manners.News.{Closed, Done}
 use Rattle.orca_course.specs.Acts.{Act, commands_in, given}
-use Rattle.orca_course.specs.Courses.{Course, still}
+use Rattle.orca_course.specs.Courses.{Course}
 use Rattle.orca_course.specs.Following.{midi_sent}
 use Rattle.orca_course.specs.Performers.{Hearing, performance}
-use Rattle.orca_course.specs.Standings.{Standing, standing}
+use Rattle.orca_course.specs.Standings.{standing}
 use Rattle.orca_course.specs.declared.ending.Ending.{Ending}
 use Rattle.orca_course.specs.declared.ending.Ending.TheVariants.{Stopped}
 use Rattle.orca_course.specs.declared.ending.Stop.TheVariants.{Full, Left}
@@ -59,13 +60,11 @@ commands_of_beat beat.Restart = command.Reset ∷ []
 
 -- ---- performances
 
--- a report that tells nothing before the end, and gives neither a command nor a MIDI message there
+-- a report that tells nothing before the end, and nothing of the close
 pub record TellsAtEnd {R : Type 0} (m : Manner R) : Type 0 where
   pub done : (line : ℕ) (answer : Result Reply Rule) (messages : List Message) (r : R)
-      → m.done line answer messages r ≡ still r
-  pub commands : (s : Standing) (r : R) → commands_in (m.final s r).acts ≡ []
-  pub bytes : (s : Standing) (r : R) → midi_bytes_in (m.final s r).acts ≡ []
-  pub close : (messages : List Message) (r : R) → m.close messages r ≡ still r
+      → m.tells (Done line answer messages) r ≡ silence r
+  pub close : (messages : List Message) (r : R) → m.tells (Closed messages) r ≡ silence r
 
 -- an opened grid, with a seed and the most entries of a history
 abbrev pub opened_concert : Sheet → ℕ → ℕ → Kept → Tally → Concert (Unit {0})

@@ -4,7 +4,7 @@ ghost use Rattle.orca_course.specs.Doing.{goes_of};
 ghost use Rattle.orca_concert.specs.Stages.{StageDid};
 ghost use Rattle.orca_clock.specs.Clocked.{end_course, last_text_course};
 
-use orca_concert::{Report, Stage, close};
+use orca_concert::{News, Report, Stage, close};
 use orca_course::{Desk, Ending, NoMemory, Stop};
 use orca_edit::Machine;
 use orca_rig::House;
@@ -23,7 +23,9 @@ fn tell_last<M: Machine, R: Report, H: House>(
         return Ok(None);
     };
     match stop {
-        Stop::Left => stage.report.finish(desk, &stage.machine, stage.tally),
+        Stop::Left => stage
+            .report
+            .tell(desk, &stage.machine, News::Stands(stage.tally)),
         Stop::Full | Stop::SongTooLong | Stop::WaveTooLong => Ok(None),
     }
 }

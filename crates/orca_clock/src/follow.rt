@@ -92,7 +92,7 @@ impl<M: Machine, R: Report> Performer for Follow<M, R> {
         }
     }
 
-    ghost deaf = { follow_is_deaf R.manner R.quiet };
+    ghost deaf = { follow_is_deaf R.manner };
 }
 
 /// Does what the clock asks for.

@@ -108,7 +108,7 @@ impl<M: Machine, R: Report> Performer for Lead<M, R> {
         }
     }
 
-    ghost deaf = { lead_is_deaf R.manner R.quiet };
+    ghost deaf = { lead_is_deaf R.manner };
 }
 
 /// Gives the start of the clock.

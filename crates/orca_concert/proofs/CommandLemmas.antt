@@ -28,7 +28,8 @@ use Rattle.orca_course.proofs.DoingLemmas.{answered_same, does_acts, does_begun,
 use Rattle.orca_course.proofs.FollowLemmas.{Follows-front, accompanies_twice, follows_gives, keys_after_gives}
 use Rattle.orca_course.proofs.WorldLemmas.{made_none, made_obey, made_stand, made_twice, made_within, wants_longer}
 use Rattle.orca_concert.specs.Concerts.{Concert, answer_of, close_course, command_course, concert_with, handed_of, obeyed_course, reported, stance_of, with_kept}
-use Rattle.orca_concert.specs.Manners.{Manner}
+use Rattle.orca_concert.specs.Manners.{Aside, Manner, aside_course}
+use Rattle.orca_concert.specs.Manners.News.{Closed, Done}
 use Rattle.orca_concert.proofs.ChargeLemmas.{charge_most}
 
 -- ---- messages
@@ -94,11 +95,11 @@ module _ {R : Type 0} (m : Manner R) {s t : Standing} {messages : List Message} 
 -- ---- a report
 
 -- what the report does, as a course of the run
-pub reported_done : {R : Type 0} (m : Manner R) (c : Course R Stop) (s : Concert R) {kept : R}
+pub reported_done : {R : Type 0} (m : Manner R) (a : Aside R) (s : Concert R) {kept : R}
     {x y : World} {result : Result (Option Stop) NoMemory}
-    → Does (nowhere (Some s.standing) m.hands) c s.kept x result kept y
-    → Does (stance_of m) (reported c s) s x result (with_kept s kept) y
-reported_done m c s {result = result} did =
+    → Does (nowhere (Some s.standing) m.hands) (aside_course a) s.kept x result kept y
+    → Does (stance_of m) (reported a s) s x result (with_kept s kept) y
+reported_done m a s {result = result} did =
     rw (← (answered_same result))
     (does_mapped (with_kept s) (λ end. end) result refl (λ r. refl) did)
 
@@ -118,7 +119,7 @@ module _ {R : Type 0} (m : Manner R) (line : ℕ) (command : Command) (s : Conce
   command_given_up e is =
       let o = obey s.standing.machine command in
       let longer = onward_longer (obeyed_course m command o s)
-      (λ t. reported (m.done line o.answer o.messages t.kept) t) in
+      (λ t. reported (m.tells (Done line o.answer o.messages) t.kept) t) in
       let all = charge_most acted s.standing.machine s.standing.kept command acts in
       does_none _ e (made_within _ (omega (arith, all, longer.2)) made) (grind arith) (grind arith)
 
@@ -147,7 +148,7 @@ module _ {R : Type 0} (m : Manner R) (line : ℕ) (command : Command) (s : Conce
       {w z : World} {result : Result (Option Stop) NoMemory}
       → Calls {T = Unit {0}} (gives (handed_of m.hands messages)) (Ok tt) y z
       → Does (nowhere (Some (standing_after s.standing (obeyed answer new messages))) m.hands)
-      (m.done line answer messages s.kept) s.kept z result kept w
+      (aside_course (m.tells (Done line answer messages) s.kept)) s.kept z result kept w
       → Does (stance_of m) (command_course m line command s) s x result
       (concert_with (standing new after (tally_after s.standing.tally answer messages)) kept) w
   unfolding command_course kept_after
@@ -156,9 +157,9 @@ module _ {R : Type 0} (m : Manner R) (line : ℕ) (command : Command) (s : Conce
       let obeys : obey s.standing.machine command ≡ obeyed answer new messages = grind arith in
       let keep : after ≡ kept_of answer new s.standing.kept = grind arith in
       rw (obeys, keep)
-      (does_then (λ u. reported (m.done line answer messages u.kept) u)
+      (does_then (λ u. reported (m.tells (Done line answer messages) u.kept) u)
       (obeyed_done is (handed_done m s.kept acts.plays calls))
-      (reported_done m (m.done line answer messages s.kept) (concert_with t s.kept) told))
+      (reported_done m (m.tells (Done line answer messages) s.kept) (concert_with t s.kept) told))
 
   -- a send of a message was refused memory
   pub command_cut : {answer : Result Reply Rule} → Ok answer ≡ answer_of acted → (u : Concert R)
@@ -169,7 +170,7 @@ module _ {R : Type 0} (m : Manner R) (line : ℕ) (command : Command) (s : Conce
   command_cut {answer = answer} is u e other cut =
       let obeys : obey s.standing.machine command ≡ obeyed answer new messages = grind arith in
       rw obeys
-      (does_cut (λ t. reported (m.done line answer messages t.kept) t)
+      (does_cut (λ t. reported (m.tells (Done line answer messages) t.kept) t)
       (obeyed_done is (handed_cut m s.kept acts.plays u e other cut)))
 
 -- ---- the close
@@ -184,17 +185,17 @@ module _ {R : Type 0} (m : Manner R) (s : Concert R) {new : MachineState} {messa
     {x y : World} (closes : Closes s.standing.machine new messages) where
   pub close_done : {kept : R} {z : World} {result : Result (Option Stop) NoMemory}
       → Calls {T = Unit {0}} (gives (handed_of m.hands messages)) (Ok tt) x y
-      → Does (nowhere (Some (standing_closed s.standing)) m.hands) (m.close messages s.kept) s.kept
-      y result kept z
+      → Does (nowhere (Some (standing_closed s.standing)) m.hands)
+      (aside_course (m.tells (Closed messages) s.kept)) s.kept y result kept z
       → Does (stance_of m) (close_course m s) s x result
       (concert_with (standing new s.standing.kept s.standing.tally) kept) z
   unfolding close_course
   close_done calls told =
       let notes = ends (notes_of s.standing) in
       rw closes.machine
-      (does_then (λ t. reported (m.close notes t.kept) t)
+      (does_then (λ t. reported (m.tells (Closed notes) t.kept) t)
       (handed_done m s.kept (closes_play s.standing closes) (rw closes.ended at calls))
-      (reported_done m (m.close notes s.kept) (concert_with (standing_closed s.standing) s.kept)
+      (reported_done m (m.tells (Closed notes) s.kept) (concert_with (standing_closed s.standing) s.kept)
       (rw closes.ended at told)))
 
   pub close_cut : (u : Concert R) (e : NoMemory) → e ≢ Elsewhere
@@ -202,7 +203,7 @@ module _ {R : Type 0} (m : Manner R) (s : Concert R) {new : MachineState} {messa
       → Does (stance_of m) (close_course m s) s x (Err e) u y
   unfolding close_course
   close_cut u e other cut =
-      does_cut (λ t. reported (m.close (ends (notes_of s.standing)) t.kept) t)
+      does_cut (λ t. reported (m.tells (Closed (ends (notes_of s.standing))) t.kept) t)
       (handed_cut m s.kept (closes_play s.standing closes) u e other (rw closes.ended at cut))
 
 -- a device follows the ends of the notes

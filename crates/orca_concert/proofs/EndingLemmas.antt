@@ -20,6 +20,7 @@ use Rattle.orca_cues.specs.declared.source.Order.TheVariants.{Do}
 use Rattle.orca_edit.proofs.FrameLemmas.{frame_obeyed}
 use Rattle.orca_concert.specs.Concerts.{Concert, after_cue, close_course, command_course, concert_course, cue_course, cues_course, final_course, halt_of, last_course, order_course, saved_course, told_course}
 use Rattle.orca_concert.specs.Manners.{Manner}
+use Rattle.orca_concert.specs.Manners.News.{Closed, Done, Last, Stands}
 
 -- ---- where it leads
 
@@ -41,23 +42,23 @@ concert-silent m cues s =
 
 -- what is told of the end ends it in these ways alone
 pub record Closes {R : Type 0} (P : Stop → Type 0) (m : Manner R) : Type 0 where
-  pub final : (s : Standing) (r : R) → IfSome (m.final s r).ending P
-  pub close : (messages : List Message) (r : R) → IfSome (m.close messages r).ending P
-  pub saves : (r : R) → IfSome (m.saves r).ending P
+  pub final : (s : Standing) (r : R) → IfSome (m.tells (Stands s) r).ending P
+  pub close : (messages : List Message) (r : R) → IfSome (m.tells (Closed messages) r).ending P
+  pub saves : (r : R) → IfSome (m.tells Last r).ending P
 
 -- whatever is told of a command does
 abbrev pub Ends : {R : Type 0} → (Stop → Type 0) → Manner R → Type 0
 Ends {R} P m =
     (line : ℕ) (answer : Result Reply Rule) (messages : List Message) (r : R)
-    → IfSome (m.done line answer messages r).ending P
+    → IfSome (m.tells (Done line answer messages) r).ending P
 
 -- what is told of a frame that was played does, while there is room for it; and then there is room
 -- for one less
 abbrev pub Frames : {R : Type 0} → (Stop → Type 0) → (ℕ → R → Type 0) → Manner R → Type 0
 Frames {R} P Room m =
     (line tick n : ℕ) (messages : List Message) (r : R) → Room (n + 1) r
-    → IfSome (m.done line (Ok (Framed tick)) messages r).ending P
-    × Room n (m.done line (Ok (Framed tick)) messages r).state
+    → IfSome (m.tells (Done line (Ok (Framed tick)) messages) r).ending P
+    × Room n (m.tells (Done line (Ok (Framed tick)) messages) r).state
 
 -- a run ends as its cues did, or in one of these ways
 pub concert-ends : {R : Type 0} {P : Stop → Type 0} (m : Manner R) (cues : List Cue) (s : Concert R)

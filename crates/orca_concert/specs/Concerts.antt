@@ -23,7 +23,8 @@ use Rattle.orca_edit.specs.Obeying.{MachineState, Obeyed, obey}
 use Rattle.orca_edit.specs.Prices.{bill}
 use Rattle.orca_notes.specs.Sound.{ends}
 use Rattle.orca_send.specs.Sending.{sends_of}
-use Rattle.orca_concert.specs.Manners.{Manner}
+use Rattle.orca_concert.specs.Manners.{Aside, Manner, aside_course}
+use Rattle.orca_concert.specs.Manners.News.{Closed, Done, Last, Stands}
 use Rattle.orca_concert.specs.declared.halt.Halt.{Halt}
 use Rattle.orca_concert.specs.declared.halt.Halt.TheVariants.{Dropped, Ended}
 
@@ -44,8 +45,8 @@ abbrev pub stance_of : {R : Type 0} → Manner R → Stance (Concert R)
 stance_of m = record { standing = λ s. Some s.standing; hands = m.hands }
 
 -- what a report does, as a course of the run
-abbrev pub reported : {R : Type 0} → Course R Stop → Concert R → Course (Concert R) Stop
-reported c s = mapped (with_kept s) (λ end. end) c
+abbrev pub reported : {R : Type 0} → Aside R → Concert R → Course (Concert R) Stop
+reported a s = mapped (with_kept s) (λ end. end) (aside_course a)
 
 -- ---- one command
 
@@ -66,7 +67,7 @@ abbrev pub told_course : {R : Type 0} → Manner R → ℕ → Command → Obeye
     → Course (Concert R) Stop
 told_course m line command o s =
     onward (obeyed_course m command o s)
-    (λ t. reported (m.done line o.answer o.messages t.kept) t)
+    (λ t. reported (m.tells (Done line o.answer o.messages) t.kept) t)
 
 -- a command
 unfoldable pub command_course : {R : Type 0} → Manner R → ℕ → Command → Concert R
@@ -124,7 +125,7 @@ cues_course m cues s = each (cue_course m) cues s
 -- where the run stands at last is told, unless the run was ended
 unfoldable pub final_course : {R : Type 0} → Manner R → Option Stop → Concert R
     → Course (Concert R) Stop
-final_course m None s = reported (m.final s.standing s.kept) s
+final_course m None s = reported (m.tells (Stands s.standing) s.kept) s
 final_course m (Some stop) s = ended stop s
 
 -- every note ends
@@ -138,12 +139,12 @@ silenced_course m s =
 unfoldable pub close_course : {R : Type 0} → Manner R → Concert R → Course (Concert R) Stop
 close_course m s =
     onward (silenced_course m s)
-    (λ t. reported (m.close (ends (notes_of s.standing)) t.kept) t)
+    (λ t. reported (m.tells (Closed (ends (notes_of s.standing))) t.kept) t)
 
 -- the report saves, unless the run was ended
 unfoldable pub saved_course : {R : Type 0} → Manner R → Option Stop → Concert R
     → Course (Concert R) Stop
-saved_course m None s = reported (m.saves s.kept) s
+saved_course m None s = reported (m.tells Last s.kept) s
 saved_course m (Some stop) s = ended stop s
 
 -- the end of a run, by what has ended it

@@ -1,3 +1,4 @@
 pub mod Manners
 pub mod Concerts
 pub mod Stages
+pub mod Telling

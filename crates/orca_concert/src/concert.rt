@@ -12,7 +12,7 @@ ghost use Rattle.orca_concert.specs.Stages.{StageDid, standing_of};
 
 use crate::halt::Halt;
 use crate::sending::hand_messages;
-use crate::{Report, Stage};
+use crate::{News, Report, Stage};
 use orca_base::Command;
 use orca_course::{Desk, NoMemory, Stop};
 use orca_cues::{Cue, Order, Source};
@@ -130,7 +130,10 @@ fn tell_last<M: Machine, R: Report, H: House>(
 {
     match end {
         Some(stop) => Ok(Some(stop)),
-        None => stage.report.finish(desk, &stage.machine, stage.tally),
+        None => {
+            let news = News::Stands(stage.tally);
+            stage.report.tell(desk, &stage.machine, news)
+        }
     }
 }
 
@@ -146,7 +149,9 @@ pub fn close<M: Machine, R: Report, H: House>(
     stage.machine.close(&mut stage.messages);
     let messages = stage.messages.as_slice();
     hand_messages(desk, stage.report.hands(), messages)?;
-    stage.report.close(desk, messages)
+    stage
+        .report
+        .tell(desk, &stage.machine, News::Closed(messages))
 }
 
 /// Lets the report save, unless the run was ended.
@@ -161,7 +166,7 @@ fn save<M: Machine, R: Report, H: House>(
 {
     match end {
         Some(stop) => Ok(Some(stop)),
-        None => stage.report.save(desk),
+        None => stage.report.tell(desk, &stage.machine, News::Last),
     }
 }
 

@@ -5,11 +5,13 @@
 
 mod concert;
 mod halt;
+mod news;
 mod report;
 mod sending;
 mod stage;
 
 pub use concert::{close, close_early, play};
-pub use report::{Outcome, Report};
+pub use news::News;
+pub use report::Report;
 pub use sending::{print_messages, say, send_messages};
 pub use stage::Stage;

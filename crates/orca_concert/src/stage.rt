@@ -4,7 +4,7 @@ ghost use Rattle.orca_concert.specs.Concerts.{answer_of, command_course};
 ghost use Rattle.orca_concert.specs.Stages.{StageDid};
 
 use crate::sending::hand_messages;
-use crate::{Outcome, Report};
+use crate::{News, Report};
 use orca_base::{Command, Fault, Memory, Reply, Rule};
 use orca_course::{Desk, NoMemory, Stop, Tally};
 use orca_edit::Machine;
@@ -52,19 +52,18 @@ impl<M: Machine, R: Report> Stage<M, R> {
         ensures { StageDid M.Machine.own R.Report.own (command_course R.manner line command.now)
             self.old desk.old result self.new desk.new }
     {
-        self.report.is_quiet();
         self.messages.clear();
         let acted = desk.act(&mut self.machine, command, &mut self.messages);
         let answer = answer_of(acted)?;
         let messages = self.messages.as_slice();
         hand_messages(desk, self.report.hands(), messages)?;
         self.tally.count(answer, messages);
-        let outcome = Outcome {
+        let news = News::Done {
             line,
             answer,
             messages,
         };
-        self.report.done(desk, &outcome)
+        self.report.tell(desk, &self.machine, news)
     }
 }
 

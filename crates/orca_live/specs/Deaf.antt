@@ -11,7 +11,7 @@ use Rattle.orca_course.specs.Performers.{IsDeaf}
 use Rattle.orca_course.proofs.ActLemmas.{AreDeaf-append}
 use Rattle.orca_term.specs.Viewing.{painting_bytes}
 use Rattle.orca_live.specs.Performing.{hand_course, hush_course, live_part, painted_course, picture_at, view_sends}
-use Rattle.orca_live.specs.Quiet.{silent_is_quiet, silent_manner}
+use Rattle.orca_live.specs.Quiet.{silent_manner}
 use Rattle.orca_live.specs.States.{LiveState}
 use Rattle.orca_live.specs.Carrying.{Carries, take_carried}
 
@@ -23,11 +23,11 @@ command_deaf : (who : ℕ) (command : Command) (s : LiveState)
     → AreDeaf (hand_course who command s).acts
 unfolding hand_course mapped
 command_deaf who command s =
-    command_is_deaf silent_manner silent_is_quiet 0 command (concert_with s.standing tt)
+    command_is_deaf silent_manner 0 command (concert_with s.standing tt)
 
 close_deaf : (s : LiveState) → AreDeaf (hush_course s).acts
 unfolding hush_course mapped
-close_deaf s = close_is_deaf silent_manner silent_is_quiet (concert_with s.standing tt)
+close_deaf s = close_is_deaf silent_manner (concert_with s.standing tt)
 
 paint_deaf : (marks : List MarkSet) (s : LiveState) → AreDeaf (painted_course marks s).acts
 unfolding painted_course

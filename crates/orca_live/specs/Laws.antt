@@ -7,6 +7,7 @@ use Rattle.orca_base.specs.declared.command.Rule.{Rule}
 use Rattle.orca_base.specs.declared.message.Message.{Message}
 use Rattle.orca_concert.specs.Concerts.{concert_with, cues_course}
 use Rattle.orca_concert.specs.Manners.{Manner}
+use Rattle.orca_concert.specs.Manners.News.{Done}
 use Rattle.orca_course.specs.Acts.{Act, commands_in}
 use Rattle.orca_course.specs.Courses.{Course}
 use Rattle.orca_course.specs.Performers.{Hearing, begun, performance}
@@ -70,7 +71,7 @@ ItemsDecide =
 abbrev pub GoesOn : Manner (Unit {0}) → Type 0
 GoesOn m =
     (line : ℕ) (answer : Result Reply Rule) (messages : List Message) (r : Unit {0})
-    → (m.done line answer messages r).ending ≡ None
+    → (m.tells (Done line answer messages) r).ending ≡ None
 
 -- the session to which the saved script of these commands leads
 abbrev pub replayed : Manner (Unit {0}) → List Command → Standing → MachineState

@@ -1,8 +1,7 @@
-ghost use Rattle.orca_live.specs.Quiet.{silent_is_quiet, silent_manner};
+ghost use Rattle.orca_live.specs.Quiet.{silent_manner};
 
-use orca_base::Message;
-use orca_concert::{Outcome, Report};
-use orca_course::{Desk, NoMemory, Stop, Tally};
+use orca_concert::{News, Report};
+use orca_course::{Desk, NoMemory, Stop};
 use orca_edit::Machine;
 use orca_rig::House;
 
@@ -21,34 +20,12 @@ impl Report for Silent {
         true
     }
 
-    fn done<H: House>(
-        &mut self,
-        _: &mut Desk<H>,
-        _: &Outcome<'_>,
-    ) -> Result<Option<Stop>, NoMemory> {
-        Ok(None)
-    }
-
-    fn finish<M: Machine, H: House>(
+    fn tell<M: Machine, H: House>(
         &mut self,
         _: &mut Desk<H>,
         _: &M,
-        _: Tally,
+        _: News<'_>,
     ) -> Result<Option<Stop>, NoMemory> {
         Ok(None)
     }
-
-    fn close<H: House>(
-        &mut self,
-        _: &mut Desk<H>,
-        _: &[Message],
-    ) -> Result<Option<Stop>, NoMemory> {
-        Ok(None)
-    }
-
-    fn save<H: House>(&mut self, _: &mut Desk<H>) -> Result<Option<Stop>, NoMemory> {
-        Ok(None)
-    }
-
-    ghost quiet = { silent_is_quiet };
 }

@@ -7,7 +7,7 @@ use Rattle.orca_base.specs.Ports.{Sent}
 use Rattle.orca_clock.specs.Followers.{Followed}
 use Rattle.orca_clock.specs.Leaders.{Led}
 use Rattle.orca_concert.specs.Concerts.{Concert, concert_with, concert_course, handed_of}
-use Rattle.orca_concert.specs.Manners.{IsQuiet, Manner}
+use Rattle.orca_concert.specs.Manners.{Manner}
 use Rattle.orca_concert.proofs.DeafLemmas.{concert_is_deaf}
 use Rattle.orca_course.specs.Acts.{Act, gives, polls_in, stand_after}
 use Rattle.orca_course.specs.Acts.Act.{Give, Stand}
@@ -185,18 +185,18 @@ module _ {S E : Type 0} {v : Stance S} (g : Option E → Option Status) {c : Cou
 
 -- no poll is heard
 pub polls-concert : {R : Type 0} (m : Manner R) (r : R) (cues : List Cue) (s : Standing)
-    → IsQuiet m → polls_in (concert m r cues s).course.acts ≡ []
+    → polls_in (concert m r cues s).course.acts ≡ []
 unfolding concert opening mapped
-polls-concert m r cues s quiet =
+polls-concert m r cues s =
     polls-deaf (concert_course m cues (concert_with s r)).acts
-    (concert_is_deaf m quiet cues (concert_with s r))
+    (concert_is_deaf m cues (concert_with s r))
 
 -- and the inbox does not fail
 pub lost-concert : {R : Type 0} (m : Manner R) (cues : List Cue) (s : Concert R) {bill : ℕ}
-    {x y : World} → IsQuiet m → Made (concert_course m cues s).acts bill x y → is_lost y ≡ is_lost x
-lost-concert m cues s {x = x} quiet made =
+    {x y : World} → Made (concert_course m cues s).acts bill x y → is_lost y ≡ is_lost x
+lost-concert m cues s {x = x} made =
     lost_made made
-    ∙ lost-deaf (concert_course m cues s).acts (is_lost x) (concert_is_deaf m quiet cues s)
+    ∙ lost-deaf (concert_course m cues s).acts (is_lost x) (concert_is_deaf m cues s)
 
 pub blamed-concert : (end : Option Stop) (x y : World) → is_lost y ≡ is_lost x
     → IsBlamed (status_of_end end) x y

@@ -186,8 +186,6 @@ tells : TellsAtEnd state_manner
 unfolding midi_sent
 tells = record {
   done = λ line answer messages r. refl;
-  commands = λ s r. refl;
-  bytes = λ s r. refl;
   close = λ messages r. refl;
 }
 

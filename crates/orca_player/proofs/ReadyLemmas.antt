@@ -1,6 +1,6 @@
 -- How a run can end: without a refusal if all is ready, and for faulty words alone as such.
 use Rattle.std.proofs.Common.{◌≡◌, ◌≢◌, ℕ, ◌*◌, ◌<◌, ◌≤◌, arith, zero-add, false, List, sym, ◌∙◌, ap, subst, refl}
-use Rattle.std.specs.Prelude.{Option, Some, IfSome, IsSomeAnd}
+use Rattle.std.specs.Prelude.{Option, None, Some, IfSome, IsSomeAnd}
 use Rattle.std.specs.Option.{option_map}
 use Rattle.std.proofs.lemmas.Bool.Decides.{nat_tests}
 use Rattle.orca_base.specs.declared.limits.TheConstants.{MAX_POLLS}
@@ -29,9 +29,9 @@ use Rattle.orca_reports.specs.Songs.{recording_at_start, smf_manner}
 use Rattle.orca_reports.specs.Waves.{frame_samples, wav_manner, wave_at_start}
 use Rattle.orca_reports.proofs.EndingLemmas.{AnyRoom, IsLong, Never, WaveRoom, smf-closes, smf-frames, wav-frames}
 use Rattle.orca_wav.specs.declared.limits.TheConstants.{MAX_WAVE_BYTES, SAMPLE_BYTES}
-use Rattle.orca_words.specs.Requests.{Events, Follow, Lead, Performance, Play, Recording, Replay, Request, Run, Setup, Smf, Wav, Work, request_of}
+use Rattle.orca_words.specs.Requests.{Events, Follow, Lead, Make, Migrate, Perform, Performance, Play, Recording, Replay, Request, Run, Setup, Smf, Wav, Work, request_of}
 use Rattle.orca_player.specs.Outlines.{Brought, Heard, Outline, concert, follow_outline, follow_start, grid_outline, is_too_long, lead_outline, lead_start, listening, live_outline, live_start, loading, made_outline, migrated, opening, outline, performed, performed_outline, reading_outline, request_outline, script_outline, standing_at, start_of, status_of_end, status_of_ending, wave_bytes, work_outline}
-use Rattle.orca_player.specs.Ready.{CanDo, HasFrameRoom, IsReady, NeverFull}
+use Rattle.orca_player.specs.Ready.{CanDo, HasFrameRoom, IsReady, IsScript, NeverFull}
 use Rattle.orca_player.specs.declared.status.Status.{Status}
 use Rattle.orca_player.specs.declared.status.Status.TheVariants.{Done, FileFault, InboxFault, Usage}
 use Rattle.orca_player.proofs.ClockLemmas.{follow_ends_well, lead_ends_well}
@@ -81,6 +81,13 @@ frames_fine Room m r n limit seed sheet closes frames some room =
 replay_fine : (cues : List Cue) (s : Standing) → FineOutline (concert replay_manner tt cues s)
 replay_fine cues s =
     goes_fine replay_manner tt cues s (assumption) (λ line answer messages r. grind arith)
+
+-- a script that can be read is done to its end
+script_fine : (name : List ℕ) (text : Option (List ℕ)) (sheet : Sheet) (seed limit : ℕ)
+    → IfSome text IsScript → FineOutline (loading name text (script_outline sheet seed limit))
+unfolding loading script_outline reading_outline
+script_fine name None sheet seed limit is = tt
+script_fine name (Some text) sheet seed limit (cues, is) = rw is (replay_fine cues _)
 
 make_fine : (cues : List Cue) (s : Standing) → FineOutline (concert make_manner tt cues s)
 make_fine cues s =
@@ -162,16 +169,24 @@ work_fine setup (Smf song) sheet b short ready =
 work_fine setup (Wav wave) sheet b short ready =
     frames_fine WaveRoom wav_manner (wave_at_start wave.out wave.bpm) wave.frames setup.limit
     setup.seed sheet (assumption) wav-frames (wave_room wave.out wave short) ready
-work_fine setup (Replay name) sheet b short ready = grind (arith, replay_fine)
+work_fine setup (Replay name) sheet b short ready =
+    script_fine name b.script sheet setup.seed setup.limit ready
 work_fine setup (Play play) sheet b short ready = grind (arith, live_fine)
 work_fine setup (Follow address) sheet b short ready = grind (arith, follow_fine)
 work_fine setup (Lead lead) sheet b short ready = grind (arith, lead_fine)
 
+request_fine : (request : Request) (h : Heard) → IsReady request h
+    → FineOutline (request_outline request h)
+unfolding request_outline performed loading grid_outline migrated reading_outline made_outline
+request_fine (Make load) h ready = make_fine _ _
+request_fine (Migrate m) h ready = grind (arith)
+request_fine (Perform setup work) h ready = grind (arith, work_fine)
+
 pub outline_fine : (words : List (List ℕ)) (h : Heard)
     → IsSomeAnd (request_of words) (λ request. IsReady request h)
     → IfSome (outline words h).course.ending IsFine
-unfolding outline request_outline performed loading grid_outline migrated reading_outline made_outline
-outline_fine words h ready = grind (arith, work_fine, make_fine)
+unfolding outline
+outline_fine words h ready = grind (arith, request_fine)
 
 -- ---- only words that ask for nothing are blamed
 

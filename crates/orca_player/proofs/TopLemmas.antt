@@ -2,7 +2,7 @@
 use Rattle.std.proofs.Common.{◌≡◌, ◌≢◌, ℕ, List, [], ◌∷◌, refl, arith}
 use Rattle.std.specs.Prelude.{Option, None, IfSome, IfErr, IsOk, IsOkUnless, OnOk, Result, Ok, Err, unwrap_or}
 use Rattle.orca_base.specs.Grids.{Sheet}
-use Rattle.orca_concert.specs.Manners.{IsQuiet, Manner}
+use Rattle.orca_concert.specs.Manners.{Manner}
 use Rattle.orca_course.specs.Acts.Act.{Load, Save}
 use Rattle.orca_course.specs.Standings.{Standing}
 use Rattle.orca_course.specs.Worlds.{AreBegun, Calls, Called, World}
@@ -14,7 +14,6 @@ use Rattle.orca_grid.specs.GridText.{grid_text}
 use Rattle.orca_grid.specs.declared.refusal.GridRefusal.{GridRefusal}
 use Rattle.orca_grid.specs.declared.refusal.GridRefusal.TheVariants as refused
 use Rattle.orca_reports.specs.Manners.{replay_manner}
-use Rattle.orca_reports.specs.Quiet.{quiet-events, quiet-make, quiet-replay, quiet-run, quiet-smf, quiet-wav}
 use Rattle.orca_script.specs.Runs.{ScriptReadsBack, printed_script}
 use Rattle.orca_words.specs.Requests.{Migration, Request, Setup, Work}
 use Rattle.orca_player.specs.Doing.{Came, CameBy, KeepsTake, ReadsBack, refused_status, status_at}
@@ -29,18 +28,18 @@ use Rattle.orca_player.proofs.CourseLemmas.{polls-concert}
 -- ---- lists of commands
 
 pub kind_concert : {R : Type 0} {status : Status} (m : Manner R) (r : R) (cues : List Cue)
-    (s : Standing) → IsQuiet m → IsKind (concert m r cues s) [] status
+    (s : Standing) → IsKind (concert m r cues s) [] status
 unfolding concert opening
-kind_concert m r cues s quiet = kind_plain (polls-concert m r cues s quiet)
+kind_concert m r cues s = kind_plain (polls-concert m r cues s)
 
 pub by_recorded : {R : Type 0} (take : Take) (m : Manner R) (r : R) (cues : List Cue)
-    (s : Standing) {x y : World} {status : Status} → IsQuiet m
+    (s : Standing) {x y : World} {status : Status}
     → KeepsTake (recorded_outline take (concert m r cues s)) → Came (concert m r cues s) x status y
     → CameBy (λ b. recorded_outline take (concert m r cues s)) x status y
 unfolding concert opening
-by_recorded take m r cues s quiet keeps came =
+by_recorded take m r cues s keeps came =
     by nothing (record {
-      polls = polls-concert m r cues s quiet;
+      polls = polls-concert m r cues s;
       few = omega arith;
       sized = tt;
       reads = λ other. tt;
@@ -51,7 +50,7 @@ pub kind_read : {status : Status} (read : Result (List Cue) ScriptFault) (s : St
     → IsKind (reading_outline (λ cues. concert replay_manner tt cues s) read) [] status
 unfolding reading_outline
 kind_read (Err fault) s = kind_plain refl
-kind_read (Ok cues) s = kind_concert replay_manner tt cues s quiet-replay
+kind_read (Ok cues) s = kind_concert replay_manner tt cues s
 
 -- ---- a grid
 
@@ -60,7 +59,7 @@ idle-grid : (setup : Setup) (work : Work) (read : Result Sheet GridRefusal)
     → IsIdle (grid_outline setup work nothing read)
 unfolding grid_outline work_outline loading listening concert opening
 idle-grid setup work read =
-    grind (arith, polls-concert, quiet-run, quiet-events, quiet-smf, quiet-wav)
+    grind (arith, polls-concert)
 
 pub grid_refused : {T : Type 0} (setup : Setup) (work : Work) (read : Result Sheet GridRefusal)
     (refusal : GridRefusal) (result : Result T GridRefusal) (x : World) → result ≡ Err refusal
@@ -143,4 +142,4 @@ by_grid setup work grid calls did = (grid, by_later (attached setup calls) did)
 pub idle-asked : (request : Option Request)
     → IsIdle (asked_outline request (record { grid = None; brought = nothing }))
 unfolding request_outline performed loading made_outline concert opening
-idle-asked request = grind (arith, polls-concert, quiet-make)
+idle-asked request = grind (arith, polls-concert)

@@ -48,7 +48,6 @@ fn do_all<M: Machine, S: Source, R: Report, H: House>(
     ensures { Came (concert R.manner (R.kept stage.old.report) (S.left source.old)
         (standing_of M.Machine.own stage.old)) desk.old result desk.new }
 {
-    stage.report.is_quiet();
     match play(stage, source, desk) {
         Ok(end) => settled(status_of_end(end), desk),
         Err(NoMemory::InSend) => Status::Memory,

@@ -5,9 +5,10 @@ use Rattle.std.proofs.lemmas.Bool.{cases_lt, le-ltb, lt-ltb}
 use Rattle.std.proofs.lemmas.Grind.{common_steps}
 use Rattle.std.proofs.lemmas.List.{drop-append-le}
 use Rattle.orca_base.specs.declared.message.Message.{Message}
-use Rattle.orca_concert.specs.Manners.{says}
-use Rattle.orca_course.specs.Acts.{gives}
-use Rattle.orca_course.specs.Courses.{Course, course}
+use Rattle.orca_concert.specs.Manners.{aside_course, remarks}
+use Rattle.orca_concert.specs.Manners.Remark.{File, Lines, Text}
+use Rattle.orca_course.specs.Acts.{AreMute, gives}
+use Rattle.orca_course.specs.Courses.{Course}
 use Rattle.orca_course.specs.Doing.{Does, goes_of, nowhere}
 use Rattle.orca_course.specs.Standings.{Standing}
 use Rattle.orca_course.specs.Worlds.{Calls, World, Called}
@@ -28,9 +29,8 @@ use Rattle.orca_smf.specs.Songs.{smf}
 use Rattle.orca_wav.specs.declared.limits.TheConstants.{HEADER_BYTES, MAX_WAVE_BYTES, SAMPLE_BYTES}
 use Rattle.orca_wav.specs.Header.{header_bytes}
 use Rattle.orca_wav.specs.Rendering.{Rendering, next_bytes, rendering_of}
-use Rattle.orca_reports.specs.Asides.{mute_lines}
 use Rattle.orca_reports.specs.Songs.{SongSoFar, added, song_finished, loss, reached_in, recorded, whole_size, with_song}
-use Rattle.orca_reports.specs.Waves.{Wave, samples_course, framed, heard_message, next_size, wave_file}
+use Rattle.orca_reports.specs.Waves.{Wave, samples_aside, framed, heard_message, next_size, wave_file}
 
 -- memory was refused before anything was given
 pub unsaid : {R : Type 0} {at : Option Standing} {hands : Bool} {c : Course R Stop} {r s : R}
@@ -42,15 +42,19 @@ unsaid result is = does_err result Elsewhere is (does_nothing _ _ refl)
 pub said : {T R : Type 0} {at : Option Standing} {hands : Bool} {bytes text : List ℕ} {r s : R}
     {x y : World} (result : Result T NoMemory) → bytes ≡ text
     → Calls (gives (text_sent bytes ∷ [])) result x y
-    → Does (nowhere at hands) (says (text_sent text ∷ []) s) r x (goes_of result) s y
+    → Does (nowhere at hands) (aside_course (remarks (Text text) s)) r x (goes_of result) s y
 said {bytes = bytes} result is calls =
     rw (← is) (does_calls (gives (text_sent bytes ∷ [])) result (refl, tt) refl calls)
 
 -- lines
+mute_lines : (label : Label) (messages : List Message) → AreMute (gives (lines_of label messages))
+mute_lines label [] = tt
+mute_lines label (m ∷ messages) = (refl, mute_lines label messages)
+
 pub printed : {T R : Type 0} {at : Option Standing} {hands : Bool} {r s : R} {x y : World}
     (label : Label) (messages : List Message) (result : Result T NoMemory)
     → Calls (gives (lines_of label messages)) result x y
-    → Does (nowhere at hands) (says (lines_of label messages) s) r x (goes_of result) s y
+    → Does (nowhere at hands) (aside_course (remarks (Lines label messages) s)) r x (goes_of result) s y
 printed label messages result calls =
     does_calls (gives (lines_of label messages)) result (mute_lines label messages) refl calls
 
@@ -58,7 +62,7 @@ printed label messages result calls =
 pub recorded_done : {at : Option Standing} {hands : Bool} (tick : ℕ) (messages : List Message)
     (r : SongSoFar) {x : World} {song : Option Recorded} {end : Option Stop}
     → song ≡ fold (added tick) r.song messages → end ≡ loss r.song song
-    → Does (nowhere at hands) (recorded tick messages r) r x (Ok end) (with_song r song) x
+    → Does (nowhere at hands) (aside_course (recorded tick messages r)) r x (Ok end) (with_song r song) x
 unfolding recorded
 recorded_done {at = at} tick messages r {x = x} song end = record {
   did = record {
@@ -83,7 +87,7 @@ short_of {file = file} {e = e} {n = n} too_long =
 pub finished_done : {at : Option Standing} {hands : Bool} (s : Recorded) (r : SongSoFar)
     {x y : World} {T : Type 0} {done : T} (file : List ℕ) → whole_size s r.end ≤ MAX_TRACK_BYTES
     → file ≡ smf s.tempo s.list (reached_in s r.end) → Called (Ok done) (Save r.out file) x y
-    → Does (nowhere at hands) (song_finished s r) r x (Ok None) (with_song r None) y
+    → Does (nowhere at hands) (aside_course (song_finished s r)) r x (Ok None) (with_song r None) y
 finished_done s r file short is called =
     rw (le-ltb MAX_TRACK_BYTES (whole_size s r.end) short)
     (does_call (rw is at called) (rests_mute _ _ _ _ tt refl))
@@ -91,7 +95,7 @@ finished_done s r file short is called =
 -- the track was too long
 pub finished_long : {at : Option Standing} {hands : Bool} (s : Recorded) (r : SongSoFar) {x : World}
     → MAX_TRACK_BYTES < whole_size s r.end
-    → Does (nowhere at hands) (song_finished s r) r x (Ok (Some SongTooLong)) (with_song r None) x
+    → Does (nowhere at hands) (aside_course (song_finished s r)) r x (Ok (Some SongTooLong)) (with_song r None) x
 finished_long s r {x = x} long =
     rw (lt-ltb MAX_TRACK_BYTES (whole_size s r.end) long) (does_end SongTooLong x refl)
 
@@ -118,7 +122,7 @@ pub saved_done : {at : Option Standing} {hands : Bool} (w : Wave) {T : Type 0} {
     {x y : World} (samples : ℕ) (given file : List ℕ) → samples ≡ w.rendering.samples
     → given ≡ file → file ≡ header_bytes (SAMPLE_BYTES * samples) ++ w.bytes
     → Called (Ok done) (Save w.out given) x y
-    → Does {E = Stop} (nowhere at hands) (course (Save w.out (wave_file w) ∷ []) 0 w) w x (Ok None)
+    → Does (nowhere at hands) (aside_course (remarks (File w.out (wave_file w)) w)) w x (Ok None)
     (with_bytes w (drop HEADER_BYTES file)) y
 unfolding wave_file
 saved_done w {done = done} {x = x} {y = y} samples given file count is whole called =
@@ -133,7 +137,7 @@ pub framed_is : (messages : List Message) (w : Wave) (now new : Rendering) (file
     → next_size w ≤ MAX_WAVE_BYTES → w.bytes ≡ drop HEADER_BYTES file
     → HEADER_BYTES ≤ length file → now ≡ fold heard_message w.rendering messages
     → new ≡ rendering_of (now.samples + w.frame) now.voices → into ≡ file ++ next_bytes now w.frame
-    → wave_of w.out w.frame new (drop HEADER_BYTES into) ≡ (samples_course messages w).state
+    → wave_of w.out w.frame new (drop HEADER_BYTES into) ≡ (samples_aside messages w).state
 unfolding framed
 framed_is messages w now new file into short bytes room hears later rendered =
     rw (

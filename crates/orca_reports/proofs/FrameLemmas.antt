@@ -11,6 +11,8 @@ use Rattle.orca_base.specs.declared.message.Message.{Message}
 use Rattle.orca_base.specs.Grids.{IsSheet}
 use Rattle.orca_concert.specs.Concerts.{Concert, after_cue, command_course, concert_with, concert_course, cue_course, cues_course, final_course, halt_of, last_course, order_course, saved_course}
 use Rattle.orca_concert.specs.Manners.{Manner}
+use Rattle.orca_concert.specs.Manners.News.{Done}
+use Rattle.orca_concert.specs.Manners.Remark.{Nothing}
 use Rattle.orca_course.specs.Acts.{Act}
 use Rattle.orca_course.specs.Acts.Act.{Learn, Obey, Screen, Show, Stand, Strike}
 use Rattle.orca_course.specs.Courses.{Course, afterwards, each, keeping, mapped, onward}
@@ -45,19 +47,19 @@ run_plays lawful n o sheet few =
 
 -- ---- a whole run
 
--- a report that hands nothing out and makes no call at a frame, and that a full history ends
+-- a report that hands nothing out and does nothing at a frame, and that a full history ends
 pub record Records {R : Type 0} (m : Manner R) : Type 0 where
   pub hands : m.hands ≡ false
-  pub calls : (line tick : ℕ) (messages : List Message) (r : R)
-      → outside_calls (m.done line (Ok (Framed tick)) messages r).acts ≡ []
+  pub still : (line tick : ℕ) (messages : List Message) (r : R)
+      → (m.tells (Done line (Ok (Framed tick)) messages) r).remark ≡ Nothing
   pub full : (line : ℕ) (messages : List Message) (r : R)
-      → (m.done line (Err HistoryFull) messages r).ending ≢ None
+      → (m.tells (Done line (Err HistoryFull) messages) r).ending ≢ None
 
 -- the report goes on at each of these frames, the first of which has a tick, and keeps this at last
 abbrev pub Goes : {R : Type 0} → Manner R → ℕ → List (List Message) → R → R → Type 0
 Goes m tick [] r s = s ≡ r
 Goes m tick (messages ∷ frames) r s =
-    let c = m.done 0 (Ok (Framed tick)) messages r in
+    let c = m.tells (Done 0 (Ok (Framed tick)) messages) r in
     (c.ending ≡ None) × Goes m (tick + 1) frames c.state s
 
 -- acts without a call, and then others
@@ -118,7 +120,7 @@ frames_went m records tick (suc n) s ready goes =
       | inl room ↦
           let obeyed = framed tick machine ready room in
           let messages = (obey machine command.Frame).messages in
-          let d = m.done 0 (Ok (Framed tick)) messages s.kept in
+          let d = m.tells (Done 0 (Ok (Framed tick)) messages) s.kept in
           let same : c.state.kept ≡ d.state = rw obeyed.answer in
           let told : d.ending ≡ None =
           goes_on m None _ c next (rw obeyed.answer) goes in
@@ -136,7 +138,7 @@ frames_went m records tick (suc n) s ready goes =
             room = omega (arith, room, more.room, obeyed.longer, obeyed.limit);
             goes = more.goes;
             calls = no_calls c.acts _
-                (rw (records.hands, obeyed.answer) (records.calls 0 tick messages s.kept))
+                (rw (records.hands, obeyed.answer, records.still 0 tick messages s.kept) refl)
                 ∙ more.calls;
           })
       | inr full ↦

@@ -108,7 +108,7 @@ smf_records : Records smf_manner
 unfolding recorded
 smf_records = record {
   hands = refl;
-  calls = λ line tick messages r. refl;
+  still = λ line tick messages r. refl;
   full = λ line messages r is. absurd cc;
 }
 

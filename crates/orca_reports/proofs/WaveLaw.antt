@@ -25,7 +25,7 @@ use Rattle.orca_wav.proofs.Runs.{Renders-message, Renders-none, Renders-samples}
 use Rattle.orca_reports.specs.Runs.{opened_session}
 use Rattle.orca_reports.specs.SavedWaves.{WaveIsSaved}
 use Rattle.orca_reports.specs.Sounding.{AreFair, FramesSound, SoundsAs, wave_played, timed_at, timed_from}
-use Rattle.orca_reports.specs.Waves.{Wave, samples_course, framed, heard_message, suits, wav_manner, wave_at_start, wave_file}
+use Rattle.orca_reports.specs.Waves.{Wave, samples_aside, framed, heard_message, suits, wav_manner, wave_at_start, wave_file}
 use Rattle.orca_reports.proofs.FrameLemmas.{Goes, Records, frames_ran, run_plays}
 
 -- ---- the sound of frames
@@ -193,13 +193,13 @@ frames_follow frame n (messages ∷ frames) more sounding all before is =
 wav_records : Records wav_manner
 wav_records = record {
   hands = refl;
-  calls = λ line tick messages w. grind arith;
+  still = λ line tick messages w. grind arith;
   full = λ line messages w is. absurd cc;
 }
 
 -- a frame after which the run goes on was rendered
-goes_on : (messages : List Message) (w : Wave) → (samples_course messages w).ending ≡ None
-    → (samples_course messages w).state ≡ framed messages w
+goes_on : (messages : List Message) (w : Wave) → (samples_aside messages w).ending ≡ None
+    → (samples_aside messages w).state ≡ framed messages w
 goes_on messages w goes = grind arith
 
 frames_played : (tick : ℕ) (frames : List (List Message)) (w v : Wave)

@@ -1,6 +1,4 @@
-pub mod Asides
 pub mod Manners
-pub mod Quiet
 pub mod Runs
 pub mod SavedSongs
 pub mod SavedWaves

@@ -1,26 +1,20 @@
 -- What each report prints, and whether a full history ends its run.
-use Rattle.std.specs.Prelude.{ℕ, true, List, [], ◌∷◌, ◌++◌, length, Result, Ok, Err}
+use Rattle.std.specs.Prelude.{ℕ, true, List, ◌++◌, length, Result, Ok, Err}
 use Rattle.orca_base.specs.declared.command.Reply.{Reply}
 use Rattle.orca_base.specs.declared.command.Reply.TheVariants.{Framed}
 use Rattle.orca_base.specs.declared.command.Rule.{Rule}
 use Rattle.orca_base.specs.declared.command.Rule.TheVariants.{HistoryFull}
 use Rattle.orca_base.specs.declared.message.Message.{Message}
-use Rattle.orca_concert.specs.Manners.{Manner, says}
-use Rattle.orca_course.specs.Courses.{Course, ended, still}
+use Rattle.orca_concert.specs.Manners.{Aside, Manner, News, halt, remarks, silence}
+use Rattle.orca_concert.specs.Manners.News.{Closed, Done, Last, Stands}
+use Rattle.orca_concert.specs.Manners.Remark.{Lines, Text}
 use Rattle.orca_course.specs.Standings.{Standing}
-use Rattle.orca_course.specs.declared.ending.Stop.{Stop}
 use Rattle.orca_course.specs.declared.ending.Stop.TheVariants.{Full}
 use Rattle.orca_edit.specs.Obeying.{MachineState, piece_of}
 use Rattle.orca_grid.specs.GridText.{text_of}
 use Rattle.orca_send.specs.declared.lines.Label.TheVariants.{Tick, End}
-use Rattle.orca_send.specs.Lines.{lines_of}
-use Rattle.orca_send.specs.Sending.{text_sent}
 use Rattle.orca_reports.specs.Sums.{sum_of}
 use Rattle.orca_reports.specs.Texts.{refusal_text, state_text, figures_text}
-
--- a report that keeps nothing, of what it does
-abbrev pub Report : Type 0
-Report = Course (Unit {0}) Stop
 
 -- the grid
 abbrev pub grid_at : MachineState → List ℕ
@@ -40,66 +34,62 @@ figures_at s =
     (sum_of piece.sheet)
 
 -- a full history ends the run
-abbrev pub unless_full : Result Reply Rule → Unit {0} → Report
-unless_full (Err HistoryFull) r = ended Full r
-unless_full answer r = still r
+abbrev pub unless_full : Result Reply Rule → Unit {0} → Aside (Unit {0})
+unless_full (Err HistoryFull) r = halt Full r
+unless_full answer r = silence r
 
 -- a line for each message of a frame; a full history ends the run
-abbrev pub frame_report : Result Reply Rule → List Message → Unit {0} → Report
-frame_report (Ok (Framed tick)) messages r = says (lines_of (Tick tick) messages) r
+abbrev pub frame_report : Result Reply Rule → List Message → Unit {0} → Aside (Unit {0})
+frame_report (Ok (Framed tick)) messages r = remarks (Lines (Tick tick) messages) r
 frame_report answer messages r = unless_full answer r
 
 -- the line of a refused command
-abbrev pub refusal_report : ℕ → Result Reply Rule → Unit {0} → Report
-refusal_report line (Ok reply) r = still r
-refusal_report line (Err rule) r = says (text_sent (refusal_text line rule) ∷ []) r
+abbrev pub refusal_report : ℕ → Result Reply Rule → Unit {0} → Aside (Unit {0})
+refusal_report line (Ok reply) r = silence r
+refusal_report line (Err rule) r = remarks (Text (refusal_text line rule)) r
 
 -- `run` prints the grid at last, and a full history ends it
+abbrev pub run_tells : News → Unit {0} → Aside (Unit {0})
+run_tells (Done line answer messages) r = unless_full answer r
+run_tells (Stands s) r = remarks (Text (grid_at s.machine)) r
+run_tells (Closed messages) r = silence r
+run_tells Last r = silence r
+
 abbrev pub run_manner : Manner (Unit {0})
-run_manner = record {
-  hands = true;
-  done = λ line answer messages r. unless_full answer r;
-  final = λ s r. says (text_sent (grid_at s.machine) ∷ []) r;
-  close = λ messages r. still r;
-  saves = λ r. still r;
-}
+run_manner = record { hands = true; tells = run_tells }
 
 -- `events` prints the messages of frames and those of the close, and a full history ends it
+abbrev pub events_tells : News → Unit {0} → Aside (Unit {0})
+events_tells (Done line answer messages) r = frame_report answer messages r
+events_tells (Stands s) r = silence r
+events_tells (Closed messages) r = remarks (Lines End messages) r
+events_tells Last r = silence r
+
 abbrev pub events_manner : Manner (Unit {0})
-events_manner = record {
-  hands = true;
-  done = λ line answer messages r. frame_report answer messages r;
-  final = λ s r. still r;
-  close = λ messages r. says (lines_of End messages) r;
-  saves = λ r. still r;
-}
+events_manner = record { hands = true; tells = events_tells }
 
 -- `replay` prints each refusal, and at last the grid and where the run stands, as one text
+abbrev pub replay_tells : News → Unit {0} → Aside (Unit {0})
+replay_tells (Done line answer messages) r = refusal_report line answer r
+replay_tells (Stands s) r = remarks (Text (state_at s.machine)) r
+replay_tells (Closed messages) r = silence r
+replay_tells Last r = silence r
+
 abbrev pub replay_manner : Manner (Unit {0})
-replay_manner = record {
-  hands = true;
-  done = λ line answer messages r. refusal_report line answer r;
-  final = λ s r. says (text_sent (state_at s.machine) ∷ []) r;
-  close = λ messages r. still r;
-  saves = λ r. still r;
-}
+replay_manner = record { hands = true; tells = replay_tells }
 
 -- `follow` and `lead` print at last the grid and where the run stands, as one text
+abbrev pub state_tells : News → Unit {0} → Aside (Unit {0})
+state_tells (Stands s) r = remarks (Text (state_at s.machine)) r
+state_tells other r = silence r
+
 abbrev pub state_manner : Manner (Unit {0})
-state_manner = record {
-  hands = true;
-  done = λ line answer messages r. still r;
-  final = λ s r. says (text_sent (state_at s.machine) ∷ []) r;
-  close = λ messages r. still r;
-  saves = λ r. still r;
-}
+state_manner = record { hands = true; tells = state_tells }
 
 -- `make` prints its five lines at last, as one text
+abbrev pub make_tells : News → Unit {0} → Aside (Unit {0})
+make_tells (Stands s) r = remarks (Text (figures_at s)) r
+make_tells other r = silence r
+
 abbrev pub make_manner : Manner (Unit {0})
-make_manner = record {
-  hands = true;
-  done = λ line answer messages r. still r;
-  final = λ s r. says (text_sent (figures_at s) ∷ []) r;
-  close = λ messages r. still r;
-  saves = λ r. still r;
-}
+make_manner = record { hands = true; tells = make_tells }

@@ -7,9 +7,9 @@ use Rattle.orca_base.specs.declared.command.Rule.TheVariants.{HistoryFull}
 use Rattle.orca_base.specs.declared.limits.TheConstants.{MINUTE_MICROSECONDS}
 use Rattle.orca_base.specs.declared.message.Message.{Message}
 use Rattle.orca_base.specs.MidiBytes.{midi_bytes_of}
-use Rattle.orca_concert.specs.Manners.{Manner}
-use Rattle.orca_course.specs.Acts.Act.{Save}
-use Rattle.orca_course.specs.Courses.{Course, course, ended, still}
+use Rattle.orca_concert.specs.Manners.{Aside, Manner, News, halt, remarks, silence}
+use Rattle.orca_concert.specs.Manners.News.{Closed, Done, Last, Stands}
+use Rattle.orca_concert.specs.Manners.Remark.{File, Nothing}
 use Rattle.orca_course.specs.declared.ending.Stop.{Stop}
 use Rattle.orca_course.specs.declared.ending.Stop.TheVariants.{Full, SongTooLong}
 use Rattle.orca_smf.specs.declared.limits.TheConstants.{MAX_DELTA, MAX_TRACK_BYTES}
@@ -79,34 +79,33 @@ loss (Some before) None = Some SongTooLong
 loss _ _ = None
 
 -- the messages of a tick are added, in order
-unfoldable pub recorded : ℕ → List Message → SongSoFar → Course SongSoFar Stop
+unfoldable pub recorded : ℕ → List Message → SongSoFar → Aside SongSoFar
 recorded tick messages r =
     let song = fold (added tick) r.song messages in
-    record { acts = []; bill = 0; state = with_song r song; ending = loss r.song song }
+    record { remark = Nothing; state = with_song r song; ending = loss r.song song }
 
 -- the messages of a frame are added; a full history ends the run, and gives the song up
-abbrev pub smf_report : Result Reply Rule → List Message → SongSoFar → Course SongSoFar Stop
+abbrev pub smf_report : Result Reply Rule → List Message → SongSoFar → Aside SongSoFar
 smf_report (Ok (Framed tick)) messages r = recorded tick messages r
-smf_report (Err HistoryFull) messages r = ended Full (with_song r None)
-smf_report answer messages r = still r
+smf_report (Err HistoryFull) messages r = halt Full (with_song r None)
+smf_report answer messages r = silence r
 
 -- the song is finished and saved; none is saved if its track is too long
-abbrev pub song_finished : Recorded → SongSoFar → Course SongSoFar Stop
+abbrev pub song_finished : Recorded → SongSoFar → Aside SongSoFar
 song_finished s r =
-    if nat_lt MAX_TRACK_BYTES (whole_size s r.end) then ended SongTooLong (with_song r None)
-    else
-    course (Save r.out (smf s.tempo s.list (reached_in s r.end)) ∷ []) 0 (with_song r None)
+    if nat_lt MAX_TRACK_BYTES (whole_size s r.end) then halt SongTooLong (with_song r None)
+    else remarks (File r.out (smf s.tempo s.list (reached_in s r.end))) (with_song r None)
 
-abbrev pub saved_by : Option Recorded → SongSoFar → Course SongSoFar Stop
-saved_by None r = still r
+abbrev pub saved_by : Option Recorded → SongSoFar → Aside SongSoFar
+saved_by None r = silence r
 saved_by (Some s) r = song_finished s r
 
 -- `smf` hands nothing out and prints nothing. The messages of the close have the tick of the end
+abbrev pub smf_tells : News → SongSoFar → Aside SongSoFar
+smf_tells (Done line answer messages) r = smf_report answer messages r
+smf_tells (Stands s) r = silence r
+smf_tells (Closed messages) r = recorded r.end messages r
+smf_tells Last r = saved_by r.song r
+
 abbrev pub smf_manner : Manner SongSoFar
-smf_manner = record {
-  hands = false;
-  done = λ line answer messages r. smf_report answer messages r;
-  final = λ s r. still r;
-  close = λ messages r. recorded r.end messages r;
-  saves = λ r. saved_by r.song r;
-}
+smf_manner = record { hands = false; tells = smf_tells }

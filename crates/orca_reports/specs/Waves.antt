@@ -1,15 +1,14 @@
 -- A run that is rendered as a wave: its voices, and the bytes of its samples so far.
-use Rattle.std.specs.Prelude.{ℕ, ◌+◌, ◌*◌, ◌/◌, nat_lt, Bool, true, false, not, if◌then◌else◌, List, [], ◌∷◌, ◌++◌, fold, Result, Ok, Err}
+use Rattle.std.specs.Prelude.{ℕ, ◌+◌, ◌*◌, ◌/◌, nat_lt, Bool, true, false, not, if◌then◌else◌, List, [], ◌++◌, fold, Result, Ok, Err}
 use Rattle.orca_base.specs.declared.command.Reply.{Reply}
 use Rattle.orca_base.specs.declared.command.Reply.TheVariants.{Framed}
 use Rattle.orca_base.specs.declared.command.Rule.{Rule}
 use Rattle.orca_base.specs.declared.command.Rule.TheVariants.{HistoryFull}
 use Rattle.orca_base.specs.declared.message.Message.{Message}
 use Rattle.orca_base.specs.declared.message.Message.TheVariants as message
-use Rattle.orca_concert.specs.Manners.{Manner}
-use Rattle.orca_course.specs.Acts.Act.{Save}
-use Rattle.orca_course.specs.Courses.{Course, course, ended, still}
-use Rattle.orca_course.specs.declared.ending.Stop.{Stop}
+use Rattle.orca_concert.specs.Manners.{Aside, Manner, News, halt, remarks, silence}
+use Rattle.orca_concert.specs.Manners.News.{Closed, Done, Last, Stands}
+use Rattle.orca_concert.specs.Manners.Remark.{File}
 use Rattle.orca_course.specs.declared.ending.Stop.TheVariants.{Full, WaveTooLong}
 use Rattle.orca_wav.specs.declared.limits.TheConstants.{MAX_WAVE_BYTES, SAMPLE_BYTES, SLOWEST_FRAME_SAMPLES}
 use Rattle.orca_wav.specs.declared.voice.Voice.{Voice}
@@ -67,26 +66,26 @@ abbrev pub next_size : Wave → ℕ
 next_size w = SAMPLE_BYTES * (w.rendering.samples + w.frame)
 
 -- a frame ends the run if its samples are too many
-abbrev pub samples_course : List Message → Wave → Course Wave Stop
-samples_course messages w =
-    if nat_lt MAX_WAVE_BYTES (next_size w) then ended WaveTooLong w else still (framed messages w)
+abbrev pub samples_aside : List Message → Wave → Aside Wave
+samples_aside messages w =
+    if nat_lt MAX_WAVE_BYTES (next_size w) then halt WaveTooLong w else silence (framed messages w)
 
 -- a full history ends the run
-abbrev pub wav_report : Result Reply Rule → List Message → Wave → Course Wave Stop
-wav_report (Ok (Framed tick)) messages w = samples_course messages w
-wav_report (Err HistoryFull) messages w = ended Full w
-wav_report answer messages w = still w
+abbrev pub wav_report : Result Reply Rule → List Message → Wave → Aside Wave
+wav_report (Ok (Framed tick)) messages w = samples_aside messages w
+wav_report (Err HistoryFull) messages w = halt Full w
+wav_report answer messages w = silence w
 
 -- the file: the header, and the samples
 unfoldable pub wave_file : Wave → List ℕ
 wave_file w = header_bytes (wave_size w) ++ w.bytes
 
 -- `wav` hands nothing out and prints nothing. The close has no samples
+abbrev pub wav_tells : News → Wave → Aside Wave
+wav_tells (Done line answer messages) w = wav_report answer messages w
+wav_tells (Stands s) w = silence w
+wav_tells (Closed messages) w = silence w
+wav_tells Last w = remarks (File w.out (wave_file w)) w
+
 abbrev pub wav_manner : Manner Wave
-wav_manner = record {
-  hands = false;
-  done = λ line answer messages w. wav_report answer messages w;
-  final = λ s w. still w;
-  close = λ messages w. still w;
-  saves = λ w. course (Save w.out (wave_file w) ∷ []) 0 w;
-}
+wav_manner = record { hands = false; tells = wav_tells }

@@ -6,8 +6,8 @@ ghost use Rattle.orca_reports.specs.Texts.{figure_line, figures_text, size_line}
 
 use crate::figures::push_figure;
 use crate::going::goes;
-use orca_base::{Dims, Glyph, Look, Memory, Message};
-use orca_concert::{Outcome, Report, say};
+use orca_base::{Dims, Glyph, Look, Memory};
+use orca_concert::{News, Report, say};
 use orca_course::{Desk, NoMemory, Stop, Tally};
 use orca_edit::Machine;
 use orca_rig::House;
@@ -32,7 +32,6 @@ impl MakeReport {
 
 impl Report for MakeReport {
     ghost use Rattle.orca_reports.specs.Manners.{make_manner};
-    ghost use Rattle.orca_reports.specs.Quiet.{quiet-make};
 
     ghost Kept = { Unit {0} };
 
@@ -40,41 +39,24 @@ impl Report for MakeReport {
 
     ghost manner = { make_manner };
 
-    ghost quiet = { quiet-make };
-
     fn hands(&self) -> bool {
         true
     }
 
-    fn done<H: House>(
-        &mut self,
-        _: &mut Desk<H>,
-        _: &Outcome<'_>,
-    ) -> Result<Option<Stop>, NoMemory> {
-        Ok(None)
-    }
-
-    #[tactic(auto, using(crate::proofs::DoneLemmas::unsaid, crate::proofs::DoneLemmas::said))]
-    fn finish<M: Machine, H: House>(
+    #[tactic(auto, using(orca_course::proofs::WorldLemmas::called_still, crate::proofs::DoneLemmas::unsaid, crate::proofs::DoneLemmas::said))]
+    fn tell<M: Machine, H: House>(
         &mut self,
         desk: &mut Desk<H>,
         machine: &M,
-        tally: Tally,
+        news: News<'_>,
     ) -> Result<Option<Stop>, NoMemory> {
-        write_five_lines(&mut self.line, machine, tally)?;
-        goes(say(desk, self.line.as_slice()))
-    }
-
-    fn close<H: House>(
-        &mut self,
-        _: &mut Desk<H>,
-        _: &[Message],
-    ) -> Result<Option<Stop>, NoMemory> {
-        Ok(None)
-    }
-
-    fn save<H: House>(&mut self, _: &mut Desk<H>) -> Result<Option<Stop>, NoMemory> {
-        Ok(None)
+        match news {
+            News::Stands(tally) => {
+                write_five_lines(&mut self.line, machine, tally)?;
+                goes(say(desk, self.line.as_slice()))
+            }
+            News::Done { .. } | News::Closed(_) | News::Last => Ok(None),
+        }
     }
 }
 

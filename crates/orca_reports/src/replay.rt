@@ -5,9 +5,9 @@ ghost use Rattle.orca_reports.specs.Texts.{kept_text, refusal_text, state_text};
 use crate::figures::push_figure;
 use crate::going::goes;
 use crate::run::write_grid;
-use orca_base::{Memory, Message, Rule};
-use orca_concert::{Outcome, Report, say};
-use orca_course::{Desk, NoMemory, Stop, Tally};
+use orca_base::{Memory, Rule};
+use orca_concert::{News, Report, say};
+use orca_course::{Desk, NoMemory, Stop};
 use orca_edit::Machine;
 use orca_rig::House;
 use std::alloc::Global;
@@ -31,7 +31,6 @@ impl ReplayReport {
 
 impl Report for ReplayReport {
     ghost use Rattle.orca_reports.specs.Manners.{replay_manner};
-    ghost use Rattle.orca_reports.specs.Quiet.{quiet-replay};
 
     ghost Kept = { Unit {0} };
 
@@ -39,48 +38,31 @@ impl Report for ReplayReport {
 
     ghost manner = { replay_manner };
 
-    ghost quiet = { quiet-replay };
-
     fn hands(&self) -> bool {
         true
     }
 
     #[tactic(auto, using(orca_course::proofs::WorldLemmas::called_still, crate::proofs::DoneLemmas::unsaid, crate::proofs::DoneLemmas::said))]
-    fn done<H: House>(
-        &mut self,
-        desk: &mut Desk<H>,
-        outcome: &Outcome<'_>,
-    ) -> Result<Option<Stop>, NoMemory> {
-        match outcome.answer {
-            Ok(_) => Ok(None),
-            Err(rule) => {
-                write_refusal(&mut self.line, outcome.line, rule)?;
-                goes(say(desk, self.line.as_slice()))
-            }
-        }
-    }
-
-    #[tactic(auto, using(crate::proofs::DoneLemmas::unsaid, crate::proofs::DoneLemmas::said))]
-    fn finish<M: Machine, H: House>(
+    fn tell<M: Machine, H: House>(
         &mut self,
         desk: &mut Desk<H>,
         machine: &M,
-        _: Tally,
+        news: News<'_>,
     ) -> Result<Option<Stop>, NoMemory> {
-        write_state(&mut self.line, machine)?;
-        goes(say(desk, self.line.as_slice()))
-    }
-
-    fn close<H: House>(
-        &mut self,
-        _: &mut Desk<H>,
-        _: &[Message],
-    ) -> Result<Option<Stop>, NoMemory> {
-        Ok(None)
-    }
-
-    fn save<H: House>(&mut self, _: &mut Desk<H>) -> Result<Option<Stop>, NoMemory> {
-        Ok(None)
+        match news {
+            News::Done { line, answer, .. } => match answer {
+                Ok(_) => Ok(None),
+                Err(rule) => {
+                    write_refusal(&mut self.line, line, rule)?;
+                    goes(say(desk, self.line.as_slice()))
+                }
+            },
+            News::Stands(_) => {
+                write_state(&mut self.line, machine)?;
+                goes(say(desk, self.line.as_slice()))
+            }
+            News::Closed(_) | News::Last => Ok(None),
+        }
     }
 }
 

@@ -2,9 +2,9 @@ ghost use Rattle.std.specs.Prelude.{◌≡◌, OnOk};
 ghost use Rattle.orca_grid.specs.GridText.{text_of};
 
 use crate::going::goes;
-use orca_base::{Look, Memory, Message, Rule};
-use orca_concert::{Outcome, Report, say};
-use orca_course::{Desk, NoMemory, Stop, Tally};
+use orca_base::{Look, Memory, Rule};
+use orca_concert::{News, Report, say};
+use orca_course::{Desk, NoMemory, Stop};
 use orca_edit::Machine;
 use orca_grid::Grid;
 use orca_rig::House;
@@ -28,7 +28,6 @@ impl RunReport {
 
 impl Report for RunReport {
     ghost use Rattle.orca_reports.specs.Manners.{run_manner};
-    ghost use Rattle.orca_reports.specs.Quiet.{quiet-run};
 
     ghost Kept = { Unit {0} };
 
@@ -36,45 +35,29 @@ impl Report for RunReport {
 
     ghost manner = { run_manner };
 
-    ghost quiet = { quiet-run };
-
     fn hands(&self) -> bool {
         true
     }
 
-    fn done<H: House>(
-        &mut self,
-        _: &mut Desk<H>,
-        outcome: &Outcome<'_>,
-    ) -> Result<Option<Stop>, NoMemory> {
-        match outcome.answer {
-            Err(Rule::HistoryFull) => Ok(Some(Stop::Full)),
-            Ok(_) | Err(_) => Ok(None),
-        }
-    }
-
-    #[tactic(auto, using(crate::proofs::DoneLemmas::unsaid, crate::proofs::DoneLemmas::said))]
-    fn finish<M: Machine, H: House>(
+    #[tactic(auto, using(orca_course::proofs::WorldLemmas::called_still, crate::proofs::DoneLemmas::unsaid, crate::proofs::DoneLemmas::said))]
+    fn tell<M: Machine, H: House>(
         &mut self,
         desk: &mut Desk<H>,
         machine: &M,
-        _: Tally,
+        news: News<'_>,
     ) -> Result<Option<Stop>, NoMemory> {
-        machine.is_shown();
-        write_grid(&mut self.line, machine)?;
-        goes(say(desk, self.line.as_slice()))
-    }
-
-    fn close<H: House>(
-        &mut self,
-        _: &mut Desk<H>,
-        _: &[Message],
-    ) -> Result<Option<Stop>, NoMemory> {
-        Ok(None)
-    }
-
-    fn save<H: House>(&mut self, _: &mut Desk<H>) -> Result<Option<Stop>, NoMemory> {
-        Ok(None)
+        match news {
+            News::Done { answer, .. } => match answer {
+                Err(Rule::HistoryFull) => Ok(Some(Stop::Full)),
+                Ok(_) | Err(_) => Ok(None),
+            },
+            News::Stands(_) => {
+                machine.is_shown();
+                write_grid(&mut self.line, machine)?;
+                goes(say(desk, self.line.as_slice()))
+            }
+            News::Closed(_) | News::Last => Ok(None),
+        }
     }
 }
 

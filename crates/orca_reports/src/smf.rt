@@ -1,14 +1,17 @@
-ghost use Rattle.std.specs.Prelude.{◌≡◌, ◌≤◌, All, IfOk, OnOk, fold};
+ghost use Rattle.std.specs.Prelude.{◌≡◌, ◌≤◌, All, Bool, IfOk, OnOk, Option, fold};
 ghost use Rattle.orca_base.specs.Ranges.{HasDataInRange};
 ghost use Rattle.orca_smf.specs.Songs.{IsSongMessage};
-ghost use Rattle.orca_reports.specs.Songs.{added, loss, recording_at_start, with_bytes};
+ghost use Rattle.orca_concert.specs.Manners.{aside_course};
+ghost use Rattle.orca_course.specs.Doing.{Does, nowhere};
+ghost use Rattle.orca_course.specs.Standings.{Standing};
+ghost use Rattle.orca_reports.specs.Songs.{added, loss, recording_at_start, saved_by, with_bytes};
 
 use crate::midi::midi_of;
 use crate::recorder::Recorder;
 use orca_base::limits::MINUTE_MICROSECONDS;
 use orca_base::{Memory, Message, Reply, Rule};
-use orca_concert::{Outcome, Report};
-use orca_course::{Desk, NoMemory, Stop, Tally};
+use orca_concert::{News, Report};
+use orca_course::{Desk, NoMemory, Stop};
 use orca_edit::Machine;
 use orca_rig::{Disk, House};
 use orca_smf::SmfFault;
@@ -54,59 +57,13 @@ impl<'a> SmfReport<'a> {
             out,
         })
     }
-}
 
-impl Report for SmfReport<'_> {
-    ghost use Rattle.orca_reports.specs.Songs.{SongSoFar, smf_manner};
-    ghost use Rattle.orca_reports.specs.Quiet.{quiet-smf};
-
-    ghost Kept = { SongSoFar };
-
-    ghost kept = { λ r. r };
-
-    ghost manner = { smf_manner };
-
-    ghost quiet = { quiet-smf };
-
-    fn hands(&self) -> bool {
-        false
-    }
-
-    #[tactic(auto, using(orca_course::proofs::WorldLemmas::called_still, crate::proofs::DoneLemmas::unsaid))]
-    fn done<H: House>(
-        &mut self,
-        _: &mut Desk<H>,
-        outcome: &Outcome<'_>,
-    ) -> Result<Option<Stop>, NoMemory> {
-        match outcome.answer {
-            Ok(Reply::Framed { tick }) => Ok(record(&mut self.song, tick, outcome.messages)?),
-            Err(Rule::HistoryFull) => {
-                self.song = None;
-                Ok(Some(Stop::Full))
-            }
-            Ok(_) | Err(_) => Ok(None),
-        }
-    }
-
-    fn finish<M: Machine, H: House>(
-        &mut self,
-        _: &mut Desk<H>,
-        _: &M,
-        _: Tally,
-    ) -> Result<Option<Stop>, NoMemory> {
-        Ok(None)
-    }
-
-    #[tactic(auto, using(crate::proofs::DoneLemmas::unsaid))]
-    fn close<H: House>(
-        &mut self,
-        _: &mut Desk<H>,
-        messages: &[Message],
-    ) -> Result<Option<Stop>, NoMemory> {
-        Ok(record(&mut self.song, self.end, messages)?)
-    }
-
-    fn save<H: House>(&mut self, desk: &mut Desk<H>) -> Result<Option<Stop>, NoMemory> {
+    /// Saves the song, unless it was given up.
+    fn save<H: House>(&mut self, desk: &mut Desk<H>) -> Result<Option<Stop>, NoMemory>
+        ensures { (at : Option Standing) (hands : Bool) → Does (nowhere at hands)
+            (aside_course (saved_by self.old.song self.old)) self.old desk.old result self.new
+            desk.new }
+    {
         let Some(song) = self.song.take() else {
             return Ok(None);
         };
@@ -117,6 +74,46 @@ impl Report for SmfReport<'_> {
             }
             Err(SmfFault::TooLong) => Ok(Some(Stop::SongTooLong)),
             Err(SmfFault::Memory) => Err(NoMemory::Elsewhere),
+        }
+    }
+}
+
+impl Report for SmfReport<'_> {
+    ghost use Rattle.orca_reports.specs.Songs.{SongSoFar, smf_manner};
+
+    ghost Kept = { SongSoFar };
+
+    ghost kept = { λ r. r };
+
+    ghost manner = { smf_manner };
+
+    fn hands(&self) -> bool {
+        false
+    }
+
+    #[tactic(auto, using(orca_course::proofs::WorldLemmas::called_still, crate::proofs::DoneLemmas::unsaid))]
+    fn tell<M: Machine, H: House>(
+        &mut self,
+        desk: &mut Desk<H>,
+        _: &M,
+        news: News<'_>,
+    ) -> Result<Option<Stop>, NoMemory> {
+        match news {
+            News::Done {
+                answer,
+                messages,
+                ..
+            } => match answer {
+                Ok(Reply::Framed { tick }) => Ok(record(&mut self.song, tick, messages)?),
+                Err(Rule::HistoryFull) => {
+                    self.song = None;
+                    Ok(Some(Stop::Full))
+                }
+                Ok(_) | Err(_) => Ok(None),
+            },
+            News::Stands(_) => Ok(None),
+            News::Closed(messages) => Ok(record(&mut self.song, self.end, messages)?),
+            News::Last => self.save(desk),
         }
     }
 }

@@ -1,8 +1,7 @@
 use crate::going::goes;
 use crate::replay::write_state;
-use orca_base::Message;
-use orca_concert::{Outcome, Report, say};
-use orca_course::{Desk, NoMemory, Stop, Tally};
+use orca_concert::{News, Report, say};
+use orca_course::{Desk, NoMemory, Stop};
 use orca_edit::Machine;
 use orca_rig::House;
 use std::alloc::Global;
@@ -26,7 +25,6 @@ impl StateReport {
 
 impl Report for StateReport {
     ghost use Rattle.orca_reports.specs.Manners.{state_manner};
-    ghost use Rattle.orca_reports.specs.Quiet.{quiet-state};
 
     ghost Kept = { Unit {0} };
 
@@ -34,40 +32,23 @@ impl Report for StateReport {
 
     ghost manner = { state_manner };
 
-    ghost quiet = { quiet-state };
-
     fn hands(&self) -> bool {
         true
     }
 
-    fn done<H: House>(
-        &mut self,
-        _: &mut Desk<H>,
-        _: &Outcome<'_>,
-    ) -> Result<Option<Stop>, NoMemory> {
-        Ok(None)
-    }
-
-    #[tactic(auto, using(crate::proofs::DoneLemmas::unsaid, crate::proofs::DoneLemmas::said))]
-    fn finish<M: Machine, H: House>(
+    #[tactic(auto, using(orca_course::proofs::WorldLemmas::called_still, crate::proofs::DoneLemmas::unsaid, crate::proofs::DoneLemmas::said))]
+    fn tell<M: Machine, H: House>(
         &mut self,
         desk: &mut Desk<H>,
         machine: &M,
-        _: Tally,
+        news: News<'_>,
     ) -> Result<Option<Stop>, NoMemory> {
-        write_state(&mut self.line, machine)?;
-        goes(say(desk, self.line.as_slice()))
-    }
-
-    fn close<H: House>(
-        &mut self,
-        _: &mut Desk<H>,
-        _: &[Message],
-    ) -> Result<Option<Stop>, NoMemory> {
-        Ok(None)
-    }
-
-    fn save<H: House>(&mut self, _: &mut Desk<H>) -> Result<Option<Stop>, NoMemory> {
-        Ok(None)
+        match news {
+            News::Stands(_) => {
+                write_state(&mut self.line, machine)?;
+                goes(say(desk, self.line.as_slice()))
+            }
+            News::Done { .. } | News::Closed(_) | News::Last => Ok(None),
+        }
     }
 }

@@ -2,12 +2,12 @@ ghost use Rattle.std.specs.Prelude.{◌≡◌, ◌+◌, ◌*◌, ◌≤◌, ◌+
 ghost use Rattle.orca_base.specs.Ranges.{HasDataInRange};
 ghost use Rattle.orca_wav.specs.declared.limits.TheConstants.{MAX_WAVE_BYTES, SAMPLE_BYTES};
 ghost use Rattle.orca_wav.specs.Header.{header_bytes};
-ghost use Rattle.orca_reports.specs.Waves.{samples_course, frame_samples as samples_of_frame, wave_at_start};
+ghost use Rattle.orca_reports.specs.Waves.{samples_aside, frame_samples as samples_of_frame, wave_at_start};
 
 use crate::listener::Listener;
 use orca_base::{Memory, Message, Reply, Rule};
-use orca_concert::{Outcome, Report};
-use orca_course::{Desk, NoMemory, Stop, Tally};
+use orca_concert::{News, Report};
+use orca_course::{Desk, NoMemory, Stop};
 use orca_edit::Machine;
 use orca_rig::{Disk, House};
 use orca_wav::header;
@@ -93,8 +93,8 @@ impl<'a> WavReport<'a> {
     /// Takes the messages of a frame, and renders its samples. A wave that is too long ends the run.
     fn play(&mut self, messages: &[Message]) -> Result<Option<Stop>, Memory>
         requires { All HasDataInRange messages.now }
-        ensures ending { IfOk result (λ end. end ≡ (samples_course messages.now self.old).ending) }
-        ensures state { OnOk result (self.new ≡ (samples_course messages.now self.old).state) }
+        ensures ending { IfOk result (λ end. end ≡ (samples_aside messages.now self.old).ending) }
+        ensures state { OnOk result (self.new ≡ (samples_aside messages.now self.old).state) }
     {
         if self.frame > MAX_SAMPLES - self.listener.samples() {
             return Ok(Some(Stop::WaveTooLong));
@@ -107,7 +107,6 @@ impl<'a> WavReport<'a> {
 
 impl Report for WavReport<'_> {
     ghost use Rattle.orca_reports.specs.Waves.{Wave, wav_manner};
-    ghost use Rattle.orca_reports.specs.Quiet.{quiet-wav};
 
     ghost Kept = { Wave };
 
@@ -115,46 +114,34 @@ impl Report for WavReport<'_> {
 
     ghost manner = { wav_manner };
 
-    ghost quiet = { quiet-wav };
-
     fn hands(&self) -> bool {
         false
     }
 
     #[tactic(auto, using(orca_course::proofs::WorldLemmas::called_still, crate::proofs::DoneLemmas::unsaid))]
-    fn done<H: House>(
+    fn tell<M: Machine, H: House>(
         &mut self,
-        _: &mut Desk<H>,
-        outcome: &Outcome<'_>,
-    ) -> Result<Option<Stop>, NoMemory> {
-        match outcome.answer {
-            Ok(Reply::Framed { .. }) => Ok(self.play(outcome.messages)?),
-            Err(Rule::HistoryFull) => Ok(Some(Stop::Full)),
-            Ok(_) | Err(_) => Ok(None),
-        }
-    }
-
-    fn finish<M: Machine, H: House>(
-        &mut self,
-        _: &mut Desk<H>,
+        desk: &mut Desk<H>,
         _: &M,
-        _: Tally,
+        news: News<'_>,
     ) -> Result<Option<Stop>, NoMemory> {
-        Ok(None)
-    }
-
-    fn close<H: House>(
-        &mut self,
-        _: &mut Desk<H>,
-        _: &[Message],
-    ) -> Result<Option<Stop>, NoMemory> {
-        Ok(None)
-    }
-
-    fn save<H: House>(&mut self, desk: &mut Desk<H>) -> Result<Option<Stop>, NoMemory> {
-        put_header(self.listener.samples(), &mut self.file);
-        desk.save(self.out, self.file.as_slice(), Disk::Awaited)?;
-        Ok(None)
+        match news {
+            News::Done {
+                answer,
+                messages,
+                ..
+            } => match answer {
+                Ok(Reply::Framed { .. }) => Ok(self.play(messages)?),
+                Err(Rule::HistoryFull) => Ok(Some(Stop::Full)),
+                Ok(_) | Err(_) => Ok(None),
+            },
+            News::Stands(_) | News::Closed(_) => Ok(None),
+            News::Last => {
+                put_header(self.listener.samples(), &mut self.file);
+                desk.save(self.out, self.file.as_slice(), Disk::Awaited)?;
+                Ok(None)
+            }
+        }
     }
 }
 

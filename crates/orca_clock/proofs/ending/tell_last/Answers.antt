@@ -8,4 +8,4 @@ pub returns-in-Left : goal.returns-in-Left
 unfolding last_text_course final_course
 returns-in-Left g c =
     rw (c.in-Stopped.is, c.in-Left.is)
-    (reported_done g.R.Report.manner _ _ (does_owing _ _ (c.finish.ensures _ _)))
+    (reported_done g.R.Report.manner _ _ (does_owing _ _ (c.tell.ensures _ _)))

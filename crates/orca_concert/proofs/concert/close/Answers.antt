@@ -20,4 +20,4 @@ returns g c =
     (close_done g.R.Report.manner _
     (rw (← c.as_slice-messages.ensures.messages) at c.close.ensures.closes)
     (calls_owing _ (Ok _) (rw c.hands.ensures at c.in_ok-hand_messages.ensures.called))
-    (does_owing _ _ (c.close-2.ensures _ _)))
+    (does_owing _ _ (c.tell.ensures _ _)))

@@ -6,4 +6,4 @@ use Rattle.orca_concert.proofs.concert.tell_last.Goals as goal
 pub returns-in-None : goal.returns-in-None
 unfolding final_course
 returns-in-None g c =
-    rw c.in-None.is (reported_done g.R.Report.manner _ _ (does_owing _ _ (c.finish.ensures _ _)))
+    rw c.in-None.is (reported_done g.R.Report.manner _ _ (does_owing _ _ (c.tell.ensures _ _)))

@@ -11,7 +11,7 @@ returns-in-Ok g c =
     (opened_whole _ _ refl c.requires.begins c.requires.residue _ _
     (concert-silent g.R.Report.manner _ _) refl
     (blamed-concert _ _ _
-    (lost-concert g.R.Report.manner _ _ c.is_quiet.ensures c.in-Ok.ensures.did.made))
+    (lost-concert g.R.Report.manner _ _ c.in-Ok.ensures.did.made))
     c.in-Ok.ensures)
 
 pub returns-in-Err-InSend : goal.returns-in-Err-InSend

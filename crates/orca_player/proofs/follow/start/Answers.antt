@@ -4,7 +4,6 @@ use Rattle.orca_course.specs.Standings.{notes_of}
 use Rattle.orca_player.specs.Outlines.{follow_outline, follow_start}
 use Rattle.orca_player.proofs.CourseLemmas.{follow_from, notes-standing_at, performed_none}
 use Rattle.orca_reports.specs.Manners.{state_manner}
-use Rattle.orca_reports.specs.Quiet.{quiet-state}
 use Rattle.orca_player.proofs.follow.start.Goals as goal
 
 pub follow_all-requires-clause-begins : goal.follow_all-requires-clause-begins
@@ -21,4 +20,4 @@ returns-in-Ok g c =
 
 pub returns-in-Err : goal.returns-in-Err
 unfolding follow_outline
-returns-in-Err g c = performed_none _ (follow_is_deaf state_manner quiet-state) _ _ _
+returns-in-Err g c = performed_none _ (follow_is_deaf state_manner) _ _ _

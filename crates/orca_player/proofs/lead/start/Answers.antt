@@ -4,7 +4,6 @@ use Rattle.orca_course.specs.Standings.{notes_of}
 use Rattle.orca_player.specs.Outlines.{lead_outline, lead_start}
 use Rattle.orca_player.proofs.CourseLemmas.{lead_from, notes-standing_at, performed_none}
 use Rattle.orca_reports.specs.Manners.{state_manner}
-use Rattle.orca_reports.specs.Quiet.{quiet-state}
 use Rattle.orca_player.proofs.lead.start.Goals as goal
 
 pub lead_all-requires-clause-begins : goal.lead_all-requires-clause-begins
@@ -22,4 +21,4 @@ returns-in-Ok g c =
 
 pub returns-in-Err : goal.returns-in-Err
 unfolding lead_outline
-returns-in-Err g c = performed_none _ (lead_is_deaf state_manner quiet-state) _ _ _
+returns-in-Err g c = performed_none _ (lead_is_deaf state_manner) _ _ _

@@ -5,14 +5,13 @@ use Rattle.orca_player.specs.Outlines.{made_outline, nothing, outline, request_o
 use Rattle.orca_player.specs.declared.status.Status.TheVariants.{Usage}
 use Rattle.orca_player.proofs.CameLemmas.{by, by_failed, by_memory, came_none}
 use Rattle.orca_player.proofs.TopLemmas.{idle-asked, kind_concert}
-use Rattle.orca_reports.specs.Quiet.{quiet-make}
 use Rattle.orca_player.proofs.top.work.Goals as goal
 
 pub returns-in-Ok-Make : goal.returns-in-Ok-Make
 unfolding outline request_outline made_outline
 returns-in-Ok-Make g c =
     rw (rw c.in-Ok-Make.field-0-is at c.in-Ok-Make.ensures.read)
-    (None, by nothing (kind_concert _ _ _ _ quiet-make) c.make.ensures)
+    (None, by nothing (kind_concert _ _ _ _) c.make.ensures)
 
 pub returns-in-Ok-Migrate : goal.returns-in-Ok-Migrate
 unfolding outline request_outline

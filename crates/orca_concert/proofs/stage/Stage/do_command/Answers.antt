@@ -31,4 +31,4 @@ returns g c =
     c.in_ok-answer.ensures
     (rw c.hands.ensures at (calls_owing (g.M.Machine.residue c.act-acted.new.machine) (Ok _)
     c.in_ok-hand_messages.ensures.called))
-    (does_owing _ _ (c.done.ensures _ _)))
+    (does_owing _ _ (c.tell.ensures _ _)))

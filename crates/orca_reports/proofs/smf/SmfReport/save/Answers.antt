@@ -2,8 +2,8 @@ use Rattle.std.proofs.Common.{◌≡◌, refl, sym, ◌∙◌, ap}
 use Rattle.std.specs.Prelude.{Some, Err}
 use Rattle.orca_course.proofs.DoingLemmas.{does_nothing}
 use Rattle.orca_reports.proofs.DoneLemmas.{finished_done, finished_long, short_of}
-use Rattle.orca_reports.proofs.smf.SmfReportReport.save.Goals as goal
-use Rattle.orca_reports.proofs.smf.SmfReportReport.save.Goals.{in-Ok+in_ok-save-in-Ok, in-Err-TooLong, in-Err-Memory}
+use Rattle.orca_reports.proofs.smf.SmfReport.save.Goals as goal
+use Rattle.orca_reports.proofs.smf.SmfReport.save.Goals.{in-Ok+in_ok-save-in-Ok, in-Err-TooLong, in-Err-Memory}
 
 pub returns : goal.returns
 returns g c = λ at hands.
