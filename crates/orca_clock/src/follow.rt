@@ -1,22 +1,15 @@
 //! A follower of a clock.
 
-ghost use Rattle.std.specs.Prelude.{◌≡◌, ◌≢◌, Err, Some};
-ghost use Rattle.orca_course.specs.Acts.{gives};
+ghost use Rattle.std.specs.Prelude.{◌≡◌};
 ghost use Rattle.orca_course.specs.Doing.{goes_of};
-ghost use Rattle.orca_course.specs.Following.{Accompanies};
-ghost use Rattle.orca_course.specs.Standings.{notes_of, standing_closed};
-ghost use Rattle.orca_course.specs.Worlds.{Calls};
-ghost use Rattle.orca_concert.specs.Concerts.{handed_of};
 ghost use Rattle.orca_concert.specs.Stages.{StageDid, concert_at};
 ghost use Rattle.orca_clock.specs.Clocked.{end_course};
 ghost use Rattle.orca_clock.specs.Followers.{FollowDid, beat_course, clock_byte_course, follow_at_start, follow_residue, follow_state, hand_byte_course, with_pulse};
-ghost use Rattle.orca_notes.specs.Sound.{ends};
-ghost use Rattle.orca_send.specs.Sending.{sends_of};
 
 use crate::ending::end;
 use crate::frame::do_frame;
 use orca_base::Command;
-use orca_concert::{Report, Stage, close_early};
+use orca_concert::{Closes, Report, Stage, close_early};
 use orca_course::{Desk, Ending, Item, NoMemory, Performer, Stop};
 use orca_edit::Machine;
 use orca_rig::House;
@@ -47,19 +40,10 @@ impl<M: Machine, R: Report> Follow<M, R> {
             follower: Follower::start(),
         }
     }
+}
 
-    /// Ends all notes that sound, if memory was refused.
-    pub fn close_early<H: House>(&mut self, desk: &mut Desk<H>) -> Result<(), NoMemory>
-        ensures called { let s = follow_state M.Machine.own R.Report.own self.old in
-            Calls (gives (handed_of R.manner.hands (ends (notes_of s.concert.standing))))
-            result desk.old desk.new }
-        ensures in_send { result ≢ Err NoMemory.Elsewhere }
-        // A device that gets these ends too follows it still, and has no key on.
-        ensures device { let s = follow_state M.Machine.own R.Report.own self.old in
-            Accompanies (Some s.concert.standing)
-            (gives (sends_of (ends (notes_of s.concert.standing))))
-            (Some (standing_closed s.concert.standing)) }
-    {
+impl<M: Machine, R: Report> Closes for Follow<M, R> {
+    fn close_early<H: House>(&mut self, desk: &mut Desk<H>) -> Result<(), NoMemory> {
         close_early(&mut self.stage, desk)
     }
 }

@@ -1,23 +1,16 @@
 //! A leader, which gives a clock.
 
-ghost use Rattle.std.specs.Prelude.{◌≡◌, ◌≢◌, ◌≤◌, Err, Some};
+ghost use Rattle.std.specs.Prelude.{◌≡◌, ◌≤◌};
 ghost use Rattle.orca_base.specs.declared.limits.TheConstants.{MAX_BPM};
-ghost use Rattle.orca_course.specs.Acts.{gives};
 ghost use Rattle.orca_course.specs.Doing.{goes_of};
-ghost use Rattle.orca_course.specs.Following.{Accompanies};
-ghost use Rattle.orca_course.specs.Standings.{notes_of, standing_closed};
-ghost use Rattle.orca_course.specs.Worlds.{Calls};
-ghost use Rattle.orca_concert.specs.Concerts.{handed_of};
 ghost use Rattle.orca_concert.specs.Stages.{concert_at};
 ghost use Rattle.orca_clock.specs.Leaders.{LeadDid, clock_due_course, hand_key_course, lead_key_course, lead_at_start, lead_finish, lead_open, lead_residue, lead_state, toggle_course};
-ghost use Rattle.orca_notes.specs.Sound.{ends};
-ghost use Rattle.orca_send.specs.Sending.{sends_of};
 
 use crate::ending::end;
 use crate::frame::do_frame;
 use crate::sending::give_byte;
 use orca_base::limits::MAX_BPM;
-use orca_concert::{Report, Stage, close_early};
+use orca_concert::{Closes, Report, Stage, close_early};
 use orca_course::{Desk, Ending, Item, NoMemory, Performer, Stop};
 use orca_edit::Machine;
 use orca_rig::House;
@@ -58,19 +51,10 @@ impl<M: Machine, R: Report> Lead<M, R> {
             leader: Leader::start(at, bpm),
         }
     }
+}
 
-    /// Ends all notes that sound, if memory was refused.
-    pub fn close_early<H: House>(&mut self, desk: &mut Desk<H>) -> Result<(), NoMemory>
-        ensures called { let s = lead_state M.Machine.own R.Report.own self.old in
-            Calls (gives (handed_of R.manner.hands (ends (notes_of s.concert.standing))))
-            result desk.old desk.new }
-        ensures in_send { result ≢ Err NoMemory.Elsewhere }
-        // A device that gets these ends too follows it still, and has no key on.
-        ensures device { let s = lead_state M.Machine.own R.Report.own self.old in
-            Accompanies (Some s.concert.standing)
-            (gives (sends_of (ends (notes_of s.concert.standing))))
-            (Some (standing_closed s.concert.standing)) }
-    {
+impl<M: Machine, R: Report> Closes for Lead<M, R> {
+    fn close_early<H: House>(&mut self, desk: &mut Desk<H>) -> Result<(), NoMemory> {
         close_early(&mut self.stage, desk)
     }
 }

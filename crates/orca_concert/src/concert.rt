@@ -1,20 +1,15 @@
 //! A run of commands, from its first command to its end.
 
-ghost use Rattle.std.specs.Prelude.{◌≡◌, ◌≢◌, Err, Some};
-ghost use Rattle.orca_course.specs.Acts.{gives};
-ghost use Rattle.orca_course.specs.Following.{Accompanies};
-ghost use Rattle.orca_course.specs.Standings.{notes_of, standing_closed};
-ghost use Rattle.orca_course.specs.Worlds.{Calls};
-ghost use Rattle.orca_notes.specs.Sound.{ends};
-ghost use Rattle.orca_send.specs.Sending.{sends_of};
-ghost use Rattle.orca_concert.specs.Concerts.{close_course, command_at, concert_course, cue_course, cues_course, final_course, handed_of, last_course, order_course, saved_course};
+ghost use Rattle.std.specs.Prelude.{◌≡◌, Some};
+ghost use Rattle.orca_concert.specs.Concerts.{close_course, command_at, concert_course, cue_course, cues_course, final_course, last_course, order_course, saved_course};
+ghost use Rattle.orca_concert.specs.Silenced.{IsSilenced};
 ghost use Rattle.orca_concert.specs.Stages.{StageDid, standing_of};
 
 use crate::halt::Halt;
 use crate::sending::hand_messages;
 use crate::{News, Report, Stage};
 use orca_base::Command;
-use orca_course::{Desk, NoMemory, Stop};
+use orca_course::{Desk, NoMemory, Performer, Stop};
 use orca_cues::{Cue, Order, Source};
 use orca_edit::Machine;
 use orca_rig::House;
@@ -170,17 +165,21 @@ fn save<M: Machine, R: Report, H: House>(
     }
 }
 
+/// A performer whose notes can be ended early.
+pub trait Closes: Performer {
+    /// Ends all notes that sound, if memory was refused.
+    fn close_early<H: House>(&mut self, desk: &mut Desk<H>) -> Result<(), NoMemory>
+        ensures { IsSilenced Self.part.stance.hands (Self.part.stance.standing (Self.state self.old))
+            result desk.old desk.new };
+}
+
 /// Ends all notes that sound, if memory was refused; the report is not told.
 pub fn close_early<M: Machine, R: Report, H: House>(
     stage: &mut Stage<M, R>,
     desk: &mut Desk<H>,
 ) -> Result<(), NoMemory>
-    ensures called { let s = standing_of M.Machine.own stage.old in
-        Calls (gives (handed_of R.manner.hands (ends (notes_of s)))) result desk.old desk.new }
-    ensures in_send { result ≢ Err NoMemory.Elsewhere }
-    // A device that follows the run follows these sends too, and has no key at their end.
-    ensures device { let s = standing_of M.Machine.own stage.old in
-        Accompanies (Some s) (gives (sends_of (ends (notes_of s)))) (Some (standing_closed s)) }
+    ensures { IsSilenced R.manner.hands (Some (standing_of M.Machine.own stage.old))
+        result desk.old desk.new }
 {
     stage.messages.clear();
     stage.machine.close(&mut stage.messages);

@@ -10,7 +10,7 @@ mod report;
 mod sending;
 mod stage;
 
-pub use concert::{close, close_early, play};
+pub use concert::{Closes, close, close_early, play};
 pub use news::News;
 pub use report::Report;
 pub use sending::{print_messages, say, send_messages};

@@ -1,22 +1,15 @@
-ghost use Rattle.std.specs.Prelude.{◌≡◌, ◌≢◌, Err, IfOk, Some};
+ghost use Rattle.std.specs.Prelude.{◌≡◌, IfOk};
 ghost use Rattle.std.specs.Option.{option_map};
-ghost use Rattle.orca_concert.specs.Concerts.{handed_of};
 ghost use Rattle.orca_concert.specs.Stages.{standing_of};
-ghost use Rattle.orca_course.specs.Acts.{gives};
-ghost use Rattle.orca_course.specs.Following.{Accompanies};
-ghost use Rattle.orca_course.specs.Standings.{notes_of, standing_closed};
-ghost use Rattle.orca_course.specs.Worlds.{Calls};
 ghost use Rattle.orca_live.specs.Starting.{live_at_start};
-ghost use Rattle.orca_live.specs.States.{is_full, live_stance, live_state, residue_of, setting_in, status_line_at, until_at};
-ghost use Rattle.orca_notes.specs.Sound.{ends};
+ghost use Rattle.orca_live.specs.States.{is_full, live_state, residue_of, setting_in, status_line_at, until_at};
 
 use crate::{Setting, Silent};
 use orca_base::{Command, Memory};
-use orca_concert::{Stage, close_early};
-use orca_course::{Losses, Desk, NoMemory};
+use orca_concert::Stage;
+use orca_course::Losses;
 use orca_edit::Machine;
 use orca_jam::Crew;
-use orca_rig::House;
 use orca_term::{Pacer, StatusLine, View};
 use std::alloc::Global;
 
@@ -98,20 +91,6 @@ impl<'a, M: Machine> Live<'a, M> {
             Some(commands) => Some(commands.as_slice()),
             None => None,
         }
-    }
-
-    /// Ends all notes that sound, if memory was refused.
-    pub fn close_early<H: House>(&mut self, desk: &mut Desk<H>) -> Result<(), NoMemory>
-        ensures called { let s = (live_state M.Machine.own self.old).standing in
-            Calls (gives (handed_of live_stance.hands (ends (notes_of s))))
-            result desk.old desk.new }
-        ensures in_send { result ≢ Err NoMemory.Elsewhere }
-        // A device that follows it follows these sends too, and has no key at their end.
-        ensures device { let s = (live_state M.Machine.own self.old).standing in
-            Accompanies (Some s) (gives (handed_of live_stance.hands (ends (notes_of s))))
-            (Some (standing_closed s)) }
-    {
-        close_early(&mut self.stage, desk)
     }
 
     /// What the status line tells besides the first hand's editor.

@@ -10,7 +10,7 @@ use crate::journal::{begin_journal, write_journal};
 use crate::keyboard::do_byte;
 use crate::painting::{paint_first, show};
 use crate::saving::{save_last_grid, save_last_script};
-use orca_concert::close;
+use orca_concert::{Closes, close, close_early};
 use orca_course::{Desk, Item, NoMemory, Performer, Stop};
 use orca_edit::Machine;
 use orca_rig::House;
@@ -37,6 +37,12 @@ impl<'a, M: Machine> Performer for Live<'a, M> {
     }
 
     ghost deaf = { live_is_deaf };
+}
+
+impl<'a, M: Machine> Closes for Live<'a, M> {
+    fn close_early<H: House>(&mut self, desk: &mut Desk<H>) -> Result<(), NoMemory> {
+        close_early(&mut self.stage, desk)
+    }
 }
 
 /// Begins the journal, and paints the first picture.

@@ -8,6 +8,7 @@ use Rattle.orca_clock.specs.Followers.{Followed}
 use Rattle.orca_clock.specs.Leaders.{Led}
 use Rattle.orca_concert.specs.Concerts.{Concert, concert_with, concert_course, handed_of}
 use Rattle.orca_concert.specs.Manners.{Manner}
+use Rattle.orca_concert.specs.Silenced.{IsSilenced}
 use Rattle.orca_concert.proofs.DeafLemmas.{concert_is_deaf}
 use Rattle.orca_course.specs.Acts.{Act, gives, polls_in, stand_after}
 use Rattle.orca_course.specs.Acts.Act.{Give, Stand}
@@ -38,7 +39,7 @@ use Rattle.orca_term.specs.Picture.{IsScreen}
 use Rattle.orca_words.specs.Requests.{Performance, Setup}
 use Rattle.orca_player.specs.Doing.{Came, CameBy, IsBlamed, status_at}
 use Rattle.orca_player.specs.Outlines.{concert, follow_outline, follow_start, followed, lead_outline, lead_start, led, live_outline, live_start, nothing, opening, performed_outline, played, standing_at, status_of_end, status_of_ending}
-use Rattle.orca_player.specs.Performances.{IsSilenced, Performed}
+use Rattle.orca_player.specs.Performances.{Performed}
 use Rattle.orca_player.specs.declared.status.Status.{Status}
 use Rattle.orca_player.specs.declared.status.Status.TheVariants.{Memory}
 use Rattle.orca_player.proofs.CameLemmas.{by, by_memory, came_none, came_plain, came_refused, came_whole, unsaid_after}

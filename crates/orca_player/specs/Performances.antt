@@ -1,32 +1,17 @@
 -- What was done of a performance by any performer.
-use Rattle.std.specs.Prelude.{◌≡◌, ◌≢◌, ◌≤◌, Bool, [], length, Option, Some, Result, Err}
-use Rattle.std.specs.Option.{option_map}
+use Rattle.std.specs.Prelude.{◌≡◌, ◌≢◌, ◌≤◌, [], length, Some}
 use Rattle.orca_base.specs.declared.limits.TheConstants.{MAX_POLLS}
-use Rattle.orca_concert.specs.Concerts.{handed_of}
-use Rattle.orca_course.specs.Acts.{gives, polls_in}
-use Rattle.orca_course.specs.Following.{Accompanies, sounding}
+use Rattle.orca_course.specs.Acts.{polls_in}
+use Rattle.orca_course.specs.Following.{sounding}
 use Rattle.orca_course.specs.Performers.{Part, performance, polls_of}
-use Rattle.orca_course.specs.Standings.{Standing, standing_closed}
-use Rattle.orca_course.specs.Worlds.{Calls, World}
+use Rattle.orca_course.specs.Standings.{Standing}
+use Rattle.orca_course.specs.Worlds.{World}
 use Rattle.orca_course.specs.declared.ending.Ending.{Ending}
 use Rattle.orca_course.specs.declared.item.Item.TheVariants as item
-use Rattle.orca_course.specs.declared.refused.NoMemory.{NoMemory}
-use Rattle.orca_course.specs.declared.refused.NoMemory.TheVariants.{Elsewhere}
-use Rattle.orca_notes.specs.Sound.{ends}
-use Rattle.orca_send.specs.Sending.{sends_of}
 use Rattle.orca_player.specs.Doing.{Came}
 use Rattle.orca_player.specs.Outlines.{Brought, performed_outline}
 use Rattle.orca_player.specs.declared.status.Status.{Status}
 use Rattle.orca_player.specs.declared.status.Status.TheVariants.{Memory}
-
--- the notes that sound where a run stands were ended, where messages are handed out, unless a port
--- refused memory to one of the sends. A device that follows the run follows them too, and has no key
--- at their end
-pub record IsSilenced {T : Type 0} (hands : Bool) (at : Option Standing)
-    (result : Result T NoMemory) (x y : World) : Type 0 where
-  pub called : Calls (gives (handed_of hands (ends (sounding at)))) result x y
-  pub in_send : result ≢ Err Elsewhere
-  pub device : Accompanies at (gives (sends_of (ends (sounding at)))) (option_map standing_closed at)
 
 -- where a performer has finished, no note sounds
 abbrev pub EndsSilent : {S : Type 0} → Part S → Type 0

@@ -7,42 +7,13 @@ ghost use Rattle.orca_course.specs.Following.{sounding};
 ghost use Rattle.orca_course.specs.Worlds.{Made, Sated, has_ended, has_listened};
 ghost use Rattle.orca_player.specs.Doing.{CameBy};
 ghost use Rattle.orca_player.specs.Outlines.{Brought, Outline, listening, status_of_ending};
-ghost use Rattle.orca_player.specs.Performances.{EndsSilent, IsSilenced, Performed};
+ghost use Rattle.orca_player.specs.Performances.{EndsSilent, Performed};
 
 use crate::Status;
 use crate::concert::{settled, status_of_stop};
-use orca_clock::{Follow, Lead};
-use orca_concert::Report;
-use orca_course::{Desk, Ending, NoMemory, Performer, perform};
-use orca_edit::Machine;
-use orca_live::Live;
+use orca_concert::Closes;
+use orca_course::{Desk, Ending, NoMemory, perform};
 use orca_rig::House;
-
-/// A performer whose notes can be ended early.
-pub(crate) trait Closes: Performer {
-    /// Ends all notes that sound, where memory was refused.
-    fn close_early<H: House>(&mut self, desk: &mut Desk<H>) -> Result<(), NoMemory>
-        ensures { IsSilenced Self.part.stance.hands (Self.part.stance.standing (Self.state self.old))
-            result desk.old desk.new };
-}
-
-impl<'a, M: Machine> Closes for Live<'a, M> {
-    fn close_early<H: House>(&mut self, desk: &mut Desk<H>) -> Result<(), NoMemory> {
-        Live::close_early(self, desk)
-    }
-}
-
-impl<M: Machine, R: Report> Closes for Follow<M, R> {
-    fn close_early<H: House>(&mut self, desk: &mut Desk<H>) -> Result<(), NoMemory> {
-        Follow::close_early(self, desk)
-    }
-}
-
-impl<M: Machine, R: Report> Closes for Lead<M, R> {
-    fn close_early<H: House>(&mut self, desk: &mut Desk<H>) -> Result<(), NoMemory> {
-        Lead::close_early(self, desk)
-    }
-}
 
 /// Waits for so many players at an address, and answers the moment of the start; or how the run
 /// ends, if the inbox can't listen.

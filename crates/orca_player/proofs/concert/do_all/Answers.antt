@@ -25,8 +25,4 @@ unfolding concert
 returns-in-Err-Elsewhere g c =
     opened_elsewhere _ _ refl c.requires.begins c.requires.residue _ c.close_early.result
     (rw c.in-Err-Elsewhere.field-0-is at c.in-Err-Elsewhere.ensures)
-    (record {
-      called = c.close_early.ensures.called;
-      in_send = c.close_early.ensures.in_send;
-      device = c.close_early.ensures.device;
-    })
+    c.close_early.ensures
