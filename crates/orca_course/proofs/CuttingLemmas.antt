@@ -1,11 +1,11 @@
 -- Performances that go by what is heard, and not by its moments or how it was cut into answers: one
 -- induction over turns, for every performer and any number of hands.
-use Rattle.std.proofs.Common.{◌≡◌, ◌≢◌, arith, Bool, true, false, List, [], ◌∷◌, ◌++◌, refl, sym, ◌∙◌, ap, append_assoc, append-nil}
+use Rattle.std.proofs.Common.{◌≡◌, ◌≢◌, Bool, true, false, List, [], ◌∷◌, ◌++◌, refl, sym, ◌∙◌, ap, append_assoc, append-nil}
 use Rattle.std.specs.Prelude.{if◌then◌else◌, Option, Some, None}
 use Rattle.std.specs.Option.{is_some, option_map}
 use Rattle.orca_base.specs.declared.command.Command.{Command}
 use Rattle.orca_course.specs.Acts.{commands_in}
-use Rattle.orca_course.specs.Courses.{Course, course, each, ended, lastly, lastly_by, mapped, onward, onward_by}
+use Rattle.orca_course.specs.Courses.{Course, each, lastly, lastly_by, mapped, onward, onward_by}
 use Rattle.orca_course.specs.Performers.{Hearing, Part, Turn, begun, finished, first_turns, given_course, heard_turns, performance, turn_course}
 use Rattle.orca_course.specs.Performers.Turn.{Asked, Given, Learned, Over}
 use Rattle.orca_course.specs.declared.ending.Ending.{Ending}

@@ -8,7 +8,7 @@ use Rattle.orca_rig.specs.declared.inbox.Answer.{Answer}
 use Rattle.orca_rig.specs.declared.inbox.Answer.TheVariants as answer
 use Rattle.orca_course.specs.Courses.{each}
 use Rattle.orca_course.specs.Performers.{Hearing, Part, Turn, answer_turns, begun, first_turns, heard_turns, turn_course, turns_of}
-use Rattle.orca_course.specs.Performers.Turn.{Asked, Given, Learned, Over}
+use Rattle.orca_course.specs.Performers.Turn.{Asked, Given, Over}
 use Rattle.orca_course.specs.declared.ending.Ending.TheVariants.{Spent}
 use Rattle.orca_course.specs.declared.item.Losses.{Losses}
 use Rattle.orca_course.specs.declared.item.Item.{Item}
