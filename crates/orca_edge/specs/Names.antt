@@ -31,20 +31,20 @@ file_and_address hands name =
 abbrev pub is_file : {F : Type 0} → Source F → Bool
 is_file (source.Connection stream) = false
 is_file (source.File file) = true
-is_file (source.Held held) = true
+is_file (source.Leashed pair) = true
 
 -- whether a hand is heard over a file
 abbrev pub is_of_file : {F : Type 0} → Hand (Source F) → Bool
 is_of_file hand = is_file hand.stream
 
 -- whether a hand is heard over the terminal on a leash
-abbrev pub is_held : {F : Type 0} → Source F → Bool
-is_held (source.Connection stream) = false
-is_held (source.File file) = false
-is_held (source.Held held) = true
+abbrev pub is_leashed : {F : Type 0} → Source F → Bool
+is_leashed (source.Connection stream) = false
+is_leashed (source.File file) = false
+is_leashed (source.Leashed pair) = true
 
 abbrev pub is_on_leash : {F : Type 0} → Hand (Source F) → Bool
-is_on_leash hand = is_held hand.stream
+is_on_leash hand = is_leashed hand.stream
 
 -- which of so many hands are heard over a file, hand 0 first, where what the name says was opened:
 -- one that is the name of a file has opened for one hand

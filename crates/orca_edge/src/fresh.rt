@@ -133,8 +133,8 @@ impl<F: OpenFile + AsRawFd + Drop> Fresh<F> {
         requires rights { self.has_rights ≡ true }
     {
         lock(&self.file, LOCK_EX)?;
-        let _told = sync(&self.file)?;
-        match fs::hard_link(rt, &paths.fresh, &paths.target) {
+        let told = sync(&self.file)?;
+        match link(rt, told, paths) {
             Ok(()) => Ok(Some(self.file)),
             Err(error) if error.kind() == ErrorKind::AlreadyExists => Ok(None),
             Err(error) => Err(error),
@@ -197,7 +197,7 @@ where
     }
     let (file, paths) = create_beside(rt, target, PRIVATE)?;
     let made = lock_in(rt, file, bytes, &paths);
-    // It needs the name no more by which it was made.
+    // The name by which it was made goes, whether or not it got the other.
     let removed = fs::remove_file(rt, &paths.fresh);
     let made = made?;
     if removed.is_err() {
@@ -381,6 +381,12 @@ fn close<F: IntoRawFd>(file: F) -> io::Result<Told> {
 /// Gives the new file, of which no failure comes any more, the name of the other.
 fn rename<R: rt::Files>(rt: &R, _told: Told, paths: &Paths) -> io::Result<()> {
     fs::rename(rt, &paths.fresh, &paths.target)
+}
+
+/// Gives the new file, of which no failure comes any more, the name of the target too, if nothing
+/// has that.
+fn link<R: rt::Files>(rt: &R, _told: Told, paths: &Paths) -> io::Result<()> {
+    fs::hard_link(rt, &paths.fresh, &paths.target)
 }
 
 /// Waits until the disk has the names in a folder. One that may not be read is passed over, and so

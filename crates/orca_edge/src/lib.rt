@@ -3,12 +3,12 @@
 #![tactic(auto)]
 
 mod claim;
+mod connection;
 mod fresh;
 mod hands;
 mod journal;
 mod moments;
 mod owed;
-mod peer;
 mod real_files;
 mod real_inbox;
 mod real_outs;

@@ -7,9 +7,9 @@ ghost use Rattle.orca_edge.specs.Heard.{is_moment, IsOfOne};
 ghost use Rattle.orca_edge.specs.Names.{names_file, names_terminal, file_and_address, are_of_files, is_of_file, is_on_leash};
 ghost use Rattle.orca_base.specs.declared.limits.TheConstants.{MAX_HANDS};
 
+use crate::connection::Connection;
 use crate::hands::{Hands, NONE, Shows, Wakes};
 use crate::moments::{FOREVER, Watch, microseconds};
-use crate::peer::Peer;
 use crate::whole::{TRIES, status_of, unless_interrupted, unless_silent};
 use libc::net::{POLLIN, poll};
 use libc::types::pollfd;
@@ -31,21 +31,21 @@ const LEASH: &str = "/dev/stdin";
 /// What a hand is heard over.
 #[derive(Drop)]
 enum Source<F> {
-    Connection(Peer<TcpStream>),
+    Connection(Connection<TcpStream>),
     /// A terminal, a pipe, a device or a plain file.
     File(F),
-    /// The terminal of the program, and the leash on which whoever started it holds it.
-    Held(Held<F>),
+    /// The terminal of the program, and the leash that whoever started it holds.
+    Leashed(Leashed<F>),
 }
 
 /// A terminal and a leash.
 #[derive(Drop)]
-struct Held<F> {
+struct Leashed<F> {
     terminal: F,
     leash: F,
 }
 
-impl<F: Read> Held<F> {
+impl<F: Read> Leashed<F> {
     /// Reads what has come. The leash goes first, so its end is the end also where keys come
     /// without an end.
     fn hear(&mut self, bytes: &mut [u8]) -> io::Result<usize>
@@ -64,9 +64,9 @@ impl<F: Read> Held<F> {
 impl<F: Read> Read for Source<F> {
     fn read(&mut self, bytes: &mut [u8]) -> io::Result<usize> {
         match self {
-            Source::Connection(peer) => peer.read(bytes),
+            Source::Connection(connection) => connection.stream.read(bytes),
             Source::File(file) => file.read(bytes),
-            Source::Held(held) => held.hear(bytes),
+            Source::Leashed(pair) => pair.hear(bytes),
         }
     }
 }
@@ -75,11 +75,11 @@ impl<F> Shows for Source<F> {
     /// A connection shows it. What comes from a file has nowhere to show it here.
     fn show(&mut self, bytes: &[u8]) {
         match self {
-            Source::Connection(peer) => {
+            Source::Connection(connection) => {
                 // What was given up is told by what the next one begins with.
-                let _ = peer.paint(bytes);
+                let _ = connection.paint(bytes);
             }
-            Source::File(_) | Source::Held(_) => {}
+            Source::File(_) | Source::Leashed(_) => {}
         }
     }
 }
@@ -89,7 +89,7 @@ impl<F: AsRawFd> Source<F> {
     fn leash(&self) -> RawFd {
         match self {
             Source::Connection(_) | Source::File(_) => NONE,
-            Source::Held(held) => held.leash.as_raw_fd(),
+            Source::Leashed(pair) => pair.leash.as_raw_fd(),
         }
     }
 }
@@ -97,9 +97,9 @@ impl<F: AsRawFd> Source<F> {
 impl<F: AsRawFd> Wakes for Source<F> {
     fn wakers(&self) -> (RawFd, RawFd) {
         match self {
-            Source::Connection(peer) => (peer.as_raw_fd(), NONE),
+            Source::Connection(connection) => (connection.stream.as_raw_fd(), NONE),
             Source::File(file) => (file.as_raw_fd(), NONE),
-            Source::Held(held) => (held.terminal.as_raw_fd(), held.leash.as_raw_fd()),
+            Source::Leashed(pair) => (pair.terminal.as_raw_fd(), pair.leash.as_raw_fd()),
         }
     }
 }
@@ -407,14 +407,14 @@ where
         ≡ length opened.old.hands.items + 1) }
     ensures file { OnOk result (map is_of_file opened.new.hands.items
         ≡ map is_of_file opened.old.hands.items ++ true ∷ []) }
-    ensures held { OnOk result (map is_on_leash opened.new.hands.items
+    ensures leash { OnOk result (map is_on_leash opened.new.hands.items
         ≡ map is_on_leash opened.old.hands.items ++ names_terminal name.now ∷ []) }
 {
     if hands != 1 {
         return Err(OutsideFault::Failed);
     }
     let source = if names_terminal(name) {
-        Source::Held(Held {
+        Source::Leashed(Leashed {
             terminal: open_to_hear(rt, TERMINAL)?,
             leash: open_to_hear(rt, LEASH)?,
         })
@@ -466,7 +466,7 @@ fn accept_all<L: OpenListener<Stream = TcpStream> + AsRawFd, F: Read + Drop>(
         stream.set_nonblocking(true)?;
         // A picture is to be seen at once, also if the one before it was not taken yet.
         stream.set_nodelay(true)?;
-        opened.add(Source::Connection(Peer::new(stream)))?;
+        opened.add(Source::Connection(Connection::new(stream)))?;
     }
     Ok(())
 }

@@ -1,5 +1,5 @@
 -- The files and the ports in memory.
-use Rattle.std.specs.Prelude.{◌≡◌, ℕ, ◌+◌, ◌<◌, ◌==◌, ◌&&◌, ◌⊎◌, Bool, true, false, is_none, if◌then◌else◌, List, [], ◌∷◌, map, length, count_by, Option, Some, Result, Ok, Err, IfSome, String, string_bytes, Vec, refl}
+use Rattle.std.specs.Prelude.{◌≡◌, ℕ, ◌+◌, ◌<◌, ◌==◌, ◌&&◌, ◌||◌, ◌⊎◌, Bool, true, false, is_none, if◌then◌else◌, List, [], ◌∷◌, map, length, count_by, Option, Some, Result, Ok, Err, IfSome, String, string_bytes, Vec, refl}
 use Rattle.std.proofs.Common.{inl, inr}
 use Rattle.std.specs.List.{list_any}
 use Rattle.std.specs.Option.{option_map, option_map_or}
@@ -19,7 +19,7 @@ use Rattle.orca_rig.specs.declared.mem_files.Holds.{Holds}
 use Rattle.orca_rig.specs.declared.mem_files.Call.{Call}
 use Rattle.orca_rig.specs.declared.mem_files.Call.TheVariants as call
 use Rattle.orca_rig.specs.Outside.{Contents, Ask}
-use Rattle.orca_rig.specs.Saved.{is_spoilt, names_of}
+use Rattle.orca_rig.specs.Saved.{names_of}
 use Rattle.orca_rig.specs.Handed.{Attached}
 
 -- the names that are held: that of the file that was claimed, and those that others hold
@@ -90,11 +90,15 @@ claims_of holds =
 abbrev pub is_own : Claims → List ℕ → Bool
 is_own claims name = option_map_or (bytes_eq name) claims.own false
 
--- what a claim of this name finds: no file, or one that others hold, or one that nobody does
+-- whether a program holds a file, if it is there: this one, or another
+abbrev pub is_held : Claims → List ℕ → Bool
+is_held claims name = is_own claims name || list_any (bytes_eq name) claims.others
+
+-- what a claim of this name finds: no file, or one that a program holds, or one that none does
 abbrev pub found : Store → List ℕ → Claim
 found store name =
     if is_none (finite.get store.contents name) then claim.Made
-    else (if is_spoilt store.claims.others name then claim.Held else claim.Left)
+    else (if is_held store.claims name then claim.Held else claim.Left)
 
 -- what is held after a claim of this name
 abbrev pub claims_after : Result Claim OutsideFault → List ℕ → Claims → Claims

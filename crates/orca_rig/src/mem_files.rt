@@ -8,8 +8,9 @@ ghost use Rattle.std.specs.FinMap.{get, find, insert, remove};
 ghost use Rattle.orca_rig.specs.Outside.{Ask, Rose, after_call, last_count, wants_after};
 ghost use Rattle.orca_rig.specs.Outside.Ask.{Append, Begin, Load, Remove, Save};
 ghost use Rattle.orca_rig.specs.Saved.{IsAppended, IsClaimed, IsRemoved, IsSaved, is_spoilt, names_of, spoilt_after};
-ghost use Rattle.orca_rig.specs.InMemory.{named, files_of, asks_of, ask_of, names_differ, is_to_fail, IsUnloadable, claims_of, claims_after, found, is_own};
+ghost use Rattle.orca_rig.specs.InMemory.{named, files_of, asks_of, ask_of, names_differ, is_to_fail, IsUnloadable, claims_of, claims_after, found, is_held, is_own};
 
+use crate::spoilt::has_name;
 use crate::{Claim, Disk, Files, Misses, OutsideFault, is_spoilt, keep_spoilt};
 use orca_base::Memory;
 use orca_base::limits::MAX_FILE_BYTES;
@@ -200,6 +201,13 @@ impl Holds {
             Some(own) => name == own.as_str(),
             None => false,
         }
+    }
+
+    /// Whether a program holds the file of that name, if it is there.
+    fn is_held(&self, name: &str) -> bool
+        ensures { result ≡ is_held (claims_of self.now) name.now }
+    {
+        self.is_own(name) || has_name(&self.others, name)
     }
 }
 
@@ -414,7 +422,7 @@ impl MemFiles {
     {
         if bytes_of(&self.files, name).is_none() {
             Claim::Made
-        } else if is_spoilt(&self.holds.others, name) {
+        } else if self.holds.is_held(name) {
             Claim::Held
         } else {
             Claim::Left

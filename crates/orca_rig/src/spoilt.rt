@@ -1,16 +1,24 @@
 //! The names of the files that no append adds to any more.
 
 ghost use Rattle.std.specs.Prelude.{◌≡◌, ◌<◌, ◌||◌, ℕ, List, string_bytes, vec_len, vec_capacity};
+ghost use Rattle.std.specs.List.{list_any};
 ghost use Rattle.std.specs.Str.{bytes_eq};
 ghost use Rattle.orca_rig.specs.Saved.{is_spoilt, names_of, spoilt_after};
 
 use crate::OutsideFault;
 
+/// Whether a name is among these.
+pub(crate) fn has_name(names: &[String], name: &str) -> bool
+    ensures { result ≡ list_any (bytes_eq name.now) (names_of names.now) }
+{
+    names.iter().any(|other| name == other.as_str())
+}
+
 /// Whether a name is among those of the spoilt files.
 pub fn is_spoilt(spoilt: &[String], name: &str) -> bool
     ensures { result ≡ is_spoilt (names_of spoilt.now) name.now }
 {
-    spoilt.iter().any(|other| name == other.as_str())
+    has_name(spoilt, name)
 }
 
 /// Keeps the name of a file whose save, begin, append or claim has failed. There is room for it.

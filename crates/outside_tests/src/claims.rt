@@ -1,6 +1,6 @@
 use crate::saves::check_held;
 use orca_edge::RealFiles;
-use orca_rig::{Claim, Disk, Files, OutsideFault};
+use orca_rig::{Claim, Disk, Files, MemFiles, OutsideFault};
 use std::io::ErrorKind;
 use std::os::unix::fs::{MetadataExt, symlink};
 use std::os::unix::net::UnixListener;
@@ -124,4 +124,35 @@ fn a_claim_that_fails_leaves_nothing(rt: HostRuntime) {
         assert!(rt; files.append(*name, b"frame\n") == FAILED, "{name}");
         assert!(rt; files.remove(*name) == FAILED, "{name}");
     }
+}
+
+/// Claims and removals in a store where one file is left, and one is held by another program.
+fn check_claims<F: Files>(rt: &impl Abort, files: &mut F) {
+    for (name, found) in &[
+        ("left", Claim::Left),
+        ("held", Claim::Held),
+        ("new", Claim::Made),
+        ("new", Claim::Held),
+    ] {
+        assert!(rt; files.claim(*name, TEXT) == Ok(*found), "{name}");
+    }
+    assert!(rt; files.append("new", b"frame\n") == Ok(()));
+    assert!(rt; files.remove("left") == FAILED);
+    assert!(rt; files.remove("new") == Ok(()));
+    assert!(rt; files.remove("new") == FAILED);
+}
+
+#[test]
+fn a_store_in_memory_knows_who_holds_a_file(rt: HostRuntime) {
+    let alloc = rt.alloc();
+    let mut files = MemFiles::new(Vec::new(alloc), Vec::new(alloc)).expect(&rt, "memory");
+    for name in &["left", "held"] {
+        assert!(rt;
+            files.save(*name, b"12..\n", Disk::NotAwaited) == Ok(()),
+            "{name}"
+        );
+    }
+    let held = String::from_str(alloc, "held").expect(&rt, "memory");
+    files.hold(held).expect(&rt, "memory");
+    check_claims(&rt, &mut files);
 }

@@ -4,7 +4,7 @@ ghost use Rattle.orca_base.specs.declared.limits.TheConstants.{MAX_HANDS};
 
 use orca_base::limits::{ARRIVAL_BYTES, MAX_HANDS};
 use orca_edge::RealInbox;
-use orca_rig::{Answer, Inbox, MemOuts};
+use orca_rig::{Answer, Inbox, MemInbox, MemOuts};
 use std::alloc::Global;
 use std::io;
 use std::io::{PipeWriter, Read, Write};
@@ -363,4 +363,14 @@ fn a_reset_is_a_failure_of_the_first_hand_alone(rt: HostRuntime) {
     check_reset(&rt, 0, Answer::Failed);
     check_reset(&rt, 1, Answer::End);
     check_reset(&rt, 7, Answer::End);
+}
+
+#[test]
+fn an_inbox_in_memory_takes_what_is_told(rt: HostRuntime) {
+    let alloc = rt.alloc();
+    let made = MemInbox::new(0, Vec::new(alloc), Vec::new(alloc));
+    let mut inbox = made.expect(&rt, "memory");
+    assert!(rt; inbox.listen_hands("keys", 2) == Ok(0));
+    assert!(rt; inbox.tell(1, b"one") == Ok(()));
+    assert!(rt; inbox.tell(0, b"") == Ok(()));
 }

@@ -1,4 +1,4 @@
-//! A connection of a hand, from which its keys come, and to which its pictures go.
+//! A connection from which the keys of a hand come, and to which its pictures go.
 
 ghost use Rattle.std.specs.Prelude.{◌≡◌, true, false, OnOk, OnErr};
 ghost use Rattle.std.specs.Io.KnownBytes.{Appends};
@@ -7,28 +7,27 @@ ghost use Rattle.orca_edge.specs.Taken.{painting_after};
 use crate::sinks::FRESH_START;
 use crate::whole::write_whole;
 use std::io;
-use std::io::{Read, Write};
-use std::os::fd::{AsRawFd, RawFd};
+use std::io::Write;
 
 /// A connection of which no read and no write waits.
 #[derive(Drop)]
-pub(crate) struct Peer<S> {
-    stream: S,
+pub(crate) struct Connection<S> {
+    pub stream: S,
     /// The last painting was given up.
     is_torn: bool,
 }
 
-impl<S> Peer<S> {
+impl<S> Connection<S> {
     /// A connection on which no painting was given up.
-    pub(crate) fn new(stream: S) -> Peer<S>
+    pub(crate) fn new(stream: S) -> Connection<S>
         ensures { result ≡ record { stream = stream; is_torn = false } }
     {
         let is_torn = false;
-        Peer { stream, is_torn }
+        Connection { stream, is_torn }
     }
 }
 
-impl<S: Write> Peer<S> {
+impl<S: Write> Connection<S> {
     /// Writes a painting, as far as there is room. One that is given up may end inside an escape
     /// sequence, so the next one then begins with [`FRESH_START`].
     pub(crate) fn paint(&mut self, bytes: &[u8]) -> io::Result<()>
@@ -45,17 +44,5 @@ impl<S: Write> Peer<S> {
         write_whole(&mut self.stream, bytes)?;
         self.is_torn = false;
         Ok(())
-    }
-}
-
-impl<S: Read> Read for Peer<S> {
-    fn read(&mut self, bytes: &mut [u8]) -> io::Result<usize> {
-        self.stream.read(bytes)
-    }
-}
-
-impl<S: AsRawFd> AsRawFd for Peer<S> {
-    fn as_raw_fd(&self) -> RawFd {
-        self.stream.as_raw_fd()
     }
 }
