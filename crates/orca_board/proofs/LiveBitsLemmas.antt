@@ -1,8 +1,10 @@
 -- One bit of a word, the words of which none is set, and the summary of a row: which of its words
 -- are not zero.
-use Rattle.std.proofs.Common.{◌≡◌, ◌≢◌, None, ◌∙◌, ℕ, zero, suc, ◌+◌, ◌*◌, ◌%◌, ◌/◌, ◌^◌, ◌<◌, ◌==◌, ◌&&◌, not, Bool, true, false, List, refl, sym, ap, arith, bit_or, bit_xor, inl, inr, replicate}
+use mir.Val.{bool_byte}
+use Rattle.std.proofs.Common.{◌≡◌, ◌≢◌, None, ◌∙◌, ℕ, zero, suc, ◌+◌, ◌-◌, ◌*◌, ◌%◌, ◌/◌, ◌^◌, ◌<◌, ◌==◌, ◌&&◌, not, Bool, true, false, List, take, drop, refl, subst, sym, ap, arith, bit_or, bit_xor, inl, inr, replicate}
 use Rattle.std.specs.Int.{bit_at, trailing_zeros, w64}
 use Rattle.std.specs.Prelude.{if◌then◌else◌, length, nat_lt, slice_index, slice_set}
+use Rattle.orca_base.specs.Glyphs.{IsGlyph, is_operator}
 use Rattle.orca_base.specs.declared.limits.TheConstants.{LIVE_WORDS, MAX_COLUMNS, MAX_ROWS, ROW_WORDS, WORD_COLUMNS}
 use Rattle.orca_op.specs.First.{first_where}
 use Rattle.orca_op.specs.Live.{has_bit, word_has, IsSummary}
@@ -11,7 +13,8 @@ use Rattle.orca_board.specs.LiveBits.{AreLiveBits, no_bits}
 use Rattle.std.proofs.lemmas.Bool.Decides.{eqb_tells}
 use Rattle.std.proofs.lemmas.Bool.{both_ways, cases_lt, le-ltb, lt-ltb}
 use Rattle.std.proofs.lemmas.Grind.{get_or-set_at}
-use Rattle.std.proofs.lemmas.List.{get_or-set_other, length-set}
+use Rattle.std.proofs.lemmas.List.{get_or-drop, get_or-set_other, get_or-take, length-set}
+use Rattle.std.proofs.lemmas.Nat.{one_shl}
 use Rattle.std.proofs.lemmas.Nat.Bits.{bit_at_or, bit_at_xor, bit_at-lt, bit_at-zero, bit_at-pow_same, bit_at-pow_other, bit_at-trailing_zeros}
 
 apart : (i k : ℕ) → (i == k) ≡ false → i ≡ k → ⊥
@@ -67,6 +70,25 @@ without_other word k i other =
       bit_at-lt word i,
     )
 
+-- a bit that was not set, set or left
+pub or_here : (word k one : ℕ) (on : Bool) → k < 64 → one ≡ bool_byte on → bit_at word k ≡ 0
+    → (bit_at (bit_or word ((one * 2 ^ k) % 2 ^ 64)) k == 1) ≡ on
+or_here word k one true few is off = rw (is, one_shl k 64 few) (with_here word k)
+or_here word k one false few is off =
+    let nothing : (0 * 2 ^ k) % 2 ^ 64 ≡ 0 = omega arith in
+    let left : bit_at (bit_or word 0) k ≡ 0 =
+    omega (arith, bit_at_or word 0 k, bit_at-zero k, off) in
+    rw (is, nothing, left) refl
+
+pub or_other : (word k one : ℕ) (on : Bool) (i : ℕ) → k < 64 → one ≡ bool_byte on
+    → (i == k) ≡ false → bit_at (bit_or word ((one * 2 ^ k) % 2 ^ 64)) i ≡ bit_at word i
+or_other word k one true i few is other = rw (is, one_shl k 64 few) (with_other word k i other)
+or_other word k one false i few is other =
+    let nothing : (0 * 2 ^ k) % 2 ^ 64 ≡ 0 = omega arith in
+    let left : bit_at (bit_or word 0) i ≡ bit_at word i =
+    omega (arith, bit_at_or word 0 i, bit_at-zero i, bit_at-lt word i) in
+    rw (is, nothing) left
+
 -- no bit of no bits
 pub off-none : (n : ℕ) → has_bit no_bits n ≡ false
 unfolding no_bits
@@ -105,6 +127,73 @@ bit-written words number bits on n inside here other =
           (ap (λ m. bit_at m (n % WORD_COLUMNS) == 1)
           (get_or-set_other words (number / WORD_COLUMNS) (n / WORD_COLUMNS) bits 0 differ.1))
     ]
+
+-- a word is written, whose bits are those of its cells
+pub word-set : (words cells : List ℕ) (word bits n : ℕ) → word < length words
+    → ((k : ℕ) → k < WORD_COLUMNS → (bit_at bits k == 1) ≡ is_operator (slice_index cells k))
+    → has_bit (slice_set words word bits) n ≡ (if n / WORD_COLUMNS == word
+    then is_operator (slice_index cells (n % WORD_COLUMNS)) else has_bit words n)
+word-set words cells word bits n inside are = elim (eqb_tells (n / WORD_COLUMNS) word) [
+  | inl same ↦
+      let written : slice_index (slice_set words word bits) (n / WORD_COLUMNS) ≡ bits =
+      get_or-set_at words word (n / WORD_COLUMNS) bits 0 same.1 inside in
+      rw same.0 (ap (λ m. bit_at m (n % WORD_COLUMNS) == 1) written
+      ∙ are (n % WORD_COLUMNS) (omega arith))
+  | inr differ ↦
+      rw differ.0 (ap (λ m. bit_at m (n % WORD_COLUMNS) == 1)
+      (get_or-set_other words word (n / WORD_COLUMNS) bits 0 differ.1))
+]
+
+-- the bit of one cell more
+pub bits-more : (cells : List ℕ) (word new k cell : ℕ) → cell ≡ slice_index cells k
+    → (bit_at new k == 1) ≡ is_operator cell
+    → ((j : ℕ) → (j == k) ≡ false → bit_at new j ≡ bit_at word j)
+    → ((j : ℕ) → j < k → (bit_at word j == 1) ≡ is_operator (slice_index cells j))
+    → (j : ℕ) → j < k + 1 → (bit_at new j == 1) ≡ is_operator (slice_index cells j)
+bits-more cells word new k cell is here other before j below = elim (eqb_tells j k) [
+  | inl same ↦
+      ap (λ i. bit_at new i == 1) same.1
+      ∙ (here ∙ (ap is_operator is ∙ ap (λ i. is_operator (slice_index cells i)) (sym same.1)))
+  | inr differ ↦
+      ap (λ m. m == 1) (other j differ.0) ∙ before j (omega (arith, below, differ.1))
+]
+
+-- one glyph more
+pub glyphs-more : (cells : List ℕ) (k cell : ℕ) → cell ≡ slice_index cells k → IsGlyph cell
+    → ((j : ℕ) → j < k → IsGlyph (slice_index cells j))
+    → (j : ℕ) → j < k + 1 → IsGlyph (slice_index cells j)
+glyphs-more cells k cell is glyph before j below = elim (eqb_tells j k) [
+  | inl same ↦ subst IsGlyph (is ∙ ap (λ i. slice_index cells i) (sym same.1)) glyph
+  | inr differ ↦ before j (omega (arith, below, differ.1))
+]
+
+-- the bits of the cells of one word more
+pub bits-laid : (cells old new part : List ℕ) (word n : ℕ)
+    → ((j : ℕ) → j < WORD_COLUMNS
+    → slice_index part j ≡ slice_index cells (word * WORD_COLUMNS + j))
+    → has_bit new n ≡ (if n / WORD_COLUMNS == word
+    then is_operator (slice_index part (n % WORD_COLUMNS)) else has_bit old n)
+    → (n / WORD_COLUMNS ≢ word → has_bit old n ≡ is_operator (slice_index cells n))
+    → has_bit new n ≡ is_operator (slice_index cells n)
+bits-laid cells old new part word n are written apart =
+    elim (eqb_tells (n / WORD_COLUMNS) word) [
+      | inl same ↦
+          let number : word * WORD_COLUMNS + n % WORD_COLUMNS ≡ n = omega (arith, same.1) in
+          (rw same.0 at written)
+          ∙ (ap is_operator (are (n % WORD_COLUMNS) (omega arith))
+          ∙ ap (λ i. is_operator (slice_index cells i)) number)
+      | inr differ ↦ (rw differ.0 at written) ∙ apart differ.1
+    ]
+
+-- the cells of a word, as the code cuts them out
+pub word-cells : (cells : List ℕ) (word columns j : ℕ) → columns ≡ WORD_COLUMNS → j < WORD_COLUMNS
+    → slice_index (take (word * columns + columns - word * columns) (drop (word * columns) cells)) j
+    ≡ slice_index cells (word * WORD_COLUMNS + j)
+word-cells cells word columns j same few =
+    let many : word * WORD_COLUMNS + WORD_COLUMNS - word * WORD_COLUMNS ≡ WORD_COLUMNS =
+    omega arith in
+    rw (same, many) (get_or-take WORD_COLUMNS (drop (word * WORD_COLUMNS) cells) j 0 few
+    ∙ get_or-drop (word * WORD_COLUMNS) cells j 0)
 
 -- ---- which words of a row are not zero
 

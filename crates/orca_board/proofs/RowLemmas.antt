@@ -1,10 +1,11 @@
 -- Cells that are written and emptied row by row.
-use Rattle.std.proofs.Common.{◌≡◌, ℕ, ◌+◌, ◌-◌, ◌*◌, ◌<◌, ◌≤◌, Bool, true, false, ◌&&◌, List, length, length-drop, get_or, take, drop, subst, refl, arith, ap, sym, ◌∙◌, inl, inr}
+use Rattle.std.proofs.Common.{◌≡◌, ℕ, ◌+◌, ◌-◌, ◌*◌, ◌<◌, ◌≤◌, Bool, true, false, ◌&&◌, List, length, length-drop, get_or, take, drop, subst, refl, arith, ap, sym, ◌∙◌, inl, inr, rules}
+use borrow.Rule.Slice.PartMut.{put_mid}
 use Rattle.std.proofs.Math.ListN.{set}
 use Rattle.std.specs.Prelude.{if◌then◌else◌, nat_le, nat_lt, slice_index}
 use Rattle.std.proofs.lemmas.Bool.{and_parts, both_ways, cases_Bool, cases_lt, le-leb, le-ltb, leb-true, lt-ltb, ltb-true}
 use Rattle.std.proofs.lemmas.Bool.Decides.{eqb_tells}
-use Rattle.std.proofs.lemmas.List.{get_or-drop, get_or-set_other, get_or-set_same, get_or-take, length-take-le}
+use Rattle.std.proofs.lemmas.List.{places, get_or-drop, get_or-set_other, get_or-set_same, get_or-take, length-take-le}
 use Rattle.orca_base.specs.declared.limits.TheConstants.{MAX_CELLS, MAX_COLUMNS}
 use Rattle.orca_base.specs.declared.place.Place.{Place}
 use Rattle.orca_base.specs.Glyphs.{AreGlyphs, IsGlyph, empty}
@@ -14,6 +15,11 @@ use Rattle.orca_base.proofs.SheetFacts.{IsGlyph-index}
 use Rattle.orca_board.specs.Board.{IsEmptyOutside, cell_in}
 use Rattle.orca_board.proofs.BoardLemmas.{inside-largest, most_size}
 use Rattle.orca_board.proofs.RunLemmas.{row-fits}
+
+-- a cell of a run that was written over
+pub put_at : (first many : ℕ) (cells run : List ℕ) (i : ℕ) → first ≤ length cells → i < length run
+    → slice_index (put_mid first many cells run) (first + i) ≡ slice_index run i
+put_at first many cells run i inside few = search (rules, places)
 
 -- one cell more is empty
 pub emptied-more : (cells initial : List ℕ) (first i n : ℕ) → first ≤ i → i < length cells

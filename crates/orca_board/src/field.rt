@@ -6,7 +6,7 @@ ghost use Rattle.orca_board.specs.Listing.{places_of};
 ghost use Rattle.orca_board.specs.Sizes.{cut_places, slate_after_resize, slate_reverted, with_sheet};
 ghost use Rattle.orca_base.specs.Glyphs.{AreGlyphs, IsGlyph, bang, empty};
 ghost use Rattle.orca_base.specs.MarkSet.{is_marked};
-ghost use Rattle.orca_base.specs.declared.limits.TheConstants.{MAX_CELLS, MAX_COLUMNS};
+ghost use Rattle.orca_base.specs.declared.limits.TheConstants.{MAX_CELLS, MAX_COLUMNS, MAX_ROWS};
 ghost use Rattle.orca_board.specs.declared.field.TheConstants.{GROUP};
 ghost use Rattle.orca_board.specs.Board.{AreLive, IsEmptyOutside, cell_in, cell_marks};
 ghost use Rattle.orca_op.specs.Live.{has_bit};
@@ -16,7 +16,9 @@ ghost use Rattle.orca_op.specs.State.{state_glyph, has_bang, peek, sheet_of};
 use crate::blocks;
 use crate::listing::Listing;
 use crate::live_bits::LiveBits;
-use orca_base::limits::{BASE, MAX_CELLS, MAX_COLUMNS, MAX_EVENTS, MAX_ROWS};
+use orca_base::limits::{
+    BASE, MAX_CELLS, MAX_COLUMNS, MAX_EVENTS, MAX_ROWS, ROW_WORDS, WORD_COLUMNS,
+};
 use orca_base::{Change, Dims, Event, Glyph, Look, Marks, Memory, Place, Spot, Steps};
 use orca_grid::Grid;
 use orca_marks::MarkPlane;
@@ -271,26 +273,30 @@ fn lay(cells: &mut [Glyph], live: &mut LiveBits, dims: Dims, glyphs: &[Glyph])
     for row in 0..usize::from(dims.h) {
         let first = row * columns;
         let glyphs = &glyphs[first..first + columns];
-        lay_row(cells, live, row * usize::from(MAX_COLUMNS), glyphs);
+        lay_row(cells, live, row, glyphs);
     }
 }
 
-/// Writes glyphs into the cells from a number on.
-fn lay_row(cells: &mut [Glyph], live: &mut LiveBits, first: usize, glyphs: &[Glyph])
+/// Writes glyphs into the first cells of a row, and sets the bits of their words.
+fn lay_row(cells: &mut [Glyph], live: &mut LiveBits, row: usize, glyphs: &[Glyph])
     requires whole { length cells.old ≡ MAX_CELLS }
-    requires fits { first + length glyphs.now ≤ MAX_CELLS }
+    requires row { row < MAX_ROWS }
+    requires fits { length glyphs.now ≤ MAX_COLUMNS }
     requires live { AreLive cells.old live.old }
     ensures whole { length cells.new ≡ MAX_CELLS }
     ensures glyphs { AreGlyphs glyphs.now }
     ensures cells { (n : ℕ) → slice_index cells.new n
-        ≡ (if nat_le first n && nat_lt n (first + length glyphs.now)
-        then slice_index glyphs.now (n - first) else slice_index cells.old n) }
+        ≡ (if nat_le (row * MAX_COLUMNS) n && nat_lt n (row * MAX_COLUMNS + length glyphs.now)
+        then slice_index glyphs.now (n - row * MAX_COLUMNS) else slice_index cells.old n) }
     ensures live { AreLive cells.new live.new }
 {
-    for k in 0..glyphs.len() {
-        // Most cells of a grid are empty, as they were, and their bits are off.
-        let old = cells[first + k];
-        renew(cells, live, first + k, old, glyphs[k]);
+    let first = row * usize::from(MAX_COLUMNS);
+    cells[first..first + glyphs.len()].copy_from_slice(glyphs);
+    let columns = usize::from(WORD_COLUMNS);
+    let words = (glyphs.len() + (columns - 1)) / columns;
+    for k in 0..words {
+        let word = row * ROW_WORDS + k;
+        live.set_word(word, &cells[word * columns..word * columns + columns]);
     }
 }
 

@@ -1,11 +1,12 @@
-ghost use Rattle.std.specs.Prelude.{ℕ, ◌≡◌, ◌+◌, ◌-◌, ◌*◌, ◌/◌, ◌%◌, ◌<◌, ◌≤◌, ◌==◌, Bool, false, length, ◌&&◌, if◌then◌else◌, nat_lt, IfOk};
+ghost use Rattle.std.specs.Prelude.{ℕ, ◌≡◌, ◌+◌, ◌-◌, ◌*◌, ◌/◌, ◌%◌, ◌<◌, ◌≤◌, ◌==◌, Bool, false, length, ◌&&◌, if◌then◌else◌, nat_lt, IfOk, slice_index, slice_set};
 ghost use Rattle.std.specs.Int.{bit_at};
-ghost use Rattle.orca_base.specs.declared.limits.TheConstants.{MAX_CELLS, MAX_COLUMNS, MAX_ROWS, WORD_COLUMNS};
+ghost use Rattle.orca_base.specs.Glyphs.{IsGlyph, is_operator};
+ghost use Rattle.orca_base.specs.declared.limits.TheConstants.{LIVE_WORDS, MAX_CELLS, MAX_COLUMNS, MAX_ROWS, WORD_COLUMNS};
 ghost use Rattle.orca_op.specs.Live.{has_bit, IsSummary};
 ghost use Rattle.orca_board.specs.LiveBits.{AreLiveBits, no_bits};
 
-use orca_base::Memory;
 use orca_base::limits::{LIVE_WORDS, MAX_ROWS, ROW_WORDS, WORD_COLUMNS};
+use orca_base::{Glyph, Memory};
 use std::alloc::Global;
 use std::marker::Model;
 
@@ -52,6 +53,28 @@ impl LiveBits {
         let word = number / usize::from(WORD_COLUMNS);
         let bit = (number % usize::from(WORD_COLUMNS)) as u16;
         let bits = with_bit(self.words[word], bit, on);
+        self.store(word, bits);
+    }
+
+    /// Sets the bits of one word by its cells. It stores the word once, where `set` would store it for
+    /// each of them.
+    pub fn set_word(&mut self, word: usize, cells: &[Glyph])
+        requires number { word < LIVE_WORDS }
+        requires whole { length cells.now ≡ WORD_COLUMNS }
+        ensures glyphs { (k : ℕ) → k < WORD_COLUMNS → IsGlyph (slice_index cells.now k) }
+        ensures bits { (n : ℕ) → has_bit self.new n ≡ (if n / WORD_COLUMNS == word
+            then is_operator (slice_index cells.now (n % WORD_COLUMNS)) else has_bit self.old n) }
+    {
+        let bits = operator_bits(cells);
+        self.store(word, bits);
+    }
+
+    /// Stores a word, and its bit of the row's summary with it.
+    fn store(&mut self, word: usize, bits: u64)
+        requires { word < LIVE_WORDS }
+        ensures whole { length self.old ≡ LIVE_WORDS }
+        ensures stored { self.new ≡ slice_set self.old word bits }
+    {
         self.words[word] = bits;
         let row = word / ROW_WORDS;
         self.rows[row] = with_bit(self.rows[row], (word % ROW_WORDS) as u16, bits != 0);
@@ -81,6 +104,23 @@ impl LiveBits {
     }
 }
 
+/// The word whose bits are set exactly where a cell holds an operator.
+fn operator_bits(cells: &[Glyph]) -> u64
+    requires { length cells.now ≡ WORD_COLUMNS }
+    ensures glyphs { (k : ℕ) → k < WORD_COLUMNS → IsGlyph (slice_index cells.now k) }
+    ensures bits { (k : ℕ) → k < WORD_COLUMNS
+        → (bit_at result k == 1) ≡ is_operator (slice_index cells.now k) }
+{
+    let mut word = 0;
+    for k in 0..WORD_COLUMNS {
+        let cell = cells[usize::from(k)];
+        // For the proof alone: the byte of a cell is one of a glyph.
+        let _byte = cell.byte();
+        word = or_bit(word, k, cell.is_operator());
+    }
+    word
+}
+
 /// The word with this bit set or taken away.
 fn with_bit(word: u64, bit: u16, on: bool) -> u64
     requires { bit < WORD_COLUMNS }
@@ -93,6 +133,17 @@ fn with_bit(word: u64, bit: u16, on: bool) -> u64
     } else {
         (word | alone) ^ alone
     }
+}
+
+/// The word with this bit, which was not set, set where `on` is. There is no branch, since nobody can
+/// tell which cells of a full grid hold an operator.
+fn or_bit(word: u64, bit: u16, on: bool) -> u64
+    requires place { bit < WORD_COLUMNS }
+    requires off { bit_at word bit ≡ 0 }
+    ensures here { (bit_at result bit == 1) ≡ on }
+    ensures other { (k : ℕ) → (k == bit) ≡ false → bit_at result k ≡ bit_at word k }
+{
+    word | (u64::from(on) << bit)
 }
 
 /// The summary of a row, whose words stand in the contract alone.

@@ -29,7 +29,7 @@ loop-row-preserved c =
       few = omega (arith, rows, c.from-row-end.ensures, c.loop-row-test.true);
       whole = c.requires.size;
       is_part = part-is c.loop-row.row c.from-columns.result c.args.dims.w c.args.glyphs.now columns;
-      cells = rw c.from.ensures at c.lay_row.ensures.cells;
+      cells = c.lay_row.ensures.cells;
     } in
     record {
       whole = c.lay_row.ensures.whole;

@@ -1,22 +1,13 @@
 use Rattle.std.proofs.Common.{◌/◌, ◌∙◌, ap, arith}
 use Rattle.std.specs.Int.{bit_at}
 use Rattle.std.proofs.lemmas.Grind.{get_or_default_zero}
-use Rattle.orca_base.specs.declared.limits.TheConstants.{ROW_WORDS, WORD_COLUMNS}
-use Rattle.orca_board.proofs.LiveBitsLemmas.{bit-written, word-written}
+use Rattle.orca_base.specs.declared.limits.TheConstants.{WORD_COLUMNS}
+use Rattle.orca_board.proofs.LiveBitsLemmas.{bit-written}
 use Rattle.orca_board.proofs.live_bits.LiveBits.set.Goals as goal
-
-pub invariant_of-self : goal.invariant_of-self
-invariant_of-self c =
-    word-written _ _ (c.args.number / c.from.result) _ _ c.self.invariant
-    (rw c.from.ensures (omega (arith, c.requires))) c.with_bit.ensures.here
-    (λ k differ. c.with_bit.ensures.other k differ ∙ ap (λ n. bit_at n k) (c.index-2.ensures
-    ∙ get_or_default_zero c.self.inside.rows.items (c.args.number / c.from.result / ROW_WORDS)
-    c.index-2.result.now
-    (rw c.from.ensures (omega (arith, c.requires, c.self.invariant.rows_whole)))))
 
 pub returns : goal.returns
 returns c n =
-    rw (c.from.ensures, ← c.self.view_is) (bit-written _ c.args.number _ c.args.on n
+    rw (c.store.ensures.stored, c.from.ensures, ← c.self.view_is) (bit-written _ c.args.number _ c.args.on n
     (omega (arith, c.requires, c.self.invariant.words_whole))
     (rw c.from-2.ensures at c.with_bit-bits.ensures.here)
     (λ k differ. (rw c.from-2.ensures at c.with_bit-bits.ensures.other) k differ
