@@ -56,8 +56,7 @@ impl LiveBits {
         self.store(word, bits);
     }
 
-    /// Sets the bits of one word by its cells. It stores the word once, where `set` would store it for
-    /// each of them.
+    /// Sets the bits of one word by its cells. The word is stored once for all of them.
     pub fn set_word(&mut self, word: usize, cells: &[Glyph])
         requires number { word < LIVE_WORDS }
         requires whole { length cells.now ≡ WORD_COLUMNS }
@@ -135,8 +134,8 @@ fn with_bit(word: u64, bit: u16, on: bool) -> u64
     }
 }
 
-/// The word with this bit, which was not set, set where `on` is. There is no branch, since nobody can
-/// tell which cells of a full grid hold an operator.
+/// The word with this bit, which was not set, set where `on` is. A branch would be guessed wrong at
+/// many cells, so there is none.
 fn or_bit(word: u64, bit: u16, on: bool) -> u64
     requires place { bit < WORD_COLUMNS }
     requires off { bit_at word bit ≡ 0 }

@@ -55,27 +55,6 @@ glyph-cell ended begun byte p =
     rw (get_or-push_if ended (begun ++ byte ∷ []) [] p.y, get_or-push_if ended begun [] p.y)
     (glyph-by (p.y == length ended) (get_or ended p.y []) begun byte p.x)
 
--- an empty cell more
-empty-by : (same : Bool) (row begun : List ℕ) (byte x : ℕ) → glyph_of byte ≡ empty
-    → get_or (map glyph_of (if same then begun ++ byte ∷ [] else row)) x empty
-    ≡ get_or (map glyph_of (if same then begun else row)) x empty
-empty-by true row begun byte x is =
-    rw (map_push glyph_of begun byte, is)
-    (get_or-push_if (map glyph_of begun) empty empty x ∙ past (map glyph_of begun) x)
-  where
-    past : (xs : List ℕ) (n : ℕ) → (if n == length xs then empty else get_or xs n empty)
-        ≡ get_or xs n empty
-    past xs n = grind (arith, common_steps, nat_tests, get_or_past)
-empty-by false row begun byte x is = refl
-
-glyph-empty : (ended : List (List ℕ)) (begun : List ℕ) (byte : ℕ) (p : Place)
-    → glyph_of byte ≡ empty
-    → glyph_of_rows (ended ++ (begun ++ byte ∷ []) ∷ []) p ≡ glyph_of_rows (ended ++ begun ∷ []) p
-unfolding glyph_of_rows
-glyph-empty ended begun byte p is =
-    rw (get_or-push_if ended (begun ++ byte ∷ []) [] p.y, get_or-push_if ended begun [] p.y)
-    (empty-by (p.y == length ended) (get_or ended p.y []) begun byte p.x is)
-
 glyph-last : (ended : List (List ℕ)) (begun : List ℕ) (p : Place)
     → glyph_of_rows (ended ++ begun ∷ []) p ≡ glyph_of_rows (ended ++ last_row begun) p
 glyph-last ended [] p = rw (append-nil ended) (glyph-row ended p)
@@ -130,17 +109,6 @@ shows-cell d ended begun byte old new at glyph inside is_at is put shows =
       each = λ p within.
           let written = index-set d old.cells at p glyph shows.whole inside within in
           rw (cells, written, shows.each p within, glyph-cell ended begun byte p, is, is_at) refl;
-    }
-
--- an empty cell more, which a place after the row that has begun holds already
-pub shows-empty : (d : Size) (ended : List (List ℕ)) (begun : List ℕ) (byte : ℕ) (g : Sheet)
-    → glyph_of byte ≡ empty → Shows d (ended ++ begun ∷ []) g
-    → Shows d (ended ++ (begun ++ byte ∷ []) ∷ []) g
-shows-empty d ended begun byte g is shows =
-    record {
-      dims = shows.dims;
-      whole = shows.whole;
-      each = λ p within. shows.each p within ∙ sym (glyph-empty ended begun byte p is);
     }
 
 pub shows-sheet : (rows : List (List ℕ)) (g : Sheet) → IsSize (size_of_rows rows)

@@ -77,12 +77,10 @@ fn fill(grid: &mut Grid, bytes: &[u8])
 {
     let mut at = Place { y: 0, x: 0 };
     for byte in bytes {
-        // Most cells are empty, as those of a blank grid are.
-        if *byte == b'.' {
-            at.x += 1;
-        } else if *byte == b'\n' {
+        if *byte == b'\n' {
             at = Place { y: at.y + 1, x: 0 };
         } else if let Some(glyph) = cell(*byte) {
+            // An empty cell is written too: a branch for it would be guessed wrong at many cells.
             grid.set(at, glyph);
             at.x += 1;
         }

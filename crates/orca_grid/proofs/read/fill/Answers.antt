@@ -1,14 +1,11 @@
-use Rattle.std.proofs.Common.{true, false, ◌≡◌, length, refl, ap, sym, ◌∙◌, arith}
-use Rattle.std.specs.Prelude.{slice_index}
+use Rattle.std.proofs.Common.{true, false, ◌≡◌, length, refl, sym, ◌∙◌, arith}
 use Rattle.std.proofs.lemmas.Bool.{eq-eqb, ne_eqb}
 use Rattle.std.proofs.lemmas.Option.{cond_some}
 use Rattle.std.proofs.lemmas.List.{length_push}
-use Rattle.orca_grid.specs.GridText.{glyph_of, is_cell}
-use Rattle.orca_grid.proofs.Lines.{cell_is_no_end}
 use Rattle.orca_grid.proofs.Reading.{reading-more}
-use Rattle.orca_grid.proofs.Filling.{shows-row, shows-cell, shows-empty, cond_none, fills-start, fills-inside, fills-more, fills-end}
+use Rattle.orca_grid.proofs.Filling.{shows-row, shows-cell, cond_none, fills-start, fills-inside, fills-more, fills-end}
 use Rattle.orca_grid.proofs.read.fill.Goals as goal
-use Rattle.orca_grid.proofs.read.fill.Goals.{then-byte-eq46, else-byte-eq46+then-byte-eq10, else-byte-eq46+else-byte-eq10+in-Some, else-byte-eq46+else-byte-eq10+in_default}
+use Rattle.orca_grid.proofs.read.fill.Goals.{then-byte-eq10, else-byte-eq10+in-Some, else-byte-eq10+in_default}
 
 pub loop-byte-init : goal.loop-byte-init
 loop-byte-init c =
@@ -24,19 +21,12 @@ pub loop-byte-preserved : goal.loop-byte-preserved
 loop-byte-preserved c =
     let fills = c.loop-byte.invariant in
     let h = c.loop-byte-test.true in
-    elim c.if-byte-eq46.branch [
-      | then-byte-eq46 w ↦
-          let cell : is_cell (slice_index c.args.bytes.now c.loop-byte.byte-index) ≡ true =
-          ap is_cell w.if-byte-eq46.true in
-          let next = reading-more false true _ _ (cell_is_no_end _ cell) cell in
-          let place = w.at-is ∙ rw (fills.at_is, length_push) refl in
-          let shows = shows-empty _ _ _ _ _ (ap glyph_of w.if-byte-eq46.true) fills.shows in
-          fills-more _ _ _ _ _ _ _ fills h next place (rw w.grid-is shows)
-      | else-byte-eq46+then-byte-eq10 w ↦
+    elim c.if-byte-eq10.branch [
+      | then-byte-eq10 w ↦
           let next = reading-more true _ _ _ (eq-eqb _ 10 w.if-byte-eq10.true) refl in
           let place = w.at-is ∙ rw (fills.at_is, length_push) refl in
           fills-more _ _ _ _ _ _ _ fills h next place (rw w.grid-is (shows-row _ _ _ fills.shows))
-      | else-byte-eq46+else-byte-eq10+in-Some w ↦
+      | else-byte-eq10+in-Some w ↦
           let cell = cond_some _ _ _ (sym w.in-Some.ensures) in
           let next = reading-more false true _ _ (ne_eqb _ 10 w.if-byte-eq10.false) cell.0 in
           let place = w.at-is ∙ rw (fills.at_is, length_push) refl in
@@ -44,7 +34,7 @@ loop-byte-preserved c =
           let set = w.set.ensures in
           let shows = shows-cell _ _ _ _ _ _ _ _ inside fills.at_is cell.1 set fills.shows in
           fills-more _ _ _ _ _ _ _ fills h next place (rw w.grid-is shows)
-      | else-byte-eq46+else-byte-eq10+in_default w ↦
+      | else-byte-eq10+in_default w ↦
           let none = cond_none _ _ (sym w.cell.ensures ∙ w.in_default.is) in
           let next = reading-more false false _ _ (ne_eqb _ 10 w.if-byte-eq10.false) none in
           fills-more _ _ _ _ _ _ _ fills h next (w.at-is ∙ fills.at_is) (rw w.grid-is fills.shows)

@@ -7,7 +7,8 @@ use Rattle.orca_board.proofs.live_bits.LiveBits.set.Goals as goal
 
 pub returns : goal.returns
 returns c n =
-    rw (c.store.ensures.stored, c.from.ensures, ← c.self.view_is) (bit-written _ c.args.number _ c.args.on n
+    rw (c.store.ensures.stored, c.from.ensures, ← c.self.view_is)
+    (bit-written _ c.args.number _ c.args.on n
     (omega (arith, c.requires, c.self.invariant.words_whole))
     (rw c.from-2.ensures at c.with_bit-bits.ensures.here)
     (λ k differ. (rw c.from-2.ensures at c.with_bit-bits.ensures.other) k differ
