@@ -1,10 +1,12 @@
 -- What was done by calls, and then by others.
 use Rattle.std.proofs.Common.{◌≡◌, List, [], ◌∷◌, ◌++◌, refl, append_assoc, arith}
-use Rattle.std.specs.Prelude.{Bool, ◌||◌}
+use Rattle.std.specs.Prelude.{ℕ, Bool, None, ◌||◌, IfSome, OnOk, Result, Ok, Err}
 use Rattle.std.specs.List.{list_any}
 use Rattle.std.proofs.lemmas.List.Sums.{fold-append}
+use Rattle.orca_rig.specs.declared.fault.OutsideFault.{OutsideFault}
 use Rattle.orca_trace.specs.Calls.{Call}
-use Rattle.orca_course.specs.Answered.{done_in, is_inbox_fault, is_last_poll, no_outcomes, outcomes_by, outcomes_of, refused_in}
+use Rattle.orca_trace.specs.Calls.Call.{Listen}
+use Rattle.orca_course.specs.Answered.{done_in, is_inbox_fault, is_last_poll, no_outcomes, outcomes_by, outcomes_of, refused_in, seats_by, seats_of}
 use Rattle.orca_course.proofs.ActLemmas.{ended_after, lost_after}
 
 pub done_in-append : (xs ys : List Call) → done_in (xs ++ ys) ≡ done_in xs ++ done_in ys
@@ -20,6 +22,18 @@ pub outcomes_more : (calls : List Call) (call : Call)
     → outcomes_of (calls ++ call ∷ []) ≡ outcomes_by (outcomes_of calls) call
 unfolding outcomes_of
 outcomes_more calls call = fold-append outcomes_by no_outcomes calls (call ∷ [])
+
+pub seats_more : (calls : List Call) (call : Call)
+    → seats_of (calls ++ call ∷ []) ≡ seats_by (seats_of calls) call
+unfolding seats_of
+seats_more calls call = fold-append seats_by None calls (call ∷ [])
+
+-- where the inbox listens
+pub seats_listened : (calls : List Call) (name : List ℕ) (hands count : ℕ)
+    (answer : Result ℕ OutsideFault) → OnOk answer (count ≡ hands)
+    → IfSome (seats_of (calls ++ Listen name hands answer ∷ [])) (λ seats. count ≡ seats)
+seats_listened calls name hands count (Ok at) same = rw seats_more same
+seats_listened calls name hands count (Err fault) same = rw seats_more tt
 
 -- the inbox has failed at a call exactly if it has by what the calls did
 pub lost_after-done : (calls : List Call) (b : Bool)

@@ -6,10 +6,10 @@ use Rattle.std.specs.List.{count_by}
 use Rattle.std.specs.Prelude.{Bool}
 use Rattle.orca_course.specs.Acts.{Act, given}
 use Rattle.orca_trace.specs.Calls.{Call}
-use Rattle.orca_course.specs.Told.{Listened, asked_in, attached_in, counts_in, listened_after}
+use Rattle.orca_course.specs.Told.{Listened, asked_in, attached_in, counts_in, listened_after, told_in}
 use Rattle.orca_course.specs.Worlds.{AreCounted, Stores, World}
 use Rattle.orca_course.proofs.ActLemmas.{given-append, polls_in-append}
-use Rattle.orca_course.proofs.AnsweredLemmas.{done_in-append}
+use Rattle.orca_course.proofs.AnsweredLemmas.{done_in-append, seats_more}
 use Rattle.orca_course.proofs.WorldLemmas.{IsNext}
 
 pub attached_in-append : (xs ys : List Act)
@@ -25,6 +25,10 @@ pub listened_after-append : (xs ys : List Act) (before : Listened)
     → listened_after (xs ++ ys) before ≡ listened_after ys (listened_after xs before)
 listened_after-append [] ys before = refl
 listened_after-append (x ∷ xs) ys before = grind (arith, listened_after-append xs ys)
+
+pub told_in-append : (xs ys : List Act) → told_in (xs ++ ys) ≡ told_in xs ++ told_in ys
+told_in-append [] ys = refl
+told_in-append (x ∷ xs) ys = grind (arith, told_in-append xs ys)
 
 pub counts_in-append : (n : ℕ) (xs ys : List Act)
     → counts_in n (xs ++ ys) ≡ counts_in n xs ++ counts_in (n + length (given xs)) ys
@@ -53,5 +57,7 @@ pub ruleset one_more = (
   listened_after-append,
   counts_in-append,
   count_by-append,
+  told_in-append,
+  seats_more,
   append-nil,
 )

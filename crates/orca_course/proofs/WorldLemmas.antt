@@ -16,7 +16,7 @@ use Rattle.orca_rig.specs.declared.fault.OutsideFault.TheVariants.{Memory}
 use Rattle.orca_trace.specs.Calls.{Call}
 use Rattle.orca_trace.specs.Calls.Call.{Await as CallAwait, Give as CallGive}
 use Rattle.orca_course.specs.Acts.{Act, ArePrintable, AreUntold, calls_in, given}
-use Rattle.orca_course.specs.Acts.Act.{Append, Await, Begin, Give, Learn, Load, Obey, Save, Screen, Show, Stand, Strike}
+use Rattle.orca_course.specs.Acts.Act.{Append, Await, Begin, Claim, Give, Learn, Load, Obey, Remove, Save, Screen, Show, Stand, Strike}
 use Rattle.orca_course.specs.Answered.{losses_of, done_in, is_file_fault, refused_in}
 use Rattle.orca_course.specs.Standings.{Standing}
 use Rattle.orca_course.specs.Worlds.{AreCalled, AreCounted, AreStored, Called, Counts, IsCounted, Learns, Made, Polled, Sated, Stores, Unsent, Wants, World, has_ended, has_failed, is_lost, is_unstored, owing}
@@ -260,13 +260,15 @@ ended_made {acts = acts} {x = x} made =
     rw (called.1, list_any-append, ← ended_after-done, called.2)
     (ended_after-calls acts (has_ended x))
 
--- no load among acts has failed, and nothing is saved, begun or added
+-- no load or claim among acts has failed, and nothing is saved, begun, added or taken away
 abbrev pub AreSafe : List Act → Type 0
 AreSafe [] = Unit {0}
 AreSafe (Load name None ∷ acts) = ⊥
 AreSafe (Save name bytes ∷ acts) = ⊥
 AreSafe (Begin name bytes ∷ acts) = ⊥
 AreSafe (Append name bytes ∷ acts) = ⊥
+AreSafe (Claim name bytes None ∷ acts) = ⊥
+AreSafe (Remove name ∷ acts) = ⊥
 AreSafe (_ ∷ acts) = AreSafe acts
 
 safe_calls : (calls : List Call) → AreSafe (done_in calls) → list_any is_file_fault calls ≡ false

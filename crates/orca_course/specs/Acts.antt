@@ -4,6 +4,7 @@ use Rattle.orca_base.specs.declared.command.Command.{Command}
 use Rattle.orca_base.specs.declared.port.Port.{Port}
 use Rattle.orca_base.specs.declared.port.Port.TheVariants as port
 use Rattle.orca_base.specs.Ports.{Sent}
+use Rattle.orca_rig.specs.declared.files.Claim.{Claim as Claimed}
 use Rattle.orca_rig.specs.Handed.{Attached}
 use Rattle.orca_trace.specs.Calls.{Poll}
 use Rattle.orca_term.specs.Picture.{IsPrintable}
@@ -27,6 +28,12 @@ pub data Act : Type 0 where
   Begin : List ℕ → List ℕ → Act
   -- these bytes are added to the file of a name
   Append : List ℕ → List ℕ → Act
+  -- a file of a name is claimed with these bytes: whether it was made, unless that fails
+  Claim : List ℕ → List ℕ → Option Claimed → Act
+  -- the file of a name is taken away
+  Remove : List ℕ → Act
+  -- these bytes are told to a hand
+  Tell : ℕ → List ℕ → Act
   -- the inbox listens at a name for so many hands; and the moment that it answers, unless it fails
   Listen : List ℕ → ℕ → Option ℕ → Act
   -- a poll of the inbox, with its answer

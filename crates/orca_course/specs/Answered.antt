@@ -1,5 +1,5 @@
 -- What calls did, by what they answered.
-use Rattle.std.specs.Prelude.{Bool, true, false, ◌||◌, List, [], ◌∷◌, ◌++◌, fold, Option, Some, Ok, Err}
+use Rattle.std.specs.Prelude.{ℕ, Bool, true, false, ◌||◌, List, [], ◌∷◌, ◌++◌, fold, Option, Some, None, Ok, Err}
 use Rattle.std.specs.Result.{result_ok}
 use Rattle.orca_base.specs.declared.port.Port.{Port}
 use Rattle.orca_base.specs.declared.port.Port.TheVariants as port
@@ -9,9 +9,9 @@ use Rattle.orca_rig.specs.declared.fault.OutsideFault.TheVariants.{Failed, Memor
 use Rattle.orca_rig.specs.declared.inbox.Answer.{Answer}
 use Rattle.orca_rig.specs.declared.inbox.Answer.TheVariants as answer
 use Rattle.orca_trace.specs.Calls.{Call, fault_of}
-use Rattle.orca_trace.specs.Calls.Call.{Append as CallAppend, Attach as CallAttach, Await as CallAwait, Begin as CallBegin, Give as CallGive, Listen as CallListen, Load as CallLoad, Save as CallSave}
+use Rattle.orca_trace.specs.Calls.Call.{Append as CallAppend, Attach as CallAttach, Await as CallAwait, Begin as CallBegin, Claim as CallClaim, Give as CallGive, Listen as CallListen, Load as CallLoad, Remove as CallRemove, Save as CallSave, Tell as CallTell}
 use Rattle.orca_course.specs.Acts.{Act}
-use Rattle.orca_course.specs.Acts.Act.{Append, Attach, Await, Begin, Give, Listen, Load, Save}
+use Rattle.orca_course.specs.Acts.Act.{Append, Attach, Await, Begin, Claim, Give, Listen, Load, Remove, Save, Tell}
 use Rattle.orca_course.specs.declared.item.Losses.{Losses}
 use Rattle.orca_course.specs.declared.notes.Outcomes.{Outcomes}
 use Rattle.orca_course.specs.declared.notes.Ports.{Ports}
@@ -24,6 +24,9 @@ act_of (CallLoad name answer) = Load name (result_ok answer)
 act_of (CallSave name bytes answer) = Save name bytes
 act_of (CallBegin name bytes answer) = Begin name bytes
 act_of (CallAppend name bytes answer) = Append name bytes
+act_of (CallClaim name bytes answer) = Claim name bytes (result_ok answer)
+act_of (CallRemove name answer) = Remove name
+act_of (CallTell hand bytes answer) = Tell hand bytes
 act_of (CallListen name hands answer) = Listen name hands (result_ok answer)
 act_of (CallAwait poll) = Await poll
 
@@ -60,6 +63,8 @@ is_file_fault (CallLoad name (Err Failed)) = true
 is_file_fault (CallSave name bytes (Err Failed)) = true
 is_file_fault (CallBegin name bytes (Err Failed)) = true
 is_file_fault (CallAppend name bytes (Err Failed)) = true
+is_file_fault (CallClaim name bytes (Err Failed)) = true
+is_file_fault (CallRemove name (Err Failed)) = true
 is_file_fault other = false
 
 -- whether a port was refused memory
@@ -74,11 +79,14 @@ is_file_want (CallLoad name (Err Memory)) = true
 is_file_want (CallSave name bytes (Err Memory)) = true
 is_file_want (CallBegin name bytes (Err Memory)) = true
 is_file_want (CallAppend name bytes (Err Memory)) = true
+is_file_want (CallClaim name bytes (Err Memory)) = true
+is_file_want (CallRemove name (Err Memory)) = true
 is_file_want other = false
 
 -- whether the inbox was refused it
 abbrev pub is_inbox_want : Call → Bool
 is_inbox_want (CallListen name hands (Err Memory)) = true
+is_inbox_want (CallTell hand bytes (Err Memory)) = true
 is_inbox_want other = false
 
 -- whether an answer of the inbox is a failure
@@ -97,6 +105,16 @@ abbrev pub is_listen : Call → Bool
 is_listen (CallListen name hands answer) = true
 is_listen other = false
 
+-- how many hands there are after a call: those that the inbox listened for, once it did
+abbrev pub seats_by : Option ℕ → Call → Option ℕ
+seats_by seats (CallListen name hands (Ok at)) = Some hands
+seats_by seats (CallListen name hands (Err fault)) = None
+seats_by seats other = seats
+
+-- and after calls
+unfoldable pub seats_of : List Call → Option ℕ
+seats_of calls = fold seats_by None calls
+
 -- whether a call is a poll with a last answer
 abbrev pub is_last_poll : Call → Bool
 is_last_poll (CallAwait poll) = is_ending poll.answer
@@ -114,8 +132,8 @@ ports_with port.Fault holds ports = ports
 ports_with port.View holds ports = ports
 
 -- after a call: of which ports the last attach has failed, and of which the last send; whether a
--- begin or an append has failed; and whether the last save has. What was refused memory counts for
--- nothing
+-- begin or an append has failed, whether the last save has, and whether the files ever have. What was
+-- refused memory counts for nothing
 unfoldable pub outcomes_by : Outcomes → Call → Outcomes
 outcomes_by o (CallAttach attached (Ok done)) =
     record o { unattached = ports_with attached.port false o.unattached }
@@ -126,17 +144,25 @@ outcomes_by o (CallGive sent (Ok done)) =
 outcomes_by o (CallGive sent (Err Failed)) =
     record o { unsent = ports_with sent.port true o.unsent }
 outcomes_by o (CallSave name bytes (Ok done)) = record o { unsaved = false }
-outcomes_by o (CallSave name bytes (Err Failed)) = record o { unsaved = true }
-outcomes_by o (CallBegin name bytes (Err Failed)) = record o { journal = true }
-outcomes_by o (CallAppend name bytes (Err Failed)) = record o { journal = true }
+outcomes_by o (CallLoad name (Err Failed)) = record o { unstored = true }
+outcomes_by o (CallSave name bytes (Err Failed)) = record o { unsaved = true; unstored = true }
+outcomes_by o (CallBegin name bytes (Err Failed)) = record o { journal = true; unstored = true }
+outcomes_by o (CallAppend name bytes (Err Failed)) = record o { journal = true; unstored = true }
+outcomes_by o (CallClaim name bytes (Err Failed)) = record o { unstored = true }
+outcomes_by o (CallRemove name (Err Failed)) = record o { unstored = true }
 outcomes_by o other = o
 
 abbrev pub no_ports : Ports
 no_ports = record { midi = false; udp = false; osc = false }
 
 abbrev pub no_outcomes : Outcomes
-no_outcomes =
-    record { unattached = no_ports; unsent = no_ports; journal = false; unsaved = false }
+no_outcomes = record {
+  unattached = no_ports;
+  unsent = no_ports;
+  journal = false;
+  unsaved = false;
+  unstored = false;
+}
 
 unfoldable pub outcomes_of : List Call → Outcomes
 outcomes_of calls = fold outcomes_by no_outcomes calls
@@ -148,6 +174,7 @@ losses_in o = record {
   osc = o.unattached.osc || o.unsent.osc;
   journal = o.journal;
   unsaved = o.unsaved;
+  unstored = o.unstored;
 }
 
 -- what calls came to

@@ -6,11 +6,11 @@ use Rattle.orca_rig.specs.Arrived.{Log}
 use Rattle.orca_rig.specs.Arrived as arrived
 use Rattle.orca_rig.specs.Handed.{Attached}
 use Rattle.orca_rig.specs.Outside.{Ask, last_count}
-use Rattle.orca_rig.specs.Outside.Ask.{Append as AskAppend, Begin as AskBegin, Load as AskLoad, Save as AskSave}
+use Rattle.orca_rig.specs.Outside.Ask.{Append as AskAppend, Begin as AskBegin, Claim as AskClaim, Load as AskLoad, Remove as AskRemove, Save as AskSave}
 use Rattle.orca_trace.specs.Calls.{Call, Poll}
 use Rattle.orca_course.specs.Acts.{Act, given, polls_in}
-use Rattle.orca_course.specs.Acts.Act.{Append, Attach, Await, Begin, Give, Listen, Load, Save}
-use Rattle.orca_course.specs.Answered.{done_in, is_file_fault, is_file_want, is_inbox_want, is_last_poll, is_listen, is_port_fault, is_port_want}
+use Rattle.orca_course.specs.Acts.Act.{Append, Attach, Await, Begin, Claim, Give, Listen, Load, Remove, Save, Tell}
+use Rattle.orca_course.specs.Answered.{done_in, is_file_fault, is_file_want, is_inbox_want, is_last_poll, is_listen, is_port_fault, is_port_want, seats_of}
 
 -- ---- what objects that tell their calls tell
 
@@ -20,13 +20,15 @@ attached_in [] = []
 attached_in (Attach attached ∷ acts) = attached ∷ attached_in acts
 attached_in (_ ∷ acts) = attached_in acts
 
--- the loads, saves, begins and appends among acts, as a store is asked for them
+-- the calls of files among acts, as a store is asked for them
 abbrev pub asked_in : List Act → List Ask
 asked_in [] = []
 asked_in (Load name text ∷ acts) = AskLoad name ∷ asked_in acts
 asked_in (Save name bytes ∷ acts) = AskSave name bytes ∷ asked_in acts
 asked_in (Begin name bytes ∷ acts) = AskBegin name bytes ∷ asked_in acts
 asked_in (Append name bytes ∷ acts) = AskAppend name bytes ∷ asked_in acts
+asked_in (Claim name bytes claimed ∷ acts) = AskClaim name bytes ∷ asked_in acts
+asked_in (Remove name ∷ acts) = AskRemove name ∷ asked_in acts
 asked_in (_ ∷ acts) = asked_in acts
 
 -- the name and the hands that the inbox was last asked to listen for, and the start that came
@@ -50,10 +52,17 @@ counts_in n (Give sent ∷ acts) = counts_in (n + 1) acts
 counts_in n (Await poll ∷ acts) = n ∷ counts_in n acts
 counts_in n (_ ∷ acts) = counts_in n acts
 
+-- what acts tell the hands
+abbrev pub told_in : List Act → List arrived.Told
+told_in [] = []
+told_in (Tell hand bytes ∷ acts) = record { hand = hand; bytes = bytes } ∷ told_in acts
+told_in (_ ∷ acts) = told_in acts
+
 -- the log of an inbox is that of acts
 pub record IsLogOf (acts : List Act) (log : Log) : Type 0 where
   pub listened : (log.name, log.hands, log.start) ≡ listened_after acts (None, None, None)
   pub polls : map uncounted log.polls ≡ polls_in acts
+  pub told : log.told ≡ told_in acts
 
 -- where the objects tell their calls, these are the acts that the calls of the list did; and each
 -- poll was told how many sends came before it, if that fits
@@ -77,8 +86,10 @@ pub record AreWanted (ports files inbox : ℕ) (calls : List Call) : Type 0 wher
 -- ---- what is recorded
 
 -- what a desk records of its calls, and what its inbox says of itself, is what the list says
-pub record Records (failed unstored listened ended : Bool) (calls : List Call) : Type 0 where
-  pub ports : failed ≡ list_any is_port_fault calls
-  pub files : unstored ≡ list_any is_file_fault calls
-  pub listens : listened ≡ list_any is_listen calls
-  pub ends : ended ≡ list_any is_last_poll calls
+pub record Records (failed unstored listened ended : Bool) (hands : ℕ) (calls : List Call) : Type 0
+  where
+    pub ports : failed ≡ list_any is_port_fault calls
+    pub files : unstored ≡ list_any is_file_fault calls
+    pub listens : listened ≡ list_any is_listen calls
+    pub ends : ended ≡ list_any is_last_poll calls
+    pub seats : IfSome (seats_of calls) (λ seats. hands ≡ seats)

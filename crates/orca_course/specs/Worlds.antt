@@ -1,5 +1,5 @@
 -- What a desk shows of the outside, and what acts make of it.
-use Rattle.std.specs.Prelude.{ℕ, ◌+◌, ◌≤◌, ◌≡◌, Bool, true, false, List, [], ◌∷◌, ◌++◌, length, Option, Some, None, IfSome, Result, Ok, Err, Vec}
+use Rattle.std.specs.Prelude.{ℕ, ◌+◌, ◌≤◌, ◌≡◌, Bool, true, false, List, [], ◌∷◌, ◌++◌, length, Option, Some, None, IfSome, IsSomeAnd, ◌<◌, Result, Ok, Err, Vec}
 use Rattle.std.specs.Option.{option_map}
 use Rattle.std.specs.List.{list_any}
 use Rattle.std.specs.Coded.{Coded, coded_list, coded_ℕ}
@@ -10,13 +10,14 @@ use Rattle.orca_base.specs.declared.limits.TheConstants.{MAX_FILE_BYTES}
 use Rattle.orca_base.specs.Ports.{Sent}
 use Rattle.orca_rig.specs.declared.fault.OutsideFault.TheVariants.{Memory}
 use Rattle.orca_rig.specs.declared.inbox.Answer.{Answer}
-use Rattle.orca_rig.specs.Saved.{IsAppended, IsSaved}
+use Rattle.orca_rig.specs.Saved.{IsAppended, IsClaimed, IsRemoved, IsSaved}
+use Rattle.orca_rig.specs.declared.files.Claim.{Claim as Claimed}
 use Rattle.orca_rig.specs.Outside.{Contents, Rose}
 use Rattle.orca_trace.specs.Calls.{Call}
-use Rattle.orca_trace.specs.Calls.Call.{Append as CallAppend, Begin as CallBegin, Give as CallGive, Load as CallLoad, Save as CallSave}
+use Rattle.orca_trace.specs.Calls.Call.{Append as CallAppend, Begin as CallBegin, Claim as CallClaim, Give as CallGive, Load as CallLoad, Remove as CallRemove, Save as CallSave}
 use Rattle.orca_course.specs.Acts.{Act, ArePrintable, calls_in, given}
 use Rattle.orca_course.specs.Acts.Act.{Await, Give, Learn}
-use Rattle.orca_course.specs.Answered.{losses_of, done_in, is_file_fault, is_inbox_fault, is_last_poll, is_listen, is_port_fault, refused_in}
+use Rattle.orca_course.specs.Answered.{losses_of, done_in, is_file_fault, is_inbox_fault, is_last_poll, is_listen, is_port_fault, refused_in, seats_of}
 use Rattle.orca_course.specs.declared.item.Losses.{Losses}
 use Rattle.orca_course.specs.declared.refused.NoMemory.{NoMemory}
 use Rattle.orca_course.specs.declared.refused.NoMemory.TheVariants.{InSend, Elsewhere}
@@ -49,7 +50,7 @@ owing n x = record x { paid = x.paid + n }
 abbrev pub has_failed : World → Bool
 has_failed x = list_any is_port_fault x.calls
 
--- whether a load, a save, a begin or an append has failed
+-- whether the files have failed at a call
 abbrev pub is_unstored : World → Bool
 is_unstored x = list_any is_file_fault x.calls
 
@@ -64,6 +65,10 @@ IsSound x = (has_failed x ≡ false) × (is_unstored x ≡ false) × (is_lost x 
 -- whether the inbox was asked to listen
 abbrev pub has_listened : World → Bool
 has_listened x = list_any is_listen x.calls
+
+-- there is a hand of this number
+abbrev pub IsSeated : ℕ → World → Type 0
+IsSeated hand x = IsSomeAnd (seats_of x.calls) (λ seats. hand < seats)
 
 -- whether a poll has given a last answer
 abbrev pub has_ended : World → Bool
@@ -81,12 +86,14 @@ abbrev pub IsTextOf : Option Contents → List ℕ → List ℕ → Type 0
 IsTextOf contents name text =
     (length text ≤ MAX_FILE_BYTES) × IfSome contents (λ files. get files name ≡ Some text)
 
--- a load gives the text of its file; and saves, begins and appends alone change what the files hold
+-- a load gives the text of its file; and all other calls of files alone change what they hold
 abbrev pub Stores : Call → Option Contents → Option Contents → Type 0
 Stores (CallLoad name (Ok text)) old new = IsTextOf old name text × (new ≡ old)
 Stores (CallSave name bytes answer) old new = IsSaved answer name bytes old new
 Stores (CallBegin name bytes answer) old new = IsSaved answer name bytes old new
 Stores (CallAppend name bytes answer) old new = IsAppended answer name bytes old new
+Stores (CallClaim name bytes answer) old new = IsClaimed answer name bytes old new
+Stores (CallRemove name answer) old new = IsRemoved answer name old new
 Stores other old new = new ≡ old
 
 -- calls lead from these contents to those, one after another
@@ -186,6 +193,11 @@ pub record Calls {T : Type 0} (acts : List Act) (result : Result T NoMemory) (x 
 abbrev pub loaded_text : Result (Option (Vec ℕ Global)) NoMemory → Option (List ℕ)
 loaded_text (Ok text) = option_map (λ bytes. bytes.items) text
 loaded_text (Err refused) = None
+
+-- whether a claim made its file, unless it failed
+abbrev pub claim_answer : Result (Option Claimed) NoMemory → Option Claimed
+claim_answer (Ok answer) = answer
+claim_answer (Err refused) = None
 
 -- the moment at which an inbox listens, if it does
 abbrev pub listen_moment : Result (Option ℕ) NoMemory → Option ℕ

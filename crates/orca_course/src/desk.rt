@@ -1,17 +1,17 @@
 //! All that stands outside of a run, as one value.
 
-ghost use Rattle.std.specs.Prelude.{◌≡◌, ◌≢◌, ◌≤◌, [], ◌∷◌, length, false, Err, IfSome};
+ghost use Rattle.std.specs.Prelude.{◌≡◌, ◌≢◌, ◌≤◌, [], ◌∷◌, length, false, true, Err, IfSome};
 ghost use Rattle.orca_edit.specs.Machines.{Acts, preview_of};
 ghost use Rattle.orca_edit.specs.Obeying.{piece_of};
 ghost use Rattle.orca_edit.specs.Prices.{charge, kept_after, preview_price};
 ghost use Rattle.orca_base.specs.declared.limits.TheConstants.{MAX_FILE_BYTES};
 ghost use Rattle.orca_rig.specs.Arrived.{arrived};
 ghost use Rattle.orca_base.specs.declared.limits.TheConstants.{MAX_HANDS};
-ghost use Rattle.orca_course.specs.Acts.{given};
-ghost use Rattle.orca_course.specs.Acts.Act.{Append, Attach, Begin, Give, Listen, Load, Save};
+ghost use Rattle.orca_course.specs.Acts.{Act, given};
+ghost use Rattle.orca_course.specs.Acts.Act.{Append, Attach, Begin, Give, Listen, Load, Remove, Save, Tell};
 ghost use Rattle.orca_course.specs.Answered.{losses_of, done_in};
 ghost use Rattle.orca_course.specs.Told.{IsLogOf, Records, Tells, asked_in, attached_in};
-ghost use Rattle.orca_course.specs.Worlds.{Called, LeavesInbox, Made, Polled, Sated, has_ended, has_failed, has_listened, is_unstored, owing, listen_moment, loaded_text};
+ghost use Rattle.orca_course.specs.Worlds.{Called, IsSeated, LeavesInbox, Made, Polled, Sated, claim_answer, has_ended, has_failed, has_listened, is_unstored, owing, listen_moment, loaded_text};
 
 use crate::notes::Notes;
 use crate::polling::arrived;
@@ -20,7 +20,7 @@ use orca_base::limits::ARRIVAL_BYTES;
 use orca_base::{Command, Fault, Port, Reply, Steps};
 use orca_edit::Machine;
 use orca_notes::Messages;
-use orca_rig::{Answer, Disk, Files, House, Inbox, Outs, OutsideFault};
+use orca_rig::{Answer, Claim, Disk, Files, House, Inbox, Outs, OutsideFault};
 use orca_trace::Kind;
 use std::alloc::Global;
 use std::marker::{Model, PhantomData};
@@ -66,7 +66,7 @@ impl<H: House> Model for Desk<H> {
         × AreWanted (H.Outs.wants d.outs) (H.Files.wants d.files) (H.Inbox.wants d.inbox)
         d.notes
         × Records d.failed d.unstored (H.Inbox.listened d.inbox) (H.Inbox.ended d.inbox)
-        d.notes };
+        (H.Inbox.hand_count d.inbox) d.notes };
 }
 
 /// A house of any types that fit.
@@ -85,6 +85,7 @@ impl<F: Files, O: Outs, I: Inbox, L: Ledger> House for Rooms<F, O, I, L> {
 }
 
 /// A desk of these, which nobody has called before, as far as they tell.
+#[tactic(auto, unfolding(crate::specs::Answered::seats_of))]
 pub fn desk_of<F: Files, O: Outs, I: Inbox, L: Ledger>(
     files: F,
     outs: O,
@@ -156,7 +157,7 @@ impl<H: House> Desk<H> {
         self.failed
     }
 
-    /// Whether a load, a save, a begin or an append has failed.
+    /// Whether the files have failed at a call.
     pub fn is_unstored(&self) -> bool
         ensures { result ≡ is_unstored self.now }
     {
@@ -262,6 +263,58 @@ impl<H: House> Desk<H> {
             Ok(()) => Ok(()),
             Err(OutsideFault::Failed) => Ok(()),
             Err(OutsideFault::Memory) => Err(NoMemory::Elsewhere),
+        }
+    }
+
+    /// Claims the file of a name with the bytes, to be added to, and says whether it was made; none if
+    /// that fails, which is recorded.
+    pub fn claim(&mut self, name: &str, bytes: &[u8]) -> Result<Option<Claim>, NoMemory>
+        ensures called { Called result (Act.Claim name.now bytes.now (claim_answer result))
+            self.old self.new }
+        ensures inbox { LeavesInbox self.old self.new }
+    {
+        let answer = self.files.claim(name, bytes);
+        self.notes
+            .note(&Kind::Claim(answer), name.as_bytes(), bytes);
+        self.unstored |= matches!(answer, Err(OutsideFault::Failed));
+        match answer {
+            Ok(claim) => Ok(Some(claim)),
+            Err(OutsideFault::Failed) => Ok(None),
+            Err(OutsideFault::Memory) => Err(NoMemory::Elsewhere),
+        }
+    }
+
+    /// Takes away the file of a name, which was claimed. A failure is recorded, and the run goes on.
+    pub fn remove(&mut self, name: &str) -> Result<(), NoMemory>
+        ensures { Called result (Remove name.now) self.old self.new }
+    {
+        let answer = self.files.remove(name);
+        self.notes.note(&Kind::Remove(answer), name.as_bytes(), &[]);
+        self.unstored |= matches!(answer, Err(OutsideFault::Failed));
+        match answer {
+            Ok(()) => Ok(()),
+            Err(OutsideFault::Failed) => Ok(()),
+            Err(OutsideFault::Memory) => Err(NoMemory::Elsewhere),
+        }
+    }
+
+    /// Gives the bytes to a hand, to be seen where its keys come from. A hand that has left gets
+    /// nothing, which is no failure.
+    pub fn tell(&mut self, hand: u8, bytes: &[u8]) -> Result<(), NoMemory>
+        requires heard { has_listened self.old ≡ true }
+        requires seated { IsSeated hand self.old }
+        ensures { Called result (Tell hand bytes.now) self.old self.new }
+    {
+        match self.inbox.tell(hand, bytes) {
+            Ok(()) => {
+                self.notes.note(&Kind::Tell(hand, Ok(())), &[], bytes);
+                Ok(())
+            }
+            Err(_) => {
+                let refused = Kind::Tell(hand, Err(OutsideFault::Memory));
+                self.notes.note(&refused, &[], bytes);
+                Err(NoMemory::Elsewhere)
+            }
         }
     }
 

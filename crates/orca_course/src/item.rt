@@ -1,6 +1,6 @@
 use crate::Ending;
 
-/// What is lost, as the calls so far tell.
+/// What the calls so far came to.
 #[derive(Clone, Copy, Debug, PartialEq, Eq)]
 pub struct Losses {
     /// The last attach of the MIDI port has failed, or its last send.
@@ -13,6 +13,8 @@ pub struct Losses {
     pub journal: bool,
     /// The last save has failed.
     pub unsaved: bool,
+    /// A call of the files has failed: a load, a save, a begin, an append, a claim or a removal.
+    pub unstored: bool,
 }
 
 /// What a performer is given, one after another. Moments are in microseconds.

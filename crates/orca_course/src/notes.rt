@@ -43,6 +43,8 @@ pub(crate) struct Outcomes {
     pub(crate) journal: bool,
     /// The last save has failed.
     pub(crate) unsaved: bool,
+    /// A call of the files has failed.
+    pub(crate) unstored: bool,
 }
 
 impl Outcomes {
@@ -60,6 +62,7 @@ impl Outcomes {
             unsent: none,
             journal: false,
             unsaved: false,
+            unstored: false,
         }
     }
 
@@ -74,15 +77,30 @@ impl Outcomes {
             Kind::Give(port, Ok(())) => self.unsent.set(port, false),
             Kind::Give(port, Err(OutsideFault::Failed)) => self.unsent.set(port, true),
             Kind::Save(Ok(())) => self.unsaved = false,
-            Kind::Save(Err(OutsideFault::Failed)) => self.unsaved = true,
-            Kind::Begin(Err(OutsideFault::Failed)) => self.journal = true,
-            Kind::Append(Err(OutsideFault::Failed)) => self.journal = true,
+            Kind::Load(Err(OutsideFault::Failed)) => self.unstored = true,
+            Kind::Save(Err(OutsideFault::Failed)) => {
+                self.unsaved = true;
+                self.unstored = true;
+            }
+            Kind::Begin(Err(OutsideFault::Failed)) => {
+                self.journal = true;
+                self.unstored = true;
+            }
+            Kind::Append(Err(OutsideFault::Failed)) => {
+                self.journal = true;
+                self.unstored = true;
+            }
+            Kind::Claim(Err(OutsideFault::Failed)) => self.unstored = true,
+            Kind::Remove(Err(OutsideFault::Failed)) => self.unstored = true,
             Kind::Attach(..)
             | Kind::Give(..)
             | Kind::Load(_)
             | Kind::Save(_)
             | Kind::Begin(_)
             | Kind::Append(_)
+            | Kind::Claim(_)
+            | Kind::Remove(_)
+            | Kind::Tell(..)
             | Kind::Listen(..)
             | Kind::Await(..) => {}
         }
@@ -98,6 +116,7 @@ impl Outcomes {
             osc: self.unattached.osc || self.unsent.osc,
             journal: self.journal,
             unsaved: self.unsaved,
+            unstored: self.unstored,
         }
     }
 }

@@ -5,6 +5,7 @@ use Rattle.orca_base.specs.Ports.{Sent}
 use Rattle.orca_rig.specs.Handed.{Attached}
 use Rattle.orca_rig.specs.declared.fault.OutsideFault.{OutsideFault}
 use Rattle.orca_rig.specs.declared.fault.OutsideFault.TheVariants.{Failed}
+use Rattle.orca_rig.specs.declared.files.Claim.{Claim as Claimed}
 use Rattle.orca_rig.specs.declared.inbox.Answer.{Answer}
 use Rattle.orca_rig.specs.declared.inbox.Answer.TheVariants as answer
 use Rattle.orca_trace.specs.declared.kind.Kind.{Kind}
@@ -31,6 +32,12 @@ pub data Call : Type 0 where
   Begin : List ℕ → List ℕ → Result (Unit {0}) OutsideFault → Call
   -- these bytes are added to the file of a name
   Append : List ℕ → List ℕ → Result (Unit {0}) OutsideFault → Call
+  -- a file of a name is claimed with these bytes: whether it was made
+  Claim : List ℕ → List ℕ → Result Claimed OutsideFault → Call
+  -- the file of a name is taken away
+  Remove : List ℕ → Result (Unit {0}) OutsideFault → Call
+  -- these bytes are told to a hand
+  Tell : ℕ → List ℕ → Result (Unit {0}) OutsideFault → Call
   -- the inbox listens at a name for so many hands: the moment of the start
   Listen : List ℕ → ℕ → Result ℕ OutsideFault → Call
   -- the inbox is polled
@@ -49,6 +56,9 @@ call_of (kind.Load answer) name bytes = Load name (text_in answer bytes)
 call_of (kind.Save answer) name bytes = Save name bytes answer
 call_of (kind.Begin answer) name bytes = Begin name bytes answer
 call_of (kind.Append answer) name bytes = Append name bytes answer
+call_of (kind.Claim answer) name bytes = Claim name bytes answer
+call_of (kind.Remove answer) name bytes = Remove name answer
+call_of (kind.Tell hand answer) name bytes = Tell hand bytes answer
 call_of (kind.Listen hands answer) name bytes = Listen name hands answer
 call_of (kind.Await until answer) name bytes =
     Await (record { until = until; answer = answer; bytes = bytes })
@@ -66,5 +76,8 @@ fault_of (Load name answer) = result_err answer
 fault_of (Save name bytes answer) = result_err answer
 fault_of (Begin name bytes answer) = result_err answer
 fault_of (Append name bytes answer) = result_err answer
+fault_of (Claim name bytes answer) = result_err answer
+fault_of (Remove name answer) = result_err answer
+fault_of (Tell hand bytes answer) = result_err answer
 fault_of (Listen name hands answer) = result_err answer
 fault_of (Await poll) = fault_in poll.answer

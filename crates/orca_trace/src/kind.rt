@@ -1,5 +1,5 @@
 use orca_base::Port;
-use orca_rig::{Answer, OutsideFault};
+use orca_rig::{Answer, Claim, OutsideFault};
 
 /// What was called and what it answered, but for the name and the bytes.
 #[derive(Clone, Copy)]
@@ -16,6 +16,12 @@ pub enum Kind {
     Begin(Result<(), OutsideFault>),
     /// Bytes were to be added to the file of a name.
     Append(Result<(), OutsideFault>),
+    /// A file of a name was to be claimed with bytes.
+    Claim(Result<Claim, OutsideFault>),
+    /// The file of a name was to be taken away.
+    Remove(Result<(), OutsideFault>),
+    /// Bytes were for a hand.
+    Tell(u8, Result<(), OutsideFault>),
     /// The inbox listened at a name for so many hands, and answered the moment of the start.
     Listen(u8, Result<u64, OutsideFault>),
     /// The inbox was to wait until a moment, where there is one, and answered; bytes may have come.
