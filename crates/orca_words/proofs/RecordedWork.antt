@@ -19,7 +19,7 @@ use Rattle.orca_words.specs.declared.limits.TheConstants.{MIN_SONG_BPM}
 use Rattle.orca_words.specs.declared.request.Request.{Request as Held}
 use Rattle.orca_words.specs.Recordings.{HasOwnJournal, HasSongTempo, IfPerform, IsPortless, OwnsJournals, RecordsWithoutPorts}
 use Rattle.orca_words.specs.RequestIn.{request_in}
-use Rattle.orca_words.specs.Requests.{Events, Follow, Lead, Make, Migrate, Perform, Performance, Play, Recording, Replay, Request, Run, Setup, Smf, Wav, Work, frames_given, greatest, is_same_name, jam_of, leading_of, migration_of, number_in, option_number, option_text, performance_of, performing, portless_setup_of, positional_text, recording_of, request_by, request_in_form, request_of, setup_of, with_own_journal, with_ports, workload_of}
+use Rattle.orca_words.specs.Requests.{Events, Follow, Lead, Make, Migrate, Perform, Performance, Play, Recording, Recover, Replay, Request, Run, Setup, Smf, Wav, Work, frames_given, greatest, is_same_name, jam_of, leading_of, migration_of, number_in, option_number, option_text, performance_of, performing, portless_setup_of, positional_text, recording_of, recovery_of, request_by, request_in_form, request_of, setup_of, with_own_journal, with_ports, workload_of}
 
 -- ---- numbers
 
@@ -176,6 +176,7 @@ recordable verb.Follow found =
     (λ s _ address _. (tt, tt, tt))
 recordable verb.Lead found =
     performed_holds Lead (setup_of found) (leading_of found) (λ s _ lead _. (tt, tt, tt))
+recordable verb.Recover found = other_holds Recover (recovery_of found) (λ recovery. tt)
 
 -- ---- what is answered
 
@@ -185,6 +186,7 @@ weaker : (P Q : Setup → Work → Type 0) (request : Request)
 weaker P Q (Perform setup work) implies holds = implies setup work holds
 weaker P Q (Make load) implies holds = tt
 weaker P Q (Migrate migration) implies holds = tt
+weaker P Q (Recover recovery) implies holds = tt
 
 -- what holds of all that is asked for holds of what is answered
 answered_by : (P : Request → Type 0) (found : Option Held) (asked : Option Request)

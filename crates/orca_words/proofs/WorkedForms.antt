@@ -4,7 +4,7 @@ use Rattle.std.specs.Prelude.{◌≡◌, List, [], ◌∷◌, ◌++◌, codes, r
 use Rattle.clap.specs.Words.{Text}
 use Rattle.orca_words.specs.Forms.{Form, forms}
 use Rattle.orca_words.specs.declared.forms.Verb.{Verb}
-use Rattle.orca_words.specs.declared.forms.Verb.TheVariants.{Run, Events, Replay, Play, Make, Migrate, Smf, Jam, Wav, Follow, Lead}
+use Rattle.orca_words.specs.declared.forms.Verb.TheVariants.{Run, Events, Replay, Play, Make, Migrate, Smf, Jam, Wav, Follow, Lead, Recover}
 
 abbrev row : Text → List Text → List Text → Verb → Form
 row word positionals options verb =
@@ -18,7 +18,7 @@ options = codes "seed" ∷ codes "limit" ∷ codes "midi" ∷ codes "udp" ∷ co
 abbrev more_options : List Text
 more_options =
     codes "bpm" ∷ codes "rows" ∷ codes "cols" ∷ codes "keys" ∷ codes "save" ∷ codes "script"
-    ∷ codes "journal" ∷ []
+    ∷ codes "journal" ∷ codes "room" ∷ []
 
 -- those of a run on a grid that is saved as a song or as sound
 abbrev recording_options : List Text
@@ -42,6 +42,8 @@ forms_are : forms
     ∷ row (codes "wav") recording_names recording_options Wav
     ∷ row (codes "follow") (codes "GRID" ∷ codes "ADDRESS" ∷ []) options Follow
     ∷ row (codes "lead") (codes "GRID" ∷ codes "ADDRESS" ∷ []) (options ++ codes "bpm" ∷ []) Lead
+    ∷ row (codes "recover") (codes "ROOM" ∷ codes "OUT" ∷ [])
+    (codes "script" ∷ codes "midi" ∷ codes "limit" ∷ []) Recover
     ∷ []
 unfolding forms
 forms_are = refl

@@ -7,7 +7,7 @@ use Rattle.clap.proofs.OnLiterals.{clap_on_literals}
 use Rattle.orca_base.specs.Ascii.{space}
 use Rattle.orca_base.specs.Numbers.{number_of}
 use Rattle.orca_words.specs.Forms.{command_of, forms}
-use Rattle.orca_words.specs.Requests.{Events, Follow, Lead, Make, Migrate, Perform, Play, Replay, Request, Run, Setup, Smf, Wav, jam_of, leading_of, migration_of, number_in, option_full, option_text, performance_of, portless_setup_of, recording_of, request_by, request_in_form, request_of, setup_of, with_own_journal, workload_of}
+use Rattle.orca_words.specs.Requests.{Events, Follow, Lead, Make, Migrate, Perform, Play, Recover, Replay, Request, Run, Setup, Smf, Wav, jam_of, leading_of, migration_of, number_in, option_full, option_text, performance_of, portless_setup_of, recording_of, recovery_of, request_by, request_in_form, request_of, setup_of, with_own_journal, workload_of}
 
 -- what a line asks for
 unfoldable asked : Text → Option Request
@@ -18,7 +18,7 @@ unfolding option_text option_full number_in number_of
 values = tt
 
 unfoldable parts : ⊤
-unfolding setup_of portless_setup_of performance_of jam_of workload_of migration_of recording_of leading_of with_own_journal
+unfolding setup_of portless_setup_of performance_of jam_of workload_of migration_of recording_of leading_of recovery_of with_own_journal
 parts = tt
 
 unfoldable worked : ⊤
@@ -83,6 +83,7 @@ play_all : asked (codes "play --midi=m --rows 9 g --udp u --osc=o --bpm=90 --sav
       save = Some (codes "w");
       script = Some (codes "s");
       journal = Some (codes "j");
+      room = false;
     })))
 unfolding worked all_set
 play_all = refl
@@ -97,6 +98,7 @@ play_none : asked (codes "play g a") ≡ Some (Perform none_set (Play (record {
   save = None;
   script = None;
   journal = None;
+  room = false;
 })))
 unfolding worked none_set
 play_none = refl
@@ -117,6 +119,7 @@ jam_all : asked (codes "jam --midi=m --rows 9 g --udp u --osc=o --bpm=90 a --sav
       save = Some (codes "w");
       script = Some (codes "s");
       journal = Some (codes "j");
+      room = false;
     })))
 unfolding worked all_set
 jam_all = refl
@@ -131,9 +134,47 @@ jam_none : asked (codes "jam g a 02") ≡ Some (Perform none_set (Play (record {
   save = None;
   script = None;
   journal = None;
+  room = false;
 })))
 unfolding worked none_set
 jam_none = refl
+
+play_room : asked (codes "play g a --room r") ≡ Some (Perform none_set (Play (record {
+  address = codes "a";
+  bpm = 120;
+  rows = 24;
+  cols = 80;
+  full = false;
+  hands = None;
+  save = None;
+  script = None;
+  journal = Some (codes "r");
+  room = true;
+})))
+unfolding worked none_set
+play_room = refl
+
+recover_all : asked (codes "recover r --midi=m o --limit 9 --script s")
+    ≡ Some (Recover (record {
+      room = codes "r";
+      out = codes "o";
+      script = Some (codes "s");
+      midi = Some (codes "m");
+      limit = 9;
+    }))
+unfolding worked
+recover_all = refl
+
+recover_none : asked (codes "recover r o")
+    ≡ Some (Recover (record {
+      room = codes "r";
+      out = codes "o";
+      script = None;
+      midi = None;
+      limit = 1000000;
+    }))
+unfolding worked
+recover_none = refl
 
 make_some : asked (codes "make 5 64 1024 200")
     ≡ Some (Make (record { seed = 5; height = 64; width = 1024; frames = 200 }))
@@ -247,6 +288,15 @@ refused : list_all (λ line. not (is_some (asked line))) (codes ""
     ∷ codes "play g a --journal s --script s"
     ∷ codes "play g a --journal a"
     ∷ codes "play g a --journal m --midi m"
+    ∷ codes "run g 3 --room r"
+    ∷ codes "play g a --room"
+    ∷ codes "play g a --room r --room r"
+    ∷ codes "play g a --room r --journal j"
+    ∷ codes "play g a --room g"
+    ∷ codes "play g a --save w --room=w"
+    ∷ codes "play g a --room s --script s"
+    ∷ codes "play g a --room a"
+    ∷ codes "play g a --room m --midi m"
     ∷ codes "make 1 0 3 4"
     ∷ codes "make 1 1025 3 4"
     ∷ codes "make 1 2 1025 4"
@@ -302,6 +352,14 @@ refused : list_all (λ line. not (is_some (asked line))) (codes ""
     ∷ codes "lead g a --cols 9"
     ∷ codes "lead g a --save o"
     ∷ codes "lead g a --seed 4294967296"
+    ∷ codes "recover"
+    ∷ codes "recover r"
+    ∷ codes "recover r o x"
+    ∷ codes "recover r o --limit 0"
+    ∷ codes "recover r o --limit=4000001"
+    ∷ codes "recover r o --seed 7"
+    ∷ codes "recover r o --udp u"
+    ∷ codes "recover r o --script s --script s"
     ∷ []) ≡ true
 unfolding worked
 refused = refl

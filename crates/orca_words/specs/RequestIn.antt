@@ -13,7 +13,8 @@ use Rattle.orca_words.specs.declared.request.Workload.{Workload as HeldWorkload}
 use Rattle.orca_words.specs.declared.request.Recording.{Recording as HeldRecording}
 use Rattle.orca_words.specs.declared.request.Leading.{Leading as HeldLeading}
 use Rattle.orca_words.specs.declared.request.Migration.{Migration as HeldMigration}
-use Rattle.orca_words.specs.Requests.{Request, Perform, Make, Migrate, Setup, Work, Run, Events, Replay, Play, Smf, Wav, Follow, Lead, Performance, Workload, Recording, Leading, Migration}
+use Rattle.orca_words.specs.declared.request.Recovery.{Recovery as HeldRecovery}
+use Rattle.orca_words.specs.Requests.{Request, Perform, Make, Migrate, Setup, Work, Run, Events, Replay, Play, Smf, Wav, Follow, Lead, Performance, Workload, Recording, Leading, Migration, Recover, Recovery}
 
 -- what a parse found
 unfoldable pub rows_in : ArgMatches → List Row
@@ -44,6 +45,7 @@ performance_in play = record {
   save = text_in play.save;
   script = text_in play.script;
   journal = text_in play.journal;
+  room = play.room;
 }
 
 abbrev pub workload_in : HeldWorkload → Workload
@@ -71,6 +73,15 @@ migration_in migration = record {
   seed = migration.seed;
 }
 
+abbrev pub recovery_in : HeldRecovery → Recovery
+recovery_in recovery = record {
+  room = recovery.room.now;
+  out = recovery.out.now;
+  script = text_in recovery.script;
+  midi = text_in recovery.midi;
+  limit = recovery.limit;
+}
+
 abbrev pub work_in : HeldWork → Work
 work_in (held_work.Run frames) = Run frames
 work_in (held_work.Events frames) = Events frames
@@ -85,3 +96,4 @@ abbrev pub request_in : Held → Request
 request_in (held.Perform setup work) = Perform (setup_in setup) (work_in work)
 request_in (held.Make load) = Make (workload_in load)
 request_in (held.Migrate migration) = Migrate (migration_in migration)
+request_in (held.Recover recovery) = Recover (recovery_in recovery)

@@ -1,6 +1,6 @@
 -- What the words of the command line ask for.
 use Rattle.std.specs.Prelude.{ℕ, ◌-◌, ◌^◌, Bool, true, false, ◌&&◌, ◌||◌, nat_le, if◌then◌else◌, Option, Some, None, option_map, option_and_then, unwrap_or, List, [], ◌∷◌, codes}
-use Rattle.std.specs.Option.{option_map_or}
+use Rattle.std.specs.Option.{is_some, option_map_or}
 use Rattle.std.specs.Str.{bytes_eq}
 use Rattle.clap.specs.Walk.{is_empty}
 use Rattle.clap.specs.Words.{Row, Text, fault_of, first_of, matches_of}
@@ -22,7 +22,7 @@ pub record Setup : Type 0 where
 
 -- where keys come from and which they are, how many hands share the session, or none where one
 -- plays alone, where pictures go to, how fast frames are played, and what is saved, at the end and
--- while it plays
+-- while it plays, to a journal or, of another kind, to a room
 pub record Performance : Type 0 where
   pub address : Text
   pub bpm : ℕ
@@ -33,6 +33,7 @@ pub record Performance : Type 0 where
   pub save : Option Text
   pub script : Option Text
   pub journal : Option Text
+  pub room : Bool
 
 -- how many frames are played, how fast, and what they are saved to
 pub record Recording : Type 0 where
@@ -50,6 +51,14 @@ pub record Migration : Type 0 where
   pub script : Text
   pub out : Text
   pub seed : ℕ
+
+-- a room, where its grid and its script go, the port whose notes are ended, and the most entries
+pub record Recovery : Type 0 where
+  pub room : Text
+  pub out : Text
+  pub script : Option Text
+  pub midi : Option Text
+  pub limit : ℕ
 
 -- a grid and commands that are generated
 pub record Workload : Type 0 where
@@ -74,6 +83,7 @@ pub data Request : Type 0 where
   Perform : Setup → Work → Request
   Make : Workload → Request
   Migrate : Migration → Request
+  Recover : Recovery → Request
 
 -- ---- what clap found, by names
 
@@ -149,6 +159,12 @@ with_ports found setup = record setup {
 unfoldable pub setup_of : List Row → Option Setup
 setup_of found = option_map (with_ports found) (portless_setup_of found)
 
+-- the file that commands are added to, a journal or a room: both are one too many
+abbrev pub kept_name : Option Text → Option Text → Option (Option Text)
+kept_name None room = Some room
+kept_name (Some journal) None = Some (Some journal)
+kept_name (Some journal) (Some room) = None
+
 -- the address, the tempo, the screen, the keys and the names of `play`
 unfoldable pub performance_of : List Row → Option Performance
 performance_of found =
@@ -158,6 +174,7 @@ performance_of found =
     with_number (option_number found (codes "cols") DEFAULT_SCREEN_COLUMNS MIN_SCREEN_COLUMNS
     MAX_SCREEN_COLUMNS) (λ cols.
     option_and_then (λ full.
+    option_and_then (λ journal.
     Some (record {
       address = positional_text found (codes "ADDRESS");
       bpm = bpm;
@@ -167,8 +184,10 @@ performance_of found =
       hands = None;
       save = option_text found (codes "save");
       script = option_text found (codes "script");
-      journal = option_text found (codes "journal");
-    })) (option_full found))))
+      journal = journal;
+      room = is_some (option_text found (codes "room"));
+    })) (kept_name (option_text found (codes "journal")) (option_text found (codes "room"))))
+    (option_full found))))
 
 -- so many hands share its session
 abbrev pub shared_by : ℕ → Performance → Performance
@@ -232,6 +251,18 @@ migration_of found =
       seed = seed;
     }))
 
+-- the names and the limit of `recover`
+unfoldable pub recovery_of : List Row → Option Recovery
+recovery_of found =
+    with_number (option_number found (codes "limit") DEFAULT_HISTORY 1 MAX_HISTORY) (λ limit.
+    Some (record {
+      room = positional_text found (codes "ROOM");
+      out = positional_text found (codes "OUT");
+      script = option_text found (codes "script");
+      midi = option_text found (codes "midi");
+      limit = limit;
+    }))
+
 -- the work, on the grid and with the options that the words name
 abbrev pub performing : Option Setup → Option Work → Option Request
 performing setup work = option_and_then (λ w. option_map (λ s. Perform s w) setup) work
@@ -257,6 +288,7 @@ request_by verb.Wav found =
 request_by verb.Follow found =
     performing (setup_of found) (Some (Follow (positional_text found (codes "ADDRESS"))))
 request_by verb.Lead found = performing (setup_of found) (option_map Lead (leading_of found))
+request_by verb.Recover found = option_map Recover (recovery_of found)
 
 -- what the words after the first ask for, by the form that it picked. They are accepted exactly
 -- where the command of the form has no fault and the numbers are in their ranges

@@ -14,6 +14,7 @@ pub(crate) enum Verb {
     Wav,
     Follow,
     Lead,
+    Recover,
 }
 
 /// A form of the command line: its first word, the names of the positionals that have to follow it,
@@ -31,7 +32,7 @@ const OPTIONS: &[&str] = &["seed", "limit", "midi", "udp", "osc"];
 /// The options of a run on a grid that is edited while it plays.
 const PLAY_OPTIONS: &[&str] = &[
     "seed", "limit", "midi", "udp", "osc", "bpm", "rows", "cols", "keys", "save", "script",
-    "journal",
+    "journal", "room",
 ];
 
 /// The options of a run on a grid that is saved as a song or as sound.
@@ -41,7 +42,7 @@ const RECORDING_OPTIONS: &[&str] = &["seed", "limit", "bpm"];
 const LEAD_OPTIONS: &[&str] = &["seed", "limit", "midi", "udp", "osc", "bpm"];
 
 /// The command lines that are read: each is in one of these forms.
-pub(crate) static FORMS: [Form; 11] = [
+pub(crate) static FORMS: [Form; 12] = [
     ("run", &["GRID", "FRAMES"], OPTIONS, Verb::Run),
     ("events", &["GRID", "FRAMES"], OPTIONS, Verb::Events),
     ("replay", &["GRID", "SCRIPT"], OPTIONS, Verb::Replay),
@@ -73,4 +74,10 @@ pub(crate) static FORMS: [Form; 11] = [
     ),
     ("follow", &["GRID", "ADDRESS"], OPTIONS, Verb::Follow),
     ("lead", &["GRID", "ADDRESS"], LEAD_OPTIONS, Verb::Lead),
+    (
+        "recover",
+        &["ROOM", "OUT"],
+        &["script", "midi", "limit"],
+        Verb::Recover,
+    ),
 ];

@@ -16,4 +16,6 @@ mod values;
 pub use fault::WordsFault;
 pub use laws::{own_journal_law, plain_words_law};
 pub use read::read_words;
-pub use request::{Leading, Migration, Performance, Recording, Request, Setup, Work, Workload};
+pub use request::{
+    Leading, Migration, Performance, Recording, Recovery, Request, Setup, Work, Workload,
+};

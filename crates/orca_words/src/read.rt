@@ -2,9 +2,9 @@
 
 ghost use Rattle.std.specs.Prelude.{◌≡◌, ◌≤◌, None, Some, find, map, option_map, string_bytes, IfOk, IsErrOf, MatchOption};
 ghost use Rattle.std.specs.Str.{bytes_eq};
-ghost use Rattle.orca_words.specs.Requests.{frames_given, is_same_name, jam_of, leading_of, migration_of, performance_of, performing, portless_setup_of, recording_of, request_by, request_in_form, request_of, setup_of, with_own_journal, workload_of};
+ghost use Rattle.orca_words.specs.Requests.{frames_given, is_same_name, jam_of, kept_name, leading_of, migration_of, performance_of, performing, portless_setup_of, recording_of, recovery_of, request_by, request_in_form, request_of, setup_of, with_own_journal, workload_of};
 ghost use Rattle.orca_words.specs.Forms.{form_by, form_in};
-ghost use Rattle.orca_words.specs.RequestIn.{leading_in, migration_in, performance_in, recording_in, request_in, rows_in, setup_in, text_in, work_in, workload_in};
+ghost use Rattle.orca_words.specs.RequestIn.{leading_in, migration_in, performance_in, recording_in, recovery_in, request_in, rows_in, setup_in, text_in, work_in, workload_in};
 ghost use Rattle.orca_words.specs.Recordings.{HasOwnJournal, HasSongTempo, IfPerform, RecordsWithoutPorts};
 
 use crate::command::parse;
@@ -14,7 +14,8 @@ use crate::values::{
     option_full, option_number, option_text, positional_number, positional_text, small_option,
 };
 use crate::{
-    Leading, Migration, Performance, Recording, Request, Setup, WordsFault, Work, Workload,
+    Leading, Migration, Performance, Recording, Recovery, Request, Setup, WordsFault, Work,
+    Workload,
 };
 use clap::ArgMatches;
 use orca_base::limits::{
@@ -139,6 +140,7 @@ fn request_by<'a>(verb: Verb, found: &ArgMatches<'a>) -> Option<Request<'a>>
             perform(setup(found), Work::Follow { address })
         }
         Verb::Lead => perform(setup(found), Work::Lead(leading(found)?)),
+        Verb::Recover => Some(Request::Recover(recovery(found)?)),
     }
 }
 
@@ -244,6 +246,8 @@ fn performance<'a>(found: &ArgMatches<'a>) -> Option<Performance<'a>>
         MAX_SCREEN_COLUMNS,
     )?;
     let full = option_full(found)?;
+    let room = option_text(found, "room");
+    let journal = kept_name(option_text(found, "journal"), room)?;
     Some(Performance {
         address: positional_text(found, "ADDRESS"),
         bpm,
@@ -253,8 +257,23 @@ fn performance<'a>(found: &ArgMatches<'a>) -> Option<Performance<'a>>
         hands: None,
         save: option_text(found, "save"),
         script: option_text(found, "script"),
-        journal: option_text(found, "journal"),
+        journal,
+        room: room.is_some(),
     })
+}
+
+/// The file that commands are added to, a journal or a room; none where both are given.
+fn kept_name<'a>(journal: Option<&'a str>, room: Option<&'a str>) -> Option<Option<&'a str>>
+    ensures { option_map (λ name. text_in name) result
+        ≡ kept_name (text_in journal.entry) (text_in room.entry) }
+{
+    match journal {
+        None => Some(room),
+        Some(name) => match room {
+            None => Some(Some(name)),
+            Some(_) => None,
+        },
+    }
 }
 
 /// The same of `jam`, and how many hands share the session.
@@ -311,6 +330,21 @@ fn is_same_name(one: Option<&str>, other: Option<&str>) -> bool
             Some(other) => one == other,
         },
     }
+}
+
+/// The names and the limit of `recover`.
+#[tactic(auto, unfolding(crate::specs::Requests::recovery_of))]
+fn recovery<'a>(found: &ArgMatches<'a>) -> Option<Recovery<'a>>
+    ensures { option_map recovery_in result ≡ recovery_of (rows_in found.now) }
+{
+    let limit = option_number(found, "limit", DEFAULT_HISTORY, 1, MAX_HISTORY)?;
+    Some(Recovery {
+        room: positional_text(found, "ROOM"),
+        out: positional_text(found, "OUT"),
+        script: option_text(found, "script"),
+        midi: option_text(found, "midi"),
+        limit,
+    })
 }
 
 /// The four numbers of `make`.

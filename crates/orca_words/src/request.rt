@@ -14,6 +14,8 @@ pub enum Request<'a> {
     Make(Workload),
     /// The word `migrate`: a script that is saved in format 2.
     Migrate(Migration<'a>),
+    /// The word `recover`: what a performance has left in its room.
+    Recover(Recovery<'a>),
 }
 
 /// The grid and the options of a run.
@@ -80,8 +82,11 @@ pub struct Performance<'a> {
     pub save: Option<&'a str>,
     /// The file that the commands are saved to.
     pub script: Option<&'a str>,
-    /// The file that the commands are added to while it plays.
+    /// The file that the commands are added to while it plays: a journal, or a room.
     pub journal: Option<&'a str>,
+    /// Whether it is a room, which begins with the grid, is claimed before anybody is heard, and is
+    /// taken away where nothing in it is unsaved at the end. Without a journal it is false.
+    pub room: bool,
     ghost bpm_in_range: { (1 ≤ bpm) × (bpm ≤ MAX_BPM) },
     ghost rows_in_range: { (MIN_SCREEN_ROWS ≤ rows) × (rows ≤ MAX_SCREEN_ROWS) },
     ghost cols_in_range: { (MIN_SCREEN_COLUMNS ≤ cols) × (cols ≤ MAX_SCREEN_COLUMNS) },
@@ -119,6 +124,22 @@ pub struct Migration<'a> {
     pub out: &'a str,
     /// The seed of a script that carries none.
     pub seed: u32,
+}
+
+/// A room, and where its grid and its script go.
+#[derive(Drop)]
+pub struct Recovery<'a> {
+    /// The name of the room's file.
+    pub room: &'a str,
+    /// The file that the grid is saved to.
+    pub out: &'a str,
+    /// The file that the script is saved to.
+    pub script: Option<&'a str>,
+    /// The file, pipe or device whose notes are ended.
+    pub midi: Option<&'a str>,
+    /// The most entries of the history: 1 to [`MAX_HISTORY`](orca_base::limits::MAX_HISTORY).
+    pub limit: u32,
+    ghost limit_in_range: { (1 ≤ limit) × (limit ≤ MAX_HISTORY) },
 }
 
 /// A grid and commands that are generated.
