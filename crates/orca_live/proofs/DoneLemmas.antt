@@ -4,7 +4,7 @@ use Rattle.std.proofs.Common.{◌≡◌, ℕ, ◌+◌, ◌<◌, ◌≤◌, List,
 use Rattle.std.specs.List.{range_with_len}
 use Rattle.std.proofs.lemmas.List.{drop_all, drop_more, length-set}
 use Rattle.std.proofs.lemmas.List.FromFn.{get_or-range_with_len, length-range_with_len}
-use Rattle.std.specs.Prelude.{Option, None, Result, Ok, Err, Some, All, OnErr, OnOk}
+use Rattle.std.specs.Prelude.{◌||◌, Option, None, Result, Ok, Err, Some, All, OnErr, OnOk}
 use Rattle.std.specs.Option.{option_map, option_map_or}
 use Rattle.orca_base.specs.declared.command.Command.{Command}
 use Rattle.orca_base.specs.declared.port.Port.TheVariants as port
@@ -32,7 +32,7 @@ use Rattle.orca_term.specs.Picture.{IsPrintable}
 use Rattle.orca_term.specs.Viewing.{Seen, painting_bytes}
 use Rattle.orca_term.specs.declared.cell.Cell.{Cell}
 use Rattle.orca_term.specs.declared.cell.ScreenSize.{ScreenSize}
-use Rattle.orca_live.specs.Performing.{additions, hush_course, hand_course, denied_course, lull_course, lines_course, noted, obeyed_by, of_session, owning, item_course, key_course, press_course, read_course, struck_course, telling, wish_course, paint_course, painted_course, picture_at, preview_course, redrawn, show_course, view_sends}
+use Rattle.orca_live.specs.Performing.{additions, hush_course, hand_course, denied_course, lull_course, lines_course, noted, obeyed_by, of_session, owning, item_course, key_course, press_course, read_course, struck_course, telling, wish_course, paint_course, painted_course, picture_at, preview_course, redrawn, show_course, view_sends, loosens}
 use Rattle.orca_live.specs.Quiet.{silent_manner}
 use Rattle.orca_live.specs.States.{LiveState, live_stance, around_at, fitted, piece_at}
 
@@ -68,23 +68,30 @@ session_did c s t (Err e) goes did =
 
 -- a command was done and kept, and whose the entries are
 pub command_did : (who : ℕ) (command : Command) (s : LiveState) (t : Concert (Unit {0}))
-    (given : Option (List Command)) (lines : List ℕ) (crew : CrewState) {x y : World}
+    (given : Option (List Command)) (lines : List ℕ) (crew : CrewState) (loose : Bool) {x y : World}
     (end : Option Stop)
     → given ≡ option_map (λ commands. commands ++ command ∷ []) s.given
     → lines ≡ noted s.setting.journal command s.unwritten
     → crew ≡ owning who command t.standing.tally.refusal (length t.standing.machine.history) s.crew
+    → loose ≡ (s.loose || loosens command t.standing.tally.refusal)
     → Does (stance_of silent_manner)
     (obey_course silent_manner 0 command (concert_with s.standing tt)) (concert_with s.standing tt) x
     (Ok end) t y
     → Does live_stance (hand_course who command s) s x (Ok None)
-    (record s { standing = t.standing; crew = crew; given = given; unwritten = lines }) y
+    (record s {
+      standing = t.standing;
+      crew = crew;
+      given = given;
+      unwritten = lines;
+      loose = loose;
+    }) y
 unfolding hand_course obey_course onward mapped
-command_did who command s t given lines crew end kept waits owns did =
+command_did who command s t given lines crew loose end kept waits owns looses did =
     let goes : end ≡ None = sym did.did.ending in
     let all = does_mapped {part = stance_of silent_manner} {whole = live_stance}
     (λ (u : Concert (Unit {0})). obeyed_by who command s u.standing) (λ end. end) (Ok end) refl
     (λ u. refl) did in
-    rw (kept, waits, owns) (does_from s refl (rw goes at all))
+    rw (kept, waits, owns, looses) (does_from s refl (rw goes at all))
 
 -- memory was refused to a command
 pub command_cut : (who : ℕ) (command : Command) (s : LiveState) (t : Concert (Unit {0}))
@@ -210,14 +217,23 @@ hands_turned full hand item old new n turned are below =
 
 -- ---- what is saved
 
+-- a text was saved, after which this is loose
+pub saved_did : (name bytes text : List ℕ) (s : LiveState) (loose : Bool) {x y : World} (n : ℕ)
+    (result : Result (Unit {0}) NoMemory) → bytes ≡ text → Called result (Save name bytes) x y
+    → Does {E = Stop} live_stance
+    (course (Save name text ∷ []) 0 (record s { loose = loose })) s (owing n x) (goes_of result)
+    (record s { loose = loose }) (owing n y)
+saved_did name bytes text s loose n result is called =
+    does_owing n (goes_of result)
+    (does_calls (Save name text ∷ []) result tt refl (calls_one result (rw is at called)))
+
 -- a text was saved
 pub save_did : (name bytes text : List ℕ) (s : LiveState) {x y : World} (n : ℕ)
     (result : Result (Unit {0}) NoMemory) → bytes ≡ text → Called result (Save name bytes) x y
     → Does {E = Stop} live_stance (course (Save name text ∷ []) 0 s) s (owing n x) (goes_of result)
     s (owing n y)
 save_did name bytes text s n result is called =
-    does_owing n (goes_of result)
-    (does_calls (Save name text ∷ []) result tt refl (calls_one result (rw is at called)))
+    saved_did name bytes text s s.loose n result is called
 
 -- a file was begun with a text
 pub begin_did : (name bytes text : List ℕ) (s : LiveState) {x y : World} (n : ℕ)

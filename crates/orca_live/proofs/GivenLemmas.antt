@@ -1,6 +1,6 @@
 -- Which acts give commands, what changes nothing that matters to the session, and what the end of a
 -- performance leaves.
-use Rattle.std.proofs.Common.{◌≡◌, ℕ, arith, List, [], ◌∷◌, ◌++◌, refl, ◌∙◌, ap, append-nil}
+use Rattle.std.proofs.Common.{◌≡◌, ℕ, arith, List, [], ◌∷◌, ◌++◌, refl, ◌∙◌, ap, append-nil, false}
 use Rattle.std.specs.Prelude.{map, max, min, Option, Some, None}
 use Rattle.orca_base.specs.declared.command.Command.{Command}
 use Rattle.orca_base.specs.MarkSet.{MarkSet}
@@ -19,7 +19,7 @@ use Rattle.orca_jam.specs.declared.player.Player.{Player}
 use Rattle.orca_term.specs.declared.cell.Cell.{Cell}
 use Rattle.orca_live.specs.Performing.{additions, hush_course, hand_course, finish_course, header_course, if_named, journal_course, saves_course, last_grid_course, last_script_course, lines_course, open_course, paint_course, painted_course, preview_course, save_course, script_course, show_course, update_course, view_sends, write_course}
 use Rattle.orca_live.specs.Starting.{nothing_failed}
-use Rattle.orca_live.specs.States.{LiveState, dims_at, fitted, piece_at}
+use Rattle.orca_live.specs.States.{LiveState, begun_name, dims_at, fitted, piece_at}
 
 -- ---- the commands of acts
 
@@ -46,12 +46,14 @@ paint_commands marks s = simp views_commands
 
 -- ---- what matters to the session
 
--- no moments, no pace, nothing that is shown, no line that waits for the journal, and no failure
+-- no moments, no pace, nothing that is shown, no line that waits for the journal, nothing loose, and
+-- no failure
 abbrev pub plain : LiveState → LiveState
 plain s = record s {
   pace = record { bpm = 0; parts = 0; due = 0 };
   shown = None;
   unwritten = [];
+  loose = false;
   at = 0;
   came = nothing_failed;
 }
@@ -117,7 +119,7 @@ write_aside s =
 journal_aside : (s : LiveState) → IsAside s (journal_course s)
 unfolding journal_course header_course
 journal_aside s =
-    aside_named s.setting.journal header_course s
+    aside_named (begun_name s.setting) header_course s
     (λ name. record { commands = refl; same = refl; goes = refl })
 
 paint_aside : (marks : List MarkSet) (s : LiveState) → IsAside s (paint_course marks s)

@@ -187,7 +187,7 @@ wish_reads hand other (wish.Do command) s =
     reads_same hand s _ refl (owning_hands other command _ _ s.crew)
 wish_reads hand other wish.Toggle s =
     either_reads hand (leader_at s).paused s s _ (reads_none hand s) (reads_same hand s _ refl refl)
-wish_reads hand other wish.Save s = reads_none hand s
+wish_reads hand other wish.Save s = reads_same hand s _ refl refl
 wish_reads hand other wish.Quit s = reads_none hand s
 wish_reads hand other (wish.Slower beats) s = reads_same hand s _ refl refl
 wish_reads hand other (wish.Faster beats) s = reads_same hand s _ refl refl

@@ -1,5 +1,5 @@
 -- A performance keeps its journal.
-use Rattle.std.proofs.Common.{◌≡◌, ◌≢◌, ◌⊎◌, ℕ, arith, true, false, List, [], ◌∷◌, ◌++◌, refl, sym, ◌∙◌, ap, subst, append_assoc, append-nil}
+use Rattle.std.proofs.Common.{◌≡◌, ◌≢◌, ◌⊎◌, ℕ, arith, Bool, true, false, List, [], ◌∷◌, ◌++◌, refl, sym, ◌∙◌, ap, subst, append_assoc, append-nil}
 use Rattle.std.specs.Prelude.{if◌then◌else◌, IfSome, Option, Some, None, unwrap_or}
 use Rattle.std.specs.List.{flat_map}
 use Rattle.std.specs.Option.{option_map}
@@ -12,8 +12,8 @@ use Rattle.orca_base.specs.MarkSet.{MarkSet}
 use Rattle.orca_base.specs.Ports.{Sent}
 use Rattle.orca_concert.specs.Concerts.{close_course as silence_course, command_course as obey_course, handed_of}
 use Rattle.orca_course.specs.Acts.{Act, commands_in, gives}
-use Rattle.orca_course.specs.Acts.Act.{Append, Await, Begin, Obey, Save, Show, Stand}
-use Rattle.orca_course.specs.Courses.{Course, course, each, joined, lastly, lastly_by, mapped, onward, onward_by}
+use Rattle.orca_course.specs.Acts.Act.{Append, Await, Begin, Claim, Obey, Remove, Save, Show, Stand}
+use Rattle.orca_course.specs.Courses.{Course, course, each, joined, lastly, lastly_by, mapped, onward, onward_by, still}
 use Rattle.orca_course.specs.Performers.{Hearing, Turn, begun, finished, given_course, heard_turns, performance, turn_course}
 use Rattle.orca_course.specs.Performers.Turn.{Asked, Given, Learned, Over}
 use Rattle.orca_course.specs.Standings.{Standing, notes_of, standing_after, standing_closed}
@@ -33,16 +33,16 @@ use Rattle.orca_term.specs.Viewing.{painting_bytes}
 use Rattle.orca_term.specs.declared.cell.Cell.{Cell}
 use Rattle.orca_trace.specs.Calls.{Poll}
 use Rattle.orca_live.specs.Carrying.{Carries, IsSavedName, finish_carried, later_carried, paint_carried}
-use Rattle.orca_live.specs.Journals.{IsApart, JournalsPerformance, held_after, journal_text}
+use Rattle.orca_live.specs.Journals.{IsApart, JournalsPerformance, StartsSo, held_after, kept_text}
 use Rattle.orca_live.specs.Performing.{finish_course, hand_course, header_course, hush_course, if_named, journal_course, knowing, last_grid_course, last_script_course, lines_course, live_part, noted, open_course, paint_course, painted_course, picture_at, preview_course, save_course, saves_course, script_course, show_course, take_course, update_course, view_sends, write_course}
-use Rattle.orca_live.specs.States.{LiveState, Setting}
+use Rattle.orca_live.specs.States.{LiveState, Setting, begun_name}
 use Rattle.orca_live.proofs.Carried.{Anyhow}
 
 -- ---- acts after acts
 
 -- what is held is a beginning of the text of the commands
-abbrev Begun : ℕ → Option (List ℕ) → List Command → Type 0
-Begun seed held given = IfSome held (λ text. Extends text (journal_text seed given))
+abbrev Begun : List ℕ → Option (List ℕ) → List Command → Type 0
+Begun start held given = IfSome held (λ text. Extends text (kept_text start given))
 
 -- what a save or a begin, and an append, leave
 abbrev saved : List ℕ → List ℕ → List ℕ → Option (List ℕ) → Option (List ℕ)
@@ -54,27 +54,29 @@ added name other bytes held =
 
 -- wherever acts stop, what is held is a beginning of the text of the commands, and all of it where
 -- the inbox is asked; and then this holds of what is held and of the commands
-abbrev Journaled : List ℕ → ℕ → (Option (List ℕ) → List Command → Type 0) → Option (List ℕ)
+abbrev Journaled : List ℕ → List ℕ → (Option (List ℕ) → List Command → Type 0) → Option (List ℕ)
     → List Command → List Act → Type 0
-Journaled name seed after held given [] = after held given
-Journaled name seed after held given (Save other bytes ∷ acts) =
-    Begun seed held given × Journaled name seed after (saved name other bytes held) given acts
-Journaled name seed after held given (Begin other bytes ∷ acts) =
-    Begun seed held given × Journaled name seed after (saved name other bytes held) given acts
-Journaled name seed after held given (Append other bytes ∷ acts) =
-    Begun seed held given × Journaled name seed after (added name other bytes held) given acts
-Journaled name seed after held given (Obey command ∷ acts) =
-    Begun seed held given × Journaled name seed after held (given ++ command ∷ []) acts
-Journaled name seed after held given (Await poll ∷ acts) =
-    (held ≡ Some (journal_text seed given)) × Journaled name seed after held given acts
-Journaled name seed after held given (_ ∷ acts) = Journaled name seed after held given acts
+Journaled name start after held given [] = after held given
+Journaled name start after held given (Save other bytes ∷ acts) =
+    Begun start held given × Journaled name start after (saved name other bytes held) given acts
+Journaled name start after held given (Begin other bytes ∷ acts) =
+    Begun start held given × Journaled name start after (saved name other bytes held) given acts
+Journaled name start after held given (Append other bytes ∷ acts) =
+    Begun start held given × Journaled name start after (added name other bytes held) given acts
+Journaled name start after held given (Obey command ∷ acts) =
+    Begun start held given × Journaled name start after held (given ++ command ∷ []) acts
+Journaled name start after held given (Await poll ∷ acts) =
+    (held ≡ Some (kept_text start given)) × Journaled name start after held given acts
+Journaled name start after held given (Claim other bytes claimed ∷ acts) = ⊥
+Journaled name start after held given (Remove other ∷ acts) = ⊥
+Journaled name start after held given (_ ∷ acts) = Journaled name start after held given acts
 
-module _ (name : List ℕ) (seed : ℕ) where
+module _ (name start : List ℕ) where
   journaled_twice : (some all : Option (List ℕ) → List Command → Type 0) (held : Option (List ℕ))
-      (given : List Command) (xs ys : List Act) → Journaled name seed some held given xs
+      (given : List Command) (xs ys : List Act) → Journaled name start some held given xs
       → ((held : Option (List ℕ)) (given : List Command) → some held given
-      → Journaled name seed all held given ys)
-      → Journaled name seed all held given (xs ++ ys)
+      → Journaled name start all held given ys)
+      → Journaled name start all held given (xs ++ ys)
   journaled_twice some all held given [] ys first second = second held given first
   journaled_twice some all held given (Save other bytes ∷ xs) ys first second =
       (first.0, journaled_twice some all (saved name other bytes held) given xs ys first.1 second)
@@ -86,30 +88,34 @@ module _ (name : List ℕ) (seed : ℕ) where
       (first.0, journaled_twice some all held _ xs ys first.1 second)
   journaled_twice some all held given (Await poll ∷ xs) ys first second =
       (first.0, journaled_twice some all held given xs ys first.1 second)
+  journaled_twice some all held given (Claim other bytes claimed ∷ xs) ys first second = absurd first
+  journaled_twice some all held given (Remove other ∷ xs) ys first second = absurd first
   journaled_twice some all held given (_ ∷ xs) ys first second =
       journaled_twice some all held given xs ys first second
 
   -- this holds at their beginning
   begun_first : (after : Option (List ℕ) → List Command → Type 0) (held : Option (List ℕ))
       (given : List Command) (acts : List Act)
-      → ((held : Option (List ℕ)) (given : List Command) → after held given → Begun seed held given)
-      → Journaled name seed after held given acts → Begun seed held given
+      → ((held : Option (List ℕ)) (given : List Command) → after held given → Begun start held given)
+      → Journaled name start after held given acts → Begun start held given
   begun_first after held given [] last journaled = last held given journaled
   begun_first after held given (Save other bytes ∷ acts) last journaled = journaled.0
   begun_first after held given (Begin other bytes ∷ acts) last journaled = journaled.0
   begun_first after held given (Append other bytes ∷ acts) last journaled = journaled.0
   begun_first after held given (Obey command ∷ acts) last journaled = journaled.0
   begun_first after held given (Await poll ∷ acts) last journaled =
-      rw journaled.0 ([], sym (append-nil (journal_text seed given)))
+      rw journaled.0 ([], sym (append-nil (kept_text start given)))
+  begun_first after held given (Claim other bytes claimed ∷ acts) last journaled = absurd journaled
+  begun_first after held given (Remove other ∷ acts) last journaled = absurd journaled
   begun_first after held given (_ ∷ acts) last journaled =
       begun_first after held given acts last journaled
 
   -- and after each beginning of them
   begun_front : (after : Option (List ℕ) → List Command → Type 0) (held : Option (List ℕ))
       (given : List Command) (xs ys : List Act)
-      → ((held : Option (List ℕ)) (given : List Command) → after held given → Begun seed held given)
-      → Journaled name seed after held given (xs ++ ys)
-      → Begun seed (held_after name held xs) (given ++ commands_in xs)
+      → ((held : Option (List ℕ)) (given : List Command) → after held given → Begun start held given)
+      → Journaled name start after held given (xs ++ ys)
+      → Begun start (held_after name held xs) (given ++ commands_in xs)
   begun_front after held given [] ys last journaled =
       rw append-nil (begun_first after held given ys last journaled)
   begun_front after held given (Save other bytes ∷ xs) ys last journaled =
@@ -119,19 +125,21 @@ module _ (name : List ℕ) (seed : ℕ) where
   begun_front after held given (Append other bytes ∷ xs) ys last journaled =
       begun_front after (added name other bytes held) given xs ys last journaled.1
   begun_front after held given (Obey command ∷ xs) ys last journaled =
-      subst (Begun seed (held_after name held xs))
+      subst (Begun start (held_after name held xs))
       (append_assoc given (command ∷ []) (commands_in xs))
       (begun_front after held (given ++ command ∷ []) xs ys last journaled.1)
   begun_front after held given (Await poll ∷ xs) ys last journaled =
       begun_front after held given xs ys last journaled.1
+  begun_front after held given (Claim other bytes claimed ∷ xs) ys last journaled = absurd journaled
+  begun_front after held given (Remove other ∷ xs) ys last journaled = absurd journaled
   begun_front after held given (_ ∷ xs) ys last journaled =
       begun_front after held given xs ys last journaled
 
   -- where the inbox is asked, it is the text of all commands
   asked_front : (after : Option (List ℕ) → List Command → Type 0) (held : Option (List ℕ))
       (given : List Command) (xs ys : List Act) (poll : Poll)
-      → Journaled name seed after held given (xs ++ Await poll ∷ ys)
-      → held_after name held xs ≡ Some (journal_text seed (given ++ commands_in xs))
+      → Journaled name start after held given (xs ++ Await poll ∷ ys)
+      → held_after name held xs ≡ Some (kept_text start (given ++ commands_in xs))
   asked_front after held given [] ys poll journaled = rw append-nil journaled.0
   asked_front after held given (Save other bytes ∷ xs) ys poll journaled =
       asked_front after (saved name other bytes held) given xs ys poll journaled.1
@@ -140,50 +148,52 @@ module _ (name : List ℕ) (seed : ℕ) where
   asked_front after held given (Append other bytes ∷ xs) ys poll journaled =
       asked_front after (added name other bytes held) given xs ys poll journaled.1
   asked_front after held given (Obey command ∷ xs) ys poll journaled =
-      subst (λ commands. held_after name held xs ≡ Some (journal_text seed commands))
+      subst (λ commands. held_after name held xs ≡ Some (kept_text start commands))
       (append_assoc given (command ∷ []) (commands_in xs))
       (asked_front after held (given ++ command ∷ []) xs ys poll journaled.1)
   asked_front after held given (Await other ∷ xs) ys poll journaled =
       asked_front after held given xs ys poll journaled.1
+  asked_front after held given (Claim other bytes claimed ∷ xs) ys poll journaled = absurd journaled
+  asked_front after held given (Remove other ∷ xs) ys poll journaled = absurd journaled
   asked_front after held given (_ ∷ xs) ys poll journaled =
       asked_front after held given xs ys poll journaled
 
 -- ---- what is held, and what waits
 
 -- together they are the text of the commands
-abbrev Waits : ℕ → List ℕ → Option (List ℕ) → List Command → Type 0
-Waits seed lines held given =
-    (text : List ℕ) × (held ≡ Some text) × (text ++ lines ≡ journal_text seed given)
+abbrev Waits : List ℕ → List ℕ → Option (List ℕ) → List Command → Type 0
+Waits start lines held given =
+    (text : List ℕ) × (held ≡ Some text) × (text ++ lines ≡ kept_text start given)
 
-waits_begun : (seed : ℕ) (lines : List ℕ) (held : Option (List ℕ)) (given : List Command)
-    → Waits seed lines held given → Begun seed held given
-waits_begun seed lines held given waits = rw waits.1 (lines, sym waits.2)
+waits_begun : (start lines : List ℕ) (held : Option (List ℕ)) (given : List Command)
+    → Waits start lines held given → Begun start held given
+waits_begun start lines held given waits = rw waits.1 (lines, sym waits.2)
 
 -- if nothing waits, what is held is all of it
-waits_none : (seed : ℕ) (lines : List ℕ) (held : Option (List ℕ)) (given : List Command)
-    → lines ≡ [] → Waits seed lines held given → held ≡ Some (journal_text seed given)
-waits_none seed lines held given none waits =
+waits_none : (start lines : List ℕ) (held : Option (List ℕ)) (given : List Command)
+    → lines ≡ [] → Waits start lines held given → held ≡ Some (kept_text start given)
+waits_none start lines held given none waits =
     let text = waits.0 in
     waits.1 ∙ ap Some (sym (append-nil text) ∙ (ap (λ more. text ++ more) (sym none) ∙ waits.2))
 
 -- a command more
-more_lines : (seed : ℕ) (text lines : List ℕ) (given : List Command) (command : Command)
-    → text ++ lines ≡ journal_text seed given
-    → text ++ (lines ++ printed command) ≡ journal_text seed (given ++ command ∷ [])
-more_lines seed text lines given command is =
+more_lines : (start text lines : List ℕ) (given : List Command) (command : Command)
+    → text ++ lines ≡ kept_text start given
+    → text ++ (lines ++ printed command) ≡ kept_text start (given ++ command ∷ [])
+more_lines start text lines given command is =
     sym (append_assoc text lines (printed command))
     ∙ (ap (λ told. told ++ printed command) is
-    ∙ (append_assoc (printed_header seed) (flat_map printed given) (printed command)
-    ∙ ap (λ more. printed_header seed ++ more)
+    ∙ (append_assoc (start) (flat_map printed given) (printed command)
+    ∙ ap (λ more. start ++ more)
     (ap (λ last. flat_map printed given ++ last) (sym (append-nil (printed command)))
     ∙ sym (flat_map-append printed given (command ∷ [])))))
 
-waits_more : (seed : ℕ) (name : List ℕ) (journal : Option (List ℕ)) (lines : List ℕ)
+waits_more : (start name : List ℕ) (journal : Option (List ℕ)) (lines : List ℕ)
     (held : Option (List ℕ)) (given : List Command) (command : Command) → journal ≡ Some name
-    → Waits seed lines held given
-    → Waits seed (noted journal command lines) held (given ++ command ∷ [])
-waits_more seed name journal lines held given command kept waits =
-    rw kept (waits.0, waits.1, more_lines seed waits.0 lines given command waits.2)
+    → Waits start lines held given
+    → Waits start (noted journal command lines) held (given ++ command ∷ [])
+waits_more start name journal lines held given command kept waits =
+    rw kept (waits.0, waits.1, more_lines start waits.0 lines given command waits.2)
 
 -- ---- names
 
@@ -206,27 +216,27 @@ other_name name other set apart saved =
 -- ---- steps
 
 -- acts of a performance with this setting keep the journal of this name
-abbrev Writes : List ℕ → Setting → LiveState → List Act → LiveState → Type 0
-Writes name set s acts t =
+abbrev Writes : List ℕ → List ℕ → Setting → LiveState → List Act → LiveState → Type 0
+Writes name start set s acts t =
     s.setting ≡ set → (t.setting ≡ set)
-    × ((held : Option (List ℕ)) (given : List Command) → Waits set.seed s.unwritten held given
-    → Journaled name set.seed (Waits set.seed t.unwritten) held given acts)
+    × ((held : Option (List ℕ)) (given : List Command) → Waits start s.unwritten held given
+    → Journaled name start (Waits start t.unwritten) held given acts)
 
 -- messages are handed out, and then the run stands so
-handed_writes : (name : List ℕ) (seed : ℕ) (after : Option (List ℕ) → List Command → Type 0)
+handed_writes : (name start : List ℕ) (after : Option (List ℕ) → List Command → Type 0)
     (held : Option (List ℕ)) (given : List Command) (sends : List Sent) (t : Standing)
     → after held given
-    → Journaled name seed after held given ((gives sends ++ Stand t ∷ []) ++ [])
-handed_writes name seed after held given [] t last = last
-handed_writes name seed after held given (sent ∷ sends) t last =
-    handed_writes name seed after held given sends t last
+    → Journaled name start after held given ((gives sends ++ Stand t ∷ []) ++ [])
+handed_writes name start after held given [] t last = last
+handed_writes name start after held given (sent ∷ sends) t last =
+    handed_writes name start after held given sends t last
 
-views_writes : (name : List ℕ) (seed : ℕ) (after : Option (List ℕ) → List Command → Type 0)
+views_writes : (name start : List ℕ) (after : Option (List ℕ) → List Command → Type 0)
     (held : Option (List ℕ)) (given : List Command) (bytes : List ℕ) (cells : List Cell)
     → after held given
-    → Journaled name seed after held given (view_sends bytes ++ Show cells ∷ [])
-views_writes name seed after held given [] cells last = last
-views_writes name seed after held given (byte ∷ bytes) cells last = last
+    → Journaled name start after held given (view_sends bytes ++ Show cells ∷ [])
+views_writes name start after held given [] cells last = last
+views_writes name start after held given (byte ∷ bytes) cells last = last
 
 -- a file is begun with the first line with a seed
 abbrev begins_with : List ℕ → ℕ → LiveState → Course LiveState Stop
@@ -239,54 +249,54 @@ abbrev IsWritten : Option Answer → LiveState → Type 0
 IsWritten None s = s.unwritten ≡ []
 IsWritten (Some a) s = Unit {0}
 
-module _ (name : List ℕ) (set : Setting) (kept : set.journal ≡ Some name)
+module _ (name start : List ℕ) (set : Setting) (kept : set.journal ≡ Some name)
     (apart : IsApart name set) where
-  writes_none : (s : LiveState) → Writes name set s [] s
+  writes_none : (s : LiveState) → Writes name start set s [] s
   writes_none s is = (is, λ held given waits. waits)
 
-  writes_twice : (r s t : LiveState) (xs ys : List Act) → Writes name set r xs s
-      → Writes name set s ys t → Writes name set r (xs ++ ys) t
+  writes_twice : (r s t : LiveState) (xs ys : List Act) → Writes name start set r xs s
+      → Writes name start set s ys t → Writes name start set r (xs ++ ys) t
   writes_twice r s t xs ys first second is =
       let more = second (first is).0 in (
         more.0,
         λ held given waits.
-            let some = Waits set.seed s.unwritten in
-            let all = Waits set.seed t.unwritten in
-            journaled_twice name set.seed some all held given xs ys ((first is).1 held given waits)
+            let some = Waits start s.unwritten in
+            let all = Waits start t.unwritten in
+            journaled_twice name start some all held given xs ys ((first is).1 held given waits)
             more.1,
       )
 
   writes_command : (who : ℕ) (command : Command) (s : LiveState)
-      → Writes name set s (hand_course who command s).acts (hand_course who command s).state
+      → Writes name start set s (hand_course who command s).acts (hand_course who command s).state
   unfolding hand_course obey_course onward mapped
   writes_command who command s is =
       let o = obey s.standing.machine command in (
         is,
         λ held given waits. (
-          waits_begun set.seed s.unwritten held given waits,
-          handed_writes name set.seed _ held (given ++ command ∷ []) (handed_of true o.messages)
+          waits_begun start s.unwritten held given waits,
+          handed_writes name start _ held (given ++ command ∷ []) (handed_of true o.messages)
               (standing_after s.standing o)
-              (waits_more set.seed name s.setting.journal s.unwritten held given command
+              (waits_more start name s.setting.journal s.unwritten held given command
               (ap (λ (set : Setting). set.journal) is ∙ kept) waits),
         ),
       )
 
   writes_close : (s : LiveState)
-      → Writes name set s (hush_course s).acts (hush_course s).state
+      → Writes name start set s (hush_course s).acts (hush_course s).state
   unfolding hush_course silence_course onward mapped
   writes_close s is = (
     is,
     λ held given waits.
-        handed_writes name set.seed (Waits set.seed s.unwritten) held given
+        handed_writes name start (Waits start s.unwritten) held given
         (handed_of true (ends (notes_of s.standing))) (standing_closed s.standing) waits,
   )
 
   writes_save : (other bytes : List ℕ) (s : LiveState) → IsSavedName other s.setting
-      → Writes name set s (Save other bytes ∷ []) s
+      → Writes name start set s (Save other bytes ∷ []) s
   writes_save other bytes s saved is = (
     is,
     λ held given waits. (
-      waits_begun set.seed s.unwritten held given waits,
+      waits_begun start s.unwritten held given waits,
       rw (other_name name other set apart (rw is at saved)) waits,
     ),
   )
@@ -294,7 +304,7 @@ module _ (name : List ℕ) (set : Setting) (kept : set.journal ≡ Some name)
   -- the lines that wait are added
   writes_append : (other : List ℕ) (byte : ℕ) (bytes : List ℕ) (s : LiveState)
       → s.setting.journal ≡ Some other → s.unwritten ≡ byte ∷ bytes
-      → Writes name set s (Append other (byte ∷ bytes) ∷ []) (record s { unwritten = [] })
+      → Writes name start set s (Append other (byte ∷ bytes) ∷ []) (record s { unwritten = [] })
   writes_append other byte bytes s named lines is =
       let same : name ≡ other =
       same_Some _ _ (sym kept ∙ (ap (λ (set : Setting). set.journal) (sym is) ∙ named)) in (
@@ -302,23 +312,23 @@ module _ (name : List ℕ) (set : Setting) (kept : set.journal ≡ Some name)
         λ held given waits.
             let told = rw lines at waits in
             let all = told.0 ++ byte ∷ bytes in (
-              waits_begun set.seed (byte ∷ bytes) held given told,
+              waits_begun start (byte ∷ bytes) held given told,
               rw (sym same, same_name name, told.1) (all, refl, append-nil all ∙ told.2),
             ),
       )
 
   writes_paint : (marks : List MarkSet) (s : LiveState)
-      → Writes name set s (painted_course marks s).acts (painted_course marks s).state
+      → Writes name start set s (painted_course marks s).acts (painted_course marks s).state
   unfolding painted_course
   writes_paint marks s is =
       let cells = picture_at marks s in (
         is,
         λ held given waits.
-            views_writes name set.seed (Waits set.seed s.unwritten) held given
+            views_writes name start (Waits start s.unwritten) held given
             (painting_bytes s.screen s.shown cells) cells waits,
       )
 
-  writes_carries : Carries (Anyhow (Writes name set))
+  writes_carries : Carries (Anyhow (Writes name start set))
   writes_carries = record {
     none = λ who s t alike is.
         (alike.setting ∙ is, λ held given waits. rw alike.unwritten waits);
@@ -338,11 +348,11 @@ module _ (name : List ℕ) (set : Setting) (kept : set.journal ≡ Some name)
 
   writes_turn : (turn : Turn) (a : Option Answer) (s : LiveState) → IsInner turn
       → IsHeard turn a → IsWritten a s
-      → let c = turn_course live_part turn s in Writes name set s c.acts c.state
+      → let c = turn_course live_part turn s in Writes name start set s c.acts c.state
   unfolding turn_course given_course mapped
   writes_turn (Asked poll) None s inner heard none = λ is. (
     is,
-    λ held given waits. (waits_none set.seed s.unwritten held given none waits, waits),
+    λ held given waits. (waits_none start s.unwritten held given none waits, waits),
   )
   writes_turn (Asked poll) (Some a) s inner heard none = absurd heard
   writes_turn (Learned came) a s inner heard none = λ is. (is, λ held given waits. waits)
@@ -369,11 +379,11 @@ module _ (name : List ℕ) (set : Setting) (kept : set.journal ≡ Some name)
   turn_written (Given i) (Some a) s is inner heard none = tt
 
   turns_by : (end : Option Ending) (c : Course LiveState Ending) (turns : List Turn)
-      (s : LiveState) → Writes name set s c.acts c.state
+      (s : LiveState) → Writes name start set s c.acts c.state
       → (c.state.setting ≡ set → let d = each (turn_course live_part) turns c.state in
-      Writes name set c.state d.acts d.state)
+      Writes name start set c.state d.acts d.state)
       → let e = onward_by end c (each (turn_course live_part) turns) in
-      Writes name set s e.acts e.state
+      Writes name start set s e.acts e.state
   turns_by None c turns s first more = λ is.
       let d = each (turn_course live_part) turns c.state in
       writes_twice s c.state d.state c.acts d.acts first (more (first is).0) is
@@ -381,7 +391,7 @@ module _ (name : List ℕ) (set : Setting) (kept : set.journal ≡ Some name)
 
   writes_turns : (turns : List Turn) (a : Option Answer) (s : LiveState) → AreInner turns
       → AreHeard turns a → IsWritten a s
-      → let c = each (turn_course live_part) turns s in Writes name set s c.acts c.state
+      → let c = each (turn_course live_part) turns s in Writes name start set s c.acts c.state
   unfolding each onward turn_course
   writes_turns [] a s inner heard none = writes_none s
   writes_turns (Over ending ∷ turns) a s inner heard none = writes_none s
@@ -398,7 +408,7 @@ module _ (name : List ℕ) (set : Setting) (kept : set.journal ≡ Some name)
       → s.unwritten ≡ []
       → let p = paint_course [] s in
       let c = each (turn_course live_part) turns p.state in
-      Writes name set s (p.acts ++ c.acts) c.state
+      Writes name start set s (p.acts ++ c.acts) c.state
   unfolding paint_course painted_course
   writes_first turns s inner heard none =
       let p = paint_course [] s in
@@ -406,42 +416,76 @@ module _ (name : List ℕ) (set : Setting) (kept : set.journal ≡ Some name)
       writes_twice s p.state c.state p.acts c.acts (paint_carried writes_carries 0 [] s)
       (writes_turns turns None p.state inner heard none)
 
-  -- the journal begins first
-  open_is : (s : LiveState) → s.setting ≡ set
-      → open_course s ≡ joined (begins_with name set.seed s) (paint_course [] s)
-  unfolding open_course journal_course header_course onward
-  open_is s is =
-      ap (λ (journal : Option (List ℕ)).
-      let c = if_named journal header_course s in onward_by c.ending c (paint_course []))
-      (ap (λ (set : Setting). set.journal) is ∙ kept)
-      ∙ ap (λ (seed : ℕ). joined (begins_with name seed s) (paint_course [] s))
-      (ap (λ (set : Setting). set.seed) is)
+  -- the journal begins first; a room has begun
+  begins_by : Bool → LiveState → Course LiveState Stop
+  begins_by true s = still s
+  begins_by false s = begins_with name set.seed s
 
-  begun_journaled : (s : LiveState) (opening : Losses) (heard : List Hearing) → s.setting ≡ set
-      → s.unwritten ≡ []
+  named_is : (room : Bool) (s : LiveState) → s.setting ≡ set
+      → if_named (if room then None else set.journal) header_course s ≡ begins_by room s
+  unfolding header_course begins_by
+  named_is true s is = refl
+  named_is false s is =
+      ap (λ (journal : Option (List ℕ)). if_named journal header_course s) kept
+      ∙ ap (λ (seed : ℕ). begins_with name seed s) (ap (λ (set : Setting). set.seed) is)
+
+  begins_goes : (room : Bool) (s : LiveState)
+      → onward (begins_by room s) (paint_course []) ≡ joined (begins_by room s) (paint_course [] s)
+  unfolding begins_by onward
+  begins_goes true s = refl
+  begins_goes false s = refl
+
+  open_is : (s : LiveState) → s.setting ≡ set
+      → open_course s ≡ joined (begins_by set.room s) (paint_course [] s)
+  unfolding open_course journal_course
+  open_is s is =
+      ap (λ (c : Course LiveState Stop). onward c (paint_course []))
+      (ap (λ (of : Setting). if_named (begun_name of) header_course s) is ∙ named_is set.room s is)
+      ∙ begins_goes set.room s
+
+  -- after which the file holds its start
+  start_journaled : (room : Bool) (held : Option (List ℕ)) (lines : List ℕ) (s : LiveState)
+      (acts : List Act) → StartsSo room set.seed start held
+      → Journaled name start (Waits start lines) (Some start) [] acts
+      → Journaled name start (Waits start lines) held [] ((begins_by room s).acts ++ acts)
+  unfolding begins_by
+  start_journaled true held lines s acts starts journaled = rw starts journaled
+  start_journaled false held lines s acts starts journaled =
+      rw (starts.1, ← starts.0, same_name) (tt, journaled)
+
+  begun_journaled : (s : LiveState) (opening : Losses) (heard : List Hearing) (held : Option (List ℕ))
+      → s.setting ≡ set → s.unwritten ≡ [] → StartsSo set.room set.seed start held
       → let c = begun live_part s opening heard in
       (c.state.setting ≡ set)
-      × Journaled name set.seed (Waits set.seed c.state.unwritten) None [] c.acts
+      × Journaled name start (Waits start c.state.unwritten) held [] c.acts
   unfolding begun each turn_course given_course take_course paint_course painted_course onward mapped
-  begun_journaled s opening heard is none =
+  begun_journaled s opening heard held is none starts =
       let t = knowing opening s in
       let writes =
       writes_first (heard_turns heard) t (inner_heard heard) (all_heard heard) none is in
-      let header = printed_header set.seed in
-      let waits : Waits set.seed t.unwritten (Some header) [] =
-      (header, refl, ap (λ lines. header ++ lines) none) in
-      rw (open_is t is) (writes.0, (tt, rw same_name (writes.1 (Some header) [] waits)))
+      let waits : Waits start t.unwritten (Some start) [] =
+      (start, refl, ap (λ lines. start ++ lines) none) in
+      let p = paint_course [] t in
+      let c = each (turn_course live_part) (heard_turns heard) p.state in
+      rw (open_is t is) (
+        writes.0,
+        subst (Journaled name start (Waits start c.state.unwritten) held [])
+            (sym (append_assoc (begins_by set.room t).acts p.acts c.acts))
+            (start_journaled set.room held c.state.unwritten t (p.acts ++ c.acts) starts
+            (writes.1 (Some start) [] waits)),
+      )
 
-  lastly_journaled : (end : Option Ending) (c : Course LiveState Ending) → c.state.setting ≡ set
-      → Journaled name set.seed (Waits set.seed c.state.unwritten) None [] c.acts
+  lastly_journaled : (end : Option Ending) (c : Course LiveState Ending) (held : Option (List ℕ))
+      → c.state.setting ≡ set
+      → Journaled name start (Waits start c.state.unwritten) held [] c.acts
       → let d = lastly_by end c (finished live_part) in
-      Journaled name set.seed (Waits set.seed d.state.unwritten) None [] d.acts
+      Journaled name start (Waits start d.state.unwritten) held [] d.acts
   unfolding finished take_course mapped
-  lastly_journaled None c is journaled = journaled
-  lastly_journaled (Some e) c is journaled =
+  lastly_journaled None c held is journaled = journaled
+  lastly_journaled (Some e) c held is journaled =
       let last = finish_carried writes_carries (λ who. writes_close) 0 c.state is in
-      journaled_twice name set.seed (Waits set.seed c.state.unwritten)
-      (Waits set.seed (finish_course c.state).state.unwritten) None [] c.acts
+      journaled_twice name start (Waits start c.state.unwritten)
+      (Waits start (finish_course c.state).state.unwritten) held [] c.acts
       (finish_course c.state).acts journaled last.1
 
   -- at the end nothing waits
@@ -458,29 +502,28 @@ module _ (name : List ℕ) (set : Setting) (kept : set.journal ≡ Some name)
 
 pub journals_performance : JournalsPerformance
 unfolding performance lastly
-journals_performance s came heard name kept apart none =
+journals_performance s came heard name start held kept apart none starts =
     let c = begun live_part s came heard in
-    let first = begun_journaled name s.setting kept apart s came heard refl none in
+    let first = begun_journaled name start s.setting kept apart s came heard held refl none starts in
     let d = performance live_part s came heard in
-    let seed = s.setting.seed in
-    let all = lastly_journaled name s.setting kept apart c.ending c first.0 first.1 in
-    let after = Waits seed d.state.unwritten in
+    let all = lastly_journaled name start s.setting kept apart c.ending c held first.0 first.1 in
+    let after = Waits start d.state.unwritten in
     record {
       asked = λ xs ys poll is.
-          asked_front name seed after None [] xs ys poll
-          (subst (Journaled name seed after None []) is all);
+          asked_front name start after held [] xs ys poll
+          (subst (Journaled name start after held []) is all);
       begun = λ xs ys is.
-          begun_front name seed after None [] xs ys
-          (λ held given waits. waits_begun seed d.state.unwritten held given waits)
-          (subst (Journaled name seed after None []) is all);
+          begun_front name start after held [] xs ys
+          (λ held given waits. waits_begun start d.state.unwritten held given waits)
+          (subst (Journaled name start after held []) is all);
       -- as if the inbox were asked once more
       ended = λ ends.
-          asked_front name seed (λ held given. Unit {0}) None [] d.acts []
+          asked_front name start (λ held given. Unit {0}) held [] d.acts []
           (record { until = None; answer = answer.End; bytes = [] })
-          (journaled_twice name seed after (λ held given. Unit {0}) None [] d.acts _ all
+          (journaled_twice name start after (λ held given. Unit {0}) held [] d.acts _ all
           (λ held given waits. (
-            waits_none seed d.state.unwritten held given
-                (last_written name s.setting kept apart c.ending c first.0 ends) waits,
+            waits_none start d.state.unwritten held given
+                (last_written name start s.setting kept apart c.ending c first.0 ends) waits,
             tt,
           )));
     }

@@ -42,7 +42,7 @@ use Rattle.orca_term.specs.declared.keys.Key.{Key}
 use Rattle.orca_live.specs.Items.{ByteOf, HeardItem, items_of}
 use Rattle.orca_live.specs.Performing.{answered_at, byte_course, due_course, finish_course, fired, frame_course, hand_course, header_course, hush_course, if_named, item_course, journal_course, key_course, knowing, last_grid_course, last_script_course, lines_course, live_part, lull_course, open_course, owning, paint_course, painted_course, press_course, preview_course, read_course, save_course, saves_course, script_course, show_course, struck_course, struck_where, take_course, update_course, wish_course, write_course}
 use Rattle.orca_live.specs.Solo.{HasNoRedo, IsSolo, PlaysAlone, as_alone, redo_byte}
-use Rattle.orca_live.specs.States.{LiveState, around_at, dims_at, fitted, hands_in, is_full, is_hand, leader_at, piece_at}
+use Rattle.orca_live.specs.States.{LiveState, around_at, begun_name, dims_at, fitted, hands_in, is_full, is_hand, leader_at, piece_at}
 use Rattle.orca_live.proofs.RedoKey.{IsOther, IsSpared, is_redo, turn_other}
 use Rattle.orca_live.proofs.WorthLemmas.{all_counted, worth_of}
 
@@ -280,7 +280,7 @@ update_agrees s solo = onward_agrees show_course (write_agrees s solo) (λ on. s
 journal_agrees : Alike journal_course
 unfolding journal_course header_course
 journal_agrees s solo =
-    named_agrees s.setting.journal header_course (λ name t one. agreed _ one) s solo
+    named_agrees (begun_name s.setting) header_course (λ name t one. agreed _ one) s solo
 
 open_agrees : Alike open_course
 unfolding open_course

@@ -33,7 +33,7 @@ use Rattle.orca_term.specs.declared.keys.Key.{Key}
 use Rattle.orca_live.specs.Hands.{Change, IsMadeBy, editor_by, key_of, keys_of}
 use Rattle.orca_live.specs.Hands.Change.{Denied, Fitted, Struck}
 use Rattle.orca_live.specs.Performing.{additions, denied_course, fired, hand_course, header_course, if_named, journal_course, key_course, lines_course, open_course, paint_course, painted_course, press_course, preview_course, read_course, save_course, show_course, struck_course, struck_where, update_course, view_sends, wish_course, write_course}
-use Rattle.orca_live.specs.States.{LiveState, around_at, dims_at, editor_at, fitted, is_hand, leader_at, piece_at}
+use Rattle.orca_live.specs.States.{LiveState, around_at, begun_name, dims_at, editor_at, fitted, is_hand, leader_at, piece_at}
 use Rattle.orca_live.proofs.CuttingLaw.{owning_hands}
 
 -- ---- keys among acts
@@ -356,7 +356,7 @@ write_silent hand s =
 journal_silent : (hand : ℕ) (s : LiveState) → IsSilent hand s (journal_course s)
 unfolding journal_course header_course
 journal_silent hand s =
-    silent_named hand s.setting.journal header_course s
+    silent_named hand (begun_name s.setting) header_course s
     (λ name. record { strikes = strikes_same hand s _ _ refl refl; goes = refl })
 
 views_keys : (hand : ℕ) (bytes : List ℕ) (cells : List Cell)

@@ -36,7 +36,7 @@ use Rattle.orca_term.specs.declared.keys.Key.TheVariants as key
 use Rattle.orca_term.specs.declared.keys.Pending.{Pending}
 use Rattle.orca_term.specs.declared.keys.Pending.TheVariants.{Nothing, Lone, Sequence, Overlong}
 use Rattle.orca_live.specs.Performing.{additions, answered_at, byte_course, denied_course, due_course, finish_course, fired, frame_course, hand_course, header_course, hush_course, if_named, item_course, journal_course, key_course, knowing, last_grid_course, last_script_course, lines_course, lull_course, open_course, paced, paint_course, painted_course, press_course, preview_course, read_course, save_course, saves_course, script_course, show_course, struck_course, struck_where, take_course, telling, toggled, update_course, wish_course, write_course}
-use Rattle.orca_live.specs.States.{LiveState, Setting, around_at, dims_at, fitted, hands_in, is_full, is_hand, key_name, leader_at, piece_at}
+use Rattle.orca_live.specs.States.{LiveState, Setting, around_at, begun_name, dims_at, fitted, hands_in, is_full, is_hand, key_name, leader_at, piece_at}
 
 -- two states are the same to the session, to the terminal, to the script and to the journal, and
 -- have as many hands, of which only the keys and the editors may differ
@@ -64,6 +64,19 @@ looks_so s players pace at came hands = record {
   given = refl;
   unwritten = refl;
   hands = hands;
+  crew = refl;
+}
+
+-- whether something is not saved is nothing to them either
+looks_loose : (s : LiveState) (loose : Bool) → LooksAlike s (record s { loose = loose })
+looks_loose s loose = record {
+  setting = refl;
+  standing = refl;
+  screen = refl;
+  shown = refl;
+  given = refl;
+  unwritten = refl;
+  hands = refl;
   crew = refl;
 }
 
@@ -175,16 +188,25 @@ module _ {holds : Holds} (carry : Carries holds) where
       carry.both who d.ending s c.state d.state c.acts d.acts (rw is at first) (more c.state)
   onward_carried who s (Some e) c next is first more = first
 
+  -- the grid is saved
+  saved_carried : (who : ℕ) (name : List ℕ) (s : LiveState) → IsSavedName name s.setting
+      → Along holds who (save_course name s) s
+  unfolding save_course
+  saved_carried who name s saved =
+      let t : LiveState = record s { loose = false } in
+      carry.both who None s s t (Save name _ ∷ []) [] (carry.save who name _ s saved)
+      (carry.none who s t (looks_loose s false))
+
   -- ---- keys
 
   wish_carried : (hand : ℕ) (w : Wish) (s : LiveState)
       → (s.crew.alone ≡ false → w ≢ wish.Do Redo) → Along holds hand (wish_course hand w s) s
-  unfolding wish_course save_course
+  unfolding wish_course
   wish_carried hand wish.Nothing s other = carry.none hand s s (looks_same s)
   wish_carried hand (wish.Do command) s other =
       carry.command hand command s (λ shared is. other shared (ap wish.Do is))
   wish_carried hand wish.Toggle s other = carry.none hand s (toggled s) (toggled_alike s)
-  wish_carried hand wish.Save s other = carry.save hand _ _ s (inl refl)
+  wish_carried hand wish.Save s other = saved_carried hand _ s (inl refl)
   wish_carried hand wish.Quit s other = carry.leaves hand s
   wish_carried hand (wish.Slower beats) s other =
       let bpm = slower beats s.pace.bpm in carry.none hand s (paced bpm s) (paced_alike bpm s)
@@ -354,16 +376,15 @@ module _ {holds : Holds} (carry : Carries holds) where
   unfolding open_course journal_course onward
   open_carried begins who s =
       let c = journal_course s in
-      onward_carried who s c.ending c (paint_course []) refl (begun_by begins who s.setting.journal s)
+      onward_carried who s c.ending c (paint_course []) refl (begun_by begins who (begun_name s.setting) s)
       (paint_carried who [])
 
   -- ---- the end
 
   grid_carried : (who : ℕ) (name : Option (List ℕ)) (s : LiveState) → s.setting.save ≡ name
       → Along holds who (if_named name save_course s) s
-  unfolding save_course
   grid_carried who None s is = carry.none who s s (looks_same s)
-  grid_carried who (Some name) s is = carry.save who name _ s (inr (inl is))
+  grid_carried who (Some name) s is = saved_carried who name s (inr (inl is))
 
   script_carried : (who : ℕ) (name : Option (List ℕ)) (s : LiveState) → s.setting.script ≡ name
       → Along holds who (if_named name script_course s) s

@@ -1,8 +1,8 @@
 -- The definition of a performance: what is done for a key, for an item, and at the end.
-use Rattle.std.specs.Prelude.{ℕ, nat_le, if◌then◌else◌, List, [], ◌∷◌, ◌++◌, length, Option, Some, None, unwrap_or}
+use Rattle.std.specs.Prelude.{ℕ, Bool, true, false, ◌||◌, nat_le, if◌then◌else◌, List, [], ◌∷◌, ◌++◌, length, Option, Some, None, unwrap_or}
 use Rattle.std.specs.Option.{option_map}
 use Rattle.orca_base.specs.declared.command.Command.{Command}
-use Rattle.orca_base.specs.declared.command.Command.TheVariants.{Frame}
+use Rattle.orca_base.specs.declared.command.Command.TheVariants.{Copy, Frame}
 use Rattle.orca_base.specs.declared.command.Rule.{Rule}
 use Rattle.orca_base.specs.declared.port.Port.TheVariants as port
 use Rattle.orca_base.specs.MarkSet.{MarkSet}
@@ -36,7 +36,7 @@ use Rattle.orca_term.specs.declared.editor.Wish.{Wish}
 use Rattle.orca_term.specs.declared.editor.Wish.TheVariants as wish
 use Rattle.orca_term.specs.declared.keys.Key.{Key}
 use Rattle.orca_live.specs.Quiet.{silent_manner}
-use Rattle.orca_live.specs.States.{LiveState, around_at, fitted, hands_in, is_full, is_hand, key_name, leader_at, status_line_at, live_stance, piece_at, until_at}
+use Rattle.orca_live.specs.States.{LiveState, around_at, begun_name, fitted, hands_in, is_full, is_hand, key_name, leader_at, status_line_at, live_stance, piece_at, until_at}
 
 -- what is done under a name, if there is one
 abbrev pub if_named : Option (List ℕ) → (List ℕ → LiveState → Course LiveState Stop) → LiveState
@@ -70,10 +70,19 @@ abbrev pub owning : ℕ → Command → Option Rule → ℕ → CrewState → Cr
 owning who command (Some rule) n c = c
 owning who command None n c = if nat_le n c.room then took_by who command n c else c
 
+-- whether a command is one that a save of the grid would keep: a rule did not refuse it, and it is no
+-- frame and no copy
+abbrev pub loosens : Command → Option Rule → Bool
+loosens command (Some rule) = false
+loosens Frame None = false
+loosens (Copy rect) None = false
+loosens command None = true
+
 -- a command of a hand, or of nobody, is kept, and led the session there
 abbrev pub obeyed_by : ℕ → Command → LiveState → Standing → LiveState
 obeyed_by who command s at = record (keeping_command command s) {
   standing = at;
+  loose = s.loose || loosens command at.tally.refusal;
   crew = owning who command at.tally.refusal (length at.machine.history) s.crew;
 }
 
@@ -83,9 +92,10 @@ hand_course who command s =
     mapped (λ t. obeyed_by who command s t.standing) (λ end. end)
     (obey_course silent_manner 0 command (concert_with s.standing tt))
 
--- the grid is saved under this name
+-- the grid is saved under this name. A save that fails is told of by what the calls came to
 unfoldable pub save_course : List ℕ → LiveState → Course LiveState Stop
-save_course name s = course (Save name (text_of (piece_at s).sheet) ∷ []) 0 s
+save_course name s =
+    course (Save name (text_of (piece_at s).sheet) ∷ []) 0 (record s { loose = false })
 
 -- the script of the commands, if they are kept
 abbrev pub script_text : ℕ → Option (List Command) → List ℕ
@@ -102,9 +112,9 @@ script_course name s = course (Save name (script_text s.setting.seed s.given) �
 unfoldable pub header_course : List ℕ → LiveState → Course LiveState Stop
 header_course name s = course (Begin name (printed_header s.setting.seed) ∷ []) 0 s
 
--- it begins, if one is kept
+-- it begins, if one is kept that has not begun
 unfoldable pub journal_course : LiveState → Course LiveState Stop
-journal_course s = if_named s.setting.journal header_course s
+journal_course s = if_named (begun_name s.setting) header_course s
 
 -- bytes are added to the file of a name as one piece, unless there are none
 abbrev pub additions : List ℕ → List ℕ → List Act

@@ -9,8 +9,14 @@ use Rattle.orca_term.specs.Pacing.{pace_from}
 
 -- no call has failed, as far as was told
 abbrev pub nothing_failed : Losses
-nothing_failed =
-    record { midi = false; udp = false; osc = false; journal = false; unsaved = false }
+nothing_failed = record {
+  midi = false;
+  udp = false;
+  osc = false;
+  journal = false;
+  unsaved = false;
+  unstored = false;
+}
 
 -- a pacer starts at this moment, nothing was painted, and no command was given, so none waits for
 -- the journal
@@ -24,6 +30,7 @@ live_at_start set crew at standing = record {
   shown = None;
   given = option_map (λ name. []) set.script;
   unwritten = [];
+  loose = false;
   at = at;
   came = nothing_failed;
 }

@@ -30,8 +30,8 @@ use Rattle.orca_term.specs.declared.status.StatusLine.{StatusLine}
 
 -- the tempo in beats a minute at the start, the seed of the random operator, the name of the grid's
 -- file, the names under which the grid and the script are saved at the end, the name of the
--- journal, which commands are added to while it plays, whether the full keys are read, and the
--- screen at the start
+-- journal, which commands are added to while it plays, whether that is a room, which has its first
+-- lines, whether the full keys are read, and the screen at the start
 pub record Setting : Type 0 where
   pub bpm : ℕ
   pub seed : ℕ
@@ -39,6 +39,7 @@ pub record Setting : Type 0 where
   pub save : Option (List ℕ)
   pub script : Option (List ℕ)
   pub journal : Option (List ℕ)
+  pub room : Bool
   pub full : Bool
   pub screen : ScreenSize
 
@@ -51,6 +52,7 @@ setting_in set = record {
   save = option_map (λ name. name.now) set.save;
   script = option_map (λ name. name.now) set.script;
   journal = option_map (λ name. name.now) set.journal;
+  room = set.room;
   full = set.full;
   screen = set.screen;
 }
@@ -58,6 +60,10 @@ setting_in set = record {
 -- the name under which the key saves the grid
 abbrev pub key_name : Setting → List ℕ
 key_name set = unwrap_or set.save set.grid
+
+-- the file that is begun: a journal; a room has begun
+abbrev pub begun_name : Setting → Option (List ℕ)
+begun_name set = if set.room then None else set.journal
 
 pub record LiveState : Type 0 where
   pub setting : Setting
@@ -73,6 +79,8 @@ pub record LiveState : Type 0 where
   pub given : Option (List Command)
   -- the lines of commands that are not yet added to the journal, if one is kept
   pub unwritten : List ℕ
+  -- whether a command that a save of the grid would keep came after the last of them
+  pub loose : Bool
   -- the moment of the last answer of the inbox
   pub at : ℕ
   -- what the calls came to, as it was told last
@@ -90,6 +98,7 @@ live_state g live = record {
   shown = live.view.last;
   given = option_map (λ commands. commands.items) live.given;
   unwritten = live.unwritten.items;
+  loose = live.loose;
   at = live.at;
   came = live.came;
 }

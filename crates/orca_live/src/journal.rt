@@ -30,7 +30,7 @@ pub(crate) fn note(
     Ok(())
 }
 
-/// Begins the journal, if one is kept.
+/// Begins the journal, if one is kept. A room has begun.
 #[tactic(auto, using(orca_course::proofs::WorldLemmas::called_still), unfolding(crate::specs::Performing::journal_course))]
 pub(crate) fn begin_journal<M: Machine, H: House>(
     live: &mut Live<'_, M>,
@@ -39,7 +39,7 @@ pub(crate) fn begin_journal<M: Machine, H: House>(
     ensures { LiveDid M.Machine.own journal_course
         live.old desk.old (goes_of result) live.new desk.new }
 {
-    match live.setting.journal {
+    match live.setting.begun_name() {
         Some(name) => begin_file(live, desk, name),
         None => Ok(()),
     }

@@ -9,7 +9,7 @@ ghost use Rattle.orca_term.specs.Pacing.{faster, retimed, slower};
 ghost use Rattle.orca_term.specs.Picture.{screen_inside};
 ghost use Rattle.orca_course.specs.Doing.{goes_of};
 ghost use Rattle.orca_course.specs.Worlds.{Called};
-ghost use Rattle.orca_live.specs.Performing.{byte_course, hand_course, owning, press_course, struck_course, telling, wish_course};
+ghost use Rattle.orca_live.specs.Performing.{byte_course, hand_course, owning, press_course, struck_course, telling, wish_course, loosens};
 ghost use Rattle.orca_live.specs.States.{LiveDid, around_at, dims_at, editor_at, fitted, live_state, screen_at};
 
 use crate::Live;
@@ -49,6 +49,13 @@ fn own(crew: &mut Crew, who: u8, command: &Command, refused: Option<Rule>, momen
     }
 }
 
+/// Whether a command is one that a save of the grid would keep, unless this rule refused it.
+fn loosens(command: &Command, refused: Option<Rule>) -> bool
+    ensures { result ≡ loosens command.now refused }
+{
+    refused.is_none() && !matches!(command, Command::Frame | Command::Copy { .. })
+}
+
 /// Does a command of a hand, or of nobody, and keeps it for the script and the journal.
 #[tactic(auto, using(orca_course::proofs::DoingLemmas::goes_err, orca_course::proofs::DoingLemmas::does_nothing))]
 pub(crate) fn do_command<M: Machine, H: House>(
@@ -63,6 +70,7 @@ pub(crate) fn do_command<M: Machine, H: House>(
     keep(&mut live.given, command)?;
     note(live.setting.journal, command, &mut live.unwritten)?;
     live.stage.do_command(desk, 0, command)?;
+    live.loose |= loosens(command, live.stage.tally.refusal);
     let moments = live.stage.machine.moments();
     own(
         &mut live.crew,

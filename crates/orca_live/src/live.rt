@@ -30,6 +30,8 @@ pub struct Live<'a, M> {
     pub(crate) given: Option<Vec<Command>>,
     /// The lines of commands that are not yet added to the journal, if one is kept.
     pub(crate) unwritten: Vec<u8>,
+    /// Whether a command that a save of the grid would keep came after the last of them.
+    pub(crate) loose: bool,
     /// The moment of the last answer of the inbox, in microseconds.
     pub(crate) at: u64,
     /// What the calls came to, as it was told last.
@@ -63,6 +65,7 @@ impl<'a, M: Machine> Live<'a, M> {
             view,
             given: setting.script.map(|_| Vec::new(alloc)),
             unwritten: Vec::new(alloc),
+            loose: false,
             at,
             came: Losses {
                 midi: false,
@@ -70,6 +73,7 @@ impl<'a, M: Machine> Live<'a, M> {
                 osc: false,
                 journal: false,
                 unsaved: false,
+                unstored: false,
             },
             text: Vec::new(alloc),
         })
@@ -91,6 +95,13 @@ impl<'a, M: Machine> Live<'a, M> {
             Some(commands) => Some(commands.as_slice()),
             None => None,
         }
+    }
+
+    /// Whether a command that a save of the grid would keep came after the last of them.
+    pub fn is_loose(&self) -> bool
+        ensures { result ≡ (live_state M.Machine.own self.now).loose }
+    {
+        self.loose
     }
 
     /// What the status line tells besides the first hand's editor.

@@ -14,8 +14,9 @@ use orca_grid::Grid;
 use orca_rig::{Disk, House};
 use orca_script::print2;
 
-/// Saves the grid under a name. A save that fails is recorded, and the performance goes on.
-#[tactic(auto, using(orca_course::proofs::DoingLemmas::does_nothing, orca_course::proofs::DoingLemmas::goes_err, crate::proofs::DoneLemmas::save_did), unfolding(crate::specs::Performing::save_course))]
+/// Saves the grid under a name. A save that fails is recorded, and the performance goes on: nobody
+/// asks then whether something is loose.
+#[tactic(auto, using(orca_course::proofs::DoingLemmas::does_nothing, orca_course::proofs::DoingLemmas::goes_err, crate::proofs::DoneLemmas::saved_did), unfolding(crate::specs::Performing::save_course))]
 pub(crate) fn save_grid<M: Machine, H: House>(
     live: &mut Live<'_, M>,
     desk: &mut Desk<H>,
@@ -28,6 +29,7 @@ pub(crate) fn save_grid<M: Machine, H: House>(
     live.stage.machine.is_shown();
     live.text.clear();
     Grid::print(&live.stage.machine, &mut live.text)?;
+    live.loose = false;
     desk.save(name, live.text.as_slice(), disk)
 }
 

@@ -18,6 +18,8 @@ pub struct Setting<'a> {
     pub script: Option<&'a str>,
     /// The file that each command is added to while the performance plays.
     pub journal: Option<&'a str>,
+    /// Whether that is a room: a file that was claimed, with its first lines, before anybody was heard.
+    pub room: bool,
     /// Whether the full keys are read, and not the plain ones.
     pub full: bool,
     /// The screen at the start.
@@ -30,12 +32,23 @@ pub struct Setting<'a> {
 }
 
 impl<'a> Setting<'a> {
-    ghost use Rattle.orca_live.specs.States.{key_name, setting_in};
+    ghost use Rattle.std.specs.Option.{option_map};
+    ghost use Rattle.orca_live.specs.States.{begun_name, key_name, setting_in};
 
     /// The name under which the key Save saves the grid.
     pub(crate) fn key_name(&self) -> &'a str
         ensures { result.now ≡ key_name (setting_in self.now) }
     {
         self.save.unwrap_or(self.grid)
+    }
+
+    /// The file that is begun: a journal; a room has begun.
+    pub(crate) fn begun_name(&self) -> Option<&'a str>
+        ensures { option_map (λ name. name.now) result ≡ begun_name (setting_in self.now) }
+    {
+        if self.room {
+            return None;
+        }
+        self.journal
     }
 }

@@ -1,4 +1,5 @@
-use Rattle.std.proofs.Common.{refl}
+use Rattle.std.proofs.Common.{Bool, ap, refl}
+use Rattle.std.specs.Prelude.{◌||◌}
 use Rattle.orca_course.proofs.DoingLemmas.{does_nothing, goes_err}
 use Rattle.orca_live.proofs.DoneLemmas.{command_cut, command_did}
 use Rattle.orca_live.proofs.keyboard.do_command.Goals as goal
@@ -15,5 +16,7 @@ returns-in_err-do_command g c =
 
 pub returns : goal.returns
 returns g c =
-    command_did _ _ _ _ _ _ _ _ c.in_ok-keep.ensures.kept c.in_ok-note.ensures.noted
-    (rw c.moments-moments.ensures.moments at c.own.ensures) c.in_ok-do_command.ensures
+    command_did _ _ _ _ _ _ _ _ _ c.in_ok-keep.ensures.kept c.in_ok-note.ensures.noted
+    (rw c.moments-moments.ensures.moments at c.own.ensures)
+    (ap (λ (more : Bool). c.args.live.now.loose || more) c.loosens.ensures)
+    c.in_ok-do_command.ensures
