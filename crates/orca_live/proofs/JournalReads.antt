@@ -36,7 +36,7 @@ line_back command values =
     All-head LineReadsBack (Do command) [] (rw single_line at back.others)
 
 -- printed commands, the first of which has this number
-record AreRead (number : ℕ) (commands : List Command) : Type 0 where
+pub record AreRead (number : ℕ) (commands : List Command) : Type 0 where
   pub faultless : first_fault true number (lines (flat_map printed commands)) ≡ None
   pub cues : cues_of true number (lines (flat_map printed commands))
       ≡ cues_asking number (map Do commands)
@@ -55,7 +55,7 @@ read_more number command others later back read =
           ∙ rw (behind, back.read, read.cues) refl;
     }
 
-read_all : (number : ℕ) (commands : List Command) → 2 ≤ number → All Valued commands
+pub read_all : (number : ℕ) (commands : List Command) → 2 ≤ number → All Valued commands
     → AreRead number commands
 unfolding first_fault cues_of
 read_all number [] later values = record { faultless = refl; cues = refl }
