@@ -23,7 +23,7 @@ length-strip_carriage_return : (line : List ℕ) → length (strip_carriage_retu
 length-strip_carriage_return line = stripped (get_or line (length line - 1) 0 == 13) line
 
 -- a last part with a byte is a line
-last_line : (byte : ℕ) (line : List ℕ) →
+pub last_line : (byte : ℕ) (line : List ℕ) →
     lines_of_parts ((byte ∷ line) ∷ []) ≡ (byte ∷ line) ∷ []
 last_line byte line =
     let some : (length (byte ∷ line) == 0) ≡ false =

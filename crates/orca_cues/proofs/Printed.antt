@@ -91,7 +91,7 @@ seed_read : (o : Option ℕ) (column seed : ℕ) →
 seed_read None column seed e = absurd cc
 seed_read (Some s) column seed e = cc
 
-header_gives : (line : List ℕ) (seed : ℕ) → header_reading line ≡ Ok seed →
+pub header_gives : (line : List ℕ) (seed : ℕ) → header_reading line ≡ Ok seed →
     header_seed line ≡ Some seed
 unfolding header_reading
 header_gives line seed e = seed_read (header_seed line) _ seed e

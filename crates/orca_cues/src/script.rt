@@ -1,6 +1,6 @@
 //! A script as a source.
 
-ghost use Rattle.std.specs.Prelude.{◌≡◌, ◌≤◌, ◌↔◌, false, Bool, Ok, Err, IsOk, IfOk, IfErr, length};
+ghost use Rattle.std.specs.Prelude.{◌≡◌, ◌≤◌, ◌↔◌, false, true, Bool, Ok, Err, IsOk, IfOk, IfErr, OnOk, length};
 ghost use Rattle.orca_script.specs.Format2.{LeavesAt};
 ghost use Rattle.orca_script.specs.Grammar.{IsLine};
 ghost use Rattle.orca_cues.specs.Cues.{cues_left};
@@ -37,6 +37,20 @@ pub fn check_any_script(text: &[u8]) -> Result<(), ScriptFault>
     ensures first { IfErr result (IsFaultBy (begins_format_2 text.now) text.now) }
 {
     check_by(is_format_2(text), text)
+}
+
+/// Reads every line of a script of format 2, as [`check_script`] does. One in which it finds no
+/// fault is read so by all that reads either format.
+pub fn check_script2(text: &[u8]) -> Result<(), ScriptFault>
+    requires { length text.now ≤ MAX_FILE_BYTES }
+    ensures ok { IsOk result ↔ IsOk (script_by true text.now) }
+    ensures fault { IfErr result (λ fault. script_by true text.now ≡ Err fault) }
+    ensures any { OnOk result (any_script_of text.now ≡ script_by true text.now) }
+    // The same by the grammar itself.
+    ensures grammar { IsOk result ↔ IsScriptBy true text.now }
+    ensures first { IfErr result (IsFaultBy true text.now) }
+{
+    check_by(true, text)
 }
 
 /// Reads every line of a script of format 2 or 1.
