@@ -1,4 +1,5 @@
 pub mod Manners
+pub mod Rescues
 pub mod Runs
 pub mod SavedSongs
 pub mod SavedWaves
