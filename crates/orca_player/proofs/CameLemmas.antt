@@ -1,9 +1,10 @@
 -- What was done of an outline, and calls before it: a load, the wait for a player, the ports.
 use Rattle.std.proofs.Common.{◌≡◌, ◌≢◌, ◌⊎◌, inl, inr, ℕ, ◌+◌, ◌≤◌, length, Bool, false, List, [], ◌∷◌, ◌++◌, refl, sym, ◌∙◌, ap, subst, append_assoc, append-nil, arith}
-use Rattle.std.specs.Prelude.{Option, Some, None, IfSome, Ok, Err}
+use Rattle.std.specs.Prelude.{Option, Some, None, IfSome, Ok, Err, Result}
 use Rattle.orca_base.specs.declared.limits.TheConstants.{MAX_POLLS}
+use Rattle.orca_base.specs.Ports.{Sent}
 use Rattle.orca_course.specs.Acts.{Act, AreMute, commands_in, given, gives, open_after, polls_in, stand_after}
-use Rattle.orca_course.specs.Acts.Act.{Attach, Listen, Load}
+use Rattle.orca_course.specs.Acts.Act.{Attach, Claim, Listen, Load}
 use Rattle.orca_course.specs.Courses.{Course}
 use Rattle.orca_course.specs.Performers.{Hearing, polls_of}
 use Rattle.orca_course.specs.Standings.{Standing}
@@ -12,14 +13,17 @@ use Rattle.orca_course.specs.Answered.{refused_in}
 use Rattle.orca_course.specs.Worlds.{AreBegun, Called, Calls, Made, Sated, Unsent, World, is_lost, is_unstored}
 use Rattle.orca_course.specs.declared.refused.NoMemory.{NoMemory}
 use Rattle.orca_course.proofs.ActLemmas.{open-mute, stand-mute}
+use Rattle.orca_course.proofs.CallLemmas.{SoCalled, so_cut, so_more, so_over}
 use Rattle.orca_course.proofs.FollowLemmas.{follows-mute, keys-mute}
 use Rattle.orca_course.proofs.WorldLemmas.{lost_made, made_none, made_twice, made_within, sated_twice, stored_made, unsent_after, unstored_made}
 use Rattle.orca_notes.specs.Device.{Voice}
 use Rattle.orca_notes.specs.Sound.{ends}
+use Rattle.orca_rig.specs.declared.files.Claim.{Claim as Claimed}
+use Rattle.orca_rig.specs.declared.files.Claim.TheVariants.{Made as ClaimMade}
 use Rattle.orca_term.specs.Picture.{IsScreen}
 use Rattle.orca_words.specs.Requests.{Setup}
-use Rattle.orca_player.specs.Doing.{Came, CameBy, IsBlamed, IsWholeRun, KeepsTake, ReadsBack, WasRefused, status_at}
-use Rattle.orca_player.specs.Outlines.{Brought, Outline, preceded, attach_acts, listening, loading, nothing, plain_outline, stopped_run}
+use Rattle.orca_player.specs.Doing.{AreEarly, AreSettled, Came, CameBy, IsBlamed, IsWholeRun, KeepsTake, ReadsBack, WasRefused, status_at}
+use Rattle.orca_player.specs.Outlines.{Brought, Outline, preceded, attach_acts, loading, nothing, plain_outline, stopped_run, waiting}
 use Rattle.orca_player.specs.Takes.{saves_in}
 use Rattle.orca_player.specs.declared.status.Status.{Status}
 use Rattle.orca_player.specs.declared.status.Status.TheVariants.{FileFault, Memory}
@@ -31,6 +35,7 @@ abbrev pub AreCalls : List Act → Type 0
 AreCalls [] = Unit {0}
 AreCalls (Attach attached ∷ acts) = AreCalls acts
 AreCalls (Load name text ∷ acts) = AreCalls acts
+AreCalls (Claim name bytes claimed ∷ acts) = AreCalls acts
 AreCalls (Listen name hands start ∷ acts) = AreCalls acts
 AreCalls (_ ∷ acts) = ⊥
 
@@ -50,6 +55,7 @@ pub calls_bare : (acts : List Act) → AreCalls acts → AreBare acts
 calls_bare [] calls = assumption
 calls_bare (Attach attached ∷ acts) calls = assumption (calls_bare acts calls)
 calls_bare (Load name text ∷ acts) calls = assumption (calls_bare acts calls)
+calls_bare (Claim name bytes claimed ∷ acts) calls = assumption (calls_bare acts calls)
 calls_bare (Listen name hands start ∷ acts) calls = assumption (calls_bare acts calls)
 calls_bare (_ ∷ acts) calls = absurd calls
 
@@ -69,24 +75,28 @@ came_whole whole = record { came = inl whole }
 pub came_refused : {o : Outline} {x y : World} → WasRefused o x y → Came o x Memory y
 came_refused refused = record { came = inr (refl, refused) }
 
--- memory was refused before anything was done
+-- before anything was done
+early_none : (first : List Sent) → AreEarly first []
+early_none first = record { left = first; sends = refl; unopened = refl }
+
+-- memory was refused then
 pub came_still : (o : Outline) {x y : World} → Made [] 0 x y → Came o x Memory y
 came_still o made =
     came_refused (inr (inr (record {
       begun = [];
       left = o.course.acts;
       splits = refl;
-      none = refl;
-      unopened = refl;
+      early = early_none o.first;
       made = made_within o.course.bill (omega arith) made;
     })))
 
 pub came_none : (o : Outline) (x : World) → Came o x Memory x
 came_none o x = came_still o (made_none x)
 
--- what matters of an outline is its course, and whether it hands out
+-- what matters of an outline is its course, what comes before, and whether it hands out
 pub came_plain : (o : Outline) {x y : World} {status : Status}
-    → Came (plain_outline o.hands o.course) x status y → Came o x status y
+    → Came (record (plain_outline o.hands o.course) { first = o.first }) x status y
+    → Came o x status y
 came_plain o came = record {
   came = elim came.came [
     | inl whole ↦ inl (search whole)
@@ -106,6 +116,19 @@ pub record Before (acts : List Act) (x y : World) : Type 0 where
   pub made : Made acts 0 x y
   pub sated : Sated x y
 
+early_after : {acts : List Act} (first : List Sent) (begun : List Act) → AreBare acts
+    → AreEarly first begun → AreEarly first (acts ++ begun)
+early_after first begun bare early = record {
+  left = early.left;
+  sends = early.sends ∙ ap (λ sends. sends ++ early.left) (sym (bare.sends begun));
+  unopened = bare.stands begun ∙ early.unopened;
+}
+
+settled_after : {acts : List Act} (first : List Sent) (begun : List Act) → AreBare acts
+    → AreSettled first begun → AreSettled first (acts ++ begun)
+settled_after first begun bare (inl settled) = inl (bare.settled begun ∙ settled)
+settled_after first begun bare (inr early) = inr (early_after first begun bare early)
+
 whole_after : {acts : List Act} (o : Outline) {x y z : World} {status : Status} → Before acts x y
     → IsWholeRun o y status z → IsWholeRun (preceded acts o) x status z
 whole_after {acts = acts} o {x = x} {y = y} {z = z} before whole =
@@ -117,14 +140,14 @@ whole_after {acts = acts} o {x = x} {y = y} {z = z} before whole =
       blamed = grind (arith, before.lost, before.files, whole.blamed);
       made = made_twice before.made whole.made;
       sated = sated_twice x y z before.sated whole.sated;
-      settled = bare.settled o.course.acts ∙ whole.settled;
+      settled = settled_after o.first o.course.acts bare whole.settled;
       stands = whole.stands ∙ sym (bare.stands o.course.acts);
       silent = whole.silent;
       follows = λ hands. bare.follows [] o.course.acts (whole.follows hands);
       keys = λ hands. bare.keys [] o.course.acts ∙ whole.keys hands;
     }
 
-splits_after : (acts whole begun left : List Act) → whole ≡ begun ++ left
+pub splits_after : (acts whole begun left : List Act) → whole ≡ begun ++ left
     → acts ++ whole ≡ (acts ++ begun) ++ left
 splits_after acts whole begun left splits =
     ap (λ more. acts ++ more) splits ∙ sym (append_assoc acts begun left)
@@ -155,7 +178,7 @@ refused_after {acts = acts} o {x = x} {y = y} {z = z} before refused =
             begun = acts ++ closes.begun;
             left = closes.left;
             splits = splits_after acts _ closes.begun closes.left closes.splits;
-            settled = bare.settled closes.begun ∙ closes.settled;
+            settled = settled_after o.first closes.begun bare closes.settled;
             closing = closes.closing;
             unsaid = closes.unsaid;
             closes = rw bare.stands closes.closes;
@@ -168,8 +191,7 @@ refused_after {acts = acts} o {x = x} {y = y} {z = z} before refused =
         begun = acts ++ early.begun;
         left = early.left;
         splits = splits_after acts _ early.begun early.left early.splits;
-        none = bare.sends early.begun ∙ early.none;
-        unopened = bare.stands early.begun ∙ early.unopened;
+        early = early_after o.first early.begun bare early.early;
         made = made_twice before.made early.made;
       }))
     ]
@@ -194,8 +216,7 @@ came_cut acts o calls cut =
       left = cut.left ++ o.course.acts;
       splits = ap (λ acts. acts ++ o.course.acts) cut.splits
           ∙ append_assoc cut.done cut.left o.course.acts;
-      none = rw append-nil at (bare.sends []);
-      unopened = rw append-nil at (bare.stands []);
+      early = rw append-nil at (early_after o.first [] bare (early_none o.first));
       made = made_within (0 + o.course.bill) (omega arith) cut.made;
     })))
 
@@ -211,7 +232,7 @@ came_bare o planned ends none mute done blamed = came_whole (record {
   blamed = blamed;
   made = done.0;
   sated = done.1;
-  settled = open-mute o.course.acts mute;
+  settled = inl (open-mute o.course.acts mute);
   stands = none ∙ sym (stand-mute None o.course.acts mute);
   silent = ap sounding none;
   follows = λ hands. follows-mute [] o.course.acts mute;
@@ -228,6 +249,19 @@ came_stopped planned x blamed =
 pub loaded : {T : Type 0} {done : T} {name text : List ℕ} {x y : World}
     → Called (Ok done) (Load name (Some text)) x y → Before (Load name (Some text) ∷ []) x y
 loaded called =
+    let made = called.called.0 in
+    record {
+      calls = tt;
+      lost = lost_made made;
+      files = stored_made tt made;
+      made = made;
+      sated = called.called.1;
+    }
+
+pub claimed : {T : Type 0} {done : T} {name bytes : List ℕ} {x y : World}
+    → Called (Ok done) (Claim name bytes (Some ClaimMade)) x y
+    → Before (Claim name bytes (Some ClaimMade) ∷ []) x y
+claimed called =
     let made = called.called.0 in
     record {
       calls = tt;
@@ -308,14 +342,37 @@ by_memory idle came =
       takes = λ other. absurd (other refl);
     }) came
 
+-- this was answered of a room, and nothing else came
+abbrev pub answered_so : Option Claimed → Brought
+answered_so answer = record nothing { claimed = answer }
+
 -- a run ends as planned after these calls
+pub by_answered : {o : Brought → Outline} (answer : Option Claimed) (acts : List Act)
+    (planned : Status) {x y : World}
+    → o (answered_so answer) ≡ preceded acts (stopped_run planned) → AreMute (acts ++ [])
+    → polls_in (acts ++ []) ≡ [] → Made (acts ++ []) 0 x y × Sated x y → IsBlamed planned x y
+    → CameBy o x (status_at planned y) y
+by_answered answer acts planned is mute polls done blamed =
+    by (answered_so answer) (rw is (kind_plain polls))
+    (rw is (came_bare (preceded acts (stopped_run planned)) planned refl refl mute done blamed))
+
 pub by_failed : {o : Brought → Outline} (acts : List Act) (planned : Status) {x y : World}
     → o nothing ≡ preceded acts (stopped_run planned) → AreMute (acts ++ [])
     → polls_in (acts ++ []) ≡ [] → Made (acts ++ []) 0 x y × Sated x y → IsBlamed planned x y
     → CameBy o x (status_at planned y) y
 by_failed acts planned is mute polls done blamed =
-    by nothing (rw is (kind_plain polls))
-    (rw is (came_bare (preceded acts (stopped_run planned)) planned refl refl mute done blamed))
+    by_answered None acts planned is mute polls done blamed
+
+-- a room was there, or could not be claimed
+pub by_unclaimed : {T : Type 0} {done : T} {o : Brought → Outline} {name bytes : List ℕ}
+    (answer : Option Claimed) (planned : Status) {x y : World}
+    → o (answered_so answer) ≡ preceded (Claim name bytes answer ∷ []) (stopped_run planned)
+    → Called (Ok done) (Claim name bytes answer) x y
+    → (is_lost y ≡ is_lost x → IsBlamed planned x y)
+    → CameBy o x (status_at planned y) y
+by_unclaimed answer planned is called blamed =
+    by_answered answer (Claim _ _ answer ∷ []) planned is tt refl called.called
+    (blamed (lost_made called.called.0))
 
 -- the load of a file failed
 pub by_unloaded : {T : Type 0} {done : T} {o : Brought → Outline} {name : List ℕ}
@@ -358,9 +415,19 @@ pub by_later : {acts : List Act} {o : Brought → Outline} {x y z : World} {stat
 by_later before did = by_after did.brought before (kind_of did) did.came refl
 
 -- the same, where the hands that are listened for are known by another name
-pub came_by_hands : {known hands : ℕ} (address : List ℕ) (next : Brought → ℕ → Outline)
-    {x y : World} {status : Status} → known ≡ hands
-    → CameBy (λ b. listening address known b.start (next b)) x status y
-    → CameBy (λ b. listening address hands b.start (next b)) x status y
-came_by_hands address next {x = x} {y = y} {status = status} same did =
-    subst (λ n. CameBy (λ b. listening address n b.start (next b)) x status y) same did
+pub came_by_hands : {known hands : ℕ} (missed : Brought → List Act) (address : List ℕ)
+    (next : Brought → ℕ → Outline) {x y : World} {status : Status} → known ≡ hands
+    → CameBy (λ b. waiting (missed b) address known b.start (next b)) x status y
+    → CameBy (λ b. waiting (missed b) address hands b.start (next b)) x status y
+came_by_hands missed address next {x = x} {y = y} {status = status} same did =
+    subst (λ n. CameBy (λ b. waiting (missed b) address n b.start (next b)) x status y) same did
+
+-- ---- calls, one after another
+
+-- the last of some calls, which are all that is left
+pub calls_last : {T : Type 0} {whole : List Act} (left : List Act) {x y z : World}
+    (result : Result T NoMemory) → SoCalled whole left x y → Calls left result y z
+    → Calls whole result x z
+calls_last left (Ok done) so_far calls =
+    so_over done refl (so_more left [] (sym (append-nil left)) so_far calls.called)
+calls_last left (Err e) so_far calls = so_cut left [] (sym (append-nil left)) so_far calls

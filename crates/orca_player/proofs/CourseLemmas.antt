@@ -15,15 +15,18 @@ use Rattle.orca_course.specs.Acts.Act.{Give, Stand}
 use Rattle.orca_course.specs.Courses.{Course, mapped}
 use Rattle.orca_course.specs.Doing.{Does, Stance}
 use Rattle.orca_course.specs.Following.{Follows, keys_after_acts, sounding}
-use Rattle.orca_course.specs.Performers.{IsDeaf, IsLostBy, Part}
+use Rattle.orca_course.specs.Performers.{DoesPolls, IsDeaf, IsLostBy, Part, performance}
 use Rattle.orca_course.specs.Standings.{Standing, notes_of}
 use Rattle.orca_course.specs.Worlds.{Calls, Made, Unsent, World, is_lost, owing}
 use Rattle.orca_course.specs.declared.ending.Ending.{Ending}
 use Rattle.orca_course.specs.declared.ending.Stop.{Stop}
+use Rattle.orca_course.specs.declared.item.Losses.{Losses}
 use Rattle.orca_course.specs.declared.refused.NoMemory.{NoMemory}
 use Rattle.orca_course.specs.declared.refused.NoMemory.TheVariants.{InSend, Elsewhere}
 use Rattle.orca_course.proofs.ActLemmas.{lost-deaf, polls-deaf}
+use Rattle.orca_course.proofs.DoingLemmas.{does_longer}
 use Rattle.orca_course.proofs.FollowLemmas.{Follows-front, follows_later}
+use Rattle.orca_course.proofs.PerformanceLemmas.{performance_silent}
 use Rattle.orca_course.proofs.PollLemmas.{polls_none}
 use Rattle.orca_course.proofs.WorldLemmas.{lost_made, made_clear, made_stand, made_twice, made_within}
 use Rattle.orca_cues.specs.declared.source.Cue.{Cue}
@@ -38,11 +41,12 @@ use Rattle.orca_script.specs.Runs.{ScriptReadsBack}
 use Rattle.orca_term.specs.Picture.{IsScreen}
 use Rattle.orca_words.specs.Requests.{Performance, Setup}
 use Rattle.orca_player.specs.Doing.{Came, CameBy, IsBlamed, status_at}
-use Rattle.orca_player.specs.Outlines.{concert, follow_outline, follow_start, followed, lead_outline, lead_start, led, live_outline, live_start, nothing, opening, performed_outline, played, standing_at, status_of_end, status_of_ending}
-use Rattle.orca_player.specs.Performances.{Performed}
+use Rattle.orca_player.specs.Outlines.{concert, follow_outline, follow_start, followed, lead_outline, lead_start, led, live_outline, live_start, nothing, opening, performed_outline, played, played_course, room_name, standing_at, status_of_end, status_of_ending}
+use Rattle.orca_player.specs.Performances.{BrokeOff, EndsSilent, Lasted, Performed, whole}
 use Rattle.orca_player.specs.declared.status.Status.{Status}
 use Rattle.orca_player.specs.declared.status.Status.TheVariants.{Memory}
 use Rattle.orca_player.proofs.CameLemmas.{by, by_memory, came_none, came_plain, came_refused, came_whole, unsaid_after}
+use Rattle.orca_player.proofs.LeavingLemmas.{polls-left}
 
 -- ---- notes
 
@@ -127,7 +131,7 @@ module _ {S E : Type 0} {v : Stance S} (g : Option E → Option Status) {c : Cou
         blamed = blamed;
         made = made_opened u m n none did.did.made;
         sated = did.did.sated;
-        settled = leads.settled;
+        settled = inl leads.settled;
         stands = leads.stands ∙ ap (λ at. stand_after at c.acts) stands;
         silent = over;
         follows = λ hands. follows_opened u c.acts stands begins (leads.follows hands).follows;
@@ -166,7 +170,7 @@ module _ {S E : Type 0} {v : Stance S} (g : Option E → Option Status) {c : Cou
         begun = Stand u ∷ cut.did.done;
         left = cut.did.left;
         splits = ap (λ acts. Stand u ∷ acts) cut.did.splits;
-        settled = leads.settled;
+        settled = inl leads.settled;
         closing = sends.closing;
         unsaid = sends.unsaid;
         closes = ap (λ at. handed_of v.hands (ends (sounding at))) (sym stood) ∙ sends.splits;
@@ -180,6 +184,29 @@ module _ {S E : Type 0} {v : Stance S} (g : Option E → Option Status) {c : Cou
             (subst (Follows (voices (sounding at))) (ap gives
             (ap (λ b. handed_of b (ends (sounding at))) (sym on) ∙ sends.splits)
             ∙ map-append Give sends.closing sends.unsaid) silenced.device.follows)));
+      })))
+
+  -- memory was refused elsewhere, where no note sounds
+  pub opened_silent : sounding (v.standing t) ≡ []
+      → Does v c s (owing m x) (Err Elsewhere) t (owing n y) → Came (opening v g u c) x Memory y
+  unfolding opening mapped
+  opened_silent silent cut =
+      let leads = cut.did.rests in
+      let stood : v.standing t ≡ stand_after (Some u) cut.did.done =
+      leads.stands ∙ ap (λ at. stand_after at cut.did.done) stands in
+      let all = sym (append-nil (Stand u ∷ cut.did.done)) in
+      came_refused (inr (inl (record {
+        begun = Stand u ∷ cut.did.done;
+        left = cut.did.left;
+        splits = ap (λ acts. Stand u ∷ acts) cut.did.splits;
+        settled = inl leads.settled;
+        closing = [];
+        unsaid = [];
+        closes = rw (← stood, silent) (grind arith);
+        all = inl refl;
+        made = subst (λ acts. Made acts (0 + c.bill) x y) all (made_opened u m n none cut.did.made);
+        follows = λ on. subst (Follows []) all
+            (follows_opened u cut.did.done stands begins (leads.follows on).follows);
       })))
 
 -- ---- a list of commands
@@ -210,9 +237,67 @@ pub lost_by : (ending : Ending) (x y : World) → IsLostBy (Ok (Some ending)) (i
     → IsBlamed (status_of_ending ending) x y
 lost_by ending x y lost = grind arith
 
+-- a performance was done, and nothing follows it
+pub lasted_whole : {S : Type 0} {p : Part S} {s t : S} {m : ℕ} (n : ℕ) {x y : World}
+    {ending : Ending}
+    → sounding (p.stance.standing s) ≡ [] → m ≡ 0 → EndsSilent p
+    → Lasted p s (owing m x) ending t (owing n y)
+    → Performed p (whole p s) s x (status_at (status_of_ending ending) y) t y
+lasted_whole n {x = x} {y = y} {ending = ending} begins none silent lasted =
+    let polls = lasted.polls in
+    record {
+      brought = record nothing { opening = lasted.came; hearings = polls.heard };
+      few = polls.few;
+      all = polls.all;
+      state = λ other. polls.did.did.state;
+      came = λ u stands.
+          opened_whole _ u stands begins none n _
+          (performance_silent _ silent _ lasted.came polls.heard _ polls.did.did.ending) refl
+          (lost_by ending x y polls.lost) polls.did;
+    }
+
+-- memory was refused to it by a send
+pub broke_in_send : {S : Type 0} {p : Part S} {s t : S} {m : ℕ} (n : ℕ) {x y : World}
+    → sounding (p.stance.standing s) ≡ [] → m ≡ 0 → (came : Losses)
+    → DoesPolls p.stance (performance p s came) s (owing m x) (Err InSend) t (owing n y)
+    → BrokeOff p s x y
+broke_in_send n begins none came polls = record {
+  brought = record nothing { opening = came; hearings = polls.heard };
+  few = polls.few;
+  all = polls.all;
+  came = λ u c more stands is bill.
+      opened_in_send _ u stands begins none n (does_longer (more, is, bill) polls.did);
+}
+
+-- or elsewhere
+pub broke_elsewhere : {S : Type 0} {p : Part S} {s t : S} {m : ℕ} (n : ℕ) {T : Type 0}
+    {x y z : World} (result : Result T NoMemory) → sounding (p.stance.standing s) ≡ [] → m ≡ 0 → (came : Losses)
+    → DoesPolls p.stance (performance p s came) s (owing m x) (Err Elsewhere) t (owing n y)
+    → IsSilenced p.stance.hands (p.stance.standing t) result y z → BrokeOff p s x z
+broke_elsewhere n result begins none came polls silenced = record {
+  brought = record nothing { opening = came; hearings = polls.heard };
+  few = polls.few;
+  all = polls.all;
+  came = λ u c more stands is bill.
+      opened_elsewhere _ u stands begins none n result (does_longer (more, is, bill) polls.did)
+      silenced;
+}
+
+-- nothing was to follow it
+pub broke_whole : {S : Type 0} {p : Part S} {s t : S} {x y : World} → BrokeOff p s x y
+    → Performed p (whole p s) s x Memory t y
+broke_whole {p = p} {s = s} broke = record {
+  brought = broke.brought;
+  few = broke.few;
+  all = broke.all;
+  state = λ other. absurd (other refl);
+  came = λ u stands.
+      broke.came u (whole p s broke.brought) [] stands (sym (append-nil _)) (omega arith);
+}
+
 -- one that neither paints nor saves
 pub performed_by : {S : Type 0} (p : Part S) (s : Standing) {u t : S} {x y : World}
-    {status : Status} → p.stance.standing u ≡ Some s → Performed p u x status t y
+    {status : Status} → p.stance.standing u ≡ Some s → Performed p (whole p u) u x status t y
     → CameBy (λ b. performed_outline p s u b) x status y
 unfolding opening mapped
 performed_by p s stands did =
@@ -232,29 +317,33 @@ performed_none p deaf s u x = by_memory (polls_none p deaf nothing.opening u, tt
 
 -- ---- a player
 
-pub played_by : {s t : LiveState} {x y : World} {status : Status}
-    → Performed live_part s x status t y → IsScreen s.screen
-    → IfSome t.given (ScriptReadsBack s.setting.seed) → CameBy (λ b. played s b) x status y
+pub played_by : (room : Option (List ℕ)) {s t : LiveState} {x y : World} {status : Status}
+    → Performed live_part (played_course room s) s x status t y → IsScreen s.screen
+    → IfSome t.given (ScriptReadsBack s.setting.seed) → CameBy (λ b. played room s b) x status y
 unfolding opening mapped
-played_by {s = s} did sized reads =
+played_by room {s = s} did sized reads =
     by did.brought (record {
       polls = did.all;
       few = did.few;
       sized = sized;
       reads = λ other. grind (arith, did.state other, reads);
       takes = λ other ends. tt;
-    }) (came_plain (played s did.brought) (did.came s.standing refl))
+    }) (came_plain (played room s did.brought) (did.came s.standing refl))
 
 -- memory was refused before anything was done
-pub live_none : (s : LiveState) (x : World) → IsScreen s.screen
-    → CameBy (λ b. played s b) x Memory x
+pub live_none : (room : Option (List ℕ)) (s : LiveState) (x : World) → IsScreen s.screen
+    → CameBy (λ b. played room s b) x Memory x
 unfolding opening mapped
-live_none s x sized =
-    by_memory (polls_none live_part live_is_deaf nothing.opening s, sized) (came_none _ x)
+live_none room s x sized =
+    by_memory (
+      polls-left room nothing.closing (whole live_part s nothing)
+          ∙ polls_none live_part live_is_deaf nothing.opening s,
+      sized,
+    ) (came_none _ x)
 
 pub live_from : (setup : Setup) (play : Performance) (at : ℕ) (s : Standing) (u : LiveState)
     {x y : World} {status : Status} → u ≡ live_start setup play at s
-    → CameBy (λ b. played u b) x status y
+    → CameBy (λ b. played (room_name play) u b) x status y
     → CameBy (λ b. live_outline setup play b s at) x status y
 unfolding live_outline
 live_from setup play at s u is did = rw is at did

@@ -1,5 +1,5 @@
 -- The laws of hands, on the outlines of runs.
-use Rattle.std.proofs.Common.{◌≡◌, ◌≢◌, ℕ, List, [], true, refl, ◌∙◌, ap, arith}
+use Rattle.std.proofs.Common.{◌≡◌, ◌≢◌, ℕ, List, [], true, false, refl, ◌∙◌, ap, arith}
 use Rattle.std.specs.Prelude.{Option, Some, None, Result, Ok, Err}
 use Rattle.std.proofs.lemmas.List.Elements.{All-nil}
 use Rattle.orca_base.specs.Grids.{Sheet}
@@ -17,7 +17,7 @@ use Rattle.orca_live.specs.Solo.{HasNoRedo, PlaysAlone, PlaysSame, as_alone}
 use Rattle.orca_live.specs.States.{LiveState}
 use Rattle.orca_words.specs.Requests.{Perform, Performance, Play, Setup}
 use Rattle.orca_player.specs.Hands.{SharesFairly}
-use Rattle.orca_player.specs.Outlines.{Brought, Heard, grid_outline, listening, live_outline, live_start, loading, opening, outline, performed, played, request_outline, setting_of, start_of, work_outline}
+use Rattle.orca_player.specs.Outlines.{Brought, Heard, grid_outline, leavings, live_outline, live_start, loading, opening, outline, performed, played, request_outline, setting_of, room_name, room_start, roomed, start_of, work_outline, waiting}
 use Rattle.orca_player.specs.declared.live.TheConstants.{ALONE}
 
 -- ---- hands that share
@@ -42,12 +42,12 @@ no_owner : AreLeaders []
 no_owner = All-nil (λ (owner : Owner). owner.edit ≡ true → owner.hand ≡ LEADER)
 
 -- performances that do the same
-same_played : (u : LiveState) (b : Brought)
+same_played : (room : Option (List ℕ)) (u : LiveState) (b : Brought)
     → PlaysSame (whole_performance u b.opening b.hearings)
     (whole_performance (as_alone u) b.opening b.hearings)
-    → played u b ≡ played (as_alone u) b
+    → played room u b ≡ played room (as_alone u) b
 unfolding opening mapped
-same_played u b same = rw (same.acts, same.bill, same.ending, same.state) refl
+same_played room u b same = rw (same.acts, same.bill, same.ending, same.state) refl
 
 solo_live : PlaysAlone → (setup : Setup) (play : Performance) (b : Brought) (s : Standing)
     (at : ℕ) → HasNoRedo (items_of ALONE b.hearings)
@@ -56,13 +56,14 @@ solo_live : PlaysAlone → (setup : Setup) (play : Performance) (b : Brought) (s
 unfolding live_outline
 solo_live law setup play b s at none =
     let u = live_start setup (with_hands (Some 1) play) at s in
-    same_played u b (law u b.opening b.hearings (record { one = refl; own = no_owner }) none)
+    same_played (room_name play) u b (law u b.opening b.hearings (record { one = refl; own = no_owner }) none)
 
 solo_listening : PlaysAlone → (setup : Setup) (play : Performance) (b : Brought)
     (s : Standing) (start : Option ℕ) → HasNoRedo (items_of ALONE b.hearings)
-    → listening play.address ALONE start (live_outline setup (with_hands (Some 1) play) b s)
-    ≡ listening play.address ALONE start (live_outline setup (with_hands None play) b s)
-unfolding listening
+    → let missed = leavings (room_name play) b.closing false in
+    waiting missed play.address ALONE start (live_outline setup (with_hands (Some 1) play) b s)
+    ≡ waiting missed play.address ALONE start (live_outline setup (with_hands None play) b s)
+unfolding waiting
 solo_listening law setup play b s None none = refl
 solo_listening law setup play b s (Some at) none = rw (solo_live law setup play b s at none) refl
 
@@ -73,7 +74,8 @@ solo_grid : PlaysAlone → (setup : Setup) (play : Performance) (b : Brought)
 unfolding grid_outline work_outline
 solo_grid law setup play b (Err refusal) none = refl
 solo_grid law setup play b (Ok sheet) none =
-    solo_listening law setup play b (start_of setup sheet) b.start none
+    ap (roomed (room_name play) (room_start setup sheet) b.claimed)
+    (solo_listening law setup play b (start_of setup sheet) b.start none)
 
 solo_loaded : PlaysAlone → (setup : Setup) (play : Performance) (b : Brought)
     (grid : Option (List ℕ)) → HasNoRedo (items_of ALONE b.hearings)

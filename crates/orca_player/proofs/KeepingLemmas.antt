@@ -29,7 +29,7 @@ use Rattle.orca_sync.specs.Clocks.{beats_from, stopped}
 use Rattle.orca_sync.specs.RealTime.{is_clock}
 use Rattle.orca_words.specs.Requests.{Follow, Lead, Leading, Setup, Work}
 use Rattle.orca_player.specs.Clocks.{AskFor, DoesAll, RunIsLed, KeepsTime, RunsAlike}
-use Rattle.orca_player.specs.Outlines.{Brought, Heard, Outline, preceded, attach_acts, follow_outline, follow_start, grid_outline, is_too_long, lead_outline, lead_start, listening, loading, opening, outline, performed, performed_outline, request_outline, start_of, status_of_ending, stopped_run as stopped_outline, work_outline}
+use Rattle.orca_player.specs.Outlines.{Brought, Heard, Outline, preceded, attach_acts, follow_outline, follow_start, grid_outline, is_too_long, lead_outline, lead_start, listening, loading, opening, outline, performed, performed_outline, request_outline, start_of, status_of_ending, stopped_run as stopped_outline, work_outline, waiting}
 use Rattle.orca_player.specs.declared.live.TheConstants.{ALONE}
 use Rattle.orca_player.specs.declared.status.Status.{Status}
 use Rattle.orca_player.specs.declared.status.Status.TheVariants.{Done, FileFault, GridRefused, HistoryFull, InboxFault}
@@ -109,7 +109,7 @@ module _ {S : Type 0} (p : Part S) (from : Sheet → ℕ → S) (setup : Setup) 
       → option_map grid_text h.grid ≡ Some (Ok sheet)
       → Opened p from h (listening address ALONE start
       (λ at. performed_outline p (start_of setup sheet) (from sheet at) h.brought))
-  unfolding listening opening mapped midi_sent
+  unfolding waiting opening mapped midi_sent
   listened_by h sheet None read =
       opened_after (Listen address ALONE None ∷ []) (stopped_outline InboxFault) tt
       (inr (closed_at InboxFault (λ is. cc)))

@@ -1,6 +1,6 @@
 -- The laws of performances, on the outlines of runs.
-use Rattle.std.proofs.Common.{◌≡◌, ◌≢◌, ℕ, Bool, List, length, [], ◌++◌, refl, sym, ◌∙◌, ap, arith, ◌∷◌}
-use Rattle.std.specs.Prelude.{Option, Some, None, unwrap_or, Result, Ok, Err, IfSome}
+use Rattle.std.proofs.Common.{◌≡◌, ◌≢◌, ◌⊎◌, inl, inr, ℕ, Bool, true, false, List, length, [], ◌++◌, refl, sym, ◌∙◌, ap, append-nil, arith, ◌∷◌}
+use Rattle.std.specs.Prelude.{◌||◌, if◌then◌else◌, Option, Some, None, unwrap_or, Result, Ok, Err, IfSome}
 use Rattle.std.specs.Option.{is_some, option_map, option_map_or}
 use Rattle.std.proofs.lemmas.List.{length-replicate}
 use Rattle.orca_base.specs.declared.command.Command.{Command}
@@ -13,6 +13,7 @@ use Rattle.orca_course.specs.Courses.{mapped}
 use Rattle.orca_course.specs.Performers.{Part, performance}
 use Rattle.orca_course.specs.Standings.{Standing}
 use Rattle.orca_course.specs.declared.ending.Ending.{Ending}
+use Rattle.orca_course.specs.declared.item.Losses.{Losses}
 use Rattle.orca_course.proofs.CuttingLemmas.{ByItems, items_alike}
 use Rattle.orca_cues.specs.Scripts.{any_script_of, cues_asking, seed_in}
 use Rattle.orca_cues.proofs.Printed.{script2_read}
@@ -25,19 +26,23 @@ use Rattle.orca_live.specs.Laws.{ItemsDecide, ReplaysScript as LiveReplays, repl
 use Rattle.orca_live.specs.Performing.{live_part}
 use Rattle.orca_live.proofs.WorthLemmas.{all_counted, worth_of}
 use Rattle.orca_reports.specs.Manners.{replay_manner, state_manner}
+use Rattle.orca_rig.specs.declared.files.Claim.{Claim as Claimed}
+use Rattle.orca_rig.specs.declared.files.Claim.TheVariants.{Made as ClaimMade, Left as ClaimLeft, Held as ClaimHeld}
 use Rattle.orca_script.specs.Runs.{lines_behind, printed_script}
-use Rattle.orca_words.specs.Requests.{Follow, Lead, Perform, Performance, Play, Replay, Request, Setup, Work, request_of}
-use Rattle.orca_course.specs.Acts.Act.{Attach, Listen, Load, Stand}
+use Rattle.orca_words.specs.Requests.{Follow, Lead, Perform, Performance, Play, Recover, Replay, Request, Setup, Work, request_of}
+use Rattle.orca_course.specs.Acts.Act.{Attach, Claim, Give, Learn, Listen, Load, Remove, Screen, Show, Stand}
 use Rattle.orca_live.specs.Paintings.{ShowsPerformance, ShowsPictures}
 use Rattle.orca_term.specs.Picture.{IsScreen}
 use Rattle.orca_term.specs.declared.cell.ScreenSize.{ScreenSize}
 use Rattle.orca_player.specs.Doing.{ReadsBack}
 use Rattle.orca_player.specs.Laws.{CutsAlike, EndAlike, HasEnd, IsReplayed, ReplaysAlike, hands_heard}
-use Rattle.orca_player.specs.Outlines.{Brought, Heard, Outline, Script, preceded, asked_outline, attach_acts, concert, follow_outline, follow_start, grid_outline, lead_outline, lead_start, listening, live_outline, live_start, loading, made_outline, migrated, opening, outline, performed, performed_outline, reading_outline, request_outline, script_kept, script_outline, standing_at, start_of, status_of_ending, stopped_run, work_outline}
+use Rattle.orca_player.specs.Outlines.{Brought, Heard, Outline, Script, preceded, asked_outline, attach_acts, closings, concert, follow_outline, follow_start, grid_outline, hands_of, lead_outline, lead_start, leavings, live_outline, live_start, loading, made_outline, migrated, opening, outline, performed, performed_outline, reading_outline, recovery_outline, request_outline, room_name, room_start, roomed, script_kept, script_outline, standing_at, start_of, status_of_ending, stopped_run, work_outline, waiting}
 use Rattle.orca_player.specs.declared.live.TheConstants.{ALONE}
 use Rattle.orca_player.specs.declared.status.Status.TheVariants.{FileFault}
 use Rattle.orca_player.proofs.CameLemmas.{attaches-calls, calls_bare, AreCalls}
 use Rattle.orca_player.proofs.ClockLemmas.{Anywhere, follow_by_items, lead_by_items, lead_core}
+use Rattle.orca_player.proofs.LeavingLemmas.{commands-left, leavings_quiet}
+use Rattle.orca_player.proofs.RecoveryLemmas.{screen-recovery}
 use Rattle.orca_concert.proofs.EndingLemmas.{concert-standing}
 
 -- each beginning of acts shows its pictures
@@ -69,6 +74,9 @@ show_calls (Attach attached ∷ xs) acts calls all =
 show_calls (Load name text ∷ xs) acts calls all =
     show_before (Load name text) (λ bs prints. prints) (λ bs shows. shows)
     (show_calls xs acts calls all)
+show_calls (Claim name bytes claimed ∷ xs) acts calls all =
+    show_before (Claim name bytes claimed) (λ bs prints. prints) (λ bs shows. shows)
+    (show_calls xs acts calls all)
 show_calls (Listen name hands start ∷ xs) acts calls all =
     show_before (Listen name hands start) (λ bs prints. prints) (λ bs shows. shows)
     (show_calls xs acts calls all)
@@ -82,23 +90,135 @@ Shown o = IfSome o.screen (λ d. AllShow d o.course.acts)
 abbrev Sized : Outline → Type 0
 Sized o = IfSome o.screen IsScreen
 
+shown_by : (screen : Option ScreenSize) (xs acts : List Act) → AreCalls xs
+    → IfSome screen (λ d. AllShow d acts) → IfSome screen (λ d. AllShow d (xs ++ acts))
+shown_by None xs acts calls all = tt
+shown_by (Some d) xs acts calls all = show_calls xs acts calls all
+
+-- acts that neither send, paint nor tell of a size
+abbrev ArePlain : List Act → Type 0
+ArePlain [] = Unit {0}
+ArePlain (Give sent ∷ acts) = ⊥
+ArePlain (Show cells ∷ acts) = ⊥
+ArePlain (Screen d ∷ acts) = ⊥
+ArePlain (_ ∷ acts) = ArePlain acts
+
+shows_plain : (d : ScreenSize) (sent : List ℕ) (acts : List Act) → ArePlain acts
+    → ShowsPictures d sent acts
+shows_plain d sent [] plain = tt
+shows_plain d sent (act ∷ acts) plain = grind (arith, shows_plain d sent acts)
+
+-- behind others they change nothing of what is shown
+shows_behind : (d : ScreenSize) (sent : List ℕ) (xs ys : List Act) → ArePlain ys
+    → ShowsPictures d sent xs → ShowsPictures d sent (xs ++ ys)
+shows_behind d sent [] ys plain shows = shows_plain d sent ys plain
+shows_behind d sent (Give piece ∷ xs) ys plain shows = shows_behind d _ xs ys plain shows
+shows_behind d sent (Show cells ∷ xs) ys plain shows =
+    (shows.0, shows_behind d sent xs ys plain shows.1)
+shows_behind d sent (Screen e ∷ xs) ys plain shows = shows_behind e [] xs ys plain shows
+shows_behind d sent (_ ∷ xs) ys plain shows = shows_behind d sent xs ys plain shows
+
+prints_front : (xs ys : List Act) → ArePrintable (xs ++ ys) → ArePrintable xs
+prints_front [] ys prints = tt
+prints_front (x ∷ xs) ys prints = grind (arith, prints_front xs ys)
+
+plain_front : (xs ys : List Act) → ArePlain (xs ++ ys) → ArePlain xs
+plain_front [] ys plain = tt
+plain_front (x ∷ xs) ys plain = grind (arith, plain_front xs ys)
+
+-- a beginning of two lists is one of the first, or the first and a beginning of the second
+abbrev Begins : List Act → List Act → List Act → List Act → Type 0
+Begins xs ys begun left =
+    ((rest : List Act) × (xs ≡ begun ++ rest))
+    ⊎ ((front : List Act) × (begun ≡ xs ++ front) × (ys ≡ front ++ left))
+
+begins_in : (xs ys begun left : List Act) → xs ++ ys ≡ begun ++ left → Begins xs ys begun left
+begins_in [] ys begun left is = inr (begun, refl, is)
+begins_in (x ∷ xs) ys [] left is = inl (x ∷ xs, refl)
+begins_in (x ∷ xs) ys (b ∷ begun) left is =
+    elim (begins_in xs ys begun left (cc is)) [
+      | inl at ↦ inl (at.0, cc (is, at.1))
+      | inr at ↦ inr (at.0, cc (is, at.1), at.2)
+    ]
+
+show_behind : {d : ScreenSize} (xs ys : List Act) → ArePlain ys → AllShow d xs
+    → AllShow d (xs ++ ys)
+show_behind {d = d} xs ys plain all = record {
+  show = λ begun left is printable.
+      elim (begins_in xs ys begun left is) [
+        | inl at ↦ all.show begun at.0 at.1 printable
+        | inr at ↦
+            rw at.1 (shows_behind d [] xs at.0 (plain_front at.0 left (rw at.2 at plain))
+            (all.show xs [] (sym (append-nil xs)) (prints_front xs at.0 (rw at.1 at printable))))
+      ];
+}
+
+-- a room is left so
+plain_left : (name : List ℕ) (came : Losses) (stays : Bool)
+    → ArePlain (Learn came ∷ (if stays then [] else Remove name ∷ []))
+plain_left name came true = tt
+plain_left name came false = tt
+
+plain_closings : (room : Option (List ℕ)) (ending : Option Ending) (came : Losses) (loose : Bool)
+    → ArePlain (closings room ending came loose)
+plain_closings room None came loose = tt
+plain_closings None (Some ending) came loose = tt
+plain_closings (Some name) (Some ending) came loose =
+    plain_left name came (came.unstored || loose)
+
 shown_listened : ShowsPerformance → (address : List ℕ) (hands : ℕ) (setup : Setup)
     (play : Performance) (at : ℕ) (b : Brought) (s : Standing)
     → Sized (live_outline setup play b s at)
     → Shown (preceded (Listen address hands (Some at) ∷ []) (live_outline setup play b s at))
 unfolding live_outline opening mapped
 shown_listened law address hands setup play at b s sized =
+    let c = performance live_part (live_start setup play at s) b.opening b.hearings in
     show_calls (Listen address hands (Some at) ∷ []) _ tt
-    (show_before (Stand s) (λ bs prints. prints) (λ bs shows. shows) (record {
+    (show_before (Stand s) (λ bs prints. prints) (λ bs shows. shows)
+    (show_behind c.acts (closings (room_name play) c.ending b.closing c.state.loose)
+    (plain_closings (room_name play) c.ending b.closing c.state.loose) (record {
       show = λ begun left is printable.
           law (live_start setup play at s) b.opening b.hearings begun left sized refl is printable;
-    }))
+    })))
+
+shown_listening : ShowsPerformance → (setup : Setup) (play : Performance) (start : Option ℕ)
+    (b : Brought) (s : Standing)
+    → let o = waiting (leavings (room_name play) b.closing false) play.address (hands_of play) start
+    (live_outline setup play b s) in
+    Sized o → Shown o
+unfolding waiting
+shown_listening law setup play None b s = λ sized. tt
+shown_listening law setup play (Some at) b s =
+    shown_listened law play.address (hands_of play) setup play at b s
+
+-- a room before them changes nothing of that
+shown_roomed : (room : Option (List ℕ)) (text : List ℕ) (claimed : Option Claimed) (o : Outline)
+    → (Sized o → Shown o) → Sized (roomed room text claimed o) → Shown (roomed room text claimed o)
+unfolding roomed
+shown_roomed None text claimed o shown sized = shown sized
+shown_roomed (Some name) text None o shown sized = tt
+shown_roomed (Some name) text (Some ClaimLeft) o shown sized = tt
+shown_roomed (Some name) text (Some ClaimHeld) o shown sized = tt
+shown_roomed (Some name) text (Some ClaimMade) o shown sized =
+    shown_by _ (Claim name text (Some ClaimMade) ∷ []) _ tt (shown sized)
+
+shown_work : ShowsPerformance → (setup : Setup) (work : Work) (sheet : Sheet) (b : Brought)
+    → Sized (work_outline setup work sheet b) → Shown (work_outline setup work sheet b)
+unfolding work_outline waiting loading script_outline reading_outline concert follow_outline lead_outline opening
+shown_work law setup (Play play) sheet b sized =
+    shown_roomed (room_name play) (room_start setup sheet) b.claimed _
+    (shown_listening law setup play b.start b (start_of setup sheet)) sized
+shown_work law setup (Follow address) sheet b sized = grind arith
+shown_work law setup (Lead lead) sheet b sized = grind arith
+shown_work law setup (Replay name) sheet b sized = grind arith
+shown_work law setup _ sheet b sized = tt
 
 shown_grid : ShowsPerformance → (setup : Setup) (work : Work) (b : Brought)
     (read : Result Sheet GridRefusal) → Sized (grid_outline setup work b read)
     → Shown (grid_outline setup work b read)
-unfolding grid_outline work_outline listening loading script_outline reading_outline concert follow_outline lead_outline opening
-shown_grid law setup work b read sized = grind (arith, shown_listened law)
+unfolding grid_outline
+shown_grid law setup work b (Err refusal) sized = tt
+shown_grid law setup work b (Ok sheet) sized = shown_work law setup work sheet b sized
 
 shown_loaded : ShowsPerformance → (setup : Setup) (work : Work) (b : Brought)
     (grid : Option (List ℕ))
@@ -108,11 +228,6 @@ shown_loaded : ShowsPerformance → (setup : Setup) (work : Work) (b : Brought)
 shown_loaded law setup work b None = λ sized. tt
 shown_loaded law setup work b (Some text) = shown_grid law setup work b (grid_text text)
 
-shown_by : (screen : Option ScreenSize) (xs acts : List Act) → AreCalls xs
-    → IfSome screen (λ d. AllShow d acts) → IfSome screen (λ d. AllShow d (xs ++ acts))
-shown_by None xs acts calls all = tt
-shown_by (Some d) xs acts calls all = show_calls xs acts calls all
-
 shown_performed : ShowsPerformance → (setup : Setup) (work : Work) (h : Heard)
     → Sized (performed setup work h) → Shown (performed setup work h)
 unfolding performed loading
@@ -121,10 +236,16 @@ shown_performed law setup work h sized =
     (shown_by _ (Load setup.grid h.grid ∷ []) _ tt
     (shown_loaded law setup work h.brought h.grid sized))
 
+shown_asked : ShowsPerformance → (asked : Option Request) (h : Heard) → Sized (asked_outline asked h)
+    → Shown (asked_outline asked h)
+unfolding request_outline loading migrated reading_outline made_outline concert opening
+shown_asked law (Some (Recover r)) h sized = rw (screen-recovery r h.brought) tt
+shown_asked law asked h sized = grind (arith, shown_performed law)
+
 shown_outline : ShowsPerformance → (words : List (List ℕ)) (h : Heard) → Sized (outline words h)
     → Shown (outline words h)
-unfolding outline request_outline loading migrated reading_outline made_outline concert opening
-shown_outline law words h sized = grind (arith, shown_performed law)
+unfolding outline
+shown_outline law words h sized = shown_asked law (request_of words) h sized
 
 shown_some : (screen : Option ScreenSize) (acts begun left : List Act)
     → IfSome screen (λ d. AllShow d acts) → acts ≡ begun ++ left → ArePrintable begun
@@ -146,8 +267,9 @@ ended_by end is none = grind arith
 
 -- ---- any cutting
 
-abbrev brings : Option (List ℕ) → Option ℕ → Brought → Brought
-brings script start b = record b { script = script; start = start }
+abbrev brings : Option (List ℕ) → Option Claimed → Option ℕ → Brought → Brought
+brings script claimed start b =
+    record b { script = script; claimed = claimed; start = start }
 
 -- the same items of so many hands, cut into answers in two ways
 abbrev AreCut : ℕ → Option ℕ → Option ℕ → Brought → Brought → Type 0
@@ -177,6 +299,18 @@ alike_by p core by address at other s b c u v items same = λ ends other_ends.
     (ended_by (performance p v c.opening c.hearings).ending other_ends) in
     record { commands = alike.commands; standing = alike.seen; given = refl }
 
+-- a room before them changes nothing of that
+alike_roomed : (room : Option (List ℕ)) (text : List ℕ) (claimed : Option Claimed)
+    (o p : Outline) → Alike o p → Alike (roomed room text claimed o) (roomed room text claimed p)
+unfolding roomed
+alike_roomed None text claimed o p same = same
+alike_roomed (Some name) text None o p same = alike_none _
+alike_roomed (Some name) text (Some ClaimLeft) o p same = alike_none _
+alike_roomed (Some name) text (Some ClaimHeld) o p same = alike_none _
+alike_roomed (Some name) text (Some ClaimMade) o p same = λ ends others.
+    let alike = same ends others in
+    record { commands = alike.commands; standing = alike.standing; given = alike.given }
+
 -- the crew of a performance has the hands that it listens for
 crew_counted : (full : Bool) (limit : ℕ) (hands : Option ℕ)
     → length (option_map_or (λ count. crew_at_start full count limit) hands
@@ -184,14 +318,25 @@ crew_counted : (full : Bool) (limit : ℕ) (hands : Option ℕ)
 crew_counted full limit None = refl
 crew_counted full limit (Some hands) = length-replicate hands (new_player full)
 
-work_alike : ItemsDecide → (setup : Setup) (work : Work) (sheet : Sheet) (script : Option (List ℕ))
-    (start other : Option ℕ) (b c : Brought)
-    → AreCut (hands_heard (Some (Perform setup work))) start other b c
-    → Alike (work_outline setup work sheet (brings script start b))
-    (work_outline setup work sheet (brings script other c))
-unfolding work_outline listening live_outline follow_outline lead_outline opening mapped
-work_alike cutting setup (Play play) sheet script None None b c cut = alike_none _
-work_alike cutting setup (Play play) sheet script (Some start) (Some other) b c cut =
+play_alike : ItemsDecide → (setup : Setup) (play : Performance) (sheet : Sheet)
+    (start other : Option ℕ) (b c : Brought) → AreCut (hands_of play) start other b c
+    → let s = start_of setup sheet in
+    Alike (waiting (leavings (room_name play) b.closing false) play.address (hands_of play) start
+    (live_outline setup play b s))
+    (waiting (leavings (room_name play) c.closing false) play.address (hands_of play) other
+    (live_outline setup play c s))
+unfolding waiting live_outline opening mapped
+play_alike cutting setup play sheet None None b c cut = λ ends others. record {
+  commands = rw (
+    append-nil (leavings (room_name play) b.closing false),
+    append-nil (leavings (room_name play) c.closing false),
+  )
+      ((leavings_quiet (room_name play) b.closing false).commands
+      ∙ sym (leavings_quiet (room_name play) c.closing false).commands);
+  standing = refl;
+  given = refl;
+}
+play_alike cutting setup play sheet (Some start) (Some other) b c cut =
     λ ends other_ends.
     let s = start_of setup sheet in
     let u = live_start setup play start s in
@@ -208,41 +353,56 @@ work_alike cutting setup (Play play) sheet script (Some start) (Some other) b c 
     (ended_by (performance live_part u b.opening b.hearings).ending ends)
     (ended_by (performance live_part v c.opening c.hearings).ending other_ends) in
     record {
-      commands = alike.commands;
+      commands = commands-left (room_name play) b.closing (performance live_part u b.opening b.hearings)
+          ∙ (alike.commands
+          ∙ sym (commands-left (room_name play) c.closing
+          (performance live_part v c.opening c.hearings)));
       standing = ap Some alike.standing;
       given = ap (script_kept play.script setup.seed) alike.given;
     }
-work_alike cutting setup (Play play) sheet script _ _ b c cut = absurd cc
-work_alike cutting setup (Follow address) sheet script None None b c cut = alike_none _
-work_alike cutting setup (Follow address) sheet script (Some start) (Some other) b c cut =
+play_alike cutting setup play sheet _ _ b c cut = absurd cc
+
+work_alike : ItemsDecide → (setup : Setup) (work : Work) (sheet : Sheet) (script : Option (List ℕ))
+    (claimed : Option Claimed) (start other : Option ℕ) (b c : Brought)
+    → AreCut (hands_heard (Some (Perform setup work))) start other b c
+    → Alike (work_outline setup work sheet (brings script claimed start b))
+    (work_outline setup work sheet (brings script claimed other c))
+unfolding work_outline waiting follow_outline lead_outline opening mapped
+work_alike cutting setup (Play play) sheet script claimed start other b c cut =
+    alike_roomed (room_name play) (room_start setup sheet) claimed _ _
+    (play_alike cutting setup play sheet start other (brings script claimed start b)
+    (brings script claimed other c) cut)
+work_alike cutting setup (Follow address) sheet script claimed None None b c cut = alike_none _
+work_alike cutting setup (Follow address) sheet script claimed (Some start) (Some other) b c cut =
     let s = start_of setup sheet in
     alike_by (follow_part state_manner) (λ s. s) follow_by_items address start other s b c
     (follow_start s) (follow_start s) cut.1 refl
-work_alike cutting setup (Follow address) sheet script _ _ b c cut = absurd cc
-work_alike cutting setup (Lead lead) sheet script None None b c cut = alike_none _
-work_alike cutting setup (Lead lead) sheet script (Some start) (Some other) b c cut =
+work_alike cutting setup (Follow address) sheet script claimed _ _ b c cut = absurd cc
+work_alike cutting setup (Lead lead) sheet script claimed None None b c cut = alike_none _
+work_alike cutting setup (Lead lead) sheet script claimed (Some start) (Some other) b c cut =
     let s = start_of setup sheet in
     alike_by (lead_part state_manner) lead_core lead_by_items lead.address start other s b c
     (lead_start lead.bpm start s) (lead_start lead.bpm other s) cut.1 refl
-work_alike cutting setup (Lead lead) sheet script _ _ b c cut = absurd cc
-work_alike cutting setup _ sheet script start other b c cut = alike_none _
+work_alike cutting setup (Lead lead) sheet script claimed _ _ b c cut = absurd cc
+work_alike cutting setup _ sheet script claimed start other b c cut = alike_none _
 
 commands_attached : (setup : Setup) (more : List Act)
     → commands_in (attach_acts setup ++ more) ≡ commands_in more
 commands_attached setup = (calls_bare (attach_acts setup) (attaches-calls setup)).commands
 
 asked_alike : ItemsDecide → (request : Option Request) (grid script : Option (List ℕ))
-    (start other : Option ℕ) (b c : Brought) → AreCut (hands_heard request) start other b c
-    → Alike (asked_outline request (record { grid = grid; brought = brings script start b }))
-    (asked_outline request (record { grid = grid; brought = brings script other c }))
-unfolding request_outline performed loading grid_outline
-asked_alike cutting (Some (Perform setup work)) grid script start other b c cut =
+    (claimed : Option Claimed) (start other : Option ℕ) (b c : Brought)
+    → AreCut (hands_heard request) start other b c
+    → Alike (asked_outline request (record { grid = grid; brought = brings script claimed start b }))
+    (asked_outline request (record { grid = grid; brought = brings script claimed other c }))
+unfolding request_outline performed loading grid_outline recovery_outline
+asked_alike cutting (Some (Perform setup work)) grid script claimed start other b c cut =
     λ ends other_ends.
-    let same : (sheet : Sheet) → Alike (work_outline setup work sheet (brings script start b))
-    (work_outline setup work sheet (brings script other c)) =
-    λ sheet. work_alike cutting setup work sheet script start other b c cut in
+    let same : (sheet : Sheet) → Alike (work_outline setup work sheet (brings script claimed start b))
+    (work_outline setup work sheet (brings script claimed other c)) =
+    λ sheet. work_alike cutting setup work sheet script claimed start other b c cut in
     grind (arith, same, commands_attached)
-asked_alike cutting request grid script start other b c cut = alike_none _
+asked_alike cutting request grid script claimed start other b c cut = alike_none _
 
 pub cuts_alike : (cutting : ItemsDecide) (words : List (List ℕ)) → CutsAlike words
 unfolding outline
@@ -250,10 +410,11 @@ cuts_alike cutting words h k same ends others =
     let alike : Alike (outline words h)
     (outline words (record {
       grid = k.grid;
-      brought = brings k.brought.script k.brought.start k.brought;
+      brought = brings k.brought.script k.brought.claimed k.brought.start k.brought;
     })) =
-    rw (same.grid, same.script)
-    (asked_alike cutting (request_of words) h.grid h.brought.script h.brought.start k.brought.start
+    rw (same.grid, same.script, same.claimed)
+    (asked_alike cutting (request_of words) h.grid h.brought.script h.brought.claimed
+    h.brought.start k.brought.start
     h.brought k.brought (same.starts, same.items)) in
     alike ends others
 
@@ -310,26 +471,55 @@ live_again replays setup play at b sheet script = λ ends given reads.
     let read = script2_read script.seed script.commands reads in
     record {
       seed = kept.0;
-      all = all;
+      all = all ∙ sym (commands-left (room_name play) b.closing c);
       session = λ other same.
           replay_state script sheet other.seed other.limit read.0 read.1
           ∙ rw (same, kept.0, all) (ap Some (again.machine replay_manner
           (λ line answer messages r. grind arith)));
     }
 
-grid_again : LiveReplays → (setup : Setup) (play : Performance) (old : Option (List ℕ))
-    (start : Option ℕ) (b : Brought) (read : Result Sheet GridRefusal) (script : Script)
-    (name : List ℕ) → HasEnd (grid_outline setup (Play play) (brings old start b) read)
-    → (grid_outline setup (Play play) (brings old start b) read).given ≡ Some script
-    → ReadsBack script
-    → IsPlayed setup script (grid_outline setup (Play play) (brings old start b) read)
+-- a script was saved, so that the room was made, if there was to be one
+roomed_again : (setup : Setup) (script : Script) (replay : Setup → Outline)
+    (room : Option (List ℕ)) (text : List ℕ) (claimed : Option Claimed) (o : Outline)
+    → HasEnd (roomed room text claimed o) → (roomed room text claimed o).given ≡ Some script
+    → (HasEnd o → o.given ≡ Some script → IsPlayed setup script o replay)
+    → IsPlayed setup script (roomed room text claimed o) replay
+unfolding roomed
+roomed_again setup script replay None text claimed o ends given again = again ends given
+roomed_again setup script replay (Some name) text None o ends given again = absurd cc
+roomed_again setup script replay (Some name) text (Some ClaimLeft) o ends given again = absurd cc
+roomed_again setup script replay (Some name) text (Some ClaimHeld) o ends given again = absurd cc
+roomed_again setup script replay (Some name) text (Some ClaimMade) o ends given again =
+    let played = again ends given in
+    record { seed = played.seed; all = played.all; session = played.session }
+
+listen_again : LiveReplays → (setup : Setup) (play : Performance) (start : Option ℕ)
+    (b : Brought) (sheet : Sheet) (script : Script)
+    → let o = waiting (leavings (room_name play) b.closing false) play.address (hands_of play) start
+    (live_outline setup play b (start_of setup sheet)) in
+    HasEnd o → o.given ≡ Some script → ReadsBack script → IsPlayed setup script o
+    (λ other. script_outline sheet other.seed other.limit
+    (printed_script script.seed script.commands))
+unfolding waiting
+listen_again replays setup play None b sheet script = λ ends given reads. absurd cc
+listen_again replays setup play (Some at) b sheet script = λ ends given reads.
+    let played = live_again replays setup play at b sheet script ends given reads in
+    record { seed = played.seed; all = played.all; session = played.session }
+
+grid_again : LiveReplays → (setup : Setup) (play : Performance) (b : Brought)
+    (read : Result Sheet GridRefusal) (script : Script) (name : List ℕ)
+    → HasEnd (grid_outline setup (Play play) b read)
+    → (grid_outline setup (Play play) b read).given ≡ Some script → ReadsBack script
+    → IsPlayed setup script (grid_outline setup (Play play) b read)
     (λ other. grid_outline other (Replay name)
-    (brings (Some (printed_script script.seed script.commands)) start b) read)
-unfolding grid_outline work_outline listening loading
-grid_again replays setup play old start b (Err refusal) script name ends given reads = absurd cc
-grid_again replays setup play old None b (Ok sheet) script name ends given reads = absurd cc
-grid_again replays setup play old (Some at) b (Ok sheet) script name ends given reads =
-    assumption (live_again replays setup play at (brings old (Some at) b) sheet script ends given reads)
+    (record b { script = Some (printed_script script.seed script.commands) }) read)
+unfolding grid_outline work_outline loading
+grid_again replays setup play b (Err refusal) script name ends given reads = absurd cc
+grid_again replays setup play b (Ok sheet) script name ends given reads =
+    let played = roomed_again setup script _ (room_name play) (room_start setup sheet) b.claimed _
+    ends given (λ ends given.
+    listen_again replays setup play b.start b sheet script ends given reads) in
+    record { seed = played.seed; all = played.all; session = played.session }
 
 request_again : LiveReplays → (setup : Setup) (play : Performance) (grid : Option (List ℕ))
     (b : Brought) (script : Script)
@@ -340,7 +530,7 @@ unfolding request_outline performed loading
 request_again replays setup play None b script = λ ends given reads. absurd cc
 request_again replays setup play (Some text) b script = λ ends given reads.
     let played = λ (name : List ℕ).
-    grid_again replays setup play b.script b.start b (grid_text text) script name ends given reads
+    grid_again replays setup play b (grid_text text) script name ends given reads
     in
     record {
       seed = (played []).seed;

@@ -6,8 +6,12 @@ pub mod EndLemmas
 pub mod KeepingLemmas
 pub mod HandLemmas
 pub mod LawLemmas
+pub mod LeavingLemmas
 pub mod JournalLemmas
 pub mod ReadyLemmas
 pub mod RecordedLemmas
+pub mod RecoveredLemmas
+pub mod RecoveryLemmas
+pub mod RoomLemmas
 pub mod SheetLemmas
 pub mod TopLemmas

@@ -1,7 +1,7 @@
 -- How a run can end: without a refusal if all is ready, and for faulty words alone as such.
-use Rattle.std.proofs.Common.{◌≡◌, ◌≢◌, ℕ, ◌*◌, ◌<◌, ◌≤◌, arith, zero-add, false, List, sym, ◌∙◌, ap, subst, refl}
-use Rattle.std.specs.Prelude.{Option, None, Some, IfSome, IsSomeAnd}
-use Rattle.std.specs.Option.{option_map}
+use Rattle.std.proofs.Common.{◌≡◌, ◌≢◌, ℕ, ◌*◌, ◌<◌, ◌≤◌, arith, zero-add, true, false, List, sym, ◌∙◌, ap, subst, refl}
+use Rattle.std.specs.Prelude.{Option, Some, None, IfSome, IsSomeAnd, IsOk, Ok, Err, Result}
+use Rattle.std.specs.Option.{option_map, option_map_or}
 use Rattle.std.proofs.lemmas.Bool.Decides.{nat_tests}
 use Rattle.orca_base.specs.declared.limits.TheConstants.{MAX_POLLS}
 use Rattle.orca_base.specs.Grids.{Sheet}
@@ -19,23 +19,31 @@ use Rattle.orca_course.specs.declared.ending.Stop.TheVariants.{Left}
 use Rattle.orca_course.specs.declared.item.Item.TheVariants as item
 use Rattle.orca_course.proofs.PerformanceLemmas.{EndsIn, TakesIn, performance_in, performance_well, turns_before}
 use Rattle.orca_cues.specs.Cues.{frames_cue}
+use Rattle.orca_cues.specs.Rooms.{Room, room_parts, whole_lines}
+use Rattle.orca_cues.specs.Scripts.{script_by}
 use Rattle.orca_cues.specs.declared.source.Cue.{Cue}
+use Rattle.orca_grid.specs.GridText.{grid_text}
+use Rattle.orca_grid.specs.declared.refusal.GridRefusal.{GridRefusal}
 use Rattle.orca_live.specs.Items.{turns_of}
 use Rattle.orca_live.specs.Performing.{live_part}
 use Rattle.orca_live.specs.States.{LiveState}
 use Rattle.orca_live.proofs.LeavingLemmas.{take_ends}
 use Rattle.orca_reports.specs.Manners.{events_manner, make_manner, replay_manner, run_manner, state_manner}
+use Rattle.orca_reports.specs.Rescues.{Rescue, recovery_manner}
 use Rattle.orca_reports.specs.Songs.{recording_at_start, smf_manner}
 use Rattle.orca_reports.specs.Waves.{frame_samples, wav_manner, wave_at_start}
 use Rattle.orca_reports.proofs.EndingLemmas.{AnyRoom, IsLong, Never, WaveRoom, smf-closes, smf-frames, wav-frames}
+use Rattle.orca_rig.specs.declared.files.Claim.{Claim as Claimed}
+use Rattle.orca_rig.specs.declared.files.Claim.TheVariants.{Made as ClaimMade}
 use Rattle.orca_wav.specs.declared.limits.TheConstants.{MAX_WAVE_BYTES, SAMPLE_BYTES}
-use Rattle.orca_words.specs.Requests.{Events, Follow, Lead, Make, Migrate, Perform, Performance, Play, Recording, Replay, Request, Run, Setup, Smf, Wav, Work, request_of}
-use Rattle.orca_player.specs.Outlines.{Brought, Heard, Outline, concert, follow_outline, follow_start, grid_outline, is_too_long, lead_outline, lead_start, listening, live_outline, live_start, loading, made_outline, migrated, opening, outline, performed, performed_outline, reading_outline, request_outline, script_outline, standing_at, start_of, status_of_end, status_of_ending, wave_bytes, work_outline}
-use Rattle.orca_player.specs.Ready.{CanDo, HasFrameRoom, IsReady, IsScript, NeverFull}
+use Rattle.orca_words.specs.Requests.{Events, Follow, Lead, Make, Migrate, Perform, Performance, Play, Recording, Recover, Replay, Request, Run, Setup, Smf, Wav, Work, request_of, Recovery}
+use Rattle.orca_player.specs.Outlines.{Brought, Heard, Outline, asked_outline, concert, follow_outline, follow_start, grid_outline, is_too_long, lead_outline, lead_start, live_outline, live_start, loading, made_outline, migrated, opening, outline, performed, performed_outline, reading_outline, recovery_outline, request_outline, room_name, room_start, roomed, script_outline, standing_at, start_of, stopped_run, status_of_end, status_of_ending, wave_bytes, work_outline, waiting, grid_recovered, recovered, script_recovered}
+use Rattle.orca_player.specs.Ready.{CanDo, HasFrameRoom, IsReady, IsScript, NeverFull, IsRoom}
 use Rattle.orca_player.specs.declared.status.Status.{Status}
 use Rattle.orca_player.specs.declared.status.Status.TheVariants.{Done, FileFault, InboxFault, Usage}
 use Rattle.orca_player.proofs.ClockLemmas.{follow_ends_well, lead_ends_well}
 use Rattle.orca_player.proofs.DueLemmas.{due_at}
+use Rattle.orca_player.proofs.TopLemmas.{cues_in}
 
 -- a run that would end without a refusal: all is done, or something outside fails
 abbrev pub IsFine : Status → Type 0
@@ -82,13 +90,6 @@ replay_fine : (cues : List Cue) (s : Standing) → FineOutline (concert replay_m
 replay_fine cues s =
     goes_fine replay_manner tt cues s (assumption) (λ line answer messages r. grind arith)
 
--- a script that can be read is done to its end
-script_fine : (name : List ℕ) (text : Option (List ℕ)) (sheet : Sheet) (seed limit : ℕ)
-    → IfSome text IsScript → FineOutline (loading name text (script_outline sheet seed limit))
-unfolding loading script_outline reading_outline
-script_fine name None sheet seed limit is = tt
-script_fine name (Some text) sheet seed limit (cues, is) = rw is (replay_fine cues _)
-
 make_fine : (cues : List Cue) (s : Standing) → FineOutline (concert make_manner tt cues s)
 make_fine cues s =
     goes_fine make_manner tt cues s (assumption) (λ line answer messages r. tt)
@@ -115,7 +116,7 @@ live_takes s b few room before i more is goes = take_ends (λ stop. stop ≡ Lef
 live_fine : (setup : Setup) (play : Performance) (at : ℕ) (b : Brought) (s : Standing)
     → turns_of b.hearings < MAX_POLLS → HasFrameRoom (live_start setup play at s) b
     → FineOutline (live_outline setup play b s at)
-unfolding live_outline
+unfolding live_outline performance mapped opening
 live_fine setup play at b s few room =
     let u = live_start setup play at s in
     performed_fine live_part s u b
@@ -149,10 +150,33 @@ wave_room out wave short =
     subst (λ k. SAMPLE_BYTES * k ≤ MAX_WAVE_BYTES)
     (sym (zero-add (wave.frames * frame_samples wave.bpm))) few
 
+-- a room that is made lets the run go on; a fault of its claim ends it
+room_fine : (room : Option (List ℕ)) (text : List ℕ) (claimed : Option Claimed) (o : Outline)
+    → IfSome room (λ name. IfSome claimed (λ answer. answer ≡ ClaimMade)) → FineOutline o
+    → FineOutline (roomed room text claimed o)
+unfolding roomed
+room_fine None text claimed o made fine = fine
+room_fine (Some name) text None o made fine = tt
+room_fine (Some name) text (Some answer) o made fine = rw made fine
+
+play_fine : (setup : Setup) (play : Performance) (sheet : Sheet) (b : Brought)
+    → CanDo setup (Play play) sheet b → FineOutline (work_outline setup (Play play) sheet b)
+unfolding work_outline waiting
+play_fine setup play sheet b ready =
+    room_fine (room_name play) (room_start setup sheet) b.claimed _ ready.0
+    (grind (arith, ready.1, ready.2, live_fine))
+
+script_fine : (sheet : Sheet) (seed limit : ℕ) (text : Option (List ℕ))
+    → IfSome text IsScript
+    → FineOutline (option_map_or (script_outline sheet seed limit) text (stopped_run FileFault))
+unfolding script_outline reading_outline
+script_fine sheet seed limit None ready = tt
+script_fine sheet seed limit (Some text) ready = rw ready.1 (replay_fine ready.0 _)
+
 work_fine : (setup : Setup) (work : Work) (sheet : Sheet) (b : Brought)
     → is_too_long work ≡ false → CanDo setup work sheet b
     → FineOutline (work_outline setup work sheet b)
-unfolding work_outline loading script_outline reading_outline listening
+unfolding work_outline loading script_outline reading_outline waiting
 work_fine setup (Run frames) sheet b short ready =
     frames_fine AnyRoom run_manner tt frames setup.limit setup.seed sheet (assumption)
     (λ line tick n messages r some. (tt, tt)) tt ready
@@ -169,24 +193,64 @@ work_fine setup (Smf song) sheet b short ready =
 work_fine setup (Wav wave) sheet b short ready =
     frames_fine WaveRoom wav_manner (wave_at_start wave.out wave.bpm) wave.frames setup.limit
     setup.seed sheet (assumption) wav-frames (wave_room wave.out wave short) ready
-work_fine setup (Replay name) sheet b short ready =
-    script_fine name b.script sheet setup.seed setup.limit ready
-work_fine setup (Play play) sheet b short ready = grind (arith, live_fine)
+work_fine setup (Replay name) sheet b short ready = script_fine sheet setup.seed setup.limit b.script ready
+work_fine setup (Play play) sheet b short ready = play_fine setup play sheet b ready
 work_fine setup (Follow address) sheet b short ready = grind (arith, follow_fine)
 work_fine setup (Lead lead) sheet b short ready = grind (arith, lead_fine)
 
+-- ---- rooms
+
+rescue_fine : (rescue : Rescue) (cues : List Cue) (s : Standing)
+    → FineOutline (concert recovery_manner rescue cues s)
+rescue_fine rescue cues s =
+    goes_fine recovery_manner rescue cues s (record {
+      final = λ s r. tt;
+      close = λ messages r. tt;
+      saves = λ r. grind arith;
+    }) (λ line answer messages r. tt)
+
+lines_fine : (r : Recovery) (sheet : Sheet) (text : List ℕ) → IsOk (script_by true text)
+    → FineOutline (script_recovered r sheet text)
+unfolding script_recovered reading_outline
+lines_fine r sheet text ok =
+    let found = cues_in (script_by true text) ok in rw found.1 (rescue_fine _ found.0 _)
+
+sheet_fine : (r : Recovery) (script : List ℕ) (read : Result Sheet GridRefusal) → IsOk read
+    → IsOk (script_by true (whole_lines script)) → FineOutline (grid_recovered r script read)
+unfolding grid_recovered
+sheet_fine r script (Err refusal) ok lines = absurd cc
+sheet_fine r script (Ok sheet) ok lines = lines_fine r sheet (whole_lines script) lines
+
+parts_fine : (r : Recovery) (parts : Option Room) → IsSomeAnd parts (λ room. IsOk (grid_text room.grid)
+    × IsOk (script_by true (whole_lines room.script))) → FineOutline (recovered r parts)
+unfolding recovered
+parts_fine r None ready = absurd ready
+parts_fine r (Some room) ready = sheet_fine r room.script (grid_text room.grid) ready.0 ready.1
+
+room_loads : (r : Recovery) (text : Option (List ℕ)) → IfSome text IsRoom
+    → FineOutline (loading r.room text (λ text. recovered r (room_parts text)))
+unfolding loading
+room_loads r None ready = tt
+room_loads r (Some text) ready = parts_fine r (room_parts text) ready
+
 request_fine : (request : Request) (h : Heard) → IsReady request h
     → FineOutline (request_outline request h)
-unfolding request_outline performed loading grid_outline migrated reading_outline made_outline
+unfolding request_outline performed loading grid_outline migrated reading_outline made_outline recovery_outline
 request_fine (Make load) h ready = make_fine _ _
-request_fine (Migrate m) h ready = grind (arith)
+request_fine (Migrate m) h ready = grind arith
+request_fine (Recover r) h ready = room_loads r h.brought.script ready
 request_fine (Perform setup work) h ready = grind (arith, work_fine)
+
+asked_fine : (asked : Option Request) (h : Heard)
+    → IsSomeAnd asked (λ request. IsReady request h) → FineOutline (asked_outline asked h)
+asked_fine None h ready = absurd ready
+asked_fine (Some request) h ready = request_fine request h ready
 
 pub outline_fine : (words : List (List ℕ)) (h : Heard)
     → IsSomeAnd (request_of words) (λ request. IsReady request h)
     → IfSome (outline words h).course.ending IsFine
 unfolding outline
-outline_fine words h ready = grind (arith, request_fine)
+outline_fine words h ready = asked_fine (request_of words) h ready
 
 -- ---- only words that ask for nothing are blamed
 
@@ -199,5 +263,5 @@ ending-other end = grind arith
 
 pub request-other : (request : Request) (h : Heard)
     → IfSome (request_outline request h).course.ending (λ status. status ≢ Usage)
-unfolding request_outline performed loading grid_outline work_outline listening script_outline reading_outline migrated made_outline concert live_outline follow_outline lead_outline opening mapped
+unfolding request_outline recovery_outline recovered grid_recovered script_recovered performed loading grid_outline work_outline roomed waiting script_outline reading_outline migrated made_outline concert live_outline follow_outline lead_outline opening mapped
 request-other request h = grind (arith, end-other, ending-other)

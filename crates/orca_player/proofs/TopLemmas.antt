@@ -1,6 +1,6 @@
 -- What was done for words, a grid and its work.
 use Rattle.std.proofs.Common.{◌≡◌, ◌≢◌, ℕ, List, [], ◌∷◌, refl, arith}
-use Rattle.std.specs.Prelude.{Option, None, IfSome, IfErr, IsOk, IsOkUnless, OnOk, Result, Ok, Err, unwrap_or}
+use Rattle.std.specs.Prelude.{Option, Some, None, IfSome, IfErr, IsOk, IsOkUnless, OnOk, Result, Ok, Err, unwrap_or}
 use Rattle.orca_base.specs.Grids.{Sheet}
 use Rattle.orca_concert.specs.Manners.{Manner}
 use Rattle.orca_course.specs.Acts.Act.{Load, Save}
@@ -15,15 +15,16 @@ use Rattle.orca_grid.specs.declared.refusal.GridRefusal.{GridRefusal}
 use Rattle.orca_grid.specs.declared.refusal.GridRefusal.TheVariants as refused
 use Rattle.orca_reports.specs.Manners.{replay_manner}
 use Rattle.orca_script.specs.Runs.{ScriptReadsBack, printed_script}
-use Rattle.orca_words.specs.Requests.{Migration, Request, Setup, Work}
+use Rattle.orca_words.specs.Requests.{Migration, Recover, Request, Setup, Work}
 use Rattle.orca_player.specs.Doing.{Came, CameBy, KeepsTake, ReadsBack, refused_status, status_at}
-use Rattle.orca_player.specs.Outlines.{preceded, asked_outline, attach_acts, concert, grid_outline, listening, loading, made_outline, migrated, nothing, opening, performed, reading_outline, recorded_outline, request_outline, saved, script_in, stopped_run, work_outline}
+use Rattle.orca_player.specs.Outlines.{preceded, asked_outline, attach_acts, concert, grid_outline, loading, made_outline, migrated, nothing, opening, performed, reading_outline, recorded_outline, request_outline, roomed, saved, script_in, stopped_run, work_outline, waiting}
 use Rattle.orca_player.specs.Takes.{Take}
 use Rattle.orca_player.specs.declared.status.Status.{Status}
 use Rattle.orca_player.specs.declared.status.Status.TheVariants.{Done, FileFault, GridRefused, Memory}
 use Rattle.orca_player.proofs.CameLemmas.{IsIdle, IsKind, attached, by_later, attaches-calls, by, by_failed, by_memory, kind_plain, calls_bare, came_bare, came_cut, came_none, came_plain}
 use Rattle.orca_course.proofs.WorldLemmas.{lost_made, made_none}
 use Rattle.orca_player.proofs.CourseLemmas.{polls-concert}
+use Rattle.orca_player.proofs.RecoveryLemmas.{idle_recovery}
 
 -- ---- lists of commands
 
@@ -57,7 +58,7 @@ kind_read (Ok cues) s = kind_concert replay_manner tt cues s
 -- it asks nothing and paints nothing while nothing comes from the outside
 idle-grid : (setup : Setup) (work : Work) (read : Result Sheet GridRefusal)
     → IsIdle (grid_outline setup work nothing read)
-unfolding grid_outline work_outline loading listening concert opening
+unfolding grid_outline work_outline roomed loading waiting concert opening
 idle-grid setup work read =
     grind (arith, polls-concert)
 
@@ -82,7 +83,7 @@ IsPrinted m text bytes =
     → bytes ≡ printed_script (unwrap_or (seed_in text) m.seed) (commands_of_cues cues)
 
 -- a text without a fault has cues
-cues_in : (read : Result (List Cue) ScriptFault) → IsOk read → (cues : List Cue) × (read ≡ Ok cues)
+pub cues_in : (read : Result (List Cue) ScriptFault) → IsOk read → (cues : List Cue) × (read ≡ Ok cues)
 cues_in read ok = grind arith
 
 -- it was saved
@@ -142,4 +143,5 @@ by_grid setup work grid calls did = (grid, by_later (attached setup calls) did)
 pub idle-asked : (request : Option Request)
     → IsIdle (asked_outline request (record { grid = None; brought = nothing }))
 unfolding request_outline performed loading made_outline concert opening
+idle-asked (Some (Recover r)) = idle_recovery r
 idle-asked request = grind (arith, polls-concert)

@@ -52,6 +52,16 @@ IsBlamed OutFault x y = ⊥
 IsBlamed Memory x y = ⊥
 IsBlamed planned x y = is_lost y ≡ is_lost x
 
+-- acts before the session is opened: no more was sent than what comes first
+pub record AreEarly (first : List Sent) (acts : List Act) : Type 0 where
+  pub left : List Sent
+  pub sends : first ≡ given acts ++ left
+  pub unopened : stand_after None acts ≡ None
+
+-- acts that do not stop among the messages of a command
+abbrev pub AreSettled : List Sent → List Act → Type 0
+AreSettled first acts = (open_after false acts ≡ false) ⊎ AreEarly first acts
+
 -- all of an outline was done, and it ends with no note that sounds
 pub record IsWholeRun (o : Outline) (x : World) (status : Status) (y : World) : Type 0 where
   pub planned : Status
@@ -60,7 +70,7 @@ pub record IsWholeRun (o : Outline) (x : World) (status : Status) (y : World) : 
   pub blamed : IsBlamed planned x y
   pub made : Made o.course.acts o.course.bill x y
   pub sated : Sated x y
-  pub settled : open_after false o.course.acts ≡ false
+  pub settled : AreSettled o.first o.course.acts
   pub stands : o.course.state ≡ stand_after None o.course.acts
   pub silent : sounding o.course.state ≡ []
   pub follows : o.hands ≡ true → Follows [] o.course.acts
@@ -85,7 +95,7 @@ pub record ClosesEarly (o : Outline) (x y : World) : Type 0 where
   pub begun : List Act
   pub left : List Act
   pub splits : o.course.acts ≡ begun ++ left
-  pub settled : open_after false begun ≡ false
+  pub settled : AreSettled o.first begun
   pub closing : List Sent
   pub unsaid : List Sent
   pub closes : handed_of o.hands (ends (sounding (stand_after None begun))) ≡ closing ++ unsaid
@@ -93,14 +103,13 @@ pub record ClosesEarly (o : Outline) (x y : World) : Type 0 where
   pub made : Made (begun ++ gives closing) o.course.bill x y
   pub follows : o.hands ≡ true → Follows [] (begun ++ gives closing)
 
--- it was refused before the session was open, by a port that was to be attached or elsewhere:
--- nothing was sent
+-- it was refused before the session was open, by a port that was to be attached or elsewhere: no
+-- more was sent than what comes first
 pub record RefusedEarly (o : Outline) (x y : World) : Type 0 where
   pub begun : List Act
   pub left : List Act
   pub splits : o.course.acts ≡ begun ++ left
-  pub none : given begun ≡ []
-  pub unopened : stand_after None begun ≡ None
+  pub early : AreEarly o.first begun
   pub made : Made begun o.course.bill x y
 
 abbrev pub WasRefused : Outline → World → World → Type 0

@@ -1,14 +1,21 @@
 -- Laws of performances, on the outlines of runs: how bytes were cut into answers changes nothing
 -- that lasts, the script that is saved ends in the same session, and a journal is kept.
-use Rattle.std.specs.Prelude.{◌≡◌, ◌≢◌, ℕ, List, Option, Some, None, IfSome, is_some}
+use Rattle.std.specs.Prelude.{◌≡◌, ◌≢◌, ℕ, Bool, true, false, List, [], ◌∷◌, ◌++◌, Ok, Option, Some, None, IfSome, is_some}
 use Rattle.std.specs.Option.{option_map}
-use Rattle.orca_course.specs.Acts.{commands_in}
+use Rattle.orca_base.specs.Grids.{Sheet}
+use Rattle.orca_course.specs.Acts.{Act, commands_in}
+use Rattle.orca_course.specs.Acts.Act.{Claim}
+use Rattle.orca_course.specs.Courses.{Course}
+use Rattle.orca_course.specs.Standings.{Standing}
+use Rattle.orca_grid.specs.GridText.{grid_text}
 use Rattle.orca_live.specs.Items.{items_of}
-use Rattle.orca_live.specs.Journals.{KeepsJournal}
+use Rattle.orca_live.specs.Journals.{KeepsJournal, KeepsText}
 use Rattle.orca_player.specs.declared.live.TheConstants.{ALONE}
+use Rattle.orca_rig.specs.declared.files.Claim.TheVariants.{Made}
 use Rattle.orca_script.specs.Runs.{printed_script}
 use Rattle.orca_words.specs.Requests.{Perform, Performance, Play, Replay, Request, Setup, request_of}
-use Rattle.orca_player.specs.Outlines.{Heard, Outline, Script, hands_of, outline, request_outline}
+use Rattle.orca_player.specs.Outlines.{Heard, Outline, Script, hands_of, leavings, outline, request_outline, room_start}
+use Rattle.orca_player.specs.declared.status.Status.{Status}
 use Rattle.orca_player.specs.Doing.{ReadsBack}
 
 -- the answers of the inbox do not break off
@@ -25,6 +32,7 @@ hands_heard asked = ALONE
 pub record HearAlike (hands : ℕ) (h k : Heard) : Type 0 where
   pub grid : k.grid ≡ h.grid
   pub script : k.brought.script ≡ h.brought.script
+  pub claimed : k.brought.claimed ≡ h.brought.claimed
   pub starts : is_some k.brought.start ≡ is_some h.brought.start
   pub items : items_of hands h.brought.hearings ≡ items_of hands k.brought.hearings
 
@@ -65,12 +73,39 @@ ReplaysAlike words =
     → HasEnd (outline words h) → (outline words h).given ≡ Some script
     → ReadsBack script → IsReplayed setup h script (outline words h)
 
--- where words ask for a performance with a journal, it is kept from the first picture on. A run
--- that ends before paints on no screen, and has none
+-- where words ask for a performance with a journal that is no room, it is kept from the first picture
+-- on. A run that ends before paints on no screen, and has none
 abbrev pub KeepsJournals : List (List ℕ) → Type 0
 KeepsJournals words =
     (setup : Setup) (performance : Performance) (h : Heard) (name : List ℕ)
     → request_of words ≡ Some (Perform setup (Play performance))
-    → performance.journal ≡ Some name
+    → performance.journal ≡ Some name → performance.room ≡ false
     → IfSome (outline words h).screen (λ screen.
     KeepsJournal name setup.seed (outline words h).course)
+
+-- a run claims a room before it does a command: it made a file of this name with the text of the
+-- grid, an empty line, and the first lines of a script. From there on it keeps its commands in this
+-- file, behind that, and does not take it away. The very last acts do, once a performance has ended,
+-- unless files have failed at a call, or a command is loose
+pub record KeepsRoom (setup : Setup) (name : List ℕ) (h : Heard) (o : Outline) : Type 0 where
+  pub sheet : Sheet
+  pub read : option_map grid_text h.grid ≡ Some (Ok sheet)
+  pub before : List Act
+  pub during : Course (Option Standing) Status
+  pub gone : List Act
+  pub splits : o.course.acts
+      ≡ before ++ Claim name (room_start setup sheet) (Some Made) ∷ (during.acts ++ gone)
+  pub none : commands_in before ≡ []
+  pub ends : during.ending ≡ o.course.ending
+  pub keeps : KeepsText name (room_start setup sheet) (Some (room_start setup sheet)) during
+  pub loose : Bool
+  pub leaves : o.course.ending ≢ None → gone ≡ leavings (Some name) h.brought.closing loose
+  pub stays : o.course.ending ≡ None → gone ≡ []
+
+-- where words ask for a performance in a room, it is kept, once a performance is opened
+abbrev pub KeepsRooms : List (List ℕ) → Type 0
+KeepsRooms words =
+    (setup : Setup) (performance : Performance) (h : Heard) (name : List ℕ)
+    → request_of words ≡ Some (Perform setup (Play performance))
+    → performance.journal ≡ Some name → performance.room ≡ true
+    → IfSome (outline words h).screen (λ screen. KeepsRoom setup name h (outline words h))

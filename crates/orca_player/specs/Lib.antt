@@ -7,4 +7,5 @@ pub mod Performances
 pub mod Running
 pub mod Laws
 pub mod Hands
+pub mod Recoveries
 pub mod Takes

@@ -1,8 +1,12 @@
 -- The definition of a run: all that it does on the outside, in order, what it may cost, and how it
 -- ends, by its words and by what the outside gives to it.
-use Rattle.std.specs.Prelude.{ℕ, ◌*◌, nat_lt, Bool, true, false, if◌then◌else◌, List, [], ◌∷◌, ◌++◌, Option, Some, None, Result, Ok, Err, unwrap_or}
+use Rattle.std.specs.Prelude.{ℕ, ◌+◌, ◌*◌, nat_lt, Bool, true, false, ◌||◌, if◌then◌else◌, List, [], ◌∷◌, ◌++◌, Option, Some, None, Result, Ok, Err, unwrap_or, codes, map}
+use Rattle.std.specs.List.{list_any, range_with_len}
 use Rattle.std.specs.Option.{option_map, option_map_or}
-use Rattle.orca_base.specs.declared.limits.TheConstants.{DEFAULT_HISTORY}
+use Rattle.orca_base.specs.Ascii.{line_feed}
+use Rattle.orca_base.specs.MidiBytes.{control_bytes}
+use Rattle.orca_base.specs.Ports.{Sent}
+use Rattle.orca_base.specs.declared.limits.TheConstants.{DEFAULT_HISTORY, DEFAULT_SEED, MAX_CHANNEL}
 use Rattle.orca_base.specs.declared.port.Port.{Port}
 use Rattle.orca_base.specs.declared.port.Port.TheVariants as port
 use Rattle.orca_base.specs.declared.command.Command.{Command}
@@ -11,8 +15,8 @@ use Rattle.orca_clock.specs.Followers.{Followed, follow_at_start, follow_part}
 use Rattle.orca_clock.specs.Leaders.{Led, lead_at_start, lead_part}
 use Rattle.orca_concert.specs.Concerts.{concert_with, concert_course, stance_of}
 use Rattle.orca_concert.specs.Manners.{Manner}
-use Rattle.orca_course.specs.Acts.{Act}
-use Rattle.orca_course.specs.Acts.Act.{Attach, Listen, Load, Save, Stand}
+use Rattle.orca_course.specs.Acts.{Act, gives}
+use Rattle.orca_course.specs.Acts.Act.{Attach, Claim, Learn, Listen, Load, Remove, Save, Stand}
 use Rattle.orca_course.specs.Courses.{Course, course, ended, joined, mapped}
 use Rattle.orca_course.specs.Doing.{Stance}
 use Rattle.orca_course.specs.Performers.{Hearing, Part, performance}
@@ -24,44 +28,59 @@ use Rattle.orca_course.specs.declared.ending.Stop.TheVariants.{Left, Full, SongT
 use Rattle.orca_course.specs.declared.item.Losses.{Losses}
 use Rattle.orca_cues.specs.Cues.{frames_cue}
 use Rattle.orca_cues.specs.Made.{made_cues, made_sheet}
-use Rattle.orca_cues.specs.Scripts.{any_script_of, commands_of_cues, seed_in}
+use Rattle.orca_cues.specs.Rooms.{Room, room_parts, whole_lines}
+use Rattle.orca_cues.specs.Scripts.{any_script_of, commands_of_cues, script_by, seed_in}
 use Rattle.orca_cues.specs.declared.fault.ScriptFault.{ScriptFault}
 use Rattle.orca_cues.specs.declared.source.Cue.{Cue}
 use Rattle.orca_edit.specs.Obeying.{machine_at_start}
 use Rattle.orca_edit.specs.Prices.{kept_at_start}
-use Rattle.orca_grid.specs.GridText.{grid_text}
+use Rattle.orca_grid.specs.GridText.{grid_text, text_of}
 use Rattle.orca_grid.specs.declared.refusal.GridRefusal.{GridRefusal}
+use Rattle.orca_grid.specs.declared.refusal.GridRefusal.TheVariants.{NoCells}
 use Rattle.orca_live.specs.Performing.{live_part}
 use Rattle.orca_jam.specs.Crews.{CrewState, crew_alone, crew_at_start}
 use Rattle.orca_live.specs.Starting.{live_at_start, nothing_failed}
 use Rattle.orca_live.specs.States.{LiveState, Setting}
 use Rattle.orca_reports.specs.Manners.{events_manner, make_manner, replay_manner, run_manner, state_manner}
+use Rattle.orca_reports.specs.Rescues.{Rescue, recovery_manner}
 use Rattle.orca_reports.specs.SavedSongs.{song_of}
 use Rattle.orca_reports.specs.SavedWaves.{wave_of}
 use Rattle.orca_reports.specs.Songs.{recording_at_start, smf_manner}
 use Rattle.orca_reports.specs.Waves.{frame_samples, wav_manner, wave_at_start}
-use Rattle.orca_script.specs.Runs.{printed_script}
+use Rattle.orca_rig.specs.declared.files.Claim.{Claim as Claimed}
+use Rattle.orca_rig.specs.declared.files.Claim.TheVariants as claim
+use Rattle.orca_script.specs.Runs.{printed_header, printed_script}
 use Rattle.orca_term.specs.declared.cell.ScreenSize.{ScreenSize}
 use Rattle.orca_wav.specs.declared.limits.TheConstants.{MAX_WAVE_BYTES, SAMPLE_BYTES}
-use Rattle.orca_words.specs.Requests.{Events, Follow, Lead, Make, Migrate, Migration, Perform, Performance, Play, Recording, Replay, Request, Run, Setup, Smf, Wav, Work, Workload, request_of}
+use Rattle.orca_words.specs.Requests.{Events, Follow, Lead, Make, Migrate, Migration, Perform, Performance, Play, Recording, Recover, Recovery, Replay, Request, Run, Setup, Smf, Wav, Work, Workload, request_of}
 use Rattle.orca_player.specs.Takes.{Take, Song, Wave}
 use Rattle.orca_player.specs.declared.live.TheConstants.{ALONE}
 use Rattle.orca_player.specs.declared.status.Status.{Status}
-use Rattle.orca_player.specs.declared.status.Status.TheVariants.{Done, Usage, GridRefused, FileFault, ScriptRefused, HistoryFull, InboxFault, TurnsSpent, SmfTooLong, WavTooLong}
+use Rattle.orca_player.specs.declared.status.Status.TheVariants.{Done, Usage, GridRefused, FileFault, ScriptRefused, HistoryFull, InboxFault, TurnsSpent, SmfTooLong, WavTooLong, RoomLeft, RoomHeld}
 
 -- what the outside gives to the work on a grid: the text of the file of its script, unless its load
--- fails; the moment at which its inbox listens, unless that fails; what the calls before a
--- performance came to; and the polls of the inbox with their answers, each with what the calls had
--- come to when all was done that it brought
+-- fails; whether its room was made, unless that fails; the moment at which its inbox listens, unless
+-- that fails; what the calls before a performance came to; the polls of the inbox with their answers,
+-- each with what the calls had come to when all was done that it brought; and what the calls of a
+-- whole performance came to
 pub record Brought : Type 0 where
   pub script : Option (List ℕ)
+  pub claimed : Option Claimed
   pub start : Option ℕ
   pub opening : Losses
   pub hearings : List Hearing
+  pub closing : Losses
 
 -- nothing
 abbrev pub nothing : Brought
-nothing = record { script = None; start = None; opening = nothing_failed; hearings = [] }
+nothing = record {
+  script = None;
+  claimed = None;
+  start = None;
+  opening = nothing_failed;
+  hearings = [];
+  closing = nothing_failed;
+}
 
 -- and to a run: the text of the file of its grid too, unless its load fails
 pub record Heard : Type 0 where
@@ -73,19 +92,28 @@ pub record Script : Type 0 where
   pub seed : ℕ
   pub commands : List Command
 
--- whether the messages of commands are handed out; what a run does, where its session stands at
--- last, and how it ends, unless the answers of its inbox break off; the screen that it paints on, the
--- script that it saves, and the song or the wave that it is recorded as, if it has them
+-- whether the messages of commands are handed out; what a run sends before its session is opened,
+-- nothing but where a room is recovered; what it does, where its session stands at last, and how it
+-- ends, unless the answers of its inbox break off; the screen that it paints on, the script that it
+-- saves, and the song or the wave that it is recorded as, if it has them
 pub record Outline : Type 0 where
   pub hands : Bool
+  pub first : List Sent
   pub course : Course (Option Standing) Status
   pub screen : Option ScreenSize
   pub given : Option Script
   pub take : Option Take
 
--- without these
+-- without these, and with nothing that is sent before
 abbrev pub plain_outline : Bool → Course (Option Standing) Status → Outline
-plain_outline hands c = record { hands = hands; course = c; screen = None; given = None; take = None }
+plain_outline hands c = record {
+  hands = hands;
+  first = [];
+  course = c;
+  screen = None;
+  given = None;
+  take = None;
+}
 
 -- nothing more is done, and the run ends so
 abbrev pub stopped_run : Status → Outline
@@ -176,10 +204,15 @@ performed_outline p s u b =
     opening p.stance (option_map status_of_ending) s (performance p u b.opening b.hearings)
 
 -- the inbox listens at an address for so many hands, and answers the moment at which a performance
--- starts; one that can't listen ends the run
-unfoldable pub listening : List ℕ → ℕ → Option ℕ → (ℕ → Outline) → Outline
-listening address hands start next =
-    preceded (Listen address hands start ∷ []) (option_map_or next start (stopped_run InboxFault))
+-- starts. One that can't listen ends the run, once this was done
+unfoldable pub waiting : List Act → List ℕ → ℕ → Option ℕ → (ℕ → Outline) → Outline
+waiting missed address hands start next =
+    preceded (Listen address hands start ∷ [])
+    (option_map_or next start (preceded missed (stopped_run InboxFault)))
+
+-- where nothing is to be done then
+abbrev pub listening : List ℕ → ℕ → Option ℕ → (ℕ → Outline) → Outline
+listening = waiting []
 
 -- ---- a player
 
@@ -196,6 +229,7 @@ setting_of setup performance = record {
   save = performance.save;
   script = performance.script;
   journal = performance.journal;
+  room = performance.room;
   full = performance.full;
   screen = screen_of performance;
 }
@@ -211,6 +245,10 @@ crew_of setup play =
     option_map_or (λ hands. crew_at_start play.full hands setup.limit) play.hands
     (crew_alone play.full)
 
+-- the name of its room, if it is played in one
+abbrev pub room_name : Performance → Option (List ℕ)
+room_name play = if play.room then play.journal else None
+
 -- a performance of its crew, which starts at a moment
 abbrev pub live_start : Setup → Performance → ℕ → Standing → LiveState
 live_start setup play at s =
@@ -222,17 +260,70 @@ script_kept None seed given = None
 script_kept (Some name) seed given =
     option_map (λ commands. record { seed = seed; commands = commands }) given
 
--- the session is opened, and a player plays from there
-abbrev pub played : LiveState → Brought → Outline
-played s b = record (performed_outline live_part s.standing s b) {
-  screen = Some s.screen;
-  given = script_kept s.setting.script s.setting.seed
-      (performance live_part s b.opening b.hearings).state.given;
-}
+-- how a room is left, if there is one: it is learnt what the calls came to, and the room is taken
+-- away, unless files have failed at one of them, or a command is loose: it is in no grid that was
+-- saved
+abbrev pub leavings : Option (List ℕ) → Losses → Bool → List Act
+leavings None came loose = []
+leavings (Some name) came loose =
+    Learn came ∷ (if came.unstored || loose then [] else Remove name ∷ [])
+
+-- so it is once a performance has ended
+abbrev pub closings : Option (List ℕ) → Option Ending → Losses → Bool → List Act
+closings room None came loose = []
+closings room (Some ending) came loose = leavings room came loose
+
+-- a performance, and what is done of its room at the end
+abbrev pub leaving : Option (List ℕ) → Losses → Course LiveState Ending → Course LiveState Ending
+leaving room came c =
+    record c { acts = c.acts ++ closings room c.ending came c.state.loose }
+
+abbrev pub played_course : Option (List ℕ) → LiveState → Brought → Course LiveState Ending
+played_course room s b = leaving room b.closing (performance live_part s b.opening b.hearings)
+
+-- the session is opened, a player plays from there, and the room is left
+abbrev pub played : Option (List ℕ) → LiveState → Brought → Outline
+played room s b = record (opening live_part.stance (option_map status_of_ending) s.standing
+    (played_course room s b)) {
+      screen = Some s.screen;
+      given = script_kept s.setting.script s.setting.seed
+          (performance live_part s b.opening b.hearings).state.given;
+    }
 
 -- the same from its start
 unfoldable pub live_outline : Setup → Performance → Brought → Standing → ℕ → Outline
-live_outline setup play b s at = played (live_start setup play at s) b
+live_outline setup play b s at = played (room_name play) (live_start setup play at s) b
+
+-- ---- a room
+
+-- a byte that a line of text does not have
+abbrev pub is_control : ℕ → Bool
+is_control byte = nat_lt byte 32
+
+-- the line that names the port whose notes would sound on if the run were killed. A script takes it
+-- for a comment
+abbrev pub midi_line : Option (List ℕ) → List ℕ
+midi_line None = []
+midi_line (Some name) =
+    if list_any is_control name then [] else codes "# midi " ++ (name ++ line_feed ∷ [])
+
+-- what a room begins with: the text of the grid, an empty line, and the first lines of a script
+abbrev pub room_start : Setup → Sheet → List ℕ
+room_start setup sheet =
+    text_of sheet ++ line_feed ∷ (printed_header setup.seed ++ midi_line setup.midi)
+
+-- a run goes on in a room that was made. One that is there ends it, and so does a fault
+abbrev pub after_claim : Option Claimed → Outline → Outline
+after_claim None next = stopped_run FileFault
+after_claim (Some claim.Left) next = stopped_run RoomLeft
+after_claim (Some claim.Held) next = stopped_run RoomHeld
+after_claim (Some claim.Made) next = next
+
+-- a room is claimed, if there is to be one
+unfoldable pub roomed : Option (List ℕ) → List ℕ → Option Claimed → Outline → Outline
+roomed None start claimed next = next
+roomed (Some name) start claimed next =
+    preceded (Claim name start claimed ∷ []) (after_claim claimed next)
 
 -- ---- a clock
 
@@ -284,8 +375,9 @@ work_outline setup (Wav wave) sheet b =
 work_outline setup (Replay name) sheet b =
     loading name b.script (script_outline sheet setup.seed setup.limit)
 work_outline setup (Play play) sheet b =
-    listening play.address (hands_of play) b.start
-    (live_outline setup play b (start_of setup sheet))
+    roomed (room_name play) (room_start setup sheet) b.claimed
+    (waiting (leavings (room_name play) b.closing false) play.address (hands_of play) b.start
+    (live_outline setup play b (start_of setup sheet)))
 work_outline setup (Follow address) sheet b =
     listening address ALONE b.start (λ at. follow_outline b (start_of setup sheet))
 work_outline setup (Lead lead) sheet b =
@@ -319,6 +411,64 @@ made_outline load =
     concert make_manner tt (made_cues load.seed (made_size load) load.frames)
     (standing_at (made_sheet load.seed (made_size load)) load.seed DEFAULT_HISTORY)
 
+-- All Notes Off on a channel, the controller 123 with value 0 (MIDI 1.0, channel mode messages)
+abbrev pub all_notes_off : ℕ → Sent
+all_notes_off channel = record { port = port.Midi; bytes = control_bytes channel 123 0 }
+
+-- the channels of MIDI
+abbrev pub channels : List ℕ
+channels = range_with_len 0 (MAX_CHANNEL + 1)
+
+-- what ends the notes that another run has left at a port, if it has a name
+abbrev pub hushing : Option (List ℕ) → List Sent
+hushing None = []
+hushing (Some name) = map all_notes_off channels
+
+-- the port is attached before
+abbrev pub hush_acts : Option (List ℕ) → List Act
+hush_acts name = attach_act port.Midi name ++ gives (hushing name)
+
+-- where the grid and the script of a recovery go
+abbrev pub rescue_of : Recovery → Script → Rescue
+rescue_of r script = record {
+  out = r.out;
+  name = r.script;
+  script = printed_script script.seed script.commands;
+}
+
+-- the commands of a script are done on the grid of a room, and both are saved
+abbrev pub rescued : Recovery → Sheet → Script → List Cue → Outline
+rescued r sheet script cues =
+    let s = standing_at sheet script.seed r.limit in
+    record (concert recovery_manner (rescue_of r script) cues s) {
+      given = script_kept r.script script.seed (Some script.commands);
+    }
+
+-- every line of the script of a room is read before anything is done by it
+unfoldable pub script_recovered : Recovery → Sheet → List ℕ → Outline
+script_recovered r sheet text =
+    reading_outline (λ cues. rescued r sheet (script_in DEFAULT_SEED text cues) cues)
+    (script_by true text)
+
+-- the grid of a room is read, and then the whole lines of its script
+unfoldable pub grid_recovered : Recovery → List ℕ → Result Sheet GridRefusal → Outline
+grid_recovered r script (Err refusal) = stopped_run (GridRefused refusal)
+grid_recovered r script (Ok sheet) = script_recovered r sheet (whole_lines script)
+
+-- a room without an empty line has no grid
+unfoldable pub recovered : Recovery → Option Room → Outline
+recovered r None = stopped_run (GridRefused NoCells)
+recovered r (Some room) = grid_recovered r room.script (grid_text room.grid)
+
+-- a room is loaded, and its parts are read
+abbrev pub room_loaded : Recovery → Brought → Outline
+room_loaded r b = loading r.room b.script (λ text. recovered r (room_parts text))
+
+-- the notes of the run that has left it are ended before
+unfoldable pub recovery_outline : Recovery → Brought → Outline
+recovery_outline r b =
+    record (preceded (hush_acts r.midi) (room_loaded r b)) { first = hushing r.midi }
+
 -- the ports are attached, the grid is loaded, and the work is done
 unfoldable pub performed : Setup → Work → Heard → Outline
 performed setup work h =
@@ -338,6 +488,7 @@ is_too_long work = false
 unfoldable pub request_outline : Request → Heard → Outline
 request_outline (Make load) h = made_outline load
 request_outline (Migrate m) h = loading m.script h.brought.script (migrated m)
+request_outline (Recover r) h = recovery_outline r h.brought
 request_outline (Perform setup work) h =
     if is_too_long work then stopped_run WavTooLong else performed setup work h
 

@@ -1,6 +1,6 @@
 -- What a run needs so that all of it can be done: a grid, a script, and a history with room for
 -- each frame.
-use Rattle.std.specs.Prelude.{◌≡◌, ◌≢◌, ◌<◌, ◌≤◌, ℕ, false, List, ◌∷◌, ◌++◌, Some, None, IfSome, IsOkAnd, Ok}
+use Rattle.std.specs.Prelude.{◌≡◌, ◌≢◌, ◌<◌, ◌≤◌, ℕ, true, false, List, ◌∷◌, ◌++◌, Some, None, IfSome, IsOk, IsOkAnd, IsSomeAnd, Ok}
 use Rattle.orca_base.specs.declared.limits.TheConstants.{MAX_POLLS}
 use Rattle.orca_base.specs.Grids.{Sheet}
 use Rattle.orca_clock.specs.Followers.{follow_part}
@@ -10,7 +10,8 @@ use Rattle.orca_course.specs.Performers.{Hearing, Part, performance}
 use Rattle.orca_course.specs.declared.ending.Ending.TheVariants.{Stopped}
 use Rattle.orca_course.specs.declared.ending.Stop.TheVariants.{Full, SongTooLong}
 use Rattle.orca_cues.specs.Cues.{frames_cue}
-use Rattle.orca_cues.specs.Scripts.{any_script_of}
+use Rattle.orca_cues.specs.Rooms.{room_parts, whole_lines}
+use Rattle.orca_cues.specs.Scripts.{any_script_of, script_by}
 use Rattle.orca_cues.specs.declared.source.Cue.{Cue}
 use Rattle.orca_grid.specs.GridText.{grid_text}
 use Rattle.orca_live.specs.Items.{turns_of}
@@ -19,13 +20,20 @@ use Rattle.orca_live.specs.Performing.{answered_at, lull_course}
 use Rattle.orca_live.specs.States.{LiveState, is_full}
 use Rattle.orca_reports.specs.Manners.{state_manner}
 use Rattle.orca_reports.specs.Songs.{recording_at_start, smf_manner}
+use Rattle.orca_rig.specs.declared.files.Claim.TheVariants as claim
 use Rattle.orca_rig.specs.declared.inbox.Answer.TheVariants as answer
-use Rattle.orca_words.specs.Requests.{Events, Follow, Lead, Make, Migrate, Perform, Play, Recording, Replay, Request, Run, Setup, Smf, Wav, Work}
-use Rattle.orca_player.specs.Outlines.{Brought, Heard, follow_start, is_too_long, lead_start, live_start, start_of}
+use Rattle.orca_words.specs.Requests.{Events, Follow, Lead, Make, Migrate, Perform, Play, Recording, Recover, Replay, Request, Run, Setup, Smf, Wav, Work}
+use Rattle.orca_player.specs.Outlines.{Brought, Heard, follow_start, is_too_long, lead_start, live_start, room_name, start_of}
 
 -- each line of a text asks for commands, or for none
 abbrev pub IsScript : List ℕ → Type 0
 IsScript text = (cues : List Cue) × (any_script_of text ≡ Ok cues)
+
+-- a text has the parts of a room: a grid, and lines each of which asks for commands, or for none
+abbrev pub IsRoom : List ℕ → Type 0
+IsRoom text =
+    IsSomeAnd (room_parts text) (λ room. IsOk (grid_text room.grid)
+    × IsOk (script_by true (whole_lines room.script)))
 
 -- where a performance stands before the frame of an answer at this moment
 abbrev pub before_frame : ℕ → LiveState → LiveState
@@ -50,8 +58,9 @@ SongFits setup song sheet =
     (recording_at_start song.out song.bpm song.frames))).ending ≢ Some SongTooLong
 
 -- what the work needs on an opened grid. The frames of a run, of its events, of a song and of a wave
--- fit into the history, and the song is not too long. A performance has room for each frame that is
--- due, also by a clock, and fewer polls than may be made are answered by bytes or a due moment
+-- fit into the history, and the song is not too long. The room of a performance was not there before.
+-- A performance has space for each frame that is due, also by a clock, and fewer polls than may be made
+-- are answered by bytes or a due moment
 abbrev pub CanDo : Setup → Work → Sheet → Brought → Type 0
 CanDo setup (Run frames) sheet b = frames ≤ setup.limit
 CanDo setup (Events frames) sheet b = frames ≤ setup.limit
@@ -59,7 +68,8 @@ CanDo setup (Smf song) sheet b = (song.frames ≤ setup.limit) × SongFits setup
 CanDo setup (Wav wave) sheet b = wave.frames ≤ setup.limit
 CanDo setup (Replay name) sheet b = IfSome b.script IsScript
 CanDo setup (Play play) sheet b =
-    (turns_of b.hearings < MAX_POLLS)
+    IfSome (room_name play) (λ name. IfSome b.claimed (λ answer. answer ≡ claim.Made))
+    × (turns_of b.hearings < MAX_POLLS)
     × IfSome b.start (λ at. HasFrameRoom (live_start setup play at (start_of setup sheet)) b)
 CanDo setup (Follow address) sheet b =
     (turns_of b.hearings < MAX_POLLS)
@@ -74,6 +84,7 @@ CanDo setup (Lead lead) sheet b =
 abbrev pub IsReady : Request → Heard → Type 0
 IsReady (Make load) h = Unit {0}
 IsReady (Migrate m) h = IfSome h.brought.script IsScript
+IsReady (Recover r) h = IfSome h.brought.script IsRoom
 IsReady (Perform setup work) h =
     (is_too_long work ≡ false)
     × IfSome h.grid (λ text. IsOkAnd (grid_text text) (λ sheet. CanDo setup work sheet h.brought))

@@ -7,7 +7,7 @@ use Rattle.orca_base.specs.Ports.{Sent}
 use Rattle.orca_grid.specs.declared.refusal.GridRefusal.{GridRefusal}
 use Rattle.orca_grid.specs.declared.refusal.GridRefusal.TheVariants as refusal
 use Rattle.orca_player.specs.declared.status.Status.{Status}
-use Rattle.orca_player.specs.declared.status.Status.TheVariants.{Done, Usage, GridRefused, OutFault, FileFault, ScriptRefused, HistoryFull, InboxFault, TurnsSpent, SmfTooLong, WavTooLong, Memory}
+use Rattle.orca_player.specs.declared.status.Status.TheVariants.{Done, Usage, GridRefused, OutFault, FileFault, ScriptRefused, HistoryFull, InboxFault, TurnsSpent, SmfTooLong, WavTooLong, RoomLeft, RoomHeld, Memory}
 
 abbrev pub number_of_status : Status → ℕ
 number_of_status Done = 0
@@ -22,6 +22,8 @@ number_of_status TurnsSpent = 8
 number_of_status Memory = 9
 number_of_status SmfTooLong = 11
 number_of_status WavTooLong = 12
+number_of_status RoomLeft = 13
+number_of_status RoomHeld = 14
 
 -- why a grid text is refused; out of memory is a status of its own
 unfoldable pub grid_refusal_text : GridRefusal → List ℕ
@@ -45,6 +47,8 @@ status_text InboxFault = codes "inbox fault"
 status_text TurnsSpent = codes "turns spent"
 status_text SmfTooLong = codes "smf too long"
 status_text WavTooLong = codes "wav too long"
+status_text RoomLeft = codes "room left"
+status_text RoomHeld = codes "room held"
 status_text Memory = codes "no memory"
 
 -- the line of a status, on the fault port

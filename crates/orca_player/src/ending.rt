@@ -38,6 +38,8 @@ pub fn end<H: House>(alloc: Global, desk: &mut Desk<H>, status: Status) -> Statu
         Status::Memory => say(desk, status, b"no memory\n"),
         Status::SmfTooLong => say(desk, status, b"smf too long\n"),
         Status::WavTooLong => say(desk, status, b"wav too long\n"),
+        Status::RoomLeft => say(desk, status, b"room left\n"),
+        Status::RoomHeld => say(desk, status, b"room held\n"),
     }
 }
 

@@ -28,7 +28,7 @@ pub(crate) fn follow<H: House>(opening: &Opening, address: &str, desk: &mut Desk
         (standing_at opening.now.grid opening.now.seed opening.now.limit)))
         desk.old result desk.new }
 {
-    match listen(desk, address, ALONE) {
+    match listen(desk, None, address, ALONE) {
         // The clock says when a frame is due, so the moment of the start is not looked at.
         Ok(_) => start(opening, desk),
         Err(status) => status,

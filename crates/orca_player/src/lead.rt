@@ -32,7 +32,7 @@ pub(crate) fn lead<H: House>(opening: &Opening, leading: &Leading<'_>, desk: &mu
         (standing_at opening.now.grid opening.now.seed opening.now.limit)))
         desk.old result desk.new }
 {
-    match listen(desk, leading.address, ALONE) {
+    match listen(desk, None, leading.address, ALONE) {
         Ok(at) => start(opening, leading.bpm, at, desk),
         Err(status) => status,
     }

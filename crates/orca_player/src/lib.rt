@@ -11,7 +11,9 @@ mod opening;
 mod performing;
 mod reading;
 mod recording;
+mod recovery;
 mod replay;
+mod room;
 mod status;
 mod top;
 

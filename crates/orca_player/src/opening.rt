@@ -41,7 +41,11 @@ pub(crate) fn attach_all<H: House>(desk: &mut Desk<H>, setup: &Setup<'_>) -> Res
 
 /// Attaches a port to its name, if it has one.
 #[tactic(auto, using(orca_course::proofs::WorldLemmas::called_still))]
-fn attach<H: House>(desk: &mut Desk<H>, port: Port, name: Option<&str>) -> Result<(), NoMemory>
+pub(crate) fn attach<H: House>(
+    desk: &mut Desk<H>,
+    port: Port,
+    name: Option<&str>,
+) -> Result<(), NoMemory>
     ensures called { Calls (attach_act port (text_in name.entry)) result desk.old desk.new }
     ensures inbox { LeavesInbox desk.old desk.new }
 {

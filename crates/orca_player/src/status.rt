@@ -1,4 +1,5 @@
 ghost use Rattle.std.specs.Prelude.{◌≡◌};
+ghost use Rattle.orca_player.specs.Doing.{refused_status};
 ghost use Rattle.orca_player.specs.Statuses.{number_of_status};
 
 use orca_grid::GridRefusal;
@@ -15,8 +16,8 @@ pub enum Status {
     /// A port failed, and all else was done.
     OutFault,
     /// A file could not be loaded: it is missing, unreadable, or more than
-    /// [`MAX_FILE_BYTES`](orca_base::limits::MAX_FILE_BYTES) bytes. Or a file could not be saved
-    /// or added to, and all else was done.
+    /// [`MAX_FILE_BYTES`](orca_base::limits::MAX_FILE_BYTES) bytes. Or a room could not be claimed.
+    /// Or a file could not be saved, added to or taken away, and all else was done.
     FileFault,
     /// The script has a line outside its grammar: the first such line and the column where it
     /// leaves the grammar, both counted from 1.
@@ -33,6 +34,10 @@ pub enum Status {
     SmfTooLong,
     /// The wave that was to be saved would be too long, and nothing was done.
     WavTooLong,
+    /// The room is there, and no program holds it: what was left there is not yet saved.
+    RoomLeft,
+    /// The room is there, and a program holds it: it is played in now.
+    RoomHeld,
 }
 
 impl Status {
@@ -53,6 +58,18 @@ impl Status {
             Status::Memory => 9,
             Status::SmfTooLong => 11,
             Status::WavTooLong => 12,
+            Status::RoomLeft => 13,
+            Status::RoomHeld => 14,
         }
+    }
+}
+
+/// The status of a grid that is refused.
+pub(crate) fn refused_status(refusal: GridRefusal) -> Status
+    ensures { result ≡ refused_status refusal }
+{
+    match refusal {
+        GridRefusal::Memory => Status::Memory,
+        refusal => Status::GridRefused(refusal),
     }
 }

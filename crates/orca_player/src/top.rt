@@ -3,10 +3,11 @@ ghost use Rattle.orca_base.specs.declared.limits.TheConstants.{MAX_FILE_BYTES};
 ghost use Rattle.orca_course.specs.Worlds.{IsSound, has_ended, has_listened};
 ghost use Rattle.orca_grid.specs.GridText.{grid_text};
 ghost use Rattle.orca_player.specs.Clocks.{KeepsTime};
-ghost use Rattle.orca_player.specs.Doing.{Came, CameBy, refused_status};
+ghost use Rattle.orca_player.specs.Doing.{Came, CameBy};
 ghost use Rattle.orca_player.specs.Outlines.{Heard, grid_outline, is_too_long as is_long_work, made_outline, outline, performed, request_outline, work_outline};
 ghost use Rattle.orca_player.specs.Hands.{SharesFairly};
-ghost use Rattle.orca_player.specs.Laws.{CutsAlike, KeepsJournals, ReplaysAlike};
+ghost use Rattle.orca_player.specs.Laws.{CutsAlike, KeepsJournals, KeepsRooms, ReplaysAlike};
+ghost use Rattle.orca_player.specs.Recoveries.{Recovers};
 ghost use Rattle.orca_player.specs.Running.{IsCaused, Ran};
 ghost use Rattle.orca_words.specs.RequestIn.{request_in, setup_in, work_in, workload_in};
 ghost use Rattle.orca_words.specs.Recordings.{HasSongTempo};
@@ -21,14 +22,16 @@ use crate::live::play;
 use crate::migration::migrate;
 use crate::opening::{Opening, attach_all};
 use crate::recording::{is_too_long, record_song, record_wave};
+use crate::recovery::recover;
 use crate::replay::replay;
+use crate::status::refused_status;
 use orca_base::Dims;
 use orca_base::limits::DEFAULT_HISTORY;
 use orca_clock::clock_law;
 use orca_course::Desk;
 use orca_cues::{Frames, Maker, Turns};
 use orca_frame::table_laws;
-use orca_grid::{Grid, GridRefusal};
+use orca_grid::Grid;
 use orca_live::{hands_law, solo_law};
 use orca_reports::{EventsReport, MakeReport, RunReport, saving_law};
 use orca_rig::House;
@@ -37,28 +40,31 @@ use std::alloc::Global;
 
 /// Does what the words ask for, and answers how it ended. They are the words after the program's own
 /// name: `run` and `events` play frames, `replay` does the commands of a script, `make` those of a
-/// generated run, `play` lets a player edit the grid while it plays, and `jam` lets several share one
-/// session. `follow` plays by a MIDI clock that comes in, and `lead` plays and gives one. `smf` and `wav`
-/// play frames and save their notes as a song or as sound, and `migrate` saves a script in format 2. The
-/// desk owns the files, the ports, the inbox and the counter of steps.
+/// generated run, `play` lets a player edit the grid while it plays, and `jam` lets several share
+/// one session. `follow` plays by a MIDI clock that comes in, and `lead` plays and gives one. `smf`
+/// and `wav` play frames and save their notes as a song or as sound, `migrate` saves a script in
+/// format 2, and `recover` saves the grid and the script of a room. The desk owns the files, the
+/// ports, the inbox and the counter of steps.
 ///
 /// The named ports are attached in the order MIDI, UDP, OSC, then the grid is loaded and read, and
 /// then the script of `replay`, whose lines are all read before the first command is done. The
 /// messages of each command are sent at once, one by one. At the end, unless it comes early, the text
 /// of the word is printed, every note ends, and `play` and `jam` save. While they play, they add their
 /// commands to their journal. `smf` and `wav` hand no message out, and save last. `migrate` loads a
-/// script, reads all its lines, and saves it.
+/// script, reads all its lines, and saves it. `recover` ends the notes of the run that has left the
+/// room, if a MIDI port is named, and loads the room. It does the commands on the grid of the room,
+/// hands no message of them out, and saves last.
 ///
 /// A port that fails does not end the run: if all else was done, the status is
-/// [`Status::OutFault`]. Neither does a save or an append, with [`Status::FileFault`]. A status other than 0 sends
-/// one line on the fault port, as the last send.
+/// [`Status::OutFault`]. Neither does a save or an append, with [`Status::FileFault`]. A status
+/// other than 0 sends one line on the fault port, as the last send.
 ///
 /// Out of memory is [`Status::Memory`], in one of three ways. A port refused it to a send: then a
 /// beginning of the outline was done, all of it if the send was that line, and nothing else is sent
 /// but the line. It was refused elsewhere once the session was open: then a beginning was done that
 /// ends with a command, and every note that sounded ends, unless a port refuses memory to one of
 /// these sends. Or it was refused before, as a port was attached or elsewhere: then nothing is sent
-/// but that line.
+/// but that line and, by `recover`, what ends notes.
 pub fn run<H: House>(alloc: Global, words: &Vec<String>, desk: &mut Desk<H>) -> Status
     // Nobody has listened to the inbox, and it has not ended; and nothing has failed at the desk.
     requires fresh { has_listened desk.old ≡ false }
@@ -91,6 +97,15 @@ pub fn run<H: House>(alloc: Global, words: &Vec<String>, desk: &mut Desk<H>) -> 
     // beginning of that.
     ensures journals { KeepsJournals (map string_bytes words.now.items) }
 
+    // So it is in a room, behind the text of the grid, from the moment on at which the room was made.
+    // Nothing takes it away but the last call of a run whose saves and appends all went well, where no
+    // command was accepted that is not in the grid that was saved, but frames and copies.
+    ensures rooms { KeepsRooms (map string_bytes words.now.items) }
+
+    // What was kept in a room is recovered: the session after exactly its commands, whose grid is
+    // saved, and their script. A line that was cut off is lost alone.
+    ensures recovers { Recovers (map string_bytes words.now.items) }
+
     // A run that follows a clock does the commands of all bytes that it hears, however they were cut
     // and whatever other bytes stand between. One that hears exactly what a run that leads gives
     // plays exactly the frames of that.
@@ -120,6 +135,7 @@ fn work<H: House>(alloc: Global, words: &Vec<String>, desk: &mut Desk<H>) -> Sta
     match read_words(alloc, words) {
         Ok(Request::Make(load)) => make(alloc, load, desk),
         Ok(Request::Migrate(migration)) => migrate(alloc, &migration, desk),
+        Ok(Request::Recover(recovery)) => recover(alloc, &recovery, desk),
         Ok(Request::Perform { setup, work }) => perform(alloc, &setup, &work, desk),
         Err(WordsFault::Usage) => Status::Usage,
         Err(WordsFault::Memory) => Status::Memory,
@@ -185,16 +201,6 @@ fn read_grid<H: House>(
     match Grid::read(alloc, text) {
         Ok(grid) => do_work(alloc, setup, work, grid, desk),
         Err(refusal) => refused_status(refusal),
-    }
-}
-
-/// The status of a grid that is refused.
-fn refused_status(refusal: GridRefusal) -> Status
-    ensures { result ≡ refused_status refusal }
-{
-    match refusal {
-        GridRefusal::Memory => Status::Memory,
-        refusal => Status::GridRefused(refusal),
     }
 }
 

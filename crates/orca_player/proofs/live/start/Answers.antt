@@ -2,6 +2,7 @@ use Rattle.std.proofs.Common.{◌∙◌, ap}
 use Rattle.orca_course.specs.Standings.{notes_of}
 use Rattle.orca_player.specs.Outlines.{live_outline}
 use Rattle.orca_player.proofs.CourseLemmas.{live_from, live_none, notes-standing_at}
+use Rattle.orca_words.specs.RequestIn.{performance_in}
 use Rattle.orca_player.proofs.live.start.Goals as goal
 
 pub play_all-requires-clause-begins : goal.play_all-requires-clause-begins
@@ -11,13 +12,15 @@ play_all-requires-clause-begins g c =
     ∙ notes-standing_at opening.grid opening.seed opening.limit
 
 pub returns-in-Ok : goal.returns-in-Ok
-returns-in-Ok g c = live_from _ _ _ _ _ c.in-Ok.ensures.state c.play_all.ensures
+returns-in-Ok g c =
+    live_from _ (performance_in c.args.performance.now) _ _ _ c.in-Ok.ensures.state
+    (rw c.room_name.ensures at c.play_all.ensures)
 
 pub returns-in-Err : goal.returns-in-Err
 unfolding live_outline
 returns-in-Err g c =
     let performance = c.args.performance.now in
-    live_none _ _ (record {
+    live_none _ _ _ (record {
       rows = performance.rows_in_range.0;
       few_rows = performance.rows_in_range.1;
       columns = performance.cols_in_range.0;

@@ -5,9 +5,10 @@ use Rattle.orca_live.proofs.ScriptLaw.{replays_script}
 use Rattle.orca_words.proofs.RecordedWork.{owns_journals}
 use Rattle.orca_player.proofs.EndLemmas.{caused_came, ran_by, ran_usage, ran_usage_only}
 use Rattle.orca_player.proofs.HandLemmas.{shares_fairly}
-use Rattle.orca_player.proofs.JournalLemmas.{keeps_journals}
+use Rattle.orca_player.proofs.JournalLemmas.{keeps_journals, keeps_rooms}
 use Rattle.orca_player.proofs.KeepingLemmas.{keeps_time}
 use Rattle.orca_player.proofs.LawLemmas.{cuts_alike, replays_alike}
+use Rattle.orca_player.proofs.RecoveredLemmas.{recovers}
 use Rattle.orca_player.proofs.top.run.Goals as goal
 
 pub returns-clause-cutting : goal.returns-clause-cutting
@@ -18,6 +19,9 @@ returns-clause-replays g c = replays_alike replays_script _
 
 pub returns-clause-journals : goal.returns-clause-journals
 returns-clause-journals g c = keeps_journals journals_performance owns_journals _
+
+pub returns-clause-rooms : goal.returns-clause-rooms
+returns-clause-rooms g c = keeps_rooms journals_performance owns_journals _
 
 pub returns-clause-clocks : goal.returns-clause-clocks
 returns-clause-clocks g c =
@@ -43,3 +47,6 @@ returns-clause-usage g c = λ none. ran_usage _ (returns-clause-ran g c) none
 
 pub returns-clause-usage_only : goal.returns-clause-usage_only
 returns-clause-usage_only g c = λ is. ran_usage_only _ (returns-clause-ran g c) is
+
+pub returns-clause-recovers : goal.returns-clause-recovers
+returns-clause-recovers g c = recovers _

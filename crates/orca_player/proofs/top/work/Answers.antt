@@ -18,6 +18,11 @@ unfolding outline request_outline
 returns-in-Ok-Migrate g c =
     rw (rw c.in-Ok-Migrate.field-0-is at c.in-Ok-Migrate.ensures.read) (None, c.migrate.ensures)
 
+pub returns-in-Ok-Recover : goal.returns-in-Ok-Recover
+unfolding outline request_outline
+returns-in-Ok-Recover g c =
+    rw (rw c.in-Ok-Recover.field-0-is at c.in-Ok-Recover.ensures.read) (None, c.recover.ensures)
+
 pub returns-in-Ok-Perform : goal.returns-in-Ok-Perform
 unfolding outline
 returns-in-Ok-Perform g c =
