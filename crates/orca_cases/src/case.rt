@@ -38,6 +38,8 @@ pub(crate) struct Case {
 pub(crate) struct Outside {
     /// The files that are held at the start, each a name and its bytes.
     pub files: Vec<(String, Vec<u8>)>,
+    /// The name of the file that another program holds, if one does.
+    pub held: Option<String>,
     /// The calls of the files that are to fail, counted from 1.
     pub failing_calls: Vec<u64>,
     /// The sends that are to fail, counted from 1 at each port.
@@ -61,6 +63,7 @@ impl Case {
             wanted: Vec::new(alloc),
             outside: Outside {
                 files: Vec::new(alloc),
+                held: None,
                 failing_calls: Vec::new(alloc),
                 failing_sends: Vec::new(alloc),
                 start: 0,
@@ -79,6 +82,7 @@ impl Case {
                 .words
                 .push(String::from_utf8(read_bytes(alloc, rest)?)?)?,
             "file" => self.outside.files.push(read_file(alloc, rest)?)?,
+            "held" => self.outside.held = Some(String::from_str(alloc, rest)?),
             "want" => self.wanted.push(String::from_str(alloc, rest)?)?,
             "fail" => self.add_failure(rest)?,
             "start" => self.outside.start = rest.parse::<u64>()?,

@@ -19,6 +19,7 @@
 //! |---|---|
 //! | `word WORD` | one word of the command line, in order |
 //! | `file NAME BYTES` | a file that is held at the start |
+//! | `held NAME` | another program holds the file of that name |
 //! | `want NAME` | a file that is told at the end |
 //! | `fail files N` | the Nth call of the files is to fail, counted from 1 |
 //! | `fail PORT N` | the Nth call of a port is to fail: `midi`, `udp`, `osc`, `text`, `fault` or `view` |

@@ -54,6 +54,7 @@ fn world_of(outside: Outside) -> Result<World>
 {
     let Outside {
         files,
+        held,
         failing_calls,
         failing_sends,
         start,
@@ -61,20 +62,29 @@ fn world_of(outside: Outside) -> Result<World>
         failing_polls,
     } = outside;
     Ok(World {
-        files: files_of(files, failing_calls)?,
+        files: files_of(files, held, failing_calls)?,
         outs: outs_of(failing_sends)?,
         inbox: inbox_of(start, answers, failing_polls)?,
     })
 }
 
-/// The files of a case, and which calls of them fail.
-fn files_of(files: Vec<(String, Vec<u8>)>, failing: Vec<u64>) -> Result<MemFiles>
+/// The files of a case, that which another program holds, and which calls of them fail.
+fn files_of(
+    files: Vec<(String, Vec<u8>)>,
+    held: Option<String>,
+    failing: Vec<u64>,
+) -> Result<MemFiles>
     ensures { IfOk result (λ files. (files.asked ≡ []) × (files.wants ≡ 0)) }
 {
     ensure!(names_differ(&files), "two files have one name");
-    let Ok(files) = MemFiles::new(files, failing) else {
+    let Ok(mut files) = MemFiles::new(files, failing) else {
         bail!("memory was refused");
     };
+    if let Some(name) = held {
+        let Ok(()) = files.hold(name) else {
+            bail!("memory was refused");
+        };
+    }
     Ok(files)
 }
 
