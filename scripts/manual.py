@@ -225,8 +225,8 @@ def options_of_words():
 
 
 def options_of_perform():
-    """Those of `play`, but for the journal, which `perform` keeps by itself."""
-    return [option for option in options_of_words()["play"] if option != "--journal"]
+    """Those of `play`, but for the room, which `perform` gives by itself, and the journal, which can't be given with it."""
+    return [option for option in options_of_words()["play"] if option not in ("--journal", "--room")]
 
 
 def completion(commands):

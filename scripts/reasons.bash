@@ -111,16 +111,3 @@ why_unheard() {
         why="a port below $free is the administrator's"
     fi
 }
-
-# why_dead OPTION NAME: a port that has taken bytes, or should have
-why_dead() {
-    why=
-    if [ "$1" != --midi ]; then
-        why_no_address "$2"
-        [ -n "$why" ] || ! is_here || has_socket udp '[0-9A-F]*' || why='nobody listens there'
-    elif [ ! -e "$2" ]; then
-        why='it is not there any more'
-    elif [ -p "$2" ] && ! timeout 1 dd if=/dev/null of="$2" oflag=nonblock conv=notrunc 2>/dev/null; then
-        why='nobody reads this pipe'
-    fi
-}
