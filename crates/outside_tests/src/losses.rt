@@ -34,12 +34,19 @@ const FINE: Losses = Losses {
     osc: false,
     journal: false,
     unsaved: false,
+    unstored: false,
 };
 
-/// The journal has.
+/// A file has, and no port.
+const UNSTORED: Losses = Losses {
+    unstored: true,
+    ..FINE
+};
+
+/// And the journal.
 const JOURNAL: Losses = Losses {
     journal: true,
-    ..FINE
+    ..UNSTORED
 };
 
 /// And the last save.
@@ -60,21 +67,51 @@ const PORTS: [(Port, u64); 6] = [
 
 const FILES: [u64; 3] = [2, 5, 7];
 
-/// The calls, and what they came to after each. What is sent to a port that could not be attached
+/// The calls, of a desk at which a file has failed before, and what they came to after each. What is sent to a port that could not be attached
 /// goes well, so a send does not tell of the attach.
 const CALLS: [(Call, Losses); 17] = [
-    (Attach(Port::Midi), Losses { midi: true, ..FINE }),
-    (Send(Port::Midi), Losses { midi: true, ..FINE }),
-    (Attach(Port::Midi), FINE),
-    (Attach(Port::Udp), FINE),
-    (Send(Port::Udp), Losses { udp: true, ..FINE }),
-    (Send(Port::Udp), FINE),
-    (Attach(Port::Osc), Losses { osc: true, ..FINE }),
-    (Attach(Port::Osc), FINE),
-    (Send(Port::Osc), Losses { osc: true, ..FINE }),
-    (Send(Port::Osc), FINE),
-    (Send(Port::View), FINE),
-    (Begin, FINE),
+    (
+        Attach(Port::Midi),
+        Losses {
+            midi: true,
+            ..UNSTORED
+        },
+    ),
+    (
+        Send(Port::Midi),
+        Losses {
+            midi: true,
+            ..UNSTORED
+        },
+    ),
+    (Attach(Port::Midi), UNSTORED),
+    (Attach(Port::Udp), UNSTORED),
+    (
+        Send(Port::Udp),
+        Losses {
+            udp: true,
+            ..UNSTORED
+        },
+    ),
+    (Send(Port::Udp), UNSTORED),
+    (
+        Attach(Port::Osc),
+        Losses {
+            osc: true,
+            ..UNSTORED
+        },
+    ),
+    (Attach(Port::Osc), UNSTORED),
+    (
+        Send(Port::Osc),
+        Losses {
+            osc: true,
+            ..UNSTORED
+        },
+    ),
+    (Send(Port::Osc), UNSTORED),
+    (Send(Port::View), UNSTORED),
+    (Begin, UNSTORED),
     (Append, JOURNAL),
     (Save, JOURNAL),
     (Save, UNSAVED),
@@ -101,7 +138,7 @@ fn make_call<H: House>(desk: &mut Desk<H>, call: Call) -> Result<(), NoMemory> {
 
 /// Makes the calls, and looks at what they came to after each.
 fn check_calls<H: House>(rt: &impl Abort, desk: &mut Desk<H>) -> Result<(), Fail> {
-    assert_eq!(rt; desk.losses(), FINE);
+    assert_eq!(rt; desk.losses(), UNSTORED);
     for (call, came) in &CALLS {
         make_call(desk, *call).ok().ok_or("no memory")?;
         assert_eq!(rt; desk.losses(), *came);
@@ -189,9 +226,10 @@ fn check_told<H: House>(rt: &impl Abort, alloc: Global, desk: &mut Desk<H>)
     assert_eq!(rt; ending, Ok(Ending::Stopped(Stop::Left)));
     let unsaved = Losses {
         unsaved: true,
-        ..FINE
+        ..UNSTORED
     };
-    let told = [FINE, FINE, unsaved, FINE];
+    // The next save goes well, but a file has failed.
+    let told = [FINE, FINE, unsaved, UNSTORED];
     assert_eq!(rt; keeper.told.as_slice(), told.as_slice());
 }
 
