@@ -1,9 +1,11 @@
 -- A room in which a performance has kept its commands is recovered.
-use Rattle.std.proofs.Common.{◌≡◌, ◌≢◌, ℕ, ◌+◌, ◌<◌, ◌^◌, Bool, true, false, List, [], ◌∷◌, ◌++◌, refl, sym, ◌∙◌, ap, append_assoc, append-nil, arith, map}
+use Rattle.std.proofs.Common.{◌≡◌, ◌≢◌, ℕ, ◌+◌, ◌<◌, ◌^◌, Bool, true, false, List, [], ◌∷◌, ◌++◌, refl, sym, ◌∙◌, ap, append_assoc, append-nil, arith, map, ◌⊎◌, inl, inr, subst, ◌≤◌}
 use Rattle.std.specs.Prelude.{All, Option, Some, None, Ok, Err, Result, if◌then◌else◌, nat_le, codes}
-use Rattle.std.specs.List.{flat_map, list_all, list_any}
+use Rattle.std.specs.List.{flat_map, list_all, list_any, AllByRecursion}
 use Rattle.std.specs.Str.Lines.{lines}
 use Rattle.std.proofs.lemmas.Bool.Decides.{nat_tests}
+use Rattle.std.proofs.lemmas.Bool.{and_parts, leb-true}
+use Rattle.std.proofs.lemmas.List.Elements.{All-from_recursion, recursion_from_All}
 use Rattle.orca_base.specs.Ascii.{line_feed}
 use Rattle.orca_base.specs.Grids.{IsSheet, Sheet}
 use Rattle.orca_base.specs.declared.command.Command.{Command}
@@ -20,17 +22,17 @@ use Rattle.orca_live.proofs.JournalReads.{read_all}
 use Rattle.orca_script.specs.Canonical.{HasValues, canonical, line_of, printed}
 use Rattle.orca_script.specs.Format2.{reading2}
 use Rattle.orca_script.specs.Runs.{canonical_header, printed_header, printed_script, text_behind}
-use Rattle.orca_script.proofs.ReadsBack.{shown_line}
+use Rattle.orca_script.proofs.ReadsBack.{shown_line, spaced_shown}
 use Rattle.orca_script.proofs.RunsReadBack.{script_reads_back}
-use Rattle.orca_words.specs.Requests.{Recovery, Setup}
-use Rattle.orca_player.specs.Outlines.{Outline, Script, concert, grid_recovered, hush_acts, hushing, is_control, loading, midi_line, opening, outline, preceded, reading_outline, recovered, recovery_outline, request_outline, rescue_of, rescued, script_recovered, standing_at, status_of_end}
-use Rattle.orca_player.specs.Recoveries.{IsRecovered, Recovers, room_text, saves_of, script_saves}
+use Rattle.orca_words.specs.Requests.{Recovery, Setup, Recover, request_of}
+use Rattle.orca_player.specs.Outlines.{Heard, Outline, Script, concert, grid_recovered, hush_acts, hushing, is_control, loading, midi_line, opening, outline, preceded, reading_outline, recovered, recovery_outline, request_outline, rescue_of, rescued, script_recovered, standing_at, status_of_end, room_start}
+use Rattle.orca_player.specs.Recoveries.{IsBegun, IsKept, IsRecovered, Recovers, room_text, saves_of, script_saves}
 use Rattle.orca_course.specs.declared.ending.Stop.{Stop}
 use Rattle.orca_course.proofs.ActLemmas.{commands_in-append}
 use Rattle.orca_cues.specs.Rooms.{room_parts, whole_lines}
 use Rattle.orca_cues.specs.Scripts.{commands_of_cues, cue_asking, cues_asking, cues_of, first_fault, script_by, seed_in}
 use Rattle.orca_cues.specs.declared.source.Order.TheVariants.{Do as Once}
-use Rattle.orca_cues.proofs.Parting.{cut_none, whole_line}
+use Rattle.orca_cues.proofs.Parting.{IsInside, cut_none, whole_line}
 use Rattle.orca_cues.proofs.RoomLaw.{printed_parts}
 use Rattle.orca_edit.specs.Obeying.{MachineState, machine_closed, obey, piece_of}
 use Rattle.orca_grid.specs.GridText.{text_of}
@@ -389,10 +391,148 @@ hushed_recovered r sheet script room text o is =
       given = is.given;
     }
 
-pub recovers : (words : List (List ℕ)) → Recovers words
+-- ---- lines that were cut off
+
+-- where a list has two fronts, one goes on where the other ends
+fronts : (xs ys us vs : List ℕ) → xs ++ ys ≡ us ++ vs
+    → ((more : List ℕ) × (xs ≡ us ++ more) × (vs ≡ more ++ ys))
+    ⊎ ((more : List ℕ) × (us ≡ xs ++ more) × (ys ≡ more ++ vs))
+fronts [] ys us vs same = inr (us, refl, same)
+fronts (x ∷ xs) ys [] vs same = inl (x ∷ xs, refl, sym same)
+fronts (x ∷ xs) ys (u ∷ us) vs same =
+    let first : x ≡ u = cc in
+    let others : xs ++ ys ≡ us ++ vs = cc in
+    elim (fronts xs ys us vs others) [
+      | inl at ↦ inl (at.0, rw first (ap (λ rest. u ∷ rest) at.1), at.2)
+      | inr at ↦ inr (at.0, rw first (ap (λ rest. u ∷ rest) at.1), at.2)
+    ]
+
+-- no byte of a canonical line ends a line
+word_shown : (command : Command) → list_all (λ b. nat_le 32 b) (line_of command).word ≡ true
+unfolding line_of
+word_shown command = grind arith
+
+shown_inside : (bytes : List ℕ) → list_all (λ b. nat_le 32 b) bytes ≡ true
+    → AllByRecursion IsInside bytes
+shown_inside [] shown = tt
+shown_inside (byte ∷ bytes) shown =
+    let both = and_parts _ _ shown in
+    let low : 32 ≤ byte = leb-true 32 byte both.0 in
+    (λ same. omega (arith, low, same), shown_inside bytes both.1)
+
+inside_line : (command : Command) → HasValues (line_of command)
+    → AllByRecursion IsInside (canonical command)
+inside_line command values =
+    shown_inside (canonical command) (spaced_shown (line_of command) (word_shown command) values)
+
+inside_front : (xs ys : List ℕ) → AllByRecursion IsInside (xs ++ ys) → AllByRecursion IsInside xs
+inside_front [] ys free = tt
+inside_front (x ∷ xs) ys free = (free.0, inside_front xs ys free.1)
+
+-- the whole lines of a beginning, and what was cut off
+record AreCutOff (commands : List Command) (text : List ℕ) : Type 0 where
+  pub done : List Command
+  pub left : List Command
+  pub cut : List ℕ
+  pub splits : commands ≡ done ++ left
+  pub is : text ≡ flat_map printed done ++ cut
+  pub free : AllByRecursion IsInside cut
+
+no_rest : (text tail : List ℕ) → [] ≡ text ++ tail → text ≡ []
+no_rest [] tail none = refl
+no_rest (byte ∷ text) tail none = absurd cc
+
+cut_inside : (commands : List Command) (text : List ℕ) → AllByRecursion IsInside text
+    → AreCutOff commands text
+cut_inside commands text free =
+    record { done = []; left = commands; cut = text; splits = refl; is = refl; free = free }
+
+cut_more : (command : Command) (commands : List Command) (more text : List ℕ)
+    → text ≡ canonical command ++ line_feed ∷ more → AreCutOff commands more
+    → AreCutOff (command ∷ commands) text
+cut_more command commands more text is rest = record {
+  done = command ∷ rest.done;
+  left = rest.left;
+  cut = rest.cut;
+  splits = ap (λ others. command ∷ others) rest.splits;
+  is = is
+      ∙ (ap (λ more. canonical command ++ line_feed ∷ more) rest.is
+      ∙ (sym (append_assoc (canonical command) (line_feed ∷ []) (flat_map printed rest.done ++ rest.cut))
+      ∙ sym (append_assoc (printed command) (flat_map printed rest.done) rest.cut)));
+  free = rest.free;
+}
+
+cut_off : (commands : List Command) (text tail : List ℕ)
+    → AllByRecursion (λ command. HasValues (line_of command)) commands
+    → flat_map printed commands ≡ text ++ tail → AreCutOff commands text
+cut_off [] text tail values same =
+    rw (no_rest text tail same) (cut_inside [] [] tt)
+cut_off (command ∷ commands) text tail values same =
+    let rest = flat_map printed commands in
+    let line = canonical command in
+    let free = inside_line command values.0 in
+    elim (fronts line (line_feed ∷ rest) text tail
+    (sym (append_assoc line (line_feed ∷ []) rest) ∙ same)) [
+      | inl at ↦ cut_inside (command ∷ commands) text
+          (inside_front text at.0 (subst (AllByRecursion IsInside) at.1 free))
+      | inr ([], is, others) ↦ cut_inside (command ∷ commands) text
+          (subst (AllByRecursion IsInside) (sym (append-nil line) ∙ sym is) free)
+      | inr (byte ∷ more, is, others) ↦
+          let end : line_feed ≡ byte = cc in
+          let same : rest ≡ more ++ tail = cc in
+          cut_more command commands more text
+          (is ∙ ap (λ end. line ++ end ∷ more) (sym end))
+          (cut_off commands more tail values.1 same)
+    ]
+
+begun_whole : (done : List Command) (cut : List ℕ) → AllByRecursion IsInside cut
+    → whole_lines (flat_map printed done ++ cut) ≡ flat_map printed done
+begun_whole done cut free =
+    keeps_commands done cut
+    ∙ (ap (λ more. flat_map printed done ++ more) (cut_none cut (All-from_recursion IsInside cut free))
+    ∙ append-nil (flat_map printed done))
+
+values_front : (done left : List Command)
+    → AllByRecursion (λ command. HasValues (line_of command)) (done ++ left)
+    → AllByRecursion (λ command. HasValues (line_of command)) done
+values_front [] left values = tt
+values_front (command ∷ done) left values = (values.0, values_front done left values.1)
+
+kept_recovers : (words : List (List ℕ)) (r : Recovery) (setup : Setup) (sheet : Sheet)
+    (commands : List Command) (cut : List ℕ) (h : Heard) → request_of words ≡ Some (Recover r)
+    → h.brought.script ≡ Some (room_text setup sheet commands cut) → IsKept setup sheet commands
+    → All IsInside cut
+    → IsRecovered r sheet (record { seed = setup.seed; commands = commands }) (outline words h)
 unfolding outline request_outline recovery_outline loading
-recovers words r setup sheet commands cut h asks text is small values free =
+kept_recovers words r setup sheet commands cut h asks text is free =
     rw (asks, text)
     (hushed_recovered r sheet (record { seed = setup.seed; commands = commands }) r.room
     (Some (room_text setup sheet commands cut)) _
-    (room_recovered r setup sheet commands cut is small values free))
+    (room_recovered r setup sheet commands cut is.is_sheet is.small is.values free))
+
+pub recovers : (words : List (List ℕ)) → Recovers words
+recovers words = record {
+  kept = kept_recovers words;
+  begun = λ r setup sheet commands lines h asks text is extends.
+      let values = recursion_from_All _ commands is.values in
+      let off = cut_off commands lines extends.0 values extends.1 in
+      let start = room_start setup sheet in
+      let done = flat_map printed off.done in
+      let whole : start ++ lines ≡ room_text setup sheet off.done off.cut =
+      ap (λ more. start ++ more) off.is ∙ sym (append_assoc start done off.cut) in
+      record {
+        done = off.done;
+        left = off.left;
+        splits = off.splits;
+        whole = ap whole_lines off.is ∙ begun_whole off.done off.cut off.free;
+        recovered = kept_recovers words r setup sheet off.done off.cut h asks
+            (text ∙ ap Some whole)
+            (record {
+              is_sheet = is.is_sheet;
+              small = is.small;
+              values = All-from_recursion _ off.done
+                  (values_front off.done off.left (subst (AllByRecursion _) off.splits values));
+            })
+            (All-from_recursion IsInside off.cut off.free);
+      };
+}

@@ -1,16 +1,18 @@
 -- What `recover` makes of a room in which a performance has kept its commands.
 use Rattle.std.specs.Prelude.{◌≡◌, ◌≢◌, ◌<◌, ◌^◌, ℕ, All, List, [], ◌∷◌, ◌++◌, Option, Some, None}
+use Rattle.std.specs.List.{flat_map}
 use Rattle.std.specs.Option.{option_map}
 use Rattle.orca_base.specs.Ascii.{line_feed}
 use Rattle.orca_base.specs.Grids.{IsSheet, Sheet}
 use Rattle.orca_base.specs.declared.command.Command.{Command}
 use Rattle.orca_course.specs.Acts.{Act, commands_in}
 use Rattle.orca_course.specs.Acts.Act.{Save}
+use Rattle.orca_cues.specs.Rooms.{whole_lines}
 use Rattle.orca_edit.specs.Obeying.{MachineState, machine_at_start, machine_closed, piece_of}
 use Rattle.orca_grid.specs.GridText.{text_of}
 use Rattle.orca_live.specs.Hands.{after_commands}
 use Rattle.orca_live.specs.Journals.{kept_text}
-use Rattle.orca_script.specs.Canonical.{HasValues, line_of}
+use Rattle.orca_script.specs.Canonical.{Extends, HasValues, line_of, printed}
 use Rattle.orca_script.specs.Runs.{printed_script}
 use Rattle.orca_words.specs.Requests.{Recover, Recovery, Setup, request_of}
 use Rattle.orca_player.specs.Outlines.{Heard, Outline, Script, outline, room_start, script_kept}
@@ -43,13 +45,34 @@ pub record IsRecovered (r : Recovery) (sheet : Sheet) (script : Script) (o : Out
   pub saves : saves_in o.course.acts ≡ saves_of r script session
   pub given : o.given ≡ script_kept r.script script.seed (Some script.commands)
 
--- where words ask for a recovery, and the room has such a text: of a grid that a session can have,
--- a seed of 32 bits, and commands whose numbers have 32 bits; what was cut off has no line feed
-abbrev pub Recovers : List (List ℕ) → Type 0
-Recovers words =
-    (r : Recovery) (setup : Setup) (sheet : Sheet) (commands : List Command) (cut : List ℕ)
-    (h : Heard) → request_of words ≡ Some (Recover r)
-    → h.brought.script ≡ Some (room_text setup sheet commands cut)
-    → IsSheet sheet → setup.seed < 2 ^ 32
-    → All (λ command. HasValues (line_of command)) commands → All (λ byte. byte ≢ line_feed) cut
-    → IsRecovered r sheet (record { seed = setup.seed; commands = commands }) (outline words h)
+-- of a room in which a beginning of the lines of some commands stands, those commands are recovered
+-- whose lines are whole there
+pub record IsBegun (r : Recovery) (setup : Setup) (sheet : Sheet) (commands : List Command)
+    (lines : List ℕ) (o : Outline) : Type 0 where
+  pub done : List Command
+  pub left : List Command
+  pub splits : commands ≡ done ++ left
+  pub whole : whole_lines lines ≡ flat_map printed done
+  pub recovered : IsRecovered r sheet (record { seed = setup.seed; commands = done }) o
+
+-- a performance can have kept this: the grid is one that a session can have, and the seed and the
+-- numbers of the commands have 32 bits
+pub record IsKept (setup : Setup) (sheet : Sheet) (commands : List Command) : Type 0 where
+  pub is_sheet : IsSheet sheet
+  pub small : setup.seed < 2 ^ 32
+  pub values : All (λ command. HasValues (line_of command)) commands
+
+-- where words ask for a recovery
+pub record Recovers (words : List (List ℕ)) : Type 0 where
+  -- the commands of a room are recovered, whatever bytes without a line feed stand behind them
+  pub kept : (r : Recovery) (setup : Setup) (sheet : Sheet) (commands : List Command)
+      (cut : List ℕ) (h : Heard) → request_of words ≡ Some (Recover r)
+      → h.brought.script ≡ Some (room_text setup sheet commands cut)
+      → IsKept setup sheet commands → All (λ byte. byte ≢ line_feed) cut
+      → IsRecovered r sheet (record { seed = setup.seed; commands = commands }) (outline words h)
+  -- so wherever the lines of some commands were cut off, those before are recovered
+  pub begun : (r : Recovery) (setup : Setup) (sheet : Sheet) (commands : List Command)
+      (lines : List ℕ) (h : Heard) → request_of words ≡ Some (Recover r)
+      → h.brought.script ≡ Some (room_start setup sheet ++ lines)
+      → IsKept setup sheet commands → Extends lines (flat_map printed commands)
+      → IsBegun r setup sheet commands lines (outline words h)
