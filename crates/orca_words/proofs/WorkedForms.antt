@@ -38,7 +38,7 @@ forms_are : forms
     ∷ row (codes "migrate") (codes "SCRIPT" ∷ codes "OUT" ∷ []) (codes "seed" ∷ []) Migrate
     ∷ row (codes "smf") recording_names recording_options Smf
     ∷ row (codes "jam") (codes "GRID" ∷ codes "ADDRESS" ∷ codes "HANDS" ∷ [])
-    (options ++ more_options) Jam
+    (options ++ more_options ++ codes "views" ∷ []) Jam
     ∷ row (codes "wav") recording_names recording_options Wav
     ∷ row (codes "follow") (codes "GRID" ∷ codes "ADDRESS" ∷ []) options Follow
     ∷ row (codes "lead") (codes "GRID" ∷ codes "ADDRESS" ∷ []) (options ++ codes "bpm" ∷ []) Lead

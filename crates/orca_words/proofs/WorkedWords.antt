@@ -7,14 +7,14 @@ use Rattle.clap.proofs.OnLiterals.{clap_on_literals}
 use Rattle.orca_base.specs.Ascii.{space}
 use Rattle.orca_base.specs.Numbers.{number_of}
 use Rattle.orca_words.specs.Forms.{command_of, forms}
-use Rattle.orca_words.specs.Requests.{Events, Follow, Lead, Make, Migrate, Perform, Play, Recover, Replay, Request, Run, Setup, Smf, Wav, jam_of, leading_of, migration_of, number_in, option_full, option_text, performance_of, portless_setup_of, recording_of, recovery_of, request_by, request_in_form, request_of, setup_of, with_own_journal, workload_of}
+use Rattle.orca_words.specs.Requests.{Events, Follow, Lead, Make, Migrate, Perform, Play, Recover, Replay, Request, Run, Setup, Smf, Wav, jam_of, leading_of, migration_of, number_in, option_full, option_text, option_views, performance_of, portless_setup_of, recording_of, recovery_of, request_by, request_in_form, request_of, setup_of, with_own_journal, workload_of}
 
 -- what a line asks for
 unfoldable asked : Text → Option Request
 asked line = request_of (slice_split (λ byte. byte == space) line)
 
 unfoldable values : ⊤
-unfolding option_text option_full number_in number_of
+unfolding option_text option_full option_views number_in number_of
 values = tt
 
 unfoldable parts : ⊤
@@ -80,6 +80,7 @@ play_all : asked (codes "play --midi=m --rows 9 g --udp u --osc=o --bpm=90 --sav
       cols = 8;
       full = true;
       hands = None;
+      views = false;
       save = Some (codes "w");
       script = Some (codes "s");
       journal = Some (codes "j");
@@ -95,6 +96,7 @@ play_none : asked (codes "play g a") ≡ Some (Perform none_set (Play (record {
   cols = 80;
   full = false;
   hands = None;
+  views = false;
   save = None;
   script = None;
   journal = None;
@@ -116,6 +118,7 @@ jam_all : asked (codes "jam --midi=m --rows 9 g --udp u --osc=o --bpm=90 a --sav
       cols = 8;
       full = true;
       hands = Some 8;
+      views = false;
       save = Some (codes "w");
       script = Some (codes "s");
       journal = Some (codes "j");
@@ -124,6 +127,27 @@ jam_all : asked (codes "jam --midi=m --rows 9 g --udp u --osc=o --bpm=90 a --sav
 unfolding worked all_set
 jam_all = refl
 
+jam_views : asked (codes "jam g a 2 --views=all")
+    ≡ Some (Perform none_set (Play (record {
+      address = codes "a";
+      bpm = 120;
+      rows = 24;
+      cols = 80;
+      full = false;
+      hands = Some 2;
+      views = true;
+      save = None;
+      script = None;
+      journal = None;
+      room = false;
+    })))
+unfolding worked none_set
+jam_views = refl
+
+jam_one : asked (codes "jam --views one g a 02") ≡ asked (codes "jam g a 02")
+unfolding worked
+jam_one = refl
+
 jam_none : asked (codes "jam g a 02") ≡ Some (Perform none_set (Play (record {
   address = codes "a";
   bpm = 120;
@@ -131,6 +155,7 @@ jam_none : asked (codes "jam g a 02") ≡ Some (Perform none_set (Play (record {
   cols = 80;
   full = false;
   hands = Some 2;
+  views = false;
   save = None;
   script = None;
   journal = None;
@@ -146,6 +171,7 @@ play_room : asked (codes "play g a --room r") ≡ Some (Perform none_set (Play (
   cols = 80;
   full = false;
   hands = None;
+  views = false;
   save = None;
   script = None;
   journal = Some (codes "r");
@@ -326,6 +352,12 @@ refused : list_all (λ line. not (is_some (asked line))) (codes ""
     ∷ codes "jam g a 2 --bpm 0"
     ∷ codes "jam g a 2 --keys all"
     ∷ codes "jam g a 2 --journal g"
+    ∷ codes "jam g a 2 --views two"
+    ∷ codes "jam g a 2 --views="
+    ∷ codes "jam g a 2 --views all --views=all"
+    ∷ codes "jam g a 2 --views"
+    ∷ codes "play g a --views all"
+    ∷ codes "follow g a --views one"
     ∷ codes "play g a 2"
     ∷ codes "wav g 3"
     ∷ codes "wav g 3 o x"

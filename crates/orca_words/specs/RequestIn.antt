@@ -42,6 +42,7 @@ performance_in play = record {
   cols = play.cols;
   full = play.full;
   hands = play.hands;
+  views = play.views;
   save = text_in play.save;
   script = text_in play.script;
   journal = text_in play.journal;

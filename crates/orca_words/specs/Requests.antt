@@ -21,8 +21,9 @@ pub record Setup : Type 0 where
   pub osc : Option Text
 
 -- where keys come from and which they are, how many hands share the session, or none where one
--- plays alone, where pictures go to, how fast frames are played, and what is saved, at the end and
--- while it plays, to a journal or, of another kind, to a room
+-- plays alone, whether each hand is shown a picture, where pictures go to, how fast frames are
+-- played, and what is saved, at the end and while it plays, to a journal or, of another kind, to a
+-- room
 pub record Performance : Type 0 where
   pub address : Text
   pub bpm : ℕ
@@ -30,6 +31,7 @@ pub record Performance : Type 0 where
   pub cols : ℕ
   pub full : Bool
   pub hands : Option ℕ
+  pub views : Bool
   pub save : Option Text
   pub script : Option Text
   pub journal : Option Text
@@ -127,6 +129,18 @@ keys_named text =
 unfoldable pub option_full : List Row → Option Bool
 option_full found = option_map_or keys_named (option_text found (codes "keys")) (Some false)
 
+-- ---- pictures
+
+-- whether these are the pictures of all hands or that of one, by their name
+abbrev pub views_named : Text → Option Bool
+views_named text =
+    if bytes_eq text (codes "all") then Some true
+    else (if bytes_eq text (codes "one") then Some false else None)
+
+-- whether the words ask for a picture for each hand: for the first one's alone where they don't say
+unfoldable pub option_views : List Row → Option Bool
+option_views found = option_map_or views_named (option_text found (codes "views")) (Some false)
+
 -- ---- requests
 
 -- what is made of a number, where there is one
@@ -182,6 +196,7 @@ performance_of found =
       cols = cols;
       full = full;
       hands = None;
+      views = false;
       save = option_text found (codes "save");
       script = option_text found (codes "script");
       journal = journal;
@@ -189,15 +204,16 @@ performance_of found =
     })) (kept_name (option_text found (codes "journal")) (option_text found (codes "room"))))
     (option_full found))))
 
--- so many hands share its session
-abbrev pub shared_by : ℕ → Performance → Performance
-shared_by hands play = record play { hands = Some hands }
+-- so many hands share its session, and each of them is shown a picture, or the first one alone
+abbrev pub shared_by : ℕ → Bool → Performance → Performance
+shared_by hands views play = record play { hands = Some hands; views = views }
 
--- the same of `jam`, and how many hands there are
+-- the same of `jam`, how many hands there are, and which of them are shown a picture
 unfoldable pub jam_of : List Row → Option Performance
 jam_of found =
     with_number (positional_number found (codes "HANDS") 1 MAX_HANDS) (λ hands.
-    option_map (shared_by hands) (performance_of found))
+    option_and_then (λ views. option_map (shared_by hands views) (performance_of found))
+    (option_views found))
 
 -- whether both names are there, and are the same text
 abbrev pub is_same_name : Option Text → Option Text → Bool

@@ -35,6 +35,12 @@ const PLAY_OPTIONS: &[&str] = &[
     "journal", "room",
 ];
 
+/// The same where several hands share the session.
+const JAM_OPTIONS: &[&str] = &[
+    "seed", "limit", "midi", "udp", "osc", "bpm", "rows", "cols", "keys", "save", "script",
+    "journal", "room", "views",
+];
+
 /// The options of a run on a grid that is saved as a song or as sound.
 const RECORDING_OPTIONS: &[&str] = &["seed", "limit", "bpm"];
 
@@ -60,12 +66,7 @@ pub(crate) static FORMS: [Form; 12] = [
         RECORDING_OPTIONS,
         Verb::Smf,
     ),
-    (
-        "jam",
-        &["GRID", "ADDRESS", "HANDS"],
-        PLAY_OPTIONS,
-        Verb::Jam,
-    ),
+    ("jam", &["GRID", "ADDRESS", "HANDS"], JAM_OPTIONS, Verb::Jam),
     (
         "wav",
         &["GRID", "FRAMES", "OUT"],

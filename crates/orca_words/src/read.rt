@@ -11,7 +11,8 @@ use crate::command::parse;
 use crate::forms::{FORMS, Form, Verb};
 use crate::limits::{DEFAULT_SCREEN_COLUMNS, DEFAULT_SCREEN_ROWS, MAX_MADE_FRAMES, MIN_SONG_BPM};
 use crate::values::{
-    option_full, option_number, option_text, positional_number, positional_text, small_option,
+    option_full, option_number, option_text, option_views, positional_number, positional_text,
+    small_option,
 };
 use crate::{
     Leading, Migration, Performance, Recording, Recovery, Request, Setup, WordsFault, Work,
@@ -255,6 +256,7 @@ fn performance<'a>(found: &ArgMatches<'a>) -> Option<Performance<'a>>
         cols,
         full,
         hands: None,
+        views: false,
         save: option_text(found, "save"),
         script: option_text(found, "script"),
         journal,
@@ -276,14 +278,16 @@ fn kept_name<'a>(journal: Option<&'a str>, room: Option<&'a str>) -> Option<Opti
     }
 }
 
-/// The same of `jam`, and how many hands share the session.
+/// The same of `jam`, how many hands share the session, and which of them are shown a picture.
 #[tactic(auto, unfolding(crate::specs::Requests::jam_of))]
 fn jam<'a>(found: &ArgMatches<'a>) -> Option<Performance<'a>>
     ensures { option_map performance_in result ≡ jam_of (rows_in found.now) }
 {
     let hands = positional_number(found, "HANDS", 1, u32::from(MAX_HANDS))? as u8;
+    let views = option_views(found)?;
     let mut play = performance(found)?;
     play.hands = Some(hands);
+    play.views = views;
     Some(play)
 }
 

@@ -59,8 +59,9 @@ pub enum Work<'a> {
     Lead(Leading<'a>),
 }
 
-/// Where keys come from and which they are, how many hands share the session, where pictures go to, how fast
-/// frames are played, and what is saved, at the end and while it plays.
+/// Where keys come from and which they are, how many hands share the session, and which of them are shown a
+/// picture, where pictures go to, how fast frames are played, and what is saved, at the end and while it
+/// plays.
 #[derive(Drop)]
 pub struct Performance<'a> {
     /// The address at which the keys arrive.
@@ -78,6 +79,8 @@ pub struct Performance<'a> {
     /// How many hands share the session: 1 to [`MAX_HANDS`](orca_base::limits::MAX_HANDS). None where
     /// one plays alone.
     pub hands: Option<u8>,
+    /// Whether each hand is shown a picture of its own, and not the first one alone.
+    pub views: bool,
     /// The file that the grid is saved to.
     pub save: Option<&'a str>,
     /// The file that the commands are saved to.

@@ -1,7 +1,7 @@
 //! The texts and the numbers that a parse found.
 
 ghost use Rattle.std.specs.Prelude.{◌≡◌, ◌≤◌, option_map, IfSome};
-ghost use Rattle.orca_words.specs.Requests.{keys_named, number_in, option_full, option_number, option_text, positional_number, positional_text};
+ghost use Rattle.orca_words.specs.Requests.{keys_named, number_in, option_full, option_number, option_text, option_views, positional_number, positional_text, views_named};
 ghost use Rattle.orca_words.specs.RequestIn.{rows_in, text_in};
 
 use clap::ArgMatches;
@@ -77,6 +77,29 @@ fn keys_named(text: &str) -> Option<bool>
     match text {
         "full" => Some(true),
         "plain" => Some(false),
+        _ => None,
+    }
+}
+
+/// Whether the words ask for a picture for each hand: for the first one's alone where they do not say. None
+/// stands for another text.
+#[tactic(auto, unfolding(crate::specs::Requests::option_views))]
+pub(crate) fn option_views(found: &ArgMatches) -> Option<bool>
+    ensures { result ≡ option_views (rows_in found.now) }
+{
+    match option_text(found, "views") {
+        Some(text) => views_named(text),
+        None => Some(false),
+    }
+}
+
+/// Whether these are the pictures of all hands or that of one, by their name.
+fn views_named(text: &str) -> Option<bool>
+    ensures { result ≡ views_named text.now }
+{
+    match text {
+        "all" => Some(true),
+        "one" => Some(false),
         _ => None,
     }
 }
