@@ -7,7 +7,7 @@ use Rattle.orca_concert.specs.Manners.News.{Stands}
 use Rattle.orca_concert.proofs.DeafLemmas.{close_is_deaf, command_is_deaf, remark_is_deaf}
 use Rattle.orca_course.specs.Acts.{AreDeaf}
 use Rattle.orca_course.specs.Courses.{afterwards, mapped, onward}
-use Rattle.orca_course.specs.Performers.{IsDeaf}
+use Rattle.orca_course.specs.Performers.{IsDeaf, KeepsSeats}
 use Rattle.orca_course.specs.declared.ending.Ending.{Ending}
 use Rattle.orca_course.specs.declared.ending.Ending.TheVariants.{Lost, Spent, Stopped}
 use Rattle.orca_course.specs.declared.ending.Stop.TheVariants.{Full, Left, SongTooLong, WaveTooLong}
@@ -72,6 +72,11 @@ follow_is_deaf m (item.Due at) s = tt
 follow_is_deaf m (item.Over came) s = tt
 follow_is_deaf m (item.Ended ending) s = end_deaf m ending s.concert
 
+-- it tells nobody what to see
+pub follow_is_steady : {R : Type 0} (m : Manner R) → KeepsSeats (follow_part m)
+unfolding KeepsSeats
+follow_is_steady m i s = refl
+
 -- ---- a leader
 
 clocked_deaf : {R : Type 0} (m : Manner R) (metronome : Metronome) (s : Concert R)
@@ -107,3 +112,7 @@ lead_is_deaf m (item.Byte hand at byte) s = hand_key_deaf hand at byte s
 lead_is_deaf m (item.Due at) s = due_if m at s s.metronome.pulse.runs refl
 lead_is_deaf m (item.Over came) s = tt
 lead_is_deaf m (item.Ended ending) s = lead_finishes m ending s
+
+pub lead_is_steady : {R : Type 0} (m : Manner R) → KeepsSeats (lead_part m)
+unfolding KeepsSeats
+lead_is_steady m i s = refl

@@ -95,4 +95,5 @@ follow_part m = record {
   stance = follow_stance m;
   until = λ s. None;
   takes = follow_course m;
+  seats = λ s. 0;
 }

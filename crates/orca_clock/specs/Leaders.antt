@@ -120,4 +120,5 @@ lead_part m = record {
   stance = lead_stance m;
   until = λ s. due_of s.metronome;
   takes = lead_course m;
+  seats = λ s. 0;
 }

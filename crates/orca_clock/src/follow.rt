@@ -49,7 +49,7 @@ impl<M: Machine, R: Report> Closes for Follow<M, R> {
 }
 
 impl<M: Machine, R: Report> Performer for Follow<M, R> {
-    ghost use Rattle.orca_clock.specs.Deaf.{follow_is_deaf};
+    ghost use Rattle.orca_clock.specs.Deaf.{follow_is_deaf, follow_is_steady};
     ghost use Rattle.orca_clock.specs.Followers.{Followed, follow_part, follow_residue, follow_state};
 
     ghost State = { Followed R.Kept };
@@ -77,6 +77,8 @@ impl<M: Machine, R: Report> Performer for Follow<M, R> {
     }
 
     ghost deaf = { follow_is_deaf R.manner };
+
+    ghost steady = { follow_is_steady R.manner };
 }
 
 /// Does what the clock asks for.

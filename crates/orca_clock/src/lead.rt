@@ -60,7 +60,7 @@ impl<M: Machine, R: Report> Closes for Lead<M, R> {
 }
 
 impl<M: Machine, R: Report> Performer for Lead<M, R> {
-    ghost use Rattle.orca_clock.specs.Deaf.{lead_is_deaf};
+    ghost use Rattle.orca_clock.specs.Deaf.{lead_is_deaf, lead_is_steady};
     ghost use Rattle.orca_clock.specs.Leaders.{Led, lead_part, lead_residue, lead_state};
 
     ghost State = { Led R.Kept };
@@ -93,6 +93,8 @@ impl<M: Machine, R: Report> Performer for Lead<M, R> {
     }
 
     ghost deaf = { lead_is_deaf R.manner };
+
+    ghost steady = { lead_is_steady R.manner };
 }
 
 /// Gives the start of the clock.

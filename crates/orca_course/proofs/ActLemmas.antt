@@ -1,6 +1,6 @@
 -- What is read off acts, and then off others.
 use Rattle.std.proofs.Common.{◌≡◌, List, [], ◌∷◌, ◌++◌, refl, ap, arith}
-use Rattle.std.specs.Prelude.{Bool, true, false, ◌||◌, Option, None}
+use Rattle.std.specs.Prelude.{ℕ, Bool, true, false, ◌||◌, Option, Some, None}
 use Rattle.orca_base.specs.Ports.{Sent}
 use Rattle.orca_rig.specs.Arrived.{is_ending}
 use Rattle.orca_course.specs.Acts.{Act, AreDeaf, AreMute, ArePrintable, calls_in, commands_in, given, gives, open_after, polls_in, stand_after}
@@ -63,6 +63,23 @@ pub lost_after-calls : (acts : List Act) (b : Bool)
 lost_after-calls [] b = refl
 lost_after-calls (x ∷ acts) b = grind (arith, λ (c : Bool). lost_after-calls acts c)
 
+-- how many hands there are, after acts
+abbrev pub seats_after : List Act → Option ℕ → Option ℕ
+seats_after [] before = before
+seats_after (Listen name hands (Some at) ∷ acts) before = seats_after acts (Some hands)
+seats_after (Listen name hands None ∷ acts) before = seats_after acts None
+seats_after (_ ∷ acts) before = seats_after acts before
+
+pub seats_after-append : (xs ys : List Act) (seats : Option ℕ)
+    → seats_after (xs ++ ys) seats ≡ seats_after ys (seats_after xs seats)
+seats_after-append [] ys seats = refl
+seats_after-append (x ∷ xs) ys seats = grind (arith, λ (s : Option ℕ). seats_after-append xs ys s)
+
+pub seats_after-calls : (acts : List Act) (seats : Option ℕ)
+    → seats_after (calls_in acts) seats ≡ seats_after acts seats
+seats_after-calls [] seats = refl
+seats_after-calls (x ∷ acts) seats = grind (arith, λ (s : Option ℕ). seats_after-calls acts s)
+
 pub stand_after-append : (s : Option Standing) (xs ys : List Act)
     → stand_after s (xs ++ ys) ≡ stand_after (stand_after s xs) ys
 stand_after-append s [] ys = refl
@@ -106,6 +123,11 @@ ended-deaf (x ∷ acts) b deaf = grind (arith, ended-deaf acts)
 pub lost-deaf : (acts : List Act) (b : Bool) → AreDeaf acts → lost_after acts b ≡ b
 lost-deaf [] b deaf = refl
 lost-deaf (x ∷ acts) b deaf = grind (arith, lost-deaf acts)
+
+pub seats-deaf : (acts : List Act) (seats : Option ℕ) → AreDeaf acts
+    → seats_after acts seats ≡ seats
+seats-deaf [] seats deaf = refl
+seats-deaf (x ∷ acts) seats deaf = grind (arith, seats-deaf acts)
 
 -- acts whose pictures a terminal can show
 

@@ -1,13 +1,13 @@
 -- What was done by calls, and then by others.
 use Rattle.std.proofs.Common.{◌≡◌, List, [], ◌∷◌, ◌++◌, refl, append_assoc, arith}
-use Rattle.std.specs.Prelude.{ℕ, Bool, None, ◌||◌, IfSome, OnOk, Result, Ok, Err}
+use Rattle.std.specs.Prelude.{ℕ, Bool, None, ◌||◌, fold, IfSome, OnOk, Option, Result, Ok, Err}
 use Rattle.std.specs.List.{list_any}
 use Rattle.std.proofs.lemmas.List.Sums.{fold-append}
 use Rattle.orca_rig.specs.declared.fault.OutsideFault.{OutsideFault}
 use Rattle.orca_trace.specs.Calls.{Call}
 use Rattle.orca_trace.specs.Calls.Call.{Listen}
 use Rattle.orca_course.specs.Answered.{done_in, is_inbox_fault, is_last_poll, no_outcomes, outcomes_by, outcomes_of, refused_in, seats_by, seats_of}
-use Rattle.orca_course.proofs.ActLemmas.{ended_after, lost_after}
+use Rattle.orca_course.proofs.ActLemmas.{ended_after, lost_after, seats_after}
 
 pub done_in-append : (xs ys : List Call) → done_in (xs ++ ys) ≡ done_in xs ++ done_in ys
 done_in-append [] ys = refl
@@ -34,6 +34,13 @@ pub seats_listened : (calls : List Call) (name : List ℕ) (hands count : ℕ)
     → IfSome (seats_of (calls ++ Listen name hands answer ∷ [])) (λ seats. count ≡ seats)
 seats_listened calls name hands count (Ok at) same = rw seats_more same
 seats_listened calls name hands count (Err fault) same = rw seats_more tt
+
+-- how many hands there are after calls of which none was refused memory
+pub seats_after-done : (calls : List Call) (seats : Option ℕ) → refused_in calls ≡ []
+    → fold seats_by seats calls ≡ seats_after (done_in calls) seats
+seats_after-done [] seats none = refl
+seats_after-done (call ∷ calls) seats none =
+    grind (arith, λ (s : Option ℕ). seats_after-done calls s)
 
 -- the inbox has failed at a call exactly if it has by what the calls did
 pub lost_after-done : (calls : List Call) (b : Bool)

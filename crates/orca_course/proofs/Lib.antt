@@ -9,6 +9,7 @@ pub mod CallLemmas
 pub mod ItemLemmas
 pub mod TurnLemmas
 pub mod PollLemmas
+pub mod SeatLemmas
 pub mod PerformanceLemmas
 pub mod MidwayLemmas
 pub mod CuttingLemmas

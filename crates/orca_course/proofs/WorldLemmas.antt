@@ -226,13 +226,13 @@ pub made_strike : {acts : List Act} {bill : ℕ} {x y : World} (hand : ℕ) (key
     → Made acts bill x y → Made (Strike hand key ∷ acts) bill x y
 made_strike hand key made = made_after (Strike hand key) refl tt tt made
 
-pub made_show : {acts : List Act} {bill : ℕ} {x y : World} (cells : List Cell)
-    → All IsPrintable cells → Made acts bill x y → Made (Show cells ∷ acts) bill x y
-made_show cells printable made = made_after (Show cells) refl tt (printable, tt) made
+pub made_show : {acts : List Act} {bill : ℕ} {x y : World} (hand : ℕ) (cells : List Cell)
+    → All IsPrintable cells → Made acts bill x y → Made (Show hand cells ∷ acts) bill x y
+made_show hand cells printable made = made_after (Show hand cells) refl tt (printable, tt) made
 
-pub made_screen : {acts : List Act} {bill : ℕ} {x y : World} (d : ScreenSize)
-    → Made acts bill x y → Made (Screen d ∷ acts) bill x y
-made_screen d made = made_after (Screen d) refl tt tt made
+pub made_screen : {acts : List Act} {bill : ℕ} {x y : World} (hand : ℕ) (d : ScreenSize)
+    → Made acts bill x y → Made (Screen hand d ∷ acts) bill x y
+made_screen hand d made = made_after (Screen hand d) refl tt tt made
 
 -- what all calls so far came to
 pub made_learn : (x : World) → Made (Learn (losses_of x.calls) ∷ []) 0 x x

@@ -15,8 +15,8 @@ use Rattle.orca_course.specs.Standings.{Standing}
 use Rattle.orca_course.specs.declared.item.Losses.{Losses}
 
 -- one call on the outside, with its answer where that decides what follows; and, between calls, the
--- commands, where they leave the run, the keys that hands struck, the pictures that were painted,
--- and the sizes of the terminal that were told
+-- commands, where they leave the run, the keys that hands struck, the pictures that were painted
+-- for them, and the sizes of their terminals that were told
 pub data Act : Type 0 where
   -- a port is attached to a name
   Attach : Attached → Act
@@ -46,10 +46,10 @@ pub data Act : Type 0 where
   Stand : Standing → Act
   -- a key of a hand is struck; no call
   Strike : ℕ → Key → Act
-  -- the picture is painted; no call
-  Show : List Cell → Act
-  -- from here on the terminal has this size, and shows whatever it shows; no call
-  Screen : ScreenSize → Act
+  -- the picture of a hand is painted; no call
+  Show : ℕ → List Cell → Act
+  -- from here on the terminal of a hand has this size, and shows whatever it shows; no call
+  Screen : ℕ → ScreenSize → Act
   -- what all calls so far came to is told; no call
   Learn : Losses → Act
 
@@ -61,8 +61,8 @@ calls_in [] = []
 calls_in (Obey command ∷ acts) = calls_in acts
 calls_in (Stand s ∷ acts) = calls_in acts
 calls_in (Strike hand key ∷ acts) = calls_in acts
-calls_in (Show cells ∷ acts) = calls_in acts
-calls_in (Screen d ∷ acts) = calls_in acts
+calls_in (Show hand cells ∷ acts) = calls_in acts
+calls_in (Screen hand d ∷ acts) = calls_in acts
 calls_in (Learn came ∷ acts) = calls_in acts
 calls_in (act ∷ acts) = act ∷ calls_in acts
 
@@ -127,7 +127,7 @@ AreMute (_ ∷ acts) = AreMute acts
 -- the cells of each picture among acts are such as a terminal can show
 abbrev pub ArePrintable : List Act → Type 0
 ArePrintable [] = Unit {0}
-ArePrintable (Show cells ∷ acts) = All IsPrintable cells × ArePrintable acts
+ArePrintable (Show hand cells ∷ acts) = All IsPrintable cells × ArePrintable acts
 ArePrintable (_ ∷ acts) = ArePrintable acts
 
 -- what calls came to is not told among acts

@@ -20,16 +20,21 @@ use Rattle.orca_course.specs.declared.item.Item.{Item}
 use Rattle.orca_course.specs.declared.item.Item.TheVariants as item
 use Rattle.orca_course.specs.declared.refused.NoMemory.{NoMemory}
 
--- where a performer stands in a state; the moment that its next poll waits for; and what it does
--- for an item
+-- where a performer stands in a state; the moment that its next poll waits for; what it does for an
+-- item; and how many of the first hands it may tell what they are to see
 pub record Part (S : Type 0) : Type 0 where
   pub stance : Stance S
   pub until : S → Option ℕ
   pub takes : Item → S → Course S Stop
+  pub seats : S → ℕ
 
 -- a performer does not ask the inbox: the loop alone does
 unfoldable pub IsDeaf : {S : Type 0} → Part S → Type 0
 IsDeaf {S} p = (i : Item) (s : S) → AreDeaf (p.takes i s).acts
+
+-- it may tell as many hands wherever an item leads
+unfoldable pub KeepsSeats : {S : Type 0} → Part S → Type 0
+KeepsSeats {S} p = (i : Item) (s : S) → p.seats (p.takes i s).state ≡ p.seats s
 
 -- what is done for an item
 unfoldable pub given_course : {S : Type 0} → Part S → Item → S → Course S Ending

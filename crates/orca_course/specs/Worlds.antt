@@ -70,6 +70,10 @@ has_listened x = list_any is_listen x.calls
 abbrev pub IsSeated : ℕ → World → Type 0
 IsSeated hand x = IsSomeAnd (seats_of x.calls) (λ seats. hand < seats)
 
+-- there are so many hands, or more
+abbrev pub AreSeated : ℕ → World → Type 0
+AreSeated hands x = (hand : ℕ) → hand < hands → IsSeated hand x
+
 -- whether a poll has given a last answer
 abbrev pub has_ended : World → Bool
 has_ended x = list_any is_last_poll x.calls

@@ -1,7 +1,7 @@
 ghost use Rattle.std.specs.Prelude.{◌≡◌, ℕ};
 ghost use Rattle.orca_course.specs.Doing.{Does};
-ghost use Rattle.orca_course.specs.Performers.{IsDeaf, Part};
-ghost use Rattle.orca_course.specs.Worlds.{owing};
+ghost use Rattle.orca_course.specs.Performers.{IsDeaf, KeepsSeats, Part};
+ghost use Rattle.orca_course.specs.Worlds.{AreSeated, owing};
 
 use crate::{Desk, Item, NoMemory, Stop};
 use orca_rig::House;
@@ -26,6 +26,8 @@ pub trait Performer: Drop {
 
     /// Does what an item brings.
     fn take<H: House>(&mut self, desk: &mut Desk<H>, item: Item) -> Result<Option<Stop>, NoMemory>
+        // The hands are there that it may tell.
+        requires { AreSeated (part.seats (state self.old)) desk.old }
         ensures { Does part.stance (part.takes item (state self.old))
             (state self.old) (owing (residue self.old) desk.old) result
             (state self.new) (owing (residue self.new) desk.new) };
@@ -33,8 +35,16 @@ pub trait Performer: Drop {
     /// It does not ask the inbox.
     ghost deaf: { IsDeaf part };
 
+    /// It may tell as many hands wherever an item leads.
+    ghost steady: { KeepsSeats part };
+
     /// It does not ask the inbox.
     final fn is_deaf(&self)
         ensures { IsDeaf part }
+    {}
+
+    /// It may tell as many hands wherever an item leads.
+    final fn is_steady(&self)
+        ensures { KeepsSeats part }
     {}
 }

@@ -4,7 +4,7 @@ ghost use Rattle.std.specs.Prelude.{◌≡◌, ◌<◌, ◌∷◌, ◌+◌, drop
 ghost use Rattle.orca_course.specs.Courses.{each};
 ghost use Rattle.orca_course.specs.Performed.{Performs, PerformsCame, PerformsFrom, PerformsPolls};
 ghost use Rattle.orca_course.specs.Performers.{answer_turns, attended, begun, first_turns, given_course, items_of, last_turns, performance, turn_course};
-ghost use Rattle.orca_course.specs.Worlds.{has_ended};
+ghost use Rattle.orca_course.specs.Worlds.{AreSeated, has_ended};
 ghost use Rattle.orca_rig.specs.Arrived.{arrived};
 
 use crate::{Desk, Ending, Item, NoMemory, Performer, Stop};
@@ -56,6 +56,7 @@ fn give<P: Performer, H: House>(
     desk: &mut Desk<H>,
     item: Item,
 ) -> Result<Option<Ending>, NoMemory>
+    requires { AreSeated (P.part.seats (P.state performer.old)) desk.old }
     ensures { Performs P.Performer.own (given_course P.part item)
         performer.old desk.old result performer.new desk.new }
 {
@@ -71,9 +72,12 @@ fn give_items<P: Performer, H: House>(
     answer: Answer,
     bytes: &[u8],
 ) -> Result<Option<Ending>, NoMemory>
+    requires { AreSeated (P.part.seats (P.state performer.old)) desk.old }
     ensures { Performs P.Performer.own (each (given_course P.part) (items_of answer bytes.now))
         performer.old desk.old result performer.new desk.new }
 {
+    performer.is_deaf();
+    performer.is_steady();
     for index in 0..item_count(answer, bytes) {
         if let Some(ending) = give(performer, desk, item_at(answer, bytes, index))? {
             return Ok(Some(ending));
@@ -88,6 +92,7 @@ fn give_last<P: Performer, H: House>(
     desk: &mut Desk<H>,
     answer: Answer,
 ) -> Result<Option<Ending>, NoMemory>
+    requires { AreSeated (P.part.seats (P.state performer.old)) desk.old }
     ensures { PerformsCame P.Performer.own
         (λ came. each (turn_course P.part) (last_turns answer came))
         performer.old desk.old result performer.new desk.new }
@@ -109,10 +114,13 @@ fn heed<P: Performer, H: House>(
     answer: Answer,
     bytes: &[u8],
 ) -> Result<Option<Ending>, NoMemory>
+    requires { AreSeated (P.part.seats (P.state performer.old)) desk.old }
     ensures { PerformsCame P.Performer.own
         (λ came. each (turn_course P.part) (answer_turns answer bytes.now came))
         performer.old desk.old result performer.new desk.new }
 {
+    performer.is_deaf();
+    performer.is_steady();
     if let Some(ending) = give_items(performer, desk, answer, bytes)? {
         return Ok(Some(ending));
     }
@@ -121,11 +129,13 @@ fn heed<P: Performer, H: House>(
 
 /// Polls the inbox, and gives what each answer brings, until the performance ends.
 fn attend<P: Performer, H: House>(performer: &mut P, desk: &mut Desk<H>) -> Result<Ending, NoMemory>
-    requires { has_ended desk.old ≡ false }
+    requires open { has_ended desk.old ≡ false }
+    requires seated { AreSeated (P.part.seats (P.state performer.old)) desk.old }
     ensures { PerformsPolls P.Performer.own (attended P.part)
         performer.old desk.old result performer.new desk.new }
 {
     performer.is_deaf();
+    performer.is_steady();
     let mut bytes = [0; ARRIVAL_BYTES];
     for _turn in 0..MAX_POLLS {
         let answer = desk.poll(performer.until(), &mut bytes);
@@ -141,6 +151,7 @@ fn open<P: Performer, H: House>(
     performer: &mut P,
     desk: &mut Desk<H>,
 ) -> Result<Option<Ending>, NoMemory>
+    requires { AreSeated (P.part.seats (P.state performer.old)) desk.old }
     ensures { PerformsCame P.Performer.own (λ came. each (turn_course P.part) (first_turns came))
         performer.old desk.old result performer.new desk.new }
 {
@@ -150,11 +161,13 @@ fn open<P: Performer, H: House>(
 
 /// Gives what comes first, and then polls until the performance ends.
 fn begin<P: Performer, H: House>(performer: &mut P, desk: &mut Desk<H>) -> Result<Ending, NoMemory>
-    requires { has_ended desk.old ≡ false }
+    requires open { has_ended desk.old ≡ false }
+    requires seated { AreSeated (P.part.seats (P.state performer.old)) desk.old }
     ensures { PerformsFrom P.Performer.own (begun P.part)
         performer.old desk.old result performer.new desk.new }
 {
     performer.is_deaf();
+    performer.is_steady();
     if let Some(ending) = open(performer, desk)? {
         return Ok(ending);
     }
@@ -170,11 +183,14 @@ pub fn perform<P: Performer, H: House>(
     desk: &mut Desk<H>,
 ) -> Result<Ending, NoMemory>
     // The inbox has not ended.
-    requires { has_ended desk.old ≡ false }
+    requires open { has_ended desk.old ≡ false }
+    // The hands are there that it may tell.
+    requires seated { AreSeated (P.part.seats (P.state performer.old)) desk.old }
     ensures { PerformsFrom P.Performer.own (performance P.part)
         performer.old desk.old result performer.new desk.new }
 {
     performer.is_deaf();
+    performer.is_steady();
     let ending = begin(performer, desk)?;
     performer.take(desk, Item::Ended(ending))?;
     Ok(ending)

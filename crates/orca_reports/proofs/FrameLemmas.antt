@@ -68,8 +68,8 @@ no_calls [] ys none = refl
 no_calls (Obey command ∷ xs) ys none = no_calls xs ys none
 no_calls (Stand s ∷ xs) ys none = no_calls xs ys none
 no_calls (Strike hand key ∷ xs) ys none = no_calls xs ys none
-no_calls (Show cells ∷ xs) ys none = no_calls xs ys none
-no_calls (Screen d ∷ xs) ys none = no_calls xs ys none
+no_calls (Show hand cells ∷ xs) ys none = no_calls xs ys none
+no_calls (Screen hand d ∷ xs) ys none = no_calls xs ys none
 no_calls (Learn came ∷ xs) ys none = no_calls xs ys none
 no_calls (_ ∷ xs) ys none = absurd cc
 

@@ -1,9 +1,9 @@
 -- A performer that saves each byte, and keeps what it is told.
-use Rattle.std.specs.Prelude.{[], ◌∷◌, None, false, codes}
+use Rattle.std.specs.Prelude.{[], ◌∷◌, None, false, refl, codes}
 use Rattle.orca_course.specs.Acts.Act.{Save}
 use Rattle.orca_course.specs.Courses.{Course, course, still}
 use Rattle.orca_course.specs.Doing.{nowhere}
-use Rattle.orca_course.specs.Performers.{IsDeaf, Part}
+use Rattle.orca_course.specs.Performers.{IsDeaf, KeepsSeats, Part}
 use Rattle.orca_course.specs.declared.ending.Stop.{Stop}
 use Rattle.orca_course.specs.declared.item.Item.{Item}
 use Rattle.orca_course.specs.declared.item.Item.TheVariants as item
@@ -20,6 +20,7 @@ keeper_part = record {
   stance = nowhere None false;
   until = λ s. None;
   takes = keeper_course;
+  seats = λ s. 0;
 }
 
 -- it does not ask the inbox
@@ -30,3 +31,8 @@ keeper_is_deaf (item.Byte hand at byte) s = tt
 keeper_is_deaf (item.Due at) s = tt
 keeper_is_deaf (item.Over came) s = tt
 keeper_is_deaf (item.Ended ending) s = tt
+
+-- it tells nobody what to see
+pub keeper_is_steady : KeepsSeats keeper_part
+unfolding KeepsSeats
+keeper_is_steady i s = refl

@@ -183,7 +183,7 @@ struct Keeper {
 }
 
 impl Performer for Keeper {
-    ghost use Rattle.outside_tests.specs.Keeping.{keeper_is_deaf, keeper_part};
+    ghost use Rattle.outside_tests.specs.Keeping.{keeper_is_deaf, keeper_is_steady, keeper_part};
 
     ghost State = { Unit {0} };
 
@@ -213,6 +213,8 @@ impl Performer for Keeper {
     }
 
     ghost deaf = { keeper_is_deaf };
+
+    ghost steady = { keeper_is_steady };
 }
 
 /// Performs bytes, of which the second save fails, and looks at what was told.

@@ -1,5 +1,11 @@
 use Rattle.orca_course.proofs.DoingLemmas.{does_err, far_cut, far_more, far_stop}
+use Rattle.orca_course.proofs.SeatLemmas.{seated_items}
 use Rattle.orca_course.proofs.polling.give_items.Goals as goal
+
+pub give-requires : goal.give-requires
+give-requires g c =
+    let so_far = c.loop-index.invariant in
+    seated_items g.P.Performer.part c.is_deaf.ensures c.is_steady.ensures so_far.past so_far.did c.requires
 
 pub returns-in_err-ending : goal.returns-in_err-ending
 returns-in_err-ending g c =

@@ -1,8 +1,15 @@
 use Rattle.std.specs.Prelude.{[], Some, Ok, Err}
 use Rattle.orca_course.specs.Answered.{losses_of}
+use Rattle.orca_course.specs.Performers.{items_of}
 use Rattle.orca_course.proofs.DoingLemmas.{does_err}
 use Rattle.orca_course.proofs.PollLemmas.{answer_left, answer_then}
+use Rattle.orca_course.proofs.SeatLemmas.{seated_items}
 use Rattle.orca_course.proofs.polling.heed.Goals as goal
+
+pub give_last-requires : goal.give_last-requires
+give_last-requires g c =
+    seated_items g.P.Performer.part c.is_deaf.ensures c.is_steady.ensures
+    (items_of c.args.answer c.args.bytes.now) (rw c.in_default.is at c.in_ok-ending.ensures) c.requires
 
 pub returns-in_err-ending : goal.returns-in_err-ending
 returns-in_err-ending g c = (
