@@ -6,8 +6,8 @@ use Rattle.std.proofs.lemmas.List.Elements.{All-push, All-tail, All-take}
 use Rattle.orca_base.specs.declared.command.Command.{Command}
 use Rattle.orca_base.specs.declared.command.Command.TheVariants as command
 use Rattle.orca_edit.specs.Machines.{is_jump}
-use Rattle.orca_jam.specs.Crews.{denial_of}
-use Rattle.orca_jam.specs.Denials.{is_leaders, is_undo, not_yours}
+use Rattle.orca_jam.specs.Crews.{denial_of, is_leaders}
+use Rattle.orca_jam.specs.Denials.{is_undo, not_yours}
 use Rattle.orca_jam.specs.Laws.{AreLeaders, LeaderIsFree, LeaderStaysFree}
 use Rattle.orca_jam.specs.Owners.{is_edit_command, last_editor, nobodys, owned}
 use Rattle.orca_jam.specs.declared.crew.TheConstants.{LEADER}
@@ -46,7 +46,7 @@ free-by false false false last free = refl
 pub leader_is_free : LeaderIsFree
 unfolding denial_of
 leader_is_free c key all =
-    free-by c.alone (is_leaders key) (is_undo key) (last_editor c.owners) (mine c.owners all)
+    free-by c.alone (is_leaders c key) (is_undo key) (last_editor c.owners) (mine c.owners all)
 
 -- ---- and it stays so
 

@@ -13,10 +13,16 @@ use Rattle.orca_jam.specs.declared.crew.Crew.TheInside.{Inside}
 use Rattle.orca_jam.specs.declared.owner.Owner.{Owner}
 use Rattle.orca_jam.specs.declared.player.Player.{Player}
 
--- a crew without owners
-abbrev crew : Bool → List Player → ℕ → CrewState
-crew alone players room =
-    record { alone = alone; players = players; owners = []; room = room }
+-- a crew that shares a session, without owners
+abbrev crew : Bool → Bool → List Player → ℕ → CrewState
+crew full views players room = record {
+  alone = false;
+  full = full;
+  views = views;
+  players = players;
+  owners = [];
+  room = room;
+}
 
 -- as many players as hands
 pub hands-of : (c : Inside) → IsCrew c → length (take c.hands c.players) ≡ c.hands
@@ -46,14 +52,16 @@ player-of P players n hand none all fits there =
     (All-get_or P players hand none (omega (arith, fits, below)) all)
 
 -- new players at the first seats
-pub started : (full : Bool) (hands room : ℕ) (owners : List Owner) (p : Player)
+pub started : (full views : Bool) (hands room : ℕ) (owners : List Owner) (p : Player)
     → p ≡ new_player full → owners ≡ [] → hands ≤ MAX_HANDS
     → record {
       alone = false;
+      full = full;
+      views = views;
       players = take hands (replicate MAX_HANDS p);
       owners = owners;
       room = room;
-    } ≡ crew_at_start full hands room
-started full hands room owners p is none few =
+    } ≡ crew_at_start full views hands room
+started full views hands room owners p is none few =
     rw (is, none)
-    (ap (λ (ps : List Player). crew false ps room) (take-replicate hands MAX_HANDS (new_player full) few))
+    (ap (λ (ps : List Player). crew full views ps room) (take-replicate hands MAX_HANDS (new_player full) few))

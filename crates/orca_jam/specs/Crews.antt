@@ -1,9 +1,9 @@
 -- The hands at a session, and what each may ask for.
-use Rattle.std.specs.Prelude.{ℕ, ◌==◌, Bool, true, false, not, ◌&&◌, if◌then◌else◌, List, [], ◌∷◌, map, replicate, slice_index_or, slice_set, Option, Some, None, Result, Ok, Err}
+use Rattle.std.specs.Prelude.{ℕ, ◌==◌, Bool, true, false, not, ◌&&◌, if◌then◌else◌, List, [], ◌∷◌, map, length, replicate, slice_index_or, slice_set, Option, Some, None, Result, Ok, Err}
 use Rattle.std.specs.Option.{option_map_or}
 use Rattle.orca_base.specs.declared.command.Command.{Command}
 use Rattle.orca_base.specs.Grids.{Size}
-use Rattle.orca_jam.specs.Denials.{is_leaders, is_undo, not_yours}
+use Rattle.orca_jam.specs.Denials.{is_undo, not_yours}
 use Rattle.orca_jam.specs.Owners.{last_editor, owned}
 use Rattle.orca_jam.specs.declared.crew.TheConstants.{LEADER}
 use Rattle.orca_jam.specs.declared.denial.Denial.{Denial}
@@ -16,14 +16,18 @@ use Rattle.orca_term.specs.declared.around.Around.{Around}
 use Rattle.orca_term.specs.declared.editor.Editor.{Editor}
 use Rattle.orca_term.specs.declared.editor.Wish.{Wish}
 use Rattle.orca_term.specs.declared.editor.Wish.TheVariants as wish
+use Rattle.orca_term.specs.declared.keys.Deed.TheVariants.{Grow}
 use Rattle.orca_term.specs.declared.keys.Key.{Key}
 use Rattle.orca_term.specs.declared.keys.Key.TheVariants as key
 use Rattle.orca_term.specs.declared.keys.Pending.TheVariants.{Nothing}
 
--- whether a hand plays alone, the players in the order of their hands, whose each entry of the
--- history is, and room for how many of them there is. Of a hand that plays alone no owners are kept
+-- whether a hand plays alone, whether the full keys are read, whether each hand has a picture of
+-- its own, the players in the order of their hands, whose each entry of the history is, and room for
+-- how many of them there is. Of a hand that plays alone no owners are kept
 pub record CrewState : Type 0 where
   pub alone : Bool
+  pub full : Bool
+  pub views : Bool
   pub players : List Player
   pub owners : List Owner
   pub room : ℕ
@@ -36,19 +40,27 @@ new_player full = record { keys = Nothing; editor = new_editor full }
 abbrev pub crew_alone : Bool → CrewState
 crew_alone full = record {
   alone = true;
+  full = full;
+  views = false;
   players = new_player full ∷ [];
   owners = [];
   room = 0;
 }
 
 -- so many hands share a session, with room for the owners of so many entries
-abbrev pub crew_at_start : Bool → ℕ → ℕ → CrewState
-crew_at_start full hands room = record {
+abbrev pub crew_at_start : Bool → Bool → ℕ → ℕ → CrewState
+crew_at_start full views hands room = record {
   alone = false;
+  full = full;
+  views = views;
   players = replicate hands (new_player full);
   owners = [];
   room = room;
 }
+
+-- how many hands are shown a picture: all, or the first one alone
+abbrev pub viewers_of : CrewState → ℕ
+viewers_of c = if c.views then length c.players else 1
 
 -- the player of a hand
 abbrev pub player_at : CrewState → ℕ → Player
@@ -66,8 +78,8 @@ abbrev pub turned_player : Bool → Item → Player → Player
 turned_player full item p = record p { keys = (turn full p.keys item).pending }
 
 -- that of a hand was
-abbrev pub turned_by : Bool → ℕ → Item → CrewState → CrewState
-turned_by full hand item c = with_player hand (turned_player full item (player_at c hand)) c
+abbrev pub turned_by : ℕ → Item → CrewState → CrewState
+turned_by hand item c = with_player hand (turned_player c.full item (player_at c hand)) c
 
 -- the editor of a player is brought into a grid of this size
 abbrev pub fitted_player : Size → Player → Player
@@ -79,12 +91,27 @@ fitted_crew d c = record c { players = map (fitted_player d) c.players }
 
 -- ---- what a hand may ask for
 
+-- the keys of the first hand alone: they go back, begin anew, pause, save or end, and change the
+-- tempo or the size of the grid, and, unless each hand has a picture of its own, the picture
+abbrev pub is_leaders : CrewState → Key → Bool
+is_leaders c key.Back = true
+is_leaders c key.Reset = true
+is_leaders c key.Pause = true
+is_leaders c key.Save = true
+is_leaders c key.Quit = true
+is_leaders c (key.Slower beats) = true
+is_leaders c (key.Faster beats) = true
+is_leaders c key.Redraw = not c.views
+is_leaders c (key.Screen rows columns) = not c.views
+is_leaders c (key.Arrow Grow side by) = true
+is_leaders c _ = false
+
 -- why a key is denied to a hand, if it is: the first reason that stands. A hand that plays alone
 -- may do all
 unfoldable pub denial_of : CrewState → ℕ → Key → Option Denial
 denial_of c hand key =
     if c.alone then None
-    else (if is_leaders key && not (hand == LEADER) then Some LeaderOnly
+    else (if is_leaders c key && not (hand == LEADER) then Some LeaderOnly
     else (if is_undo key then not_yours hand (last_editor c.owners) else None))
 
 -- hands that share a session do nothing again that was taken back

@@ -1,27 +1,11 @@
--- Which keys are denied to a hand, and what it is told.
+-- Why keys are denied to a hand, and what it is told.
 use Rattle.std.specs.Prelude.{ℕ, ◌==◌, Bool, true, false, if◌then◌else◌, List, [], ◌∷◌, ◌++◌, codes, Option, Some, None}
 use Rattle.std.specs.Fmt.{decimal}
 use Rattle.orca_base.specs.Ascii.{line_feed}
 use Rattle.orca_jam.specs.declared.denial.Denial.{Denial}
 use Rattle.orca_jam.specs.declared.denial.Denial.TheVariants.{LeaderOnly, NotYours}
-use Rattle.orca_term.specs.declared.keys.Deed.TheVariants.{Grow}
 use Rattle.orca_term.specs.declared.keys.Key.{Key}
 use Rattle.orca_term.specs.declared.keys.Key.TheVariants as key
-
--- the keys of the first hand alone: they go back, begin anew, pause, save or end, and change the
--- tempo, the picture or the size of the grid
-abbrev pub is_leaders : Key → Bool
-is_leaders key.Back = true
-is_leaders key.Reset = true
-is_leaders key.Pause = true
-is_leaders key.Save = true
-is_leaders key.Quit = true
-is_leaders (key.Slower beats) = true
-is_leaders (key.Faster beats) = true
-is_leaders key.Redraw = true
-is_leaders (key.Screen rows columns) = true
-is_leaders (key.Arrow Grow side by) = true
-is_leaders _ = false
 
 -- the key that takes back the last edit
 abbrev pub is_undo : Key → Bool

@@ -8,6 +8,8 @@ use Rattle.orca_jam.specs.declared.crew.Crew.TheInside.{Inside}
 abbrev pub seated_crew : Inside → CrewState
 seated_crew c = record {
   alone = c.alone;
+  full = c.full;
+  views = c.views;
   players = take c.hands c.players;
   owners = c.owners.items;
   room = c.room;

@@ -1,10 +1,10 @@
 //! The hands at a session.
 
-ghost use Rattle.std.specs.Prelude.{◌≡◌, ◌<◌, ◌≤◌, ℕ, Bool, All, false, length, map, nat_le, slice_get, IfOk, OnErr, OnOk};
+ghost use Rattle.std.specs.Prelude.{◌≡◌, ◌<◌, ◌≤◌, ℕ, All, false, length, map, nat_le, slice_get, IfOk, OnErr, OnOk};
 ghost use Rattle.orca_base.specs.Areas.{IsArea};
 ghost use Rattle.orca_base.specs.declared.limits.TheConstants.{MAX_HANDS};
-ghost use Rattle.orca_jam.specs.Crews.{answer_to, crew_alone, crew_at_start, denial_of, fitted_crew, fitted_player, offers, player_at, struck_by, took_by, turned_by, with_editor, with_player};
-ghost use Rattle.orca_jam.specs.Denials.{is_leaders as belongs_to_leader, not_yours};
+ghost use Rattle.orca_jam.specs.Crews.{answer_to, crew_alone, crew_at_start, denial_of, fitted_crew, fitted_player, offers, player_at, is_leaders as belongs_to_leader, struck_by, took_by, turned_by, viewers_of, with_editor, with_player};
+ghost use Rattle.orca_jam.specs.Denials.{not_yours};
 ghost use Rattle.orca_term.specs.Editing.{area_of, wish_of};
 ghost use Rattle.orca_term.specs.Keys.{Byte, Due, turn};
 
@@ -24,12 +24,15 @@ pub const LEADER: u8 = 0;
 const SEATS: usize = MAX_HANDS as usize;
 
 /// The hands at a session, 1 to [`MAX_HANDS`] of them, each with a reader of keys and an editor. A contract sees
-/// these, whose each entry of the history is, and room for how many entries there is. A hand that plays alone
-/// may do all; of a session that hands share, some keys belong to the first hand, nobody takes back the edit
-/// of another, and nobody does again what was taken back.
+/// these, which keys are read, whether each hand has a picture of its own, whose each entry of the history is,
+/// and room for how many entries there is. A hand that plays alone may do all; of a session that hands share,
+/// some keys belong to the first hand, nobody takes back the edit of another, and nobody does again what was
+/// taken back.
 #[derive(Drop)]
 pub struct Crew {
     alone: bool,
+    full: bool,
+    views: bool,
     room: u32,
     hands: u8,
     players: [Player; SEATS],
@@ -55,6 +58,8 @@ impl Crew {
     {
         Crew {
             alone: true,
+            full,
+            views: false,
             room: 0,
             hands: 1,
             players: [Player::start(full); SEATS],
@@ -63,16 +68,24 @@ impl Crew {
     }
 
     /// Hands that share a session, whose history may have `limit` entries, with the full keys or with the
-    /// plain ones. It takes room for the owners of all entries; no later call takes memory. [`Memory`] if
-    /// the room is refused.
-    pub fn start(alloc: Global, full: bool, hands: u8, limit: u32) -> Result<Crew, Memory>
+    /// plain ones, and with a picture for each hand or for the first one alone. It takes room for the
+    /// owners of all entries; no later call takes memory. [`Memory`] if the room is refused.
+    pub fn start(
+        alloc: Global,
+        full: bool,
+        views: bool,
+        hands: u8,
+        limit: u32,
+    ) -> Result<Crew, Memory>
         requires some_hands { 1 ≤ hands }
         requires few_hands { hands ≤ MAX_HANDS }
         requires some { 1 ≤ limit }
-        ensures { IfOk result (λ crew. crew ≡ crew_at_start full hands limit) }
+        ensures { IfOk result (λ crew. crew ≡ crew_at_start full views hands limit) }
     {
         Ok(Crew {
             alone: false,
+            full,
+            views,
             room: limit,
             hands,
             players: [Player::start(full); SEATS],
@@ -89,15 +102,22 @@ impl Crew {
         self.hands
     }
 
-    /// Reads a byte of a hand, and gives the key that it ends, if any: of the full keys, or of the plain
-    /// ones.
-    pub fn feed(&mut self, full: bool, hand: u8, byte: u8) -> Option<Key>
+    /// How many hands are shown a picture, from the first one on: all, or that one alone.
+    pub fn viewers(&self) -> u8
+        ensures { result ≡ viewers_of self.now }
+    {
+        if self.views { self.hands } else { 1 }
+    }
+
+    /// Reads a byte of a hand, and gives the key that it ends, if any.
+    pub fn feed(&mut self, hand: u8, byte: u8) -> Option<Key>
         requires { hand < length self.old.players }
-        ensures key { result ≡ (turn full (player_at self.old hand).keys (Byte byte)).key }
-        ensures crew { self.new ≡ turned_by full hand (Byte byte) self.old }
+        ensures key { result
+            ≡ (turn self.old.full (player_at self.old hand).keys (Byte byte)).key }
+        ensures crew { self.new ≡ turned_by hand (Byte byte) self.old }
     {
         let mut player = self.player(hand);
-        let key = player.feed(full, byte);
+        let key = player.feed(self.full, byte);
         self.seat(hand, player);
         key
     }
@@ -105,9 +125,8 @@ impl Crew {
     /// Nothing came of a hand for a while: an ESC that stands alone is the escape key.
     pub fn due(&mut self, hand: u8) -> Option<Key>
         requires { hand < length self.old.players }
-        ensures key { (full : Bool)
-            → result ≡ (turn full (player_at self.old hand).keys Due).key }
-        ensures crew { (full : Bool) → self.new ≡ turned_by full hand Due self.old }
+        ensures key { result ≡ (turn self.old.full (player_at self.old hand).keys Due).key }
+        ensures crew { self.new ≡ turned_by hand Due self.old }
     {
         let mut player = self.player(hand);
         let key = player.keys.due();
@@ -208,13 +227,26 @@ impl Crew {
         if self.alone {
             return None;
         }
-        if hand != LEADER && is_leaders(key) {
+        if hand != LEADER && self.is_leaders(key) {
             return Some(Denial::LeaderOnly);
         }
         if !matches!(key, Key::Undo) {
             return None;
         }
         deny(hand, last_editor(&self.owners))
+    }
+
+    /// Whether a key belongs to the first hand.
+    fn is_leaders(&self, key: &Key) -> bool
+        ensures { result ≡ belongs_to_leader self.now key.now }
+    {
+        match key {
+            Key::Back | Key::Reset | Key::Pause | Key::Save | Key::Quit => true,
+            Key::Slower(_) | Key::Faster(_) => true,
+            Key::Redraw | Key::Screen { .. } => !self.views,
+            Key::Arrow { deed, .. } => matches!(deed, Deed::Grow),
+            _ => false,
+        }
     }
 
     /// Whether a key is offered.
@@ -258,18 +290,6 @@ fn fit_all(players: &mut [Player], dims: Dims)
 {
     for player in players.iter_mut() {
         player.fit(dims);
-    }
-}
-
-/// Whether a key belongs to the first hand.
-fn is_leaders(key: &Key) -> bool
-    ensures { result ≡ belongs_to_leader key.now }
-{
-    match key {
-        Key::Back | Key::Reset | Key::Pause | Key::Save | Key::Quit => true,
-        Key::Slower(_) | Key::Faster(_) | Key::Redraw | Key::Screen { .. } => true,
-        Key::Arrow { deed, .. } => matches!(deed, Deed::Grow),
-        _ => false,
     }
 }
 

@@ -49,11 +49,11 @@ impl<M: Machine> Jam<M> {
         requires no_moments { (M.machine machine).history ≡ [] }
         ensures machine { IfOk result (λ jam. jam.machine ≡ M.machine machine) }
         ensures crew { IfOk result (λ jam. jam.crew
-            ≡ crew_in jam.machine (crew_at_start false hands jam.crew.room)) }
+            ≡ crew_in jam.machine (crew_at_start false false hands jam.crew.room)) }
         ensures screen { IfOk result (λ jam. jam.screen ≡ screen) }
     {
         let room = machine.limit().max(1);
-        let mut crew = Crew::start(alloc, false, hands, room)?;
+        let mut crew = Crew::start(alloc, false, false, hands, room)?;
         fit(&machine, &mut crew);
         let shared = Shared {
             machine,

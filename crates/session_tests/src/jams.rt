@@ -253,11 +253,11 @@ const MIXED: [(u8, u8); 6] = [
 
 #[test]
 fn sequences_of_two_hands_do_not_mix(rt: HostRuntime) -> Result<(), Fail> {
-    let mut crew = Crew::start(rt.alloc(), false, 2, 4_000_000)?;
+    let mut crew = Crew::start(rt.alloc(), false, false, 2, 4_000_000)?;
     let mut keys = [None; 6];
     for (i, (hand, byte)) in MIXED.iter().enumerate() {
         if *hand < crew.hands() && i < keys.len() {
-            keys[i] = crew.feed(false, *hand, *byte);
+            keys[i] = crew.feed(*hand, *byte);
         }
     }
     let glyph = Some(Key::Glyph(Glyph::from_value(7)));
