@@ -1,4 +1,4 @@
-ghost use Rattle.std.specs.Prelude.{◌≡◌, ◌≢◌, ◌≤◌, ◌↔◌, ℕ, ◌+◌, ◌<◌, ◌^◌, min, [], ◌∷◌, ◌++◌, true, false, length, is_some, if◌then◌else◌, vec_len, vec_capacity, Some, None, IsTrue, IsNone, IfOk, OnOk, OnErr, IsErrOf};
+ghost use Rattle.std.specs.Prelude.{◌≡◌, ◌≢◌, ◌≤◌, ◌↔◌, ℕ, ◌+◌, ◌<◌, ◌^◌, min, [], ◌∷◌, ◌++◌, true, false, length, is_some, if◌then◌else◌, slice_get, vec_len, vec_capacity, Some, None, IsTrue, IsNone, IfOk, OnOk, OnErr, IsErrOf};
 ghost use Rattle.std.specs.Option.{option_map, option_to_list};
 ghost use Rattle.orca_rig.specs.Outside.{Rose, last_count, wants_after};
 ghost use Rattle.orca_rig.specs.Arrived.{empty_log, hands_of, count_of, after_listen, after_poll, after_tell, arrived, moment_after, is_ending, MayAnswer};
@@ -23,11 +23,12 @@ struct Polled {
     bytes: Wire,
 }
 
-/// What a hand was told, as it is kept.
+/// What a hand was told, as it is kept, with the number of polls before.
 #[derive(Drop)]
 struct Telling {
     hand: u8,
     bytes: Vec<u8>,
+    polls: usize,
 }
 
 /// An inbox in memory: it gives the answers that it was made with, and fails where it is told to.
@@ -97,6 +98,26 @@ impl MemInbox {
         })
     }
 
+    /// What a hand was told, counted from 0; none exactly from their number on.
+    pub fn told_at(&self, index: u64) -> Option<(u8, &[u8])>
+        ensures told { option_map (λ told. record { hand = told.0; bytes = told.1.now }) result
+            ≡ slice_get self.now.log.told index }
+        ensures none { IsNone result ↔ (length self.now.log.told ≤ index) }
+    {
+        let telling = self.told.get(index as usize)?;
+        Some((telling.hand, telling.bytes.as_slice()))
+    }
+
+    /// How many sends there were before the poll that came after a hand was told something, counted from 0;
+    /// none if no poll came. The log keeps polls and what was told apart, so no clause says more.
+    pub fn sent_by(&self, index: u64) -> Option<u64>
+        ensures { length self.now.log.told ≤ index → IsNone result }
+    {
+        let telling = self.told.get(index as usize)?;
+        let poll = self.polls.get(telling.polls)?;
+        Some(poll.sent)
+    }
+
     /// Keeps what it was asked to listen for, and answers the moment of the start.
     fn keep_listen(&mut self, name: &str, hands: u8) -> Result<u64, OutsideFault>
         ensures kept { self.new ≡ record self.old {
@@ -127,7 +148,11 @@ impl MemInbox {
     {
         self.told.reserve(1)?;
         let bytes = bytes.to_vec(*self.told.allocator())?;
-        self.told.push_reserved(Telling { hand, bytes });
+        self.told.push_reserved(Telling {
+            hand,
+            bytes,
+            polls: self.polls.len(),
+        });
         Ok(())
     }
 }
