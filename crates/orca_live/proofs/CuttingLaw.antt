@@ -1,6 +1,6 @@
 -- How bytes are cut into answers changes no command: performances go by their items.
 use Rattle.std.proofs.Common.{◌≡◌, ℕ, zero, suc, length, Bool, true, false, List, [], ◌∷◌, refl, sym, ◌∙◌, ap, subst, arith}
-use Rattle.std.specs.Prelude.{if◌then◌else◌, map, nat_lt, slice_index_or, slice_set, Option, Some, None}
+use Rattle.std.specs.Prelude.{if◌then◌else◌, map, nat_lt, slice_index_or, slice_set, Option, Some, None, unwrap_or}
 use Rattle.std.specs.List.{range_with_len}
 use Rattle.std.proofs.lemmas.List.{length-map}
 use Rattle.std.specs.Option.{option_map_or}
@@ -35,16 +35,19 @@ use Rattle.orca_jam.specs.declared.denial.Denial.{Denial}
 use Rattle.orca_jam.specs.declared.owner.TheConstants.{NOBODY}
 use Rattle.orca_jam.specs.declared.player.Player.{Player}
 use Rattle.orca_term.specs.Keys.{Byte, Due, Item as KeyItem, turn}
+use Rattle.orca_term.specs.Picture.{screen_inside}
+use Rattle.orca_term.specs.declared.around.Around.{Around}
+use Rattle.orca_term.specs.declared.cell.ScreenSize.{ScreenSize}
 use Rattle.orca_term.specs.declared.editor.Wish.{Wish}
 use Rattle.orca_term.specs.declared.editor.Wish.TheVariants as wish
 use Rattle.orca_term.specs.declared.keys.Key.{Key}
 use Rattle.orca_term.specs.declared.keys.Pending.{Pending}
 use Rattle.orca_live.specs.Carrying.{Carries, midway_carried}
 use Rattle.orca_live.specs.Items.{ByteOf, FrameDue, HeardItem}
-use Rattle.orca_live.specs.Laws.{ItemsDecide}
-use Rattle.orca_live.specs.Performing.{answered_at, byte_course, denied_course, due_course, fired, frame_course, hand_course, finish_course, item_course, key_course, knowing, live_part, lull_course, owning, painted_course, press_course, read_course, save_course, struck_course, struck_where, take_course, wish_course}
-use Rattle.orca_live.specs.States.{LiveState, around_at, dims_at, fitted, hands_in, is_full, is_hand, leader_at}
-use Rattle.orca_live.proofs.GivenLemmas.{IsAside, core, core_fitted, finish_closes, open_aside, plain, players_twice, update_aside}
+use Rattle.orca_live.specs.Laws.{ItemsDecide, screens_of}
+use Rattle.orca_live.specs.Performing.{answered_at, byte_course, denied_course, due_course, fired, frame_course, hand_course, finish_course, item_course, key_course, knowing, live_part, lull_course, owning, picture_course, press_course, read_course, redrawn, save_course, struck_course, struck_where, take_course, wish_course}
+use Rattle.orca_live.specs.States.{LiveState, Viewed, around_at, dims_at, fitted, hands_in, is_full, is_hand, leader_at, screen_at, unpainted}
+use Rattle.orca_live.proofs.GivenLemmas.{IsAside, blank, blank_twice, core, core_fitted, core_plain, core_twice, finish_closes, open_aside, plain, players_twice, update_aside}
 use Rattle.orca_live.proofs.WorthLemmas.{all_counted, worth_of}
 
 -- ---- the number of hands
@@ -63,10 +66,10 @@ unfolding hand_course obey_course onward mapped
 hands_command who c s =
     ap (λ (players : List Player). length players) (owning_hands who c _ _ s.crew)
 
-hands_paint : (marks : List MarkSet) (s : LiveState)
-    → KeepsHands s [] (painted_course marks s).state
-unfolding painted_course
-hands_paint marks s = refl
+hands_paint : (marks : List MarkSet) (hand : ℕ) (s : LiveState)
+    → KeepsHands s [] (picture_course marks hand s).state
+unfolding picture_course
+hands_paint marks hand s = refl
 
 hands_carries : Carries (λ who end. KeepsHands)
 hands_carries = record {
@@ -79,8 +82,8 @@ hands_carries = record {
   denied = λ who hand denial s. refl;
   save = λ who name bytes s saved. refl;
   append = λ who name byte bytes s named is. refl;
-  paint = λ who. hands_paint;
-  screen = λ who d s is. refl;
+  paint = λ who marks hand s is. hands_paint marks hand s;
+  screen = λ who hand d s is. refl;
 }
 
 hands_keep : (i : Item) (s : LiveState) → IsMidway (Given i)
@@ -98,33 +101,69 @@ either_core : (b : Bool) (s t : LiveState) → core s ≡ core t → core (if b 
 either_core true s t same = refl
 either_core false s t same = sym same
 
+-- what is shown of a screen is nothing to its size
+screen_blank : (views : List Viewed) (hand : ℕ) (other : Viewed)
+    → (slice_index_or (blank views) hand other).screen ≡ (slice_index_or views hand other).screen
+screen_blank [] hand other = refl
+screen_blank (v ∷ views) zero other = refl
+screen_blank (v ∷ views) (suc hand) other = screen_blank views hand other
+
+screen_plain : (hand : ℕ) (s : LiveState) → screen_at hand (plain s) ≡ screen_at hand s
+screen_plain hand s = screen_blank s.views hand (unpainted s.setting.screen)
+
+around_plain : (hand : ℕ) (s : LiveState) → around_at hand (plain s) ≡ around_at hand s
+around_plain hand s =
+    ap (λ (d : ScreenSize). record (around_at hand s) { screen = d }) (screen_plain hand s)
+
+blank_set : (views : List Viewed) (hand : ℕ) (v : Viewed)
+    → blank (slice_set (blank views) hand v) ≡ blank (slice_set views hand v)
+blank_set [] hand v = refl
+blank_set (w ∷ views) zero v =
+    ap (λ (rest : List Viewed). unpainted v.screen ∷ rest) (blank_twice views)
+blank_set (w ∷ views) (suc hand) v =
+    ap (λ (rest : List Viewed). unpainted w.screen ∷ rest) (blank_set views hand v)
+
+redrawn_plain : (hand : ℕ) (d : ScreenSize) (s : LiveState)
+    → told core (redrawn hand d s) ≡ told core (redrawn hand d (plain s))
+redrawn_plain hand d s =
+    ap (λ (views : List Viewed). quiet false (record (core s) { views = views }))
+    (sym (blank_set s.views hand (unpainted d)))
+
+-- the same, where this is shown
+abbrev shown_as : Told LiveState → List Viewed → Told LiveState
+shown_as x views = record x { state = record x.state { views = views } }
+
 wish_plain : (hand : ℕ) (w : Wish) (s : LiveState)
     → told core (wish_course hand w s) ≡ told core (wish_course hand w (plain s))
 unfolding wish_course save_course hand_course obey_course onward mapped
-wish_plain hand wish.Nothing s = refl
-wish_plain hand (wish.Do command) s = refl
 wish_plain hand wish.Toggle s =
     ap (quiet false)
     (either_core (leader_at s).paused s _ refl
-    ∙ sym (either_core (leader_at s).paused (plain s) _ refl))
-wish_plain hand wish.Save s = refl
-wish_plain hand wish.Quit s = refl
-wish_plain hand (wish.Slower beats) s = refl
-wish_plain hand (wish.Faster beats) s = refl
-wish_plain hand (wish.Redraw size) s = refl
+    ∙ (sym (core_plain s) ∙ sym (either_core (leader_at s).paused (plain s) _ refl)))
+wish_plain hand (wish.Redraw size) s =
+    redrawn_plain hand (screen_inside (unwrap_or size (screen_at hand s))) s
+    ∙ ap (λ (d : ScreenSize). told core (redrawn hand (screen_inside (unwrap_or size d)) (plain s)))
+    (sym (screen_plain hand s))
+wish_plain hand w s =
+    ap (shown_as (told core (wish_course hand w s))) (sym (blank_twice s.views))
 
 where_plain : (hand : ℕ) (key : Key) (s : LiveState) (denial : Option Denial)
     → told core (struck_where hand key s denial) ≡ told core (struck_where hand key (plain s) denial)
 unfolding denied_course
-where_plain hand key s (Some denial) = refl
+where_plain hand key s (Some denial) =
+    ap (shown_as (told core (denied_course hand denial s))) (sym (blank_twice s.views))
 where_plain hand key s None =
     let around = around_at hand s in
     wish_plain hand (asked s.crew hand key around)
     (record s { crew = struck_by hand key around s.crew })
+    ∙ ap (λ (a : Around).
+    told core (wish_course hand (asked s.crew hand key a)
+    (record (plain s) { crew = struck_by hand key a s.crew })))
+    (sym (around_plain hand s))
 
 press_steady : (hand : ℕ) (key : Option Key) → Steady (press_course hand key)
 unfolding press_course key_course struck_course
-press_steady hand None s = ap (quiet false) (sym (core_fitted s))
+press_steady hand None s = ap (quiet false) (sym (core_twice s))
 press_steady hand (Some key) s =
     let t = fitted s in
     where_plain hand key t (denial_of t.crew hand key)
@@ -153,17 +192,17 @@ turned_fitted d full item (p ∷ players) (suc hand) =
 read_steady : (hand : ℕ) (item : KeyItem) → Steady (read_course hand item)
 unfolding read_course
 read_steady hand item s =
-    let full = s.setting.full in
+    let full = s.crew.full in
     let d = dims_at s in
     let t = core s in
     press_steady hand (turn full (player_at s.crew hand).keys item).key
-    (record s { crew = turned_by full hand item s.crew })
+    (record s { crew = turned_by hand item s.crew })
     ∙ (ap (λ (players : List Player).
     told core (press_course hand (turn full (player_at s.crew hand).keys item).key
     (record t { crew = record t.crew { players = players } })))
     (turned_fitted d full item s.crew.players hand)
     ∙ ap (λ (keys : Pending). told core (press_course hand (turn full keys item).key
-    (record t { crew = turned_by full hand item t.crew })))
+    (record t { crew = turned_by hand item t.crew })))
     (sym (keys_fitted d s.crew.players hand)))
 
 -- there are as many hands, however their editors are fitted
@@ -173,7 +212,7 @@ same_hands s = length-map s.crew.players (fitted_player (dims_at s))
 item_by : (is : Bool) (hand : ℕ) (item : KeyItem)
     → Steady (λ s. if is then read_course hand item s else still s)
 item_by true hand item s = read_steady hand item s
-item_by false hand item s = ap (quiet false) (sym (core_fitted s))
+item_by false hand item s = ap (quiet false) (sym (core_twice s))
 
 item_steady : (hand : ℕ) (item : KeyItem) → Steady (item_course hand item)
 unfolding item_course
@@ -208,7 +247,7 @@ onward_steady f g first second s =
 -- nothing came of each of these hands
 lulls_steady : (hands : List ℕ) → Steady (each (λ hand. item_course hand Due) hands)
 unfolding each
-lulls_steady [] s = ap (quiet false) (sym (core_fitted s))
+lulls_steady [] s = ap (quiet false) (sym (core_twice s))
 lulls_steady (hand ∷ hands) s =
     onward_steady (item_course hand Due) (each (λ hand. item_course hand Due) hands)
     (item_steady hand Due) (lulls_steady hands) s
@@ -260,23 +299,27 @@ owned_twice d who c refused n crew =
     ∙ ap (λ (players : List Player). owning who c refused n (record crew { players = players }))
     (players_twice d crew.players)
 
--- what is told of a frame, after which the hands are these
-abbrev frame_told : LiveState → CrewState → Told LiveState
-frame_told s crew =
+-- what is told of a frame, after which the hands are these, and this is shown
+abbrev frame_told : LiveState → List Viewed → CrewState → Told LiveState
+frame_told s views crew =
     let c : Course LiveState Stop =
     onward (hand_course NOBODY Frame s) (λ (t : LiveState). still (fired t)) in
-    record (told core c) { state = record (plain c.state) { crew = crew } }
+    record (told core c) { state = record (plain c.state) { crew = crew; views = views } }
 
 -- so an editor that fits it goes on to do so
 frame_by : (full : Bool)
     → Steady (λ s. if full then ended Full s
     else onward (hand_course NOBODY Frame s) (λ t. still (fired t)))
 unfolding hand_course obey_course onward mapped
-frame_by true s = ap (quiet true) (sym (core_fitted s))
+frame_by true s = ap (quiet true) (sym (core_twice s))
 frame_by false s =
     let o = obey s.standing.machine Frame in
     let crew = owning NOBODY Frame (refusal_of o.answer) (length o.machine.history) in
-    ap (frame_told s)
+    let c : Course LiveState Stop =
+    onward (hand_course NOBODY Frame s) (λ (t : LiveState). still (fired t)) in
+    ap (λ (views : List Viewed). frame_told s views (told core c).state.crew)
+    (sym (blank_twice s.views))
+    ∙ ap (frame_told s (blank (blank s.views)))
     (ap (λ (d : Size). fitted_crew d (crew s.crew)) (frame_dims s.standing.machine)
     ∙ (owned_fitted (dims_at s) NOBODY Frame (refusal_of o.answer) (length o.machine.history) s.crew
     ∙ sym (ap (λ (d : Size). fitted_crew d (crew (fitted s).crew)) (frame_dims s.standing.machine)
@@ -354,9 +397,17 @@ live_items hands = record {
   sees = λ ending s. last_seen s;
 }
 
+blank_screens : (views : List Viewed) → blank views ≡ map unpainted (screens_of views)
+blank_screens [] = refl
+blank_screens (v ∷ views) =
+    ap (λ (rest : List Viewed). unpainted v.screen ∷ rest) (blank_screens views)
+
 pub items_decide : ItemsDecide
 items_decide opening other heard others s t items same ends others_end =
     let hands = length s.crew.players in
+    let views : blank s.views ≡ blank t.views =
+    blank_screens s.views ∙ (ap (λ (ds : List ScreenSize). map unpainted ds) same.screens
+    ∙ sym (blank_screens t.views)) in
     let alike : core s ≡ core t = cc in
     let play = items_alike (worth_of hands) live_part core (λ u. length u.crew.players ≡ hands) seen
     (live_items hands) s t opening other heard others refl

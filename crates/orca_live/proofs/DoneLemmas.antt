@@ -1,13 +1,15 @@
 -- What was done of a course: of the session alone, for keys, of what is saved, and of what is
 -- shown.
-use Rattle.std.proofs.Common.{◌≡◌, ℕ, ◌+◌, ◌<◌, ◌≤◌, List, [], ◌∷◌, ◌++◌, refl, sym, ◌∙◌, ap, ◌==◌, Bool, true, false, drop, length, arith}
+use Rattle.std.proofs.Common.{◌≡◌, ◌≢◌, ℕ, zero, suc, ◌+◌, ◌<◌, ◌≤◌, get_or, map, set, List, [], ◌∷◌, ◌++◌, refl, sym, ◌∙◌, ap, ◌==◌, Bool, true, false, drop, length, arith}
 use Rattle.std.specs.List.{range_with_len}
-use Rattle.std.proofs.lemmas.List.{drop_all, drop_more, length-set}
+use Rattle.std.proofs.lemmas.Bool.{le-ltb, lt-ltb}
+use Rattle.std.proofs.lemmas.List.{drop_all, drop_more, length-map, length-set}
 use Rattle.std.proofs.lemmas.List.FromFn.{get_or-range_with_len, length-range_with_len}
-use Rattle.std.specs.Prelude.{◌||◌, Option, None, Result, Ok, Err, Some, All, OnErr, OnOk}
+use Rattle.std.specs.Prelude.{◌||◌, nat_lt, replicate, slice_index_or, slice_set, unwrap_or, Option, None, Result, Ok, Err, Some, All, OnErr, OnOk}
 use Rattle.std.specs.Option.{option_map, option_map_or}
 use Rattle.orca_base.specs.declared.command.Command.{Command}
 use Rattle.orca_base.specs.declared.port.Port.TheVariants as port
+use Rattle.orca_base.specs.Grids.{Sheet}
 use Rattle.orca_base.specs.MarkSet.{MarkSet}
 use Rattle.orca_concert.specs.Concerts.{Concert, concert_with, close_course as silence_course, command_course as obey_course, stance_of}
 use Rattle.orca_course.specs.Courses.{Course, each, mapped, onward, still, course}
@@ -16,7 +18,7 @@ use Rattle.orca_course.specs.Worlds.{World, Called, owing, Calls, Made, Sated}
 use Rattle.orca_course.specs.declared.ending.Stop.{Stop}
 use Rattle.orca_course.specs.declared.refused.NoMemory.{NoMemory}
 use Rattle.orca_course.proofs.DoingLemmas.{does_from, does_mapped, does_still, does_then, does_owing, does_acts, does_begun, does_cut, does_joined, rests_mute, rests_none}
-use Rattle.orca_course.specs.Acts.Act.{Append, Begin, Save, Screen, Give, Show, Strike}
+use Rattle.orca_course.specs.Acts.Act.{Append, Begin, Save, Screen, Give, Show, Strike, Tell}
 use Rattle.orca_course.proofs.CallLemmas.{calls_one, does_calls}
 use Rattle.orca_course.specs.Acts.{AreMute}
 use Rattle.orca_course.proofs.WorldLemmas.{made_none, made_screen, made_show, made_strike}
@@ -24,17 +26,22 @@ use Rattle.orca_edit.specs.Machines.{preview_of}
 use Rattle.orca_edit.specs.Prices.{preview_price}
 use Rattle.orca_term.specs.Pacing.{Pace}
 use Rattle.orca_jam.specs.Crews.{CrewState, answer_to, asked, denial_of, player_at, struck_by, turned_by, turned_player}
+use Rattle.orca_jam.specs.declared.crew.TheConstants.{LEADER}
 use Rattle.orca_jam.specs.declared.denial.Denial.{Denial}
 use Rattle.orca_term.specs.Keys.{Due, Item, turn}
 use Rattle.orca_term.specs.declared.editor.Wish.{Wish}
 use Rattle.orca_term.specs.declared.keys.Key.{Key}
-use Rattle.orca_term.specs.Picture.{IsPrintable}
+use Rattle.orca_term.specs.Picture.{IsPrintable, picture, scene_of, screen_inside}
 use Rattle.orca_term.specs.Viewing.{Seen, painting_bytes}
+use Rattle.orca_term.specs.declared.editor.Editor.{Editor}
+use Rattle.orca_term.specs.declared.status.StatusLine.{StatusLine}
 use Rattle.orca_term.specs.declared.cell.Cell.{Cell}
 use Rattle.orca_term.specs.declared.cell.ScreenSize.{ScreenSize}
-use Rattle.orca_live.specs.Performing.{additions, hush_course, hand_course, denied_course, lull_course, lines_course, noted, obeyed_by, of_session, owning, item_course, key_course, press_course, read_course, struck_course, telling, wish_course, paint_course, painted_course, picture_at, preview_course, redrawn, show_course, view_sends, loosens}
+use Rattle.orca_live.specs.Performing.{additions, hush_course, hand_course, denied_course, lull_course, lines_course, noted, painted_editor, obeyed_by, of_session, owning, item_course, key_course, press_course, read_course, struck_course, telling, wish_course, paint_course, painted_course, picture_course, picture_for, preview_course, redrawn, show_course, view_acts, loosens}
 use Rattle.orca_live.specs.Quiet.{silent_manner}
-use Rattle.orca_live.specs.States.{LiveState, live_stance, around_at, fitted, piece_at}
+use Rattle.orca_live.specs.States.{LiveState, Viewed, live_stance, around_at, fitted, hands_in, is_viewer, piece_at, status_line_at, unpainted, view_at, viewed_in, with_view}
+use Rattle.orca_live.specs.Marking.{marks_by}
+use Rattle.orca_live.specs.declared.painting.Marking.{Marking}
 
 -- a pace alone has changed
 pub does_paced : (s : LiveState) (p q : Pace) (x : World) → q ≡ p
@@ -42,13 +49,65 @@ pub does_paced : (s : LiveState) (p q : Pace) (x : World) → q ≡ p
     (record s { pace = q }) x
 does_paced s p q x same = rw same (does_still x refl)
 
--- the terminal begins anew
-pub redrawn_did : (d size : ScreenSize) (s : LiveState) (last : Option (List Cell)) (x : World)
-    → size ≡ d → last ≡ None
-    → Does live_stance (redrawn d s) s x (Ok None) (record s { screen = size; shown = last }) x
-redrawn_did d size s last x same none =
-    rw (same, none) (does_acts (made_screen d (made_none x)) refl
-    (rests_mute live_stance s (record s { screen = d; shown = None }) (Screen d ∷ []) tt refl))
+-- ---- views by the hands, as the code holds them
+
+pub viewed_at : (views : List Seen) (hand : ℕ) (other : Viewed) (none : Seen) → hand < length views
+    → slice_index_or (map viewed_in views) hand other ≡ viewed_in (get_or views hand none)
+viewed_at [] hand other none below = absurd (omega (arith, below))
+viewed_at (v ∷ views) zero other none below = refl
+viewed_at (v ∷ views) (suc hand) other none below =
+    viewed_at views hand other none (omega (arith, below))
+
+pub viewed_none : (views : List Seen) (hand : ℕ) (other : Viewed) → length views ≤ hand
+    → slice_index_or (map viewed_in views) hand other ≡ other
+viewed_none [] hand other past = refl
+viewed_none (v ∷ views) zero other past = absurd (omega (arith, past))
+viewed_none (v ∷ views) (suc hand) other past = viewed_none views hand other (omega (arith, past))
+
+pub viewed_set : (views : List Seen) (hand : ℕ) (v : Seen)
+    → map viewed_in (set views hand v) ≡ slice_set (map viewed_in views) hand (viewed_in v)
+viewed_set [] hand v = refl
+viewed_set (w ∷ views) zero v = refl
+viewed_set (w ∷ views) (suc hand) v =
+    ap (λ (rest : List Viewed). viewed_in w ∷ rest) (viewed_set views hand v)
+
+pub viewed_kept : (views : List Viewed) (hand : ℕ) (v : Viewed) → length views ≤ hand
+    → slice_set views hand v ≡ views
+viewed_kept [] hand v past = refl
+viewed_kept (w ∷ views) zero v past = absurd (omega (arith, past))
+viewed_kept (w ∷ views) (suc hand) v past =
+    ap (λ (rest : List Viewed). w ∷ rest) (viewed_kept views hand v (omega (arith, past)))
+
+pub views_started : (n : ℕ) (d : ScreenSize)
+    → map viewed_in (replicate n (record { size = d; last = None; bytes = [] }))
+    ≡ replicate n (unpainted d)
+views_started zero d = refl
+views_started (suc n) d = ap (λ (rest : List Viewed). unpainted d ∷ rest) (views_started n d)
+
+-- the terminal of a hand began anew
+pub redrawn_at : (views : List Seen) (hand at : ℕ) (size : Option ScreenSize) (other : Viewed)
+    (old new : Seen) → at ≡ hand → hand < length views → old ≡ get_or views at old
+    → viewed_in new ≡ unpainted (screen_inside (unwrap_or size old.size))
+    → map viewed_in (set views at new)
+    ≡ slice_set (map viewed_in views) hand
+    (unpainted (screen_inside (unwrap_or size
+    (slice_index_or (map viewed_in views) hand other).screen)))
+redrawn_at views hand at size other old new same below is anew =
+    let here : (slice_index_or (map viewed_in views) hand other).screen ≡ old.size =
+    ap (λ (v : Viewed). v.screen) (viewed_at views hand other old below)
+    ∙ ap (λ (v : Seen). v.size) (sym (rw same at is)) in
+    rw (same, here) (viewed_set views hand new
+    ∙ ap (λ (v : Viewed). slice_set (map viewed_in views) hand v) anew)
+
+-- ---- keys that begin a terminal anew
+
+-- the terminal of a hand begins anew
+pub redrawn_did : (hand : ℕ) (d : ScreenSize) (s : LiveState) (views : List Viewed) (x : World)
+    → views ≡ slice_set s.views hand (unpainted d)
+    → Does live_stance (redrawn hand d s) s x (Ok None) (record s { views = views }) x
+redrawn_did hand d s views x anew =
+    rw anew (does_acts (made_screen hand d (made_none x)) refl
+    (rests_mute live_stance s (with_view hand (unpainted d) s) (Screen hand d ∷ []) tt refl))
 
 -- ---- the session alone
 
@@ -179,8 +238,8 @@ press_some hand key some s u {x = x} {result = result} is fits did =
 -- an item, whose key was pressed
 pub read_did : (hand : ℕ) (item : Item) (s : LiveState) (key : Option Key) (crew : CrewState)
     {t : LiveState} {x y : World} {result : Result (Option Stop) NoMemory}
-    → key ≡ (turn s.setting.full (player_at s.crew hand).keys item).key
-    → crew ≡ turned_by s.setting.full hand item s.crew
+    → key ≡ (turn s.crew.full (player_at s.crew hand).keys item).key
+    → crew ≡ turned_by hand item s.crew
     → Does live_stance (press_course hand key (record s { crew = crew })) (record s { crew = crew })
     x result t y
     → Does live_stance (read_course hand item s) s x result t y
@@ -209,11 +268,12 @@ unfolding lull_course
 lull_did hands s are did = rw are at did
 
 -- a reader was given an item, and there are as many hands
-pub hands_turned : (full : Bool) (hand : ℕ) (item : Item) (old new : CrewState) (n : ℕ)
-    → new ≡ turned_by full hand item old → n ≡ length old.players → hand < n
+pub hands_turned : (hand : ℕ) (item : Item) (old new : CrewState) (n : ℕ)
+    → new ≡ turned_by hand item old → n ≡ length old.players → hand < n
     → hand < length new.players
-hands_turned full hand item old new n turned are below =
-    rw (turned, length-set old.players hand (turned_player full item (player_at old hand)), ← are) below
+hands_turned hand item old new n turned are below =
+    rw (turned, length-set old.players hand (turned_player old.full item (player_at old hand)), ← are)
+    below
 
 -- ---- what is saved
 
@@ -273,68 +333,155 @@ lines_did name bytes none s n result waited empty calls =
     (does_calls (additions name s.unwritten) result (added_mute name s.unwritten) refl
     (rw waited at calls)))
 
--- ---- a painting is sent, unless it is empty
+-- ---- a painting goes to its hand, unless it is empty
 
-pub sent_none : (bytes : List ℕ) (none : Bool) (x : World) → none ≡ (length bytes == 0)
-    → none ≡ true → Calls {T = Unit {0}} (view_sends bytes) (Ok tt) x x
-sent_none [] none x is on = record { called = (made_none x, refl) }
-sent_none (byte ∷ bytes) none x is on = absurd (grind arith)
+pub view_none : (hand : ℕ) (bytes : List ℕ) (none : Bool) (x : World)
+    → none ≡ (length bytes == 0) → none ≡ true
+    → Calls {T = Unit {0}} (view_acts hand bytes) (Ok tt) x x
+view_none hand [] none x is on = record { called = (made_none x, refl) }
+view_none hand (byte ∷ bytes) none x is on = absurd (grind arith)
 
-pub sent_some : (bytes : List ℕ) (none : Bool) {x y : World} (result : Result (Unit {0}) NoMemory)
-    → none ≡ (length bytes == 0) → none ≡ false
-    → Called result (Give (record { port = port.View; bytes = bytes })) x y
-    → Calls (view_sends bytes) result x y
-sent_some [] none result is off called = absurd (grind arith)
-sent_some (byte ∷ bytes) none result is off called = calls_one result called
+-- that of the first hand
+pub view_sent : (hand : ℕ) (bytes : List ℕ) (none : Bool) {x y : World}
+    (result : Result (Unit {0}) NoMemory) → none ≡ (length bytes == 0) → none ≡ false
+    → hand ≡ LEADER → Called result (Give (record { port = port.View; bytes = bytes })) x y
+    → Calls (view_acts hand bytes) result x y
+view_sent hand [] none result is off first called = absurd (grind arith)
+view_sent zero (byte ∷ bytes) none result is off first called = calls_one result called
+view_sent (suc hand) (byte ∷ bytes) none result is off first called = absurd (omega (arith, first))
 
-sent_mute : (bytes : List ℕ) → AreMute (view_sends bytes)
-sent_mute [] = tt
-sent_mute (byte ∷ bytes) = (refl, tt)
+-- and that of another
+pub view_told : (hand : ℕ) (bytes : List ℕ) (none : Bool) {x y : World}
+    (result : Result (Unit {0}) NoMemory) → none ≡ (length bytes == 0) → none ≡ false
+    → hand ≢ LEADER → Called result (Tell hand bytes) x y → Calls (view_acts hand bytes) result x y
+view_told hand [] none result is off other called = absurd (grind arith)
+view_told zero (byte ∷ bytes) none result is off other called = absurd (other refl)
+view_told (suc hand) (byte ∷ bytes) none result is off other called = calls_one result called
+
+view_mute : (hand : ℕ) (bytes : List ℕ) → AreMute (view_acts hand bytes)
+view_mute hand [] = tt
+view_mute zero (byte ∷ bytes) = (refl, tt)
+view_mute (suc hand) (byte ∷ bytes) = tt
 
 -- ---- a painting
 
--- the picture was painted
-abbrev shown_course : List Cell → LiveState → Course LiveState Stop
-shown_course cells s = course (Show cells ∷ []) 0 (record s { shown = Some cells })
+-- the picture of a hand was painted, which is shown this
+abbrev shown_course : ℕ → List Cell → List Viewed → LiveState → Course LiveState Stop
+shown_course hand cells views s = course (Show hand cells ∷ []) 0 (record s { views = views })
 
-painting_did : (bytes : List ℕ) (cells : List Cell) (s : LiveState) {x y : World}
-    (result : Result (Unit {0}) NoMemory) → All IsPrintable cells
-    → Calls (view_sends bytes) result x y
-    → Does live_stance (onward (course (view_sends bytes) 0 s) (shown_course cells)) s x
-    (goes_of result) (record s { shown = Some cells }) y
+painting_did : (hand : ℕ) (bytes : List ℕ) (cells : List Cell) (views : List Viewed) (s : LiveState)
+    {x y : World} (result : Result (Unit {0}) NoMemory) → All IsPrintable cells
+    → Calls (view_acts hand bytes) result x y
+    → Does live_stance (onward (course (view_acts hand bytes) 0 s) (shown_course hand cells views))
+    s x (goes_of result) (record s { views = views }) y
 unfolding onward
-painting_did bytes cells s {y = y} (Ok done) printable calls =
-    does_then (shown_course cells)
-    (does_calls (view_sends bytes) (Ok done) (sent_mute bytes) refl calls)
-    (does_acts (made_show cells printable (made_none y)) refl
-    (rests_mute live_stance s (record s { shown = Some cells }) (Show cells ∷ []) tt refl))
-painting_did bytes cells s (Err e) printable calls =
-    does_cut (shown_course cells)
-    (does_calls (view_sends bytes) (Err e) (sent_mute bytes) refl calls)
+painting_did hand bytes cells views s {y = y} (Ok done) printable calls =
+    does_then (shown_course hand cells views)
+    (does_calls (view_acts hand bytes) (Ok done) (view_mute hand bytes) refl calls)
+    (does_acts (made_show hand cells printable (made_none y)) refl
+    (rests_mute live_stance s (record s { views = views }) (Show hand cells ∷ []) tt refl))
+painting_did hand bytes cells views s (Err e) printable calls =
+    does_cut (shown_course hand cells views)
+    (does_calls (view_acts hand bytes) (Err e) (view_mute hand bytes) refl calls)
 
--- the picture with these marks was painted, and the view keeps it
-pub painted_did : (marks : List MarkSet) (s : LiveState) (bytes : List ℕ) (view : Seen)
-    {x y : World} (n : ℕ) (result : Result (Unit {0}) NoMemory)
-    → bytes ≡ painting_bytes s.screen s.shown (picture_at marks s)
-    → view ≡ record { size = s.screen; last = Some (picture_at marks s); bytes = bytes }
-    → All IsPrintable (picture_at marks s) → Calls (view_sends bytes) result x y
-    → Does live_stance (painted_course marks s) s (owing n x) (goes_of result)
-    (record s { screen = view.size; shown = view.last }) (owing n y)
-unfolding painted_course onward
-painted_did marks s bytes view n result painting kept printable calls =
-    let cells = picture_at marks s in
+-- the picture of a hand with these marks was painted, and its view keeps it
+pub picture_did : (marks : List MarkSet) (hand : ℕ) (s : LiveState) (views : List Viewed)
+    (v : Viewed) (sheet : Sheet) (editor : Editor) (line : StatusLine) {x y : World} (n : ℕ)
+    (result : Result (Unit {0}) NoMemory) → v ≡ view_at hand s → sheet ≡ (piece_at s).sheet
+    → editor ≡ painted_editor hand s → line ≡ status_line_at s
+    → let cells = picture v.screen (scene_of sheet marks editor) line in
+    Calls (view_acts hand (painting_bytes v.screen v.shown cells)) result x y
+    → All IsPrintable cells → views ≡ slice_set s.views hand (record v { shown = Some cells })
+    → Does live_stance (picture_course marks hand s) s (owing n x) (goes_of result)
+    (record s { views = views }) (owing n y)
+unfolding picture_course onward
+picture_did marks hand s views v sheet editor line n result at shows edits lines calls printable
+    keeps =
+    let old = view_at hand s in
+    let cells = picture_for hand marks s in
+    let called = rw (at, shows, edits, lines) at calls in
+    let fine = rw (at, shows, edits, lines) at printable in
+    let kept = rw (at, shows, edits, lines) at keeps in
     rw kept (does_owing n (goes_of result)
-    (painting_did (painting_bytes s.screen s.shown cells) cells s result printable
-    (rw painting at calls)))
+    (painting_did hand (painting_bytes old.screen old.shown cells) cells
+    (slice_set s.views hand (record old { shown = Some cells })) s result fine called))
 
--- the editor was fitted to the grid before, which moves nothing else
+-- whether a hand is shown a picture
+
+pub viewer_is : (views : List Seen) (hand from len : ℕ) → from ≡ hand → len ≡ length views
+    → from < len → nat_lt hand (length (map viewed_in views)) ≡ true
+viewer_is views hand from len same many below =
+    lt-ltb hand (length (map viewed_in views))
+    (rw (length-map views viewed_in, ← many, ← same) below)
+
+pub viewer_not : (views : List Seen) (hand from len : ℕ) → from ≡ hand → len ≡ length views
+    → len ≤ from → nat_lt hand (length (map viewed_in views)) ≡ false
+viewer_not views hand from len same many past =
+    le-ltb hand (length (map viewed_in views))
+    (rw (length-map views viewed_in, ← many, ← same) past)
+
+-- the picture was painted on the view of a hand
+pub picture_on : (marks : List MarkSet) (hand : ℕ) (s : LiveState) (views : List Seen)
+    (old seen : Seen) (sheet : Sheet) (editor : Editor) (line : StatusLine) {x y : World} (n : ℕ)
+    (result : Result (Unit {0}) NoMemory) → map viewed_in views ≡ s.views
+    → viewed_in old ≡ view_at hand s → sheet ≡ (piece_at s).sheet → editor ≡ painted_editor hand s
+    → line ≡ status_line_at s
+    → let cells = picture old.size (scene_of sheet marks editor) line in
+    Calls (view_acts hand (painting_bytes old.size old.last cells)) result x y
+    → All IsPrintable cells → viewed_in seen ≡ record { screen = old.size; shown = Some cells }
+    → Does live_stance (picture_course marks hand s) s (owing n x) (goes_of result)
+    (record s { views = map viewed_in (set views hand seen) }) (owing n y)
+picture_on marks hand s views old seen sheet editor line n result are at shows edits lines calls
+    printable keeps =
+    let cells = picture old.size (scene_of sheet marks editor) line in
+    picture_did marks hand s (map viewed_in (set views hand seen)) (viewed_in old) sheet editor line
+    n result at shows edits lines calls printable
+    (viewed_set views hand seen
+    ∙ (ap (λ (v : Viewed). slice_set (map viewed_in views) hand v) keeps
+    ∙ ap (λ (vs : List Viewed).
+    slice_set vs hand (record { screen = old.size; shown = Some cells })) are))
+
+-- a hand is shown one
+pub painted_did : (marks : List MarkSet) (hand : ℕ) (s : LiveState) {t : LiveState} {x y : World}
+    {result : Result (Option Stop) NoMemory} → is_viewer hand s ≡ true
+    → Does live_stance (picture_course marks hand s) s x result t y
+    → Does live_stance (painted_course marks hand s) s x result t y
+unfolding painted_course
+painted_did marks hand s is did = rw is did
+
+-- and another one is not
+pub unpainted_did : (marks : List MarkSet) (hand : ℕ) (s : LiveState) (x : World)
+    → is_viewer hand s ≡ false
+    → Does live_stance (painted_course marks hand s) s x (Ok None) s x
+unfolding painted_course
+unpainted_did marks hand s x off = rw off (does_still x refl)
+
+-- the marks of a session that is the same
+pub marked_did : (marking : Marking) (marks others : List MarkSet) (hand : ℕ) (s : LiveState)
+    {t : LiveState} {x y : World} {result : Result (Option Stop) NoMemory} → others ≡ marks
+    → Does live_stance (painted_course (marks_by marking others) hand s) s x result t y
+    → Does live_stance (painted_course (marks_by marking marks) hand s) s x result t y
+marked_did marking marks others hand s same did = rw same at did
+
+-- the hands in their order
+pub paints_did : (hands : ℕ) (marks : List MarkSet) (s : LiveState) {t : LiveState} {x y : World}
+    {result : Result (Option Stop) NoMemory} → hands ≡ length s.crew.players
+    → Does live_stance (each (painted_course marks) (range_with_len 0 hands) s) s x result t y
+    → Does live_stance (each (painted_course marks) (hands_in s) s) s x result t y
+paints_did hands marks s are did = rw are at did
+
+-- the editors were fitted to the grid before, which moves nothing else
 pub paint_did : (marks others : List MarkSet) (s u : LiveState) (n m : ℕ) (x : World)
     {t : LiveState} {y : World} {result : Result (Option Stop) NoMemory} → others ≡ marks → m ≡ n
-    → u ≡ fitted s → Does live_stance (painted_course others u) u (owing m x) result t y
+    → u ≡ fitted s
+    → Does live_stance (each (painted_course others) (hands_in u) u) u (owing m x) result t y
     → Does live_stance (paint_course marks s) s (owing n x) result t y
 unfolding paint_course
 paint_did marks others s u n m x same owes fits did =
-    does_from s refl (rw (same, owes, fits) at did)
+    let all = rw (same, owes, fits) at did in
+    let hands : hands_in (fitted s) ≡ hands_in s =
+    ap (λ (n : ℕ). range_with_len 0 n) (length-map s.crew.players _) in
+    does_from s {s = fitted s} refl (rw hands at all)
 
 -- the picture with the marks of a scan
 pub show_did : (marks : List MarkSet) (s : LiveState) {t : LiveState} {x y z : World}

@@ -1,14 +1,14 @@
 -- Which acts give commands, what changes nothing that matters to the session, and what the end of a
 -- performance leaves.
-use Rattle.std.proofs.Common.{◌≡◌, ℕ, arith, List, [], ◌∷◌, ◌++◌, refl, ◌∙◌, ap, append-nil, false}
-use Rattle.std.specs.Prelude.{map, max, min, Option, Some, None}
+use Rattle.std.proofs.Common.{◌≡◌, ℕ, zero, suc, arith, Bool, true, List, [], ◌∷◌, ◌++◌, refl, ◌∙◌, ap, append-nil, false}
+use Rattle.std.specs.Prelude.{if◌then◌else◌, map, max, min, slice_index_or, slice_set, Option, Some, None}
 use Rattle.orca_base.specs.declared.command.Command.{Command}
 use Rattle.orca_base.specs.MarkSet.{MarkSet}
 use Rattle.orca_base.specs.Grids.{Size}
 use Rattle.orca_concert.specs.Concerts.{close_course as silence_course, command_course as obey_course}
 use Rattle.orca_course.specs.Acts.{commands_in, Act}
 use Rattle.orca_course.specs.Acts.Act.{Show}
-use Rattle.orca_course.specs.Courses.{Course, mapped, onward}
+use Rattle.orca_course.specs.Courses.{Course, each, mapped, onward, still}
 use Rattle.orca_course.specs.declared.ending.Stop.{Stop}
 use Rattle.orca_course.proofs.CourseLemmas.{onward_goes}
 use Rattle.orca_course.specs.Standings.{standing_closed}
@@ -17,9 +17,9 @@ use Rattle.orca_edit.specs.Machines.{preview_of}
 use Rattle.orca_jam.specs.Crews.{fitted_player}
 use Rattle.orca_jam.specs.declared.player.Player.{Player}
 use Rattle.orca_term.specs.declared.cell.Cell.{Cell}
-use Rattle.orca_live.specs.Performing.{additions, hush_course, hand_course, finish_course, header_course, if_named, journal_course, saves_course, last_grid_course, last_script_course, lines_course, open_course, paint_course, painted_course, preview_course, save_course, script_course, show_course, update_course, view_sends, write_course}
+use Rattle.orca_live.specs.Performing.{additions, hush_course, hand_course, finish_course, header_course, if_named, journal_course, saves_course, last_grid_course, last_script_course, lines_course, open_course, paint_course, painted_course, picture_course, preview_course, save_course, script_course, show_course, update_course, view_acts, write_course}
 use Rattle.orca_live.specs.Starting.{nothing_failed}
-use Rattle.orca_live.specs.States.{LiveState, begun_name, dims_at, fitted, piece_at}
+use Rattle.orca_live.specs.States.{LiveState, Viewed, begun_name, dims_at, fitted, hands_in, is_viewer, piece_at, unpainted}
 
 -- ---- the commands of acts
 
@@ -34,24 +34,29 @@ pub command_once : (who : ℕ) (command : Command) (s : LiveState)
 unfolding hand_course obey_course onward mapped
 command_once who command s = simp (handed_commands, commands_in-append)
 
-views_commands : (bytes : List ℕ) (cells : List Cell)
-    → commands_in (view_sends bytes ++ Show cells ∷ []) ≡ []
-views_commands [] cells = refl
-views_commands (byte ∷ bytes) cells = refl
+views_commands : (hand : ℕ) (bytes : List ℕ) (cells : List Cell)
+    → commands_in (view_acts hand bytes ++ Show hand cells ∷ []) ≡ []
+views_commands hand [] cells = refl
+views_commands zero (byte ∷ bytes) cells = refl
+views_commands (suc hand) (byte ∷ bytes) cells = refl
 
-pub paint_commands : (marks : List MarkSet) (s : LiveState)
-    → commands_in (painted_course marks s).acts ≡ []
-unfolding painted_course
-paint_commands marks s = simp views_commands
+pub picture_commands : (marks : List MarkSet) (hand : ℕ) (s : LiveState)
+    → commands_in (picture_course marks hand s).acts ≡ []
+unfolding picture_course
+picture_commands marks hand s = simp views_commands
 
 -- ---- what matters to the session
+
+-- terminals of these sizes, for which nothing was painted
+abbrev pub blank : List Viewed → List Viewed
+blank views = map (λ (v : Viewed). unpainted v.screen) views
 
 -- no moments, no pace, nothing that is shown, no line that waits for the journal, nothing loose, and
 -- no failure
 abbrev pub plain : LiveState → LiveState
 plain s = record s {
   pace = record { bpm = 0; parts = 0; due = 0 };
-  shown = None;
+  views = blank s.views;
   unwritten = [];
   loose = false;
   at = 0;
@@ -85,6 +90,29 @@ core_fitted s =
     ap (λ (players : List Player). plain (record s { crew = record s.crew { players = players } }))
     (players_twice (dims_at s) s.crew.players)
 
+pub blank_twice : (views : List Viewed) → blank (blank views) ≡ blank views
+blank_twice [] = refl
+blank_twice (v ∷ views) =
+    ap (λ (rest : List Viewed). unpainted v.screen ∷ rest) (blank_twice views)
+
+pub core_plain : (s : LiveState) → core (plain s) ≡ core s
+core_plain s =
+    ap (λ (views : List Viewed). record (core s) { views = views }) (blank_twice s.views)
+
+pub core_twice : (s : LiveState) → core (core s) ≡ core s
+core_twice s =
+    ap (λ (views : List Viewed). record (core (fitted s)) { views = views }) (blank_twice s.views)
+    ∙ core_fitted s
+
+-- a picture is nothing to what matters
+blank_shown : (views : List Viewed) (hand : ℕ) (other : Viewed) (shown : Option (List Cell))
+    → blank (slice_set views hand (record (slice_index_or views hand other) { shown = shown }))
+    ≡ blank views
+blank_shown [] hand other shown = refl
+blank_shown (v ∷ views) zero other shown = refl
+blank_shown (v ∷ views) (suc hand) other shown =
+    ap (λ (rest : List Viewed). unpainted v.screen ∷ rest) (blank_shown views hand other shown)
+
 -- a course that gives no command and changes nothing that matters, and after which it goes on
 pub record IsAside (s : LiveState) (c : Course LiveState Stop) : Type 0 where
   pub commands : commands_in c.acts ≡ []
@@ -99,11 +127,11 @@ aside_named (Some name) next s aside = aside name
 aside_then : (s : LiveState) (c : Course LiveState Stop) (next : LiveState → Course LiveState Stop)
     → IsAside s c → ((t : LiveState) → IsAside t (next t)) → IsAside s (onward c next)
 aside_then s c next first more =
-    let then = more c.state in
+    let rest = more c.state in
     rw (onward_goes c next first.goes) (record {
-      commands = commands_before c.acts (next c.state).acts then.commands ∙ first.commands;
-      same = then.same ∙ first.same;
-      goes = then.goes;
+      commands = commands_before c.acts (next c.state).acts rest.commands ∙ first.commands;
+      same = rest.same ∙ first.same;
+      goes = rest.goes;
     })
 
 added_commands : (name bytes : List ℕ) → commands_in (additions name bytes) ≡ []
@@ -122,10 +150,34 @@ journal_aside s =
     aside_named (begun_name s.setting) header_course s
     (λ name. record { commands = refl; same = refl; goes = refl })
 
+picture_aside : (marks : List MarkSet) (hand : ℕ) (s : LiveState)
+    → IsAside s (picture_course marks hand s)
+unfolding picture_course
+picture_aside marks hand s = record {
+  commands = views_commands hand _ _;
+  same = ap (λ (views : List Viewed). record (core s) { views = views })
+      (blank_shown s.views hand (unpainted s.setting.screen) _);
+  goes = refl;
+}
+
+painted_if : (is : Bool) (marks : List MarkSet) (hand : ℕ) (s : LiveState)
+    → IsAside s (if is then picture_course marks hand s else still s)
+painted_if true marks hand s = picture_aside marks hand s
+painted_if false marks hand s = record { commands = refl; same = refl; goes = refl }
+
+paints_aside : (marks : List MarkSet) (hands : List ℕ) (s : LiveState)
+    → IsAside s (each (painted_course marks) hands s)
+unfolding each painted_course
+paints_aside marks [] s = record { commands = refl; same = refl; goes = refl }
+paints_aside marks (hand ∷ hands) s =
+    aside_then s (painted_course marks hand s) (each (painted_course marks) hands)
+    (painted_if (is_viewer hand s) marks hand s) (paints_aside marks hands)
+
 paint_aside : (marks : List MarkSet) (s : LiveState) → IsAside s (paint_course marks s)
-unfolding paint_course painted_course
+unfolding paint_course
 paint_aside marks s =
-    record { commands = views_commands _ _; same = core_fitted s; goes = refl }
+    let aside = paints_aside marks (hands_in s) (fitted s) in
+    record { commands = aside.commands; same = aside.same ∙ core_fitted s; goes = aside.goes }
 
 show_aside : (s : LiveState) → IsAside s (show_course s)
 unfolding show_course preview_course

@@ -8,7 +8,9 @@ use Rattle.std.proofs.lemmas.Bool.{eqb-true, eqb-false, ltb-true}
 use Rattle.std.proofs.lemmas.Bool.Decides.{nat_tests}
 use Rattle.std.proofs.lemmas.Option.{none-some}
 use Rattle.std.proofs.lemmas.List.{get_or-set_other, get_or-set_same, length-map, length-set}
+use Rattle.orca_base.specs.declared.command.Command.{Command}
 use Rattle.orca_base.specs.declared.command.Command.TheVariants.{Frame}
+use Rattle.orca_base.specs.declared.command.Rule.{Rule}
 use Rattle.orca_concert.specs.Concerts.{command_course as obey_course}
 use Rattle.orca_course.specs.Acts.{Act, keys_in}
 use Rattle.orca_course.specs.Acts.Act.{Await, Learn}
@@ -26,7 +28,7 @@ use Rattle.orca_course.proofs.CourseLemmas.{goes_both, onward_goes}
 use Rattle.orca_course.proofs.CuttingLemmas.{counted, counting}
 use Rattle.orca_course.proofs.CuttingLemmas.Worth.{Counts, Nothing}
 use Rattle.orca_course.proofs.MidwayLemmas.{AreMidway, IsMidway, all_midway}
-use Rattle.orca_jam.specs.Crews.{asked, denial_of, new_player, player_at, struck_by, turned_by, turned_player}
+use Rattle.orca_jam.specs.Crews.{CrewState, asked, denial_of, new_player, player_at, struck_by, turned_by, turned_player}
 use Rattle.orca_jam.specs.declared.denial.Denial.{Denial}
 use Rattle.orca_jam.specs.declared.owner.TheConstants.{NOBODY}
 use Rattle.orca_jam.specs.declared.player.Player.{Player}
@@ -39,8 +41,8 @@ use Rattle.orca_term.specs.declared.keys.Pending.{Pending}
 use Rattle.orca_live.specs.Hands.{EachIsHeard, IsMadeBy, items_for, key_of, keys_after, pending_after}
 use Rattle.orca_live.specs.Items.{ByteOf, HeardItem, items_of}
 use Rattle.orca_live.specs.Laws.{so_far}
-use Rattle.orca_live.specs.Performing.{answered_at, byte_course, denied_course, due_course, fired, frame_course, hand_course, item_course, key_course, knowing, live_part, lull_course, press_course, read_course, save_course, struck_course, struck_where, take_course, wish_course}
-use Rattle.orca_live.specs.States.{LiveState, Setting, around_at, dims_at, editor_at, fitted, hands_in, is_full, is_hand, leader_at}
+use Rattle.orca_live.specs.Performing.{answered_at, byte_course, denied_course, due_course, fired, frame_course, hand_course, item_course, key_course, knowing, live_part, lull_course, owning, press_course, read_course, save_course, struck_course, struck_where, take_course, wish_course}
+use Rattle.orca_live.specs.States.{LiveState, around_at, dims_at, editor_at, fitted, hands_in, is_full, is_hand, leader_at}
 use Rattle.orca_live.proofs.CuttingLaw.{keys_fitted, owning_hands}
 use Rattle.orca_live.proofs.GivenLemmas.{core, open_aside, update_aside}
 use Rattle.orca_live.proofs.ScriptLaw.{obeys_commands}
@@ -63,44 +65,43 @@ keys_after-append full p (x ∷ xs) ys =
     ap (λ (keys : List Key). key_of t.key ++ keys) (keys_after-append full t.pending xs ys)
     ∙ sym (append_assoc (key_of t.key) (keys_after full t.pending xs) _)
 
--- from one state to another the reader of a hand was given these items, and the setting and the
--- number of hands are as they were
+-- from one state to another the reader of a hand was given these items, and which keys are read
+-- and the number of hands are as they were
 record Reads (hand : ℕ) (items : List KeyItem) (s t : LiveState) : Type 0 where
-  pub setting : t.setting ≡ s.setting
+  pub full : t.crew.full ≡ s.crew.full
   pub hands : length t.crew.players ≡ length s.crew.players
   pub keys : (player_at t.crew hand).keys
-      ≡ pending_after s.setting.full (player_at s.crew hand).keys items
+      ≡ pending_after s.crew.full (player_at s.crew hand).keys items
 
 -- and among acts it struck the keys that these items have ended
 record Hears (hand : ℕ) (items : List KeyItem) (s : LiveState) (acts : List Act) (t : LiveState)
     : Type 0 where
   pub reads : Reads hand items s t
-  pub strikes : Strikes hand (keys_after s.setting.full (player_at s.crew hand).keys items) s acts t
+  pub strikes : Strikes hand (keys_after s.crew.full (player_at s.crew hand).keys items) s acts t
 
 reads_none : (hand : ℕ) (s : LiveState) → Reads hand [] s s
-reads_none hand s = record { setting = refl; hands = refl; keys = refl }
+reads_none hand s = record { full = refl; hands = refl; keys = refl }
 
 reads_twice : (hand : ℕ) (xs ys : List KeyItem) (r s t : LiveState) → Reads hand xs r s
     → Reads hand ys s t → Reads hand (xs ++ ys) r t
 reads_twice hand xs ys r s t first second = record {
-  setting = second.setting ∙ first.setting;
+  full = second.full ∙ first.full;
   hands = second.hands ∙ first.hands;
   keys = second.keys
-      ∙ (ap (λ (set : Setting). pending_after set.full (player_at s.crew hand).keys ys)
-      first.setting
-      ∙ (ap (λ (p : Pending). pending_after r.setting.full p ys) first.keys
-      ∙ sym (pending_after-append r.setting.full (player_at r.crew hand).keys xs ys)));
+      ∙ (ap (λ (full : Bool). pending_after full (player_at s.crew hand).keys ys) first.full
+      ∙ (ap (λ (p : Pending). pending_after r.crew.full p ys) first.keys
+      ∙ sym (pending_after-append r.crew.full (player_at r.crew hand).keys xs ys)));
 }
 
 hears_twice : (hand : ℕ) (xs ys : List KeyItem) (r s t : LiveState) (begun more : List Act)
     → Hears hand xs r begun s → Hears hand ys s more t → Hears hand (xs ++ ys) r (begun ++ more) t
 hears_twice hand xs ys r s t begun more first second =
-    let full = r.setting.full in
+    let full = r.crew.full in
     let p = (player_at r.crew hand).keys in
     let before = keys_after full p xs in
-    let later : keys_after s.setting.full (player_at s.crew hand).keys ys
+    let later : keys_after s.crew.full (player_at s.crew hand).keys ys
     ≡ keys_after full (pending_after full p xs) ys =
-    ap (λ (set : Setting). keys_after set.full (player_at s.crew hand).keys ys) first.reads.setting
+    ap (λ (full : Bool). keys_after full (player_at s.crew hand).keys ys) first.reads.full
     ∙ ap (λ (q : Pending). keys_after full q ys) first.reads.keys in
     record {
       reads = reads_twice hand xs ys r s t first.reads second.reads;
@@ -109,15 +110,15 @@ hears_twice hand xs ys r s t begun more first second =
           (ap (λ (keys : List Key). before ++ keys) later
           ∙ sym (keys_after-append full p xs ys))
           (strikes_twice hand before
-          (keys_after s.setting.full (player_at s.crew hand).keys ys) r s t begun more
+          (keys_after s.crew.full (player_at s.crew hand).keys ys) r s t begun more
           first.strikes second.strikes);
     }
 
 -- nothing of the players has changed
-reads_same : (hand : ℕ) (s t : LiveState) → t.setting ≡ s.setting
+reads_same : (hand : ℕ) (s t : LiveState) → t.crew.full ≡ s.crew.full
     → t.crew.players ≡ s.crew.players → Reads hand [] s t
-reads_same hand s t setting players = record {
-  setting = setting;
+reads_same hand s t full players = record {
+  full = full;
   hands = ap (λ (ps : List Player). length ps) players;
   keys = ap (λ (ps : List Player). (slice_index_or ps hand (new_player false)).keys) players;
 }
@@ -125,15 +126,15 @@ reads_same hand s t setting players = record {
 -- the editors were fitted
 reads_fitted : (hand : ℕ) (s : LiveState) → Reads hand [] s (fitted s)
 reads_fitted hand s = record {
-  setting = refl;
+  full = refl;
   hands = length-map s.crew.players _;
   keys = keys_fitted (dims_at s) s.crew.players hand;
 }
 
-hears_same : (hand : ℕ) (s t : LiveState) → t.setting ≡ s.setting
+hears_same : (hand : ℕ) (s t : LiveState) → t.crew.full ≡ s.crew.full
     → t.crew.players ≡ s.crew.players → Hears hand [] s [] t
-hears_same hand s t setting players = record {
-  reads = reads_same hand s t setting players;
+hears_same hand s t full players = record {
+  reads = reads_same hand s t full players;
   strikes = strikes_same hand s [] t refl players;
 }
 
@@ -143,7 +144,7 @@ hears_none hand s = hears_same hand s s refl refl
 -- what matters to the session has not changed
 reads_core : (hand : ℕ) (s t : LiveState) → core t ≡ core s → Reads hand [] s t
 reads_core hand s t same = record {
-  setting = ap (λ (u : LiveState). u.setting) same;
+  full = ap (λ (u : LiveState). u.crew.full) same;
   hands = sym (reads_fitted hand t).hands
       ∙ (ap (λ (u : LiveState). length u.crew.players) same ∙ (reads_fitted hand s).hands);
   keys = sym (reads_fitted hand t).keys
@@ -151,6 +152,11 @@ reads_core hand s t same = record {
 }
 
 -- ---- keys
+
+-- nor do commands change which keys are read
+owning_full : (who : ℕ) (c : Command) (refused : Option Rule) (n : ℕ) (crew : CrewState)
+    → (owning who c refused n crew).full ≡ crew.full
+owning_full who c refused n crew = grind arith
 
 -- an editor is no reader
 keys_edited : (players : List Player) (other hand : ℕ) (e : Editor)
@@ -169,7 +175,7 @@ reads_struck : (hand other : ℕ) (key : Key) (s : LiveState)
     → Reads hand [] s
     (record s { crew = struck_by other key (around_at other s) s.crew })
 reads_struck hand other key s = record {
-  setting = refl;
+  full = refl;
   hands = length-set s.crew.players other _;
   keys = keys_edited s.crew.players other hand _;
 }
@@ -184,7 +190,8 @@ wish_reads : (hand other : ℕ) (w : Wish) (s : LiveState)
 unfolding wish_course save_course hand_course obey_course onward mapped
 wish_reads hand other wish.Nothing s = reads_none hand s
 wish_reads hand other (wish.Do command) s =
-    reads_same hand s _ refl (owning_hands other command _ _ s.crew)
+    reads_same hand s _ (owning_full other command _ _ s.crew)
+    (owning_hands other command _ _ s.crew)
 wish_reads hand other wish.Toggle s =
     either_reads hand (leader_at s).paused s s _ (reads_none hand s) (reads_same hand s _ refl refl)
 wish_reads hand other wish.Save s = reads_same hand s _ refl refl
@@ -217,12 +224,12 @@ press_reads hand other (Some key) s =
 
 -- its own item moves a reader
 turned_own : (hand : ℕ) (item : KeyItem) (s : LiveState) → is_hand hand s ≡ true
-    → Reads hand (item ∷ []) s (record s { crew = turned_by s.setting.full hand item s.crew })
+    → Reads hand (item ∷ []) s (record s { crew = turned_by hand item s.crew })
 turned_own hand item s is =
-    let full = s.setting.full in
+    let full = s.crew.full in
     let p : Player = turned_player full item (player_at s.crew hand) in
     record {
-      setting = refl;
+      full = refl;
       hands = length-set s.crew.players hand p;
       keys = ap (λ (q : Player). q.keys)
           (get_or-set_same s.crew.players hand p (new_player false)
@@ -231,12 +238,12 @@ turned_own hand item s is =
 
 -- and that of another hand does not
 turned_other : (hand other : ℕ) (item : KeyItem) (s : LiveState) → (other == hand) ≡ false
-    → Reads hand [] s (record s { crew = turned_by s.setting.full other item s.crew })
+    → Reads hand [] s (record s { crew = turned_by other item s.crew })
 turned_other hand other item s differs =
-    let full = s.setting.full in
+    let full = s.crew.full in
     let p : Player = turned_player full item (player_at s.crew other) in
     record {
-      setting = refl;
+      full = refl;
       hands = length-set s.crew.players other p;
       keys = ap (λ (q : Player). q.keys)
           (get_or-set_other s.crew.players other hand p (new_player false)
@@ -250,10 +257,10 @@ given hand other item = if other == hand then item ∷ [] else []
 read_strikes : (hand other : ℕ) (item : KeyItem) (s : LiveState) (own : Bool) → (other == hand) ≡ own
     → is_hand other s ≡ true
     → Strikes hand
-    (keys_after s.setting.full (player_at s.crew hand).keys (if own then item ∷ [] else [])) s
+    (keys_after s.crew.full (player_at s.crew hand).keys (if own then item ∷ [] else [])) s
     (read_course other item s).acts (read_course other item s).state
 read_strikes hand other item s true own is =
-    let full = s.setting.full in
+    let full = s.crew.full in
     let c = read_course other item s in
     subst (λ (h : ℕ).
     Strikes h (keys_after full (player_at s.crew h).keys (item ∷ [])) s c.acts c.state)
@@ -266,15 +273,15 @@ read_reads : (hand other : ℕ) (item : KeyItem) (s : LiveState) (own : Bool) �
     → Reads hand (if own then item ∷ [] else []) s (read_course other item s).state
 unfolding read_course
 read_reads hand other item s true own is =
-    let t : LiveState = record s { crew = turned_by s.setting.full other item s.crew } in
-    let key = (turn s.setting.full (player_at s.crew other).keys item).key in
+    let t : LiveState = record s { crew = turned_by other item s.crew } in
+    let key = (turn s.crew.full (player_at s.crew other).keys item).key in
     subst (λ (h : ℕ). Reads h (item ∷ []) s (press_course other key t).state)
     (eqb-true other hand own)
     (reads_twice other (item ∷ []) [] s t (press_course other key t).state
     (turned_own other item s is) (press_reads other other key t))
 read_reads hand other item s false differs is =
-    let t : LiveState = record s { crew = turned_by s.setting.full other item s.crew } in
-    let key = (turn s.setting.full (player_at s.crew other).keys item).key in
+    let t : LiveState = record s { crew = turned_by other item s.crew } in
+    let key = (turn s.crew.full (player_at s.crew other).keys item).key in
     reads_twice hand [] [] s t (press_course other key t).state
     (turned_other hand other item s differs) (press_reads hand other key t)
 
@@ -309,7 +316,8 @@ frame_reads : (hand : ℕ) (full : Bool) (s : LiveState)
     else onward (hand_course NOBODY Frame s) (λ (t : LiveState). still (fired t))).state
 unfolding hand_course obey_course onward mapped
 frame_reads hand true s = reads_none hand s
-frame_reads hand false s = reads_same hand s _ refl (owning_hands NOBODY Frame _ _ s.crew)
+frame_reads hand false s =
+    reads_same hand s _ (owning_full NOBODY Frame _ _ s.crew) (owning_hands NOBODY Frame _ _ s.crew)
 
 -- at a due frame each reader is told once that nothing came
 dues_none : (hand a n : ℕ) → hand < a

@@ -1,5 +1,5 @@
 -- A performance keeps its journal.
-use Rattle.std.proofs.Common.{◌≡◌, ◌≢◌, ◌⊎◌, ℕ, arith, Bool, true, false, List, [], ◌∷◌, ◌++◌, refl, sym, ◌∙◌, ap, subst, append_assoc, append-nil}
+use Rattle.std.proofs.Common.{◌≡◌, ◌≢◌, ◌⊎◌, ℕ, zero, suc, arith, Bool, true, false, List, [], ◌∷◌, ◌++◌, refl, sym, ◌∙◌, ap, subst, append_assoc, append-nil}
 use Rattle.std.specs.Prelude.{if◌then◌else◌, IfSome, Option, Some, None, unwrap_or}
 use Rattle.std.specs.List.{flat_map}
 use Rattle.std.specs.Option.{option_map}
@@ -34,8 +34,9 @@ use Rattle.orca_term.specs.declared.cell.Cell.{Cell}
 use Rattle.orca_trace.specs.Calls.{Poll}
 use Rattle.orca_live.specs.Carrying.{Carries, IsSavedName, finish_carried, later_carried, paint_carried}
 use Rattle.orca_live.specs.Journals.{IsApart, JournalsPerformance, StartsSo, held_after, kept_text}
-use Rattle.orca_live.specs.Performing.{finish_course, hand_course, header_course, hush_course, if_named, journal_course, knowing, last_grid_course, last_script_course, lines_course, live_part, noted, open_course, paint_course, painted_course, picture_at, preview_course, save_course, saves_course, script_course, show_course, take_course, update_course, view_sends, write_course}
-use Rattle.orca_live.specs.States.{LiveState, Setting, begun_name}
+use Rattle.orca_live.specs.Performing.{finish_course, hand_course, header_course, hush_course, if_named, journal_course, knowing, last_grid_course, last_script_course, lines_course, live_part, noted, open_course, paint_course, picture_course, picture_for, preview_course, save_course, saves_course, script_course, show_course, take_course, update_course, view_acts, write_course}
+use Rattle.orca_live.specs.States.{LiveState, Setting, begun_name, view_at}
+use Rattle.orca_live.proofs.PaintLemmas.{paint_is}
 use Rattle.orca_live.proofs.Carried.{Anyhow}
 
 -- ---- acts after acts
@@ -232,11 +233,12 @@ handed_writes name start after held given (sent ∷ sends) t last =
     handed_writes name start after held given sends t last
 
 views_writes : (name start : List ℕ) (after : Option (List ℕ) → List Command → Type 0)
-    (held : Option (List ℕ)) (given : List Command) (bytes : List ℕ) (cells : List Cell)
+    (held : Option (List ℕ)) (given : List Command) (hand : ℕ) (bytes : List ℕ) (cells : List Cell)
     → after held given
-    → Journaled name start after held given (view_sends bytes ++ Show cells ∷ [])
-views_writes name start after held given [] cells last = last
-views_writes name start after held given (byte ∷ bytes) cells last = last
+    → Journaled name start after held given (view_acts hand bytes ++ Show hand cells ∷ [])
+views_writes name start after held given hand [] cells last = last
+views_writes name start after held given zero (byte ∷ bytes) cells last = last
+views_writes name start after held given (suc hand) (byte ∷ bytes) cells last = last
 
 -- a file is begun with the first line with a seed
 abbrev begins_with : List ℕ → ℕ → LiveState → Course LiveState Stop
@@ -317,15 +319,16 @@ module _ (name start : List ℕ) (set : Setting) (kept : set.journal ≡ Some na
             ),
       )
 
-  writes_paint : (marks : List MarkSet) (s : LiveState)
-      → Writes name start set s (painted_course marks s).acts (painted_course marks s).state
-  unfolding painted_course
-  writes_paint marks s is =
-      let cells = picture_at marks s in (
+  writes_paint : (marks : List MarkSet) (hand : ℕ) (s : LiveState)
+      → let c = picture_course marks hand s in Writes name start set s c.acts c.state
+  unfolding picture_course
+  writes_paint marks hand s is =
+      let cells = picture_for hand marks s in
+      let v = view_at hand s in (
         is,
         λ held given waits.
-            views_writes name start (Waits start s.unwritten) held given
-            (painting_bytes s.screen s.shown cells) cells waits,
+            views_writes name start (Waits start s.unwritten) held given hand
+            (painting_bytes v.screen v.shown cells) cells waits,
       )
 
   writes_carries : Carries (Anyhow (Writes name start set))
@@ -340,8 +343,8 @@ module _ (name start : List ℕ) (set : Setting) (kept : set.journal ≡ Some na
     denied = λ who hand denial s is. (is, λ held given waits. waits);
     save = λ who. writes_save;
     append = λ who. writes_append;
-    paint = λ who. writes_paint;
-    screen = λ who d s is same. (same, λ held given waits. waits);
+    paint = λ who marks hand s is. writes_paint marks hand s;
+    screen = λ who hand d s is same. (same, λ held given waits. waits);
   }
 
   -- ---- turns
@@ -360,9 +363,17 @@ module _ (name start : List ℕ) (set : Setting) (kept : set.journal ≡ Some na
   writes_turn (Given i) a s inner heard none = later_carried writes_carries 0 i s inner
 
   -- after an answer nothing waits
+  written_by : (journal : Option (List ℕ)) (s : LiveState) → journal ≡ Some name
+      → (onward (if_named journal lines_course s) show_course).state.unwritten ≡ []
+  unfolding lines_course show_course preview_course onward
+  written_by None s is = absurd cc
+  written_by (Some other) s is =
+      ap (λ (u : LiveState). u.unwritten) (paint_is _ (record s { unwritten = [] })).state
+
   update_written : (s : LiveState) → s.setting ≡ set → (update_course s).state.unwritten ≡ []
-  unfolding update_course write_course lines_course show_course preview_course paint_course painted_course onward
-  update_written s is = rw (is, kept) refl
+  unfolding update_course write_course
+  update_written s is =
+      written_by s.setting.journal s (ap (λ (set : Setting). set.journal) is ∙ kept)
 
   turn_written : (turn : Turn) (a : Option Answer) (s : LiveState) → s.setting ≡ set
       → IsInner turn → IsHeard turn a → IsWritten a s
@@ -409,12 +420,12 @@ module _ (name start : List ℕ) (set : Setting) (kept : set.journal ≡ Some na
       → let p = paint_course [] s in
       let c = each (turn_course live_part) turns p.state in
       Writes name start set s (p.acts ++ c.acts) c.state
-  unfolding paint_course painted_course
   writes_first turns s inner heard none =
       let p = paint_course [] s in
       let c = each (turn_course live_part) turns p.state in
       writes_twice s p.state c.state p.acts c.acts (paint_carried writes_carries 0 [] s)
-      (writes_turns turns None p.state inner heard none)
+      (writes_turns turns None p.state inner heard
+      (ap (λ (u : LiveState). u.unwritten) (paint_is [] s).state ∙ none))
 
   -- the journal begins first; a room has begun
   begins_by : Bool → LiveState → Course LiveState Stop
@@ -458,7 +469,7 @@ module _ (name start : List ℕ) (set : Setting) (kept : set.journal ≡ Some na
       → let c = begun live_part s opening heard in
       (c.state.setting ≡ set)
       × Journaled name start (Waits start c.state.unwritten) held [] c.acts
-  unfolding begun each turn_course given_course take_course paint_course painted_course onward mapped
+  unfolding begun each turn_course given_course take_course onward mapped
   begun_journaled s opening heard held is none starts =
       let t = knowing opening s in
       let writes =
@@ -467,7 +478,7 @@ module _ (name start : List ℕ) (set : Setting) (kept : set.journal ≡ Some na
       (start, refl, ap (λ lines. start ++ lines) none) in
       let p = paint_course [] t in
       let c = each (turn_course live_part) (heard_turns heard) p.state in
-      rw (open_is t is) (
+      rw (open_is t is, (paint_is [] t).goes) (
         writes.0,
         subst (Journaled name start (Waits start c.state.unwritten) held [])
             (sym (append_assoc (begins_by set.room t).acts p.acts c.acts))

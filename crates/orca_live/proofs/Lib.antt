@@ -1,6 +1,8 @@
 pub mod DoneLemmas
 pub mod Carried
 pub mod AppendingLaw
+pub mod SeatLemmas
+pub mod PaintLemmas
 pub mod PaintingLaw
 pub mod GivenLemmas
 pub mod ScriptLaw

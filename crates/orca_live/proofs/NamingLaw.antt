@@ -1,6 +1,6 @@
 -- Of hands that share a session each owns what came of its bytes, and nobody owns the frames of the
 -- clock.
-use Rattle.std.proofs.Common.{◌≡◌, ◌≢◌, ℕ, true, List, [], ◌∷◌, ◌++◌, length, refl, sym, ◌∙◌, ap, subst, append_assoc, append-nil}
+use Rattle.std.proofs.Common.{◌≡◌, ◌≢◌, ℕ, zero, suc, true, List, [], ◌∷◌, ◌++◌, length, refl, sym, ◌∙◌, ap, subst, append_assoc, append-nil}
 use Rattle.std.specs.Prelude.{Option, Some, None}
 use Rattle.std.specs.Option.{option_map_or}
 use Rattle.orca_base.specs.declared.command.Command.{Command}
@@ -32,8 +32,8 @@ use Rattle.orca_term.specs.declared.cell.Cell.{Cell}
 use Rattle.orca_live.specs.Carrying.{Carries, giver_of, midway_carried}
 use Rattle.orca_live.specs.Hands.{HandsShare, HasOwners, giver, owners_after, owners_given}
 use Rattle.orca_live.specs.Laws.{so_far}
-use Rattle.orca_live.specs.Performing.{hand_course, live_part, owning, painted_course, picture_at, view_sends}
-use Rattle.orca_live.specs.States.{LiveState}
+use Rattle.orca_live.specs.Performing.{hand_course, live_part, owning, picture_course, picture_for, view_acts}
+use Rattle.orca_live.specs.States.{LiveState, view_at}
 use Rattle.orca_live.proofs.OwningLaw.{led, owning_obeyed, owns_by, owns_same, owns_so_far, spares_allowed, spares_key}
 
 -- ---- acts of a hand
@@ -123,21 +123,23 @@ names_command who c s other has =
     }
 
 -- what is shown is of nobody
-views_owners : (who : ℕ) (bytes : List ℕ) (cells : List Cell) (ys : List Act) (m : MachineState)
-    (owners : List Owner)
-    → owners_after who ((view_sends bytes ++ Show cells ∷ []) ++ ys) m owners
+views_owners : (who hand : ℕ) (bytes : List ℕ) (cells : List Cell) (ys : List Act)
+    (m : MachineState) (owners : List Owner)
+    → owners_after who ((view_acts hand bytes ++ Show hand cells ∷ []) ++ ys) m owners
     ≡ owners_after who ys m owners
-views_owners who [] cells ys m owners = refl
-views_owners who (byte ∷ bytes) cells ys m owners = refl
+views_owners who hand [] cells ys m owners = refl
+views_owners who zero (byte ∷ bytes) cells ys m owners = refl
+views_owners who (suc hand) (byte ∷ bytes) cells ys m owners = refl
 
-names_paint : (who : ℕ) (marks : List MarkSet) (s : LiveState)
-    → Names who s (painted_course marks s).acts (painted_course marks s).state
-unfolding painted_course
-names_paint who marks s has =
-    let cells = picture_at marks s in
+names_paint : (who : ℕ) (marks : List MarkSet) (hand : ℕ) (s : LiveState)
+    → let c = picture_course marks hand s in Names who s c.acts c.state
+unfolding picture_course
+names_paint who marks hand s has =
+    let cells = picture_for hand marks s in
+    let v = view_at hand s in
     record {
       has = owns_same s _ refl refl has;
-      owners = λ ys. views_owners who (painting_bytes s.screen s.shown cells) cells ys _ _;
+      owners = λ ys. views_owners who hand (painting_bytes v.screen v.shown cells) cells ys _ _;
     }
 
 -- an act that is nothing to the owners
@@ -160,8 +162,8 @@ names_carries = record {
   save = λ who name bytes s saved. names_aside who _ s (λ ys m owners. refl);
   append = λ who name byte bytes s named is has.
       record { has = owns_same s _ refl refl has; owners = λ ys. refl };
-  paint = names_paint;
-  screen = λ who d s is has.
+  paint = λ who marks hand s is. names_paint who marks hand s;
+  screen = λ who hand d s is has.
       record { has = owns_same s _ refl refl has; owners = λ ys. refl };
 }
 

@@ -32,8 +32,8 @@ use Rattle.orca_live.specs.Carrying.{Carries}
 use Rattle.orca_live.proofs.Carried.{Anyhow, begun_carried}
 use Rattle.orca_live.specs.Hands.{HasOwners, StartsWithOwners}
 use Rattle.orca_live.specs.Laws.{so_far}
-use Rattle.orca_live.specs.Performing.{hand_course, denied_course, key_course, obeyed_by, owning, painted_course, struck_course, struck_where, wish_course}
-use Rattle.orca_live.specs.States.{LiveState, around_at, fitted}
+use Rattle.orca_live.specs.Performing.{hand_course, denied_course, key_course, obeyed_by, owning, picture_course, struck_course, struck_where, wish_course}
+use Rattle.orca_live.specs.States.{LiveState, around_at, fitted, unpainted, with_view}
 
 -- the last edit is in the history
 edit_by : (last : Option ℕ) (edit : Bool) (n i : ℕ) → ((j : ℕ) → last ≡ Some j → j < n)
@@ -209,9 +209,10 @@ unfolding hand_course obey_course onward mapped
 owns_command who c s may has =
     owns_by who c s (rule_against s.standing.machine c) refl (may has.shared) has
 
-owns_paint : (marks : List MarkSet) (s : LiveState) → Owns s [] (painted_course marks s).state
-unfolding painted_course
-owns_paint marks s has = owns_same s (painted_course marks s).state refl refl has
+owns_paint : (marks : List MarkSet) (hand : ℕ) (s : LiveState)
+    → Owns s [] (picture_course marks hand s).state
+unfolding picture_course
+owns_paint marks hand s has = owns_same s (picture_course marks hand s).state refl refl has
 
 owns_carries : Carries (Anyhow Owns)
 owns_carries = record {
@@ -225,14 +226,14 @@ owns_carries = record {
   save = λ who name bytes s saved has. has;
   append = λ who name byte bytes s named is has.
       owns_same s (record s { unwritten = [] }) refl refl has;
-  paint = λ who. owns_paint;
-  screen = λ who d s is has. owns_same s (record s { screen = d; shown = None }) refl refl has;
+  paint = λ who marks hand s is. owns_paint marks hand s;
+  screen = λ who hand d s is has. owns_same s (with_view hand (unpainted d) s) refl refl has;
 }
 
 -- ---- a performance
 
 pub starts_with_owners : StartsWithOwners
-starts_with_owners set hands room at begins none fits = record {
+starts_with_owners set full views hands room at begins none fits = record {
   shared = refl;
   fits = rw none (omega arith);
   room = fits;

@@ -30,9 +30,9 @@ use Rattle.orca_live.proofs.Carried.{Anyhow, Attends, begun_carried}
 use Rattle.orca_live.specs.Hands.{after_commands}
 use Rattle.orca_live.specs.Journals.{LeadsBack}
 use Rattle.orca_live.specs.Laws.{GoesOn, Replays, ReplaysScript, replayed, so_far}
-use Rattle.orca_live.specs.Performing.{hand_course, live_part, painted_course, take_course}
+use Rattle.orca_live.specs.Performing.{hand_course, live_part, picture_course, take_course}
 use Rattle.orca_live.specs.States.{LiveState}
-use Rattle.orca_live.proofs.GivenLemmas.{command_once, finish_closes, paint_commands}
+use Rattle.orca_live.proofs.GivenLemmas.{command_once, finish_closes, picture_commands}
 
 -- ---- commands, one after another
 
@@ -79,11 +79,11 @@ keeps_command : (who : ℕ) (command : Command) (s : LiveState)
 unfolding hand_course obey_course onward mapped
 keeps_command who command s = ap (λ commands. after commands s) (sym (command_once who command s))
 
-keeps_paint : (marks : List MarkSet) (s : LiveState)
-    → Keeps s (painted_course marks s).acts (painted_course marks s).state
-unfolding painted_course
-keeps_paint marks s =
-    keeps_none s ∙ ap (λ commands. after commands s) (sym (paint_commands marks s))
+keeps_paint : (marks : List MarkSet) (hand : ℕ) (s : LiveState)
+    → let c = picture_course marks hand s in Keeps s c.acts c.state
+unfolding picture_course
+keeps_paint marks hand s =
+    keeps_none s ∙ ap (λ commands. after commands s) (sym (picture_commands marks hand s))
 
 keeps_carries : Carries (Anyhow Keeps)
 keeps_carries = record {
@@ -96,8 +96,8 @@ keeps_carries = record {
   denied = λ who hand denial s. keeps_none s;
   save = λ who name bytes s saved. keeps_none s;
   append = λ who name byte bytes s named is. keeps_none s;
-  paint = λ who. keeps_paint;
-  screen = λ who d s is. keeps_none s;
+  paint = λ who marks hand s is. keeps_paint marks hand s;
+  screen = λ who hand d s is. keeps_none s;
 }
 
 keeps_attends : Attends Keeps

@@ -40,9 +40,9 @@ use Rattle.orca_term.specs.declared.editor.Wish.{Wish}
 use Rattle.orca_term.specs.declared.editor.Wish.TheVariants as wish
 use Rattle.orca_term.specs.declared.keys.Key.{Key}
 use Rattle.orca_live.specs.Items.{ByteOf, HeardItem, items_of}
-use Rattle.orca_live.specs.Performing.{answered_at, byte_course, due_course, finish_course, fired, frame_course, hand_course, header_course, hush_course, if_named, item_course, journal_course, key_course, knowing, last_grid_course, last_script_course, lines_course, live_part, lull_course, open_course, owning, paint_course, painted_course, press_course, preview_course, read_course, save_course, saves_course, script_course, show_course, struck_course, struck_where, take_course, update_course, wish_course, write_course}
+use Rattle.orca_live.specs.Performing.{answered_at, byte_course, due_course, finish_course, fired, frame_course, hand_course, header_course, hush_course, if_named, item_course, journal_course, key_course, knowing, last_grid_course, last_script_course, lines_course, live_part, lull_course, open_course, owning, paint_course, painted_course, picture_course, press_course, preview_course, read_course, save_course, saves_course, script_course, show_course, struck_course, struck_where, take_course, update_course, wish_course, write_course}
 use Rattle.orca_live.specs.Solo.{HasNoRedo, IsSolo, PlaysAlone, as_alone, redo_byte}
-use Rattle.orca_live.specs.States.{LiveState, around_at, begun_name, dims_at, fitted, hands_in, is_full, is_hand, leader_at, piece_at}
+use Rattle.orca_live.specs.States.{LiveState, around_at, begun_name, dims_at, fitted, hands_in, is_full, is_hand, is_viewer, leader_at, piece_at}
 use Rattle.orca_live.proofs.RedoKey.{IsOther, IsSpared, is_redo, turn_other}
 use Rattle.orca_live.proofs.WorthLemmas.{all_counted, worth_of}
 
@@ -110,7 +110,7 @@ named_agrees (Some name) next agrees s solo = agrees name s solo
 -- ---- crews
 
 abbrev lone_crew : CrewState → CrewState
-lone_crew c = record c { alone = true; owners = []; room = 0 }
+lone_crew c = record c { alone = true; views = false; owners = []; room = 0 }
 
 -- a crew with as many players
 players_solo : (c : CrewState) (players : List Player) → IsSolo c
@@ -217,10 +217,10 @@ press_agrees (Some k) other s solo =
 read_agrees : (item : KeyItem) → IsSpared item → Alike (read_course LEADER item)
 unfolding read_course
 read_agrees item spared s solo =
-    let full = s.setting.full in
+    let full = s.crew.full in
     let keys = (player_at s.crew LEADER).keys in
     press_agrees (turn full keys item).key (turn_other full keys item spared)
-    (record s { crew = turned_by full LEADER item s.crew }) (player_solo s.crew _ solo)
+    (record s { crew = turned_by LEADER item s.crew }) (player_solo s.crew _ solo)
 
 -- another hand is none of the crew
 no_other : (hand : ℕ) (c : CrewState) → IsSolo c → nat_lt (suc hand) (length c.players) ≡ false
@@ -257,9 +257,22 @@ due_agrees s solo =
 
 -- ---- what is shown and written
 
+painted_agrees : (marks : List MarkSet) (hand : ℕ) → Alike (painted_course marks hand)
+unfolding painted_course picture_course
+painted_agrees marks hand s solo =
+    if_agrees (is_viewer hand s) (agreed (picture_course marks hand s) solo) (agreed (still s) solo)
+
+paints_agree : (marks : List MarkSet) (hands : List ℕ)
+    → Alike (each (painted_course marks) hands)
+unfolding each
+paints_agree marks [] s solo = agreed _ solo
+paints_agree marks (hand ∷ hands) s solo =
+    onward_agrees (each (painted_course marks) hands) (painted_agrees marks hand s solo)
+    (λ on. paints_agree marks hands)
+
 paint_agrees : (marks : List MarkSet) → Alike (paint_course marks)
-unfolding paint_course painted_course
-paint_agrees marks s solo = agreed _ (fitted_solo s solo)
+unfolding paint_course
+paint_agrees marks s solo = paints_agree marks (hands_in s) (fitted s) (fitted_solo s solo)
 
 show_agrees : Alike show_course
 unfolding show_course preview_course

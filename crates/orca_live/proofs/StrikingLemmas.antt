@@ -12,7 +12,7 @@ use Rattle.orca_base.specs.Ports.{Sent}
 use Rattle.orca_concert.specs.Concerts.{command_course as obey_course, handed_of}
 use Rattle.orca_course.specs.Acts.{Act, gives, keys_in}
 use Rattle.orca_course.specs.Acts.Act.{Show, Stand, Strike}
-use Rattle.orca_course.specs.Courses.{Course, ended, mapped, onward, still}
+use Rattle.orca_course.specs.Courses.{Course, each, ended, mapped, onward, still}
 use Rattle.orca_course.specs.Standings.{Standing, standing_after}
 use Rattle.orca_course.specs.declared.ending.Stop.{Stop}
 use Rattle.orca_course.specs.declared.ending.Stop.TheVariants.{Full}
@@ -32,8 +32,8 @@ use Rattle.orca_term.specs.declared.editor.Wish.TheVariants as wish
 use Rattle.orca_term.specs.declared.keys.Key.{Key}
 use Rattle.orca_live.specs.Hands.{Change, IsMadeBy, editor_by, key_of, keys_of}
 use Rattle.orca_live.specs.Hands.Change.{Denied, Fitted, Struck}
-use Rattle.orca_live.specs.Performing.{additions, denied_course, fired, hand_course, header_course, if_named, journal_course, key_course, lines_course, open_course, paint_course, painted_course, press_course, preview_course, read_course, save_course, show_course, struck_course, struck_where, update_course, view_sends, wish_course, write_course}
-use Rattle.orca_live.specs.States.{LiveState, around_at, begun_name, dims_at, editor_at, fitted, is_hand, leader_at, piece_at}
+use Rattle.orca_live.specs.Performing.{additions, denied_course, fired, hand_course, header_course, if_named, journal_course, key_course, lines_course, open_course, paint_course, painted_course, picture_course, press_course, preview_course, read_course, save_course, show_course, struck_course, struck_where, update_course, view_acts, wish_course, write_course}
+use Rattle.orca_live.specs.States.{LiveState, around_at, begun_name, dims_at, editor_at, fitted, hands_in, is_hand, is_viewer, leader_at, piece_at}
 use Rattle.orca_live.proofs.CuttingLaw.{owning_hands}
 
 -- ---- keys among acts
@@ -149,10 +149,10 @@ strikes_same hand s acts t none same = record {
 
 -- a reader was given an item
 strikes_turned : (hand other : ℕ) (item : Item) (s : LiveState)
-    → Strikes hand [] s [] (record s { crew = turned_by s.setting.full other item s.crew })
+    → Strikes hand [] s [] (record s { crew = turned_by other item s.crew })
 strikes_turned hand other item s = record {
   own = refl;
-  moves = made_none _ _ (editor_turned s.setting.full item s.crew.players other hand);
+  moves = made_none _ _ (editor_turned s.crew.full item s.crew.players other hand);
 }
 
 -- ---- commands
@@ -290,14 +290,14 @@ press_other hand other (Some key) s differs =
 
 -- an item of a hand ends its keys, and none of another one's
 pub read_own : (hand : ℕ) (item : Item) (s : LiveState) → is_hand hand s ≡ true
-    → Strikes hand (key_of (turn s.setting.full (player_at s.crew hand).keys item).key) s
+    → Strikes hand (key_of (turn s.crew.full (player_at s.crew hand).keys item).key) s
     (read_course hand item s).acts (read_course hand item s).state
 unfolding read_course
 read_own hand item s is =
-    let full = s.setting.full in
+    let full = s.crew.full in
     let key = (turn full (player_at s.crew hand).keys item).key in
     let p : Player = turned_player full item (player_at s.crew hand) in
-    let t : LiveState = record s { crew = turned_by full hand item s.crew } in
+    let t : LiveState = record s { crew = turned_by hand item s.crew } in
     let c = press_course hand key t in
     let below = subst (λ (n : ℕ). hand < n) (sym (length-set s.crew.players hand p))
     (ltb-true hand (length s.crew.players) is) in
@@ -308,9 +308,9 @@ pub read_other : (hand other : ℕ) (item : Item) (s : LiveState) → (other == 
     → Strikes hand [] s (read_course other item s).acts (read_course other item s).state
 unfolding read_course
 read_other hand other item s differs =
-    let full = s.setting.full in
+    let full = s.crew.full in
     let key = (turn full (player_at s.crew other).keys item).key in
-    let t : LiveState = record s { crew = turned_by full other item s.crew } in
+    let t : LiveState = record s { crew = turned_by other item s.crew } in
     let c = press_course other key t in
     strikes_twice hand [] [] s t c.state [] c.acts (strikes_turned hand other item s)
     (press_other hand other key t differs)
@@ -359,21 +359,43 @@ journal_silent hand s =
     silent_named hand (begun_name s.setting) header_course s
     (λ name. record { strikes = strikes_same hand s _ _ refl refl; goes = refl })
 
-views_keys : (hand : ℕ) (bytes : List ℕ) (cells : List Cell)
-    → keys_in hand (view_sends bytes ++ Show cells ∷ []) ≡ []
-views_keys hand [] cells = refl
-views_keys hand (byte ∷ bytes) cells = refl
+views_keys : (hand to : ℕ) (bytes : List ℕ) (cells : List Cell)
+    → keys_in hand (view_acts to bytes ++ Show to cells ∷ []) ≡ []
+views_keys hand to [] cells = refl
+views_keys hand zero (byte ∷ bytes) cells = refl
+views_keys hand (suc to) (byte ∷ bytes) cells = refl
+
+painted_if : (is : Bool) (hand to : ℕ) (marks : List MarkSet) (s : LiveState)
+    → IsSilent hand s (if is then picture_course marks to s else still s)
+unfolding picture_course
+painted_if true hand to marks s = record {
+  strikes = strikes_same hand s _ _ (views_keys hand to _ _) refl;
+  goes = refl;
+}
+painted_if false hand to marks s =
+    record { strikes = strikes_same hand s [] s refl refl; goes = refl }
+
+paints_silent : (hand : ℕ) (marks : List MarkSet) (hands : List ℕ) (s : LiveState)
+    → IsSilent hand s (each (painted_course marks) hands s)
+unfolding each painted_course
+paints_silent hand marks [] s = record { strikes = strikes_same hand s [] s refl refl; goes = refl }
+paints_silent hand marks (to ∷ hands) s =
+    silent_then hand s (painted_course marks to s) (each (painted_course marks) hands)
+    (painted_if (is_viewer to s) hand to marks s) (paints_silent hand marks hands)
 
 paint_silent : (hand : ℕ) (marks : List MarkSet) (s : LiveState)
     → IsSilent hand s (paint_course marks s)
-unfolding paint_course painted_course
-paint_silent hand marks s = record {
-  strikes = record {
-    own = views_keys hand _ _;
-    moves = fitted_made (dims_at s) s.crew.players hand;
-  };
-  goes = refl;
-}
+unfolding paint_course
+paint_silent hand marks s =
+    let silent = paints_silent hand marks (hands_in s) (fitted s) in
+    record {
+      strikes = record {
+        own = silent.strikes.own;
+        moves = made_twice [] [] _ _ _ (fitted_made (dims_at s) s.crew.players hand)
+            silent.strikes.moves;
+      };
+      goes = silent.goes;
+    }
 
 show_silent : (hand : ℕ) (s : LiveState) → IsSilent hand s (show_course s)
 unfolding show_course preview_course

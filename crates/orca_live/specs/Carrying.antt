@@ -35,16 +35,15 @@ use Rattle.orca_term.specs.declared.keys.Key.{Key}
 use Rattle.orca_term.specs.declared.keys.Key.TheVariants as key
 use Rattle.orca_term.specs.declared.keys.Pending.{Pending}
 use Rattle.orca_term.specs.declared.keys.Pending.TheVariants.{Nothing, Lone, Sequence, Overlong}
-use Rattle.orca_live.specs.Performing.{additions, answered_at, byte_course, denied_course, due_course, finish_course, fired, frame_course, hand_course, header_course, hush_course, if_named, item_course, journal_course, key_course, knowing, last_grid_course, last_script_course, lines_course, lull_course, open_course, paced, paint_course, painted_course, press_course, preview_course, read_course, save_course, saves_course, script_course, show_course, struck_course, struck_where, take_course, telling, toggled, update_course, wish_course, write_course}
-use Rattle.orca_live.specs.States.{LiveState, Setting, around_at, begun_name, dims_at, fitted, hands_in, is_full, is_hand, key_name, leader_at, piece_at}
+use Rattle.orca_live.specs.Performing.{additions, answered_at, byte_course, denied_course, due_course, finish_course, fired, frame_course, hand_course, header_course, hush_course, if_named, item_course, journal_course, key_course, knowing, last_grid_course, last_script_course, lines_course, lull_course, open_course, paced, paint_course, painted_course, picture_course, press_course, preview_course, read_course, save_course, saves_course, script_course, show_course, struck_course, struck_where, take_course, telling, toggled, update_course, wish_course, write_course}
+use Rattle.orca_live.specs.States.{LiveState, Setting, around_at, begun_name, dims_at, fitted, hands_in, is_full, is_hand, is_viewer, key_name, leader_at, piece_at, screen_at, unpainted, with_view}
 
--- two states are the same to the session, to the terminal, to the script and to the journal, and
+-- two states are the same to the session, to the terminals, to the script and to the journal, and
 -- have as many hands, of which only the keys and the editors may differ
 pub record LooksAlike (s t : LiveState) : Type 0 where
   pub setting : t.setting ≡ s.setting
   pub standing : t.standing ≡ s.standing
-  pub screen : t.screen ≡ s.screen
-  pub shown : t.shown ≡ s.shown
+  pub views : t.views ≡ s.views
   pub given : t.given ≡ s.given
   pub unwritten : t.unwritten ≡ s.unwritten
   pub hands : length t.crew.players ≡ length s.crew.players
@@ -59,8 +58,7 @@ looks_so : (s : LiveState) (players : List Player) (pace : Pace) (at : ℕ) (cam
 looks_so s players pace at came hands = record {
   setting = refl;
   standing = refl;
-  screen = refl;
-  shown = refl;
+  views = refl;
   given = refl;
   unwritten = refl;
   hands = hands;
@@ -72,8 +70,7 @@ looks_loose : (s : LiveState) (loose : Bool) → LooksAlike s (record s { loose 
 looks_loose s loose = record {
   setting = refl;
   standing = refl;
-  screen = refl;
-  shown = refl;
+  views = refl;
   given = refl;
   unwritten = refl;
   hands = refl;
@@ -122,10 +119,10 @@ pub record Carries (holds : Holds) : Type 0 where
   pub append : (who : ℕ) (name : List ℕ) (byte : ℕ) (bytes : List ℕ) (s : LiveState)
       → s.setting.journal ≡ Some name → s.unwritten ≡ byte ∷ bytes
       → holds who None s (Append name (byte ∷ bytes) ∷ []) (record s { unwritten = [] })
-  pub paint : (who : ℕ) (marks : List MarkSet) (s : LiveState)
-      → Along holds who (painted_course marks s) s
-  pub screen : (who : ℕ) (d : ScreenSize) (s : LiveState) → IsScreen d
-      → holds who None s (Screen d ∷ []) (record s { screen = d; shown = None })
+  pub paint : (who : ℕ) (marks : List MarkSet) (hand : ℕ) (s : LiveState)
+      → is_viewer hand s ≡ true → Along holds who (picture_course marks hand s) s
+  pub screen : (who hand : ℕ) (d : ScreenSize) (s : LiveState) → IsScreen d
+      → holds who None s (Screen hand d ∷ []) (with_view hand (unpainted d) s)
 
 -- the pause
 toggled_by : (paused : Bool) (s t : LiveState) → LooksAlike s t
@@ -213,8 +210,8 @@ module _ {holds : Holds} (carry : Carries holds) where
   wish_carried hand (wish.Faster beats) s other =
       let bpm = faster beats s.pace.bpm in carry.none hand s (paced bpm s) (paced_alike bpm s)
   wish_carried hand (wish.Redraw size) s other =
-      let d = unwrap_or size s.screen in
-      carry.screen hand (screen_inside d) s (inside_is_screen d)
+      let d = unwrap_or size (screen_at hand s) in
+      carry.screen hand hand (screen_inside d) s (inside_is_screen d)
 
   where_carried : (hand : ℕ) (key : Key) (s : LiveState) (denial : Option Denial)
       → denial_of s.crew hand key ≡ denial → Along holds hand (struck_where hand key s denial) s
@@ -274,12 +271,12 @@ module _ {holds : Holds} (carry : Carries holds) where
   read_by : (is : Bool) (who hand : ℕ) (item : KeyItem) (s : LiveState)
       → ((t : LiveState)
       → Along holds who
-      (press_course hand (turn s.setting.full (player_at s.crew hand).keys item).key t) t)
+      (press_course hand (turn s.crew.full (player_at s.crew hand).keys item).key t) t)
       → Along holds who (if is then read_course hand item s else still s) s
   unfolding read_course
   read_by true who hand item s more =
-      let t : LiveState = record s { crew = turned_by s.setting.full hand item s.crew } in
-      let key = (turn s.setting.full (player_at s.crew hand).keys item).key in
+      let t : LiveState = record s { crew = turned_by hand item s.crew } in
+      let key = (turn s.crew.full (player_at s.crew hand).keys item).key in
       from_alike who s t (press_course hand key t)
       (looks_so s t.crew.players s.pace s.at s.came (length-set s.crew.players hand _)) (more t)
   read_by false who hand item s more = carry.none who s s (looks_same s)
@@ -287,7 +284,7 @@ module _ {holds : Holds} (carry : Carries holds) where
   read_carried : (who hand : ℕ) (item : KeyItem) (s : LiveState)
       → ((t : LiveState)
       → Along holds who
-      (press_course hand (turn s.setting.full (player_at s.crew hand).keys item).key t) t)
+      (press_course hand (turn s.crew.full (player_at s.crew hand).keys item).key t) t)
       → Along holds who (item_course hand item s) s
   unfolding item_course
   read_carried who hand item s more = read_by (is_hand hand s) who hand item s more
@@ -322,12 +319,32 @@ module _ {holds : Holds} (carry : Carries holds) where
 
   -- ---- what is shown and written
 
+  painted_by : (is : Bool) (who : ℕ) (marks : List MarkSet) (hand : ℕ) (s : LiveState)
+      → is_viewer hand s ≡ is
+      → Along holds who (if is then picture_course marks hand s else still s) s
+  painted_by true who marks hand s is = carry.paint who marks hand s is
+  painted_by false who marks hand s is = carry.none who s s (looks_same s)
+
+  painted_carried : (who : ℕ) (marks : List MarkSet) (hand : ℕ) (s : LiveState)
+      → Along holds who (painted_course marks hand s) s
+  unfolding painted_course
+  painted_carried who marks hand s = painted_by (is_viewer hand s) who marks hand s refl
+
+  pub paints_carried : (who : ℕ) (marks : List MarkSet) (hands : List ℕ) (s : LiveState)
+      → Along holds who (each (painted_course marks) hands s) s
+  unfolding each onward
+  paints_carried who marks [] s = carry.none who s s (looks_same s)
+  paints_carried who marks (hand ∷ hands) s =
+      let c = painted_course marks hand s in
+      onward_carried who s c.ending c (each (painted_course marks) hands) refl
+      (painted_carried who marks hand s) (paints_carried who marks hands)
+
   pub paint_carried : (who : ℕ) (marks : List MarkSet) (s : LiveState)
       → Along holds who (paint_course marks s) s
   unfolding paint_course
   paint_carried who marks s =
-      from_alike who s (fitted s) (painted_course marks (fitted s)) (looks_fitted s)
-      (carry.paint who marks (fitted s))
+      from_alike who s (fitted s) (each (painted_course marks) (hands_in s) (fitted s))
+      (looks_fitted s) (paints_carried who marks (hands_in s) (fitted s))
 
   show_carried : (who : ℕ) (s : LiveState) → Along holds who (show_course s) s
   unfolding show_course preview_course
@@ -340,8 +357,7 @@ module _ {holds : Holds} (carry : Carries holds) where
       carry.none who s (record s { unwritten = [] }) (record {
         setting = refl;
         standing = refl;
-        screen = refl;
-        shown = refl;
+        views = refl;
         given = refl;
         unwritten = sym is;
         hands = refl;
@@ -355,7 +371,7 @@ module _ {holds : Holds} (carry : Carries holds) where
   written_by who None s named = carry.none who s s (looks_same s)
   written_by who (Some name) s named = added_carried who name s.unwritten s named refl
 
-  write_carried : (who : ℕ) (s : LiveState) → Along holds who (write_course s) s
+  pub write_carried : (who : ℕ) (s : LiveState) → Along holds who (write_course s) s
   unfolding write_course
   write_carried who s = written_by who s.setting.journal s refl
 

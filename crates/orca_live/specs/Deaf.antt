@@ -1,23 +1,29 @@
--- A player does not ask the inbox: the loop alone does.
-use Rattle.std.proofs.Common.{ℕ, List, [], ◌∷◌, ◌++◌}
+-- A player does not ask the inbox: the loop alone does. And it is always the same hands that are
+-- shown a picture.
+use Rattle.std.proofs.Common.{◌≡◌, ℕ, zero, suc, List, [], ◌∷◌, ◌++◌, length, refl, ◌∙◌, ap}
+use Rattle.std.proofs.lemmas.List.{length-set}
 use Rattle.orca_base.specs.declared.command.Command.{Command}
 use Rattle.orca_base.specs.MarkSet.{MarkSet}
-use Rattle.orca_concert.specs.Concerts.{concert_with}
+use Rattle.orca_concert.specs.Concerts.{command_course as obey_course, close_course as silence_course, concert_with}
 use Rattle.orca_concert.proofs.DeafLemmas.{close_is_deaf, command_is_deaf}
 use Rattle.orca_course.specs.Acts.{Act, AreDeaf}
 use Rattle.orca_course.specs.Acts.Act.{Show}
-use Rattle.orca_course.specs.Courses.{mapped}
-use Rattle.orca_course.specs.Performers.{IsDeaf}
+use Rattle.orca_course.specs.Courses.{mapped, onward}
+use Rattle.orca_course.specs.Performers.{IsDeaf, KeepsSeats}
 use Rattle.orca_course.proofs.ActLemmas.{AreDeaf-append}
 use Rattle.orca_term.specs.Viewing.{painting_bytes}
-use Rattle.orca_live.specs.Performing.{hand_course, hush_course, live_part, painted_course, picture_at, view_sends}
+use Rattle.orca_live.specs.Performing.{hand_course, hush_course, live_part, picture_course, picture_for, view_acts}
 use Rattle.orca_live.specs.Quiet.{silent_manner}
-use Rattle.orca_live.specs.States.{LiveState}
+use Rattle.orca_live.specs.States.{LiveState, Viewed, view_at}
 use Rattle.orca_live.specs.Carrying.{Carries, take_carried}
 
-deaf_views : (bytes : List ℕ) (acts : List Act) → AreDeaf acts → AreDeaf (view_sends bytes ++ acts)
-deaf_views [] acts deaf = deaf
-deaf_views (byte ∷ bytes) acts deaf = deaf
+-- ---- the inbox
+
+deaf_views : (hand : ℕ) (bytes : List ℕ) (acts : List Act) → AreDeaf acts
+    → AreDeaf (view_acts hand bytes ++ acts)
+deaf_views hand [] acts deaf = deaf
+deaf_views zero (byte ∷ bytes) acts deaf = deaf
+deaf_views (suc hand) (byte ∷ bytes) acts deaf = deaf
 
 command_deaf : (who : ℕ) (command : Command) (s : LiveState)
     → AreDeaf (hand_course who command s).acts
@@ -29,13 +35,15 @@ close_deaf : (s : LiveState) → AreDeaf (hush_course s).acts
 unfolding hush_course mapped
 close_deaf s = close_is_deaf silent_manner (concert_with s.standing tt)
 
-paint_deaf : (marks : List MarkSet) (s : LiveState) → AreDeaf (painted_course marks s).acts
-unfolding painted_course
-paint_deaf marks s =
-    let cells = picture_at marks s in
-    deaf_views (painting_bytes s.screen s.shown cells) (Show cells ∷ []) tt
+picture_deaf : (marks : List MarkSet) (hand : ℕ) (s : LiveState)
+    → AreDeaf (picture_course marks hand s).acts
+unfolding picture_course
+picture_deaf marks hand s =
+    let cells = picture_for hand marks s in
+    let v = view_at hand s in
+    deaf_views hand (painting_bytes v.screen v.shown cells) (Show hand cells ∷ []) tt
 
-deaf_carries : Carries (λ who end r xs t. AreDeaf xs)
+pub deaf_carries : Carries (λ who end r xs t. AreDeaf xs)
 deaf_carries = record {
   none = λ who s t alike. tt;
   both = λ who end r s t xs ys first second. AreDeaf-append xs ys first second;
@@ -46,10 +54,52 @@ deaf_carries = record {
   denied = λ who hand denial s. tt;
   save = λ who name bytes s saved. tt;
   append = λ who name byte bytes s named is. tt;
-  paint = λ who. paint_deaf;
-  screen = λ who d s is. tt;
+  paint = λ who marks hand s is. picture_deaf marks hand s;
+  screen = λ who hand d s is. tt;
 }
 
 pub live_is_deaf : IsDeaf live_part
 unfolding IsDeaf
 live_is_deaf i s = take_carried deaf_carries (λ who name s. tt) (λ who. close_deaf) 0 i s
+
+-- ---- the hands that are shown a picture
+
+command_views : (who : ℕ) (command : Command) (s : LiveState)
+    → (hand_course who command s).state.views ≡ s.views
+unfolding hand_course obey_course onward mapped
+command_views who command s = refl
+
+close_views : (s : LiveState) → (hush_course s).state.views ≡ s.views
+unfolding hush_course silence_course onward mapped
+close_views s = refl
+
+picture_views : (marks : List MarkSet) (hand : ℕ) (s : LiveState)
+    → length (picture_course marks hand s).state.views ≡ length s.views
+unfolding picture_course
+picture_views marks hand s = length-set s.views hand _
+
+-- as many
+pub same_views : (s t : LiveState) → t.views ≡ s.views → length t.views ≡ length s.views
+same_views s t same = ap (λ (views : List Viewed). length views) same
+
+pub views_carries : Carries (λ who end s acts t. length t.views ≡ length s.views)
+views_carries = record {
+  none = λ who s t alike. same_views s t alike.views;
+  both = λ who end r s t xs ys first second. second ∙ first;
+  leaves = λ who s. refl;
+  full = λ s is. refl;
+  command = λ who command s other.
+      same_views s (hand_course who command s).state (command_views who command s);
+  struck = λ who hand key s. refl;
+  denied = λ who hand denial s. refl;
+  save = λ who name bytes s saved. refl;
+  append = λ who name byte bytes s named is. refl;
+  paint = λ who marks hand s is. picture_views marks hand s;
+  screen = λ who hand d s is. length-set s.views hand _;
+}
+
+pub live_is_steady : KeepsSeats live_part
+unfolding KeepsSeats
+live_is_steady i s =
+    take_carried views_carries (λ who name s. refl)
+    (λ who s. same_views s (hush_course s).state (close_views s)) 0 i s

@@ -102,13 +102,13 @@ pub record HearsEach (s : LiveState) : Type 0 where
       → let c = so_far s opening heard in
       c.ending ≡ None
       → (player_at c.state.crew hand).keys
-      ≡ pending_after s.setting.full (player_at s.crew hand).keys
+      ≡ pending_after s.crew.full (player_at s.crew hand).keys
       (items_for hand (items_of (length s.crew.players) heard))
   pub keys : (opening : Losses) (heard : List Hearing) (hand : ℕ) → is_hand hand s ≡ true
       → let c = so_far s opening heard in
       c.ending ≡ None
       → keys_in hand c.acts
-      ≡ keys_after s.setting.full (player_at s.crew hand).keys
+      ≡ keys_after s.crew.full (player_at s.crew hand).keys
       (items_for hand (items_of (length s.crew.players) heard))
   pub moves : (opening : Losses) (heard : List Hearing) (hand : ℕ) → is_hand hand s ≡ true
       → let c = so_far s opening heard in
@@ -130,9 +130,9 @@ pub record HasOwners (s : LiveState) : Type 0 where
 -- so it is where hands begin to share a session without a history
 abbrev pub StartsWithOwners : Type 0
 StartsWithOwners =
-    (set : Setting) (hands room at : ℕ) (begins : Standing)
+    (set : Setting) (full views : Bool) (hands room at : ℕ) (begins : Standing)
     → begins.machine.history ≡ [] → begins.machine.limit ≤ room
-    → HasOwners (live_at_start set (crew_at_start set.full hands room) at begins)
+    → HasOwners (live_at_start set (crew_at_start full views hands room) at begins)
 
 -- who gives the commands that an answer brings: the hand whose bytes came, or nobody, where a frame
 -- is due

@@ -1,6 +1,6 @@
 -- Laws of performances: more answers only add acts; how bytes were cut into answers changes no
 -- command; and the script that is saved, done again, leads to the same session.
-use Rattle.std.specs.Prelude.{◌≡◌, ◌≢◌, ℕ, List, length, [], ◌++◌, Some, None, Result}
+use Rattle.std.specs.Prelude.{◌≡◌, ◌≢◌, ℕ, List, length, map, [], ◌++◌, Some, None, Result}
 use Rattle.orca_base.specs.declared.command.Command.{Command}
 use Rattle.orca_base.specs.declared.command.Reply.{Reply}
 use Rattle.orca_base.specs.declared.command.Rule.{Rule}
@@ -19,7 +19,8 @@ use Rattle.orca_edit.specs.Obeying.{MachineState, machine_closed}
 use Rattle.orca_script.specs.Runs.{lines_behind}
 use Rattle.orca_live.specs.Items.{items_of}
 use Rattle.orca_live.specs.Performing.{live_part}
-use Rattle.orca_live.specs.States.{LiveState}
+use Rattle.orca_live.specs.States.{LiveState, Viewed}
+use Rattle.orca_term.specs.declared.cell.ScreenSize.{ScreenSize}
 
 -- a performance up to its end
 abbrev pub so_far : LiveState → Losses → List Hearing → Course LiveState Ending
@@ -43,13 +44,17 @@ OnlyAppends =
     (opening : Losses) (heard more : List Hearing) (s : LiveState)
     → AppendsActs (so_far s opening heard) (so_far s opening (heard ++ more))
 
--- two states with the same setting, session, hands, screen and kept commands; moments, the pace and
--- what is shown may differ
+-- the sizes of the terminals
+abbrev pub screens_of : List Viewed → List ScreenSize
+screens_of views = map (λ (v : Viewed). v.screen) views
+
+-- two states with the same setting, session, hands, screens and kept commands; moments, the pace
+-- and what is shown may differ
 pub record AreAlike (s t : LiveState) : Type 0 where
   pub setting : s.setting ≡ t.setting
   pub standing : s.standing ≡ t.standing
   pub crew : s.crew ≡ t.crew
-  pub screen : s.screen ≡ t.screen
+  pub screens : screens_of s.views ≡ screens_of t.views
   pub given : s.given ≡ t.given
 
 -- two performances that give the same commands, and lead to the same session and the same script

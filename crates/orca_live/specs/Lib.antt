@@ -4,6 +4,7 @@ pub mod Hands
 pub mod Items
 pub mod Journals
 pub mod Laws
+pub mod Marking
 pub mod Paintings
 pub mod Performing
 pub mod Quiet

@@ -1,5 +1,5 @@
 -- The definition of a performance: what is done for a key, for an item, and at the end.
-use Rattle.std.specs.Prelude.{ℕ, Bool, true, false, ◌||◌, nat_le, if◌then◌else◌, List, [], ◌∷◌, ◌++◌, length, Option, Some, None, unwrap_or}
+use Rattle.std.specs.Prelude.{ℕ, zero, Bool, true, false, ◌||◌, nat_le, if◌then◌else◌, List, [], ◌∷◌, ◌++◌, length, Option, Some, None, unwrap_or}
 use Rattle.std.specs.Option.{option_map}
 use Rattle.orca_base.specs.declared.command.Command.{Command}
 use Rattle.orca_base.specs.declared.command.Command.TheVariants.{Copy, Frame}
@@ -8,7 +8,7 @@ use Rattle.orca_base.specs.declared.port.Port.TheVariants as port
 use Rattle.orca_base.specs.MarkSet.{MarkSet}
 use Rattle.orca_concert.specs.Concerts.{Concert, concert_with, close_course as silence_course, command_course as obey_course}
 use Rattle.orca_course.specs.Acts.{Act}
-use Rattle.orca_course.specs.Acts.Act.{Append, Begin, Give, Save, Screen, Show, Strike}
+use Rattle.orca_course.specs.Acts.Act.{Append, Begin, Give, Save, Screen, Show, Strike, Tell}
 use Rattle.orca_course.specs.Courses.{Course, course, each, ended, joined, mapped, onward, still}
 use Rattle.orca_course.specs.Performers.{Part}
 use Rattle.orca_course.specs.Standings.{Standing}
@@ -32,11 +32,12 @@ use Rattle.orca_term.specs.Picture.{picture, scene_of, screen_inside}
 use Rattle.orca_term.specs.Viewing.{painting_bytes}
 use Rattle.orca_term.specs.declared.cell.Cell.{Cell}
 use Rattle.orca_term.specs.declared.cell.ScreenSize.{ScreenSize}
+use Rattle.orca_term.specs.declared.editor.Editor.{Editor}
 use Rattle.orca_term.specs.declared.editor.Wish.{Wish}
 use Rattle.orca_term.specs.declared.editor.Wish.TheVariants as wish
 use Rattle.orca_term.specs.declared.keys.Key.{Key}
 use Rattle.orca_live.specs.Quiet.{silent_manner}
-use Rattle.orca_live.specs.States.{LiveState, around_at, begun_name, fitted, hands_in, is_full, is_hand, key_name, leader_at, status_line_at, live_stance, piece_at, until_at}
+use Rattle.orca_live.specs.States.{LiveState, around_at, begun_name, editor_at, fitted, hands_in, is_full, is_hand, is_viewer, key_name, leader_at, live_stance, piece_at, screen_at, status_line_at, unpainted, until_at, view_at, with_view}
 
 -- what is done under a name, if there is one
 abbrev pub if_named : Option (List ℕ) → (List ℕ → LiveState → Course LiveState Stop) → LiveState
@@ -139,9 +140,9 @@ toggled s = if (leader_at s).paused then s else record s { pace = pace_from s.pa
 abbrev pub paced : ℕ → LiveState → LiveState
 paced bpm s = record s { pace = retimed bpm s.pace }
 
--- from here on the terminal has this size, and shows whatever it shows
-abbrev pub redrawn : ScreenSize → LiveState → Course LiveState Stop
-redrawn d s = course (Screen d ∷ []) 0 (record s { screen = d; shown = None })
+-- from here on the terminal of a hand has this size, and shows whatever it shows
+abbrev pub redrawn : ℕ → ScreenSize → LiveState → Course LiveState Stop
+redrawn hand d s = course (Screen hand d ∷ []) 0 (with_view hand (unpainted d) s)
 
 -- what a key of a hand asks for, once its editor has changed
 unfoldable pub wish_course : ℕ → Wish → LiveState → Course LiveState Stop
@@ -152,7 +153,8 @@ wish_course hand wish.Save s = save_course (key_name s.setting) s
 wish_course hand wish.Quit s = ended Left s
 wish_course hand (wish.Slower beats) s = still (paced (slower beats s.pace.bpm) s)
 wish_course hand (wish.Faster beats) s = still (paced (faster beats s.pace.bpm) s)
-wish_course hand (wish.Redraw size) s = redrawn (screen_inside (unwrap_or size s.screen)) s
+wish_course hand (wish.Redraw size) s =
+    redrawn hand (screen_inside (unwrap_or size (screen_at hand s))) s
 
 -- a hand is told why its key is denied
 abbrev pub telling : ℕ → Denial → Act
@@ -186,8 +188,8 @@ press_course hand (Some key) s =
 -- the reader of a hand is given an item: a byte, or that nothing came for a while
 unfoldable pub read_course : ℕ → KeyItem → LiveState → Course LiveState Stop
 read_course hand item s =
-    press_course hand (turn s.setting.full (player_at s.crew hand).keys item).key
-    (record s { crew = turned_by s.setting.full hand item s.crew })
+    press_course hand (turn s.crew.full (player_at s.crew hand).keys item).key
+    (record s { crew = turned_by hand item s.crew })
 
 -- an item of a hand. What comes of a hand that there is not is dropped
 unfoldable pub item_course : ℕ → KeyItem → LiveState → Course LiveState Stop
@@ -220,36 +222,48 @@ due_course s = onward (lull_course s) frame_course
 
 -- ---- what is shown
 
--- a painting is sent as one piece, unless it is empty
-abbrev pub view_sends : List ℕ → List Act
-view_sends [] = []
-view_sends bytes = Give (record { port = port.View; bytes = bytes }) ∷ []
+-- a painting goes to its hand as one piece, unless it is empty: that of the first one is sent, and
+-- the others are told theirs
+abbrev pub view_acts : ℕ → List ℕ → List Act
+view_acts hand [] = []
+view_acts zero bytes = Give (record { port = port.View; bytes = bytes }) ∷ []
+view_acts hand bytes = Tell hand bytes ∷ []
 
--- the picture of the first hand, with these marks
-abbrev pub picture_at : List MarkSet → LiveState → List Cell
-picture_at marks s =
-    picture s.screen (scene_of (piece_at s).sheet marks (leader_at s)) (status_line_at s)
+-- the editor of a hand as its picture shows it: with the pause of the first one
+abbrev pub painted_editor : ℕ → LiveState → Editor
+painted_editor hand s = record (editor_at hand s) { paused = (leader_at s).paused }
 
--- the picture with these marks is painted, where the editors are fitted to the grid
-unfoldable pub painted_course : List MarkSet → LiveState → Course LiveState Stop
-painted_course marks s =
-    let cells = picture_at marks s in
-    course (view_sends (painting_bytes s.screen s.shown cells) ++ Show cells ∷ []) 0
-    (record s { shown = Some cells })
+-- the picture of a hand on its screen, with these marks
+abbrev pub picture_for : ℕ → List MarkSet → LiveState → List Cell
+picture_for hand marks s =
+    picture (screen_at hand s) (scene_of (piece_at s).sheet marks (painted_editor hand s))
+    (status_line_at s)
 
--- the picture with these marks is painted
+-- the picture of a hand is painted, where the editors are fitted to the grid
+unfoldable pub picture_course : List MarkSet → ℕ → LiveState → Course LiveState Stop
+picture_course marks hand s =
+    let v = view_at hand s in
+    let cells = picture_for hand marks s in
+    course (view_acts hand (painting_bytes v.screen v.shown cells) ++ Show hand cells ∷ []) 0
+    (with_view hand (record v { shown = Some cells }) s)
+
+-- if it is shown one
+unfoldable pub painted_course : List MarkSet → ℕ → LiveState → Course LiveState Stop
+painted_course marks hand s = if is_viewer hand s then picture_course marks hand s else still s
+
+-- the pictures with these marks are painted, in the order of the hands
 unfoldable pub paint_course : List MarkSet → LiveState → Course LiveState Stop
-paint_course marks s = painted_course marks (fitted s)
+paint_course marks s = each (painted_course marks) (hands_in s) (fitted s)
 
 -- a scan of the piece as it stands
 unfoldable pub preview_course : LiveState → Course LiveState Stop
 preview_course s = course [] (preview_price (piece_at s)) s
 
--- the picture with the marks of a scan
+-- the pictures with the marks of a scan
 unfoldable pub show_course : LiveState → Course LiveState Stop
 show_course s = joined (preview_course s) (paint_course (preview_of (piece_at s)) s)
 
--- the journal and then the picture are brought up to date
+-- the journal and then the pictures are brought up to date
 unfoldable pub update_course : LiveState → Course LiveState Stop
 update_course s = onward (write_course s) show_course
 
@@ -278,7 +292,7 @@ finish_course s = onward (hush_course s) (λ t. onward (write_course t) saves_co
 
 -- ---- a performance
 
--- the journal begins, and then comes the first picture, which has no marks
+-- the journal begins, and then come the first pictures, which have no marks
 unfoldable pub open_course : LiveState → Course LiveState Stop
 open_course s = onward (journal_course s) (paint_course [])
 
@@ -300,4 +314,9 @@ take_course (item.Ended ending) s = finish_course s
 
 -- what a player does
 abbrev pub live_part : Part LiveState
-live_part = record { stance = live_stance; until = until_at; takes = take_course }
+live_part = record {
+  stance = live_stance;
+  until = until_at;
+  takes = take_course;
+  seats = λ s. length s.views;
+}

@@ -1,6 +1,6 @@
 -- A hand that shares its session with nobody: but for the key of Redo, which it is not offered, it
 -- plays as one that plays alone.
-use Rattle.std.specs.Prelude.{◌≡◌, ◌≢◌, ℕ, true, All, List, [], length}
+use Rattle.std.specs.Prelude.{◌≡◌, ◌≢◌, ℕ, true, false, All, List, [], length}
 use Rattle.orca_course.specs.Courses.{Course}
 use Rattle.orca_course.specs.Performers.{Hearing}
 use Rattle.orca_course.specs.declared.ending.Ending.{Ending}
@@ -13,7 +13,8 @@ use Rattle.orca_live.specs.States.{LiveState}
 
 -- the same hands as if they played alone: of these no owners are kept
 abbrev pub as_alone : LiveState → LiveState
-as_alone s = record s { crew = record s.crew { alone = true; owners = []; room = 0 } }
+as_alone s =
+    record s { crew = record s.crew { alone = true; views = false; owners = []; room = 0 } }
 
 -- the byte of the key that does again what was taken back (Ctrl-Y)
 abbrev pub redo_byte : ℕ

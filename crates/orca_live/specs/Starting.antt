@@ -1,10 +1,10 @@
 -- A performance before its first picture.
-use Rattle.std.specs.Prelude.{ℕ, false, [], None}
+use Rattle.std.specs.Prelude.{ℕ, false, [], replicate}
 use Rattle.std.specs.Option.{option_map}
 use Rattle.orca_course.specs.Standings.{Standing}
 use Rattle.orca_course.specs.declared.item.Losses.{Losses}
-use Rattle.orca_jam.specs.Crews.{CrewState}
-use Rattle.orca_live.specs.States.{LiveState, Setting}
+use Rattle.orca_jam.specs.Crews.{CrewState, viewers_of}
+use Rattle.orca_live.specs.States.{LiveState, Setting, unpainted}
 use Rattle.orca_term.specs.Pacing.{pace_from}
 
 -- no call has failed, as far as was told
@@ -26,8 +26,7 @@ live_at_start set crew at standing = record {
   standing = standing;
   crew = crew;
   pace = pace_from set.bpm at;
-  screen = set.screen;
-  shown = None;
+  views = replicate (viewers_of crew) (unpainted set.screen);
   given = option_map (λ name. []) set.script;
   unwritten = [];
   loose = false;

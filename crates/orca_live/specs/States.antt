@@ -1,6 +1,6 @@
--- Where a performance stands: its setting, the session, the hands, the pacer, what is shown, the
--- commands that are kept for the script, and the lines that wait for the journal.
-use Rattle.std.specs.Prelude.{ℕ, ◌==◌, Bool, true, nat_le, nat_lt, if◌then◌else◌, List, length, Option, Some, None, unwrap_or, Result}
+-- Where a performance stands: its setting, the session, the hands, the pacer, what each is shown,
+-- the commands that are kept for the script, and the lines that wait for the journal.
+use Rattle.std.specs.Prelude.{ℕ, Bool, true, nat_le, nat_lt, if◌then◌else◌, List, length, map, slice_index_or, slice_set, Option, Some, None, unwrap_or, Result}
 use Rattle.std.specs.List.{range_with_len}
 use Rattle.std.specs.Option.{option_map}
 use Rattle.orca_base.specs.declared.command.Command.{Command}
@@ -22,6 +22,7 @@ use Rattle.orca_jam.specs.declared.crew.TheConstants.{LEADER}
 use Rattle.orca_live.specs.declared.live.Live.{Live}
 use Rattle.orca_live.specs.declared.setting.Setting.{Setting as HeldSetting}
 use Rattle.orca_term.specs.Pacing.{Pace}
+use Rattle.orca_term.specs.Viewing.{Seen}
 use Rattle.orca_term.specs.declared.around.Around.{Around}
 use Rattle.orca_term.specs.declared.cell.Cell.{Cell}
 use Rattle.orca_term.specs.declared.cell.ScreenSize.{ScreenSize}
@@ -31,7 +32,7 @@ use Rattle.orca_term.specs.declared.status.StatusLine.{StatusLine}
 -- the tempo in beats a minute at the start, the seed of the random operator, the name of the grid's
 -- file, the names under which the grid and the script are saved at the end, the name of the
 -- journal, which commands are added to while it plays, whether that is a room, which has its first
--- lines, whether the full keys are read, and the screen at the start
+-- lines, and the screen at the start
 pub record Setting : Type 0 where
   pub bpm : ℕ
   pub seed : ℕ
@@ -40,7 +41,6 @@ pub record Setting : Type 0 where
   pub script : Option (List ℕ)
   pub journal : Option (List ℕ)
   pub room : Bool
-  pub full : Bool
   pub screen : ScreenSize
 
 -- the same as the code holds it
@@ -53,7 +53,6 @@ setting_in set = record {
   script = option_map (λ name. name.now) set.script;
   journal = option_map (λ name. name.now) set.journal;
   room = set.room;
-  full = set.full;
   screen = set.screen;
 }
 
@@ -65,16 +64,28 @@ key_name set = unwrap_or set.save set.grid
 abbrev pub begun_name : Setting → Option (List ℕ)
 begun_name set = if set.room then None else set.journal
 
+-- what a hand is shown: the size of its terminal, as it was told last, and the last picture, if one
+-- was painted
+pub record Viewed : Type 0 where
+  pub screen : ScreenSize
+  pub shown : Option (List Cell)
+
+-- a terminal of this size, for which nothing was painted
+abbrev pub unpainted : ScreenSize → Viewed
+unpainted d = record { screen = d; shown = None }
+
+-- the same as the code holds it
+abbrev pub viewed_in : Seen → Viewed
+viewed_in view = record { screen = view.size; shown = view.last }
+
 pub record LiveState : Type 0 where
   pub setting : Setting
   pub standing : Standing
   -- the keys and the editor of each hand, and whose each entry of the history is
   pub crew : CrewState
   pub pace : Pace
-  -- the size of the first hand's terminal, as it was told last
-  pub screen : ScreenSize
-  -- the last picture, if one was painted
-  pub shown : Option (List Cell)
+  -- what each hand is shown that has a picture, from the first one on
+  pub views : List Viewed
   -- the commands so far, if a script is saved at the end
   pub given : Option (List Command)
   -- the lines of commands that are not yet added to the journal, if one is kept
@@ -94,8 +105,7 @@ live_state g live = record {
   standing = standing_of g live.stage;
   crew = live.crew;
   pace = live.pacer;
-  screen = live.view.size;
-  shown = live.view.last;
+  views = map viewed_in live.views.items;
   given = option_map (λ commands. commands.items) live.given;
   unwritten = live.unwritten.items;
   loose = live.loose;
@@ -142,14 +152,25 @@ hands_in s = range_with_len 0 (length s.crew.players)
 abbrev pub editor_at : ℕ → LiveState → Editor
 editor_at hand s = (player_at s.crew hand).editor
 
--- that of the first one, whose picture is shown and whose pause holds
+-- that of the first one, whose pause holds
 abbrev pub leader_at : LiveState → Editor
 leader_at s = editor_at LEADER s
 
--- the screen that a hand is told: the first one that of its terminal; the others see no picture of
--- their own, and are told that of the start
+-- a hand is shown a picture
+abbrev pub is_viewer : ℕ → LiveState → Bool
+is_viewer hand s = nat_lt hand (length s.views)
+
+-- what a hand is shown; the others are told of the screen of the start, and are shown nothing
+abbrev pub view_at : ℕ → LiveState → Viewed
+view_at hand s = slice_index_or s.views hand (unpainted s.setting.screen)
+
+-- a hand is shown this, if it is shown a picture
+abbrev pub with_view : ℕ → Viewed → LiveState → LiveState
+with_view hand v s = record s { views = slice_set s.views hand v }
+
+-- the screen that a hand is told
 abbrev pub screen_at : ℕ → LiveState → ScreenSize
-screen_at hand s = if hand == LEADER then s.screen else s.setting.screen
+screen_at hand s = (view_at hand s).screen
 
 -- what a key of a hand is told, where the editors are fitted to the grid
 abbrev pub around_at : ℕ → LiveState → Around
@@ -171,7 +192,7 @@ fitted s = record s { crew = fitted_crew (dims_at s) s.crew }
 abbrev pub is_full : LiveState → Bool
 is_full s = nat_le s.standing.machine.limit (moments_at s)
 
--- what the status line tells besides the first hand's editor
+-- what the status line tells besides the editor of a hand
 abbrev pub status_line_at : LiveState → StatusLine
 status_line_at s = record {
   tick = (piece_at s).tick;

@@ -1,6 +1,6 @@
 //! What keys and the commands that they ask for do.
 
-ghost use Rattle.std.specs.Prelude.{◌≡◌, ◌<◌, ℕ, [], ◌∷◌, ◌++◌, length, IfErr, None, OnOk, unwrap_or};
+ghost use Rattle.std.specs.Prelude.{◌≡◌, ◌<◌, ℕ, [], ◌∷◌, ◌++◌, length, map, slice_index_or, slice_set, IfErr, None, OnOk, unwrap_or};
 ghost use Rattle.std.specs.Option.{option_map};
 ghost use Rattle.orca_base.specs.Areas.{IsArea};
 ghost use Rattle.orca_course.specs.Courses.{each};
@@ -10,7 +10,7 @@ ghost use Rattle.orca_term.specs.Picture.{screen_inside};
 ghost use Rattle.orca_course.specs.Doing.{goes_of};
 ghost use Rattle.orca_course.specs.Worlds.{Called};
 ghost use Rattle.orca_live.specs.Performing.{byte_course, hand_course, owning, press_course, struck_course, telling, wish_course, loosens};
-ghost use Rattle.orca_live.specs.States.{LiveDid, around_at, dims_at, editor_at, fitted, live_state, screen_at};
+ghost use Rattle.orca_live.specs.States.{LiveDid, Viewed, around_at, dims_at, editor_at, fitted, live_state, screen_at, unpainted, viewed_in};
 
 use crate::Live;
 use crate::journal::note;
@@ -19,7 +19,7 @@ use orca_base::limits::MAX_BPM;
 use orca_base::{Command, Look, Place, Port, Rule};
 use orca_course::{Desk, NoMemory, Stop};
 use orca_edit::Machine;
-use orca_jam::{Crew, Denial, LEADER};
+use orca_jam::{Crew, Denial};
 use orca_rig::{Disk, House};
 use orca_term::{Around, Key, Pacer, ScreenSize, View, Wish};
 
@@ -100,11 +100,21 @@ fn speed_up(pacer: &mut Pacer, beats: u16)
 
 /// From here on the terminal has this size, or the one that it had, and shows whatever it shows.
 fn redraw(view: &mut View, size: Option<ScreenSize>)
-    ensures size { view.new.size ≡ screen_inside (unwrap_or size view.old.size) }
-    ensures anew { view.new.last ≡ None }
+    ensures { viewed_in view.new ≡ unpainted (screen_inside (unwrap_or size view.old.size)) }
 {
     let size = size.unwrap_or(view.size());
     view.begin_anew(size);
+}
+
+/// The same of the terminal of a hand, if it is shown a picture.
+fn redraw_for(views: &mut Vec<View>, hand: u8, size: Option<ScreenSize>)
+    ensures { (other : Viewed) → let shown = map viewed_in views.old.items in
+        let d = screen_inside (unwrap_or size (slice_index_or shown hand other).screen) in
+        map viewed_in views.new.items ≡ slice_set shown hand (unpainted d) }
+{
+    if usize::from(hand) < views.as_slice().len() {
+        redraw(&mut views[usize::from(hand)], size);
+    }
 }
 
 /// Does what a key of a hand asks for, once its editor has changed.
@@ -145,7 +155,7 @@ fn do_wish<M: Machine, H: House>(
             Ok(None)
         }
         Wish::Redraw(size) => {
-            redraw(&mut live.view, *size);
+            redraw_for(&mut live.views, hand, *size);
             Ok(None)
         }
     }
@@ -159,21 +169,22 @@ pub(crate) fn fit<M: Machine>(live: &mut Live<'_, M>)
     ensures inside { let t = live_state M.Machine.own live.new in
         (hand : ℕ) → hand < length t.crew.players → IsArea (dims_at t) (area_of (editor_at hand t)) }
     ensures hands { length live.new.crew.players ≡ length live.old.crew.players }
+    ensures views { live.new.views ≡ live.old.views }
 {
     live.stage.machine.is_shown();
     let dims = Look::dims(&live.stage.machine);
     live.crew.fit(dims);
 }
 
-/// The screen that a hand is told: the first one that of its terminal; the others see no picture of
-/// their own, and are told that of the start.
+/// The screen that a hand is told: that of its terminal, if it is shown a picture, and else that of the
+/// start.
 fn screen<M: Machine>(live: &Live<'_, M>, hand: u8) -> ScreenSize
     ensures { result ≡ screen_at hand (live_state M.Machine.own live.now) }
 {
-    if hand == LEADER {
-        return live.view.size();
+    match live.views.get(usize::from(hand)) {
+        Some(view) => view.size(),
+        None => live.setting.screen,
     }
-    live.setting.screen
 }
 
 /// What a key of a hand is told, where the editors are fitted to the grid.
@@ -261,6 +272,6 @@ pub(crate) fn do_byte<M: Machine, H: House>(
     if hand >= live.crew.hands() {
         return Ok(None);
     }
-    let key = live.crew.feed(live.setting.full, hand, byte);
+    let key = live.crew.feed(hand, byte);
     press(live, desk, hand, key)
 }

@@ -25,8 +25,9 @@ pub fn script_law()
     ensures { ReplaysScript }
 {}
 
-/// A terminal of the size that was told last, whatever it showed, that is sent all paintings since then
-/// shows each picture, if it can show their cells: each is a printable byte with a style. It does nothing.
+/// A terminal of each hand, of the size that it told last, whatever it showed, that is sent all its paintings
+/// since then shows each of its pictures, if it can show their cells: each is a printable byte with a style.
+/// It does nothing.
 #[tactic(auto, using(crate::proofs::PaintingLaw::shows_performance))]
 pub fn painting_law()
     ensures { ShowsPerformance }

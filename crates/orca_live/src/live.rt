@@ -1,7 +1,8 @@
-ghost use Rattle.std.specs.Prelude.{◌≡◌, IfOk};
+ghost use Rattle.std.specs.Prelude.{◌≡◌, ◌≤◌, [], IfOk, None, replicate};
 ghost use Rattle.std.specs.Option.{option_map};
 ghost use Rattle.orca_concert.specs.Stages.{standing_of};
 ghost use Rattle.orca_live.specs.Starting.{live_at_start};
+ghost use Rattle.orca_base.specs.declared.limits.TheConstants.{MAX_SCREEN_COLUMNS, MAX_SCREEN_ROWS, MIN_SCREEN_COLUMNS, MIN_SCREEN_ROWS};
 ghost use Rattle.orca_live.specs.States.{is_full, live_state, residue_of, setting_in, status_line_at, until_at};
 
 use crate::{Setting, Silent};
@@ -10,7 +11,7 @@ use orca_concert::Stage;
 use orca_course::Losses;
 use orca_edit::Machine;
 use orca_jam::Crew;
-use orca_term::{Pacer, StatusLine, View};
+use orca_term::{Pacer, ScreenSize, StatusLine, View};
 use std::alloc::Global;
 
 /// All that a performance keeps. A contract outside sees its state (`live_state`), and no field.
@@ -24,8 +25,8 @@ pub struct Live<'a, M> {
     pub(crate) crew: Crew,
     /// When the next frame is due.
     pub(crate) pacer: Pacer,
-    /// What is shown.
-    pub(crate) view: View,
+    /// What each hand is shown that has a picture, from the first one on.
+    pub(crate) views: Vec<View>,
     /// The commands so far, if a script is saved at the end.
     pub(crate) given: Option<Vec<Command>>,
     /// The lines of commands that are not yet added to the journal, if one is kept.
@@ -38,6 +39,21 @@ pub struct Live<'a, M> {
     pub(crate) came: Losses,
     /// Room for what is saved.
     pub(crate) text: Vec<u8>,
+}
+
+/// So many views of screens of this size, with room for all their pictures.
+fn start_views(alloc: Global, screen: ScreenSize, count: u8) -> Result<Vec<View>, Memory>
+    requires rows { (MIN_SCREEN_ROWS ≤ screen.rows) × (screen.rows ≤ MAX_SCREEN_ROWS) }
+    requires columns { (MIN_SCREEN_COLUMNS ≤ screen.columns)
+        × (screen.columns ≤ MAX_SCREEN_COLUMNS) }
+    ensures { IfOk result (λ views. views.items
+        ≡ replicate count (record { size = screen; last = None; bytes = [] })) }
+{
+    let mut views = Vec::with_capacity(alloc, usize::from(count))?;
+    for _view in 0..count {
+        views.push(View::start(alloc, screen.rows, screen.columns)?)?;
+    }
+    Ok(views)
 }
 
 impl<'a, M: Machine> Live<'a, M> {
@@ -56,13 +72,13 @@ impl<'a, M: Machine> Live<'a, M> {
         ensures residue { IfOk result (λ live.
             residue_of M.Machine.own live ≡ M.residue stage.machine) }
     {
-        let view = View::start(alloc, setting.screen.rows, setting.screen.columns)?;
+        let views = start_views(alloc, setting.screen, crew.viewers())?;
         Ok(Live {
             setting,
             stage,
             crew,
             pacer: Pacer::start(at, setting.bpm),
-            view,
+            views,
             given: setting.script.map(|_| Vec::new(alloc)),
             unwritten: Vec::new(alloc),
             loose: false,
@@ -104,7 +120,7 @@ impl<'a, M: Machine> Live<'a, M> {
         self.loose
     }
 
-    /// What the status line tells besides the first hand's editor.
+    /// What the status line tells besides the editor of a hand.
     pub(crate) fn line(&self) -> StatusLine
         ensures { result ≡ status_line_at (live_state M.Machine.own self.now) }
     {

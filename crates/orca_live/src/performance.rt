@@ -1,14 +1,16 @@
 //! What a player does with items.
 
+ghost use Rattle.std.specs.Prelude.{length};
 ghost use Rattle.orca_course.specs.Doing.{goes_of};
+ghost use Rattle.orca_course.specs.Worlds.{AreSeated};
 ghost use Rattle.orca_live.specs.Performing.{finish_course, hush_course, open_course, saves_course, take_course, update_course};
-ghost use Rattle.orca_live.specs.States.{LiveDid};
+ghost use Rattle.orca_live.specs.States.{LiveDid, live_state};
 
 use crate::Live;
 use crate::clock::do_due;
 use crate::journal::{begin_journal, write_journal};
 use crate::keyboard::do_byte;
-use crate::painting::{paint_first, show};
+use crate::painting::{Marking, paint, show};
 use crate::saving::{save_last_grid, save_last_script};
 use orca_concert::{Closes, close, close_early};
 use orca_course::{Desk, Item, NoMemory, Performer, Stop};
@@ -16,7 +18,7 @@ use orca_edit::Machine;
 use orca_rig::House;
 
 impl<'a, M: Machine> Performer for Live<'a, M> {
-    ghost use Rattle.orca_live.specs.Deaf.{live_is_deaf};
+    ghost use Rattle.orca_live.specs.Deaf.{live_is_deaf, live_is_steady};
     ghost use Rattle.orca_live.specs.Performing.{live_part};
     ghost use Rattle.orca_live.specs.States.{LiveState, live_state, residue_of};
 
@@ -37,6 +39,8 @@ impl<'a, M: Machine> Performer for Live<'a, M> {
     }
 
     ghost deaf = { live_is_deaf };
+
+    ghost steady = { live_is_steady };
 }
 
 impl<'a, M: Machine> Closes for Live<'a, M> {
@@ -45,18 +49,20 @@ impl<'a, M: Machine> Closes for Live<'a, M> {
     }
 }
 
-/// Begins the journal, and paints the first picture.
+/// Begins the journal, and paints the first pictures.
 #[tactic(auto, using(orca_course::proofs::DoingLemmas::does_cut, orca_course::proofs::DoingLemmas::goes_err), unfolding(crate::specs::Performing::open_course))]
 fn open<M: Machine, H: House>(live: &mut Live<'_, M>, desk: &mut Desk<H>) -> Result<(), NoMemory>
+    requires { AreSeated (length (live_state M.Machine.own live.old).views) desk.old }
     ensures { LiveDid M.Machine.own open_course live.old desk.old (goes_of result) live.new desk.new }
 {
     begin_journal(live, desk)?;
-    paint_first(live, desk)
+    paint(live, desk, Marking::Bare)
 }
 
-/// Brings the journal and then the picture up to date.
+/// Brings the journal and then the pictures up to date.
 #[tactic(auto, using(orca_course::proofs::DoingLemmas::does_cut, orca_course::proofs::DoingLemmas::goes_err), unfolding(crate::specs::Performing::update_course))]
 fn update<M: Machine, H: House>(live: &mut Live<'_, M>, desk: &mut Desk<H>) -> Result<(), NoMemory>
+    requires { AreSeated (length (live_state M.Machine.own live.old).views) desk.old }
     ensures { LiveDid M.Machine.own update_course live.old desk.old (goes_of result) live.new desk.new }
 {
     write_journal(live, desk)?;
@@ -103,6 +109,7 @@ fn take<M: Machine, H: House>(
     desk: &mut Desk<H>,
     item: Item,
 ) -> Result<Option<Stop>, NoMemory>
+    requires { AreSeated (length (live_state M.Machine.own live.old).views) desk.old }
     ensures { LiveDid M.Machine.own (take_course item) live.old desk.old result live.new desk.new }
 {
     match item {

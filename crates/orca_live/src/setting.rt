@@ -20,8 +20,6 @@ pub struct Setting<'a> {
     pub journal: Option<&'a str>,
     /// Whether that is a room: a file that was claimed, with its first lines, before anybody was heard.
     pub room: bool,
-    /// Whether the full keys are read, and not the plain ones.
-    pub full: bool,
     /// The screen at the start.
     pub screen: ScreenSize,
     ghost some_bpm: { 1 ≤ bpm },
