@@ -141,7 +141,7 @@ fn tell_end<L: Ledger>(
     status: Status,
     answer: &mut Answer,
 ) -> Result<()> {
-    tell_sends(desk.outs(), answer)?;
+    tell_calls(desk.outs(), desk.inbox(), answer)?;
     for name in wanted {
         tell_file(desk.files(), name.as_str(), answer)?;
     }
@@ -149,16 +149,36 @@ fn tell_end<L: Ledger>(
     answer.push(line.as_str())
 }
 
-/// Adds a line for each send.
-fn tell_sends(outs: &MemOuts, answer: &mut Answer) -> Result<()> {
+/// Adds a line for each send, and for each time that a hand was told something: before a poll that comes
+/// after all sends.
+fn tell_calls(outs: &MemOuts, inbox: &MemInbox, answer: &mut Answer) -> Result<()> {
+    let mut told = 0;
     for index in 0..u64::MAX {
+        told = tell_hands(inbox, told, index, answer)?;
         let Some((port, bytes)) = outs.handed_at(index) else {
             break;
         };
         let words = format!(in answer.alloc; "send {}", port.name())?;
         answer.push_bytes(words.as_str(), bytes)?;
     }
+    tell_hands(inbox, told, u64::MAX, answer)?;
     Ok(())
+}
+
+/// Adds a line for each time that a hand was told something, from this one on, before a poll that came
+/// after so many sends. It gives the number of the next one.
+fn tell_hands(inbox: &MemInbox, first: u64, sends: u64, answer: &mut Answer) -> Result<u64> {
+    for index in first..u64::MAX {
+        let Some((hand, bytes)) = inbox.told_at(index) else {
+            return Ok(index);
+        };
+        if inbox.sent_by(index).unwrap_or(u64::MAX) > sends {
+            return Ok(index);
+        }
+        let words = format!(in answer.alloc; "told {hand}")?;
+        answer.push_bytes(words.as_str(), bytes)?;
+    }
+    Ok(u64::MAX)
 }
 
 /// Adds the line of a file.
