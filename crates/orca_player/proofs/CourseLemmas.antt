@@ -1,7 +1,8 @@
 -- What was done of an opened session, and the courses of a list of commands and of a performance.
 use Rattle.std.proofs.Common.{◌≡◌, ◌≢◌, ◌⊎◌, inl, inr, ℕ, ◌+◌, List, [], ◌∷◌, ◌++◌, append-nil, refl, sym, ◌∙◌, ap, subst, arith}
-use Rattle.std.specs.Prelude.{Option, Some, IfSome, Ok, Result, Err}
-use Rattle.std.proofs.lemmas.List.{map-append}
+use Rattle.std.specs.Prelude.{◌≤◌, Bool, true, false, length, Option, Some, None, IfSome, Ok, Result, Err, unwrap_or}
+use Rattle.std.specs.Option.{option_map_or}
+use Rattle.std.proofs.lemmas.List.{length-replicate, map-append}
 use Rattle.orca_base.specs.Grids.{Sheet}
 use Rattle.orca_base.specs.Ports.{Sent}
 use Rattle.orca_clock.specs.Followers.{Followed}
@@ -17,7 +18,7 @@ use Rattle.orca_course.specs.Doing.{Does, Stance}
 use Rattle.orca_course.specs.Following.{Follows, keys_after_acts, sounding}
 use Rattle.orca_course.specs.Performers.{DoesPolls, IsDeaf, IsLostBy, Part, performance}
 use Rattle.orca_course.specs.Standings.{Standing, notes_of}
-use Rattle.orca_course.specs.Worlds.{Calls, Made, Unsent, World, is_lost, owing}
+use Rattle.orca_course.specs.Worlds.{AreSeated, Calls, Made, Unsent, World, is_lost, owing}
 use Rattle.orca_course.specs.declared.ending.Ending.{Ending}
 use Rattle.orca_course.specs.declared.ending.Stop.{Stop}
 use Rattle.orca_course.specs.declared.item.Losses.{Losses}
@@ -34,6 +35,7 @@ use Rattle.orca_edit.specs.Pieces.{piece_after}
 use Rattle.orca_live.specs.Deaf.{live_is_deaf}
 use Rattle.orca_live.specs.Performing.{live_part}
 use Rattle.orca_live.specs.States.{LiveState}
+use Rattle.orca_jam.specs.Crews.{crew_alone, crew_at_start, viewers_of}
 use Rattle.orca_notes.specs.Device.{Voice, voices}
 use Rattle.orca_notes.specs.Sound.{ends}
 use Rattle.orca_reports.specs.Manners.{state_manner}
@@ -41,7 +43,8 @@ use Rattle.orca_script.specs.Runs.{ScriptReadsBack}
 use Rattle.orca_term.specs.Picture.{IsScreen}
 use Rattle.orca_words.specs.Requests.{Performance, Setup}
 use Rattle.orca_player.specs.Doing.{Came, CameBy, IsBlamed, status_at}
-use Rattle.orca_player.specs.Outlines.{concert, follow_outline, follow_start, followed, lead_outline, lead_start, led, live_outline, live_start, nothing, opening, performed_outline, played, played_course, room_name, standing_at, status_of_end, status_of_ending}
+use Rattle.orca_player.specs.declared.live.TheConstants.{ALONE}
+use Rattle.orca_player.specs.Outlines.{concert, crew_of, follow_outline, follow_start, followed, hands_of, lead_outline, lead_start, led, live_outline, live_start, nothing, opening, performed_outline, played, played_course, room_name, standing_at, status_of_end, status_of_ending}
 use Rattle.orca_player.specs.Performances.{BrokeOff, EndsSilent, Lasted, Performed, whole}
 use Rattle.orca_player.specs.declared.status.Status.{Status}
 use Rattle.orca_player.specs.declared.status.Status.TheVariants.{Memory}
@@ -318,7 +321,7 @@ performed_none p deaf s u x = by_memory (polls_none p deaf nothing.opening u, tt
 -- ---- a player
 
 pub played_by : (room : Option (List ℕ)) {s t : LiveState} {x y : World} {status : Status}
-    → Performed live_part (played_course room s) s x status t y → IsScreen s.screen
+    → Performed live_part (played_course room s) s x status t y → IsScreen s.setting.screen
     → IfSome t.given (ScriptReadsBack s.setting.seed) → CameBy (λ b. played room s b) x status y
 unfolding opening mapped
 played_by room {s = s} did sized reads =
@@ -331,7 +334,7 @@ played_by room {s = s} did sized reads =
     }) (came_plain (played room s did.brought) (did.came s.standing refl))
 
 -- memory was refused before anything was done
-pub live_none : (room : Option (List ℕ)) (s : LiveState) (x : World) → IsScreen s.screen
+pub live_none : (room : Option (List ℕ)) (s : LiveState) (x : World) → IsScreen s.setting.screen
     → CameBy (λ b. played room s b) x Memory x
 unfolding opening mapped
 live_none room s x sized =
@@ -340,6 +343,25 @@ live_none room s x sized =
           ∙ polls_none live_part live_is_deaf nothing.opening s,
       sized,
     ) (came_none _ x)
+
+-- the hands are there that are shown a picture
+viewers_few : (full views : Bool) (limit : ℕ) (hands : Option ℕ)
+    → ((count : ℕ) → hands ≡ Some count → 1 ≤ count)
+    → viewers_of (option_map_or (λ count. crew_at_start full views count limit) hands
+    (crew_alone full)) ≤ unwrap_or hands ALONE
+viewers_few full views limit None some = omega arith
+viewers_few full true limit (Some hands) some = rw length-replicate (omega arith)
+viewers_few full false limit (Some hands) some = some hands refl
+
+pub seated_start : (setup : Setup) (play : Performance) (at : ℕ) (s : Standing) {u : LiveState}
+    (x : World) → ((count : ℕ) → play.hands ≡ Some count → 1 ≤ count)
+    → u ≡ live_start setup play at s
+    → AreSeated (hands_of play) x → AreSeated (length u.views) x
+seated_start setup play at s {u = u} x some is seated hand below =
+    let many : length u.views ≡ viewers_of (crew_of setup play) =
+    ap (λ (v : LiveState). length v.views) is ∙ length-replicate _ _ in
+    let few = viewers_few play.full play.views setup.limit play.hands some in
+    seated hand (omega (arith, below, many, few))
 
 pub live_from : (setup : Setup) (play : Performance) (at : ℕ) (s : Standing) (u : LiveState)
     {x y : World} {status : Status} → u ≡ live_start setup play at s

@@ -1,6 +1,6 @@
 -- The laws of hands, on the outlines of runs.
-use Rattle.std.proofs.Common.{◌≡◌, ◌≢◌, ℕ, List, [], true, false, refl, ◌∙◌, ap, arith}
-use Rattle.std.specs.Prelude.{Option, Some, None, Result, Ok, Err}
+use Rattle.std.proofs.Common.{◌≡◌, ◌≢◌, ℕ, replicate, Bool, List, [], true, false, refl, ◌∙◌, ap, arith}
+use Rattle.std.specs.Prelude.{if◌then◌else◌, Option, Some, None, Result, Ok, Err}
 use Rattle.std.proofs.lemmas.List.Elements.{All-nil}
 use Rattle.orca_base.specs.Grids.{Sheet}
 use Rattle.orca_course.specs.Courses.{mapped}
@@ -14,15 +14,15 @@ use Rattle.orca_live.specs.Hands.{EachIsHeard, HandsShare, HasOwners, StartsWith
 use Rattle.orca_live.specs.Items.{items_of}
 use Rattle.orca_live.specs.Laws.{whole_performance}
 use Rattle.orca_live.specs.Solo.{HasNoRedo, PlaysAlone, PlaysSame, as_alone}
-use Rattle.orca_live.specs.States.{LiveState}
+use Rattle.orca_live.specs.States.{LiveState, unpainted}
 use Rattle.orca_words.specs.Requests.{Perform, Performance, Play, Setup}
-use Rattle.orca_player.specs.Hands.{SharesFairly}
+use Rattle.orca_player.specs.Hands.{SharesFairly, alone_of}
 use Rattle.orca_player.specs.Outlines.{Brought, Heard, grid_outline, leavings, live_outline, live_start, loading, opening, outline, performed, played, request_outline, setting_of, room_name, room_start, roomed, start_of, work_outline, waiting}
 use Rattle.orca_player.specs.declared.live.TheConstants.{ALONE}
 
 -- ---- hands that share
 
--- this many hands share the session of a performance, or one plays alone
+-- this many hands share the session of a performance
 abbrev with_hands : Option ℕ → Performance → Performance
 with_hands hands play = record play { hands = hands }
 
@@ -32,7 +32,8 @@ starts_owned : StartsWithOwners → (setup : Setup) (play : Performance) (sheet 
     → HasOwners (live_start setup (with_hands hands play) at (start_of setup sheet))
 starts_owned starts setup play sheet at None some = absurd (some refl)
 starts_owned starts setup play sheet at (Some hands) some =
-    starts (setting_of setup play) hands setup.limit at (start_of setup sheet) refl
+    starts (setting_of setup play) play.full play.views hands setup.limit at
+    (start_of setup sheet) refl
     (omega arith)
 
 -- ---- one that is alone
@@ -49,20 +50,31 @@ same_played : (room : Option (List ℕ)) (u : LiveState) (b : Brought)
 unfolding opening mapped
 same_played room u b same = rw (same.acts, same.bill, same.ending, same.state) refl
 
+-- it is the one that is shown a picture, whether or not all are
+one_viewer : (views : Bool) → ◌≡◌ {A = ℕ} (if views then 1 else 1) 1
+one_viewer true = refl
+one_viewer false = refl
+
 solo_live : PlaysAlone → (setup : Setup) (play : Performance) (b : Brought) (s : Standing)
     (at : ℕ) → HasNoRedo (items_of ALONE b.hearings)
     → live_outline setup (with_hands (Some 1) play) b s at
-    ≡ live_outline setup (with_hands None play) b s at
+    ≡ live_outline setup (alone_of play) b s at
 unfolding live_outline
 solo_live law setup play b s at none =
     let u = live_start setup (with_hands (Some 1) play) at s in
-    same_played (room_name play) u b (law u b.opening b.hearings (record { one = refl; own = no_owner }) none)
+    same_played (room_name play) u b
+    (law u b.opening b.hearings (record { one = refl; own = no_owner }) none)
+    ∙ ap (λ (n : ℕ). played (room_name play)
+    (record (live_start setup (alone_of play) at s) {
+      views = replicate n (unpainted (setting_of setup play).screen);
+    }) b)
+    (one_viewer play.views)
 
 solo_listening : PlaysAlone → (setup : Setup) (play : Performance) (b : Brought)
     (s : Standing) (start : Option ℕ) → HasNoRedo (items_of ALONE b.hearings)
     → let missed = leavings (room_name play) b.closing false in
     waiting missed play.address ALONE start (live_outline setup (with_hands (Some 1) play) b s)
-    ≡ waiting missed play.address ALONE start (live_outline setup (with_hands None play) b s)
+    ≡ waiting missed play.address ALONE start (live_outline setup (alone_of play) b s)
 unfolding waiting
 solo_listening law setup play b s None none = refl
 solo_listening law setup play b s (Some at) none = rw (solo_live law setup play b s at none) refl
@@ -70,7 +82,7 @@ solo_listening law setup play b s (Some at) none = rw (solo_live law setup play 
 solo_grid : PlaysAlone → (setup : Setup) (play : Performance) (b : Brought)
     (read : Result Sheet GridRefusal) → HasNoRedo (items_of ALONE b.hearings)
     → grid_outline setup (Play (with_hands (Some 1) play)) b read
-    ≡ grid_outline setup (Play (with_hands None play)) b read
+    ≡ grid_outline setup (Play (alone_of play)) b read
 unfolding grid_outline work_outline
 solo_grid law setup play b (Err refusal) none = refl
 solo_grid law setup play b (Ok sheet) none =
@@ -80,7 +92,7 @@ solo_grid law setup play b (Ok sheet) none =
 solo_loaded : PlaysAlone → (setup : Setup) (play : Performance) (b : Brought)
     (grid : Option (List ℕ)) → HasNoRedo (items_of ALONE b.hearings)
     → performed setup (Play (with_hands (Some 1) play)) (record { grid = grid; brought = b })
-    ≡ performed setup (Play (with_hands None play)) (record { grid = grid; brought = b })
+    ≡ performed setup (Play (alone_of play)) (record { grid = grid; brought = b })
 unfolding performed loading
 solo_loaded law setup play b None none = refl
 solo_loaded law setup play b (Some text) none =
@@ -89,7 +101,7 @@ solo_loaded law setup play b (Some text) none =
 solo_request : PlaysAlone → (setup : Setup) (play : Performance) (h : Heard)
     → play.hands ≡ Some 1 → HasNoRedo (items_of ALONE h.brought.hearings)
     → request_outline (Perform setup (Play play)) h
-    ≡ request_outline (Perform setup (Play (with_hands None play))) h
+    ≡ request_outline (Perform setup (Play (alone_of play))) h
 unfolding request_outline
 solo_request law setup play h one none =
     ap (λ hands. performed setup (Play (with_hands hands play)) h) one

@@ -1,6 +1,6 @@
 -- The laws of performances, on the outlines of runs.
-use Rattle.std.proofs.Common.{◌≡◌, ◌≢◌, ◌⊎◌, inl, inr, ℕ, Bool, true, false, List, length, [], ◌++◌, refl, sym, ◌∙◌, ap, append-nil, arith, ◌∷◌}
-use Rattle.std.specs.Prelude.{◌||◌, if◌then◌else◌, Option, Some, None, unwrap_or, Result, Ok, Err, IfSome}
+use Rattle.std.proofs.Common.{◌≡◌, ◌≢◌, ◌⊎◌, inl, inr, ℕ, zero, suc, replicate, subst, Bool, true, false, List, length, [], ◌++◌, refl, sym, ◌∙◌, ap, append-nil, arith, ◌∷◌}
+use Rattle.std.specs.Prelude.{◌||◌, ◌==◌, if◌then◌else◌, slice_index_or, Option, Some, None, unwrap_or, Result, Ok, Err, IfSome}
 use Rattle.std.specs.Option.{is_some, option_map, option_map_or}
 use Rattle.std.proofs.lemmas.List.{length-replicate}
 use Rattle.orca_base.specs.declared.command.Command.{Command}
@@ -20,7 +20,7 @@ use Rattle.orca_cues.proofs.Printed.{script2_read}
 use Rattle.orca_edit.specs.Obeying.{MachineState, machine_closed}
 use Rattle.orca_grid.specs.GridText.{grid_text}
 use Rattle.orca_grid.specs.declared.refusal.GridRefusal.{GridRefusal}
-use Rattle.orca_jam.specs.Crews.{crew_alone, crew_at_start, new_player}
+use Rattle.orca_jam.specs.Crews.{crew_alone, crew_at_start, new_player, viewers_of}
 use Rattle.orca_live.specs.Items.{items_of}
 use Rattle.orca_live.specs.Laws.{ItemsDecide, ReplaysScript as LiveReplays, replayed}
 use Rattle.orca_live.specs.Performing.{live_part}
@@ -30,13 +30,14 @@ use Rattle.orca_rig.specs.declared.files.Claim.{Claim as Claimed}
 use Rattle.orca_rig.specs.declared.files.Claim.TheVariants.{Made as ClaimMade, Left as ClaimLeft, Held as ClaimHeld}
 use Rattle.orca_script.specs.Runs.{lines_behind, printed_script}
 use Rattle.orca_words.specs.Requests.{Follow, Lead, Perform, Performance, Play, Recover, Replay, Request, Setup, Work, request_of}
-use Rattle.orca_course.specs.Acts.Act.{Attach, Claim, Give, Learn, Listen, Load, Remove, Screen, Show, Stand}
-use Rattle.orca_live.specs.Paintings.{ShowsPerformance, ShowsPictures}
+use Rattle.orca_course.specs.Acts.Act.{Attach, Claim, Give, Learn, Listen, Load, Remove, Screen, Show, Stand, Tell}
+use Rattle.orca_live.specs.Paintings.{ShowsPerformance, ShowsPictures, seen_by}
+use Rattle.orca_live.specs.States.{Viewed, screen_at, unpainted}
 use Rattle.orca_term.specs.Picture.{IsScreen}
 use Rattle.orca_term.specs.declared.cell.ScreenSize.{ScreenSize}
 use Rattle.orca_player.specs.Doing.{ReadsBack}
 use Rattle.orca_player.specs.Laws.{CutsAlike, EndAlike, HasEnd, IsReplayed, ReplaysAlike, hands_heard}
-use Rattle.orca_player.specs.Outlines.{Brought, Heard, Outline, Script, preceded, asked_outline, attach_acts, closings, concert, follow_outline, follow_start, grid_outline, hands_of, lead_outline, lead_start, leavings, live_outline, live_start, loading, made_outline, migrated, opening, outline, performed, performed_outline, reading_outline, recovery_outline, request_outline, room_name, room_start, roomed, script_kept, script_outline, standing_at, start_of, status_of_ending, stopped_run, work_outline, waiting}
+use Rattle.orca_player.specs.Outlines.{Brought, Heard, Outline, Script, preceded, asked_outline, attach_acts, closings, concert, crew_of, follow_outline, follow_start, grid_outline, hands_of, lead_outline, lead_start, leavings, live_outline, live_start, loading, made_outline, migrated, opening, outline, performed, performed_outline, reading_outline, recovery_outline, request_outline, room_name, room_start, roomed, script_kept, script_outline, setting_of, standing_at, start_of, status_of_ending, stopped_run, work_outline, waiting}
 use Rattle.orca_player.specs.declared.live.TheConstants.{ALONE}
 use Rattle.orca_player.specs.declared.status.Status.TheVariants.{FileFault}
 use Rattle.orca_player.proofs.CameLemmas.{attaches-calls, calls_bare, AreCalls}
@@ -45,23 +46,25 @@ use Rattle.orca_player.proofs.LeavingLemmas.{commands-left, leavings_quiet}
 use Rattle.orca_player.proofs.RecoveryLemmas.{screen-recovery}
 use Rattle.orca_concert.proofs.EndingLemmas.{concert-standing}
 
--- each beginning of acts shows its pictures
+-- each beginning of acts shows the pictures of each hand
 record AllShow (d : ScreenSize) (acts : List Act) : Type 0 where
-  pub show : (begun left : List Act) → acts ≡ begun ++ left → ArePrintable begun
-      → ShowsPictures d [] begun
+  pub show : (hand : ℕ) (begun left : List Act) → acts ≡ begun ++ left → ArePrintable begun
+      → ShowsPictures hand d [] begun
 
 -- an act before them that neither gives nor paints
 show_before : {d : ScreenSize} (act : Act) {acts : List Act}
     → ((bs : List Act) → ArePrintable (act ∷ bs) → ArePrintable bs)
-    → ((bs : List Act) → ShowsPictures d [] bs → ShowsPictures d [] (act ∷ bs))
+    → ((hand : ℕ) (bs : List Act) → ShowsPictures hand d [] bs
+    → ShowsPictures hand d [] (act ∷ bs))
     → AllShow d acts → AllShow d (act ∷ acts)
 show_before {d = d} act {acts = acts} prints passes all = record {
-  show = elim [
+  show = λ hand. elim [
     | [] ↦ λ left is printable. tt
     | b ∷ bs ↦ λ left is printable.
         let same : b ≡ act = cc in
         let more : acts ≡ bs ++ left = cc in
-        rw same (passes bs (all.show bs left more (prints bs (rw same at printable))))
+        rw same
+        (passes hand bs (all.show hand bs left more (prints bs (rw same at printable))))
   ];
 }
 
@@ -69,16 +72,16 @@ show_calls : {d : ScreenSize} (xs acts : List Act) → AreCalls xs → AllShow d
     → AllShow d (xs ++ acts)
 show_calls [] acts calls all = all
 show_calls (Attach attached ∷ xs) acts calls all =
-    show_before (Attach attached) (λ bs prints. prints) (λ bs shows. shows)
+    show_before (Attach attached) (λ bs prints. prints) (λ hand bs shows. shows)
     (show_calls xs acts calls all)
 show_calls (Load name text ∷ xs) acts calls all =
-    show_before (Load name text) (λ bs prints. prints) (λ bs shows. shows)
+    show_before (Load name text) (λ bs prints. prints) (λ hand bs shows. shows)
     (show_calls xs acts calls all)
 show_calls (Claim name bytes claimed ∷ xs) acts calls all =
-    show_before (Claim name bytes claimed) (λ bs prints. prints) (λ bs shows. shows)
+    show_before (Claim name bytes claimed) (λ bs prints. prints) (λ hand bs shows. shows)
     (show_calls xs acts calls all)
 show_calls (Listen name hands start ∷ xs) acts calls all =
-    show_before (Listen name hands start) (λ bs prints. prints) (λ bs shows. shows)
+    show_before (Listen name hands start) (λ bs prints. prints) (λ hand bs shows. shows)
     (show_calls xs acts calls all)
 show_calls (_ ∷ xs) acts calls all = absurd calls
 
@@ -95,28 +98,36 @@ shown_by : (screen : Option ScreenSize) (xs acts : List Act) → AreCalls xs
 shown_by None xs acts calls all = tt
 shown_by (Some d) xs acts calls all = show_calls xs acts calls all
 
--- acts that neither send, paint nor tell of a size
+-- acts that neither send, tell a hand, paint nor tell of a size
 abbrev ArePlain : List Act → Type 0
 ArePlain [] = Unit {0}
 ArePlain (Give sent ∷ acts) = ⊥
-ArePlain (Show cells ∷ acts) = ⊥
-ArePlain (Screen d ∷ acts) = ⊥
+ArePlain (Tell hand bytes ∷ acts) = ⊥
+ArePlain (Show hand cells ∷ acts) = ⊥
+ArePlain (Screen hand d ∷ acts) = ⊥
 ArePlain (_ ∷ acts) = ArePlain acts
 
-shows_plain : (d : ScreenSize) (sent : List ℕ) (acts : List Act) → ArePlain acts
-    → ShowsPictures d sent acts
-shows_plain d sent [] plain = tt
-shows_plain d sent (act ∷ acts) plain = grind (arith, shows_plain d sent acts)
+shows_plain : (hand : ℕ) (d : ScreenSize) (sent : List ℕ) (acts : List Act) → ArePlain acts
+    → ShowsPictures hand d sent acts
+shows_plain hand d sent [] plain = tt
+shows_plain hand d sent (Give piece ∷ acts) plain = absurd plain
+shows_plain hand d sent (Tell to bytes ∷ acts) plain = absurd plain
+shows_plain hand d sent (Show to cells ∷ acts) plain = absurd plain
+shows_plain hand d sent (Screen to e ∷ acts) plain = absurd plain
+shows_plain hand d sent (act ∷ acts) plain =
+    shows_plain hand d (sent ++ seen_by hand act) acts plain
 
 -- behind others they change nothing of what is shown
-shows_behind : (d : ScreenSize) (sent : List ℕ) (xs ys : List Act) → ArePlain ys
-    → ShowsPictures d sent xs → ShowsPictures d sent (xs ++ ys)
-shows_behind d sent [] ys plain shows = shows_plain d sent ys plain
-shows_behind d sent (Give piece ∷ xs) ys plain shows = shows_behind d _ xs ys plain shows
-shows_behind d sent (Show cells ∷ xs) ys plain shows =
-    (shows.0, shows_behind d sent xs ys plain shows.1)
-shows_behind d sent (Screen e ∷ xs) ys plain shows = shows_behind e [] xs ys plain shows
-shows_behind d sent (_ ∷ xs) ys plain shows = shows_behind d sent xs ys plain shows
+shows_behind : (hand : ℕ) (d : ScreenSize) (sent : List ℕ) (xs ys : List Act) → ArePlain ys
+    → ShowsPictures hand d sent xs → ShowsPictures hand d sent (xs ++ ys)
+shows_behind hand d sent [] ys plain shows = shows_plain hand d sent ys plain
+shows_behind hand d sent (Show to cells ∷ xs) ys plain shows =
+    (shows.0, shows_behind hand d sent xs ys plain shows.1)
+shows_behind hand d sent (Screen to e ∷ xs) ys plain shows =
+    shows_behind hand (if to == hand then e else d) (if to == hand then [] else sent) xs ys plain
+    shows
+shows_behind hand d sent (act ∷ xs) ys plain shows =
+    shows_behind hand d (sent ++ seen_by hand act) xs ys plain shows
 
 prints_front : (xs ys : List Act) → ArePrintable (xs ++ ys) → ArePrintable xs
 prints_front [] ys prints = tt
@@ -144,12 +155,13 @@ begins_in (x ∷ xs) ys (b ∷ begun) left is =
 show_behind : {d : ScreenSize} (xs ys : List Act) → ArePlain ys → AllShow d xs
     → AllShow d (xs ++ ys)
 show_behind {d = d} xs ys plain all = record {
-  show = λ begun left is printable.
+  show = λ hand begun left is printable.
       elim (begins_in xs ys begun left is) [
-        | inl at ↦ all.show begun at.0 at.1 printable
+        | inl at ↦ all.show hand begun at.0 at.1 printable
         | inr at ↦
-            rw at.1 (shows_behind d [] xs at.0 (plain_front at.0 left (rw at.2 at plain))
-            (all.show xs [] (sym (append-nil xs)) (prints_front xs at.0 (rw at.1 at printable))))
+            rw at.1 (shows_behind hand d [] xs at.0 (plain_front at.0 left (rw at.2 at plain))
+            (all.show hand xs [] (sym (append-nil xs))
+            (prints_front xs at.0 (rw at.1 at printable))))
       ];
 }
 
@@ -166,6 +178,26 @@ plain_closings None (Some ending) came loose = tt
 plain_closings (Some name) (Some ending) came loose =
     plain_left name came (came.unstored || loose)
 
+-- a hand is shown nothing at the start
+start_view : (n hand : ℕ) (v : Viewed) → slice_index_or (replicate n v) hand v ≡ v
+start_view zero hand v = refl
+start_view (suc n) zero v = refl
+start_view (suc n) (suc hand) v = start_view n hand v
+
+start_shows : ShowsPerformance → (setup : Setup) (play : Performance) (at : ℕ) (b : Brought)
+    (s : Standing) (hand : ℕ) (begun left : List Act) → IsScreen (setting_of setup play).screen
+    → (performance live_part (live_start setup play at s) b.opening b.hearings).acts ≡ begun ++ left
+    → ArePrintable begun → ShowsPictures hand (setting_of setup play).screen [] begun
+start_shows law setup play at b s hand begun left sized is printable =
+    let u = live_start setup play at s in
+    let views = start_view (viewers_of (crew_of setup play)) hand
+    (unpainted (setting_of setup play).screen) in
+    let screen : screen_at hand u ≡ (setting_of setup play).screen =
+    ap (λ (v : Viewed). v.screen) views in
+    subst (λ (d : ScreenSize). ShowsPictures hand d [] begun) screen
+    (law u b.opening b.hearings begun left hand (subst IsScreen (sym screen) sized)
+    (ap (λ (v : Viewed). v.shown) views) is printable)
+
 shown_listened : ShowsPerformance → (address : List ℕ) (hands : ℕ) (setup : Setup)
     (play : Performance) (at : ℕ) (b : Brought) (s : Standing)
     → Sized (live_outline setup play b s at)
@@ -174,11 +206,11 @@ unfolding live_outline opening mapped
 shown_listened law address hands setup play at b s sized =
     let c = performance live_part (live_start setup play at s) b.opening b.hearings in
     show_calls (Listen address hands (Some at) ∷ []) _ tt
-    (show_before (Stand s) (λ bs prints. prints) (λ bs shows. shows)
+    (show_before (Stand s) (λ bs prints. prints) (λ hand bs shows. shows)
     (show_behind c.acts (closings (room_name play) c.ending b.closing c.state.loose)
     (plain_closings (room_name play) c.ending b.closing c.state.loose) (record {
-      show = λ begun left is printable.
-          law (live_start setup play at s) b.opening b.hearings begun left sized refl is printable;
+      show = λ hand begun left is printable.
+          start_shows law setup play at b s hand begun left sized is printable;
     })))
 
 shown_listening : ShowsPerformance → (setup : Setup) (play : Performance) (start : Option ℕ)
@@ -249,15 +281,16 @@ shown_outline law words h sized = shown_asked law (request_of words) h sized
 
 shown_some : (screen : Option ScreenSize) (acts begun left : List Act)
     → IfSome screen (λ d. AllShow d acts) → acts ≡ begun ++ left → ArePrintable begun
-    → IfSome screen (λ d. ShowsPictures d [] begun)
+    → IfSome screen (λ d. (hand : ℕ) → ShowsPictures hand d [] begun)
 shown_some None acts begun left all is printable = tt
-shown_some (Some d) acts begun left all is printable = all.show begun left is printable
+shown_some (Some d) acts begun left all is printable = λ hand.
+    all.show hand begun left is printable
 
--- wherever a picture is painted in a beginning of a run, the terminal shows it
+-- wherever a picture is painted for a hand in a beginning of a run, its terminal shows it
 pub shows_outline : ShowsPerformance → (words : List (List ℕ)) (h : Heard)
     → Sized (outline words h) → (begun left : List Act)
     → (outline words h).course.acts ≡ begun ++ left → ArePrintable begun
-    → IfSome (outline words h).screen (λ d. ShowsPictures d [] begun)
+    → IfSome (outline words h).screen (λ d. (hand : ℕ) → ShowsPictures hand d [] begun)
 shows_outline law words h sized begun left is printable =
     shown_some _ _ begun left (shown_outline law words h sized) is printable
 
@@ -312,11 +345,11 @@ alike_roomed (Some name) text (Some ClaimMade) o p same = λ ends others.
     record { commands = alike.commands; standing = alike.standing; given = alike.given }
 
 -- the crew of a performance has the hands that it listens for
-crew_counted : (full : Bool) (limit : ℕ) (hands : Option ℕ)
-    → length (option_map_or (λ count. crew_at_start full count limit) hands
+crew_counted : (full views : Bool) (limit : ℕ) (hands : Option ℕ)
+    → length (option_map_or (λ count. crew_at_start full views count limit) hands
     (crew_alone full)).players ≡ unwrap_or hands ALONE
-crew_counted full limit None = refl
-crew_counted full limit (Some hands) = length-replicate hands (new_player full)
+crew_counted full views limit None = refl
+crew_counted full views limit (Some hands) = length-replicate hands (new_player full)
 
 play_alike : ItemsDecide → (setup : Setup) (play : Performance) (sheet : Sheet)
     (start other : Option ℕ) (b c : Brought) → AreCut (hands_of play) start other b c
@@ -342,12 +375,12 @@ play_alike cutting setup play sheet (Some start) (Some other) b c cut =
     let u = live_start setup play start s in
     let v = live_start setup play other s in
     let alike = cutting b.opening c.opening b.hearings c.hearings u v
-    (rw (crew_counted play.full setup.limit play.hands) cut.1)
+    (rw (crew_counted play.full play.views setup.limit play.hands) cut.1)
     (record {
       setting = refl;
       standing = refl;
       crew = refl;
-      screen = refl;
+      screens = refl;
       given = refl;
     })
     (ended_by (performance live_part u b.opening b.hearings).ending ends)

@@ -1,6 +1,6 @@
 -- Laws of runs in which hands share a session: each hand is heard, an undo of one leaves the edits
 -- of the others, and one hand that could share it does what one does that plays alone.
-use Rattle.std.specs.Prelude.{◌≡◌, ◌≢◌, ℕ, List, Some, None}
+use Rattle.std.specs.Prelude.{◌≡◌, ◌≢◌, ℕ, false, List, Some, None}
 use Rattle.orca_base.specs.Grids.{Sheet}
 use Rattle.orca_live.specs.Hands.{HearsEach, SharesSession}
 use Rattle.orca_live.specs.Items.{items_of}
@@ -9,6 +9,10 @@ use Rattle.orca_words.specs.Requests.{Performance, Play, Setup}
 use Rattle.orca_player.specs.Clocks.{AskFor}
 use Rattle.orca_player.specs.Outlines.{Heard, live_start, outline, start_of}
 use Rattle.orca_player.specs.declared.live.TheConstants.{ALONE}
+
+-- the same performance of a hand that plays alone
+abbrev pub alone_of : Performance → Performance
+alone_of play = record play { hands = None; views = false }
 
 -- what holds of the hands of a performance that words ask for, on any grid, from any moment on
 pub record SharesFairly (words : List (List ℕ)) : Type 0 where
@@ -25,6 +29,6 @@ pub record SharesFairly (words : List (List ℕ)) : Type 0 where
   -- one hand that could share it does, without the key of Redo, all that one does that plays alone
   pub alone : (others : List (List ℕ)) (setup : Setup) (play : Performance) (h : Heard)
       → AskFor words setup (Play play) → play.hands ≡ Some 1
-      → AskFor others setup (Play (record play { hands = None }))
+      → AskFor others setup (Play (alone_of play))
       → HasNoRedo (items_of ALONE h.brought.hearings)
       → outline words h ≡ outline others h

@@ -230,7 +230,6 @@ setting_of setup performance = record {
   script = performance.script;
   journal = performance.journal;
   room = performance.room;
-  full = performance.full;
   screen = screen_of performance;
 }
 
@@ -242,7 +241,7 @@ hands_of play = unwrap_or play.hands ALONE
 -- of a whole history
 abbrev pub crew_of : Setup → Performance → CrewState
 crew_of setup play =
-    option_map_or (λ hands. crew_at_start play.full hands setup.limit) play.hands
+    option_map_or (λ hands. crew_at_start play.full play.views hands setup.limit) play.hands
     (crew_alone play.full)
 
 -- the name of its room, if it is played in one
@@ -285,7 +284,7 @@ played_course room s b = leaving room b.closing (performance live_part s b.openi
 abbrev pub played : Option (List ℕ) → LiveState → Brought → Outline
 played room s b = record (opening live_part.stance (option_map status_of_ending) s.standing
     (played_course room s b)) {
-      screen = Some s.screen;
+      screen = Some s.setting.screen;
       given = script_kept s.setting.script s.setting.seed
           (performance live_part s b.opening b.hearings).state.given;
     }

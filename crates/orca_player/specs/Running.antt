@@ -79,12 +79,13 @@ pub record Ran (words : List (List ℕ)) (x : World) (status : Status) (y : Worl
   -- the polls that were heard are exactly those among the acts, and no more than may be
   pub polls : polls_in (outline words heard).course.acts ≡ polls_of heard.brought.hearings
   pub few : length heard.brought.hearings ≤ MAX_POLLS
-  -- wherever a picture is painted in a beginning that was done, each terminal of the size that was
-  -- told last, whatever it showed, that was sent all bytes since then shows it; a beginning that was
-  -- done has pictures of printable cells alone
+  -- wherever a picture is painted for a hand in a beginning that was done, each terminal of the
+  -- size that this hand told last, whatever it showed, that was sent all bytes for it since then
+  -- shows it; a beginning that was done has pictures of printable cells alone
   pub shows : (begun left : List Act) → (outline words heard).course.acts ≡ begun ++ left
       → ArePrintable begun
-      → IfSome (outline words heard).screen (λ screen. ShowsPictures screen [] begun)
+      → IfSome (outline words heard).screen
+      (λ screen. (hand : ℕ) → ShowsPictures hand screen [] begun)
   -- the script that is saved is read as its seed and its commands
   pub reads : status ≢ Memory → IfSome (outline words heard).given ReadsBack
   -- the song or the wave that is saved is that of the messages of the run

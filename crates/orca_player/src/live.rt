@@ -1,9 +1,9 @@
 //! A grid that is edited while it plays.
 
-ghost use Rattle.std.specs.Prelude.{◌≡◌, IfOk, IfSome, Some, [], false};
+ghost use Rattle.std.specs.Prelude.{◌≡◌, IfOk, IfSome, Some, [], false, length};
 ghost use Rattle.std.specs.Option.{option_map};
 ghost use Rattle.orca_course.specs.Standings.{notes_of};
-ghost use Rattle.orca_course.specs.Worlds.{has_ended, has_listened};
+ghost use Rattle.orca_course.specs.Worlds.{AreSeated, has_ended, has_listened};
 ghost use Rattle.orca_live.specs.Performing.{live_part};
 ghost use Rattle.orca_live.specs.States.{live_state, residue_of, setting_in};
 ghost use Rattle.orca_player.specs.Doing.{CameBy};
@@ -123,6 +123,7 @@ fn start<H: House>(
 ) -> Status
     requires open { has_ended desk.old ≡ false }
     requires same { (opening.now.seed ≡ setup.now.seed) × (opening.now.limit ≡ setup.now.limit) }
+    requires seated { AreSeated (hands_of (performance_in performance.now)) desk.old }
     ensures { CameBy (λ b. live_outline (setup_in setup.now) (performance_in performance.now)
         b (standing_at opening.now.grid opening.now.seed opening.now.limit) at)
         desk.old result desk.new }
@@ -142,7 +143,8 @@ fn play_all<M: Machine, H: House>(
     requires open { has_ended desk.old ≡ false }
     requires begins { notes_of (live_state M.Machine.own live.old).standing ≡ [] }
     requires residue { residue_of M.Machine.own live.old ≡ 0 }
-    requires sized { IsScreen (live_state M.Machine.own live.old).screen }
+    requires sized { IsScreen (live_state M.Machine.own live.old).setting.screen }
+    requires seated { AreSeated (length (live_state M.Machine.own live.old).views) desk.old }
     ensures { CameBy (λ b. played (text_in room.entry) (live_state M.Machine.own live.old) b)
         desk.old result desk.new }
 {
@@ -161,6 +163,7 @@ fn perform_and_leave<M: Machine, H: House>(
     requires open { has_ended desk.old ≡ false }
     requires begins { notes_of (live_state M.Machine.own live.old).standing ≡ [] }
     requires residue { residue_of M.Machine.own live.old ≡ 0 }
+    requires seated { AreSeated (length (live_state M.Machine.own live.old).views) desk.old }
     ensures { Performed live_part
         (played_course (text_in room.entry) (live_state M.Machine.own live.old))
         (live_state M.Machine.own live.old) desk.old result (live_state M.Machine.own live.new)
@@ -196,7 +199,6 @@ fn setting_of<'a>(setup: &Setup<'a>, performance: &Performance<'a>) -> Setting<'
         script: performance.script,
         journal: performance.journal,
         room: performance.room,
-        full: performance.full,
         screen: ScreenSize {
             rows: performance.rows,
             columns: performance.cols,
@@ -212,7 +214,13 @@ fn crew_of(alloc: Global, setup: &Setup<'_>, performance: &Performance<'_>) -> R
 {
     match performance.hands {
         None => Ok(Crew::alone(alloc, performance.full)),
-        Some(hands) => Crew::start(alloc, performance.full, hands, setup.limit),
+        Some(hands) => Crew::start(
+            alloc,
+            performance.full,
+            performance.views,
+            hands,
+            setup.limit,
+        ),
     }
 }
 

@@ -4,7 +4,7 @@ ghost use Rattle.std.specs.Prelude.{◌≡◌, ◌≤◌, [], ◌∷◌, IfErr, 
 ghost use Rattle.orca_base.specs.declared.limits.TheConstants.{MAX_HANDS};
 ghost use Rattle.orca_course.specs.Acts.Act.{Listen};
 ghost use Rattle.orca_course.specs.Following.{sounding};
-ghost use Rattle.orca_course.specs.Worlds.{Made, Sated, has_ended, has_listened, owing};
+ghost use Rattle.orca_course.specs.Worlds.{AreSeated, Made, Sated, has_ended, has_listened, owing};
 ghost use Rattle.orca_player.specs.Doing.{CameBy};
 ghost use Rattle.orca_player.specs.Outlines.{Brought, Outline, leavings, status_of_ending, waiting};
 ghost use Rattle.orca_player.specs.Performances.{BrokeOff, EndsSilent, Lasted, Performed, whole};
@@ -53,6 +53,7 @@ pub(crate) fn perform_all<P: Closes, H: House>(performer: &mut P, desk: &mut Des
     requires begins { sounding (P.part.stance.standing (P.state performer.old)) ≡ [] }
     requires residue { P.residue performer.old ≡ 0 }
     requires silent { EndsSilent P.part }
+    requires seated { AreSeated (P.part.seats (P.state performer.old)) desk.old }
     ensures { Performed P.part (whole P.part (P.state performer.old)) (P.state performer.old)
         desk.old result (P.state performer.new) desk.new }
 {
@@ -73,6 +74,7 @@ pub(crate) fn perform_whole<P: Closes, H: House>(
     requires open { has_ended desk.old ≡ false }
     requires begins { sounding (P.part.stance.standing (P.state performer.old)) ≡ [] }
     requires residue { P.residue performer.old ≡ 0 }
+    requires seated { AreSeated (P.part.seats (P.state performer.old)) desk.old }
     ensures lasted { IfOk result (λ ending. Lasted P.part (P.state performer.old)
         (owing (P.residue performer.old) desk.old) ending (P.state performer.new)
         (owing (P.residue performer.new) desk.new)) }

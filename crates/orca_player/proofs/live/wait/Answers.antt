@@ -2,6 +2,7 @@ use Rattle.std.proofs.Common.{false, refl}
 use Rattle.std.specs.Prelude.{Some}
 use Rattle.orca_player.specs.Outlines.{leavings, live_outline, room_name, standing_at, waiting}
 use Rattle.orca_player.proofs.CameLemmas.{by_after, came_by_hands, kind_of, listened}
+use Rattle.orca_course.proofs.SeatLemmas.{seated_made}
 use Rattle.orca_player.proofs.live.wait.Goals as goal
 use Rattle.orca_words.specs.RequestIn.{performance_in, setup_in}
 
@@ -17,6 +18,11 @@ returns-in-Ok g c =
     c.unwrap_or-hands.ensures
     (by_after (record c.start.ensures.brought { start = Some _ })
     (listened c.in-Ok.ensures.listened) (kind_of c.start.ensures) c.start.ensures.came refl)
+
+pub start-requires-clause-seated : goal.start-requires-clause-seated
+start-requires-clause-seated g c =
+    rw (← c.unwrap_or-hands.ensures)
+    (seated_made c.in-Ok.ensures.listened.0 c.in-Ok.ensures.listened.1)
 
 pub returns-in-Err : goal.returns-in-Err
 returns-in-Err g c =
