@@ -50,8 +50,7 @@ first_plays() {
 second_joins() {
     turn_to second
     on_stage --join "127.0.0.1:$port"
-    await_text seen \
-        "perform: your keys go to 127.0.0.1:$port; the picture is on the first player's screen, and Ctrl-Q leaves"
+    await_text seen "waiting for the picture of 127.0.0.1:$port; Ctrl-Q leaves"
 }
 
 # Eight hands play one piece: at the first terminal, at another one by --join, over a connection that is reset in the middle,
