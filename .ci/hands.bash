@@ -28,6 +28,29 @@ keys.setsockopt(socket.SOL_SOCKET, socket.SO_LINGER, struct.pack("ii", 1, 0))
 keys.close()' "$1"
 }
 
+# screen_of ROWS COLUMNS: what a terminal of this size shows that was sent the file seen, row by row. It knows what the
+# program paints: places, styles and printable characters; what else a terminal is asked for, it passes over.
+screen_of() {
+    python3 -c 'import re, sys
+rows, columns = map(int, sys.argv[1:])
+screen, y, x = [[" "] * columns for _ in range(rows)], 0, 0
+for place, glyph in re.findall(r"\x1b\[([0-9;?]*[A-Za-z])|([ -~])", open("seen", encoding="latin-1").read()):
+    if place.endswith("H"):
+        y, x = (int(number) - 1 for number in (place[:-1] or "1;1").split(";"))
+    elif glyph and y < rows and x < columns:
+        screen[y][x] = glyph
+        x += 1
+print("\n".join(map("".join, screen)))' "$1" "$2" 2>/dev/null
+}
+
+# shows ROWS COLUMNS PATTERN STATUS: the first row of that terminal begins so, and its status line has this
+shows() {
+    local screen
+    mapfile -t screen < <(screen_of "$1" "$2")
+    # shellcheck disable=SC2053 # a pattern
+    [[ ${screen[0]-} == $3* && ${screen[$(($1 - 1))]-} == *"$4"* ]]
+}
+
 # saves TEXT: the key Save of the first player saves a grid that begins with this text
 saves() {
     printf '\x13' >&"${typists[first]}"
@@ -99,6 +122,36 @@ try_hands() {
         fails "eight hands save another grid: $(cat saved)"
     turn_to .
     echo "peers: eight hands play one piece, of which one is reset and one leaves"
+}
+
+# Two players see the piece in terminals of two sizes, each with its own cursor. One stands still for ten seconds, and the
+# other plays on; then its picture is whole again. It leaves, and the first one plays on.
+try_views() {
+    local before
+    prelude='stty rows 24 cols 80' first_plays --hands 2
+    prelude='stty rows 6 cols 30' second_joins
+    printf '\e[C8' >&"$typed"
+    within 60 shows 6 30 "?8.." ' 0,1 1x1 play 999' || fails "the second player sees: $(screen_of 6 30)"
+    turn_to first
+    within 60 shows 24 80 "?8.." ' 0,0 1x1 play 999' || fails "the first player sees: $(screen_of 24 80)"
+    kill -STOP "$(pgrep -P "${peers[second]}" script)"
+    before=$(tick_in seen)
+    type_glyph 7
+    sleep 10
+    [ "$(tick_in seen)" -gt $((before + 300)) ] ||
+        fails "a player who stands still holds the other up: from $before to $(tick_in seen)"
+    kill -CONT "$(pgrep -P "${peers[second]}" script)"
+    turn_to second
+    within 60 shows 6 30 78.. ' 0,1 1x1 play 999' || fails "a player who stood still sees: $(screen_of 6 30)"
+    printf '\e[B9' >&"$typed"
+    within 60 eval 'screen_of 6 30 | sed -n 2p | grep -q "^\.9\.\."' || fails "a player who stood still types: $(screen_of 6 30)"
+    end_stage 0
+    turn_to first
+    plays_on seen 5 "a player left"
+    shows 24 80 78.. ' 0,0 1x1 play 999' || fails "the first player sees at last: $(screen_of 24 80)"
+    end_stage 0
+    turn_to .
+    echo "peers: each player sees a picture of his own, and one who stands still holds nobody up"
 }
 
 # Nobody joins: Ctrl-Q ends that, and leaves nothing. An address that is taken is told. One hand waits for nobody. Signals
