@@ -6,7 +6,7 @@ It prints how late frames are, how long a key waits for its painting, near a fra
 fell behind catches up, what eight megabytes of keys and saves do to the frames, how much of a processor is used, and
 how many bytes a frame paints; with --short it prints only how late frames and keys are, with --clock only how late the
 clock of `lead` is, and a frame of `follow` after its clock, and with --hands only how late the frames of `jam` are
-while eight hands send nothing, and while each of them sends eight megabytes of keys. PROGRAM is crates/orca/out/orca if
+while eight hands send nothing, while each of them sends eight megabytes of keys, and while each sees a picture. PROGRAM is crates/orca/out/orca if
 it is not given. For figures that mean something nothing else may run.
 """
 import os
@@ -375,6 +375,38 @@ def hands_flood(bpm, seconds, count):
     player.leave()
 
 
+class Reader:
+    """A process that reads what a hand is shown, and drops it."""
+
+    def __init__(self, hand):
+        self.process = os.fork()
+        if self.process == 0:
+            while hand.recv(1 << 16):
+                pass
+            os._exit(0)
+
+    def end(self):
+        os.kill(self.process, signal.SIGKILL)
+        os.waitpid(self.process, 0)
+
+
+def hands_see(bpm, seconds):
+    """Eight hands with the largest screens, of whom one reads nothing: how late the frames are while hand 0 alone is shown a
+    picture, and while each hand is."""
+    interval = interval_of(bpm)
+    for views in 'one', 'all':
+        player = Player(BEAT, '--bpm', bpm, '--midi', 'pipe', '--rows', 100, '--cols', 256, '--views', views, verb='jam', hands=HANDS)
+        readers, waiter = [Reader(hand) for hand in player.hands[2:]], Waiter(interval)
+        for _ in player.frames(2 * interval):
+            pass
+        late = late_by(list(player.frames(seconds)), interval)
+        spread(f'a frame at {bpm} beats while {HANDS} hands see --views {views}', late, 'microseconds', 1e6)
+        waiter.tell()
+        for reader in readers:
+            reader.end()
+        player.leave()
+
+
 def saving(bpm, count):
     """How late the frames are while the piece is saved in every fifth of them."""
     interval, moments = interval_of(bpm), []
@@ -414,6 +446,7 @@ def main():
     if '--hands' in sys.argv:
         for bpm in (120, 999):
             hands_flood(bpm, seconds / 4, option('--flood', 8_000_000))
+            hands_see(bpm, seconds / 4)
         return
     large = ('--rows', 100, '--cols', 256)
     # In some of these turns the machine itself may be stopped less than in others.
