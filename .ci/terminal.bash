@@ -398,9 +398,9 @@ try_other_rooms() {
         $kind "$room"
         on_stage crowded --bpm 1
         await_stage 13
-        await_text seen "$PWD/$room: this is no room of a performance: move it away"
-        say_by_perform 125 "$PWD/$room: this is no room of a performance: move it away" --recover crowded
-        say_by_perform 125 "$PWD/$room: this is no room of a performance: move it away" --discard crowded
+        await_text seen "$PWD/$room: this is no room of yours: move it away"
+        say_by_perform 125 "$PWD/$room: this is no room of yours: move it away" --recover crowded
+        say_by_perform 125 "$PWD/$room: this is no room of yours: move it away" --discard crowded
         [ -L "$room" ] || [ -p "$room" ] || [ -d "$room" ] || fails "$kind: what is no room is gone"
         [ ! -d "$room" ] || [ -L "$room" ] || rmdir "$room"
         rm -f "$room"
@@ -419,6 +419,14 @@ try_other_rooms() {
     ! "$top/perform" --recover crowded 2>fault || fails "a file without a grid is recovered"
     [ "$(cat "$room")" = nothing ] || fails "a recovery that failed takes the room away"
     rm -f "$room" crowded.recovered.*
+    # Nor is that of another user, which can't be read.
+    if [ "$(id -u)" = 0 ] && chmod 711 "$work" && setpriv --reuid=65534 --clear-groups test -x "$top/perform" 2>/dev/null; then
+        mkdir theirs && chmod 777 theirs
+        (umask 077 && crowd 1 >theirs/.other.orca-room)
+        as_nobody='setpriv --reuid=65534 --regid=65534 --clear-groups' \
+            refuses "$PWD/theirs/.other.orca-room: this is no room of yours: move it away" --recover theirs/other
+        rm -r theirs
+    fi
     echo "peers: what is no room of the piece stays, and is told"
 }
 
