@@ -36,7 +36,7 @@ all_inner (turn ∷ turns) inner = (midway_inner turn inner.0, all_inner turns i
 
 pub all_midway : (opening : Losses) (heard : List Hearing)
     → AreMidway (first_turns opening ++ heard_turns heard)
-all_midway opening heard = (tt, (tt, all_inner (heard_turns heard) (inner_heard heard)))
+all_midway opening heard = (tt, (tt, (tt, all_inner (heard_turns heard) (inner_heard heard))))
 
 -- where fewer polls were answered than may be, that adds no turn
 pub begun_few : {S : Type 0} (p : Part S) (s : S) (opening : Losses) (heard : List Hearing)
@@ -68,7 +68,7 @@ IsHeard turn a = Unit {0}
 -- the answer of which more is given after a turn, if any is
 abbrev pub after_turn : Turn → Option Answer → Option Answer
 after_turn (Asked poll) a = Some poll.answer
-after_turn (Given (item.Over came)) a = None
+after_turn (Given item.Settle) a = None
 after_turn turn a = a
 
 -- up to one that ends the performance
@@ -81,7 +81,7 @@ bytes_heard : (hand count at : ℕ) (bytes : List ℕ) (came : Losses) (rest : L
     → AreHeard rest None
     → AreHeard (answer_turns (answer.Bytes hand count at) bytes came ++ rest)
     (Some (answer.Bytes hand count at))
-bytes_heard hand count at [] came rest more = (tt, (tt, more))
+bytes_heard hand count at [] came rest more = (tt, (tt, (tt, more)))
 bytes_heard hand count at (byte ∷ bytes) came rest more =
     (refl, bytes_heard hand count at bytes came rest more)
 
@@ -89,7 +89,7 @@ answer_heard : (a : Answer) (bytes : List ℕ) (came : Losses) (rest : List Turn
     → AreHeard (answer_turns a bytes came ++ rest) (Some a)
 answer_heard (answer.Bytes hand count at) bytes came rest more =
     bytes_heard hand count at bytes came rest more
-answer_heard (answer.Due at) bytes came rest more = (tt, (tt, (tt, more)))
+answer_heard (answer.Due at) bytes came rest more = (tt, (tt, (tt, (tt, more))))
 answer_heard answer.End bytes came rest more = tt
 answer_heard answer.Failed bytes came rest more = tt
 

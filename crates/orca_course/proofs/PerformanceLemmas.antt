@@ -35,10 +35,9 @@ notes-standing_closed s =
     ap (λ (p : Piece). p.notes)
     (piece_after-closed m.opened m.seed m.history (length m.history) m.closed (omega arith))
 
--- how a performer comes to its end: what comes first does not end it, an item ends it by leaving or
--- by a full history alone, and where it has finished no note sounds
+-- how a performer comes to its end: an item ends it by leaving or by a full history alone, and where
+-- it has finished no note sounds
 pub record EndsWell {S : Type 0} (p : Part S) : Type 0 where
-  pub opens : (came : Losses) (s : S) → (p.takes (item.Open came) s).ending ≡ None
   pub takes : (i : Item) (s : S)
       → IfSome (p.takes i s).ending (λ stop. (stop ≡ Left) ⊎ (stop ≡ Full))
   pub silent : (ending : Ending) (s : S)

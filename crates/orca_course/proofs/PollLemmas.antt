@@ -13,7 +13,7 @@ use Rattle.orca_course.specs.Acts.{AreDeaf, polls_in}
 use Rattle.orca_course.specs.Answered.{losses_of, is_failure}
 use Rattle.orca_course.specs.Courses.{Course, each, ended, lastly, mapped, onward}
 use Rattle.orca_course.specs.Doing.{Does}
-use Rattle.orca_course.specs.Performers.{DoesPolls, Hearing, IsDeaf, IsLostBy, Part, Turn, answer_turns, attended, begun, finished, first_turns, given_course, heard_turns, items_of, last_turns, performance, polls_of, spent, turn_course, turns_of}
+use Rattle.orca_course.specs.Performers.{DoesPolls, Hearing, IsDeaf, IsLostBy, Part, Turn, answer_turns, attended, begun, finished, first_turns, given_course, heard_turns, items_of, last_turns, over_turns, performance, polls_of, spent, turn_course, turns_of}
 use Rattle.orca_course.specs.Performers.Turn.{Asked, Given, Learned, Over}
 use Rattle.orca_course.specs.Worlds.{Polled, World, has_ended, is_lost, owing}
 use Rattle.orca_course.specs.declared.ending.Ending.{Ending}
@@ -95,7 +95,7 @@ module _ {S : Type 0} (p : Part S) (deaf : IsDeaf p) where
 
   -- what comes first
   first_quiet : (came : Losses) (s : S) → IsQuiet (each (turn_course p) (first_turns came) s)
-  first_quiet came s = turns_quiet (first_turns came) (tt, (tt, tt)) s
+  first_quiet came s = turns_quiet (first_turns came) (tt, (tt, (tt, tt))) s
 
   -- no poll comes after the last
   spent_deaf : (heard : List Hearing) (s : S) → AreDeaf (each (turn_course p) (spent heard) s).acts
@@ -117,9 +117,8 @@ answer_goes p answer.End bytes came s goes = let goes = rw over_turn at goes in 
 answer_goes p answer.Failed bytes came s goes = let goes = rw over_turn at goes in absurd cc
 
 plain_bytes : (hand at : ℕ) (bytes : List ℕ) (came : Losses)
-    → Are IsPlain (map Given (map (item.Byte hand at) bytes)
-    ++ Learned came ∷ Given (item.Over came) ∷ [])
-plain_bytes hand at [] came = (tt, (tt, tt))
+    → Are IsPlain (map Given (map (item.Byte hand at) bytes) ++ over_turns came)
+plain_bytes hand at [] came = (tt, (tt, (tt, tt)))
 plain_bytes hand at (byte ∷ bytes) came = (tt, plain_bytes hand at bytes came)
 
 lost_same : (end : Option Ending) → ((was : Bool) → IsLostBy (Ok end) was was) → (was : Bool)
@@ -136,8 +135,8 @@ answer_quiet p deaf (answer.Bytes hand count at) bytes came s =
     let quiet = turns_quiet p deaf _ (plain_bytes hand at bytes came) s in
     (quiet.0, lost_same _ quiet.1)
 answer_quiet p deaf (answer.Due at) bytes came s =
-    let turns = Given (item.Due at) ∷ Learned came ∷ Given (item.Over came) ∷ [] in
-    let quiet = turns_quiet p deaf turns (tt, (tt, (tt, tt))) s in
+    let turns = Given (item.Due at) ∷ over_turns came in
+    let quiet = turns_quiet p deaf turns (tt, (tt, (tt, (tt, tt)))) s in
     (quiet.0, lost_same _ quiet.1)
 answer_quiet p deaf answer.End bytes came s = rw over_turn (tt, λ was. grind arith)
 answer_quiet p deaf answer.Failed bytes came s = rw over_turn (tt, λ was. grind arith)
@@ -162,6 +161,21 @@ pub over_took : {S : Type 0} (p : Part S) (e : Ending) (s : S) (x : World)
 over_took p e s x = rw over_turn (does_end e x refl)
 
 module _ {S : Type 0} (p : Part S) {s t : S} {x y : World} where
+  -- an item was given, and then other turns
+  pub given_then : (i : Item) (turns : List Turn) {u : S} {z : World}
+      {result : Result (Option Ending) NoMemory}
+      → Does p.stance (given_course p i s) s x (Ok None) t y
+      → Does p.stance (each (turn_course p) turns t) t y result u z
+      → Does p.stance (each (turn_course p) (Given i ∷ turns) s) s x result u z
+  unfolding each turn_course
+  given_then i turns first more = does_then (each (turn_course p) turns) first more
+
+  pub given_left : (i : Item) (turns : List Turn) (result : Result (Option Ending) NoMemory)
+      → Ends result → Does p.stance (given_course p i s) s x result t y
+      → Does p.stance (each (turn_course p) (Given i ∷ turns) s) s x result t y
+  unfolding each turn_course
+  given_left i turns result ends first = does_left (each (turn_course p) turns) result ends first
+
   -- what calls came to was told with an item
   pub told_took : (i : Losses → Item) (came : Losses) {result : Result (Option Ending) NoMemory}
       → came ≡ losses_of x.calls → Does p.stance (given_course p (i came) s) s x result t y

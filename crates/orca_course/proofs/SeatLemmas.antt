@@ -18,6 +18,7 @@ use Rattle.orca_course.specs.declared.item.Item.{Item}
 use Rattle.orca_course.specs.declared.item.Losses.{Losses}
 use Rattle.orca_course.proofs.ActLemmas.{seats-deaf, seats_after, seats_after-append, seats_after-calls}
 use Rattle.orca_course.proofs.AnsweredLemmas.{refused_in-append, seats_after-done}
+use Rattle.orca_course.proofs.CourseLemmas.{each-one}
 use Rattle.orca_course.proofs.PollLemmas.{given_turns}
 use Rattle.orca_course.proofs.TurnLemmas.{Are, turns_hold}
 
@@ -116,6 +117,12 @@ module _ {S : Type 0} (p : Part S) (deaf : IsDeaf p) (steady : KeepsSeats p) whe
   seated_items items {s = s} {t = t} {x = x} {y = y} {end = end} did seated =
       seated_turns (map Given items) {s = s} {t = t} {x = x} {y = y} {end = end}
       (rw (given_turns p items s) did) seated
+
+  pub seated_given : (i : Item) {s t : S} {x y : World} {end : Option Ending}
+      → Does p.stance (given_course p i s) s x (Ok end) t y → AreSeated (p.seats s) x
+      → AreSeated (p.seats t) y
+  seated_given i {s = s} {t = t} {x = x} {y = y} {end = end} did seated =
+      seated_items (i ∷ []) {s = s} {t = t} {x = x} {y = y} {end = end} (rw each-one did) seated
 
   pub seated_begun : (came : Losses) (heard : List Hearing) {s t : S} {x y : World}
       {end : Option Ending} → Does p.stance (begun p s came heard) s x (Ok end) t y

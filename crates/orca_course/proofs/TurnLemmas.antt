@@ -50,6 +50,7 @@ module _ {S E : Type 0} (holds : Option E → S → List Act → S → Type 0)
 
 -- neither what comes first nor what comes last is given
 abbrev pub IsInner : Turn → Type 0
+IsInner (Given item.Start) = ⊥
 IsInner (Given (item.Open came)) = ⊥
 IsInner (Given (item.Ended ending)) = ⊥
 IsInner other = Unit {0}
@@ -72,8 +73,8 @@ inner_items answer.End bytes = tt
 inner_items answer.Failed bytes = tt
 
 inner_last : (a : Answer) (came : Losses) → AreInner (last_turns a came)
-inner_last (answer.Bytes hand count at) came = (tt, (tt, tt))
-inner_last (answer.Due at) came = (tt, (tt, tt))
+inner_last (answer.Bytes hand count at) came = (tt, (tt, (tt, tt)))
+inner_last (answer.Due at) came = (tt, (tt, (tt, tt)))
 inner_last answer.End came = (tt, tt)
 inner_last answer.Failed came = (tt, tt)
 

@@ -69,10 +69,14 @@ items_of (answer.Due at) bytes = item.Due at ∷ []
 items_of answer.End bytes = []
 items_of answer.Failed bytes = []
 
--- that it was all; the last answers end the performance
+-- that it was all, and then what the calls came to
+abbrev pub over_turns : Losses → List Turn
+over_turns came = Given item.Settle ∷ Learned came ∷ Given (item.Over came) ∷ []
+
+-- so it is after bytes and a moment; the last answers end the performance
 abbrev pub last_turns : Answer → Losses → List Turn
-last_turns (answer.Bytes hand count at) came = Learned came ∷ Given (item.Over came) ∷ []
-last_turns (answer.Due at) came = Learned came ∷ Given (item.Over came) ∷ []
+last_turns (answer.Bytes hand count at) came = over_turns came
+last_turns (answer.Due at) came = over_turns came
 last_turns answer.End came = Over (Stopped Left) ∷ []
 last_turns answer.Failed came = Over Lost ∷ []
 
@@ -93,9 +97,9 @@ heard_turns heard = flat_map turns_of heard ++ spent heard
 unfoldable pub attended : {S : Type 0} → Part S → S → List Hearing → Course S Ending
 attended p s heard = each (turn_course p) (heard_turns heard) s
 
--- what comes first
+-- what comes first: the performance begins, and then what the calls came to
 abbrev pub first_turns : Losses → List Turn
-first_turns came = Learned came ∷ Given (item.Open came) ∷ []
+first_turns came = Given item.Start ∷ Learned came ∷ Given (item.Open came) ∷ []
 
 -- what comes first, and then the answers
 unfoldable pub begun : {S : Type 0} → Part S → S → Losses → List Hearing → Course S Ending

@@ -20,13 +20,17 @@ pub struct Losses {
 /// What a performer is given, one after another. Moments are in microseconds.
 #[derive(Clone, Copy, Debug, PartialEq, Eq)]
 pub enum Item {
-    /// The performance begins.
+    /// The performance begins: what is kept of it begins.
+    Start,
+    /// The performance has begun: what the calls so far came to.
     Open(Losses),
     /// A byte of a hand, which came at a moment.
     Byte { hand: u8, at: u64, byte: u8 },
     /// A moment is due, and nothing came before it.
     Due { at: u64 },
-    /// All that an answer brought was given.
+    /// All that an answer brought was given: what is kept of it is written.
+    Settle,
+    /// The answer is over: what the calls so far came to.
     Over(Losses),
     /// The performance has ended so: what comes last.
     Ended(Ending),

@@ -3,7 +3,7 @@
 ghost use Rattle.std.specs.Prelude.{◌≡◌, ◌<◌, ◌∷◌, ◌+◌, drop, false, length};
 ghost use Rattle.orca_course.specs.Courses.{each};
 ghost use Rattle.orca_course.specs.Performed.{Performs, PerformsCame, PerformsFrom, PerformsPolls};
-ghost use Rattle.orca_course.specs.Performers.{answer_turns, attended, begun, first_turns, given_course, items_of, last_turns, performance, turn_course};
+ghost use Rattle.orca_course.specs.Performers.{answer_turns, attended, begun, first_turns, given_course, items_of, last_turns, over_turns, performance, turn_course};
 ghost use Rattle.orca_course.specs.Worlds.{AreSeated, has_ended};
 ghost use Rattle.orca_rig.specs.Arrived.{arrived};
 
@@ -86,6 +86,24 @@ fn give_items<P: Performer, H: House>(
     Ok(None)
 }
 
+/// Gives that it was all, and then what the calls came to.
+fn settle<P: Performer, H: House>(
+    performer: &mut P,
+    desk: &mut Desk<H>,
+) -> Result<Option<Ending>, NoMemory>
+    requires { AreSeated (P.part.seats (P.state performer.old)) desk.old }
+    ensures { PerformsCame P.Performer.own (λ came. each (turn_course P.part) (over_turns came))
+        performer.old desk.old result performer.new desk.new }
+{
+    performer.is_deaf();
+    performer.is_steady();
+    if let Some(ending) = give(performer, desk, Item::Settle)? {
+        return Ok(Some(ending));
+    }
+    let came = desk.losses();
+    give(performer, desk, Item::Over(came))
+}
+
 /// Gives that it was all, and what the calls came to. The last answers end the performance.
 fn give_last<P: Performer, H: House>(
     performer: &mut P,
@@ -100,10 +118,7 @@ fn give_last<P: Performer, H: House>(
     match answer {
         Answer::End => Ok(Some(Ending::Stopped(Stop::Left))),
         Answer::Failed => Ok(Some(Ending::Lost)),
-        Answer::Bytes { .. } | Answer::Due { .. } => {
-            let came = desk.losses();
-            give(performer, desk, Item::Over(came))
-        }
+        Answer::Bytes { .. } | Answer::Due { .. } => settle(performer, desk),
     }
 }
 
@@ -146,7 +161,7 @@ fn attend<P: Performer, H: House>(performer: &mut P, desk: &mut Desk<H>) -> Resu
     Ok(Ending::Spent)
 }
 
-/// Gives that the performance begins, and what the calls before it came to.
+/// Gives that the performance begins, and then what the calls came to.
 fn open<P: Performer, H: House>(
     performer: &mut P,
     desk: &mut Desk<H>,
@@ -155,6 +170,11 @@ fn open<P: Performer, H: House>(
     ensures { PerformsCame P.Performer.own (λ came. each (turn_course P.part) (first_turns came))
         performer.old desk.old result performer.new desk.new }
 {
+    performer.is_deaf();
+    performer.is_steady();
+    if let Some(ending) = give(performer, desk, Item::Start)? {
+        return Ok(Some(ending));
+    }
     let came = desk.losses();
     give(performer, desk, Item::Open(came))
 }

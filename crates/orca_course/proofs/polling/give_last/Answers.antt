@@ -1,8 +1,7 @@
 use Rattle.std.proofs.Common.{inl, inr}
 use Rattle.std.specs.Prelude.{[]}
 use Rattle.orca_course.specs.Answered.{losses_of}
-use Rattle.orca_course.proofs.PollLemmas.{over_took, told_took}
-use Rattle.orca_course.specs.declared.item.Item.TheVariants as item
+use Rattle.orca_course.proofs.PollLemmas.{over_took}
 use Rattle.orca_course.proofs.polling.give_last.Goals as goal
 
 pub returns-in-End : goal.returns-in-End
@@ -14,8 +13,7 @@ returns-in-Failed g c = (losses_of [], rw c.in-Failed.is (over_took g.P.Performe
 -- bytes came, or a moment was due
 pub returns-in-Bytes : goal.returns-in-Bytes
 returns-in-Bytes g c =
-    let took = told_took g.P.Performer.part item.Over _ c.losses-came.ensures c.give.ensures in
     elim c.in-Bytes.is [
-      | inl w ↦ (c.losses-came.result, rw w.3 took)
-      | inr w ↦ (c.losses-came.result, rw w.1 took)
+      | inl w ↦ (c.settle.ensures.0, rw w.3 c.settle.ensures.1)
+      | inr w ↦ (c.settle.ensures.0, rw w.1 c.settle.ensures.1)
     ]
