@@ -13,7 +13,7 @@ use Rattle.orca_concert.specs.Manners.{Manner}
 use Rattle.orca_concert.specs.Manners.News.{Stands}
 use Rattle.orca_course.specs.Acts.{Act, commands_in}
 use Rattle.orca_course.specs.Courses.{Course, afterwards, each, lastly, lastly_by, mapped, onward}
-use Rattle.orca_course.specs.Performers.{Hearing, Turn, answer_turns, attended, begun, finished, first_turns, given_course, heard_turns, performance, spent, turn_course, turns_of}
+use Rattle.orca_course.specs.Performers.{Hearing, Turn, answer_turns, attended, begun, finished, first_turns, given_course, heard_turns, over_turns, performance, spent, turn_course, turns_of}
 use Rattle.orca_course.specs.Performers.Turn.{Asked, Given, Learned, Over}
 use Rattle.orca_course.specs.Standings.{Standing, notes_of, standing_after, standing_closed}
 use Rattle.orca_course.specs.declared.ending.Ending.{Ending}
@@ -183,8 +183,10 @@ module _ {R : Type 0} (m : Manner R) (tells : TellsAtEnd m) where
   turns_heard (Given (item.Ended ending) ∷ turns) s =
       rw (commands_in-append (end_course m ending s.concert).acts _, end_none ending s.concert)
       (turns_heard turns _)
+  turns_heard (Given item.Start ∷ turns) s = turns_heard turns s
   turns_heard (Given (item.Open came) ∷ turns) s = turns_heard turns s
   turns_heard (Given (item.Due at) ∷ turns) s = turns_heard turns s
+  turns_heard (Given item.Settle ∷ turns) s = turns_heard turns s
   turns_heard (Given (item.Over came) ∷ turns) s = turns_heard turns s
 
 -- ---- the bytes of answers
@@ -211,9 +213,8 @@ hand_bytes hand at (byte ∷ bytes) turns =
 answer_bytes : (a : Answer) (bytes : List ℕ) (came : Losses) (turns : List Turn)
     → bytes_in (answer_turns a bytes came ++ turns) ≡ bytes_before bytes a (bytes_in turns)
 answer_bytes (answer.Bytes hand count at) bytes came turns =
-    let last = Learned came ∷ Given (item.Over came) ∷ [] in
-    ap bytes_in (append_assoc (map Given (map (item.Byte hand at) bytes)) last turns)
-    ∙ hand_bytes hand at bytes (last ++ turns)
+    ap bytes_in (append_assoc (map Given (map (item.Byte hand at) bytes)) (over_turns came) turns)
+    ∙ hand_bytes hand at bytes (over_turns came ++ turns)
 answer_bytes (answer.Due at) bytes came turns = refl
 answer_bytes answer.End bytes came turns = refl
 answer_bytes answer.Failed bytes came turns = refl
@@ -311,8 +312,10 @@ module _ {R : Type 0} (m : Manner R) (tells : TellsAtEnd m) where
   turn_made (Over ending) inner s = refl
   turn_made (Given (item.Byte hand at byte)) inner s = byte_made hand byte s (hand == 0) refl
   turn_made (Given (item.Ended ending)) inner s = absurd inner
+  turn_made (Given item.Start) inner s = absurd inner
   turn_made (Given (item.Open came)) inner s = absurd inner
   turn_made (Given (item.Due at)) inner s = refl
+  turn_made (Given item.Settle) inner s = refl
   turn_made (Given (item.Over came)) inner s = refl
 
   attended_made : (heard : List Hearing) (s : Followed R)

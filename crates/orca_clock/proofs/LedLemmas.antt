@@ -298,8 +298,10 @@ module _ {R : Type 0} (m : Manner R) (tells : TellsAtEnd m) (lawful : IsLawful r
       due_led at s s.metronome.pulse.runs (plays s.metronome)
       (nat_le (machine_of s).limit (length (machine_of s).history)) refl refl refl
       (λ is. other (ap (option_map Stopped) is))
+  turn_led (Given item.Start) inner s = absurd inner
   turn_led (Given (item.Open came)) inner s = absurd inner
   turn_led (Given (item.Ended ending)) inner s = absurd inner
+  turn_led (Given item.Settle) inner s = λ other. led_none s
   turn_led (Given (item.Over came)) inner s = λ other. led_none s
 
   pub attended_led : (heard : List Hearing) (s : Led R)

@@ -66,9 +66,11 @@ hand_deaf m hand byte s = grind (arith, byte_deaf m byte s)
 
 pub follow_is_deaf : {R : Type 0} (m : Manner R) → IsDeaf (follow_part m)
 unfolding IsDeaf follow_course mapped
+follow_is_deaf m item.Start s = tt
 follow_is_deaf m (item.Open came) s = tt
 follow_is_deaf m (item.Byte hand at byte) s = hand_deaf m hand byte s
 follow_is_deaf m (item.Due at) s = tt
+follow_is_deaf m item.Settle s = tt
 follow_is_deaf m (item.Over came) s = tt
 follow_is_deaf m (item.Ended ending) s = end_deaf m ending s.concert
 
@@ -107,9 +109,11 @@ lead_finishes m ending s =
 
 pub lead_is_deaf : {R : Type 0} (m : Manner R) → IsDeaf (lead_part m)
 unfolding IsDeaf lead_course lead_open mapped
+lead_is_deaf m item.Start s = tt
 lead_is_deaf m (item.Open came) s = tt
 lead_is_deaf m (item.Byte hand at byte) s = hand_key_deaf hand at byte s
 lead_is_deaf m (item.Due at) s = due_if m at s s.metronome.pulse.runs refl
+lead_is_deaf m item.Settle s = tt
 lead_is_deaf m (item.Over came) s = tt
 lead_is_deaf m (item.Ended ending) s = lead_finishes m ending s
 

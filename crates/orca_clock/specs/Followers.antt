@@ -83,9 +83,11 @@ hand_byte_course m hand byte s = if hand == 0 then clock_byte_course m byte s el
 -- what an item brings. No moment is waited for, so none comes
 unfoldable pub follow_course : {R : Type 0} → Manner R → Item → Followed R
     → Course (Followed R) Stop
+follow_course m item.Start s = still s
 follow_course m (item.Open came) s = still s
 follow_course m (item.Byte hand at byte) s = hand_byte_course m hand byte s
 follow_course m (item.Due at) s = still s
+follow_course m item.Settle s = still s
 follow_course m (item.Over came) s = still s
 follow_course m (item.Ended ending) s = with_pulse s.pulse (end_course m ending s.concert)
 

@@ -108,9 +108,11 @@ lead_finish m ending s =
 
 -- what an item brings
 unfoldable pub lead_course : {R : Type 0} → Manner R → Item → Led R → Course (Led R) Stop
+lead_course m item.Start s = still s
 lead_course m (item.Open came) s = lead_open s
 lead_course m (item.Byte hand at byte) s = hand_key_course hand at byte s
 lead_course m (item.Due at) s = clock_due_course m at s
+lead_course m item.Settle s = still s
 lead_course m (item.Over came) s = still s
 lead_course m (item.Ended ending) s = lead_finish m ending s
 

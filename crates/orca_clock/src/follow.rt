@@ -72,7 +72,9 @@ impl<M: Machine, R: Report> Performer for Follow<M, R> {
                 finish(self, desk, ending)?;
                 Ok(None)
             }
-            Item::Open(_) | Item::Due { .. } | Item::Over(_) => Ok(None),
+            Item::Start | Item::Open(_) | Item::Due { .. } | Item::Settle | Item::Over(_) => {
+                Ok(None)
+            }
         }
     }
 

@@ -88,7 +88,7 @@ impl<M: Machine, R: Report> Performer for Lead<M, R> {
                 finish(self, desk, ending)?;
                 Ok(None)
             }
-            Item::Over(_) => Ok(None),
+            Item::Start | Item::Settle | Item::Over(_) => Ok(None),
         }
     }
 
