@@ -47,7 +47,7 @@ use Rattle.orca_live.specs.Items.{ByteOf, FrameDue, HeardItem}
 use Rattle.orca_live.specs.Laws.{ItemsDecide, screens_of}
 use Rattle.orca_live.specs.Performing.{answered_at, byte_course, denied_course, due_course, fired, frame_course, hand_course, finish_course, item_course, key_course, knowing, live_part, lull_course, owning, picture_course, press_course, read_course, redrawn, save_course, struck_course, struck_where, take_course, wish_course}
 use Rattle.orca_live.specs.States.{LiveState, Viewed, around_at, dims_at, fitted, hands_in, is_full, is_hand, leader_at, screen_at, unpainted}
-use Rattle.orca_live.proofs.GivenLemmas.{IsAside, blank, blank_twice, core, core_fitted, core_plain, core_twice, finish_closes, open_aside, plain, players_twice, update_aside}
+use Rattle.orca_live.proofs.GivenLemmas.{IsAside, blank, blank_twice, core, core_fitted, core_plain, core_twice, finish_closes, journal_aside, paint_aside, plain, players_twice, show_aside, write_aside}
 use Rattle.orca_live.proofs.WorthLemmas.{all_counted, worth_of}
 
 -- ---- the number of hands
@@ -363,15 +363,17 @@ brings_by : (hands : ℕ) (i : Item) (s : LiveState) → IsMidway (Given i)
     → length s.crew.players ≡ hands
     → Brings core does (worth_of hands i) (told core (take_course i s)) s
 unfolding take_course
+brings_by hands item.Start s midway are = aside_told s _ (journal_aside s)
 brings_by hands (item.Open came) s midway are =
-    aside_told (knowing came s) _ (open_aside (knowing came s))
+    aside_told (knowing came s) _ (paint_aside [] (knowing came s))
 brings_by hands (item.Byte hand at byte) s midway are =
     subst (λ (n : ℕ). Brings core does (worth_of n (item.Byte hand at byte))
     (told core (take_course (item.Byte hand at byte) s)) s)
     are (byte_brings (is_hand hand s) hand at byte s refl)
 brings_by hands (item.Due at) s midway are = due_steady (answered_at at s)
+brings_by hands item.Settle s midway are = aside_told s _ (write_aside s)
 brings_by hands (item.Over came) s midway are =
-    aside_told (knowing came s) _ (update_aside (knowing came s))
+    aside_told (knowing came s) _ (show_aside (knowing came s))
 brings_by hands (item.Ended ending) s midway are = absurd midway
 
 -- what is seen at last

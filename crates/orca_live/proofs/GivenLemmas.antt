@@ -17,7 +17,7 @@ use Rattle.orca_edit.specs.Machines.{preview_of}
 use Rattle.orca_jam.specs.Crews.{fitted_player}
 use Rattle.orca_jam.specs.declared.player.Player.{Player}
 use Rattle.orca_term.specs.declared.cell.Cell.{Cell}
-use Rattle.orca_live.specs.Performing.{additions, hush_course, hand_course, finish_course, header_course, if_named, journal_course, saves_course, last_grid_course, last_script_course, lines_course, open_course, paint_course, painted_course, picture_course, preview_course, save_course, script_course, show_course, update_course, view_acts, write_course}
+use Rattle.orca_live.specs.Performing.{additions, hush_course, hand_course, finish_course, header_course, if_named, journal_course, saves_course, last_grid_course, last_script_course, lines_course, paint_course, painted_course, picture_course, preview_course, save_course, script_course, show_course, view_acts, write_course}
 use Rattle.orca_live.specs.Starting.{nothing_failed}
 use Rattle.orca_live.specs.States.{LiveState, Viewed, begun_name, dims_at, fitted, hands_in, is_viewer, piece_at, unpainted}
 
@@ -138,13 +138,13 @@ added_commands : (name bytes : List ℕ) → commands_in (additions name bytes) 
 added_commands name [] = refl
 added_commands name (byte ∷ bytes) = refl
 
-write_aside : (s : LiveState) → IsAside s (write_course s)
+pub write_aside : (s : LiveState) → IsAside s (write_course s)
 unfolding write_course lines_course
 write_aside s =
     aside_named s.setting.journal lines_course s
     (λ name. record { commands = added_commands name s.unwritten; same = refl; goes = refl })
 
-journal_aside : (s : LiveState) → IsAside s (journal_course s)
+pub journal_aside : (s : LiveState) → IsAside s (journal_course s)
 unfolding journal_course header_course
 journal_aside s =
     aside_named (begun_name s.setting) header_course s
@@ -173,26 +173,17 @@ paints_aside marks (hand ∷ hands) s =
     aside_then s (painted_course marks hand s) (each (painted_course marks) hands)
     (painted_if (is_viewer hand s) marks hand s) (paints_aside marks hands)
 
-paint_aside : (marks : List MarkSet) (s : LiveState) → IsAside s (paint_course marks s)
+pub paint_aside : (marks : List MarkSet) (s : LiveState) → IsAside s (paint_course marks s)
 unfolding paint_course
 paint_aside marks s =
     let aside = paints_aside marks (hands_in s) (fitted s) in
     record { commands = aside.commands; same = aside.same ∙ core_fitted s; goes = aside.goes }
 
-show_aside : (s : LiveState) → IsAside s (show_course s)
+pub show_aside : (s : LiveState) → IsAside s (show_course s)
 unfolding show_course preview_course
 show_aside s =
     let paint = paint_aside (preview_of (piece_at s)) s in
     record { commands = paint.commands; same = paint.same; goes = paint.goes }
-
--- what follows an answer, and what comes first
-pub update_aside : (s : LiveState) → IsAside s (update_course s)
-unfolding update_course
-update_aside s = aside_then s (write_course s) show_course (write_aside s) show_aside
-
-pub open_aside : (s : LiveState) → IsAside s (open_course s)
-unfolding open_course
-open_aside s = aside_then s (journal_course s) (paint_course []) (journal_aside s) (paint_aside [])
 
 last_aside : (s : LiveState) → IsAside s (saves_course s)
 unfolding saves_course last_grid_course last_script_course save_course script_course

@@ -44,9 +44,9 @@ use Rattle.orca_live.specs.Laws.{so_far}
 use Rattle.orca_live.specs.Performing.{answered_at, byte_course, denied_course, due_course, fired, frame_course, hand_course, item_course, key_course, knowing, live_part, lull_course, owning, press_course, read_course, save_course, struck_course, struck_where, take_course, wish_course}
 use Rattle.orca_live.specs.States.{LiveState, around_at, dims_at, editor_at, fitted, hands_in, is_full, is_hand, leader_at}
 use Rattle.orca_live.proofs.CuttingLaw.{keys_fitted, owning_hands}
-use Rattle.orca_live.proofs.GivenLemmas.{core, open_aside, update_aside}
+use Rattle.orca_live.proofs.GivenLemmas.{IsAside, core, journal_aside, paint_aside, show_aside, write_aside}
 use Rattle.orca_live.proofs.ScriptLaw.{obeys_commands}
-use Rattle.orca_live.proofs.StrikingLemmas.{Strikes, frame_strikes, open_silent, read_other, read_own, strikes_same, strikes_twice, update_silent}
+use Rattle.orca_live.proofs.StrikingLemmas.{IsSilent, Strikes, frame_strikes, journal_silent, paint_silent, read_other, read_own, show_silent, strikes_same, strikes_twice, write_silent}
 use Rattle.orca_live.proofs.WorthLemmas.{all_counted, worth_of}
 
 -- ---- what a reader was given
@@ -411,7 +411,9 @@ module _ (hand n : ℕ) (there : nat_lt hand n ≡ true) where
   abbrev given_by : Item → List KeyItem
   given_by (item.Byte other at byte) = given hand other (Byte byte)
   given_by (item.Due at) = Due ∷ []
+  given_by item.Start = []
   given_by (item.Open came) = []
+  given_by item.Settle = []
   given_by (item.Over came) = []
   given_by (item.Ended ending) = []
 
@@ -429,6 +431,15 @@ module _ (hand n : ℕ) (there : nat_lt hand n ≡ true) where
       byte_given (nat_lt other n) (other == hand) other byte items refl refl
   item_given _ items = refl
 
+  -- what is written and shown is nothing to a hand
+  hears_aside : (came : Losses) (s : LiveState) (c : Course LiveState Stop)
+      → IsSilent hand (knowing came s) c → IsAside (knowing came s) c
+      → Hears hand [] s c.acts c.state
+  hears_aside came s c silent aside = record {
+    reads = reads_core hand s c.state aside.same;
+    strikes = record { own = silent.strikes.own; moves = silent.strikes.moves };
+  }
+
   heeds_take : (i : Item) → IsMidway (Given i) → Heeds (given_by i) (take_course i)
   unfolding take_course byte_course
   heeds_take (item.Byte other at byte) midway s are goes =
@@ -438,18 +449,14 @@ module _ (hand n : ℕ) (there : nat_lt hand n ≡ true) where
   heeds_take (item.Due at) midway s are goes =
       let t = answered_at at s in
       hears_twice hand [] (Due ∷ []) s t _ [] _ (hears_at at s) (heeds_due t are goes)
+  heeds_take item.Start midway s are goes =
+      hears_aside s.came s _ (journal_silent hand s) (journal_aside s)
   heeds_take (item.Open came) midway s are goes =
-      let strikes = (open_silent hand (knowing came s)).strikes in
-      record {
-        reads = reads_core hand s _ (open_aside (knowing came s)).same;
-        strikes = record { own = strikes.own; moves = strikes.moves };
-      }
+      let t = knowing came s in hears_aside came s _ (paint_silent hand [] t) (paint_aside [] t)
+  heeds_take item.Settle midway s are goes =
+      hears_aside s.came s _ (write_silent hand s) (write_aside s)
   heeds_take (item.Over came) midway s are goes =
-      let strikes = (update_silent hand (knowing came s)).strikes in
-      record {
-        reads = reads_core hand s _ (update_aside (knowing came s)).same;
-        strikes = record { own = strikes.own; moves = strikes.moves };
-      }
+      let t = knowing came s in hears_aside came s _ (show_silent hand t) (show_aside t)
   heeds_take (item.Ended ending) midway s are goes = absurd midway
 
   stops_not : (end : Option Stop) → option_map {U = Ending} Stopped end ≡ None → end ≡ None

@@ -12,12 +12,13 @@ use Rattle.orca_base.specs.MarkSet.{MarkSet}
 use Rattle.orca_base.specs.Ports.{Sent}
 use Rattle.orca_concert.specs.Concerts.{close_course as silence_course, command_course as obey_course, handed_of}
 use Rattle.orca_course.specs.Acts.{Act, commands_in, gives}
-use Rattle.orca_course.specs.Acts.Act.{Append, Await, Begin, Claim, Obey, Remove, Save, Show, Stand}
+use Rattle.orca_course.specs.Acts.Act.{Append, Await, Begin, Claim, Learn, Obey, Remove, Save, Show, Stand}
 use Rattle.orca_course.specs.Courses.{Course, course, each, joined, lastly, lastly_by, mapped, onward, onward_by, still}
 use Rattle.orca_course.specs.Performers.{Hearing, Turn, begun, finished, given_course, heard_turns, performance, turn_course}
 use Rattle.orca_course.specs.Performers.Turn.{Asked, Given, Learned, Over}
 use Rattle.orca_course.specs.Standings.{Standing, notes_of, standing_after, standing_closed}
 use Rattle.orca_course.specs.declared.ending.Ending.{Ending}
+use Rattle.orca_course.specs.declared.ending.Ending.TheVariants.{Stopped}
 use Rattle.orca_course.specs.declared.item.Losses.{Losses}
 use Rattle.orca_course.specs.declared.item.Item.TheVariants as item
 use Rattle.orca_course.specs.declared.ending.Stop.{Stop}
@@ -34,7 +35,7 @@ use Rattle.orca_term.specs.declared.cell.Cell.{Cell}
 use Rattle.orca_trace.specs.Calls.{Poll}
 use Rattle.orca_live.specs.Carrying.{Carries, IsSavedName, finish_carried, later_carried, paint_carried}
 use Rattle.orca_live.specs.Journals.{IsApart, JournalsPerformance, StartsSo, held_after, kept_text}
-use Rattle.orca_live.specs.Performing.{finish_course, hand_course, header_course, hush_course, if_named, journal_course, knowing, last_grid_course, last_script_course, lines_course, live_part, noted, open_course, paint_course, picture_course, picture_for, preview_course, save_course, saves_course, script_course, show_course, take_course, update_course, view_acts, write_course}
+use Rattle.orca_live.specs.Performing.{finish_course, hand_course, header_course, hush_course, if_named, journal_course, knowing, last_grid_course, last_script_course, lines_course, live_part, noted, paint_course, picture_course, picture_for, preview_course, save_course, saves_course, script_course, show_course, take_course, view_acts, write_course}
 use Rattle.orca_live.specs.States.{LiveState, Setting, begun_name, view_at}
 use Rattle.orca_live.proofs.PaintLemmas.{paint_is}
 use Rattle.orca_live.proofs.Carried.{Anyhow}
@@ -362,18 +363,25 @@ module _ (name start : List ℕ) (set : Setting) (kept : set.journal ≡ Some na
   writes_turn (Over ending) a s inner heard none = writes_none s
   writes_turn (Given i) a s inner heard none = later_carried writes_carries 0 i s inner
 
-  -- after an answer nothing waits
+  -- where what was kept is written nothing waits
   written_by : (journal : Option (List ℕ)) (s : LiveState) → journal ≡ Some name
-      → (onward (if_named journal lines_course s) show_course).state.unwritten ≡ []
-  unfolding lines_course show_course preview_course onward
+      → (if_named journal lines_course s).state.unwritten ≡ []
+  unfolding lines_course
   written_by None s is = absurd cc
-  written_by (Some other) s is =
-      ap (λ (u : LiveState). u.unwritten) (paint_is _ (record s { unwritten = [] })).state
+  written_by (Some other) s is = refl
 
-  update_written : (s : LiveState) → s.setting ≡ set → (update_course s).state.unwritten ≡ []
-  unfolding update_course write_course
-  update_written s is =
+  lines_written : (s : LiveState) → s.setting ≡ set → (write_course s).state.unwritten ≡ []
+  unfolding write_course
+  lines_written s is =
       written_by s.setting.journal s (ap (λ (set : Setting). set.journal) is ∙ kept)
+
+  -- the pictures are nothing to what waits
+  shown_written : (a : Option Answer) (came : Losses) (s : LiveState) → IsWritten a s
+      → IsWritten a (show_course (knowing came s)).state
+  unfolding show_course preview_course
+  shown_written None came s none =
+      ap (λ (u : LiveState). u.unwritten) (paint_is _ (knowing came s)).state ∙ none
+  shown_written (Some a) came s none = tt
 
   turn_written : (turn : Turn) (a : Option Answer) (s : LiveState) → s.setting ≡ set
       → IsInner turn → IsHeard turn a → IsWritten a s
@@ -382,8 +390,10 @@ module _ (name start : List ℕ) (set : Setting) (kept : set.journal ≡ Some na
   turn_written (Asked poll) a s is inner heard none = tt
   turn_written (Learned came) a s is inner heard none = none
   turn_written (Over ending) a s is inner heard none = none
+  turn_written (Given item.Settle) a s is inner heard none = lines_written s is
   turn_written (Given (item.Over came)) a s is inner heard none =
-      update_written (knowing came s) is
+      shown_written a came s none
+  turn_written (Given item.Start) a s is inner heard none = absurd inner
   turn_written (Given (item.Open came)) a s is inner heard none = absurd inner
   turn_written (Given (item.Ended ending)) a s is inner heard none = absurd inner
   turn_written (Given i) None s is inner heard none = absurd heard
@@ -440,19 +450,17 @@ module _ (name start : List ℕ) (set : Setting) (kept : set.journal ≡ Some na
       ap (λ (journal : Option (List ℕ)). if_named journal header_course s) kept
       ∙ ap (λ (seed : ℕ). begins_with name seed s) (ap (λ (set : Setting). set.seed) is)
 
-  begins_goes : (room : Bool) (s : LiveState)
-      → onward (begins_by room s) (paint_course []) ≡ joined (begins_by room s) (paint_course [] s)
-  unfolding begins_by onward
-  begins_goes true s = refl
-  begins_goes false s = refl
+  begins_goes : (room : Bool) (s : LiveState) (next : LiveState → Course LiveState Ending)
+      → onward (mapped (λ t. t) (option_map Stopped) (begins_by room s)) next
+      ≡ joined (begins_by room s) (next s)
+  unfolding begins_by onward mapped
+  begins_goes true s next = refl
+  begins_goes false s next = refl
 
-  open_is : (s : LiveState) → s.setting ≡ set
-      → open_course s ≡ joined (begins_by set.room s) (paint_course [] s)
-  unfolding open_course journal_course
-  open_is s is =
-      ap (λ (c : Course LiveState Stop). onward c (paint_course []))
-      (ap (λ (of : Setting). if_named (begun_name of) header_course s) is ∙ named_is set.room s is)
-      ∙ begins_goes set.room s
+  start_is : (s : LiveState) → s.setting ≡ set → journal_course s ≡ begins_by set.room s
+  unfolding journal_course
+  start_is s is =
+      ap (λ (of : Setting). if_named (begun_name of) header_course s) is ∙ named_is set.room s is
 
   -- after which the file holds its start
   start_journaled : (room : Bool) (held : Option (List ℕ)) (lines : List ℕ) (s : LiveState)
@@ -478,12 +486,10 @@ module _ (name start : List ℕ) (set : Setting) (kept : set.journal ≡ Some na
       (start, refl, ap (λ lines. start ++ lines) none) in
       let p = paint_course [] t in
       let c = each (turn_course live_part) (heard_turns heard) p.state in
-      rw (open_is t is, (paint_is [] t).goes) (
+      rw (start_is s is, begins_goes set.room s, (paint_is [] t).goes) (
         writes.0,
-        subst (Journaled name start (Waits start c.state.unwritten) held [])
-            (sym (append_assoc (begins_by set.room t).acts p.acts c.acts))
-            (start_journaled set.room held c.state.unwritten t (p.acts ++ c.acts) starts
-            (writes.1 (Some start) [] waits)),
+        start_journaled set.room held c.state.unwritten s (Learn opening ∷ p.acts ++ c.acts) starts
+            (writes.1 (Some start) [] waits),
       )
 
   lastly_journaled : (end : Option Ending) (c : Course LiveState Ending) (held : Option (List ℕ))

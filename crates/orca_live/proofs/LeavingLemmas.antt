@@ -1,5 +1,5 @@
 -- How a performance of a player ends: by leaving, or by a full history, and with no note.
-use Rattle.std.proofs.Common.{◌≡◌, inl, inr, ℕ, true, false, List, refl, ◌∙◌, ap, arith}
+use Rattle.std.proofs.Common.{◌≡◌, inl, inr, ℕ, true, false, List, [], refl, ◌∙◌, ap, arith}
 use Rattle.std.specs.Prelude.{Bool, IfSome, Option, Some, None, if◌then◌else◌}
 use Rattle.orca_concert.specs.Concerts.{close_course as silence_course, command_course as obey_course}
 use Rattle.orca_course.specs.Courses.{each, mapped, onward, still}
@@ -17,7 +17,7 @@ use Rattle.orca_term.specs.declared.editor.Wish.TheVariants as wish
 use Rattle.orca_term.specs.declared.keys.Key.{Key}
 use Rattle.orca_live.specs.Performing.{answered_at, byte_course, denied_course, due_course, finish_course, frame_course, hand_course, hush_course, item_course, key_course, knowing, last_grid_course, last_script_course, lines_course, live_part, lull_course, press_course, read_course, save_course, saves_course, script_course, struck_course, struck_where, take_course, wish_course, write_course}
 use Rattle.orca_live.specs.States.{LiveState, fitted, hands_in, is_full, is_hand}
-use Rattle.orca_live.proofs.GivenLemmas.{finish_closes, open_aside, update_aside}
+use Rattle.orca_live.proofs.GivenLemmas.{finish_closes, journal_aside, paint_aside, show_aside, write_aside}
 
 -- what a full history at a frame would need
 abbrev pub AtFull : Type 0 → Item → LiveState → Type 0
@@ -82,10 +82,12 @@ module _ (P : Stop → Type 0) (left : P Left) where
   pub take_ends : (i : Item) (s : LiveState) → AtFull (P Full) i s
       → IfSome (take_course i s).ending P
   unfolding take_course byte_course
-  take_ends (item.Open came) s full = rw ((open_aside (knowing came s)).goes) tt
+  take_ends item.Start s full = rw ((journal_aside s).goes) tt
+  take_ends (item.Open came) s full = rw ((paint_aside [] (knowing came s)).goes) tt
   take_ends (item.Byte hand at byte) s full = item_leaves hand (Byte byte) (answered_at at s)
   take_ends (item.Due at) s full = due_ends (answered_at at s) full
-  take_ends (item.Over came) s full = rw ((update_aside (knowing came s)).goes) tt
+  take_ends item.Settle s full = rw ((write_aside s).goes) tt
+  take_ends (item.Over came) s full = rw ((show_aside (knowing came s)).goes) tt
   take_ends (item.Ended ending) s full = rw (finish_goes s) tt
 
 anywhere : (Q : Type 0) (i : Item) (s : LiveState) → Q → AtFull Q i s
@@ -95,7 +97,6 @@ anywhere Q _ s q = tt
 pub live_ends_well : EndsWell live_part
 unfolding take_course
 live_ends_well = record {
-  opens = λ came s. (open_aside (knowing came s)).goes;
   takes = λ i s. take_ends _ (inl refl) i s (anywhere _ i s (inr refl));
   silent = λ ending s.
       ap notes_of (finish_closes s).standing ∙ notes-standing_closed s.standing;

@@ -184,7 +184,7 @@ Gives (Some a) who = giver a ≡ who
 gives_after : (turn : Turn) (a : Option Answer) (who : ℕ) → Gives a who
     → Gives (after_turn turn a) (next_giver who turn)
 gives_after (Asked poll) a who gives = refl
-gives_after (Given (item.Over came)) a who gives = tt
+gives_after (Given item.Settle) a who gives = tt
 gives_after turn a who gives = gives
 
 -- and gives those of an item of it
@@ -256,7 +256,7 @@ names_so_far : (s : LiveState) (opening : Losses) (heard : List Hearing) → Has
 unfolding begun
 names_so_far s opening heard has =
     owns_turns (first_turns opening ++ heard_turns heard) None NOBODY s (all_midway opening heard)
-    (tt, (tt, all_heard heard)) tt has
+    (tt, (tt, (tt, all_heard heard))) tt has
 
 pub hands_share : HandsShare
 hands_share s has = record {

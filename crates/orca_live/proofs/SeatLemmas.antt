@@ -8,10 +8,10 @@ use Rattle.orca_course.specs.Doing.{Does}
 use Rattle.orca_course.specs.Worlds.{AreSeated, Made, Sated, World}
 use Rattle.orca_course.specs.declared.ending.Stop.{Stop}
 use Rattle.orca_course.proofs.SeatLemmas.{seated_did, seats_made}
-use Rattle.orca_live.specs.Carrying.{paints_carried, write_carried}
+use Rattle.orca_live.specs.Carrying.{paints_carried}
 use Rattle.orca_live.specs.Deaf.{deaf_carries, views_carries}
-use Rattle.orca_live.specs.Performing.{header_course, if_named, journal_course, painted_course, write_course}
-use Rattle.orca_live.specs.States.{LiveState, begun_name, live_stance}
+use Rattle.orca_live.specs.Performing.{painted_course}
+use Rattle.orca_live.specs.States.{LiveState, live_stance}
 
 -- the hands that a state shows a picture
 abbrev pub AreThere : LiveState → World → Type 0
@@ -25,26 +25,6 @@ there_after {c = c} {s = s} {t = t} deaf same did there hand below =
     let as_many : length t.views ≡ length s.views =
     ap (λ (u : LiveState). length u.views) (sym did.did.state) ∙ same in
     seated_did (length s.views) deaf did there hand (rw as_many at below)
-
-pub there_written : {s t : LiveState} {x y : World} {end : Option Stop}
-    → Does live_stance (write_course s) s x (Ok end) t y → AreThere s x → AreThere t y
-there_written {s = s} {t = t} {x = x} {y = y} did there =
-    there_after {c = write_course s} {s = s} {t = t} {x = x} {y = y}
-    (write_carried deaf_carries 0 s) (write_carried views_carries 0 s) did there
-
-begins_deaf : (name : Option (List ℕ)) (s : LiveState)
-    → AreDeaf (if_named name header_course s).acts
-    × (length (if_named name header_course s).state.views ≡ length s.views)
-unfolding header_course
-begins_deaf None s = (tt, refl)
-begins_deaf (Some name) s = (tt, refl)
-
-pub there_begun : {s t : LiveState} {x y : World} {end : Option Stop}
-    → Does live_stance (journal_course s) s x (Ok end) t y → AreThere s x → AreThere t y
-unfolding journal_course
-there_begun {s = s} {t = t} {x = x} {y = y} did there =
-    let begins = begins_deaf (begun_name s.setting) s in
-    there_after {c = journal_course s} {s = s} {t = t} {x = x} {y = y} begins.0 begins.1 did there
 
 pub there_painted : (marks : List MarkSet) (hands : List ℕ) {s t : LiveState} {x y : World}
     {end : Option Stop} → Does live_stance (each (painted_course marks) hands s) s x (Ok end) t y

@@ -40,7 +40,7 @@ use Rattle.orca_term.specs.declared.editor.Wish.{Wish}
 use Rattle.orca_term.specs.declared.editor.Wish.TheVariants as wish
 use Rattle.orca_term.specs.declared.keys.Key.{Key}
 use Rattle.orca_live.specs.Items.{ByteOf, HeardItem, items_of}
-use Rattle.orca_live.specs.Performing.{answered_at, byte_course, due_course, finish_course, fired, frame_course, hand_course, header_course, hush_course, if_named, item_course, journal_course, key_course, knowing, last_grid_course, last_script_course, lines_course, live_part, lull_course, open_course, owning, paint_course, painted_course, picture_course, press_course, preview_course, read_course, save_course, saves_course, script_course, show_course, struck_course, struck_where, take_course, update_course, wish_course, write_course}
+use Rattle.orca_live.specs.Performing.{answered_at, byte_course, due_course, finish_course, fired, frame_course, hand_course, header_course, hush_course, if_named, item_course, journal_course, key_course, knowing, last_grid_course, last_script_course, lines_course, live_part, lull_course, owning, paint_course, painted_course, picture_course, press_course, preview_course, read_course, save_course, saves_course, script_course, show_course, struck_course, struck_where, take_course, wish_course, write_course}
 use Rattle.orca_live.specs.Solo.{HasNoRedo, IsSolo, PlaysAlone, as_alone, redo_byte}
 use Rattle.orca_live.specs.States.{LiveState, around_at, begun_name, dims_at, fitted, hands_in, is_full, is_hand, is_viewer, leader_at, piece_at}
 use Rattle.orca_live.proofs.RedoKey.{IsOther, IsSpared, is_redo, turn_other}
@@ -284,21 +284,12 @@ unfolding write_course lines_course
 write_agrees s solo =
     named_agrees s.setting.journal lines_course (λ name t one. agreed _ one) s solo
 
-update_agrees : Alike update_course
-unfolding update_course
-update_agrees s solo = onward_agrees show_course (write_agrees s solo) (λ on. show_agrees)
-
 -- ---- the start
 
 journal_agrees : Alike journal_course
 unfolding journal_course header_course
 journal_agrees s solo =
     named_agrees (begun_name s.setting) header_course (λ name t one. agreed _ one) s solo
-
-open_agrees : Alike open_course
-unfolding open_course
-open_agrees s solo =
-    onward_agrees (paint_course []) (journal_agrees s solo) (λ on. paint_agrees [])
 
 -- ---- turns
 
@@ -310,7 +301,8 @@ IsNoRedo item = (hand : ℕ) → item ≢ ByteOf hand redo_byte
 take_agrees : (i : Item) (rest : List HeardItem) → IsMidway (Given i)
     → HasNoRedo (counting (worth_of 1 i) rest) → Alike (take_course i)
 unfolding take_course byte_course
-take_agrees (item.Open came) rest midway none s solo = open_agrees (knowing came s) solo
+take_agrees item.Start rest midway none s solo = journal_agrees s solo
+take_agrees (item.Open came) rest midway none s solo = paint_agrees [] (knowing came s) solo
 take_agrees (item.Byte zero at byte) rest midway none s solo =
     let other = All-head IsNoRedo (ByteOf LEADER byte) rest none in
     item_agrees LEADER (Byte byte) (λ own is. other LEADER (ap (ByteOf LEADER) is))
@@ -318,7 +310,8 @@ take_agrees (item.Byte zero at byte) rest midway none s solo =
 take_agrees (item.Byte (suc hand) at byte) rest midway none s solo =
     item_agrees (suc hand) (Byte byte) (λ is. absurd cc) (answered_at at s) solo
 take_agrees (item.Due at) rest midway none s solo = due_agrees (answered_at at s) solo
-take_agrees (item.Over came) rest midway none s solo = update_agrees (knowing came s) solo
+take_agrees item.Settle rest midway none s solo = write_agrees s solo
+take_agrees (item.Over came) rest midway none s solo = show_agrees (knowing came s) solo
 take_agrees (item.Ended ending) rest midway none s solo = absurd midway
 
 -- nor are those after it

@@ -32,7 +32,7 @@ use Rattle.orca_term.specs.declared.editor.Wish.TheVariants as wish
 use Rattle.orca_term.specs.declared.keys.Key.{Key}
 use Rattle.orca_live.specs.Hands.{Change, IsMadeBy, editor_by, key_of, keys_of}
 use Rattle.orca_live.specs.Hands.Change.{Denied, Fitted, Struck}
-use Rattle.orca_live.specs.Performing.{additions, denied_course, fired, hand_course, header_course, if_named, journal_course, key_course, lines_course, open_course, paint_course, painted_course, picture_course, press_course, preview_course, read_course, save_course, show_course, struck_course, struck_where, update_course, view_acts, wish_course, write_course}
+use Rattle.orca_live.specs.Performing.{additions, denied_course, fired, hand_course, header_course, if_named, journal_course, key_course, lines_course, paint_course, painted_course, picture_course, press_course, preview_course, read_course, save_course, show_course, struck_course, struck_where, view_acts, wish_course, write_course}
 use Rattle.orca_live.specs.States.{LiveState, around_at, begun_name, dims_at, editor_at, fitted, hands_in, is_hand, is_viewer, leader_at, piece_at}
 use Rattle.orca_live.proofs.CuttingLaw.{owning_hands}
 
@@ -345,7 +345,7 @@ added_keys : (hand : ℕ) (name bytes : List ℕ) → keys_in hand (additions na
 added_keys hand name [] = refl
 added_keys hand name (byte ∷ bytes) = refl
 
-write_silent : (hand : ℕ) (s : LiveState) → IsSilent hand s (write_course s)
+pub write_silent : (hand : ℕ) (s : LiveState) → IsSilent hand s (write_course s)
 unfolding write_course lines_course
 write_silent hand s =
     silent_named hand s.setting.journal lines_course s (λ name. record {
@@ -353,7 +353,7 @@ write_silent hand s =
       goes = refl;
     })
 
-journal_silent : (hand : ℕ) (s : LiveState) → IsSilent hand s (journal_course s)
+pub journal_silent : (hand : ℕ) (s : LiveState) → IsSilent hand s (journal_course s)
 unfolding journal_course header_course
 journal_silent hand s =
     silent_named hand (begun_name s.setting) header_course s
@@ -383,7 +383,7 @@ paints_silent hand marks (to ∷ hands) s =
     silent_then hand s (painted_course marks to s) (each (painted_course marks) hands)
     (painted_if (is_viewer to s) hand to marks s) (paints_silent hand marks hands)
 
-paint_silent : (hand : ℕ) (marks : List MarkSet) (s : LiveState)
+pub paint_silent : (hand : ℕ) (marks : List MarkSet) (s : LiveState)
     → IsSilent hand s (paint_course marks s)
 unfolding paint_course
 paint_silent hand marks s =
@@ -397,19 +397,8 @@ paint_silent hand marks s =
       goes = silent.goes;
     }
 
-show_silent : (hand : ℕ) (s : LiveState) → IsSilent hand s (show_course s)
+pub show_silent : (hand : ℕ) (s : LiveState) → IsSilent hand s (show_course s)
 unfolding show_course preview_course
 show_silent hand s =
     let paint = paint_silent hand (preview_of (piece_at s)) s in
     record { strikes = paint.strikes; goes = paint.goes }
-
-pub update_silent : (hand : ℕ) (s : LiveState) → IsSilent hand s (update_course s)
-unfolding update_course
-update_silent hand s =
-    silent_then hand s (write_course s) show_course (write_silent hand s) (show_silent hand)
-
-pub open_silent : (hand : ℕ) (s : LiveState) → IsSilent hand s (open_course s)
-unfolding open_course
-open_silent hand s =
-    silent_then hand s (journal_course s) (paint_course []) (journal_silent hand s)
-    (paint_silent hand [])

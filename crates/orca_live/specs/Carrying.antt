@@ -35,7 +35,7 @@ use Rattle.orca_term.specs.declared.keys.Key.{Key}
 use Rattle.orca_term.specs.declared.keys.Key.TheVariants as key
 use Rattle.orca_term.specs.declared.keys.Pending.{Pending}
 use Rattle.orca_term.specs.declared.keys.Pending.TheVariants.{Nothing, Lone, Sequence, Overlong}
-use Rattle.orca_live.specs.Performing.{additions, answered_at, byte_course, denied_course, due_course, finish_course, fired, frame_course, hand_course, header_course, hush_course, if_named, item_course, journal_course, key_course, knowing, last_grid_course, last_script_course, lines_course, lull_course, open_course, paced, paint_course, painted_course, picture_course, press_course, preview_course, read_course, save_course, saves_course, script_course, show_course, struck_course, struck_where, take_course, telling, toggled, update_course, wish_course, write_course}
+use Rattle.orca_live.specs.Performing.{additions, answered_at, byte_course, denied_course, due_course, finish_course, fired, frame_course, hand_course, header_course, hush_course, if_named, item_course, journal_course, key_course, knowing, last_grid_course, last_script_course, lines_course, lull_course, paced, paint_course, painted_course, picture_course, press_course, preview_course, read_course, save_course, saves_course, script_course, show_course, struck_course, struck_where, take_course, telling, toggled, wish_course, write_course}
 use Rattle.orca_live.specs.States.{LiveState, Setting, around_at, begun_name, dims_at, fitted, hands_in, is_full, is_hand, is_viewer, key_name, leader_at, piece_at, screen_at, unpainted, with_view}
 
 -- two states are the same to the session, to the terminals, to the script and to the journal, and
@@ -375,25 +375,16 @@ module _ {holds : Holds} (carry : Carries holds) where
   unfolding write_course
   write_carried who s = written_by who s.setting.journal s refl
 
-  update_carried : (who : ℕ) (s : LiveState) → Along holds who (update_course s) s
-  unfolding update_course onward
-  update_carried who s =
-      let c = write_course s in
-      onward_carried who s c.ending c show_course refl (write_carried who s) (show_carried who)
-
   begun_by : BeginsJournal holds → (who : ℕ) (name : Option (List ℕ)) (s : LiveState)
       → Along holds who (if_named name header_course s) s
   unfolding header_course
   begun_by begins who None s = carry.none who s s (looks_same s)
   begun_by begins who (Some name) s = begins who name s
 
-  open_carried : BeginsJournal holds → (who : ℕ) (s : LiveState)
-      → Along holds who (open_course s) s
-  unfolding open_course journal_course onward
-  open_carried begins who s =
-      let c = journal_course s in
-      onward_carried who s c.ending c (paint_course []) refl (begun_by begins who (begun_name s.setting) s)
-      (paint_carried who [])
+  journal_carried : BeginsJournal holds → (who : ℕ) (s : LiveState)
+      → Along holds who (journal_course s) s
+  unfolding journal_course
+  journal_carried begins who s = begun_by begins who (begun_name s.setting) s
 
   -- ---- the end
 
@@ -433,6 +424,7 @@ module _ {holds : Holds} (carry : Carries holds) where
   pub later_carried : (who : ℕ) (i : Item) (s : LiveState) → IsInner (Given i)
       → Along holds (giver_of who i) (take_course i s) s
   unfolding take_course byte_course
+  later_carried who item.Start s inner = absurd inner
   later_carried who (item.Open came) s inner = absurd inner
   later_carried who (item.Byte hand at byte) s inner =
       let t = answered_at at s in
@@ -443,20 +435,22 @@ module _ {holds : Holds} (carry : Carries holds) where
       let t = answered_at at s in
       from_alike NOBODY s t (due_course t) (looks_so s s.crew.players s.pace at s.came refl)
       (due_carried t)
+  later_carried who item.Settle s inner = write_carried who s
   later_carried who (item.Over came) s inner =
       let t = knowing came s in
-      from_alike who s t (update_course t) (looks_so s s.crew.players s.pace s.at came refl)
-      (update_carried who t)
+      from_alike who s t (show_course t) (looks_so s s.crew.players s.pace s.at came refl)
+      (show_carried who t)
   later_carried who (item.Ended ending) s inner = absurd inner
 
   -- of all but the last
   pub midway_carried : BeginsJournal holds → (who : ℕ) (i : Item) (s : LiveState)
       → IsMidway (Given i) → Along holds (giver_of who i) (take_course i s) s
   unfolding take_course
+  midway_carried begins who item.Start s midway = journal_carried begins who s
   midway_carried begins who (item.Open came) s midway =
       let t = knowing came s in
-      from_alike who s t (open_course t) (looks_so s s.crew.players s.pace s.at came refl)
-      (open_carried begins who t)
+      from_alike who s t (paint_course [] t) (looks_so s s.crew.players s.pace s.at came refl)
+      (paint_carried who [] t)
   midway_carried begins who (item.Ended ending) s midway = absurd midway
   midway_carried begins who i s midway = later_carried who i s tt
 

@@ -263,10 +263,6 @@ preview_course s = course [] (preview_price (piece_at s)) s
 unfoldable pub show_course : LiveState → Course LiveState Stop
 show_course s = joined (preview_course s) (paint_course (preview_of (piece_at s)) s)
 
--- the journal and then the pictures are brought up to date
-unfoldable pub update_course : LiveState → Course LiveState Stop
-update_course s = onward (write_course s) show_course
-
 -- ---- the end
 
 -- every note ends
@@ -292,10 +288,6 @@ finish_course s = onward (hush_course s) (λ t. onward (write_course t) saves_co
 
 -- ---- a performance
 
--- the journal begins, and then come the first pictures, which have no marks
-unfoldable pub open_course : LiveState → Course LiveState Stop
-open_course s = onward (journal_course s) (paint_course [])
-
 -- the moment of an item is kept
 abbrev pub answered_at : ℕ → LiveState → LiveState
 answered_at at s = record s { at = at }
@@ -304,12 +296,15 @@ answered_at at s = record s { at = at }
 abbrev pub knowing : Losses → LiveState → LiveState
 knowing came s = record s { came = came }
 
--- what an item brings
+-- what an item brings. The journal begins before the first pictures, which have no marks; and after
+-- an answer it is brought up to date before the pictures are. So these know what came of it
 unfoldable pub take_course : Item → LiveState → Course LiveState Stop
-take_course (item.Open came) s = open_course (knowing came s)
+take_course item.Start s = journal_course s
+take_course (item.Open came) s = paint_course [] (knowing came s)
 take_course (item.Byte hand at byte) s = byte_course hand byte (answered_at at s)
 take_course (item.Due at) s = due_course (answered_at at s)
-take_course (item.Over came) s = update_course (knowing came s)
+take_course item.Settle s = write_course s
+take_course (item.Over came) s = show_course (knowing came s)
 take_course (item.Ended ending) s = finish_course s
 
 -- what a player does

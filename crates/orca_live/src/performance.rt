@@ -3,7 +3,7 @@
 ghost use Rattle.std.specs.Prelude.{length};
 ghost use Rattle.orca_course.specs.Doing.{goes_of};
 ghost use Rattle.orca_course.specs.Worlds.{AreSeated};
-ghost use Rattle.orca_live.specs.Performing.{finish_course, hush_course, open_course, saves_course, take_course, update_course};
+ghost use Rattle.orca_live.specs.Performing.{finish_course, hush_course, saves_course, take_course};
 ghost use Rattle.orca_live.specs.States.{LiveDid, live_state};
 
 use crate::Live;
@@ -47,26 +47,6 @@ impl<'a, M: Machine> Closes for Live<'a, M> {
     fn close_early<H: House>(&mut self, desk: &mut Desk<H>) -> Result<(), NoMemory> {
         close_early(&mut self.stage, desk)
     }
-}
-
-/// Begins the journal, and paints the first pictures.
-#[tactic(auto, using(orca_course::proofs::DoingLemmas::does_cut, orca_course::proofs::DoingLemmas::goes_err), unfolding(crate::specs::Performing::open_course))]
-fn open<M: Machine, H: House>(live: &mut Live<'_, M>, desk: &mut Desk<H>) -> Result<(), NoMemory>
-    requires { AreSeated (length (live_state M.Machine.own live.old).views) desk.old }
-    ensures { LiveDid M.Machine.own open_course live.old desk.old (goes_of result) live.new desk.new }
-{
-    begin_journal(live, desk)?;
-    paint(live, desk, Marking::Bare)
-}
-
-/// Brings the journal and then the pictures up to date.
-#[tactic(auto, using(orca_course::proofs::DoingLemmas::does_cut, orca_course::proofs::DoingLemmas::goes_err), unfolding(crate::specs::Performing::update_course))]
-fn update<M: Machine, H: House>(live: &mut Live<'_, M>, desk: &mut Desk<H>) -> Result<(), NoMemory>
-    requires { AreSeated (length (live_state M.Machine.own live.old).views) desk.old }
-    ensures { LiveDid M.Machine.own update_course live.old desk.old (goes_of result) live.new desk.new }
-{
-    write_journal(live, desk)?;
-    show(live, desk)
 }
 
 /// Ends every note.
@@ -113,9 +93,13 @@ fn take<M: Machine, H: House>(
     ensures { LiveDid M.Machine.own (take_course item) live.old desk.old result live.new desk.new }
 {
     match item {
+        Item::Start => {
+            begin_journal(live, desk)?;
+            Ok(None)
+        }
         Item::Open(came) => {
             live.came = came;
-            open(live, desk)?;
+            paint(live, desk, Marking::Bare)?;
             Ok(None)
         }
         Item::Byte { hand, at, byte } => {
@@ -126,9 +110,13 @@ fn take<M: Machine, H: House>(
             live.at = at;
             do_due(live, desk)
         }
+        Item::Settle => {
+            write_journal(live, desk)?;
+            Ok(None)
+        }
         Item::Over(came) => {
             live.came = came;
-            update(live, desk)?;
+            show(live, desk)?;
             Ok(None)
         }
         Item::Ended(_) => {
