@@ -63,9 +63,11 @@ module _ {R : Type 0} (m : Manner R) (P : Stop → Type 0) (left : P Left) (full
 
   pub follow_ends : (i : Item) (s : Followed R) → IfSome (follow_course m i s).ending P
   unfolding follow_course hand_byte_course end_course mapped
+  follow_ends item.Start s = tt
   follow_ends (item.Open came) s = tt
   follow_ends (item.Byte hand at byte) s = grind (arith, byte_ends byte s)
   follow_ends (item.Due at) s = tt
+  follow_ends item.Settle s = tt
   follow_ends (item.Over came) s = tt
   follow_ends (item.Ended ending) s = tt
 
@@ -88,9 +90,11 @@ module _ {R : Type 0} (m : Manner R) (P : Stop → Type 0) (left : P Left) (full
 
   pub lead_ends : (i : Item) (s : Led R) → IfSome (lead_course m i s).ending P
   unfolding lead_course hand_key_course lead_open lead_finish end_course onward mapped
+  lead_ends item.Start s = tt
   lead_ends (item.Open came) s = tt
   lead_ends (item.Byte hand at byte) s = grind (arith, key_ends at byte s)
   lead_ends (item.Due at) s = due_ends at s s.metronome.pulse.runs refl
+  lead_ends item.Settle s = tt
   lead_ends (item.Over came) s = tt
   lead_ends (item.Ended ending) s = tt
 
@@ -113,17 +117,13 @@ abbrev pub IsLeft : Stop → Type 0
 IsLeft stop = (stop ≡ Left) ⊎ (stop ≡ Full)
 
 pub follow_ends_well : {R : Type 0} (m : Manner R) → Ends IsLeft m → EndsWell (follow_part m)
-unfolding follow_course
 follow_ends_well m ends = record {
-  opens = λ came s. refl;
   takes = follow_ends m IsLeft (inl refl) (inr refl) ends;
   silent = follow_silent m;
 }
 
 pub lead_ends_well : {R : Type 0} (m : Manner R) → Ends IsLeft m → EndsWell (lead_part m)
-unfolding lead_course lead_open mapped
 lead_ends_well m ends = record {
-  opens = λ came s. refl;
   takes = lead_ends m IsLeft (inl refl) (inr refl) ends;
   silent = lead_silent m;
 }
@@ -196,10 +196,12 @@ follow_brings : (i : Item) (s : Followed (Unit {0})) → IsMidway (Given i)
     → Brings (λ t. t) follow_does (worth_of ALONE i)
     (told (λ t. t) (follow_course state_manner i s)) s
 unfolding follow_course hand_byte_course
+follow_brings item.Start s midway = refl
 follow_brings (item.Open came) s midway = refl
 follow_brings (item.Byte hand at byte) s midway =
     byte_brings (λ t. t) follow_does hand byte (clock_byte_course state_manner byte s) s refl
 follow_brings (item.Due at) s midway = refl
+follow_brings item.Settle s midway = refl
 follow_brings (item.Over came) s midway = refl
 follow_brings (item.Ended ending) s midway = absurd midway
 
@@ -262,10 +264,12 @@ lead_brings : (i : Item) (s : Led (Unit {0})) → IsMidway (Given i)
     → Brings lead_core lead_does (worth_of ALONE i)
     (told lead_core (lead_course state_manner i s)) s
 unfolding lead_course hand_key_course lead_open mapped
+lead_brings item.Start s midway = refl
 lead_brings (item.Open came) s midway = refl
 lead_brings (item.Byte hand at byte) s midway =
     byte_brings lead_core lead_does hand byte (lead_key_course at byte s) s (key_core at byte s)
 lead_brings (item.Due at) s midway = due_core at s s.metronome.pulse.runs refl
+lead_brings item.Settle s midway = refl
 lead_brings (item.Over came) s midway = refl
 lead_brings (item.Ended ending) s midway = absurd midway
 

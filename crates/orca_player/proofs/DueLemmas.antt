@@ -5,8 +5,8 @@ use Rattle.std.specs.List.{flat_map}
 use Rattle.std.proofs.lemmas.List.Sums.{sum_by-append}
 use Rattle.orca_base.specs.declared.limits.TheConstants.{MAX_POLLS}
 use Rattle.orca_course.specs.Courses.{Course, each, onward}
-use Rattle.orca_course.specs.Performers.{Hearing, Part, Turn, answer_turns, begun, first_turns, turn_course, turns_of}
-use Rattle.orca_course.specs.Performers.Turn.{Asked, Given, Learned}
+use Rattle.orca_course.specs.Performers.{Hearing, Part, Turn, answer_turns, begun, first_turns, over_turns, turn_course, turns_of}
+use Rattle.orca_course.specs.Performers.Turn.{Asked, Given}
 use Rattle.orca_course.specs.declared.ending.Ending.{Ending}
 use Rattle.orca_course.specs.declared.item.Losses.{Losses}
 use Rattle.orca_course.specs.declared.item.Item.TheVariants as item
@@ -67,7 +67,7 @@ due_later h heard before rest at is due = record {
 
 undue_bytes : (hand count at : ℕ) (bytes : List ℕ) (came : Losses)
     → AreUndue (answer_turns (answer.Bytes hand count at) bytes came)
-undue_bytes hand count at [] came = (tt, (tt, tt))
+undue_bytes hand count at [] came = (tt, (tt, (tt, tt)))
 undue_bytes hand count at (byte ∷ bytes) came = (tt, undue_bytes hand count at bytes came)
 
 -- what comes after the first answer
@@ -102,11 +102,9 @@ due_here h heard (b ∷ []) more moment at due is later =
 due_here h heard (b ∷ c ∷ before) more moment at due is later =
     let asked : b ≡ Asked h.poll = cc in
     let given : c ≡ Given (item.Due moment) = cc in
-    let tail : Learned h.came ∷ Given (item.Over h.came) ∷ flat_map turns_of heard
-    ≡ before ++ Given (item.Due at) ∷ more = cc in
-    let rest = passed (Learned h.came ∷ Given (item.Over h.came) ∷ []) (flat_map turns_of heard)
-    before more at (tt, (tt, tt)) tail in
-    let behind : before ≡ Learned h.came ∷ Given (item.Over h.came) ∷ rest.0 = rest.1 in
+    let tail : over_turns h.came ++ flat_map turns_of heard ≡ before ++ Given (item.Due at) ∷ more = cc in
+    let rest = passed (over_turns h.came) (flat_map turns_of heard) before more at (tt, (tt, (tt, tt))) tail in
+    let behind : before ≡ over_turns h.came ++ rest.0 = rest.1 in
     let all : b ∷ c ∷ before
     ≡ (Asked h.poll ∷ answer_turns (answer.Due moment) h.poll.bytes h.came) ++ rest.0 = cc in
     due_later h heard (b ∷ c ∷ before) rest.0 at
@@ -178,8 +176,8 @@ pub due_at : {S : Type 0} (p : Part S) (s : S) (opening : Losses) (heard : List 
     → (each (turn_course p) before s).ending ≡ None → IsDueAt p s opening heard before at
 due_at {S = S} p s opening heard before more at few is goes =
     let f = turn_course p in
-    let rest = passed (first_turns opening) (flat_map turns_of heard) before more at (tt, (tt, tt))
-    is in
+    let rest = passed (first_turns opening) (flat_map turns_of heard) before more at
+    (tt, (tt, (tt, tt))) is in
     let due = due_in heard rest.0 more at rest.2 in
     let first = turns_before opening due.front in
     let all : before ≡ first ++ Asked due.h.poll ∷ [] =
