@@ -9,9 +9,11 @@ use Rattle.orca_course.specs.declared.item.Item.{Item}
 use Rattle.orca_course.specs.declared.item.Item.TheVariants as item
 
 unfoldable pub keeper_course : Item → Unit {0} → Course (Unit {0}) Stop
+keeper_course item.Start s = still s
 keeper_course (item.Open came) s = still s
 keeper_course (item.Byte hand at byte) s = course (Save (codes "grid") (byte ∷ []) ∷ []) 0 s
 keeper_course (item.Due at) s = still s
+keeper_course item.Settle s = still s
 keeper_course (item.Over came) s = still s
 keeper_course (item.Ended ending) s = still s
 
@@ -26,9 +28,11 @@ keeper_part = record {
 -- it does not ask the inbox
 pub keeper_is_deaf : IsDeaf keeper_part
 unfolding IsDeaf keeper_course
+keeper_is_deaf item.Start s = tt
 keeper_is_deaf (item.Open came) s = tt
 keeper_is_deaf (item.Byte hand at byte) s = tt
 keeper_is_deaf (item.Due at) s = tt
+keeper_is_deaf item.Settle s = tt
 keeper_is_deaf (item.Over came) s = tt
 keeper_is_deaf (item.Ended ending) s = tt
 

@@ -208,7 +208,7 @@ impl Performer for Keeper {
                 self.told.push(came)?;
                 Ok(None)
             }
-            Item::Due { .. } | Item::Ended(_) => Ok(None),
+            Item::Start | Item::Due { .. } | Item::Settle | Item::Ended(_) => Ok(None),
         }
     }
 
