@@ -183,16 +183,70 @@ no_paste_with_shift : NoKey (sequence (codes "200;2~"))
 unfolding worked
 no_paste_with_shift = refl
 
--- ---- what stays
+-- ---- after an ESC
 
-letter_after_escape : Both (bytes (escape ∷ codes "x")) (key.Glyph 120)
+-- the keys of these bytes after an ESC, and of a due moment then
+abbrev after_escape : List ℕ → List Key × List Key
+after_escape text = keys_of (bytes (escape ∷ text) ++ Due ∷ [])
+
+abbrev glyphs : List ℕ → List Key
+glyphs text = map (λ glyph. key.Glyph glyph) text
+
+letter : after_escape (codes "a") ≡ (glyphs (codes "a"), key.Escape ∷ glyphs (codes "a"))
 unfolding worked
-letter_after_escape = refl
+letter = refl
 
-first_function_key : keys_of (bytes (escape ∷ codes "OP"))
-    ≡ (key.Glyph 79 ∷ key.Glyph 80 ∷ [], key.Glyph 79 ∷ key.Glyph 80 ∷ [])
+further_byte : after_escape (9 ∷ []) ≡ ([], key.Escape ∷ key.Append ∷ [])
+unfolding worked
+further_byte = refl
+
+rub : after_escape (127 ∷ []) ≡ (key.Rub ∷ [], key.Escape ∷ key.Rub ∷ [])
+unfolding worked
+rub = refl
+
+first_function_key : after_escape (codes "OP") ≡ (glyphs (codes "OP"), [])
 unfolding worked
 first_function_key = refl
+
+last_function_key : after_escape (codes "OS7") ≡ (glyphs (codes "OS7"), glyphs (codes "7"))
+unfolding worked
+last_function_key = refl
+
+shifted_up : after_escape (codes "OA") ≡ (glyphs (codes "OA"), key.Arrow Move Up 1 ∷ [])
+unfolding worked
+shifted_up = refl
+
+shifted_home : after_escape (codes "OH") ≡ (glyphs (codes "OH"), key.Arrow Move Left 1024 ∷ [])
+unfolding worked
+shifted_home = refl
+
+nothing_after_o : after_escape (codes "O") ≡ (glyphs (codes "O"), key.Escape ∷ glyphs (codes "O"))
+unfolding worked
+nothing_after_o = refl
+
+other_after_o : after_escape (codes "Ox")
+    ≡ (glyphs (codes "Ox"), key.Escape ∷ glyphs (codes "Ox"))
+unfolding worked
+other_after_o = refl
+
+arrow_after_o : after_escape (codes "O" ++ introducer ++ codes "A")
+    ≡ (
+      glyphs (codes "O") ++ key.Arrow Move Up 1 ∷ [],
+      key.Escape ∷ glyphs (codes "O") ++ key.Arrow Move Up 1 ∷ [],
+    )
+unfolding worked
+arrow_after_o = refl
+
+function_key_after_escape : after_escape (escape ∷ codes "OP")
+    ≡ (key.Escape ∷ glyphs (codes "OP"), key.Escape ∷ [])
+unfolding worked
+function_key_after_escape = refl
+
+quit : after_escape (17 ∷ []) ≡ (key.Quit ∷ [], key.Escape ∷ key.Quit ∷ [])
+unfolding worked
+quit = refl
+
+-- ---- what stays
 
 -- thirteen bytes are too many, and end in an arrow that is none
 overlong : Both (sequence (codes "1;1;1;1;1;1;1A7")) (key.Glyph 55)

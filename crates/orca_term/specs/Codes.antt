@@ -33,6 +33,10 @@ letter_h = 72
 abbrev pub letter_m : ℕ
 letter_m = 109
 
+-- `O`, which makes a single shift of an ESC: SS3 of ECMA-48
+abbrev pub letter_o : ℕ
+letter_o = 79
+
 -- `t`, the end of a report of the size of a terminal
 abbrev pub letter_t : ℕ
 letter_t = 116

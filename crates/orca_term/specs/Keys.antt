@@ -1,12 +1,12 @@
 -- Keys: what the bytes of a terminal mean. Control characters are those of ASCII, and sequences
--- those of ECMA-48. There are plain keys and full ones: whatever is a plain key is the same full
--- key.
-use Rattle.std.specs.Prelude.{ℕ, ◌≡◌, ◌-◌, ◌%◌, Bool, ◌&&◌, ◌==◌, max, nat_le, nat_lt, if◌then◌else◌, Option, Some, None, IfSome, option_map, option_and_then, List, [], ◌∷◌, ◌++◌, length}
-use Rattle.std.specs.Option.{option_or, option_to_list}
+-- those of ECMA-48. There are plain keys and full ones: each plain key is the same full key, but
+-- for those after an ESC.
+use Rattle.std.specs.Prelude.{ℕ, ◌≡◌, ◌-◌, ◌%◌, Bool, false, true, ◌&&◌, ◌==◌, max, nat_le, nat_lt, if◌then◌else◌, Option, Some, None, IfSome, option_map, option_and_then, List, [], ◌∷◌, ◌++◌, length}
+use Rattle.std.specs.Option.{option_map_or, option_or, option_to_list}
 use Rattle.orca_base.specs.Ascii.{escape}
 use Rattle.orca_base.specs.Glyphs.{is_glyph}
 use Rattle.orca_base.specs.declared.limits.TheConstants.{MAX_COLUMNS, SEQUENCE_BYTES}
-use Rattle.orca_term.specs.Codes.{bracket, semicolon, tilde, letter_t, less, capital_m}
+use Rattle.orca_term.specs.Codes.{bracket, semicolon, tilde, letter_o, letter_t, less, capital_m}
 use Rattle.orca_term.specs.Forms.{no_digits, more, continues}
 use Rattle.orca_term.specs.declared.forms.Number.{Number}
 use Rattle.orca_term.specs.declared.keys.Deed.{Deed}
@@ -14,7 +14,7 @@ use Rattle.orca_term.specs.declared.keys.Deed.TheVariants.{Move, Stretch, Slide,
 use Rattle.orca_term.specs.declared.keys.Key.{Key}
 use Rattle.orca_term.specs.declared.keys.Key.TheVariants as key
 use Rattle.orca_term.specs.declared.keys.Pending.{Pending}
-use Rattle.orca_term.specs.declared.keys.Pending.TheVariants.{Nothing, Lone, Sequence, Overlong}
+use Rattle.orca_term.specs.declared.keys.Pending.TheVariants.{Nothing, Lone, Single, Sequence, Overlong}
 use Rattle.orca_term.specs.declared.keys.Side.{Side}
 use Rattle.orca_term.specs.declared.keys.Side.TheVariants.{Up, Down, Left, Right}
 use Rattle.orca_term.specs.declared.keys.Turn.{Turn}
@@ -184,12 +184,28 @@ key_of_sequence full bytes last =
     option_or (plain_sequence bytes last)
     (if full then further_sequence bytes last else None)
 
+-- ---- single shifts
+
+-- the last bytes of F1 to F4: `P` to `S`
+abbrev pub is_function : ℕ → Bool
+is_function byte = nat_le 80 byte && nat_le byte 83
+
+-- what ESC, `O` and this letter are: no key where it is that of F1 to F4, and the arrow, Home or
+-- End of ESC [ and the letter
+abbrev pub single_key : ℕ → Option (Option Key)
+single_key byte =
+    if is_function byte then Some None else option_map (λ k. Some k) (ended_key byte 1)
+
+-- what ESC and `O` are where no such letter follows
+abbrev pub escape_and_o : List Key
+escape_and_o = key.Escape ∷ key.Glyph letter_o ∷ []
+
+-- ---- the reader
+
 -- the key of what is pending where it ends in such a byte: a sequence with too many bytes has none
 abbrev pub key_at_end : Bool → Pending → ℕ → Option Key
 key_at_end full (Sequence bytes) last = key_of_sequence full bytes last
 key_at_end full _ last = None
-
--- ---- the reader
 
 -- a sequence collects no more bytes than these
 abbrev pub pending_with : Pending → ℕ → Pending
@@ -207,23 +223,39 @@ is_last byte = nat_le 64 byte && nat_le byte 126
 
 -- no key, and this is pending
 abbrev pub awaits : Pending → Turn
-awaits p = record { key = None; pending = p }
+awaits p = record { keys = []; pending = p }
 
 -- this key, if any, and nothing is pending
 abbrev pub ends_as : Option Key → Turn
-ends_as k = record { key = k; pending = Nothing }
+ends_as k = record { keys = option_to_list k; pending = Nothing }
+
+-- these keys, and then a turn
+abbrev pub after : List Key → Turn → Turn
+after keys turn = record turn { keys = keys ++ turn.keys }
 
 -- a byte where nothing is pending
 abbrev pub turn_outside : Bool → ℕ → Turn
 turn_outside full byte = if byte == escape then awaits Lone else ends_as (key_of full byte)
 
--- a byte after a lone ESC: a bracket begins a sequence, a second ESC makes the first one a key, and
--- any other byte is read as if the ESC hadn't come
+-- a byte after a lone ESC that begins no sequence of it, and is no ESC. With full keys the ESC was
+-- the escape key, unless an `O` may make a single shift of it; with plain ones the byte is read as
+-- if the ESC hadn't come
+abbrev pub turn_alone : Bool → ℕ → Turn
+turn_alone false byte = turn_outside false byte
+turn_alone true byte =
+    if byte == letter_o then awaits Single else after (key.Escape ∷ []) (turn_outside true byte)
+
+-- a byte after a lone ESC: a bracket begins a sequence, and a second ESC makes the first one a key
 abbrev pub turn_after_escape : Bool → ℕ → Turn
 turn_after_escape full byte =
     if byte == bracket then awaits (Sequence [])
-    else (if byte == escape then record { key = Some key.Escape; pending = Lone }
-    else turn_outside full byte)
+    else (if byte == escape then record { keys = key.Escape ∷ []; pending = Lone }
+    else turn_alone full byte)
+
+-- a byte after ESC and `O`: it ends a single shift, or is read anew after both
+abbrev pub turn_after_o : Bool → ℕ → Turn
+turn_after_o full byte =
+    option_map_or ends_as (single_key byte) (after escape_and_o (turn_outside full byte))
 
 -- a byte of a sequence: it is collected, or ends the sequence, or drops it and is read anew
 abbrev pub turn_inside : Bool → Pending → ℕ → Turn
@@ -231,22 +263,42 @@ turn_inside full p byte =
     if is_collected byte then awaits (pending_with p byte)
     else (if is_last byte then ends_as (key_at_end full p byte) else turn_outside full byte)
 
--- what an item gives, with full keys or with plain ones, and what is pending after it
+-- what an item gives, with full keys or with plain ones, and what is pending after it. With plain
+-- keys there are no single shifts
 unfoldable pub turn : Bool → Pending → Item → Turn
 turn full Nothing (Byte byte) = turn_outside full byte
 turn full Lone (Byte byte) = turn_after_escape full byte
+turn full Single (Byte byte) = turn_after_o full byte
 turn full (Sequence bytes) (Byte byte) = turn_inside full (Sequence bytes) byte
 turn full Overlong (Byte byte) = turn_inside full Overlong byte
 turn full Lone Due = ends_as (Some key.Escape)
+turn full Single Due = record { keys = escape_and_o; pending = Nothing }
 turn full p Due = awaits p
 
 -- the keys of these items, where something is pending before them
 unfoldable pub keys_from : Bool → Pending → List Item → List Key
 keys_from full p [] = []
 keys_from full p (item ∷ items) =
-    option_to_list (turn full p item).key ++ keys_from full (turn full p item).pending items
+    (turn full p item).keys ++ keys_from full (turn full p item).pending items
 
--- the second turn leaves pending what the first one does, and has its key where that has one
-pub record ExtendsTurn (plain full : Turn) : Type 0 where
-  pub pending : full.pending ≡ plain.pending
-  pub key : IfSome plain.key (λ k. full.key ≡ Some k)
+-- ---- full keys beside plain ones
+
+-- items, the plain keys of them, and the full ones. Each plain key is the same full key, in the
+-- same order, but for those after an ESC: there full keys may have an Escape more, and lack an `O`
+-- and the letter after it
+pub data Extends : List Item → List Key → List Key → Type 0 where
+  over : Extends [] [] []
+  -- where an item gives a plain key, that is the full one
+  same : (item : Item) (items : List Item) (k l : Option Key) (plain full : List Key)
+      → IfSome k (λ k. l ≡ Some k) → Extends items plain full
+      → Extends (item ∷ items) (option_to_list k ++ plain) (option_to_list l ++ full)
+  -- an ESC gives an Escape more
+  adds : (items : List Item) (plain full : List Key) → Extends items plain full
+      → Extends (Byte escape ∷ items) plain (key.Escape ∷ full)
+  -- ESC, `O` and a letter give the key of a single shift in place of the `O` and the letter
+  lacks : (letter : ℕ) (items : List Item) (k : Option Key) (plain full : List Key)
+      → single_key letter ≡ Some k → Extends items plain full
+      → Extends (Byte escape ∷ Byte letter_o ∷ Byte letter ∷ items)
+      (key.Glyph letter_o ∷ key.Glyph letter ∷ plain) (option_to_list k ++ full)
+  -- an `O` waits for the letter after it
+  holds : Extends (Byte escape ∷ Byte letter_o ∷ []) (key.Glyph letter_o ∷ []) []

@@ -1,10 +1,11 @@
 //! The keys of a terminal, by the bytes that it sends.
 
-ghost use Rattle.std.specs.Prelude.{◌≡◌, ◌≤◌, ◌∷◌, ◌++◌, false, true, Bool, List, length};
-ghost use Rattle.std.specs.Option.{option_to_list};
-ghost use Rattle.orca_term.specs.Keys.{ExtendsTurn, Item, Byte, Due, turn, turn_outside, turn_after_escape, turn_inside, pending_with, awaits, key_at_end as key_of_end, keys_from};
+ghost use Rattle.std.specs.Prelude.{◌≡◌, ◌+◌, ◌≤◌, ◌∷◌, ◌++◌, false, true, Bool, List, length};
+ghost use Rattle.orca_term.specs.Keys.{Extends, Item, Byte, Due, turn, turn_outside, turn_alone, turn_after_escape, turn_after_o, turn_inside, pending_with, after, awaits, ends_as, key_at_end as key_of_end, keys_from};
 
-use crate::tables::{key_of, key_of_sequence};
+use crate::Strokes;
+use crate::limits::MAX_STROKES;
+use crate::tables::{key_of, key_of_sequence, single_key};
 use orca_base::limits::SEQUENCE_BYTES;
 use orca_base::{Glyph, Inline};
 use std::marker::Model;
@@ -128,6 +129,8 @@ pub enum Pending {
     Nothing,
     /// An ESC that nothing follows so far.
     Lone,
+    /// ESC and `O`, which wait for a letter.
+    Single,
     /// A sequence, with the bytes that were collected after `ESC [`.
     Sequence(Inline<ROOM>),
     /// A sequence with more bytes than are collected.
@@ -135,10 +138,10 @@ pub enum Pending {
 }
 
 /// What a byte gives.
-#[derive(Clone, Copy, Debug, PartialEq, Eq)]
+#[derive(Debug, Drop)]
 pub(crate) struct Turn {
-    /// The key that it ends.
-    key: Option<Key>,
+    /// The keys that it ends.
+    keys: Strokes,
     /// What is pending after it.
     pending: Pending,
 }
@@ -160,88 +163,91 @@ impl Model for Keys {
 }
 
 impl Keys {
-    /// Nothing is pending.
+    /// Nothing is pending. What is read from here on gives full keys that extend the plain ones.
+    #[tactic(auto, using(crate::proofs::Extension::keys_extend))]
     pub fn start() -> Keys
-        ensures { result ≡ Pending.Nothing }
+        ensures pending { result ≡ Pending.Nothing }
+        ensures extends { (items : List Item)
+            → Extends items (keys_from false result items) (keys_from true result items) }
     {
         Keys {
             pending: Pending::Nothing,
         }
     }
 
-    /// Reads a byte, and gives the plain key that it ends, if any.
+    /// Reads a byte, and gives the plain keys that it ends.
     #[tactic(auto, unfolding(crate::specs::Keys::keys_from))]
-    pub fn feed(&mut self, byte: u8) -> Option<Key>
-        ensures key { result ≡ (turn false self.old (Byte byte)).key }
+    pub fn feed(&mut self, byte: u8) -> Strokes
+        ensures keys { result ≡ (turn false self.old (Byte byte)).keys }
         ensures pending { self.new ≡ (turn false self.old (Byte byte)).pending }
-        ensures keys { (items : List Item) → keys_from false self.old (Byte byte ∷ items)
-            ≡ option_to_list result ++ keys_from false self.new items }
+        ensures all { (items : List Item) → keys_from false self.old (Byte byte ∷ items)
+            ≡ result ++ keys_from false self.new items }
     {
         let full = false;
         self.follow(full, byte)
     }
 
-    /// Reads a byte, and gives the full key that it ends, if any. Where it ends a plain key, that is the
-    /// key, and what is pending is the same.
-    #[tactic(auto, unfolding(crate::specs::Keys::keys_from), using(crate::proofs::Extension::turn_extends))]
-    pub fn feed_full(&mut self, byte: u8) -> Option<Key>
-        ensures key { result ≡ (turn true self.old (Byte byte)).key }
+    /// Reads a byte, and gives the full keys that it ends.
+    #[tactic(auto, unfolding(crate::specs::Keys::keys_from))]
+    pub fn feed_full(&mut self, byte: u8) -> Strokes
+        ensures keys { result ≡ (turn true self.old (Byte byte)).keys }
         ensures pending { self.new ≡ (turn true self.old (Byte byte)).pending }
-        ensures extends { ExtendsTurn (turn false self.old (Byte byte))
-            (record { key = result; pending = self.new }) }
-
-        ensures keys { (items : List Item) → keys_from true self.old (Byte byte ∷ items)
-            ≡ option_to_list result ++ keys_from true self.new items }
+        ensures all { (items : List Item) → keys_from true self.old (Byte byte ∷ items)
+            ≡ result ++ keys_from true self.new items }
     {
         let full = true;
         self.follow(full, byte)
     }
 
-    /// Nothing came for a while: an ESC that stands alone is the escape key. A sequence that has begun
-    /// stays. Plain keys and full ones are the same here.
+    /// Nothing came for a while: an ESC that stands alone is the escape key, and ESC and `O` are both keys. A
+    /// sequence that has begun stays. Plain keys and full ones are the same here, but that the plain ones
+    /// never wait after an `O`.
     #[tactic(auto, unfolding(crate::specs::Keys::turn, crate::specs::Keys::keys_from))]
-    pub fn due(&mut self) -> Option<Key>
-        ensures key { (full : Bool) → result ≡ (turn full self.old Due).key }
+    pub fn due(&mut self) -> Strokes
+        ensures keys { (full : Bool) → result ≡ (turn full self.old Due).keys }
         ensures pending { (full : Bool) → self.new ≡ (turn full self.old Due).pending }
-        ensures keys { (full : Bool) (items : List Item) → keys_from full self.old (Due ∷ items)
-            ≡ option_to_list result ++ keys_from full self.new items }
+        ensures all { (full : Bool) (items : List Item) → keys_from full self.old (Due ∷ items)
+            ≡ result ++ keys_from full self.new items }
     {
         match self.pending {
             Pending::Lone => {
                 self.pending = Pending::Nothing;
-                Some(Key::Escape)
+                Strokes::of(Some(Key::Escape))
             }
-            _ => None,
+            Pending::Single => {
+                self.pending = Pending::Nothing;
+                Strokes::escape_and_o()
+            }
+            _ => Strokes::none(),
         }
     }
 
     /// Reads a byte, with full keys or with plain ones.
     #[tactic(auto, unfolding(crate::specs::Keys::turn))]
-    fn follow(&mut self, full: bool, byte: u8) -> Option<Key>
-        ensures key { result ≡ (turn full self.old (Byte byte)).key }
+    fn follow(&mut self, full: bool, byte: u8) -> Strokes
+        ensures keys { result ≡ (turn full self.old (Byte byte)).keys }
         ensures pending { self.new ≡ (turn full self.old (Byte byte)).pending }
     {
         let turn = match self.pending {
             Pending::Nothing => read_outside(full, byte),
             Pending::Lone => read_after_escape(full, byte),
+            Pending::Single => read_after_o(full, byte),
             pending => read_inside(full, pending, byte),
         };
         self.pending = turn.pending;
-        turn.key
+        turn.keys
     }
 }
 
 /// A byte where nothing is pending.
 fn read_outside(full: bool, byte: u8) -> Turn
-    ensures { result ≡ turn_outside full byte }
+    ensures turn { result ≡ turn_outside full byte }
+    ensures few { length result.keys ≤ 1 }
 {
     if byte == ESCAPE {
         return awaits(Pending::Lone);
     }
-    Turn {
-        key: key_of(full, byte),
-        pending: Pending::Nothing,
-    }
+    ends_as(key_of(full, byte))
 }
 
 /// A byte after a lone ESC.
@@ -251,10 +257,33 @@ fn read_after_escape(full: bool, byte: u8) -> Turn
     match byte {
         b'[' => awaits(Pending::Sequence(Inline::empty())),
         ESCAPE => Turn {
-            key: Some(Key::Escape),
+            keys: Strokes::of(Some(Key::Escape)),
             pending: Pending::Lone,
         },
-        _ => read_outside(full, byte),
+        _ => read_alone(full, byte),
+    }
+}
+
+/// A byte after a lone ESC that begins no sequence of it, and is no ESC.
+fn read_alone(full: bool, byte: u8) -> Turn
+    ensures { result ≡ turn_alone full byte }
+{
+    if !full {
+        return read_outside(full, byte);
+    }
+    if byte == b'O' {
+        return awaits(Pending::Single);
+    }
+    after(Strokes::of(Some(Key::Escape)), read_outside(full, byte))
+}
+
+/// A byte after ESC and `O`.
+fn read_after_o(full: bool, byte: u8) -> Turn
+    ensures { result ≡ turn_after_o full byte }
+{
+    match single_key(byte) {
+        Some(key) => ends_as(key),
+        None => after(Strokes::escape_and_o(), read_outside(full, byte)),
     }
 }
 
@@ -264,10 +293,7 @@ fn read_inside(full: bool, pending: Pending, byte: u8) -> Turn
 {
     match byte {
         0x20..=0x3F => awaits(collect(pending, byte)),
-        0x40..=0x7E => Turn {
-            key: key_at_end(full, pending, byte),
-            pending: Pending::Nothing,
-        },
+        0x40..=0x7E => ends_as(key_at_end(full, pending, byte)),
         _ => read_outside(full, byte),
     }
 }
@@ -276,7 +302,33 @@ fn read_inside(full: bool, pending: Pending, byte: u8) -> Turn
 fn awaits(pending: Pending) -> Turn
     ensures { result ≡ awaits pending }
 {
-    Turn { key: None, pending }
+    Turn {
+        keys: Strokes::none(),
+        pending,
+    }
+}
+
+/// A key, if any, and nothing is pending.
+fn ends_as(key: Option<Key>) -> Turn
+    ensures { result ≡ ends_as key }
+{
+    Turn {
+        keys: Strokes::of(key),
+        pending: Pending::Nothing,
+    }
+}
+
+/// Keys, and then those of a turn, where they fit.
+fn after(keys: Strokes, turn: Turn) -> Turn
+    requires { length keys + length turn.keys ≤ MAX_STROKES }
+    ensures { result ≡ after keys turn }
+{
+    let mut keys = keys;
+    keys.extend(turn.keys.as_slice());
+    Turn {
+        keys,
+        pending: turn.pending,
+    }
 }
 
 /// A byte more of a sequence.

@@ -1,4 +1,4 @@
-//! The limits of a screen's bytes, and how far some keys reach.
+//! The limits of a screen's bytes, how many keys come at once, and how far some keys reach.
 
 use orca_base::limits::{MAX_DIGITS, RULE_NAME_BYTES};
 
@@ -20,6 +20,9 @@ pub const CELL_BYTES: usize = 4 + 3 + FORM_DIGITS + 1;
 
 /// The greatest style of a form that a terminal reads.
 pub const MAX_STYLE: u8 = u8::MAX;
+
+/// The most keys that a byte gives: Escape, `O`, and its own one.
+pub const MAX_STROKES: usize = 3;
 
 /// How many places lie between two marks of the ruler. Keys that leap go as far.
 pub const RULER_PLACES: u16 = 8;

@@ -2,7 +2,7 @@
 
 ghost use Rattle.std.specs.Prelude.{◌≡◌, ◌≤◌, [], ◌∷◌, length};
 ghost use Rattle.std.specs.Option.{option_and_then};
-ghost use Rattle.orca_term.specs.Keys.{key_of, plain_key, further_keys, found_in, key_of_sequence, plain_sequence, arrow_keys, shifted_keys, arrow_sides, edges, numbered_edges, pages, deed_of, arrow_key, ended_key, paged_key, numbers_in, numbered_keys, key_of_numbers, further_sequence};
+ghost use Rattle.orca_term.specs.Keys.{key_of, plain_key, further_keys, found_in, key_of_sequence, plain_sequence, arrow_keys, shifted_keys, arrow_sides, edges, numbered_edges, pages, deed_of, arrow_key, ended_key, paged_key, single_key, is_function, numbers_in, numbered_keys, key_of_numbers, further_sequence};
 
 use crate::limits::{FAR_BEATS, RULER_PLACES};
 use crate::mouse::mouse_sequence;
@@ -199,6 +199,25 @@ fn ended_key(last: u8, m: u16) -> Option<Key>
 {
     let near = arrow_key(m, 1, side_of(last));
     near.or(arrow_key(m, MAX_COLUMNS, edge_of(last)))
+}
+
+/// What ESC, `O` and a letter are: none of the keys here where the letter is that of F1 to F4, and the arrow,
+/// Home or End of `ESC [` and the letter.
+pub(crate) fn single_key(letter: u8) -> Option<Option<Key>>
+    ensures { result ≡ single_key letter }
+{
+    if is_function(letter) {
+        return Some(None);
+    }
+    let key = ended_key(letter, 1)?;
+    Some(Some(key))
+}
+
+/// Whether a letter is that of F1 to F4.
+fn is_function(letter: u8) -> bool
+    ensures { result ≡ is_function letter }
+{
+    matches!(letter, b'P'..=b'S')
 }
 
 /// The arrow that has a number: a page, Home or End.
