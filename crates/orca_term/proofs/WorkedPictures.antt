@@ -1,10 +1,14 @@
 -- The status line, the ruler and the styles, computed by the definitions.
-use Rattle.std.specs.Prelude.{◌≡◌, ℕ, Bool, false, true, None, [], ◌∷◌, ◌++◌, codes, replicate, refl}
+use Rattle.std.specs.Prelude.{◌≡◌, ℕ, Bool, false, true, List, [], ◌∷◌, ◌++◌, codes, replicate, refl}
 use Rattle.std.specs.Fmt.{decimal}
 use Rattle.orca_base.specs.Glyphs.{empty, is_operator}
 use Rattle.orca_base.specs.MarkSet.{MarkSet, no_marks}
-use Rattle.orca_term.specs.Picture.{Scene, byte_at, glyph_under, status_line_text, style_by, tempo_word}
+use Rattle.orca_term.specs.Came.{came_word}
+use Rattle.orca_term.specs.Picture.{Scene, byte_at, glyph_under, loss_words, status_line_text, style_by, tempo_word}
 use Rattle.orca_term.specs.Words.{glyph_words}
+use Rattle.orca_base.specs.declared.command.Rule.TheVariants.{EmptyClip}
+use Rattle.orca_term.specs.declared.came.Came.TheVariants.{Well, Refused, Denied, Kept}
+use Rattle.orca_term.specs.declared.came.HandRule.TheVariants.{LeaderOnly, NotYours}
 use Rattle.orca_term.specs.declared.editor.Editor.{Editor}
 use Rattle.orca_term.specs.declared.status.StatusLine.{StatusLine}
 
@@ -21,8 +25,20 @@ editor append guide = record {
   anchor = record { y = 3; x = 3 };
 }
 
+-- a line where all is well
 abbrev line : ℕ → StatusLine
-line tick = record { tick = tick; moments = 5; sounding = 0; tempo = 120; refusal = None }
+line tick = record {
+  tick = tick;
+  moments = 5;
+  sounding = 0;
+  tempo = 120;
+  no_midi = false;
+  no_udp = false;
+  no_osc = false;
+  no_journal = false;
+  unsaved = false;
+  came = Well;
+}
 
 -- the frame that was played last is the first of its beat
 on_the_beat : tempo_word (line 1) ≡ decimal 120 ++ codes " " ++ codes "*"
@@ -36,6 +52,51 @@ between_beats = refl
 
 before_the_first : tempo_word (line 0) ≡ decimal 120 ++ codes " " ++ codes "."
 before_the_first = refl
+
+-- ---- what keys came to
+
+-- what is lost, and what the last key came to
+abbrev told : StatusLine → List ℕ
+told line = loss_words line ++ came_word line.unsaved line.came
+
+all_is_well : told (line 1) ≡ codes "ok"
+all_is_well = refl
+
+saved : told (record (line 1) { came = Kept }) ≡ codes "saved"
+saved = refl
+
+-- a save that failed is told where else all were well, and `saved` is told of none that failed
+unsaved : told (record (line 1) { unsaved = true }) ≡ codes "unsaved"
+unsaved = refl
+
+not_saved : told (record (line 1) { unsaved = true; came = Kept }) ≡ codes "unsaved"
+not_saved = refl
+
+refused : told (record (line 1) { unsaved = true; came = Refused EmptyClip }) ≡ codes "EmptyClip"
+refused = refl
+
+denied : told (record (line 1) { came = Denied LeaderOnly })
+    ++ told (record (line 1) { came = Denied NotYours }) ≡ codes "LeaderOnlyNotYours"
+denied = refl
+
+lost_port : told (record (line 1) { no_udp = true }) ≡ codes "no udp ok"
+lost_port = refl
+
+-- what is lost stands between the editor's words and the last key's
+all_is_lost : status_line_text (editor true true) 68
+    (record (line 1) {
+      no_midi = true;
+      no_udp = true;
+      no_osc = true;
+      no_journal = true;
+      came = Kept;
+    })
+    ≡ decimal 1 ++ codes " " ++ decimal 5 ++ codes " " ++ decimal 0 ++ codes " "
+    ++ decimal 3 ++ codes "," ++ decimal 3 ++ codes " " ++ decimal 1 ++ codes "x" ++ decimal 1
+    ++ codes " " ++ codes "play" ++ (codes " " ++ tempo_word (line 1)) ++ codes " append"
+    ++ codes " " ++ codes "no midi no udp no osc no journal " ++ codes "saved" ++ codes " D delay"
+unfolding status_line_text
+all_is_lost = refl
 
 -- ---- the operator in words
 

@@ -1,3 +1,4 @@
+pub mod Came
 pub mod Codes
 pub mod Editing
 pub mod Forms

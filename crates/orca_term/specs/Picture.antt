@@ -1,6 +1,6 @@
 -- The picture: of each cell of the screen its byte and its style. The last row is the status line,
 -- and the others are a window on the grid. Styles are those of ECMA-48, select graphic rendition.
-use Rattle.std.specs.Prelude.{ℕ, ◌+◌, ◌*◌, ◌/◌, ◌%◌, ◌≤◌, ◌==◌, Bool, true, false, ◌&&◌, ◌||◌, if◌then◌else◌, Option, Some, None, List, [], ◌++◌, map, codes, max, min, slice_index_or}
+use Rattle.std.specs.Prelude.{ℕ, ◌+◌, ◌*◌, ◌/◌, ◌%◌, ◌≤◌, ◌==◌, Bool, true, false, ◌&&◌, ◌||◌, if◌then◌else◌, List, [], ◌++◌, map, codes, max, min, slice_index_or}
 use Rattle.std.specs.Fmt.{decimal}
 use Rattle.std.specs.List.{range_with_len}
 use Rattle.orca_base.specs.Ascii.{space}
@@ -8,13 +8,12 @@ use Rattle.orca_base.specs.Edits.{is_in_area}
 use Rattle.orca_base.specs.Glyphs.{bang, empty, is_operator, is_upper}
 use Rattle.orca_base.specs.Grids.{Sheet, is_inside, index_of, glyph_at}
 use Rattle.orca_base.specs.MarkSet.{MarkSet, no_marks}
-use Rattle.orca_base.specs.declared.command.Rule.{Rule}
 use Rattle.orca_base.specs.declared.limits.TheConstants.{BEAT_FRAMES, MIN_SCREEN_ROWS, MAX_SCREEN_ROWS, MIN_SCREEN_COLUMNS, MAX_SCREEN_COLUMNS}
 use Rattle.orca_base.specs.declared.place.Place.{Place}
+use Rattle.orca_term.specs.Came.{came_word}
 use Rattle.orca_term.specs.Codes.{hash_sign, plus}
 use Rattle.orca_term.specs.Editing.{area_of, window_place}
 use Rattle.orca_term.specs.Words.{glyph_words}
-use Rattle.orca_base.specs.RuleNames.{rule_name}
 use Rattle.orca_term.specs.declared.cell.Cell.{Cell}
 use Rattle.orca_term.specs.declared.cell.ScreenSize.{ScreenSize}
 use Rattle.orca_term.specs.declared.editor.Editor.{Editor}
@@ -141,10 +140,13 @@ abbrev pub state_word : Bool → List ℕ
 state_word true = codes "pause"
 state_word false = codes "play"
 
--- what became of the last command
-abbrev pub refusal_word : Option Rule → List ℕ
-refusal_word None = codes "ok"
-refusal_word (Some rule) = rule_name rule
+-- what is lost, with a space after each word
+abbrev pub loss_words : StatusLine → List ℕ
+loss_words line =
+    (if line.no_midi then codes "no midi " else [])
+    ++ (if line.no_udp then codes "no udp " else [])
+    ++ (if line.no_osc then codes "no osc " else [])
+    ++ (if line.no_journal then codes "no journal " else [])
 
 -- the tempo, and whether the frame that was played last begins a beat
 abbrev pub tempo_word : StatusLine → List ℕ
@@ -159,7 +161,7 @@ glyph_under scene =
     if is_inside scene.sheet.dims at then glyph_at scene.sheet at else empty
 
 -- the text of the status line, with this glyph at the cursor: the guide adds the tempo and the
--- glyph in words, and typing that goes on adds a word
+-- glyph in words, typing that goes on adds a word, and so does what is lost
 unfoldable pub status_line_text : Editor → ℕ → StatusLine → List ℕ
 status_line_text e glyph line =
     decimal line.tick ++ codes " " ++ decimal line.moments ++ codes " " ++ decimal line.sounding
@@ -167,7 +169,8 @@ status_line_text e glyph line =
     ++ codes " " ++ decimal e.h ++ codes "x" ++ decimal e.w
     ++ codes " " ++ state_word e.paused
     ++ (if e.guide then codes " " ++ tempo_word line else [])
-    ++ (if e.append then codes " append" else []) ++ codes " " ++ refusal_word line.refusal
+    ++ (if e.append then codes " append" else []) ++ codes " "
+    ++ loss_words line ++ came_word line.unsaved line.came
     ++ (if e.guide then glyph_words glyph else [])
 
 -- the cell of a column of the status line: the text is cut at the last column, or filled with

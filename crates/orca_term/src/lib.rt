@@ -3,6 +3,7 @@
 #![tactic(auto)]
 
 mod around;
+mod came;
 mod cell;
 mod editor;
 mod forms;
@@ -24,6 +25,7 @@ mod view;
 mod window;
 
 pub use around::Around;
+pub use came::{Came, HandRule};
 pub use cell::{Cell, ScreenSize};
 pub use editor::{Editor, Wish};
 pub use keys::{Deed, Key, Keys, Pending, Side};

@@ -5,9 +5,21 @@ use orca_base::limits::{MAX_DIGITS, RULE_NAME_BYTES};
 /// The most bytes of the name of an operator.
 pub const NAME_BYTES: usize = 14;
 
+/// The most bytes of what is lost: `no midi`, `no udp`, `no osc` and `no journal`, with a space after each.
+pub const LOSS_BYTES: usize = 8 + 7 + 7 + 11;
+
 /// The most bytes of the status line: eight numbers, the five letters of a pause, the beat, the six letters
-/// of typing that goes on, the name of a rule, a glyph, its name, and the thirteen bytes between them.
-pub const STATUS_BYTES: usize = 8 * MAX_DIGITS + 5 + 1 + 6 + RULE_NAME_BYTES + 1 + NAME_BYTES + 13;
+/// of typing that goes on, what is lost, the name of a rule, a glyph, its name, and the thirteen bytes
+/// between them.
+pub const STATUS_BYTES: usize = 8 * MAX_DIGITS
+    + 5
+    + 1
+    + 6
+    + LOSS_BYTES
+    + RULE_NAME_BYTES
+    + 1
+    + NAME_BYTES
+    + 13;
 
 /// The most digits of a number in a form that a terminal reads.
 pub const FORM_DIGITS: usize = 3;

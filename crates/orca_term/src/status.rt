@@ -2,15 +2,15 @@
 
 ghost use Rattle.std.specs.Prelude.{◌≡◌, ◌==◌, ◌+◌, ◌%◌, ◌≤◌, [], ◌∷◌, ◌++◌, codes, if◌then◌else◌, length, All};
 ghost use Rattle.std.specs.Fmt.{decimal};
-ghost use Rattle.orca_term.specs.Picture.{IsPrintableByte, state_word, tempo_word, refusal_word, status_line_text};
+ghost use Rattle.orca_term.specs.Picture.{IsPrintableByte, state_word, tempo_word, loss_words, status_line_text};
 ghost use Rattle.orca_term.specs.Words.{glyph_words};
 
-use crate::Editor;
-use crate::limits::{NAME_BYTES, STATUS_BYTES};
+use crate::limits::{LOSS_BYTES, NAME_BYTES, STATUS_BYTES};
 use crate::names::operator_name;
+use crate::{Came, Editor};
 use itoa::Buffer;
-use orca_base::limits::{BEAT_FRAMES, MAX_DIGITS, RULE_NAME_BYTES};
-use orca_base::{Glyph, Inline, Rule};
+use orca_base::limits::{BEAT_FRAMES, MAX_DIGITS};
+use orca_base::{Glyph, Inline};
 
 /// The text of a status line.
 pub(crate) type StatusText = Inline<STATUS_BYTES>;
@@ -26,8 +26,18 @@ pub struct StatusLine {
     pub sounding: u32,
     /// The tempo, in beats a minute.
     pub tempo: u16,
-    /// The rule that refused the last command, if one did.
-    pub refusal: Option<Rule>,
+    /// Whether the MIDI port is lost.
+    pub no_midi: bool,
+    /// Whether the UDP port is lost.
+    pub no_udp: bool,
+    /// Whether the OSC port is lost.
+    pub no_osc: bool,
+    /// Whether the journal is lost.
+    pub no_journal: bool,
+    /// Whether the last save failed, which is told where else all were well.
+    pub unsaved: bool,
+    /// What the last key came to.
+    pub came: Came,
 }
 
 /// The text of the status line, with this glyph at the cursor.
@@ -46,9 +56,10 @@ pub(crate) fn status_text(editor: &Editor, glyph: Glyph, line: &StatusLine) -> S
     push_number(&mut text, u32::from(editor.w), b' ');
     push_word(&mut text, state_word(editor.paused));
     push_tempo(&mut text, editor, line);
-    push_word(&mut text, append_word(editor.append));
+    push_word(&mut text, word_if(editor.append, b" append"));
     push_word(&mut text, b" ");
-    push_word(&mut text, refusal_word(&line.refusal));
+    push_losses(&mut text, line);
+    push_word(&mut text, line.came.word(line.unsaved));
     push_words(&mut text, editor, glyph);
     text
 }
@@ -115,13 +126,28 @@ fn beat_word(tick: u32) -> &'static [u8]
     }
 }
 
-/// Whether the cursor goes on after a glyph.
-fn append_word(append: bool) -> &'static [u8]
-    ensures word { result.now ≡ (if append then codes " append" else []) }
-    ensures printable { All IsPrintableByte result.now }
-    ensures short { length result.now ≤ 7 }
+/// Appends what is lost.
+fn push_losses(text: &mut StatusText, line: &StatusLine)
+    requires room { length text.old + LOSS_BYTES ≤ STATUS_BYTES }
+    requires printable { All IsPrintableByte text.old }
+    ensures text { text.new ≡ text.old ++ loss_words line.now }
+    ensures short { length text.new ≤ length text.old + LOSS_BYTES }
+    ensures printable { All IsPrintableByte text.new }
 {
-    if append { b" append" } else { b"" }
+    push_word(text, word_if(line.no_midi, b"no midi "));
+    push_word(text, word_if(line.no_udp, b"no udp "));
+    push_word(text, word_if(line.no_osc, b"no osc "));
+    push_word(text, word_if(line.no_journal, b"no journal "));
+}
+
+/// A word where it holds, and else none.
+fn word_if(holds: bool, word: &'static [u8]) -> &'static [u8]
+    requires { All IsPrintableByte word.now }
+    ensures word { result.now ≡ (if holds then word.now else []) }
+    ensures printable { All IsPrintableByte result.now }
+    ensures short { length result.now ≤ length word.now }
+{
+    if holds { word } else { b"" }
 }
 
 /// Appends a number and the byte after it.
@@ -154,18 +180,6 @@ fn state_word(paused: bool) -> &'static [u8]
     ensures short { length result.now ≤ 5 }
 {
     if paused { b"pause" } else { b"play" }
-}
-
-/// What became of the last command.
-fn refusal_word(refusal: &Option<Rule>) -> &'static [u8]
-    ensures word { result.now ≡ refusal_word refusal.now }
-    ensures printable { All IsPrintableByte result.now }
-    ensures short { length result.now ≤ RULE_NAME_BYTES }
-{
-    match refusal {
-        None => b"ok",
-        Some(rule) => rule.name().as_bytes(),
-    }
 }
 
 /// A number in decimal digits, without leading zeros.
