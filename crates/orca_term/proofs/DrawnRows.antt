@@ -1,7 +1,7 @@
 -- The picture a row at a time.
 use Rattle.std.proofs.Common.{◌≡◌, ℕ, zero, suc, ◌+◌, ◌-◌, ◌*◌, ◌/◌, ◌%◌, ◌<◌, ◌≤◌, ◌==◌, Bool, true, false, ◌&&◌, map, List, [], ◌∷◌, ◌++◌, append_assoc, refl, ap, sym, ◌∙◌, rules, arith, add-one}
-use Rattle.std.specs.List.{range_with_len}
-use Rattle.std.proofs.lemmas.Bool.{cond-true, cond-false}
+use Rattle.std.specs.List.{list_any, range_with_len}
+use Rattle.std.proofs.lemmas.Bool.{cond-true, cond-false, or_parts}
 use Rattle.std.proofs.lemmas.List.{append-nil}
 use Rattle.std.proofs.lemmas.List.FromFn.{map-range_with_len_more}
 use Rattle.std.proofs.lemmas.Nat.{div-mul-add, mod-mul-add}
@@ -11,7 +11,7 @@ use Rattle.orca_base.specs.Grids.{Size, glyph_at, is_inside}
 use Rattle.orca_base.specs.declared.place.Place.{Place}
 use Rattle.orca_term.specs.Codes.{plus}
 use Rattle.orca_term.specs.Editing.{page_of, window_place}
-use Rattle.orca_term.specs.Picture.{Scene, blank_cell, faint, grid_cell, style_at, status_cell, cell_of, cell_at}
+use Rattle.orca_term.specs.Picture.{Scene, blank_cell, faint, grid_cell, is_met, style_at, status_cell, cell_of, cell_at}
 use Rattle.orca_term.specs.declared.cell.Cell.{Cell}
 use Rattle.orca_term.specs.declared.cell.ScreenSize.{ScreenSize}
 use Rattle.orca_term.specs.declared.limits.TheConstants.{RULER_PLACES}
@@ -108,6 +108,14 @@ row_cut scene y left inside columns fits outside =
     ap (λ j. map f (range_with_len 0 j)) whole
     ∙ one_from f blank_cell inside (columns - inside)
     (λ x from to. cond-false _ _ _ (outside x from (omega arith)))
+
+-- where no other cursor lies in the row, none is at a place of it
+pub none_in_row : (others : List Place) (at : Place)
+    → list_any (λ other. at.y == other.y) others ≡ false → is_met others at ≡ false
+none_in_row [] at none = refl
+none_in_row (other ∷ others) at none =
+    let parts = or_parts (at.y == other.y) (list_any (λ other. at.y == other.y) others) none in
+    rw (parts.0, none_in_row others at parts.1) refl
 
 -- the ruler's test, by whether it goes through the row
 by_row : (guide row column empty faint ruled : Bool) → (guide && row) ≡ ruled

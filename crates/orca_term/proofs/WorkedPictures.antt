@@ -4,9 +4,10 @@ use Rattle.std.specs.Fmt.{decimal}
 use Rattle.orca_base.specs.Glyphs.{empty, is_operator}
 use Rattle.orca_base.specs.MarkSet.{MarkSet, no_marks}
 use Rattle.orca_term.specs.Came.{came_word}
-use Rattle.orca_term.specs.Picture.{Scene, byte_at, glyph_under, loss_words, status_line_text, style_by, tempo_word}
+use Rattle.orca_term.specs.Picture.{Scene, byte_at, cell_of, glyph_under, grid_cell, loss_words, status_line_text, style_at, style_by, tempo_word}
 use Rattle.orca_term.specs.Words.{glyph_words}
 use Rattle.orca_base.specs.declared.command.Rule.TheVariants.{EmptyClip}
+use Rattle.orca_base.specs.declared.place.Place.{Place}
 use Rattle.orca_term.specs.declared.came.Came.TheVariants.{Well, Refused, Denied, Kept}
 use Rattle.orca_term.specs.declared.came.HandRule.TheVariants.{LeaderOnly, NotYours}
 use Rattle.orca_term.specs.declared.editor.Editor.{Editor}
@@ -141,6 +142,7 @@ scene guide = record {
   marks = input ∷ replicate 15 no_marks ++ output ∷ replicate 127 no_marks ++ locked
       ∷ replicate 7 no_marks ++ locked ∷ [];
   editor = editor false guide;
+  others = [];
 }
 
 abbrev shown : Bool → ℕ → ℕ → ℕ
@@ -177,7 +179,7 @@ outside = refl
 
 -- the style of a place that isn't selected, with the guide and without it
 abbrev styles : MarkSet → ℕ → ℕ × ℕ
-styles marks glyph = (style_by true false marks glyph, style_by false false marks glyph)
+styles marks glyph = (style_by true false false marks glyph, style_by false false false marks glyph)
 
 works_each_frame : styles no_marks 68 ≡ (94, 0)
 works_each_frame = refl
@@ -223,5 +225,44 @@ sleeper : styles (record no_marks { sleep = true }) 69 ≡ (2, 2)
 sleeper = refl
 
 -- the selection is the same for all of them
-selected : (guided : Bool) (marks : MarkSet) (glyph : ℕ) → style_by guided true marks glyph ≡ 7
-selected guided marks glyph = refl
+selected : (guided met : Bool) (marks : MarkSet) (glyph : ℕ)
+    → style_by guided true met marks glyph ≡ 7
+selected guided met marks glyph = refl
+
+-- ---- the cursors of other hands
+
+met : (guided : Bool) (marks : MarkSet) (glyph : ℕ) → style_by guided false true marks glyph ≡ 45
+met guided marks glyph = refl
+
+-- what a place shows, and its style, where other hands have their cursors at these places
+abbrev beside : List Place → ℕ → ℕ → ℕ × ℕ
+beside others y x =
+    let s : Scene = record (scene true) { others = others } in
+    let at : Place = record { y = y; x = x } in
+    (byte_at s at, style_at s at)
+
+abbrev place : ℕ → ℕ → Place
+place y x = record { y = y; x = x }
+
+on_a_ruler : beside (place 8 16 ∷ []) 8 16 ≡ (46, 45)
+on_a_ruler = refl
+
+on_an_output : beside (place 8 0 ∷ place 0 16 ∷ []) 0 16 ≡ (46, 45)
+on_an_output = refl
+
+-- the selection of the hand itself
+at_the_cursor : beside (place 3 3 ∷ []) 3 3 ≡ (46, 7)
+at_the_cursor = refl
+
+in_the_row : beside (place 8 8 ∷ []) 8 16 ≡ (43, 2)
+in_the_row = refl
+
+in_the_column : beside (place 0 16 ∷ []) 8 16 ≡ (43, 2)
+in_the_column = refl
+
+-- a cursor above the window is not shown in its first row
+above_the_window :
+    cell_of (record { rows = 3; columns = 17 }) (record (scene true) { others = place 0 3 ∷ [] }) []
+    0 3 ≡ record { byte = 46; style = 2 }
+unfolding cell_of grid_cell
+above_the_window = refl

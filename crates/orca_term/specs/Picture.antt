@@ -2,11 +2,11 @@
 -- and the others are a window on the grid. Styles are those of ECMA-48, select graphic rendition.
 use Rattle.std.specs.Prelude.{ℕ, ◌+◌, ◌*◌, ◌/◌, ◌%◌, ◌≤◌, ◌==◌, Bool, true, false, ◌&&◌, ◌||◌, if◌then◌else◌, List, [], ◌++◌, map, codes, max, min, slice_index_or}
 use Rattle.std.specs.Fmt.{decimal}
-use Rattle.std.specs.List.{range_with_len}
+use Rattle.std.specs.List.{list_any, range_with_len}
 use Rattle.orca_base.specs.Ascii.{space}
 use Rattle.orca_base.specs.Edits.{is_in_area}
 use Rattle.orca_base.specs.Glyphs.{bang, empty, is_operator, is_upper}
-use Rattle.orca_base.specs.Grids.{Sheet, is_inside, index_of, glyph_at}
+use Rattle.orca_base.specs.Grids.{Sheet, is_inside, is_place, index_of, glyph_at}
 use Rattle.orca_base.specs.MarkSet.{MarkSet, no_marks}
 use Rattle.orca_base.specs.declared.limits.TheConstants.{BEAT_FRAMES, MIN_SCREEN_ROWS, MAX_SCREEN_ROWS, MIN_SCREEN_COLUMNS, MAX_SCREEN_COLUMNS}
 use Rattle.orca_base.specs.declared.place.Place.{Place}
@@ -18,6 +18,7 @@ use Rattle.orca_term.specs.declared.cell.Cell.{Cell}
 use Rattle.orca_term.specs.declared.cell.ScreenSize.{ScreenSize}
 use Rattle.orca_term.specs.declared.editor.Editor.{Editor}
 use Rattle.orca_term.specs.declared.limits.TheConstants.{MAX_STYLE, RULER_PLACES}
+use Rattle.orca_term.specs.declared.overlay.Overlay.{Overlay}
 use Rattle.orca_term.specs.declared.status.StatusLine.{StatusLine}
 
 -- the sizes that a screen may have
@@ -42,16 +43,24 @@ screen_inside d = record {
 abbrev pub screen_cells : ScreenSize → ℕ
 screen_cells d = d.rows * d.columns
 
--- what is shown besides the status line: a grid, its marks, and the editor
+-- what is shown besides the status line: a grid, its marks, the editor, and the places of the
+-- cursors of other hands
 pub record Scene : Type 0 where
   pub sheet : Sheet
   pub marks : List MarkSet
   pub editor : Editor
+  pub others : List Place
 
-abbrev pub scene_of : Sheet → List MarkSet → Editor → Scene
-scene_of sheet marks editor = record { sheet = sheet; marks = marks; editor = editor }
+abbrev pub scene_of : Sheet → List MarkSet → Overlay → Scene
+scene_of sheet marks over = record {
+  sheet = sheet;
+  marks = marks;
+  editor = over.editor;
+  others = over.others;
+}
 
--- the styles: none, bold, faint, underlined, with the colours exchanged, and three colours
+-- the styles: none, bold, faint, underlined, with the colours exchanged, three colours, and one
+-- behind the letter
 abbrev pub plain : ℕ
 plain = 0
 
@@ -69,6 +78,9 @@ reversed = 7
 
 abbrev pub magenta : ℕ
 magenta = 35
+
+abbrev pub on_magenta : ℕ
+on_magenta = 45
 
 abbrev pub bright_red : ℕ
 bright_red = 91
@@ -103,20 +115,25 @@ colour_of glyph =
     else (if is_operator glyph then magenta else plain)))
 
 -- the style of a place with these marks and this glyph: the first of these that holds. It lies in
--- the selection; it carries Output; it carries Input; it carries Lock or Sleep, or is empty. The
--- guide adds colours
-abbrev pub style_by : Bool → Bool → MarkSet → ℕ → ℕ
-style_by guided selected marks glyph =
+-- the selection; it meets the cursor of another hand; it carries Output; it carries Input; it
+-- carries Lock or Sleep, or is empty. The guide adds colours
+abbrev pub style_by : Bool → Bool → Bool → MarkSet → ℕ → ℕ
+style_by guided selected met marks glyph =
     if selected then reversed
+    else (if met then on_magenta
     else (if marks.output then (if guided && glyph == bang then bright_red else bold)
     else (if marks.input then underlined
     else (if marks.lock || marks.sleep || glyph == empty then faint
-    else (if guided then colour_of glyph else plain))))
+    else (if guided then colour_of glyph else plain)))))
+
+-- whether the cursor of another hand is here
+abbrev pub is_met : List Place → Place → Bool
+is_met others at = list_any (is_place at) others
 
 abbrev pub style_at : Scene → Place → ℕ
 style_at scene at =
-    style_by scene.editor.guide (is_in_area (area_of scene.editor) at) (scene_marks scene at)
-    (glyph_at scene.sheet at)
+    style_by scene.editor.guide (is_in_area (area_of scene.editor) at) (is_met scene.others at)
+    (scene_marks scene at) (glyph_at scene.sheet at)
 
 -- the places of the ruler
 abbrev pub is_ruled : Place → Bool

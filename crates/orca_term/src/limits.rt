@@ -1,6 +1,6 @@
 //! The limits of a screen's bytes, how many keys come at once, and how far some keys reach.
 
-use orca_base::limits::{MAX_DIGITS, RULE_NAME_BYTES};
+use orca_base::limits::{MAX_DIGITS, MAX_HANDS, RULE_NAME_BYTES};
 
 /// The most bytes of the name of an operator.
 pub const NAME_BYTES: usize = 14;
@@ -35,6 +35,9 @@ pub const MAX_STYLE: u8 = u8::MAX;
 
 /// The most keys that a byte gives: Escape, `O`, and its own one.
 pub const MAX_STROKES: usize = 3;
+
+/// The most cursors of other hands.
+pub const MAX_CURSORS: usize = MAX_HANDS as usize - 1;
 
 /// How many places lie between two marks of the ruler. Keys that leap go as far.
 pub const RULER_PLACES: u16 = 8;

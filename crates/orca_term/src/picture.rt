@@ -1,7 +1,7 @@
 //! The picture of a grid, its marks, the editor and the status line.
 
 ghost use Rattle.std.specs.Prelude.{◌≡◌, ◌≢◌, ◌==◌, ◌+◌, ◌-◌, ◌%◌, ◌^◌, ◌<◌, ◌≤◌, ◌&&◌, ◌++◌, false, true, if◌then◌else◌, length, map, slice_index_or, vec_len, All};
-ghost use Rattle.std.specs.List.{range_with_len};
+ghost use Rattle.std.specs.List.{list_any, range_with_len};
 ghost use Rattle.std.specs.Vec.{vec_capacity};
 ghost use Rattle.orca_base.specs.Edits.{is_in_area};
 ghost use Rattle.orca_base.specs.Glyphs.{empty};
@@ -9,13 +9,13 @@ ghost use Rattle.orca_base.specs.Grids.{IsInside, glyph_at};
 ghost use Rattle.orca_base.specs.MarkSet.{no_marks};
 ghost use Rattle.orca_term.specs.Codes.{plus};
 ghost use Rattle.orca_term.specs.Editing.{area_of};
-ghost use Rattle.orca_term.specs.Picture.{IsPrintable, IsPrintableByte, IsScreen, faint, screen_cells, scene_of, style_at, style_by, blank_cell, grid_cell, glyph_under, status_cell, picture};
+ghost use Rattle.orca_term.specs.Picture.{IsPrintable, IsPrintableByte, IsScreen, faint, screen_cells, scene_of, style_at, style_by, is_met, blank_cell, grid_cell, glyph_under, status_cell, picture};
 
 use crate::limits::RULER_PLACES;
 use crate::status::status_text;
 use crate::styles::{FAINT, PLAIN, style_by};
 use crate::window::page_of;
-use crate::{Cell, Editor, ScreenSize, StatusLine};
+use crate::{Cell, Cursors, Overlay, ScreenSize, StatusLine};
 use orca_base::{Glyph, Look, Place};
 
 /// A space without a style.
@@ -37,45 +37,45 @@ pub(crate) fn draw<T: Look>(
     cells: &mut Vec<Cell>,
     size: ScreenSize,
     look: &T,
-    editor: &Editor,
+    over: &Overlay,
     line: &StatusLine,
 )
     requires screen { IsScreen size }
     requires room { screen_cells size ≤ vec_capacity cells.old }
     ensures picture { cells.new.items
-        ≡ picture size (scene_of (T.sheet look.now) (T.marks look.now) editor.now) line.now }
+        ≡ picture size (scene_of (T.sheet look.now) (T.marks look.now) over.now) line.now }
     ensures whole { length cells.new.items ≡ screen_cells size }
     ensures printable { All IsPrintable cells.new.items }
     ensures room { vec_capacity cells.new ≡ vec_capacity cells.old }
 {
-    let glyph = glyph_under(look, editor);
-    let text = status_text(editor, glyph, line);
+    let glyph = glyph_under(look, over);
+    let text = status_text(&over.editor, glyph, line);
     let (rows, columns) = (u32::from(size.rows) - 1, u32::from(size.columns));
-    let top = page_of(rows, u32::from(editor.y));
-    let left = page_of(columns, u32::from(editor.x));
+    let top = page_of(rows, u32::from(over.editor.y));
+    let left = page_of(columns, u32::from(over.editor.x));
     cells.clear();
     for y in 0..rows {
         let first = Corner {
             y: top + y,
             x: left,
         };
-        push_grid_row(cells, columns, look, editor, first);
+        push_grid_row(cells, columns, look, over, first);
     }
     push_status_row(cells, columns, text.as_slice());
 }
 
 /// The glyph at the cursor, if that lies in the grid.
-fn glyph_under<T: Look>(look: &T, editor: &Editor) -> Glyph
-    ensures { result ≡ glyph_under (scene_of (T.sheet look.now) (T.marks look.now) editor.now) }
+fn glyph_under<T: Look>(look: &T, over: &Overlay) -> Glyph
+    ensures { result ≡ glyph_under (scene_of (T.sheet look.now) (T.marks look.now) over.now) }
 {
     let dims = look.dims();
-    if editor.y >= dims.h || editor.x >= dims.w {
+    let at = Place {
+        y: over.editor.y,
+        x: over.editor.x,
+    };
+    if at.y >= dims.h || at.x >= dims.w {
         return Glyph::EMPTY;
     }
-    let at = Place {
-        y: editor.y,
-        x: editor.x,
-    };
     look.glyph_at(at)
 }
 
@@ -84,13 +84,13 @@ fn push_grid_row<T: Look>(
     cells: &mut Vec<Cell>,
     columns: u32,
     look: &T,
-    editor: &Editor,
+    over: &Overlay,
     first: Corner,
 )
     requires room { vec_len cells.old + columns ≤ vec_capacity cells.old }
     requires columns { first.x + columns < 2 ^ 32 }
     requires printable { All IsPrintable cells.old.items }
-    ensures row { let scene = scene_of (T.sheet look.now) (T.marks look.now) editor.now in
+    ensures row { let scene = scene_of (T.sheet look.now) (T.marks look.now) over.now in
         cells.new.items ≡ cells.old.items ++ map
         (λ x. grid_cell scene (record { y = first.y; x = first.x + x }))
         (range_with_len 0 columns) }
@@ -108,18 +108,18 @@ fn push_grid_row<T: Look>(
         y: first.y as u16,
         x: first.x as u16,
     };
-    push_places(cells, look, editor, at, at.x + inside as u16);
+    push_places(cells, look, over, at, at.x + inside as u16);
     push_blanks(cells, columns - inside);
 }
 
 /// Appends the cells of a row of the grid, from a place on and up to a column.
-fn push_places<T: Look>(cells: &mut Vec<Cell>, look: &T, editor: &Editor, at: Place, end: u16)
+fn push_places<T: Look>(cells: &mut Vec<Cell>, look: &T, over: &Overlay, at: Place, end: u16)
     requires room { vec_len cells.old + (end - at.x) ≤ vec_capacity cells.old }
     requires inside { IsInside (T.sheet look.now).dims at }
     requires order { at.x ≤ end }
     requires fits { end ≤ (T.sheet look.now).dims.w }
     requires printable { All IsPrintable cells.old.items }
-    ensures places { let scene = scene_of (T.sheet look.now) (T.marks look.now) editor.now in
+    ensures places { let scene = scene_of (T.sheet look.now) (T.marks look.now) over.now in
         cells.new.items ≡ cells.old.items ++ map
         (λ x. grid_cell scene (record { y = at.y; x = at.x + x }))
         (range_with_len 0 (end - at.x)) }
@@ -127,20 +127,18 @@ fn push_places<T: Look>(cells: &mut Vec<Cell>, look: &T, editor: &Editor, at: Pl
     ensures printable { All IsPrintable cells.new.items }
     ensures room { vec_capacity cells.new ≡ vec_capacity cells.old }
 {
-    if !editor.guide {
-        push_cells::<T, false, false>(cells, look, editor, at, end);
-    } else if at.y % RULER_PLACES == 0 {
-        push_cells::<T, true, true>(cells, look, editor, at, end);
+    if over.others.meet_row(at.y) {
+        push_styled::<T, true>(cells, look, over, at, end);
     } else {
-        push_cells::<T, true, false>(cells, look, editor, at, end);
+        push_styled::<T, false>(cells, look, over, at, end);
     }
 }
 
-/// The same, where it is known whether the guide shows, and whether the ruler goes through the row.
-fn push_cells<T: Look, const GUIDED: bool, const RULED: bool>(
+/// The same, where it is known whether the cursor of another hand lies in the row.
+fn push_styled<T: Look, const MET: bool>(
     cells: &mut Vec<Cell>,
     look: &T,
-    editor: &Editor,
+    over: &Overlay,
     at: Place,
     end: u16,
 )
@@ -149,9 +147,8 @@ fn push_cells<T: Look, const GUIDED: bool, const RULED: bool>(
     requires order { at.x ≤ end }
     requires fits { end ≤ (T.sheet look.now).dims.w }
     requires printable { All IsPrintable cells.old.items }
-    requires guided { editor.now.guide ≡ GUIDED }
-    requires ruled { (editor.now.guide && at.y % RULER_PLACES == 0) ≡ RULED }
-    ensures places { let scene = scene_of (T.sheet look.now) (T.marks look.now) editor.now in
+    requires met { list_any (λ other. at.y == other.y) over.now.others ≡ MET }
+    ensures places { let scene = scene_of (T.sheet look.now) (T.marks look.now) over.now in
         cells.new.items ≡ cells.old.items ++ map
         (λ x. grid_cell scene (record { y = at.y; x = at.x + x }))
         (range_with_len 0 (end - at.x)) }
@@ -159,13 +156,56 @@ fn push_cells<T: Look, const GUIDED: bool, const RULED: bool>(
     ensures printable { All IsPrintable cells.new.items }
     ensures room { vec_capacity cells.new ≡ vec_capacity cells.old }
 {
-    let selected = editor.columns_at(at.y);
+    if !over.editor.guide {
+        push_cells::<T, MET, false, false>(cells, look, over, at, end);
+    } else if at.y % RULER_PLACES == 0 {
+        push_cells::<T, MET, true, true>(cells, look, over, at, end);
+    } else {
+        push_cells::<T, MET, true, false>(cells, look, over, at, end);
+    }
+}
+
+/// The same, where it is also known whether the guide shows, and whether the ruler goes through the row.
+fn push_cells<T: Look, const MET: bool, const GUIDED: bool, const RULED: bool>(
+    cells: &mut Vec<Cell>,
+    look: &T,
+    over: &Overlay,
+    at: Place,
+    end: u16,
+)
+    requires room { vec_len cells.old + (end - at.x) ≤ vec_capacity cells.old }
+    requires inside { IsInside (T.sheet look.now).dims at }
+    requires order { at.x ≤ end }
+    requires fits { end ≤ (T.sheet look.now).dims.w }
+    requires printable { All IsPrintable cells.old.items }
+    requires met { list_any (λ other. at.y == other.y) over.now.others ≡ MET }
+    requires guided { over.now.editor.guide ≡ GUIDED }
+    requires ruled { (over.now.editor.guide && at.y % RULER_PLACES == 0) ≡ RULED }
+    ensures places { let scene = scene_of (T.sheet look.now) (T.marks look.now) over.now in
+        cells.new.items ≡ cells.old.items ++ map
+        (λ x. grid_cell scene (record { y = at.y; x = at.x + x }))
+        (range_with_len 0 (end - at.x)) }
+    ensures len { vec_len cells.new ≡ vec_len cells.old + (end - at.x) }
+    ensures printable { All IsPrintable cells.new.items }
+    ensures room { vec_capacity cells.new ≡ vec_capacity cells.old }
+{
+    let selected = over.editor.columns_at(at.y);
     for x in at.x..end {
         let here = Place { y: at.y, x };
         let is_selected = selected.contains(&u32::from(x));
-        let cell = place_cell(look, GUIDED, is_selected, here);
+        let is_met = is_met::<MET>(&over.others, here);
+        let cell = place_cell(look, GUIDED, is_selected, is_met, here);
         cells.push_reserved(ruled_cell(RULED, cell, x));
     }
+}
+
+/// Whether the cursor of another hand is here, where it is known whether one lies in the row.
+#[tactic(auto, using(crate::proofs::DrawnRows::none_in_row))]
+fn is_met<const MET: bool>(others: &Cursors, at: Place) -> bool
+    requires { list_any (λ other. at.y == other.y) others.now ≡ MET }
+    ensures { result ≡ is_met others.now at }
+{
+    MET && others.meet(at)
 }
 
 /// Appends blanks.
@@ -211,20 +251,20 @@ fn status_cell(text: &[u8], x: u32) -> Cell
 }
 
 /// The glyph and the style of a place of the grid.
-fn place_cell<T: Look>(look: &T, guided: bool, selected: bool, at: Place) -> Cell
+fn place_cell<T: Look>(look: &T, guided: bool, selected: bool, met: bool, at: Place) -> Cell
     requires inside { IsInside (T.sheet look.now).dims at }
-    ensures cell { (editor : Editor) → is_in_area (area_of editor) at ≡ selected
-        → editor.guide ≡ guided
+    ensures cell { (over : Overlay) → is_in_area (area_of over.editor) at ≡ selected
+        → is_met over.others at ≡ met → over.editor.guide ≡ guided
         → result ≡ record {
           byte = glyph_at (T.sheet look.now) at;
-          style = style_at (scene_of (T.sheet look.now) (T.marks look.now) editor) at;
+          style = style_at (scene_of (T.sheet look.now) (T.marks look.now) over) at;
         } }
     ensures printable { IsPrintable result }
 {
     let glyph = look.glyph_at(at);
     Cell {
         byte: glyph.byte(),
-        style: style_by(guided, selected, look.marks_at(at), glyph),
+        style: style_by(guided, selected, met, look.marks_at(at), glyph),
     }
 }
 

@@ -21,6 +21,9 @@ const UNDERLINED: u8 = 4;
 /// With the colours of letter and ground exchanged.
 const REVERSED: u8 = 7;
 
+/// On a magenta ground.
+const ON_MAGENTA: u8 = 45;
+
 /// Bright red.
 const BRIGHT_RED: u8 = 91;
 
@@ -48,11 +51,13 @@ static COLOURS: [u8; 128] = [
 ];
 
 /// The style of a place, with colours where the guide shows.
-pub(crate) fn style_by(guided: bool, selected: bool, marks: Marks, glyph: Glyph) -> u8
-    ensures { result ≡ style_by guided selected marks glyph }
+pub(crate) fn style_by(guided: bool, selected: bool, met: bool, marks: Marks, glyph: Glyph) -> u8
+    ensures { result ≡ style_by guided selected met marks glyph }
 {
     if selected {
         REVERSED
+    } else if met {
+        ON_MAGENTA
     } else if marks.is_empty() {
         // Most places have no mark, and one test is enough for them.
         glyph_style(guided, glyph)
@@ -67,10 +72,10 @@ pub(crate) fn style_by(guided: bool, selected: bool, marks: Marks, glyph: Glyph)
     }
 }
 
-/// The style of a glyph where neither the selection nor a mark gives one.
+/// The style of a glyph where neither a cursor nor a mark gives one.
 #[tactic(auto, using(crate::proofs::Colours::colour_table))]
 fn glyph_style(guided: bool, glyph: Glyph) -> u8
-    ensures { result ≡ style_by guided false no_marks glyph }
+    ensures { result ≡ style_by guided false false no_marks glyph }
 {
     if guided {
         COLOURS[usize::from(glyph.byte())]
@@ -83,7 +88,7 @@ fn glyph_style(guided: bool, glyph: Glyph) -> u8
 
 /// The style of an output.
 fn output_style(guided: bool, glyph: Glyph) -> u8
-    ensures { result ≡ style_by guided false (record no_marks { output = true }) glyph }
+    ensures { result ≡ style_by guided false false (record no_marks { output = true }) glyph }
 {
     if guided && glyph == Glyph::BANG {
         BRIGHT_RED

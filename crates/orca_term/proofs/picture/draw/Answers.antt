@@ -14,10 +14,10 @@ pub loop-y-preserved : goal.loop-y-preserved
 loop-y-preserved g c =
     let scene =
     scene_of (g.T.Look.sheet c.args.look.now)
-    (g.T.Look.marks c.args.look.now) c.args.editor.now in
-    let top : c.page_of-top.result ≡ page_of (c.args.size.rows - 1) c.args.editor.now.y =
+    (g.T.Look.marks c.args.look.now) c.args.over.now in
+    let top : c.page_of-top.result ≡ page_of (c.args.size.rows - 1) c.args.over.now.editor.y =
     rw (c.from.ensures, c.from-2.ensures) at c.page_of-top.ensures.page in
-    let left : c.page_of-left.result ≡ page_of c.args.size.columns c.args.editor.now.x =
+    let left : c.page_of-left.result ≡ page_of c.args.size.columns c.args.over.now.editor.x =
     rw (c.from-columns.ensures, c.from-3.ensures) at c.page_of-left.ensures.page in
     record {
       cells =
@@ -36,12 +36,12 @@ loop-y-preserved g c =
 drawn : (g : Over) (c : goal.After-push_status_row g)
     → c.push_status_row.new.cells.items ≡ rows_before c.args.size
     (scene_of (g.T.Look.sheet c.args.look.now) (g.T.Look.marks c.args.look.now)
-    c.args.editor.now)
+    c.args.over.now)
     c.status_text-text.result c.args.size.rows
 drawn g c =
     let scene =
     scene_of (g.T.Look.sheet c.args.look.now)
-    (g.T.Look.marks c.args.look.now) c.args.editor.now in
+    (g.T.Look.marks c.args.look.now) c.args.over.now in
     status_row_more c.args.size scene c.status_text-text.result c.loop-y.y
     c.from-columns.result (omega arith) (omega arith) c.loop-y.cells.items
     c.push_status_row.new.cells.items c.loop-y.invariant.cells
@@ -52,9 +52,9 @@ unfolding picture
 returns-clause-picture g c =
     let scene =
     scene_of (g.T.Look.sheet c.args.look.now)
-    (g.T.Look.marks c.args.look.now) c.args.editor.now in
+    (g.T.Look.marks c.args.look.now) c.args.over.now in
     let text : c.status_text-text.result
-    ≡ status_line_text c.args.editor.now (glyph_under scene) c.args.line.now =
+    ≡ status_line_text c.args.over.now.editor (glyph_under scene) c.args.line.now =
     rw c.glyph_under-glyph.ensures at c.status_text-text.ensures.text in
     rw (← text) (drawn g c)
 
@@ -64,6 +64,6 @@ returns-clause-whole g c =
     ∙ length-map-range_with_len
     (cell_at c.args.size
     (scene_of (g.T.Look.sheet c.args.look.now) (g.T.Look.marks c.args.look.now)
-    c.args.editor.now)
+    c.args.over.now)
     c.status_text-text.result)
     0 (screen_cells c.args.size)

@@ -8,7 +8,7 @@ use Rattle.orca_term.proofs.picture.draw.Given as goal
 abbrev pub invariant-loop-y : goal.invariant-loop-y
 invariant-loop-y g l = record {
   cells : l.cells.items ≡ rows_before l.fn.size
-      (scene_of (g.T.Look.sheet l.look) (g.T.Look.marks l.look) l.editor) l.text l.y;
+      (scene_of (g.T.Look.sheet l.look) (g.T.Look.marks l.look) l.over) l.text l.y;
   len : vec_len l.cells ≡ l.y * l.columns;
   printable : All IsPrintable l.cells.items;
   room : vec_capacity l.cells ≡ vec_capacity l.fn.cells;

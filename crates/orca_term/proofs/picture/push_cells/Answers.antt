@@ -12,7 +12,7 @@ pub loop-x-preserved : goal.loop-x-preserved
 loop-x-preserved g c =
     let scene =
     scene_of (g.T.Look.sheet c.args.look.now)
-    (g.T.Look.marks c.args.look.now) c.args.editor.now in
+    (g.T.Look.marks c.args.look.now) c.args.over.now in
     let here : Place = record { y = c.args.at.y; x = c.loop-x.x } in
     let f : ℕ → Cell =
     λ x. grid_cell scene (record { y = c.args.at.y; x = c.args.at.x + x }) in
@@ -24,8 +24,9 @@ loop-x-preserved g c =
     search (rules, arith) in
     let inside : is_inside scene.sheet.dims here ≡ true = search (rules, arith) in
     let bare =
-    c.place_cell-cell.ensures.cell c.args.editor.now
-    (c.columns_at-selected.ensures c.loop-x.x ∙ selected) c.requires.guided in
+    c.place_cell-cell.ensures.cell c.args.over.now
+    (c.columns_at-selected.ensures c.loop-x.x ∙ selected)
+    (sym c.is_met-is_met.ensures) c.requires.guided in
     let cell : c.ruled_cell.result ≡ f done =
     (rw bare at c.ruled_cell.ensures.cell)
     ∙ (row_place scene here _ inside c.requires.ruled

@@ -7,7 +7,7 @@ use Rattle.orca_term.proofs.picture.push_cells.Given as goal
 abbrev pub invariant-loop-x : goal.invariant-loop-x
 invariant-loop-x g l = record {
   cells : l.cells.items ≡ l.fn.cells.items ++ map
-      (λ x. grid_cell (scene_of (g.T.Look.sheet l.look) (g.T.Look.marks l.look) l.editor)
+      (λ x. grid_cell (scene_of (g.T.Look.sheet l.look) (g.T.Look.marks l.look) l.over)
       (record { y = l.at.y; x = l.at.x + x }))
       (range_with_len 0 (l.x - l.at.x));
   len : vec_len l.cells ≡ vec_len l.fn.cells + (l.x - l.at.x);

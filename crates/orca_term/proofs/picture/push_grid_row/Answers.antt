@@ -11,7 +11,7 @@ pub returns-then-first-from-clause-row : goal.returns-then-first-from-clause-row
 returns-then-first-from-clause-row g c =
     let scene =
     scene_of (g.T.Look.sheet c.args.look.now)
-    (g.T.Look.marks c.args.look.now) c.args.editor.now in
+    (g.T.Look.marks c.args.look.now) c.args.over.now in
     let size = c.dims.view_is ∙ c.dims-dims.ensures.size in
     let height : c.dims.inside.h ≡ scene.sheet.dims.h = ap (λ (d : Size). d.h) size in
     let width : c.dims.inside.w ≡ scene.sheet.dims.w = ap (λ (d : Size). d.w) size in
@@ -34,7 +34,7 @@ pub returns-clause-row : goal.returns-clause-row
 returns-clause-row g c =
     let scene =
     scene_of (g.T.Look.sheet c.args.look.now)
-    (g.T.Look.marks c.args.look.now) c.args.editor.now in
+    (g.T.Look.marks c.args.look.now) c.args.over.now in
     let size = c.dims.view_is ∙ c.dims-dims.ensures.size in
     let width : c.dims.inside.w ≡ scene.sheet.dims.w = ap (λ (d : Size). d.w) size in
     let f : ℕ → Cell =

@@ -10,7 +10,7 @@ returns g c =
     let bytes = c.paint_rows.new.bytes.items in
     let cells =
     picture now.size (scene_of (g.T.Look.sheet c.args.look.now)
-    (g.T.Look.marks c.args.look.now) c.args.editor.now) c.args.line.now in
+    (g.T.Look.marks c.args.look.now) c.args.over.now) c.args.line.now in
     let same : c.draw.new.cells.items ≡ cells = search rules in
     let bytes_are : bytes ≡ painting_bytes now.size now.last cells = search rules in
     let paints =
