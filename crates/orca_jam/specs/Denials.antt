@@ -4,6 +4,9 @@ use Rattle.std.specs.Fmt.{decimal}
 use Rattle.orca_base.specs.Ascii.{line_feed}
 use Rattle.orca_jam.specs.declared.denial.Denial.{Denial}
 use Rattle.orca_jam.specs.declared.denial.Denial.TheVariants.{LeaderOnly, NotYours}
+use Rattle.orca_term.specs.Came.{hand_rule_name}
+use Rattle.orca_term.specs.declared.came.HandRule.{HandRule}
+use Rattle.orca_term.specs.declared.came.HandRule.TheVariants as rule
 use Rattle.orca_term.specs.declared.keys.Key.{Key}
 use Rattle.orca_term.specs.declared.keys.Key.TheVariants as key
 
@@ -17,12 +20,18 @@ abbrev pub not_yours : ℕ → Option ℕ → Option Denial
 not_yours hand None = None
 not_yours hand (Some other) = if other == hand then None else Some (NotYours other)
 
--- what the line of a denied key says of it
-abbrev pub denial_text : Denial → List ℕ
-denial_text LeaderOnly = codes "LeaderOnly"
-denial_text (NotYours hand) = codes "NotYours " ++ decimal hand
+-- the rule by which a key is denied
+abbrev pub rule_of_denial : Denial → HandRule
+rule_of_denial LeaderOnly = rule.LeaderOnly
+rule_of_denial (NotYours hand) = rule.NotYours
+
+-- the hand whose edit it is
+abbrev pub whose : Denial → List ℕ
+whose LeaderOnly = []
+whose (NotYours hand) = codes " " ++ decimal hand
 
 -- the line of a denied key of a hand
 abbrev pub denial_line : ℕ → Denial → List ℕ
 denial_line hand denial =
-    codes "hand " ++ decimal hand ++ codes " refused " ++ denial_text denial ++ line_feed ∷ []
+    codes "hand " ++ decimal hand ++ codes " refused " ++ hand_rule_name (rule_of_denial denial)
+    ++ whose denial ++ line_feed ∷ []

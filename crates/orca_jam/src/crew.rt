@@ -13,7 +13,7 @@ use crate::player::Player;
 use crate::{Denial, Owner};
 use orca_base::limits::MAX_HANDS;
 use orca_base::{Command, Dims, Memory};
-use orca_term::{Around, Deed, Editor, Key, Wish};
+use orca_term::{Around, Deed, Editor, Key, Strokes, Wish};
 use std::alloc::Global;
 use std::marker::Model;
 
@@ -109,29 +109,30 @@ impl Crew {
         if self.views { self.hands } else { 1 }
     }
 
-    /// Reads a byte of a hand, and gives the key that it ends, if any.
-    pub fn feed(&mut self, hand: u8, byte: u8) -> Option<Key>
+    /// Reads a byte of a hand, and gives the keys that it ends.
+    pub fn feed(&mut self, hand: u8, byte: u8) -> Strokes
         requires { hand < length self.old.players }
-        ensures key { result
-            ≡ (turn self.old.full (player_at self.old hand).keys (Byte byte)).key }
+        ensures keys { result
+            ≡ (turn self.old.full (player_at self.old hand).keys (Byte byte)).keys }
         ensures crew { self.new ≡ turned_by hand (Byte byte) self.old }
     {
         let mut player = self.player(hand);
-        let key = player.feed(self.full, byte);
+        let keys = player.feed(self.full, byte);
         self.seat(hand, player);
-        key
+        keys
     }
 
-    /// Nothing came of a hand for a while: an ESC that stands alone is the escape key.
-    pub fn due(&mut self, hand: u8) -> Option<Key>
+    /// Nothing came of a hand for a while: an ESC that stands alone is the escape key, and ESC and `O` are
+    /// both keys.
+    pub fn due(&mut self, hand: u8) -> Strokes
         requires { hand < length self.old.players }
-        ensures key { result ≡ (turn self.old.full (player_at self.old hand).keys Due).key }
+        ensures keys { result ≡ (turn self.old.full (player_at self.old hand).keys Due).keys }
         ensures crew { self.new ≡ turned_by hand Due self.old }
     {
         let mut player = self.player(hand);
-        let key = player.keys.due();
+        let keys = player.keys.due();
         self.seat(hand, player);
-        key
+        keys
     }
 
     /// Brings the cursor and the selection of every hand into a grid of this size.

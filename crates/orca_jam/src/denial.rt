@@ -2,12 +2,13 @@
 
 ghost use Rattle.std.specs.Prelude.{◌≡◌, ◌+◌, ◌≤◌, ◌++◌, length};
 ghost use Rattle.std.specs.Fmt.{decimal};
-ghost use Rattle.orca_jam.specs.Denials.{denial_line, denial_text};
+ghost use Rattle.orca_jam.specs.Denials.{denial_line, rule_of_denial, whose};
 
 use crate::limits::LINE_BYTES;
 use itoa::Buffer;
 use orca_base::Inline;
 use orca_base::limits::MAX_DIGITS;
+use orca_term::HandRule;
 
 /// The line of a denied key.
 pub type DenialLine = Inline<LINE_BYTES>;
@@ -33,21 +34,32 @@ impl Denial {
         line.extend(b"hand ");
         push_number(&mut line, hand);
         line.extend(b" refused ");
-        self.push_text(&mut line);
+        line.extend(self.rule().name().as_bytes());
+        self.push_whose(&mut line);
         line.push(b'\n');
         line
     }
 
-    /// Appends what the line says of it.
-    fn push_text(self, line: &mut DenialLine)
-        requires room { length line.old + MAX_DIGITS + 9 ≤ LINE_BYTES }
-        ensures text { line.new ≡ line.old ++ denial_text self }
-        ensures short { length line.new ≤ length line.old + MAX_DIGITS + 9 }
+    /// The rule by which the key is denied.
+    pub fn rule(self) -> HandRule
+        ensures { result ≡ rule_of_denial self }
     {
         match self {
-            Denial::LeaderOnly => line.extend(b"LeaderOnly"),
+            Denial::LeaderOnly => HandRule::LeaderOnly,
+            Denial::NotYours { .. } => HandRule::NotYours,
+        }
+    }
+
+    /// Appends the hand whose edit it is, if it is one's.
+    fn push_whose(self, line: &mut DenialLine)
+        requires room { length line.old + MAX_DIGITS + 1 ≤ LINE_BYTES }
+        ensures text { line.new ≡ line.old ++ whose self }
+        ensures short { length line.new ≤ length line.old + MAX_DIGITS + 1 }
+    {
+        match self {
+            Denial::LeaderOnly => {}
             Denial::NotYours { hand } => {
-                line.extend(b"NotYours ");
+                line.push(b' ');
                 push_number(line, hand);
             }
         }

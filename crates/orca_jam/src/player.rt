@@ -7,7 +7,7 @@ ghost use Rattle.orca_term.specs.Editing.{area_of};
 ghost use Rattle.orca_term.specs.Keys.{Byte, turn};
 
 use orca_base::Dims;
-use orca_term::{Editor, Key, Keys};
+use orca_term::{Editor, Keys, Strokes};
 
 /// What a hand has: its reader of keys, and its editor.
 #[derive(Clone, Copy)]
@@ -33,9 +33,9 @@ impl Player {
         }
     }
 
-    /// Reads a byte, and gives the key that it ends, if any: of the full keys, or of the plain ones.
-    pub fn feed(&mut self, full: bool, byte: u8) -> Option<Key>
-        ensures key { result ≡ (turn full self.old.keys (Byte byte)).key }
+    /// Reads a byte, and gives the keys that it ends: of the full keys, or of the plain ones.
+    pub fn feed(&mut self, full: bool, byte: u8) -> Strokes
+        ensures keys { result ≡ (turn full self.old.keys (Byte byte)).keys }
         ensures player { self.new ≡ turned_player full (Byte byte) self.old }
     {
         if full {
