@@ -92,7 +92,8 @@ fitted_crew d c = record c { players = map (fitted_player d) c.players }
 -- ---- what a hand may ask for
 
 -- the keys of the first hand alone: they go back, begin anew, pause, save or end, and change the
--- tempo or the size of the grid, and, unless each hand has a picture of its own, the picture
+-- tempo or the size of the grid; with full keys a step is one, and, unless each hand has a picture
+-- of its own, what changes the picture
 abbrev pub is_leaders : CrewState → Key → Bool
 is_leaders c key.Back = true
 is_leaders c key.Reset = true
@@ -101,6 +102,7 @@ is_leaders c key.Save = true
 is_leaders c key.Quit = true
 is_leaders c (key.Slower beats) = true
 is_leaders c (key.Faster beats) = true
+is_leaders c key.Step = c.full
 is_leaders c key.Redraw = not c.views
 is_leaders c (key.Screen rows columns) = not c.views
 is_leaders c (key.Arrow Grow side by) = true

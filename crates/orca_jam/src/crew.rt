@@ -244,6 +244,7 @@ impl Crew {
         match key {
             Key::Back | Key::Reset | Key::Pause | Key::Save | Key::Quit => true,
             Key::Slower(_) | Key::Faster(_) => true,
+            Key::Step => self.full,
             Key::Redraw | Key::Screen { .. } => !self.views,
             Key::Arrow { deed, .. } => matches!(deed, Deed::Grow),
             _ => false,
