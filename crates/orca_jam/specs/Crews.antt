@@ -1,8 +1,9 @@
 -- The hands at a session, and what each may ask for.
-use Rattle.std.specs.Prelude.{ℕ, ◌==◌, Bool, true, false, not, ◌&&◌, if◌then◌else◌, List, [], ◌∷◌, map, length, replicate, slice_index_or, slice_set, Option, Some, None, Result, Ok, Err}
+use Rattle.std.specs.Prelude.{ℕ, ◌==◌, ◌+◌, Bool, true, false, not, ◌&&◌, if◌then◌else◌, List, [], ◌∷◌, ◌++◌, drop, map, length, replicate, slice_index_or, slice_set, take, Option, Some, None, Result, Ok, Err}
 use Rattle.std.specs.Option.{option_map_or}
 use Rattle.orca_base.specs.declared.command.Command.{Command}
 use Rattle.orca_base.specs.Grids.{Size}
+use Rattle.orca_base.specs.declared.place.Place.{Place}
 use Rattle.orca_jam.specs.Denials.{is_undo, not_yours}
 use Rattle.orca_jam.specs.Owners.{last_editor, owned}
 use Rattle.orca_jam.specs.declared.crew.TheConstants.{LEADER}
@@ -88,6 +89,15 @@ fitted_player d p = record p { editor = editor_inside d p.editor }
 -- every editor is
 abbrev pub fitted_crew : Size → CrewState → CrewState
 fitted_crew d c = record c { players = map (fitted_player d) c.players }
+
+-- the place of the cursor of a player
+abbrev pub cursor_of : Player → Place
+cursor_of p = record { y = p.editor.y; x = p.editor.x }
+
+-- the cursors of the other hands, which the picture of a hand shows where each hand has one
+abbrev pub cursors_beside : CrewState → ℕ → List Place
+cursors_beside c hand =
+    if c.views then map cursor_of (take hand c.players ++ drop (hand + 1) c.players) else []
 
 -- ---- what a hand may ask for
 

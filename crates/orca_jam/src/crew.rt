@@ -1,19 +1,20 @@
 //! The hands at a session.
 
-ghost use Rattle.std.specs.Prelude.{◌≡◌, ◌<◌, ◌≤◌, ℕ, All, false, length, map, nat_le, slice_get, IfOk, OnErr, OnOk};
+ghost use Rattle.std.specs.Prelude.{◌≡◌, ◌+◌, ◌<◌, ◌≤◌, ◌++◌, ℕ, All, false, length, map, nat_le, slice_get, IfOk, OnErr, OnOk};
 ghost use Rattle.orca_base.specs.Areas.{IsArea};
 ghost use Rattle.orca_base.specs.declared.limits.TheConstants.{MAX_HANDS};
-ghost use Rattle.orca_jam.specs.Crews.{answer_to, crew_alone, crew_at_start, denial_of, fitted_crew, fitted_player, offers, player_at, is_leaders as belongs_to_leader, struck_by, took_by, turned_by, viewers_of, with_editor, with_player};
+ghost use Rattle.orca_jam.specs.Crews.{answer_to, crew_alone, crew_at_start, cursor_of, cursors_beside, denial_of, fitted_crew, fitted_player, offers, player_at, is_leaders as belongs_to_leader, struck_by, took_by, turned_by, viewers_of, with_editor, with_player};
 ghost use Rattle.orca_jam.specs.Denials.{not_yours};
 ghost use Rattle.orca_term.specs.Editing.{area_of, wish_of};
 ghost use Rattle.orca_term.specs.Keys.{Byte, Due, turn};
+ghost use Rattle.orca_term.specs.declared.limits.TheConstants.{MAX_CURSORS};
 
 use crate::owner::{follow, last_editor};
 use crate::player::Player;
 use crate::{Denial, Owner};
 use orca_base::limits::MAX_HANDS;
 use orca_base::{Command, Dims, Memory};
-use orca_term::{Around, Deed, Editor, Key, Strokes, Wish};
+use orca_term::{Around, Cursors, Deed, Editor, Key, Strokes, Wish};
 use std::alloc::Global;
 use std::marker::Model;
 
@@ -102,6 +103,13 @@ impl Crew {
         self.hands
     }
 
+    /// Whether the full keys are read.
+    pub fn reads_full(&self) -> bool
+        ensures { result ≡ self.now.full }
+    {
+        self.full
+    }
+
     /// How many hands are shown a picture, from the first one on: all, or that one alone.
     pub fn viewers(&self) -> u8
         ensures { result ≡ viewers_of self.now }
@@ -157,6 +165,20 @@ impl Crew {
         ensures { result.now ≡ (player_at self.now LEADER).editor }
     {
         &self.players[LEADER as usize].editor
+    }
+
+    /// The cursors of the other hands, which the picture of a hand shows where each hand has one.
+    pub fn cursors_beside(&self, hand: u8) -> Cursors
+        requires { hand < length self.now.players }
+        ensures { result ≡ cursors_beside self.now hand }
+    {
+        let mut cursors = Cursors::none();
+        if self.views {
+            let players = &self.players[..self.hands as usize];
+            push_cursors(&mut cursors, &players[..hand as usize]);
+            push_cursors(&mut cursors, &players[hand as usize + 1..]);
+        }
+        cursors
     }
 
     /// The editor of a hand is this one.
@@ -292,6 +314,16 @@ fn fit_all(players: &mut [Player], dims: Dims)
 {
     for player in players.iter_mut() {
         player.fit(dims);
+    }
+}
+
+/// Adds the cursors of players at the end, where they fit.
+fn push_cursors(cursors: &mut Cursors, players: &[Player])
+    requires { length cursors.old + length players.now ≤ MAX_CURSORS }
+    ensures { cursors.new ≡ cursors.old ++ map cursor_of players.now }
+{
+    for player in players {
+        cursors.push(player.cursor());
     }
 }
 

@@ -2,11 +2,11 @@
 
 ghost use Rattle.std.specs.Prelude.{◌≡◌};
 ghost use Rattle.orca_base.specs.Areas.{IsArea};
-ghost use Rattle.orca_jam.specs.Crews.{fitted_player, new_player, turned_player};
+ghost use Rattle.orca_jam.specs.Crews.{cursor_of, fitted_player, new_player, turned_player};
 ghost use Rattle.orca_term.specs.Editing.{area_of};
 ghost use Rattle.orca_term.specs.Keys.{Byte, turn};
 
-use orca_base::Dims;
+use orca_base::{Dims, Place};
 use orca_term::{Editor, Keys, Strokes};
 
 /// What a hand has: its reader of keys, and its editor.
@@ -42,6 +42,16 @@ impl Player {
             self.keys.feed_full(byte)
         } else {
             self.keys.feed(byte)
+        }
+    }
+
+    /// The place of its cursor.
+    pub fn cursor(&self) -> Place
+        ensures { result ≡ cursor_of self.now }
+    {
+        Place {
+            y: self.editor.y,
+            x: self.editor.x,
         }
     }
 
