@@ -18,7 +18,7 @@ use Rattle.orca_live.specs.States.{LiveState}
 
 -- whoever gave the commands, and whether or not they ended the performance
 abbrev pub Anyhow : (LiveState → List Act → LiveState → Type 0)
-    → ℕ → Option Stop → LiveState → List Act → LiveState → Type 0
+    → Option ℕ → Option Stop → LiveState → List Act → LiveState → Type 0
 Anyhow holds who end s acts t = holds s acts t
 
 -- it holds of what the loop does too
@@ -33,15 +33,15 @@ module _ {holds : LiveState → List Act → LiveState → Type 0} (carry : Carr
   unfolding turn_course given_course mapped
   turn_carried (Asked poll) midway s = attends.asks (record poll { until = live_part.until s }) s
   turn_carried (Learned came) midway s = attends.learns came s
-  turn_carried (Given i) midway s = midway_carried carry begins 0 i s midway
-  turn_carried (Over ending) midway s = carry.none 0 s s (looks_same s)
+  turn_carried (Given i) midway s = midway_carried carry begins None i s midway
+  turn_carried (Over ending) midway s = carry.none None s s (looks_same s)
 
   pub begun_carried : (s : LiveState) (opening : Losses) (heard : List Hearing)
       → let c = begun live_part s opening heard in holds s c.acts c.state
   unfolding begun
   begun_carried s opening heard =
-      turns_hold (λ end. holds) (λ end. carry.both 0 None) IsMidway (turn_course live_part)
-      (λ t. carry.none 0 t t (looks_same t)) turn_carried _
+      turns_hold (λ end. holds) (λ end. carry.both None None) IsMidway (turn_course live_part)
+      (λ t. carry.none None t t (looks_same t)) turn_carried _
       (all_midway opening heard) s
 
   lastly_carried : Silences (Anyhow holds) → (end : Option Ending) (c : Course LiveState Ending)
@@ -50,7 +50,8 @@ module _ {holds : LiveState → List Act → LiveState → Type 0} (carry : Carr
   unfolding finished take_course mapped
   lastly_carried silences None c s done = done
   lastly_carried silences (Some e) c s done =
-      carry.both 0 None s c.state _ c.acts _ done (finish_carried carry silences 0 c.state)
+      carry.both None None s c.state _ c.acts _ done
+      (finish_carried carry silences None c.state)
 
   pub performance_carried : Silences (Anyhow holds) → (s : LiveState) (opening : Losses)
       (heard : List Hearing) → let c = performance live_part s opening heard in holds s c.acts c.state

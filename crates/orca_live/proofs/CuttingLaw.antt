@@ -42,10 +42,10 @@ use Rattle.orca_term.specs.declared.editor.Wish.{Wish}
 use Rattle.orca_term.specs.declared.editor.Wish.TheVariants as wish
 use Rattle.orca_term.specs.declared.keys.Key.{Key}
 use Rattle.orca_term.specs.declared.keys.Pending.{Pending}
-use Rattle.orca_live.specs.Carrying.{Carries, midway_carried}
+use Rattle.orca_live.specs.Carrying.{Carries, midway_carried, press_carried}
 use Rattle.orca_live.specs.Items.{ByteOf, FrameDue, HeardItem}
 use Rattle.orca_live.specs.Laws.{ItemsDecide, screens_of}
-use Rattle.orca_live.specs.Performing.{answered_at, byte_course, denied_course, due_course, fired, frame_course, hand_course, finish_course, item_course, key_course, knowing, live_part, lull_course, owning, picture_course, press_course, read_course, redrawn, save_course, struck_course, struck_where, take_course, wish_course}
+use Rattle.orca_live.specs.Performing.{answered_at, byte_course, denied_course, due_course, fired, frame_course, hand_course, finish_course, item_course, key_course, keys_course, knowing, live_part, lull_course, owning, picture_course, press_course, read_course, redrawn, save_course, struck_course, struck_well, struck_where, take_course, wish_course}
 use Rattle.orca_live.specs.States.{LiveState, Viewed, around_at, dims_at, fitted, hands_in, is_full, is_hand, leader_at, screen_at, unpainted}
 use Rattle.orca_live.proofs.GivenLemmas.{IsAside, blank, blank_twice, core, core_fitted, core_plain, core_twice, finish_closes, journal_aside, paint_aside, plain, players_twice, show_aside, write_aside}
 use Rattle.orca_live.proofs.WorthLemmas.{all_counted, worth_of}
@@ -77,9 +77,12 @@ hands_carries = record {
   both = λ who end r s t xs ys first second. second ∙ first;
   leaves = λ who s. refl;
   full = λ s is. refl;
-  command = λ who command s other. hands_command who command s;
+  command = λ hand command s other. hands_command hand command s;
+  frame = λ s. hands_command NOBODY Frame s;
   struck = λ who hand key s. refl;
+  single = λ hand s keep. keep;
   denied = λ who hand denial s. refl;
+  kept = λ who hand bytes s. refl;
   save = λ who name bytes s saved. refl;
   append = λ who name byte bytes s named is. refl;
   paint = λ who marks hand s is. hands_paint marks hand s;
@@ -88,7 +91,11 @@ hands_carries = record {
 
 hands_keep : (i : Item) (s : LiveState) → IsMidway (Given i)
     → length (take_course i s).state.crew.players ≡ length s.crew.players
-hands_keep i s midway = midway_carried hands_carries (λ who name s. refl) 0 i s midway
+hands_keep i s midway = midway_carried hands_carries (λ who name s. refl) None i s midway
+
+pub press_hands : (hand : ℕ) (key : Key) (s : LiveState)
+    → length (press_course hand key s).state.crew.players ≡ length s.crew.players
+press_hands hand key s = press_carried hands_carries hand key s
 
 -- it reads of a state only what matters
 abbrev Steady : (LiveState → Course LiveState Stop) → Type 0
@@ -161,13 +168,47 @@ where_plain hand key s None =
     (record (plain s) { crew = struck_by hand key a s.crew })))
     (sym (around_plain hand s))
 
-press_steady : (hand : ℕ) (key : Option Key) → Steady (press_course hand key)
+press_plain : (hand : ℕ) (key : Key) (s : LiveState)
+    → told core (press_course hand key s) ≡ told core (struck_course hand key (core s))
 unfolding press_course key_course struck_course
-press_steady hand None s = ap (quiet false) (sym (core_twice s))
-press_steady hand (Some key) s =
-    let t = fitted s in
-    where_plain hand key t (denial_of t.crew hand key)
-    ∙ ap (λ u. told core (struck_course hand key u)) (sym (core_fitted s))
+press_plain hand key s =
+    let t = fitted (struck_well hand key s) in where_plain hand key t (denial_of t.crew hand key)
+
+press_steady : (hand : ℕ) (key : Key) → Steady (press_course hand key)
+press_steady hand key s =
+    press_plain hand key s
+    ∙ (ap (λ u. told core (struck_course hand key u)) (sym (core_twice s))
+    ∙ sym (press_plain hand key (core s)))
+
+-- one course after another, all of it told
+abbrev follow : Told LiveState → (LiveState → Told LiveState) → Told LiveState
+follow x g = if x.over then x else before x.commands (g x.state)
+
+followed_by : (end : Option Stop) (c : Course LiveState Stop)
+    (f : LiveState → Course LiveState Stop) (h : LiveState → Told LiveState)
+    → c.ending ≡ end → told core (f c.state) ≡ h (core c.state)
+    → told core (onward_by end c f) ≡ follow (told core c) h
+followed_by None c f h is more =
+    let d = f c.state in
+    rw is (ap (λ xs. record (told core d) { commands = xs }) (commands_in-append c.acts d.acts)
+    ∙ ap (before (commands_in c.acts)) more)
+followed_by (Some e) c f h is more = rw is refl
+
+onward_steady : (f g : LiveState → Course LiveState Stop) → Steady f → Steady g
+    → Steady (λ s. onward (f s) g)
+unfolding onward
+onward_steady f g first second s =
+    let h : LiveState → Told LiveState = λ t. told core (g t) in
+    followed_by (f s).ending (f s) g h refl (second (f s).state)
+    ∙ (ap (λ (x : Told LiveState). follow x h) (first s)
+    ∙ sym (followed_by (f (core s)).ending (f (core s)) g h refl (second (f (core s)).state)))
+
+keys_steady : (hand : ℕ) (keys : List Key) → Steady (keys_course hand keys)
+unfolding keys_course each
+keys_steady hand [] s = ap (quiet false) (sym (core_twice s))
+keys_steady hand (key ∷ keys) s =
+    onward_steady (press_course hand key) (each (press_course hand) keys) (press_steady hand key)
+    (keys_steady hand keys) s
 
 -- fitting a player moves nothing of its keys
 pub keys_fitted : (d : Size) (players : List Player) (hand : ℕ)
@@ -195,13 +236,13 @@ read_steady hand item s =
     let full = s.crew.full in
     let d = dims_at s in
     let t = core s in
-    press_steady hand (turn full (player_at s.crew hand).keys item).key
+    keys_steady hand (turn full (player_at s.crew hand).keys item).keys
     (record s { crew = turned_by hand item s.crew })
     ∙ (ap (λ (players : List Player).
-    told core (press_course hand (turn full (player_at s.crew hand).keys item).key
+    told core (keys_course hand (turn full (player_at s.crew hand).keys item).keys
     (record t { crew = record t.crew { players = players } })))
     (turned_fitted d full item s.crew.players hand)
-    ∙ ap (λ (keys : Pending). told core (press_course hand (turn full keys item).key
+    ∙ ap (λ (keys : Pending). told core (keys_course hand (turn full keys item).keys
     (record t { crew = turned_by hand item t.crew })))
     (sym (keys_fitted d s.crew.players hand)))
 
@@ -220,29 +261,6 @@ item_steady hand item s =
     item_by (is_hand hand s) hand item s
     ∙ ap (λ (hands : ℕ). told core (if nat_lt hand hands then read_course hand item (core s)
     else still (core s))) (sym (same_hands s))
-
--- one course after another, all of it told
-abbrev follow : Told LiveState → (LiveState → Told LiveState) → Told LiveState
-follow x g = if x.over then x else before x.commands (g x.state)
-
-followed_by : (end : Option Stop) (c : Course LiveState Stop)
-    (f : LiveState → Course LiveState Stop) (h : LiveState → Told LiveState)
-    → c.ending ≡ end → told core (f c.state) ≡ h (core c.state)
-    → told core (onward_by end c f) ≡ follow (told core c) h
-followed_by None c f h is more =
-    let d = f c.state in
-    rw is (ap (λ xs. record (told core d) { commands = xs }) (commands_in-append c.acts d.acts)
-    ∙ ap (before (commands_in c.acts)) more)
-followed_by (Some e) c f h is more = rw is refl
-
-onward_steady : (f g : LiveState → Course LiveState Stop) → Steady f → Steady g
-    → Steady (λ s. onward (f s) g)
-unfolding onward
-onward_steady f g first second s =
-    let h : LiveState → Told LiveState = λ t. told core (g t) in
-    followed_by (f s).ending (f s) g h refl (second (f s).state)
-    ∙ (ap (λ (x : Told LiveState). follow x h) (first s)
-    ∙ sym (followed_by (f (core s)).ending (f (core s)) g h refl (second (f (core s)).state)))
 
 -- nothing came of each of these hands
 lulls_steady : (hands : List ℕ) → Steady (each (λ hand. item_course hand Due) hands)

@@ -26,20 +26,25 @@ use Rattle.orca_edit.specs.Machines.{preview_of}
 use Rattle.orca_edit.specs.Prices.{preview_price}
 use Rattle.orca_term.specs.Pacing.{Pace}
 use Rattle.orca_jam.specs.Crews.{CrewState, answer_to, asked, denial_of, player_at, struck_by, turned_by, turned_player}
+use Rattle.orca_jam.specs.Denials.{rule_of_denial}
 use Rattle.orca_jam.specs.declared.crew.TheConstants.{LEADER}
+use Rattle.orca_term.specs.Came.{came_to}
 use Rattle.orca_jam.specs.declared.denial.Denial.{Denial}
 use Rattle.orca_term.specs.Keys.{Due, Item, turn}
+use Rattle.orca_term.specs.declared.came.Came.{Came}
+use Rattle.orca_term.specs.declared.came.Came.TheVariants.{Denied, Kept}
 use Rattle.orca_term.specs.declared.editor.Wish.{Wish}
+use Rattle.orca_term.specs.declared.editor.Wish.TheVariants as wish
+use Rattle.orca_term.specs.declared.overlay.Overlay.{Overlay}
 use Rattle.orca_term.specs.declared.keys.Key.{Key}
 use Rattle.orca_term.specs.Picture.{IsPrintable, picture, scene_of, screen_inside}
 use Rattle.orca_term.specs.Viewing.{Seen, painting_bytes}
-use Rattle.orca_term.specs.declared.editor.Editor.{Editor}
 use Rattle.orca_term.specs.declared.status.StatusLine.{StatusLine}
 use Rattle.orca_term.specs.declared.cell.Cell.{Cell}
 use Rattle.orca_term.specs.declared.cell.ScreenSize.{ScreenSize}
-use Rattle.orca_live.specs.Performing.{additions, hush_course, hand_course, denied_course, lull_course, lines_course, noted, painted_editor, obeyed_by, of_session, owning, item_course, key_course, press_course, read_course, struck_course, telling, wish_course, paint_course, painted_course, picture_course, picture_for, preview_course, redrawn, show_course, view_acts, loosens}
+use Rattle.orca_live.specs.Performing.{additions, hush_course, hand_course, denied_course, lull_course, lines_course, noted, obeyed_by, of_session, owning, item_course, key_course, keys_course, overlay_at, press_course, read_course, save_course, struck_course, struck_well, telling, wish_course, words_at_key, paint_course, painted_course, picture_course, picture_for, preview_course, redrawn, show_course, view_acts, loosens}
 use Rattle.orca_live.specs.Quiet.{silent_manner}
-use Rattle.orca_live.specs.States.{LiveState, Viewed, live_stance, around_at, fitted, hands_in, is_viewer, piece_at, status_line_at, unpainted, view_at, viewed_in, with_view}
+use Rattle.orca_live.specs.States.{LiveState, Viewed, live_stance, around_at, fitted, hands_in, is_viewer, key_name, piece_at, status_line_at, unpainted, view_at, viewed_in, with_view}
 use Rattle.orca_live.specs.Marking.{marks_by}
 use Rattle.orca_live.specs.declared.painting.Marking.{Marking}
 
@@ -127,12 +132,13 @@ session_did c s t (Err e) goes did =
 
 -- a command was done and kept, and whose the entries are
 pub command_did : (who : ℕ) (command : Command) (s : LiveState) (t : Concert (Unit {0}))
-    (given : Option (List Command)) (lines : List ℕ) (crew : CrewState) (loose : Bool) {x y : World}
-    (end : Option Stop)
+    (given : Option (List Command)) (lines : List ℕ) (crew : CrewState) (loose : Bool)
+    (words : List Came) {x y : World} (end : Option Stop)
     → given ≡ option_map (λ commands. commands ++ command ∷ []) s.given
     → lines ≡ noted s.setting.journal command s.unwritten
     → crew ≡ owning who command t.standing.tally.refusal (length t.standing.machine.history) s.crew
     → loose ≡ (s.loose || loosens command t.standing.tally.refusal)
+    → words ≡ slice_set s.words who (came_to t.standing.tally.refusal)
     → Does (stance_of silent_manner)
     (obey_course silent_manner 0 command (concert_with s.standing tt)) (concert_with s.standing tt) x
     (Ok end) t y
@@ -143,14 +149,15 @@ pub command_did : (who : ℕ) (command : Command) (s : LiveState) (t : Concert (
       given = given;
       unwritten = lines;
       loose = loose;
+      words = words;
     }) y
 unfolding hand_course obey_course onward mapped
-command_did who command s t given lines crew loose end kept waits owns looses did =
+command_did who command s t given lines crew loose words end kept waits owns looses tells did =
     let goes : end ≡ None = sym did.did.ending in
     let all = does_mapped {part = stance_of silent_manner} {whole = live_stance}
     (λ (u : Concert (Unit {0})). obeyed_by who command s u.standing) (λ end. end) (Ok end) refl
     (λ u. refl) did in
-    rw (kept, waits, owns, looses) (does_from s refl (rw goes at all))
+    rw (kept, waits, owns, looses, tells) (does_from s refl (rw goes at all))
 
 -- memory was refused to a command
 pub command_cut : (who : ℕ) (command : Command) (s : LiveState) (t : Concert (Unit {0}))
@@ -208,14 +215,17 @@ struck_asked hand key s answer w crew told is changes did =
 
 -- the hand was told why the key is denied
 pub struck_denied : (hand : ℕ) (key : Key) (s : LiveState) (answer : Result Wish Denial)
-    (denial : Denial) (crew : CrewState) {x y : World} (n : ℕ) (result : Result (Unit {0}) NoMemory)
+    (denial : Denial) (crew : CrewState) (words : List Came) {x y : World} (n : ℕ)
+    (result : Result (Unit {0}) NoMemory)
     → answer ≡ answer_to s.crew hand key (around_at hand s) → answer ≡ Err denial
-    → OnErr answer (crew ≡ s.crew) → Called result (telling hand denial) x y
+    → OnErr answer (crew ≡ s.crew)
+    → words ≡ slice_set s.words hand (Denied (rule_of_denial denial)) → Called result (telling hand denial) x y
     → Does live_stance (struck_course hand key s) s (owing n x) (goes_of result)
-    (record s { crew = crew }) (owing n y)
+    (record s { crew = crew; words = words }) (owing n y)
 unfolding struck_course denied_course
-struck_denied hand key s answer denial crew n result told is same called =
+struck_denied hand key s answer denial crew words n result told is same tells called =
     rw (
+      tells,
       denied_by (denial_of s.crew hand key) (asked s.crew hand key (around_at hand s)) denial
           (sym is ∙ told),
       rw is at same,
@@ -223,28 +233,46 @@ struck_denied hand key s answer denial crew n result told is same called =
     (does_owing n (goes_of result)
     (does_calls (telling hand denial ∷ []) result (refl, tt) refl (calls_one result called)))
 
+-- the grid was saved by a key, which is told
+pub kept_did : (hand : ℕ) (s : LiveState) (words : List Came) {t : LiveState} {x y : World}
+    {result : Result (Option Stop) NoMemory} → words ≡ slice_set s.words hand Kept
+    → Does live_stance (save_course (key_name s.setting) (record s { words = words }))
+    (record s { words = words }) x result t y
+    → Does live_stance (wish_course hand wish.Save s) s x result t y
+unfolding wish_course
+kept_did hand s words tells did = does_from s refl (rw tells at did)
+
 -- a key was struck: the editors were fitted to the grid, and then the key was done
-pub press_some : (hand : ℕ) (key : Option Key) (some : Key) (s u : LiveState) {t : LiveState}
-    {x y : World} {result : Result (Option Stop) NoMemory} → key ≡ Some some → u ≡ fitted s
-    → Does live_stance (struck_course hand some u) u x result t y
+pub press_did : (hand : ℕ) (key : Key) (s u : LiveState) (words : List Came) {t : LiveState}
+    {x y : World} {result : Result (Option Stop) NoMemory} → words ≡ words_at_key hand key s.words
+    → u ≡ fitted (record s { words = words })
+    → Does live_stance (struck_course hand key u) u x result t y
     → Does live_stance (press_course hand key s) s x result t y
 unfolding press_course key_course
-press_some hand key some s u {x = x} {result = result} is fits did =
-    rw is (does_joined {E = Stop} result
-    (does_acts (made_strike hand some (made_none x)) refl
-    (rests_mute live_stance s s (Strike hand some ∷ []) tt refl)).did
-    (does_from s refl (rw fits at did)))
+press_did hand key s u words {x = x} {result = result} tells fits did =
+    let r = struck_well hand key s in
+    does_joined {E = Stop} result
+    (does_acts (made_strike hand key (made_none x)) refl
+    (rests_mute live_stance s r (Strike hand key ∷ []) tt refl)).did
+    (does_from r {s = fitted r} refl (rw (fits, tells) at did))
 
--- an item, whose key was pressed
-pub read_did : (hand : ℕ) (item : Item) (s : LiveState) (key : Option Key) (crew : CrewState)
+-- an item, whose keys were pressed
+pub read_did : (hand : ℕ) (item : Item) (s : LiveState) (keys : List Key) (crew : CrewState)
     {t : LiveState} {x y : World} {result : Result (Option Stop) NoMemory}
-    → key ≡ (turn s.crew.full (player_at s.crew hand).keys item).key
+    → keys ≡ (turn s.crew.full (player_at s.crew hand).keys item).keys
     → crew ≡ turned_by hand item s.crew
-    → Does live_stance (press_course hand key (record s { crew = crew })) (record s { crew = crew })
+    → Does live_stance (keys_course hand keys (record s { crew = crew })) (record s { crew = crew })
     x result t y
     → Does live_stance (read_course hand item s) s x result t y
 unfolding read_course
-read_did hand item s key crew ends leaves did = does_from s refl (rw (ends, leaves) at did)
+read_did hand item s keys crew ends leaves did = does_from s refl (rw (ends, leaves) at did)
+
+-- ---- keys in their order
+
+pub keys_left : (keys : List Key) (k : ℕ) (key : Key) → key ≡ get_or keys k key → k < length keys
+    → drop k keys ≡ key ∷ drop (k + 1) keys
+keys_left keys k key is below =
+    drop_more keys k key below ∙ ap (λ (first : Key). first ∷ drop (k + 1) keys) (sym is)
 
 -- ---- the hands in their order
 
@@ -386,16 +414,16 @@ painting_did hand bytes cells views s (Err e) printable calls =
 
 -- the picture of a hand with these marks was painted, and its view keeps it
 pub picture_did : (marks : List MarkSet) (hand : ℕ) (s : LiveState) (views : List Viewed)
-    (v : Viewed) (sheet : Sheet) (editor : Editor) (line : StatusLine) {x y : World} (n : ℕ)
+    (v : Viewed) (sheet : Sheet) (over : Overlay) (line : StatusLine) {x y : World} (n : ℕ)
     (result : Result (Unit {0}) NoMemory) → v ≡ view_at hand s → sheet ≡ (piece_at s).sheet
-    → editor ≡ painted_editor hand s → line ≡ status_line_at s
-    → let cells = picture v.screen (scene_of sheet marks editor) line in
+    → over ≡ overlay_at hand s → line ≡ status_line_at hand s
+    → let cells = picture v.screen (scene_of sheet marks over) line in
     Calls (view_acts hand (painting_bytes v.screen v.shown cells)) result x y
     → All IsPrintable cells → views ≡ slice_set s.views hand (record v { shown = Some cells })
     → Does live_stance (picture_course marks hand s) s (owing n x) (goes_of result)
     (record s { views = views }) (owing n y)
 unfolding picture_course onward
-picture_did marks hand s views v sheet editor line n result at shows edits lines calls printable
+picture_did marks hand s views v sheet over line n result at shows edits lines calls printable
     keeps =
     let old = view_at hand s in
     let cells = picture_for hand marks s in
@@ -422,19 +450,19 @@ viewer_not views hand from len same many past =
 
 -- the picture was painted on the view of a hand
 pub picture_on : (marks : List MarkSet) (hand : ℕ) (s : LiveState) (views : List Seen)
-    (old seen : Seen) (sheet : Sheet) (editor : Editor) (line : StatusLine) {x y : World} (n : ℕ)
+    (old seen : Seen) (sheet : Sheet) (over : Overlay) (line : StatusLine) {x y : World} (n : ℕ)
     (result : Result (Unit {0}) NoMemory) → map viewed_in views ≡ s.views
-    → viewed_in old ≡ view_at hand s → sheet ≡ (piece_at s).sheet → editor ≡ painted_editor hand s
-    → line ≡ status_line_at s
-    → let cells = picture old.size (scene_of sheet marks editor) line in
+    → viewed_in old ≡ view_at hand s → sheet ≡ (piece_at s).sheet → over ≡ overlay_at hand s
+    → line ≡ status_line_at hand s
+    → let cells = picture old.size (scene_of sheet marks over) line in
     Calls (view_acts hand (painting_bytes old.size old.last cells)) result x y
     → All IsPrintable cells → viewed_in seen ≡ record { screen = old.size; shown = Some cells }
     → Does live_stance (picture_course marks hand s) s (owing n x) (goes_of result)
     (record s { views = map viewed_in (set views hand seen) }) (owing n y)
-picture_on marks hand s views old seen sheet editor line n result are at shows edits lines calls
+picture_on marks hand s views old seen sheet over line n result are at shows edits lines calls
     printable keeps =
-    let cells = picture old.size (scene_of sheet marks editor) line in
-    picture_did marks hand s (map viewed_in (set views hand seen)) (viewed_in old) sheet editor line
+    let cells = picture old.size (scene_of sheet marks over) line in
+    picture_did marks hand s (map viewed_in (set views hand seen)) (viewed_in old) sheet over line
     n result at shows edits lines calls printable
     (viewed_set views hand seen
     ∙ (ap (λ (v : Viewed). slice_set (map viewed_in views) hand v) keeps

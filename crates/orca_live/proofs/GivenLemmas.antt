@@ -51,8 +51,8 @@ picture_commands marks hand s = simp views_commands
 abbrev pub blank : List Viewed → List Viewed
 blank views = map (λ (v : Viewed). unpainted v.screen) views
 
--- no moments, no pace, nothing that is shown, no line that waits for the journal, nothing loose, and
--- no failure
+-- no moments, no pace, nothing that is shown or told, no line that waits for the journal, nothing
+-- loose, and no failure
 abbrev pub plain : LiveState → LiveState
 plain s = record s {
   pace = record { bpm = 0; parts = 0; due = 0 };
@@ -61,6 +61,7 @@ plain s = record s {
   loose = false;
   at = 0;
   came = nothing_failed;
+  words = [];
 }
 
 -- and the editors as they fit the grid

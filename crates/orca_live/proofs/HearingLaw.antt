@@ -24,7 +24,7 @@ use Rattle.orca_course.specs.declared.ending.Stop.TheVariants.{Full}
 use Rattle.orca_course.specs.declared.item.Losses.{Losses}
 use Rattle.orca_course.specs.declared.item.Item.{Item}
 use Rattle.orca_course.specs.declared.item.Item.TheVariants as item
-use Rattle.orca_course.proofs.CourseLemmas.{goes_both, onward_goes}
+use Rattle.orca_course.proofs.CourseLemmas.{each-holds, goes_both, onward_goes}
 use Rattle.orca_course.proofs.CuttingLemmas.{counted, counting}
 use Rattle.orca_course.proofs.CuttingLemmas.Worth.{Counts, Nothing}
 use Rattle.orca_course.proofs.MidwayLemmas.{AreMidway, IsMidway, all_midway}
@@ -32,16 +32,16 @@ use Rattle.orca_jam.specs.Crews.{CrewState, asked, denial_of, new_player, player
 use Rattle.orca_jam.specs.declared.denial.Denial.{Denial}
 use Rattle.orca_jam.specs.declared.owner.TheConstants.{NOBODY}
 use Rattle.orca_jam.specs.declared.player.Player.{Player}
-use Rattle.orca_term.specs.Keys.{Byte, Due, Item as KeyItem, turn}
+use Rattle.orca_term.specs.Keys.{Byte, Due, Item as KeyItem, keys_from, turn}
 use Rattle.orca_term.specs.declared.editor.Editor.{Editor}
 use Rattle.orca_term.specs.declared.editor.Wish.{Wish}
 use Rattle.orca_term.specs.declared.editor.Wish.TheVariants as wish
 use Rattle.orca_term.specs.declared.keys.Key.{Key}
 use Rattle.orca_term.specs.declared.keys.Pending.{Pending}
-use Rattle.orca_live.specs.Hands.{EachIsHeard, IsMadeBy, items_for, key_of, keys_after, pending_after}
+use Rattle.orca_live.specs.Hands.{EachIsHeard, IsMadeBy, items_for, pending_after}
 use Rattle.orca_live.specs.Items.{ByteOf, HeardItem, items_of}
 use Rattle.orca_live.specs.Laws.{so_far}
-use Rattle.orca_live.specs.Performing.{answered_at, byte_course, denied_course, due_course, fired, frame_course, hand_course, item_course, key_course, knowing, live_part, lull_course, owning, press_course, read_course, save_course, struck_course, struck_where, take_course, wish_course}
+use Rattle.orca_live.specs.Performing.{answered_at, byte_course, denied_course, due_course, fired, frame_course, hand_course, item_course, key_course, keys_course, knowing, live_part, lull_course, owning, press_course, read_course, save_course, struck_course, struck_well, struck_where, take_course, wish_course}
 use Rattle.orca_live.specs.States.{LiveState, around_at, dims_at, editor_at, fitted, hands_in, is_full, is_hand, leader_at}
 use Rattle.orca_live.proofs.CuttingLaw.{keys_fitted, owning_hands}
 use Rattle.orca_live.proofs.GivenLemmas.{IsAside, core, journal_aside, paint_aside, show_aside, write_aside}
@@ -56,14 +56,15 @@ pending_after-append : (full : Bool) (p : Pending) (xs ys : List KeyItem)
 pending_after-append full p [] ys = refl
 pending_after-append full p (x ∷ xs) ys = pending_after-append full (turn full p x).pending xs ys
 
-keys_after-append : (full : Bool) (p : Pending) (xs ys : List KeyItem)
-    → keys_after full p (xs ++ ys)
-    ≡ keys_after full p xs ++ keys_after full (pending_after full p xs) ys
-keys_after-append full p [] ys = refl
-keys_after-append full p (x ∷ xs) ys =
+keys_from-append : (full : Bool) (p : Pending) (xs ys : List KeyItem)
+    → keys_from full p (xs ++ ys)
+    ≡ keys_from full p xs ++ keys_from full (pending_after full p xs) ys
+unfolding keys_from
+keys_from-append full p [] ys = refl
+keys_from-append full p (x ∷ xs) ys =
     let t = turn full p x in
-    ap (λ (keys : List Key). key_of t.key ++ keys) (keys_after-append full t.pending xs ys)
-    ∙ sym (append_assoc (key_of t.key) (keys_after full t.pending xs) _)
+    ap (λ (keys : List Key). t.keys ++ keys) (keys_from-append full t.pending xs ys)
+    ∙ sym (append_assoc t.keys (keys_from full t.pending xs) _)
 
 -- from one state to another the reader of a hand was given these items, and which keys are read
 -- and the number of hands are as they were
@@ -77,7 +78,7 @@ record Reads (hand : ℕ) (items : List KeyItem) (s t : LiveState) : Type 0 wher
 record Hears (hand : ℕ) (items : List KeyItem) (s : LiveState) (acts : List Act) (t : LiveState)
     : Type 0 where
   pub reads : Reads hand items s t
-  pub strikes : Strikes hand (keys_after s.crew.full (player_at s.crew hand).keys items) s acts t
+  pub strikes : Strikes hand (keys_from s.crew.full (player_at s.crew hand).keys items) s acts t
 
 reads_none : (hand : ℕ) (s : LiveState) → Reads hand [] s s
 reads_none hand s = record { full = refl; hands = refl; keys = refl }
@@ -98,19 +99,19 @@ hears_twice : (hand : ℕ) (xs ys : List KeyItem) (r s t : LiveState) (begun mor
 hears_twice hand xs ys r s t begun more first second =
     let full = r.crew.full in
     let p = (player_at r.crew hand).keys in
-    let before = keys_after full p xs in
-    let later : keys_after s.crew.full (player_at s.crew hand).keys ys
-    ≡ keys_after full (pending_after full p xs) ys =
-    ap (λ (full : Bool). keys_after full (player_at s.crew hand).keys ys) first.reads.full
-    ∙ ap (λ (q : Pending). keys_after full q ys) first.reads.keys in
+    let before = keys_from full p xs in
+    let later : keys_from s.crew.full (player_at s.crew hand).keys ys
+    ≡ keys_from full (pending_after full p xs) ys =
+    ap (λ (full : Bool). keys_from full (player_at s.crew hand).keys ys) first.reads.full
+    ∙ ap (λ (q : Pending). keys_from full q ys) first.reads.keys in
     record {
       reads = reads_twice hand xs ys r s t first.reads second.reads;
       strikes =
           subst (λ (keys : List Key). Strikes hand keys r (begun ++ more) t)
           (ap (λ (keys : List Key). before ++ keys) later
-          ∙ sym (keys_after-append full p xs ys))
+          ∙ sym (keys_from-append full p xs ys))
           (strikes_twice hand before
-          (keys_after s.crew.full (player_at s.crew hand).keys ys) r s t begun more
+          (keys_from s.crew.full (player_at s.crew hand).keys ys) r s t begun more
           first.strikes second.strikes);
     }
 
@@ -133,6 +134,7 @@ reads_fitted hand s = record {
 
 hears_same : (hand : ℕ) (s t : LiveState) → t.crew.full ≡ s.crew.full
     → t.crew.players ≡ s.crew.players → Hears hand [] s [] t
+unfolding keys_from
 hears_same hand s t full players = record {
   reads = reads_same hand s t full players;
   strikes = strikes_same hand s [] t refl players;
@@ -203,7 +205,7 @@ wish_reads hand other (wish.Redraw size) s = reads_same hand s _ refl refl
 where_reads : (hand other : ℕ) (key : Key) (s : LiveState) (denial : Option Denial)
     → Reads hand [] s (struck_where other key s denial).state
 unfolding denied_course
-where_reads hand other key s (Some denial) = reads_none hand s
+where_reads hand other key s (Some denial) = reads_same hand s _ refl refl
 where_reads hand other key s None =
     let around = around_at other s in
     let t : LiveState = record s { crew = struck_by other key around s.crew } in
@@ -211,14 +213,22 @@ where_reads hand other key s None =
     reads_twice hand [] [] s t (wish_course other w t).state (reads_struck hand other key s)
     (wish_reads hand other w t)
 
-press_reads : (hand other : ℕ) (key : Option Key) (s : LiveState)
+press_reads : (hand other : ℕ) (key : Key) (s : LiveState)
     → Reads hand [] s (press_course other key s).state
 unfolding press_course key_course struck_course
-press_reads hand other None s = reads_none hand s
-press_reads hand other (Some key) s =
-    let t = fitted s in
-    reads_twice hand [] [] s t (struck_course other key t).state (reads_fitted hand s)
-    (where_reads hand other key t (denial_of t.crew other key))
+press_reads hand other key s =
+    let t = struck_well other key s in
+    let u = fitted t in
+    reads_twice hand [] [] s u (struck_course other key u).state
+    (reads_twice hand [] [] s t u (reads_same hand s t refl refl) (reads_fitted hand t))
+    (where_reads hand other key u (denial_of u.crew other key))
+
+keys_read : (hand other : ℕ) (keys : List Key) (s : LiveState)
+    → Reads hand [] s (keys_course other keys s).state
+unfolding keys_course
+keys_read hand other keys s =
+    each-holds (λ s acts t. Reads hand [] s t) (press_course other) (reads_none hand)
+    (λ r s t xs ys. reads_twice hand [] [] r s t) (press_reads hand other) keys s
 
 -- ---- items
 
@@ -255,18 +265,19 @@ abbrev given : ℕ → ℕ → KeyItem → List KeyItem
 given hand other item = if other == hand then item ∷ [] else []
 
 read_strikes : (hand other : ℕ) (item : KeyItem) (s : LiveState) (own : Bool) → (other == hand) ≡ own
-    → is_hand other s ≡ true
+    → is_hand other s ≡ true → (read_course other item s).ending ≡ None
     → Strikes hand
-    (keys_after s.crew.full (player_at s.crew hand).keys (if own then item ∷ [] else [])) s
+    (keys_from s.crew.full (player_at s.crew hand).keys (if own then item ∷ [] else [])) s
     (read_course other item s).acts (read_course other item s).state
-read_strikes hand other item s true own is =
+unfolding keys_from
+read_strikes hand other item s true own is goes =
     let full = s.crew.full in
     let c = read_course other item s in
     subst (λ (h : ℕ).
-    Strikes h (keys_after full (player_at s.crew h).keys (item ∷ [])) s c.acts c.state)
+    Strikes h (keys_from full (player_at s.crew h).keys (item ∷ [])) s c.acts c.state)
     (eqb-true other hand own)
-    (rw append-nil (read_own other item s is))
-read_strikes hand other item s false differs is = read_other hand other item s differs
+    (rw append-nil (read_own other item s is goes))
+read_strikes hand other item s false differs is goes = read_other hand other item s differs
 
 read_reads : (hand other : ℕ) (item : KeyItem) (s : LiveState) (own : Bool) → (other == hand) ≡ own
     → is_hand other s ≡ true
@@ -274,16 +285,16 @@ read_reads : (hand other : ℕ) (item : KeyItem) (s : LiveState) (own : Bool) �
 unfolding read_course
 read_reads hand other item s true own is =
     let t : LiveState = record s { crew = turned_by other item s.crew } in
-    let key = (turn s.crew.full (player_at s.crew other).keys item).key in
-    subst (λ (h : ℕ). Reads h (item ∷ []) s (press_course other key t).state)
+    let keys = (turn s.crew.full (player_at s.crew other).keys item).keys in
+    subst (λ (h : ℕ). Reads h (item ∷ []) s (keys_course other keys t).state)
     (eqb-true other hand own)
-    (reads_twice other (item ∷ []) [] s t (press_course other key t).state
-    (turned_own other item s is) (press_reads other other key t))
+    (reads_twice other (item ∷ []) [] s t (keys_course other keys t).state
+    (turned_own other item s is) (keys_read other other keys t))
 read_reads hand other item s false differs is =
     let t : LiveState = record s { crew = turned_by other item s.crew } in
-    let key = (turn s.crew.full (player_at s.crew other).keys item).key in
-    reads_twice hand [] [] s t (press_course other key t).state
-    (turned_other hand other item s differs) (press_reads hand other key t)
+    let keys = (turn s.crew.full (player_at s.crew other).keys item).keys in
+    reads_twice hand [] [] s t (keys_course other keys t).state
+    (turned_other hand other item s differs) (keys_read hand other keys t)
 
 -- a hand that there is not is another one
 no_hand : (hand other n : ℕ) → nat_lt hand n ≡ true → nat_lt other n ≡ false
@@ -293,20 +304,21 @@ no_hand hand other n is off = grind (arith, nat_tests)
 item_by : (hand other : ℕ) (item : KeyItem) (s : LiveState) (is : Bool) → is_hand hand s ≡ true
     → is_hand other s ≡ is
     → let c : Course LiveState Stop = if is then read_course other item s else still s in
-    Hears hand (given hand other item) s c.acts c.state
-item_by hand other item s true there is = record {
+    c.ending ≡ None → Hears hand (given hand other item) s c.acts c.state
+item_by hand other item s true there is goes = record {
   reads = read_reads hand other item s (other == hand) refl is;
-  strikes = read_strikes hand other item s (other == hand) refl is;
+  strikes = read_strikes hand other item s (other == hand) refl is goes;
 }
-item_by hand other item s false there off =
+item_by hand other item s false there off goes =
     rw (no_hand hand other (length s.crew.players) there off) (hears_none hand s)
 
 item_hears : (hand other : ℕ) (item : KeyItem) (s : LiveState) → is_hand hand s ≡ true
+    → (item_course other item s).ending ≡ None
     → Hears hand (given hand other item) s (item_course other item s).acts
     (item_course other item s).state
 unfolding item_course
-item_hears hand other item s there =
-    item_by hand other item s (is_hand other s) there refl
+item_hears hand other item s there goes =
+    item_by hand other item s (is_hand other s) there refl goes
 
 -- ---- frames
 
@@ -380,7 +392,7 @@ module _ (hand n : ℕ) (there : nat_lt hand n ≡ true) where
 
   heeds_item : (other : ℕ) (item : KeyItem)
       → Heeds (given hand other item) (item_course other item)
-  heeds_item other item s are goes = item_hears hand other item s (there_at s are)
+  heeds_item other item s are goes = item_hears hand other item s (there_at s are) goes
 
   heeds_lull : Heeds (Due ∷ []) lull_course
   unfolding lull_course
@@ -391,7 +403,7 @@ module _ (hand n : ℕ) (there : nat_lt hand n ≡ true) where
       rw (dues_once hand 0 (length s.crew.players) (omega arith) (omega arith)) at some
 
   heeds_frame : Heeds [] frame_course
-  unfolding frame_course
+  unfolding frame_course keys_from
   heeds_frame s are goes = record {
     reads = frame_reads hand (is_full s) s;
     strikes = frame_strikes hand (is_full s) s;
@@ -435,13 +447,14 @@ module _ (hand n : ℕ) (there : nat_lt hand n ≡ true) where
   hears_aside : (came : Losses) (s : LiveState) (c : Course LiveState Stop)
       → IsSilent hand (knowing came s) c → IsAside (knowing came s) c
       → Hears hand [] s c.acts c.state
+  unfolding keys_from
   hears_aside came s c silent aside = record {
     reads = reads_core hand s c.state aside.same;
     strikes = record { own = silent.strikes.own; moves = silent.strikes.moves };
   }
 
   heeds_take : (i : Item) → IsMidway (Given i) → Heeds (given_by i) (take_course i)
-  unfolding take_course byte_course
+  unfolding take_course byte_course keys_from
   heeds_take (item.Byte other at byte) midway s are goes =
       let t = answered_at at s in
       hears_twice hand [] (given hand other (Byte byte)) s t _ [] _ (hears_at at s)
@@ -470,6 +483,7 @@ module _ (hand n : ℕ) (there : nat_lt hand n ≡ true) where
   -- an act of the loop
   heeds_act : (act : Act) → keys_in hand (act ∷ []) ≡ []
       → Heeds [] (λ s. course {E = Ending} (act ∷ []) 0 s)
+  unfolding keys_from
   heeds_act act none s are goes = record {
     reads = reads_none hand s;
     strikes = strikes_same hand s (act ∷ []) s none refl;

@@ -1,5 +1,5 @@
 -- A performance keeps its journal.
-use Rattle.std.proofs.Common.{◌≡◌, ◌≢◌, ◌⊎◌, ℕ, zero, suc, arith, Bool, true, false, List, [], ◌∷◌, ◌++◌, refl, sym, ◌∙◌, ap, subst, append_assoc, append-nil}
+use Rattle.std.proofs.Common.{inl, ◌≡◌, ◌≢◌, ◌⊎◌, ℕ, zero, suc, arith, Bool, true, false, List, [], ◌∷◌, ◌++◌, refl, sym, ◌∙◌, ap, subst, append_assoc, append-nil}
 use Rattle.std.specs.Prelude.{if◌then◌else◌, IfSome, Option, Some, None, unwrap_or}
 use Rattle.std.specs.List.{flat_map}
 use Rattle.std.specs.Option.{option_map}
@@ -7,6 +7,8 @@ use Rattle.std.specs.Str.{bytes_eq}
 use Rattle.std.proofs.lemmas.Grind.{flat_map-append}
 use Rattle.std.proofs.lemmas.Option.{same_Some}
 use Rattle.std.proofs.lemmas.Slice.Eq.{bytes_eq-Decides}
+use Rattle.orca_base.specs.declared.command.Command.TheVariants.{Frame}
+use Rattle.orca_jam.specs.declared.owner.TheConstants.{NOBODY}
 use Rattle.orca_base.specs.declared.command.Command.{Command}
 use Rattle.orca_base.specs.MarkSet.{MarkSet}
 use Rattle.orca_base.specs.Ports.{Sent}
@@ -339,9 +341,12 @@ module _ (name start : List ℕ) (set : Setting) (kept : set.journal ≡ Some na
     both = λ who end. writes_twice;
     leaves = λ who. writes_none;
     full = λ s is. writes_none s;
-    command = λ who command s other. writes_command who command s;
+    command = λ hand command s other. writes_command hand command s;
+    frame = λ s. writes_command NOBODY Frame s;
     struck = λ who hand key s is. (is, λ held given waits. waits);
+    single = λ hand s writes. writes;
     denied = λ who hand denial s is. (is, λ held given waits. waits);
+    kept = λ who hand bytes s. writes_save _ bytes s (inl refl);
     save = λ who. writes_save;
     append = λ who. writes_append;
     paint = λ who marks hand s is. writes_paint marks hand s;
@@ -361,7 +366,7 @@ module _ (name start : List ℕ) (set : Setting) (kept : set.journal ≡ Some na
   writes_turn (Asked poll) (Some a) s inner heard none = absurd heard
   writes_turn (Learned came) a s inner heard none = λ is. (is, λ held given waits. waits)
   writes_turn (Over ending) a s inner heard none = writes_none s
-  writes_turn (Given i) a s inner heard none = later_carried writes_carries 0 i s inner
+  writes_turn (Given i) a s inner heard none = later_carried writes_carries None i s inner
 
   -- where what was kept is written nothing waits
   written_by : (journal : Option (List ℕ)) (s : LiveState) → journal ≡ Some name
@@ -433,7 +438,7 @@ module _ (name start : List ℕ) (set : Setting) (kept : set.journal ≡ Some na
   writes_first turns s inner heard none =
       let p = paint_course [] s in
       let c = each (turn_course live_part) turns p.state in
-      writes_twice s p.state c.state p.acts c.acts (paint_carried writes_carries 0 [] s)
+      writes_twice s p.state c.state p.acts c.acts (paint_carried writes_carries None [] s)
       (writes_turns turns None p.state inner heard
       (ap (λ (u : LiveState). u.unwritten) (paint_is [] s).state ∙ none))
 
@@ -500,7 +505,7 @@ module _ (name start : List ℕ) (set : Setting) (kept : set.journal ≡ Some na
   unfolding finished take_course mapped
   lastly_journaled None c held is journaled = journaled
   lastly_journaled (Some e) c held is journaled =
-      let last = finish_carried writes_carries (λ who. writes_close) 0 c.state is in
+      let last = finish_carried writes_carries (λ who. writes_close) None c.state is in
       journaled_twice name start (Waits start c.state.unwritten)
       (Waits start (finish_course c.state).state.unwritten) held [] c.acts
       (finish_course c.state).acts journaled last.1

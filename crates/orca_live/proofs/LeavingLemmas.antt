@@ -15,7 +15,7 @@ use Rattle.orca_term.specs.Keys.{Byte, Due, Item as KeyItem}
 use Rattle.orca_term.specs.declared.editor.Wish.{Wish}
 use Rattle.orca_term.specs.declared.editor.Wish.TheVariants as wish
 use Rattle.orca_term.specs.declared.keys.Key.{Key}
-use Rattle.orca_live.specs.Performing.{answered_at, byte_course, denied_course, due_course, finish_course, frame_course, hand_course, hush_course, item_course, key_course, knowing, last_grid_course, last_script_course, lines_course, live_part, lull_course, press_course, read_course, save_course, saves_course, script_course, struck_course, struck_where, take_course, wish_course, write_course}
+use Rattle.orca_live.specs.Performing.{answered_at, byte_course, denied_course, due_course, finish_course, frame_course, hand_course, hush_course, item_course, key_course, keys_course, knowing, last_grid_course, last_script_course, lines_course, live_part, lull_course, press_course, read_course, save_course, saves_course, script_course, struck_course, struck_well, struck_where, take_course, wish_course, write_course}
 use Rattle.orca_live.specs.States.{LiveState, fitted, hands_in, is_full, is_hand}
 use Rattle.orca_live.proofs.GivenLemmas.{finish_closes, journal_aside, paint_aside, show_aside, write_aside}
 
@@ -43,16 +43,20 @@ module _ (P : Stop → Type 0) (left : P Left) where
   where_leaves hand key s (Some denial) = tt
   where_leaves hand key s None = wish_leaves hand _ _
 
-  press_leaves : (hand : ℕ) (key : Option Key) (s : LiveState)
-      → IfSome (press_course hand key s).ending P
+  press_leaves : (hand : ℕ) (key : Key) (s : LiveState) → IfSome (press_course hand key s).ending P
   unfolding press_course key_course struck_course
-  press_leaves hand None s = tt
-  press_leaves hand (Some key) s = where_leaves hand key (fitted s) _
+  press_leaves hand key s = where_leaves hand key (fitted (struck_well hand key s)) _
+
+  keys_leave : (hand : ℕ) (keys : List Key) (s : LiveState)
+      → IfSome (keys_course hand keys s).ending P
+  unfolding keys_course
+  keys_leave hand keys s =
+      each-kind (λ end. IfSome end P) (press_course hand) tt (press_leaves hand) keys s
 
   item_by : (is : Bool) (hand : ℕ) (item : KeyItem) (s : LiveState)
       → IfSome (if is then read_course hand item s else still s).ending P
   unfolding read_course
-  item_by true hand item s = press_leaves hand _ _
+  item_by true hand item s = keys_leave hand _ _
   item_by false hand item s = tt
 
   item_leaves : (hand : ℕ) (item : KeyItem) (s : LiveState) → IfSome (item_course hand item s).ending P

@@ -14,6 +14,7 @@ pub mod JournalReads
 pub mod OwningLaw
 pub mod StrikingLemmas
 pub mod HearingLaw
+pub mod TellingLaw
 pub mod NamingLaw
 pub mod RedoKey
 pub mod SoloLaw

@@ -5,6 +5,7 @@ use Rattle.std.specs.Option.{option_map_or}
 use Rattle.std.proofs.lemmas.Bool.{le-leb}
 use Rattle.std.proofs.lemmas.List.{length-take-le}
 use Rattle.std.proofs.lemmas.Option.{none-some, same_Some}
+use Rattle.orca_jam.specs.declared.owner.TheConstants.{NOBODY}
 use Rattle.orca_base.specs.declared.command.Command.{Command}
 use Rattle.orca_base.specs.declared.command.Command.TheVariants as command
 use Rattle.orca_base.specs.declared.command.Entry.{Entry}
@@ -23,6 +24,8 @@ use Rattle.orca_course.specs.declared.item.Losses.{Losses}
 use Rattle.orca_edit.specs.Obeying.{MachineState, Obeyed, accept, adds_entry, carry_out, clip_after, entry_of, jump_to, obey, piece_of, refuse, rule_against, taken_area}
 use Rattle.orca_edit.proofs.RuleLemmas.{entered, has-room, some-moment}
 use Rattle.orca_jam.specs.Crews.{CrewState, denial_of, struck_by}
+use Rattle.orca_jam.specs.Denials.{rule_of_denial}
+use Rattle.orca_term.specs.declared.came.Came.TheVariants.{Denied, Kept}
 use Rattle.orca_jam.specs.Laws.{edits_of_others}
 use Rattle.orca_jam.specs.declared.denial.Denial.{Denial}
 use Rattle.orca_jam.specs.Owners.{owned}
@@ -32,8 +35,8 @@ use Rattle.orca_live.specs.Carrying.{Carries}
 use Rattle.orca_live.proofs.Carried.{Anyhow, begun_carried}
 use Rattle.orca_live.specs.Hands.{HasOwners, StartsWithOwners}
 use Rattle.orca_live.specs.Laws.{so_far}
-use Rattle.orca_live.specs.Performing.{hand_course, denied_course, key_course, obeyed_by, owning, picture_course, struck_course, struck_where, wish_course}
-use Rattle.orca_live.specs.States.{LiveState, around_at, fitted, unpainted, with_view}
+use Rattle.orca_live.specs.Performing.{hand_course, denied_course, key_course, obeyed_by, owning, picture_course, struck_course, struck_well, struck_where, wish_course}
+use Rattle.orca_live.specs.States.{LiveState, around_at, fitted, unpainted, with_view, with_word}
 
 -- the last edit is in the history
 edit_by : (last : Option ℕ) (edit : Bool) (n i : ℕ) → ((j : ℕ) → last ≡ Some j → j < n)
@@ -221,8 +224,12 @@ owns_carries = record {
   leaves = λ who s has. has;
   full = λ s is has. has;
   command = owns_command;
-  struck = λ who hand key s has. has;
-  denied = λ who hand denial s has. has;
+  frame = λ s. owns_command NOBODY command.Frame s (λ shared is. cc);
+  struck = λ who hand key s has. owns_same s (struck_well hand key s) refl refl has;
+  single = λ hand s owns. owns;
+  denied = λ who hand denial s has.
+      owns_same s (with_word hand (Denied (rule_of_denial denial)) s) refl refl has;
+  kept = λ who hand bytes s has. owns_same s (with_word hand Kept s) refl refl has;
   save = λ who name bytes s saved has. has;
   append = λ who name byte bytes s named is has.
       owns_same s (record s { unwritten = [] }) refl refl has;

@@ -6,6 +6,7 @@ use Rattle.std.proofs.lemmas.Bool.Decides.{nat_tests}
 use Rattle.std.proofs.lemmas.List.{get_or-set_other, get_or-set_same, length-set}
 use Rattle.std.proofs.lemmas.List.FromFn.{length-map-range_with_len}
 use Rattle.orca_base.specs.declared.command.Command.{Command}
+use Rattle.orca_base.specs.declared.command.Command.TheVariants.{Frame}
 use Rattle.orca_base.specs.declared.message.Message.{Message}
 use Rattle.orca_base.specs.declared.message.Message.TheVariants as message
 use Rattle.orca_base.specs.MarkSet.{MarkSet}
@@ -17,6 +18,7 @@ use Rattle.orca_course.specs.Performers.{performance}
 use Rattle.orca_course.specs.Standings.{Standing, notes_of, standing_after, standing_closed}
 use Rattle.orca_edit.specs.Obeying.{obey}
 use Rattle.orca_jam.specs.declared.crew.TheConstants.{LEADER}
+use Rattle.orca_jam.specs.declared.owner.TheConstants.{NOBODY}
 use Rattle.orca_notes.specs.Sound.{ends}
 use Rattle.orca_term.specs.Picture.{IsPrintable, IsScreen, picture, screen_cells}
 use Rattle.orca_term.specs.Viewing.{Shows, painting_bytes}
@@ -298,9 +300,12 @@ displays_carries hand = record {
   leaves = λ who s. displays_unseen hand s [] s refl refl tt;
   full = λ s is. displays_unseen hand s [] s refl refl tt;
   command = λ who command s other. displays_command hand who command s;
-  struck = λ who other key s. displays_unseen hand s _ s refl refl (refl, tt);
+  frame = λ s. displays_command hand NOBODY Frame s;
+  struck = λ who other key s. displays_unseen hand s _ _ refl refl (refl, tt);
+  single = λ other s displays. displays;
   denied = λ who other denial s.
-      displays_unseen hand s _ s refl refl (either_none (hand == LEADER), tt);
+      displays_unseen hand s _ _ refl refl (either_none (hand == LEADER), tt);
+  kept = λ who other bytes s. displays_unseen hand s _ _ refl refl (refl, tt);
   save = λ who name bytes s saved. displays_unseen hand s _ s refl refl (refl, tt);
   append = λ who name byte bytes s named is. displays_unseen hand s _ _ refl refl (refl, tt);
   paint = λ who marks other s is. displays_picture marks hand other s is;

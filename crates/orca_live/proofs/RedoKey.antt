@@ -1,14 +1,17 @@
 -- The key of Redo is given by its byte alone, outside of sequences and inside.
 use Rattle.std.proofs.Common.{◌≡◌, ◌≢◌, ℕ, ◌+◌, Bool, true, false, not, ◌&&◌, ◌||◌, List, [], ◌∷◌, refl, arith}
-use Rattle.std.specs.Prelude.{◌==◌, Option, Some, None, option_and_then}
+use Rattle.std.specs.Prelude.{◌==◌, if◌then◌else◌, Option, Some, None, IfSome, option_and_then}
+use Rattle.std.specs.Option.{option_map_or, option_to_list}
 use Rattle.std.proofs.lemmas.Bool.{and_parts}
 use Rattle.std.proofs.lemmas.Bool.Decides.{nat_tests}
+use Rattle.orca_base.specs.Ascii.{escape}
 use Rattle.orca_base.specs.declared.limits.TheConstants.{MAX_COLUMNS}
-use Rattle.orca_term.specs.Keys.{Item, Byte, Due, arrow_in, arrow_key, arrow_keys, button_key, edges, ended_key, found_in, further_keys, further_sequence, key_at_end, key_of, key_of_numbers, key_of_sequence, lone_keys, mouse_key, mouse_sequence, numbered_edges, numbered_keys, numbers_in, paged_key, pages, plain_key, plain_sequence, shifted_keys, arrow_sides, turn, wheel}
+use Rattle.orca_term.specs.Codes.{bracket, letter_o}
+use Rattle.orca_term.specs.Keys.{Item, Byte, Due, after, arrow_in, arrow_key, arrow_keys, awaits, button_key, edges, ended_key, ends_as, escape_and_o, is_collected, is_last, pending_with, single_key, turn_after_escape, turn_after_o, turn_alone, turn_inside, turn_outside, found_in, further_keys, further_sequence, key_at_end, key_of, key_of_numbers, key_of_sequence, lone_keys, mouse_key, mouse_sequence, numbered_edges, numbered_keys, numbers_in, paged_key, pages, plain_key, plain_sequence, shifted_keys, arrow_sides, turn, wheel}
 use Rattle.orca_term.specs.declared.keys.Key.{Key}
 use Rattle.orca_term.specs.declared.keys.Key.TheVariants as key
 use Rattle.orca_term.specs.declared.keys.Pending.{Pending}
-use Rattle.orca_term.specs.declared.keys.Pending.TheVariants.{Nothing, Lone, Sequence, Overlong}
+use Rattle.orca_term.specs.declared.keys.Pending.TheVariants.{Nothing, Lone, Single, Sequence, Overlong}
 use Rattle.orca_term.specs.declared.keys.Side.{Side}
 use Rattle.orca_term.specs.declared.limits.TheConstants.{RULER_PLACES}
 use Rattle.orca_live.specs.Solo.{redo_byte}
@@ -116,18 +119,92 @@ end_other : (full : Bool) (p : Pending) (last : ℕ) → IsOther (key_at_end ful
 unfolding key_of_sequence
 end_other full Nothing last = tt
 end_other full Lone last = tt
+end_other full Single last = tt
 end_other full (Sequence bytes) last =
     grind (arith, short_other bytes last, further_other bytes last)
 end_other full Overlong last = tt
 
 -- ---- the reader
 
+-- a list of other keys
+abbrev pub AreOther : List Key → Type 0
+AreOther [] = Unit {0}
+AreOther (k ∷ ks) = (is_redo k ≡ false) × AreOther ks
+
+listed_other : (k : Option Key) → IsOther k → AreOther (option_to_list k)
+listed_other None other = tt
+listed_other (Some k) other = (other, tt)
+
+-- one of two turns, by the keys that a turn gives
+either_other : {A : Type 0} (u : A) (keys : A → List Key) (b : Bool) (t : A) → AreOther (keys t)
+    → AreOther (keys u) → AreOther (keys (if b then t else u))
+either_other u keys true t first second = first
+either_other u keys false t first second = second
+
+outside_other : (full : Bool) (byte : ℕ) → byte ≢ redo_byte → AreOther (turn_outside full byte).keys
+outside_other full byte apart =
+    either_other (ends_as (key_of full byte)) (λ t. t.keys) (byte == escape) (awaits Lone) tt
+    (listed_other (key_of full byte) (byte_other full byte apart))
+
+alone_other : (full : Bool) (byte : ℕ) → byte ≢ redo_byte → AreOther (turn_alone full byte).keys
+alone_other false byte apart = outside_other false byte apart
+alone_other true byte apart =
+    either_other (after (key.Escape ∷ []) (turn_outside true byte)) (λ t. t.keys)
+    (byte == letter_o) (awaits Single) tt (refl, outside_other true byte apart)
+
+second_other : (full : Bool) (byte : ℕ) → byte ≢ redo_byte
+    → AreOther (if byte == escape then key.Escape ∷ [] else (turn_alone full byte).keys)
+second_other full byte apart =
+    either_other (turn_alone full byte).keys (λ keys. keys) (byte == escape) (key.Escape ∷ [])
+    (refl, tt) (alone_other full byte apart)
+
+escape_other : (full : Bool) (byte : ℕ) → byte ≢ redo_byte
+    → AreOther (turn_after_escape full byte).keys
+escape_other full byte apart = grind (arith, second_other full byte apart)
+
+-- a single shift, or none
+shift_other : {A : Type 0} (none : A) (keys : A → List Key) (ends : Option Key → A)
+    (single : Option (Option Key)) → IfSome single (λ k. AreOther (keys (ends k)))
+    → AreOther (keys none) → AreOther (keys (option_map_or ends single none))
+shift_other none keys ends None single other = other
+shift_other none keys ends (Some k) single other = single
+
+single_other : (byte : ℕ) → IfSome (single_key byte) IsOther
+single_other byte = grind (arith, ended_other byte 1)
+
+singles_other : (single : Option (Option Key)) → IfSome single IsOther
+    → IfSome single (λ k. AreOther (option_to_list k))
+singles_other None other = tt
+singles_other (Some k) other = listed_other k other
+
+o_other : (full : Bool) (byte : ℕ) → byte ≢ redo_byte → AreOther (turn_after_o full byte).keys
+o_other full byte apart =
+    shift_other (after escape_and_o (turn_outside full byte)) (λ t. t.keys) ends_as
+    (single_key byte) (singles_other (single_key byte) (single_other byte))
+    (refl, (refl, outside_other full byte apart))
+
+last_other : (full : Bool) (p : Pending) (byte : ℕ) → byte ≢ redo_byte
+    → AreOther (if is_last byte then ends_as (key_at_end full p byte) else turn_outside full byte).keys
+last_other full p byte apart =
+    either_other (turn_outside full byte) (λ t. t.keys) (is_last byte)
+    (ends_as (key_at_end full p byte))
+    (listed_other (key_at_end full p byte) (end_other full p byte)) (outside_other full byte apart)
+
+inside_other : (full : Bool) (p : Pending) (byte : ℕ) → byte ≢ redo_byte
+    → AreOther (turn_inside full p byte).keys
+inside_other full p byte apart =
+    either_other (if is_last byte then ends_as (key_at_end full p byte) else turn_outside full byte)
+    (λ t. t.keys) (is_collected byte) (awaits (pending_with p byte)) tt
+    (last_other full p byte apart)
+
 pub turn_other : (full : Bool) (p : Pending) (item : Item) → IsSpared item
-    → IsOther (turn full p item).key
+    → AreOther (turn full p item).keys
 unfolding turn
-turn_other full Nothing (Byte byte) apart = grind (arith, byte_other full byte apart)
-turn_other full Lone (Byte byte) apart = grind (arith, byte_other full byte apart)
-turn_other full (Sequence bytes) (Byte byte) apart =
-    grind (arith, end_other full (Sequence bytes) byte, byte_other full byte apart)
-turn_other full Overlong (Byte byte) apart = grind (arith, byte_other full byte apart)
-turn_other full p Due spared = grind arith
+turn_other full Nothing (Byte byte) apart = outside_other full byte apart
+turn_other full Lone (Byte byte) apart = escape_other full byte apart
+turn_other full Single (Byte byte) apart = o_other full byte apart
+turn_other full (Sequence bytes) (Byte byte) apart = inside_other full (Sequence bytes) byte apart
+turn_other full Overlong (Byte byte) apart = inside_other full Overlong byte apart
+turn_other full Lone Due spared = (refl, tt)
+turn_other full Single Due spared = (refl, (refl, tt))
+turn_other full p Due spared = tt

@@ -3,6 +3,7 @@ use Rattle.std.proofs.Common.{◌≡◌, ℕ, zero, suc, ◌+◌, List, [], ◌�
 use Rattle.std.specs.Prelude.{map, replicate, Option, Some, None, Result, Ok, Err}
 use Rattle.std.specs.List.{flat_map}
 use Rattle.std.specs.Option.{option_map, option_map_or}
+use Rattle.orca_jam.specs.declared.owner.TheConstants.{NOBODY}
 use Rattle.orca_base.specs.declared.command.Command.{Command}
 use Rattle.orca_base.specs.declared.command.Command.TheVariants as command
 use Rattle.orca_base.specs.declared.command.Reply.{Reply}
@@ -91,9 +92,12 @@ keeps_carries = record {
   both = λ who end. keeps_twice;
   leaves = λ who s. keeps_none s;
   full = λ s is. keeps_none s;
-  command = λ who command s other. keeps_command who command s;
+  command = λ hand command s other. keeps_command hand command s;
+  frame = λ s. keeps_command NOBODY command.Frame s;
   struck = λ who hand key s. keeps_none s;
+  single = λ hand s keeps. keeps;
   denied = λ who hand denial s. keeps_none s;
+  kept = λ who hand bytes s. keeps_none s;
   save = λ who name bytes s saved. keeps_none s;
   append = λ who name byte bytes s named is. keeps_none s;
   paint = λ who marks hand s is. keeps_paint marks hand s;

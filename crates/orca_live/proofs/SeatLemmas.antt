@@ -31,7 +31,7 @@ pub there_painted : (marks : List MarkSet) (hands : List ℕ) {s t : LiveState} 
     → AreThere s x → AreThere t y
 there_painted marks hands {s = s} {t = t} {x = x} {y = y} did there =
     there_after {c = each (painted_course marks) hands s} {s = s} {t = t} {x = x} {y = y}
-    (paints_carried deaf_carries 0 marks hands s) (paints_carried views_carries 0 marks hands s) did
+    (paints_carried deaf_carries None marks hands s) (paints_carried views_carries None marks hands s) did
     there
 
 -- steps alone were taken

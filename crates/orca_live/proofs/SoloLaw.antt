@@ -1,7 +1,8 @@
 -- One hand whose edits are its own plays as one that plays alone: what is done from its states is
 -- done from those of one that plays alone too, and it stays such a hand.
 use Rattle.std.proofs.Common.{◌≡◌, ◌≢◌, ℕ, zero, suc, arith, length, Bool, true, false, List, [], ◌∷◌, ◌++◌, refl, sym, ◌∙◌, ap, subst}
-use Rattle.std.specs.Prelude.{if◌then◌else◌, nat_le, nat_lt, Option, Some, None}
+use Rattle.std.specs.List.{range_with_len}
+use Rattle.std.specs.Prelude.{◌+◌, drop, if◌then◌else◌, map, take, nat_le, nat_lt, Option, Some, None}
 use Rattle.std.specs.Option.{option_map}
 use Rattle.std.proofs.lemmas.Bool.{le-ltb}
 use Rattle.std.proofs.lemmas.List.{length-map, length-set}
@@ -9,9 +10,10 @@ use Rattle.std.proofs.lemmas.List.Elements.{All-head, All-tail}
 use Rattle.orca_base.specs.declared.command.Command.{Command}
 use Rattle.orca_base.specs.declared.command.Command.TheVariants.{Frame}
 use Rattle.orca_base.specs.declared.command.Rule.{Rule}
+use Rattle.orca_base.specs.declared.place.Place.{Place}
 use Rattle.orca_base.specs.MarkSet.{MarkSet}
 use Rattle.orca_concert.specs.Concerts.{close_course as silence_course, command_course as obey_course}
-use Rattle.orca_course.specs.Acts.Act.{Strike}
+use Rattle.orca_course.specs.Acts.Act.{Show, Strike}
 use Rattle.orca_course.specs.Courses.{Course, course, each, ended, joined, lastly, lastly_by, mapped, onward, onward_by, still}
 use Rattle.orca_course.specs.Performers.{Hearing, Turn, begun, finished, first_turns, given_course, heard_turns, performance, turn_course}
 use Rattle.orca_course.specs.Performers.Turn.{Asked, Given, Learned, Over}
@@ -26,7 +28,7 @@ use Rattle.orca_course.proofs.CuttingLemmas.{Worth, counted, counting}
 use Rattle.orca_course.proofs.CuttingLemmas.Worth.{Counts, Nothing}
 use Rattle.orca_course.proofs.MidwayLemmas.{AreMidway, IsMidway, all_midway}
 use Rattle.orca_edit.specs.Machines.{preview_of}
-use Rattle.orca_jam.specs.Crews.{CrewState, asked, denial_of, fitted_player, player_at, struck_by, took_by, turned_by, with_player}
+use Rattle.orca_jam.specs.Crews.{CrewState, asked, cursor_of, denial_of, fitted_player, player_at, struck_by, took_by, turned_by, with_player}
 use Rattle.orca_jam.specs.Laws.{AreLeaders}
 use Rattle.orca_jam.specs.Owners.{owned}
 use Rattle.orca_jam.specs.declared.crew.TheConstants.{LEADER}
@@ -35,15 +37,18 @@ use Rattle.orca_jam.specs.declared.owner.TheConstants.{NOBODY}
 use Rattle.orca_jam.specs.declared.player.Player.{Player}
 use Rattle.orca_jam.proofs.LeaderLaws.{leader_is_free, leader_stays_free}
 use Rattle.orca_term.specs.Keys.{Byte, Due, Item as KeyItem, turn}
+use Rattle.orca_term.specs.Picture.{picture, scene_of}
+use Rattle.orca_term.specs.Viewing.{painting_bytes}
 use Rattle.orca_term.specs.declared.around.Around.{Around}
+use Rattle.orca_term.specs.declared.cell.Cell.{Cell}
 use Rattle.orca_term.specs.declared.editor.Wish.{Wish}
 use Rattle.orca_term.specs.declared.editor.Wish.TheVariants as wish
 use Rattle.orca_term.specs.declared.keys.Key.{Key}
 use Rattle.orca_live.specs.Items.{ByteOf, HeardItem, items_of}
-use Rattle.orca_live.specs.Performing.{answered_at, byte_course, due_course, finish_course, fired, frame_course, hand_course, header_course, hush_course, if_named, item_course, journal_course, key_course, knowing, last_grid_course, last_script_course, lines_course, live_part, lull_course, owning, paint_course, painted_course, picture_course, press_course, preview_course, read_course, save_course, saves_course, script_course, show_course, struck_course, struck_where, take_course, wish_course, write_course}
+use Rattle.orca_live.specs.Performing.{answered_at, byte_course, due_course, finish_course, fired, frame_course, hand_course, header_course, hush_course, if_named, item_course, journal_course, key_course, knowing, last_grid_course, last_script_course, lines_course, live_part, lull_course, owning, paint_course, painted_course, picture_course, press_course, preview_course, read_course, save_course, saves_course, script_course, show_course, struck_course, struck_where, take_course, wish_course, write_course, keys_course, painted_editor, struck_well, view_acts}
 use Rattle.orca_live.specs.Solo.{HasNoRedo, IsSolo, PlaysAlone, as_alone, redo_byte}
-use Rattle.orca_live.specs.States.{LiveState, around_at, begun_name, dims_at, fitted, hands_in, is_full, is_hand, is_viewer, leader_at, piece_at}
-use Rattle.orca_live.proofs.RedoKey.{IsOther, IsSpared, is_redo, turn_other}
+use Rattle.orca_live.specs.States.{LiveState, around_at, begun_name, dims_at, fitted, hands_in, is_full, is_hand, is_viewer, leader_at, piece_at, screen_at, status_line_at, view_at, with_view}
+use Rattle.orca_live.proofs.RedoKey.{AreOther, IsSpared, is_redo, turn_other}
 use Rattle.orca_live.proofs.WorthLemmas.{all_counted, worth_of}
 
 -- ---- courses
@@ -207,19 +212,26 @@ unfolding struck_course
 struck_agrees k other s solo =
     rw (leader_is_free s.crew k solo.own, lone_free s.crew LEADER k) (free_agrees k other s solo)
 
-press_agrees : (k : Option Key) → IsOther k → Alike (press_course LEADER k)
+press_agrees : (k : Key) → is_redo k ≡ false → Alike (press_course LEADER k)
 unfolding press_course key_course
-press_agrees None other s solo = agreed _ solo
-press_agrees (Some k) other s solo =
-    joined_agrees (course {E = Stop} (Strike LEADER k ∷ []) 0 s)
-    (struck_agrees k other (fitted s) (fitted_solo s solo))
+press_agrees k other s solo =
+    let t = struck_well LEADER k s in
+    joined_agrees (course {E = Stop} (Strike LEADER k ∷ []) 0 t)
+    (struck_agrees k other (fitted t) (fitted_solo t solo))
+
+keys_agree : (ks : List Key) → AreOther ks → Alike (keys_course LEADER ks)
+unfolding keys_course each
+keys_agree [] others s solo = agreed _ solo
+keys_agree (k ∷ ks) others s solo =
+    onward_agrees (each (press_course LEADER) ks) (press_agrees k others.0 s solo)
+    (λ on. keys_agree ks others.1)
 
 read_agrees : (item : KeyItem) → IsSpared item → Alike (read_course LEADER item)
 unfolding read_course
 read_agrees item spared s solo =
     let full = s.crew.full in
     let keys = (player_at s.crew LEADER).keys in
-    press_agrees (turn full keys item).key (turn_other full keys item spared)
+    keys_agree (turn full keys item).keys (turn_other full keys item spared)
     (record s { crew = turned_by LEADER item s.crew }) (player_solo s.crew _ solo)
 
 -- another hand is none of the crew
@@ -257,22 +269,53 @@ due_agrees s solo =
 
 -- ---- what is shown and written
 
-painted_agrees : (marks : List MarkSet) (hand : ℕ) → Alike (painted_course marks hand)
-unfolding painted_course picture_course
-painted_agrees marks hand s solo =
-    if_agrees (is_viewer hand s) (agreed (picture_course marks hand s) solo) (agreed (still s) solo)
+-- one hand has no other one beside it
+beside_none : (views : Bool) (players : List Player) → length players ≡ 1
+    → (if views then map cursor_of (take LEADER players ++ drop (LEADER + 1) players) else []) ≡ []
+beside_none false players one = refl
+beside_none true [] one = absurd (omega (arith, one))
+beside_none true (p ∷ []) one = refl
+beside_none true (p ∷ q ∷ players) one = absurd (omega (arith, one))
 
-paints_agree : (marks : List MarkSet) (hands : List ℕ)
-    → Alike (each (painted_course marks) hands)
+-- its picture, with these cursors of others
+abbrev picture_beside : List MarkSet → LiveState → List Place → List Cell
+picture_beside marks s others =
+    picture (screen_at LEADER s)
+    (scene_of (piece_at s).sheet marks
+    (record { editor = painted_editor LEADER s; others = others }))
+    (status_line_at LEADER s)
+
+abbrev painting_beside : List MarkSet → LiveState → List Place → Course LiveState Stop
+painting_beside marks s others =
+    let v = view_at LEADER s in
+    let cells = picture_beside marks s others in
+    course (view_acts LEADER (painting_bytes v.screen v.shown cells) ++ Show LEADER cells ∷ []) 0
+    (with_view LEADER (record v { shown = Some cells }) s)
+
+picture_agrees : (marks : List MarkSet) → Alike (picture_course marks LEADER)
+unfolding picture_course
+picture_agrees marks s solo = record {
+  same = ap (λ (others : List Place). lone (painting_beside marks s others))
+      (sym (beside_none s.crew.views s.crew.players solo.one));
+  solo = solo;
+}
+
+painted_agrees : (marks : List MarkSet) → Alike (painted_course marks LEADER)
+unfolding painted_course
+painted_agrees marks s solo =
+    if_agrees (is_viewer LEADER s) (picture_agrees marks s solo) (agreed (still s) solo)
+
+paints_agree : (marks : List MarkSet) → Alike (each (painted_course marks) (LEADER ∷ []))
 unfolding each
-paints_agree marks [] s solo = agreed _ solo
-paints_agree marks (hand ∷ hands) s solo =
-    onward_agrees (each (painted_course marks) hands) (painted_agrees marks hand s solo)
-    (λ on. paints_agree marks hands)
+paints_agree marks s solo =
+    onward_agrees {E = Stop} still (painted_agrees marks s solo) (λ on t one. agreed (still t) one)
 
 paint_agrees : (marks : List MarkSet) → Alike (paint_course marks)
 unfolding paint_course
-paint_agrees marks s solo = paints_agree marks (hands_in s) (fitted s) (fitted_solo s solo)
+paint_agrees marks s solo =
+    subst (λ (n : ℕ). Agrees (each (painted_course marks) (range_with_len 0 n) (fitted s))
+    (each (painted_course marks) (range_with_len 0 n) (fitted (as_alone s)))) (sym solo.one)
+    (paints_agree marks (fitted s) (fitted_solo s solo))
 
 show_agrees : Alike show_course
 unfolding show_course preview_course

@@ -16,7 +16,7 @@ use Rattle.orca_course.specs.Courses.{Course, each, ended, mapped, onward, still
 use Rattle.orca_course.specs.Standings.{Standing, standing_after}
 use Rattle.orca_course.specs.declared.ending.Stop.{Stop}
 use Rattle.orca_course.specs.declared.ending.Stop.TheVariants.{Full}
-use Rattle.orca_course.proofs.CourseLemmas.{onward_goes}
+use Rattle.orca_course.proofs.CourseLemmas.{each-holds, goes_both, onward_goes}
 use Rattle.orca_edit.specs.Machines.{preview_of}
 use Rattle.orca_edit.specs.Obeying.{obey}
 use Rattle.orca_jam.specs.Crews.{asked, denial_of, fitted_player, new_player, player_at, struck_by, turned_by, turned_player}
@@ -30,11 +30,11 @@ use Rattle.orca_term.specs.declared.editor.Editor.{Editor}
 use Rattle.orca_term.specs.declared.editor.Wish.{Wish}
 use Rattle.orca_term.specs.declared.editor.Wish.TheVariants as wish
 use Rattle.orca_term.specs.declared.keys.Key.{Key}
-use Rattle.orca_live.specs.Hands.{Change, IsMadeBy, editor_by, key_of, keys_of}
+use Rattle.orca_live.specs.Hands.{Change, IsMadeBy, editor_by, keys_of}
 use Rattle.orca_live.specs.Hands.Change.{Denied, Fitted, Struck}
-use Rattle.orca_live.specs.Performing.{additions, denied_course, fired, hand_course, header_course, if_named, journal_course, key_course, lines_course, paint_course, painted_course, picture_course, press_course, preview_course, read_course, save_course, show_course, struck_course, struck_where, view_acts, wish_course, write_course}
+use Rattle.orca_live.specs.Performing.{additions, denied_course, fired, hand_course, header_course, if_named, journal_course, key_course, lines_course, paint_course, painted_course, picture_course, press_course, preview_course, read_course, save_course, show_course, struck_course, struck_where, view_acts, wish_course, write_course, keys_course, struck_well}
 use Rattle.orca_live.specs.States.{LiveState, around_at, begun_name, dims_at, editor_at, fitted, hands_in, is_hand, is_viewer, leader_at, piece_at}
-use Rattle.orca_live.proofs.CuttingLaw.{owning_hands}
+use Rattle.orca_live.proofs.CuttingLaw.{owning_hands, press_hands}
 
 -- ---- keys among acts
 
@@ -47,7 +47,7 @@ if_same : (own : Bool) (key : Key) (xs ys : List Key) → xs ≡ ys
     → (if own then key ∷ xs else xs) ≡ (if own then key ∷ ys else ys)
 if_same own key xs ys same = ap (λ (zs : List Key). if own then key ∷ zs else zs) same
 
-keys_in-append : (hand : ℕ) (xs ys : List Act)
+pub keys_in-append : (hand : ℕ) (xs ys : List Act)
     → keys_in hand (xs ++ ys) ≡ keys_in hand xs ++ keys_in hand ys
 keys_in-append hand [] ys = refl
 keys_in-append hand (Strike other key ∷ xs) ys =
@@ -56,14 +56,14 @@ keys_in-append hand (Strike other key ∷ xs) ys =
 keys_in-append hand (_ ∷ xs) ys = keys_in-append hand xs ys
 
 -- a key of a hand, and then acts without one
-keys_own : (hand : ℕ) (key : Key) (acts : List Act) → keys_in hand acts ≡ []
+key_own : (hand : ℕ) (key : Key) (acts : List Act) → keys_in hand acts ≡ []
     → keys_in hand (Strike hand key ∷ acts) ≡ key ∷ []
-keys_own hand key acts none =
+key_own hand key acts none =
     let same : (hand == hand) ≡ true = grind (arith, nat_tests) in rw (same, none) refl
 
-keys_other : (hand other : ℕ) (key : Key) (acts : List Act) → (other == hand) ≡ false
+key_other : (hand other : ℕ) (key : Key) (acts : List Act) → (other == hand) ≡ false
     → keys_in hand acts ≡ [] → keys_in hand (Strike other key ∷ acts) ≡ []
-keys_other hand other key acts differs none = rw differs none
+key_other hand other key acts differs none = rw differs none
 
 -- ---- what is made of an editor
 
@@ -162,7 +162,7 @@ handed_keys : (hand : ℕ) (sends : List Sent) (at : Standing)
 handed_keys hand [] at = refl
 handed_keys hand (sent ∷ sends) at = handed_keys hand sends at
 
-command_silent : (hand who : ℕ) (command : Command) (s : LiveState)
+pub command_silent : (hand who : ℕ) (command : Command) (s : LiveState)
     → keys_in hand (hand_course who command s).acts ≡ []
 unfolding hand_course obey_course onward mapped
 command_silent hand who command s =
@@ -258,62 +258,86 @@ where_other hand other key s None differs =
     (get_or-set_other s.crew.players other hand _ (new_player false)
     (λ same. eqb-false other hand differs (sym same)))
 
-press_own : (hand : ℕ) (key : Option Key) (s : LiveState) → hand < length s.crew.players
-    → Strikes hand (key_of key) s (press_course hand key s).acts (press_course hand key s).state
+press_own : (hand : ℕ) (key : Key) (s : LiveState) → hand < length s.crew.players
+    → Strikes hand (key ∷ []) s (press_course hand key s).acts (press_course hand key s).state
 unfolding press_course key_course struck_course
-press_own hand None s below = strikes_same hand s [] s refl refl
-press_own hand (Some key) s below =
-    let t = fitted s in
+press_own hand key s below =
+    let t = fitted (struck_well hand key s) in
     let denial = denial_of t.crew hand key in
     let there = subst (λ (n : ℕ). hand < n)
     (sym (length-map s.crew.players (fitted_player (dims_at s)))) below in
     record {
-      own = keys_own hand key (struck_where hand key t denial).acts
+      own = key_own hand key (struck_where hand key t denial).acts
           (where_silent hand hand key t denial);
       moves = made_twice [] (key ∷ []) _ _ _ (fitted_made (dims_at s) s.crew.players hand)
           (where_own hand key t denial there);
     }
 
-press_other : (hand other : ℕ) (key : Option Key) (s : LiveState) → (other == hand) ≡ false
+press_other : (hand other : ℕ) (key : Key) (s : LiveState) → (other == hand) ≡ false
     → Strikes hand [] s (press_course other key s).acts (press_course other key s).state
 unfolding press_course key_course struck_course
-press_other hand other None s differs = strikes_same hand s [] s refl refl
-press_other hand other (Some key) s differs =
-    let t = fitted s in
+press_other hand other key s differs =
+    let t = fitted (struck_well other key s) in
     let denial = denial_of t.crew other key in
     record {
-      own = keys_other hand other key (struck_where other key t denial).acts differs
+      own = key_other hand other key (struck_where other key t denial).acts differs
           (where_silent hand other key t denial);
       moves = made_twice [] [] _ _ _ (fitted_made (dims_at s) s.crew.players hand)
           (made_none _ _ (where_other hand other key t denial differs));
     }
 
+-- where the course of keys goes on, all of them were struck
+keys_own : (hand : ℕ) (keys : List Key) (s : LiveState) → hand < length s.crew.players
+    → (keys_course hand keys s).ending ≡ None
+    → Strikes hand keys s (keys_course hand keys s).acts (keys_course hand keys s).state
+unfolding keys_course each
+keys_own hand [] s below goes = strikes_same hand s [] s refl refl
+keys_own hand (key ∷ keys) s below goes =
+    let c = press_course hand key s in
+    let next = each (press_course hand) keys in
+    let both = goes_both c next goes in
+    let d = next c.state in
+    let there = subst (λ (n : ℕ). hand < n) (sym (press_hands hand key s)) below in
+    subst (λ (e : Course LiveState Stop). Strikes hand (key ∷ keys) s e.acts e.state)
+    (sym (onward_goes c next both.0))
+    (strikes_twice hand (key ∷ []) keys s c.state d.state c.acts d.acts (press_own hand key s below)
+    (keys_own hand keys c.state there both.1))
+
+keys_other : (hand other : ℕ) (keys : List Key) (s : LiveState) → (other == hand) ≡ false
+    → Strikes hand [] s (keys_course other keys s).acts (keys_course other keys s).state
+unfolding keys_course
+keys_other hand other keys s differs =
+    each-holds (Strikes hand []) (press_course other) (λ t. strikes_same hand t [] t refl refl)
+    (λ r s t xs ys. strikes_twice hand [] [] r s t xs ys)
+    (λ key t. press_other hand other key t differs) keys s
+
 -- an item of a hand ends its keys, and none of another one's
 pub read_own : (hand : ℕ) (item : Item) (s : LiveState) → is_hand hand s ≡ true
-    → Strikes hand (key_of (turn s.crew.full (player_at s.crew hand).keys item).key) s
+    → (read_course hand item s).ending ≡ None
+    → Strikes hand (turn s.crew.full (player_at s.crew hand).keys item).keys s
     (read_course hand item s).acts (read_course hand item s).state
 unfolding read_course
-read_own hand item s is =
+read_own hand item s is goes =
     let full = s.crew.full in
-    let key = (turn full (player_at s.crew hand).keys item).key in
+    let keys = (turn full (player_at s.crew hand).keys item).keys in
     let p : Player = turned_player full item (player_at s.crew hand) in
     let t : LiveState = record s { crew = turned_by hand item s.crew } in
-    let c = press_course hand key t in
+    let c = keys_course hand keys t in
     let below = subst (λ (n : ℕ). hand < n) (sym (length-set s.crew.players hand p))
     (ltb-true hand (length s.crew.players) is) in
-    strikes_twice hand [] (key_of key) s t c.state [] c.acts (strikes_turned hand hand item s)
-    (press_own hand key t below)
+    strikes_twice hand [] keys s t c.state [] c.acts (strikes_turned hand hand item s)
+    (keys_own hand keys t below goes)
 
 pub read_other : (hand other : ℕ) (item : Item) (s : LiveState) → (other == hand) ≡ false
     → Strikes hand [] s (read_course other item s).acts (read_course other item s).state
 unfolding read_course
 read_other hand other item s differs =
     let full = s.crew.full in
-    let key = (turn full (player_at s.crew other).keys item).key in
+    let keys = (turn full (player_at s.crew other).keys item).keys in
     let t : LiveState = record s { crew = turned_by other item s.crew } in
-    let c = press_course other key t in
+    let c = keys_course other keys t in
     strikes_twice hand [] [] s t c.state [] c.acts (strikes_turned hand other item s)
-    (press_other hand other key t differs)
+    (keys_other hand other keys t differs)
 
 -- ---- what is written and shown
 
@@ -359,7 +383,7 @@ journal_silent hand s =
     silent_named hand (begun_name s.setting) header_course s
     (λ name. record { strikes = strikes_same hand s _ _ refl refl; goes = refl })
 
-views_keys : (hand to : ℕ) (bytes : List ℕ) (cells : List Cell)
+pub views_keys : (hand to : ℕ) (bytes : List ℕ) (cells : List Cell)
     → keys_in hand (view_acts to bytes ++ Show to cells ∷ []) ≡ []
 views_keys hand to [] cells = refl
 views_keys hand zero (byte ∷ bytes) cells = refl

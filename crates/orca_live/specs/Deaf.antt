@@ -2,7 +2,9 @@
 -- shown a picture.
 use Rattle.std.proofs.Common.{◌≡◌, ℕ, zero, suc, List, [], ◌∷◌, ◌++◌, length, refl, ◌∙◌, ap}
 use Rattle.std.proofs.lemmas.List.{length-set}
+use Rattle.std.specs.Prelude.{None}
 use Rattle.orca_base.specs.declared.command.Command.{Command}
+use Rattle.orca_base.specs.declared.command.Command.TheVariants.{Frame}
 use Rattle.orca_base.specs.MarkSet.{MarkSet}
 use Rattle.orca_concert.specs.Concerts.{command_course as obey_course, close_course as silence_course, concert_with}
 use Rattle.orca_concert.proofs.DeafLemmas.{close_is_deaf, command_is_deaf}
@@ -11,6 +13,7 @@ use Rattle.orca_course.specs.Acts.Act.{Show}
 use Rattle.orca_course.specs.Courses.{mapped, onward}
 use Rattle.orca_course.specs.Performers.{IsDeaf, KeepsSeats}
 use Rattle.orca_course.proofs.ActLemmas.{AreDeaf-append}
+use Rattle.orca_jam.specs.declared.owner.TheConstants.{NOBODY}
 use Rattle.orca_term.specs.Viewing.{painting_bytes}
 use Rattle.orca_live.specs.Performing.{hand_course, hush_course, live_part, picture_course, picture_for, view_acts}
 use Rattle.orca_live.specs.Quiet.{silent_manner}
@@ -49,9 +52,12 @@ deaf_carries = record {
   both = λ who end r s t xs ys first second. AreDeaf-append xs ys first second;
   leaves = λ who s. tt;
   full = λ s is. tt;
-  command = λ who command s other. command_deaf who command s;
+  command = λ hand command s other. command_deaf hand command s;
+  frame = λ s. command_deaf NOBODY Frame s;
   struck = λ who hand key s. tt;
+  single = λ hand s deaf. deaf;
   denied = λ who hand denial s. tt;
+  kept = λ who hand bytes s. tt;
   save = λ who name bytes s saved. tt;
   append = λ who name byte bytes s named is. tt;
   paint = λ who marks hand s is. picture_deaf marks hand s;
@@ -60,7 +66,7 @@ deaf_carries = record {
 
 pub live_is_deaf : IsDeaf live_part
 unfolding IsDeaf
-live_is_deaf i s = take_carried deaf_carries (λ who name s. tt) (λ who. close_deaf) 0 i s
+live_is_deaf i s = take_carried deaf_carries (λ who name s. tt) (λ who. close_deaf) None i s
 
 -- ---- the hands that are shown a picture
 
@@ -88,10 +94,13 @@ views_carries = record {
   both = λ who end r s t xs ys first second. second ∙ first;
   leaves = λ who s. refl;
   full = λ s is. refl;
-  command = λ who command s other.
-      same_views s (hand_course who command s).state (command_views who command s);
+  command = λ hand command s other.
+      same_views s (hand_course hand command s).state (command_views hand command s);
+  frame = λ s. same_views s (hand_course NOBODY Frame s).state (command_views NOBODY Frame s);
   struck = λ who hand key s. refl;
+  single = λ hand s same. same;
   denied = λ who hand denial s. refl;
+  kept = λ who hand bytes s. refl;
   save = λ who name bytes s saved. refl;
   append = λ who name byte bytes s named is. refl;
   paint = λ who marks hand s is. picture_views marks hand s;
@@ -102,4 +111,4 @@ pub live_is_steady : KeepsSeats live_part
 unfolding KeepsSeats
 live_is_steady i s =
     take_carried views_carries (λ who name s. refl)
-    (λ who s. same_views s (hush_course s).state (close_views s)) 0 i s
+    (λ who s. same_views s (hush_course s).state (close_views s)) None i s

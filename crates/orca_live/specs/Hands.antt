@@ -5,7 +5,7 @@ use Rattle.orca_base.specs.declared.command.Command.{Command}
 use Rattle.orca_base.specs.declared.command.Command.TheVariants as command
 use Rattle.orca_base.specs.Grids.{Size}
 use Rattle.orca_course.specs.Acts.{Act, commands_in, keys_in}
-use Rattle.orca_course.specs.Acts.Act.{Await, Obey}
+use Rattle.orca_course.specs.Acts.Act.{Await, Obey, Strike}
 use Rattle.orca_course.specs.Performers.{Hearing}
 use Rattle.orca_course.specs.Standings.{Standing}
 use Rattle.orca_course.specs.declared.item.Losses.{Losses}
@@ -18,7 +18,7 @@ use Rattle.orca_jam.specs.declared.owner.TheConstants.{NOBODY}
 use Rattle.orca_rig.specs.declared.inbox.Answer.{Answer}
 use Rattle.orca_rig.specs.declared.inbox.Answer.TheVariants as answer
 use Rattle.orca_term.specs.Editing.{editor_after, editor_inside}
-use Rattle.orca_term.specs.Keys.{Byte, Due, Item, turn}
+use Rattle.orca_term.specs.Keys.{Byte, Due, Item, keys_from, turn}
 use Rattle.orca_term.specs.declared.around.Around.{Around}
 use Rattle.orca_term.specs.declared.editor.Editor.{Editor}
 use Rattle.orca_term.specs.declared.keys.Key.{Key}
@@ -51,17 +51,6 @@ abbrev pub pending_after : Bool → Pending → List Item → Pending
 pending_after full pending [] = pending
 pending_after full pending (item ∷ items) =
     pending_after full (turn full pending item).pending items
-
--- the key that was ended, if any
-abbrev pub key_of : Option Key → List Key
-key_of None = []
-key_of (Some key) = key ∷ []
-
--- the keys that these items end
-abbrev pub keys_after : Bool → Pending → List Item → List Key
-keys_after full pending [] = []
-keys_after full pending (item ∷ items) =
-    let t = turn full pending item in key_of t.key ++ keys_after full t.pending items
 
 -- what changes an editor: a key of its hand, which is told this; one that is denied, and moves
 -- nothing; and the size of the grid
@@ -108,7 +97,7 @@ pub record HearsEach (s : LiveState) : Type 0 where
       → let c = so_far s opening heard in
       c.ending ≡ None
       → keys_in hand c.acts
-      ≡ keys_after s.crew.full (player_at s.crew hand).keys
+      ≡ keys_from s.crew.full (player_at s.crew hand).keys
       (items_for hand (items_of (length s.crew.players) heard))
   pub moves : (opening : Losses) (heard : List Hearing) (hand : ℕ) → is_hand hand s ≡ true
       → let c = so_far s opening heard in
@@ -134,11 +123,17 @@ StartsWithOwners =
     → begins.machine.history ≡ [] → begins.machine.limit ≤ room
     → HasOwners (live_at_start set (crew_at_start full views hands room) at begins)
 
--- who gives the commands that an answer brings: the hand whose bytes came, or nobody, where a frame
--- is due
-abbrev pub giver : Answer → ℕ
-giver (answer.Bytes hand count at) = hand
-giver _ = NOBODY
+-- the hand whose bytes an answer brings, if it brings any
+abbrev pub giver : Answer → Option ℕ
+giver (answer.Bytes hand count at) = Some hand
+giver _ = None
+
+-- who gives a command: the hand whose bytes came. Where a frame is due nobody gives the frame, and
+-- the hand that struck a key last gives another command
+abbrev pub given_by : Option ℕ → ℕ → Command → ℕ
+given_by (Some hand) struck command = hand
+given_by None struck command.Frame = NOBODY
+given_by None struck command = struck
 
 -- the owners after a command of a hand, or of nobody: a refused one changes none of them
 abbrev pub owners_given : ℕ → Command → MachineState → List Owner → List Owner
@@ -146,23 +141,26 @@ owners_given who command machine owners =
     option_map_or (λ rule. owners) (rule_against machine command)
     (owned who command (length (obey machine command).machine.history) owners)
 
--- the owners after acts: each command is of whoever the last answer came from
-abbrev pub owners_after : ℕ → List Act → MachineState → List Owner → List Owner
-owners_after who [] machine owners = owners
-owners_after who (Await poll ∷ acts) machine owners =
-    owners_after (giver poll.answer) acts machine owners
-owners_after who (Obey command ∷ acts) machine owners =
-    owners_after who acts (obey machine command).machine (owners_given who command machine owners)
-owners_after who (_ ∷ acts) machine owners = owners_after who acts machine owners
+-- the owners after acts: each command is of whoever gives it, by the last answer and the last key
+abbrev pub owners_after : Option ℕ → ℕ → List Act → MachineState → List Owner → List Owner
+owners_after who struck [] machine owners = owners
+owners_after who struck (Await poll ∷ acts) machine owners =
+    owners_after (giver poll.answer) struck acts machine owners
+owners_after who struck (Strike hand key ∷ acts) machine owners =
+    owners_after who hand acts machine owners
+owners_after who struck (Obey command ∷ acts) machine owners =
+    owners_after who struck acts (obey machine command).machine
+    (owners_given (given_by who struck command) command machine owners)
+owners_after who struck (_ ∷ acts) machine owners = owners_after who struck acts machine owners
 
--- hands that share a session keep whose each entry is, wherever they stand: what came of the bytes
+-- hands that share a session keep whose each entry is, wherever they stand: what came of the keys
 -- of a hand is this hand's, and a frame of the clock is nobody's. So an undo that is neither denied
 -- to a hand nor refused leaves every edit of every other hand, in order
 pub record SharesSession (s : LiveState) : Type 0 where
   pub owners : (opening : Losses) (heard : List Hearing) → HasOwners (so_far s opening heard).state
   pub names : (opening : Losses) (heard : List Hearing)
       → let c = so_far s opening heard in
-      c.state.crew.owners ≡ owners_after NOBODY c.acts s.standing.machine s.crew.owners
+      c.state.crew.owners ≡ owners_after None NOBODY c.acts s.standing.machine s.crew.owners
   pub spares : (opening : Losses) (heard : List Hearing) (hand : ℕ)
       → let t = (so_far s opening heard).state in
       let u = (hand_course hand command.Undo t).state in

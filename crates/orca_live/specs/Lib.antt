@@ -10,4 +10,5 @@ pub mod Performing
 pub mod Quiet
 pub mod Solo
 pub mod Starting
+pub mod Telling
 pub mod States

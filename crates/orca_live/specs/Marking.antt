@@ -1,4 +1,5 @@
--- What a picture is made of besides its screen: a grid, marks, an editor and the status line.
+-- What a picture is made of besides its screen: a grid, marks, what is laid over
+-- the grid, and the status line.
 use Rattle.std.specs.Prelude.{List, []}
 use Rattle.orca_base.specs.Grids.{Sheet}
 use Rattle.orca_base.specs.MarkSet.{MarkSet}
@@ -16,4 +17,4 @@ marks_by Scanned marks = marks
 
 -- the picture of a grid with these marks
 abbrev pub pictured : ScreenSize → Sheet → List MarkSet → Margin → List Cell
-pictured d sheet marks margin = picture d (scene_of sheet marks margin.editor) margin.line
+pictured d sheet marks margin = picture d (scene_of sheet marks margin.over) margin.line

@@ -1,5 +1,5 @@
 -- The definition of a performance: what is done for a key, for an item, and at the end.
-use Rattle.std.specs.Prelude.{ℕ, zero, Bool, true, false, ◌||◌, nat_le, if◌then◌else◌, List, [], ◌∷◌, ◌++◌, length, Option, Some, None, unwrap_or}
+use Rattle.std.specs.Prelude.{ℕ, zero, Bool, true, false, ◌||◌, nat_le, if◌then◌else◌, List, [], ◌∷◌, ◌++◌, length, slice_set, Option, Some, None, unwrap_or}
 use Rattle.std.specs.Option.{option_map}
 use Rattle.orca_base.specs.declared.command.Command.{Command}
 use Rattle.orca_base.specs.declared.command.Command.TheVariants.{Copy, Frame}
@@ -20,24 +20,29 @@ use Rattle.orca_course.specs.declared.item.Item.TheVariants as item
 use Rattle.orca_edit.specs.Machines.{preview_of}
 use Rattle.orca_edit.specs.Prices.{preview_price}
 use Rattle.orca_grid.specs.GridText.{text_of}
-use Rattle.orca_jam.specs.Crews.{CrewState, asked, denial_of, player_at, struck_by, took_by, turned_by}
-use Rattle.orca_jam.specs.Denials.{denial_line}
+use Rattle.orca_jam.specs.Crews.{CrewState, asked, cursors_beside, denial_of, player_at, struck_by, took_by, turned_by}
+use Rattle.orca_jam.specs.Denials.{denial_line, rule_of_denial}
 use Rattle.orca_jam.specs.declared.denial.Denial.{Denial}
 use Rattle.orca_jam.specs.declared.owner.TheConstants.{NOBODY}
 use Rattle.orca_script.specs.Canonical.{printed}
 use Rattle.orca_script.specs.Runs.{printed_header, printed_script}
+use Rattle.orca_term.specs.Came.{came_to}
 use Rattle.orca_term.specs.Keys.{Byte, Due, Item as KeyItem, turn}
 use Rattle.orca_term.specs.Pacing.{due_after, faster, pace_from, retimed, slower}
 use Rattle.orca_term.specs.Picture.{picture, scene_of, screen_inside}
 use Rattle.orca_term.specs.Viewing.{painting_bytes}
+use Rattle.orca_term.specs.declared.came.Came.{Came}
+use Rattle.orca_term.specs.declared.came.Came.TheVariants.{Denied, Kept, Well}
 use Rattle.orca_term.specs.declared.cell.Cell.{Cell}
 use Rattle.orca_term.specs.declared.cell.ScreenSize.{ScreenSize}
 use Rattle.orca_term.specs.declared.editor.Editor.{Editor}
 use Rattle.orca_term.specs.declared.editor.Wish.{Wish}
 use Rattle.orca_term.specs.declared.editor.Wish.TheVariants as wish
 use Rattle.orca_term.specs.declared.keys.Key.{Key}
+use Rattle.orca_term.specs.declared.keys.Key.TheVariants as key
+use Rattle.orca_term.specs.declared.overlay.Overlay.{Overlay}
 use Rattle.orca_live.specs.Quiet.{silent_manner}
-use Rattle.orca_live.specs.States.{LiveState, around_at, begun_name, editor_at, fitted, hands_in, is_full, is_hand, is_viewer, key_name, leader_at, live_stance, piece_at, screen_at, status_line_at, unpainted, until_at, view_at, with_view}
+use Rattle.orca_live.specs.States.{LiveState, around_at, begun_name, editor_at, fitted, hands_in, is_full, is_hand, is_viewer, key_name, leader_at, live_stance, piece_at, screen_at, status_line_at, unpainted, until_at, view_at, with_view, with_word}
 
 -- what is done under a name, if there is one
 abbrev pub if_named : Option (List ℕ) → (List ℕ → LiveState → Course LiveState Stop) → LiveState
@@ -79,12 +84,14 @@ loosens Frame None = false
 loosens (Copy rect) None = false
 loosens command None = true
 
--- a command of a hand, or of nobody, is kept, and led the session there
+-- a command of a hand, or of nobody, is kept, and led the session there; the hand is told what it
+-- came to
 abbrev pub obeyed_by : ℕ → Command → LiveState → Standing → LiveState
 obeyed_by who command s at = record (keeping_command command s) {
   standing = at;
   loose = s.loose || loosens command at.tally.refusal;
   crew = owning who command at.tally.refusal (length at.machine.history) s.crew;
+  words = slice_set s.words who (came_to at.tally.refusal);
 }
 
 -- a command of a hand, or of nobody, is done
@@ -149,7 +156,7 @@ unfoldable pub wish_course : ℕ → Wish → LiveState → Course LiveState Sto
 wish_course hand wish.Nothing s = still s
 wish_course hand (wish.Do command) s = hand_course hand command s
 wish_course hand wish.Toggle s = still (toggled s)
-wish_course hand wish.Save s = save_course (key_name s.setting) s
+wish_course hand wish.Save s = save_course (key_name s.setting) (with_word hand Kept s)
 wish_course hand wish.Quit s = ended Left s
 wish_course hand (wish.Slower beats) s = still (paced (slower beats s.pace.bpm) s)
 wish_course hand (wish.Faster beats) s = still (paced (faster beats s.pace.bpm) s)
@@ -161,7 +168,8 @@ abbrev pub telling : ℕ → Denial → Act
 telling hand denial = Give (record { port = port.Fault; bytes = denial_line hand denial })
 
 unfoldable pub denied_course : ℕ → Denial → LiveState → Course LiveState Stop
-denied_course hand denial s = course (telling hand denial ∷ []) 0 s
+denied_course hand denial s =
+    course (telling hand denial ∷ []) 0 (with_word hand (Denied (rule_of_denial denial)) s)
 
 -- a key of a hand, where the editors are fitted to the grid, and why it is denied, if it is
 abbrev pub struck_where : ℕ → Key → LiveState → Option Denial → Course LiveState Stop
@@ -179,16 +187,29 @@ struck_course hand key s = struck_where hand key s (denial_of s.crew hand key)
 unfoldable pub key_course : ℕ → Key → LiveState → Course LiveState Stop
 key_course hand key s = struck_course hand key (fitted s)
 
--- the key of a hand that was ended, if any: it is struck, and the editor of this hand follows it
-unfoldable pub press_course : ℕ → Option Key → LiveState → Course LiveState Stop
-press_course hand None s = still s
-press_course hand (Some key) s =
-    joined (course {E = Stop} (Strike hand key ∷ []) 0 s) (key_course hand key s)
+-- what keys came to, once a key of a hand is struck: all is well so far, unless it is the key by
+-- which a terminal tells its size
+abbrev pub words_at_key : ℕ → Key → List Came → List Came
+words_at_key hand (key.Screen rows columns) words = words
+words_at_key hand _ words = slice_set words hand Well
+
+abbrev pub struck_well : ℕ → Key → LiveState → LiveState
+struck_well hand key s = record s { words = words_at_key hand key s.words }
+
+-- a key of a hand that was ended: it is struck, and the editor of this hand follows it
+unfoldable pub press_course : ℕ → Key → LiveState → Course LiveState Stop
+press_course hand key s =
+    let t = struck_well hand key s in
+    joined (course {E = Stop} (Strike hand key ∷ []) 0 t) (key_course hand key t)
+
+-- keys of a hand, in their order: each as if it had come by itself
+unfoldable pub keys_course : ℕ → List Key → LiveState → Course LiveState Stop
+keys_course hand keys s = each (press_course hand) keys s
 
 -- the reader of a hand is given an item: a byte, or that nothing came for a while
 unfoldable pub read_course : ℕ → KeyItem → LiveState → Course LiveState Stop
 read_course hand item s =
-    press_course hand (turn s.crew.full (player_at s.crew hand).keys item).key
+    keys_course hand (turn s.crew.full (player_at s.crew hand).keys item).keys
     (record s { crew = turned_by hand item s.crew })
 
 -- an item of a hand. What comes of a hand that there is not is dropped
@@ -211,8 +232,7 @@ frame_course s =
     if is_full s then ended Full s
     else onward (hand_course NOBODY Frame s) (λ t. still (fired t))
 
--- nothing came for a while: an ESC of each hand that stands alone is a key, in the order of the
--- hands
+-- nothing came for a while: what is pending of a hand may be keys then, in the order of the hands
 unfoldable pub lull_course : LiveState → Course LiveState Stop
 lull_course s = each (λ hand. item_course hand Due) (hands_in s) s
 
@@ -233,11 +253,17 @@ view_acts hand bytes = Tell hand bytes ∷ []
 abbrev pub painted_editor : ℕ → LiveState → Editor
 painted_editor hand s = record (editor_at hand s) { paused = (leader_at s).paused }
 
+-- what its picture lays over the grid: that, and the cursors of the other hands, where each hand
+-- has a picture
+abbrev pub overlay_at : ℕ → LiveState → Overlay
+overlay_at hand s =
+    record { editor = painted_editor hand s; others = cursors_beside s.crew hand }
+
 -- the picture of a hand on its screen, with these marks
 abbrev pub picture_for : ℕ → List MarkSet → LiveState → List Cell
 picture_for hand marks s =
-    picture (screen_at hand s) (scene_of (piece_at s).sheet marks (painted_editor hand s))
-    (status_line_at s)
+    picture (screen_at hand s) (scene_of (piece_at s).sheet marks (overlay_at hand s))
+    (status_line_at hand s)
 
 -- the picture of a hand is painted, where the editors are fitted to the grid
 unfoldable pub picture_course : List MarkSet → ℕ → LiveState → Course LiveState Stop

@@ -1,6 +1,6 @@
--- Where a performance stands: its setting, the session, the hands, the pacer, what each is shown,
--- the commands that are kept for the script, and the lines that wait for the journal.
-use Rattle.std.specs.Prelude.{ℕ, Bool, true, nat_le, nat_lt, if◌then◌else◌, List, length, map, slice_index_or, slice_set, Option, Some, None, unwrap_or, Result}
+-- Where a performance stands: its setting, the session, the hands, the pacer, what each is shown
+-- and told, the commands that are kept for the script, and the lines that wait for the journal.
+use Rattle.std.specs.Prelude.{ℕ, ◌&&◌, ◌==◌, Bool, true, nat_le, nat_lt, if◌then◌else◌, List, length, map, slice_index_or, slice_set, Option, Some, None, unwrap_or, Result}
 use Rattle.std.specs.List.{range_with_len}
 use Rattle.std.specs.Option.{option_map}
 use Rattle.orca_base.specs.declared.command.Command.{Command}
@@ -21,9 +21,12 @@ use Rattle.orca_jam.specs.Crews.{CrewState, fitted_crew, player_at}
 use Rattle.orca_jam.specs.declared.crew.TheConstants.{LEADER}
 use Rattle.orca_live.specs.declared.live.Live.{Live}
 use Rattle.orca_live.specs.declared.setting.Setting.{Setting as HeldSetting}
+use Rattle.orca_term.specs.Came.{came_to}
 use Rattle.orca_term.specs.Pacing.{Pace}
 use Rattle.orca_term.specs.Viewing.{Seen}
 use Rattle.orca_term.specs.declared.around.Around.{Around}
+use Rattle.orca_term.specs.declared.came.Came.{Came}
+use Rattle.orca_term.specs.declared.came.Came.TheVariants.{Well}
 use Rattle.orca_term.specs.declared.cell.Cell.{Cell}
 use Rattle.orca_term.specs.declared.cell.ScreenSize.{ScreenSize}
 use Rattle.orca_term.specs.declared.editor.Editor.{Editor}
@@ -96,6 +99,8 @@ pub record LiveState : Type 0 where
   pub at : ℕ
   -- what the calls came to, as it was told last
   pub came : Losses
+  -- what the last key of each hand came to
+  pub words : List Came
 
 -- the state of a performance, by the ghost members of its session's bound. By this and by what its
 -- session has to clear, and by nothing else, a contract of another crate sees it
@@ -111,6 +116,7 @@ live_state g live = record {
   loose = live.loose;
   at = live.at;
   came = live.came;
+  words = live.words;
 }
 
 -- how much its session has to clear: it pays for steps that are still to come
@@ -192,15 +198,32 @@ fitted s = record s { crew = fitted_crew (dims_at s) s.crew }
 abbrev pub is_full : LiveState → Bool
 is_full s = nat_le s.standing.machine.limit (moments_at s)
 
--- what the status line tells besides the editor of a hand
-abbrev pub status_line_at : LiveState → StatusLine
-status_line_at s = record {
-  tick = (piece_at s).tick;
-  moments = moments_at s;
-  sounding = length (notes_of s.standing);
-  refusal = s.standing.tally.refusal;
-  tempo = s.pace.bpm;
-}
+-- what the last key of a hand came to
+abbrev pub word_at : ℕ → LiveState → Came
+word_at hand s = slice_index_or s.words hand Well
+
+-- the last key of a hand came to this
+abbrev pub with_word : ℕ → Came → LiveState → LiveState
+with_word hand came s = record s { words = slice_set s.words hand came }
+
+-- what the status line of a hand tells besides its editor: with full keys what is lost, and what
+-- the last key of the hand came to; with plain ones what the last command of anybody came to. That
+-- the last save failed is told to the first hand alone
+abbrev pub status_line_at : ℕ → LiveState → StatusLine
+status_line_at hand s =
+    let full = s.crew.full in
+    record {
+      tick = (piece_at s).tick;
+      moments = moments_at s;
+      sounding = length (notes_of s.standing);
+      tempo = s.pace.bpm;
+      no_midi = full && s.came.midi;
+      no_udp = full && s.came.udp;
+      no_osc = full && s.came.osc;
+      no_journal = full && s.came.journal;
+      unsaved = full && hand == LEADER && s.came.unsaved;
+      came = if full then word_at hand s else came_to s.standing.tally.refusal;
+    }
 
 -- the moment that a poll waits for: that of the next frame, and none while paused
 abbrev pub until_at : LiveState → Option ℕ

@@ -5,7 +5,7 @@ ghost use Rattle.orca_live.specs.States.{LiveDid};
 ghost use Rattle.orca_term.specs.Keys.{Due};
 
 use crate::Live;
-use crate::keyboard::{do_command, press};
+use crate::keyboard::{do_command, press_all};
 use orca_base::Command;
 use orca_course::{Desk, NoMemory, Stop};
 use orca_edit::Machine;
@@ -28,7 +28,7 @@ fn do_frame<M: Machine, H: House>(
     Ok(None)
 }
 
-/// Nothing came of a hand for a while: an ESC that stands alone is a key.
+/// Nothing came of a hand for a while: what is pending may be keys then.
 #[tactic(auto, using(orca_course::proofs::WorldLemmas::called_still, crate::proofs::DoneLemmas::read_did), unfolding(crate::specs::Performing::item_course))]
 fn do_item<M: Machine, H: House>(
     live: &mut Live<'_, M>,
@@ -40,8 +40,8 @@ fn do_item<M: Machine, H: House>(
     if hand >= live.crew.hands() {
         return Ok(None);
     }
-    let key = live.crew.due(hand);
-    press(live, desk, hand, key)
+    let keys = live.crew.due(hand);
+    press_all(live, desk, hand, keys.as_slice())
 }
 
 /// Nothing came for a while, of the hands in their order.

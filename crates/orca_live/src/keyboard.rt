@@ -9,7 +9,7 @@ ghost use Rattle.orca_term.specs.Pacing.{faster, retimed, slower};
 ghost use Rattle.orca_term.specs.Picture.{screen_inside};
 ghost use Rattle.orca_course.specs.Doing.{goes_of};
 ghost use Rattle.orca_course.specs.Worlds.{Called};
-ghost use Rattle.orca_live.specs.Performing.{byte_course, hand_course, owning, press_course, struck_course, telling, wish_course, loosens};
+ghost use Rattle.orca_live.specs.Performing.{byte_course, hand_course, keys_course, owning, press_course, struck_course, telling, wish_course, words_at_key, loosens};
 ghost use Rattle.orca_live.specs.States.{LiveDid, Viewed, around_at, dims_at, editor_at, fitted, live_state, screen_at, unpainted, viewed_in};
 
 use crate::Live;
@@ -21,7 +21,7 @@ use orca_course::{Desk, NoMemory, Stop};
 use orca_edit::Machine;
 use orca_jam::{Crew, Denial};
 use orca_rig::{Disk, House};
-use orca_term::{Around, Key, Pacer, ScreenSize, View, Wish};
+use orca_term::{Around, Came, Key, Pacer, ScreenSize, View, Wish};
 
 /// Keeps a command for the script, if one is saved at the end.
 fn keep(given: &mut Option<Vec<Command>>, command: &Command) -> Result<(), NoMemory>
@@ -56,6 +56,25 @@ fn loosens(command: &Command, refused: Option<Rule>) -> bool
     refused.is_none() && !matches!(command, Command::Frame | Command::Copy { .. })
 }
 
+/// The last key of a hand, if it is one, came to this.
+fn tell(words: &mut [Came], who: u8, came: Came)
+    ensures { words.new ≡ slice_set words.old who came }
+{
+    if usize::from(who) < words.len() {
+        words[usize::from(who)] = came;
+    }
+}
+
+/// A key of a hand is struck: all is well so far, unless it is the key by which a terminal tells its size.
+fn begin(words: &mut [Came], hand: u8, key: &Key)
+    ensures { words.new ≡ words_at_key hand key.now words.old }
+{
+    match key {
+        Key::Screen { .. } => {}
+        _ => tell(words, hand, Came::Well),
+    }
+}
+
 /// Does a command of a hand, or of nobody, and keeps it for the script and the journal.
 #[tactic(auto, using(orca_course::proofs::DoingLemmas::goes_err, orca_course::proofs::DoingLemmas::does_nothing))]
 pub(crate) fn do_command<M: Machine, H: House>(
@@ -79,6 +98,7 @@ pub(crate) fn do_command<M: Machine, H: House>(
         live.stage.tally.refusal,
         moments,
     );
+    tell(&mut live.words, who, Came::of(live.stage.tally.refusal));
     Ok(())
 }
 
@@ -141,6 +161,7 @@ fn do_wish<M: Machine, H: House>(
             Ok(None)
         }
         Wish::Save => {
+            tell(&mut live.words, hand, Came::Kept);
             let name = live.setting.key_name();
             save_grid(live, desk, name, Disk::NotAwaited)?;
             Ok(None)
@@ -233,30 +254,46 @@ fn strike<M: Machine, H: House>(
     match live.crew.ask(hand, key, &around) {
         Ok(wish) => do_wish(live, desk, hand, &wish),
         Err(denial) => {
+            tell(&mut live.words, hand, Came::Denied(denial.rule()));
             deny(desk, hand, denial)?;
             Ok(None)
         }
     }
 }
 
-/// Does what the key of a hand does that was ended, if any was.
-#[tactic(auto, using(orca_course::proofs::WorldLemmas::called_still, crate::proofs::DoneLemmas::press_some), unfolding(crate::specs::Performing::press_course))]
-pub(crate) fn press<M: Machine, H: House>(
+/// Does what a key of a hand does that was ended.
+#[tactic(auto, using(crate::proofs::DoneLemmas::press_did))]
+fn press<M: Machine, H: House>(
     live: &mut Live<'_, M>,
     desk: &mut Desk<H>,
     hand: u8,
-    key: Option<Key>,
+    key: Key,
 ) -> Result<Option<Stop>, NoMemory>
     requires hand { hand < length live.old.crew.players }
     ensures { LiveDid M.Machine.own (press_course hand key) live.old desk.old result live.new desk.new }
 {
-    match key {
-        None => Ok(None),
-        Some(key) => {
-            fit(live);
-            strike(live, desk, hand, key)
+    begin(&mut live.words, hand, &key);
+    fit(live);
+    strike(live, desk, hand, key)
+}
+
+/// Does what keys of a hand do that were ended, in their order. An end drops those after it.
+pub(crate) fn press_all<M: Machine, H: House>(
+    live: &mut Live<'_, M>,
+    desk: &mut Desk<H>,
+    hand: u8,
+    keys: &[Key],
+) -> Result<Option<Stop>, NoMemory>
+    requires hand { hand < length live.old.crew.players }
+    ensures { LiveDid M.Machine.own (keys_course hand keys.now)
+        live.old desk.old result live.new desk.new }
+{
+    for key in keys {
+        if let Some(stop) = press(live, desk, hand, *key)? {
+            return Ok(Some(stop));
         }
     }
+    Ok(None)
 }
 
 /// Reads a byte of a hand. What comes of a hand that there is not is dropped.
@@ -272,6 +309,6 @@ pub(crate) fn do_byte<M: Machine, H: House>(
     if hand >= live.crew.hands() {
         return Ok(None);
     }
-    let key = live.crew.feed(hand, byte);
-    press(live, desk, hand, key)
+    let keys = live.crew.feed(hand, byte);
+    press_all(live, desk, hand, keys.as_slice())
 }

@@ -3,6 +3,7 @@ ghost use Rattle.orca_live.specs.Journals.{JournalsAreScripts, JournalsPerforman
 ghost use Rattle.orca_live.specs.Laws.{ItemsDecide, OnlyAppends, ReplaysScript};
 ghost use Rattle.orca_live.specs.Paintings.{ShowsPerformance};
 ghost use Rattle.orca_live.specs.Solo.{PlaysAlone};
+ghost use Rattle.orca_live.specs.Telling.{TellsFailures, TellsSaves};
 
 /// More answers only add acts: what was done before stays done. It does nothing.
 #[tactic(auto, using(crate::proofs::AppendingLaw::only_appends))]
@@ -62,4 +63,13 @@ pub fn hands_law()
 #[tactic(auto, using(crate::proofs::SoloLaw::plays_alone))]
 pub fn solo_law()
     ensures { PlaysAlone }
+{}
+
+/// A hand is told that the grid was saved only where it was saved under the name of the key, no save that it
+/// is told of has failed, and the hand struck no key of its own since. Where the last save has failed, the
+/// first hand is not told that all is well. It does nothing.
+#[tactic(auto, using(crate::proofs::TellingLaw::tells_saves, crate::proofs::TellingLaw::tells_failures))]
+pub fn telling_law()
+    ensures saves { TellsSaves }
+    ensures failures { TellsFailures }
 {}

@@ -21,6 +21,7 @@ mod unmarked;
 
 pub use laws::{
     appending_law, cutting_law, hands_law, journal_law, painting_law, script_law, solo_law,
+    telling_law,
 };
 pub use live::Live;
 pub use setting::Setting;

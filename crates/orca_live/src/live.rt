@@ -1,18 +1,23 @@
-ghost use Rattle.std.specs.Prelude.{◌≡◌, ◌≤◌, [], IfOk, None, replicate};
+ghost use Rattle.std.specs.Prelude.{◌≡◌, ◌≤◌, [], if◌then◌else◌, IfOk, None, replicate};
 ghost use Rattle.std.specs.Option.{option_map};
 ghost use Rattle.orca_concert.specs.Stages.{standing_of};
 ghost use Rattle.orca_live.specs.Starting.{live_at_start};
 ghost use Rattle.orca_base.specs.declared.limits.TheConstants.{MAX_SCREEN_COLUMNS, MAX_SCREEN_ROWS, MIN_SCREEN_COLUMNS, MIN_SCREEN_ROWS};
-ghost use Rattle.orca_live.specs.States.{is_full, live_state, residue_of, setting_in, status_line_at, until_at};
+ghost use Rattle.orca_live.specs.States.{is_full, live_state, residue_of, setting_in, status_line_at, until_at, word_at};
+ghost use Rattle.orca_term.specs.Came.{came_to};
 
 use crate::{Setting, Silent};
+use orca_base::limits::MAX_HANDS;
 use orca_base::{Command, Memory};
 use orca_concert::Stage;
 use orca_course::Losses;
 use orca_edit::Machine;
-use orca_jam::Crew;
-use orca_term::{Pacer, ScreenSize, StatusLine, View};
+use orca_jam::{Crew, LEADER};
+use orca_term::{Came, Pacer, ScreenSize, StatusLine, View};
 use std::alloc::Global;
+
+/// Room for what is told to all hands.
+const SEATS: usize = MAX_HANDS as usize;
 
 /// All that a performance keeps. A contract outside sees its state (`live_state`), and no field.
 #[derive(Drop)]
@@ -37,6 +42,8 @@ pub struct Live<'a, M> {
     pub(crate) at: u64,
     /// What the calls came to, as it was told last.
     pub(crate) came: Losses,
+    /// What the last key of each hand came to.
+    pub(crate) words: [Came; SEATS],
     /// Room for what is saved.
     pub(crate) text: Vec<u8>,
 }
@@ -91,6 +98,7 @@ impl<'a, M: Machine> Live<'a, M> {
                 unsaved: false,
                 unstored: false,
             },
+            words: [Came::Well; SEATS],
             text: Vec::new(alloc),
         })
     }
@@ -120,16 +128,36 @@ impl<'a, M: Machine> Live<'a, M> {
         self.loose
     }
 
-    /// What the status line tells besides the editor of a hand.
-    pub(crate) fn line(&self) -> StatusLine
-        ensures { result ≡ status_line_at (live_state M.Machine.own self.now) }
+    /// What the last key of a hand came to, or with plain keys the last command of anybody.
+    fn word(&self, hand: u8) -> Came
+        ensures { let s = live_state M.Machine.own self.now in
+            result ≡ (if s.crew.full then word_at hand s else came_to s.standing.tally.refusal) }
     {
+        if !self.crew.reads_full() {
+            return Came::of(self.stage.tally.refusal);
+        }
+        match self.words.get(usize::from(hand)) {
+            Some(came) => *came,
+            None => Came::Well,
+        }
+    }
+
+    /// What the status line of a hand tells besides its editor.
+    pub(crate) fn line(&self, hand: u8) -> StatusLine
+        ensures { result ≡ status_line_at hand (live_state M.Machine.own self.now) }
+    {
+        let full = self.crew.reads_full();
         StatusLine {
             tick: self.stage.machine.tick(),
             moments: self.stage.machine.moments(),
             sounding: self.stage.machine.notes().len() as u32,
-            refusal: self.stage.tally.refusal,
             tempo: self.pacer.tempo(),
+            no_midi: full && self.came.midi,
+            no_udp: full && self.came.udp,
+            no_osc: full && self.came.osc,
+            no_journal: full && self.came.journal,
+            unsaved: full && hand == LEADER && self.came.unsaved,
+            came: self.word(hand),
         }
     }
 

@@ -5,7 +5,7 @@ ghost use Rattle.orca_course.specs.Courses.{each};
 ghost use Rattle.orca_course.specs.Doing.{goes_of};
 ghost use Rattle.orca_course.specs.Worlds.{AreSeated, Calls, IsSeated};
 ghost use Rattle.orca_live.specs.Marking.{marks_by, pictured};
-ghost use Rattle.orca_live.specs.Performing.{paint_course, painted_course, painted_editor, picture_course, show_course, view_acts};
+ghost use Rattle.orca_live.specs.Performing.{paint_course, painted_course, overlay_at, picture_course, show_course, view_acts};
 ghost use Rattle.orca_live.specs.States.{LiveDid, hands_in, live_state, status_line_at, viewed_in};
 ghost use Rattle.orca_term.specs.Picture.{IsPrintable};
 ghost use Rattle.orca_term.specs.Viewing.{painting_bytes};
@@ -18,7 +18,7 @@ use orca_course::{Desk, NoMemory};
 use orca_edit::Machine;
 use orca_jam::LEADER;
 use orca_rig::House;
-use orca_term::{Editor, StatusLine, View};
+use orca_term::{Overlay, StatusLine, View};
 
 /// Which marks a picture shows.
 #[derive(Clone, Copy)]
@@ -32,7 +32,7 @@ pub(crate) enum Marking {
 /// What the picture of a hand shows besides the grid.
 #[derive(Drop)]
 struct Margin {
-    editor: Editor,
+    over: Overlay,
     line: StatusLine,
 }
 
@@ -69,22 +69,23 @@ fn paint_on<T: Look, H: House>(
     ensures view { let cells = pictured view.old.size (T.sheet look.now) (T.marks look.now) margin.now in
         viewed_in view.new ≡ record { screen = view.old.size; shown = Some cells } }
 {
-    let bytes = view.paint(look, &margin.editor, &margin.line);
+    let bytes = view.paint(look, &margin.over, &margin.line);
     give_view(desk, hand, bytes)
 }
 
-/// What the picture of a hand shows besides the grid: its editor, with the pause of the first one, and the
-/// status line.
+/// What the picture of a hand shows besides the grid: its editor, with the pause of the first one, the cursors
+/// of the others, and the status line.
 fn margin_of<M: Machine>(live: &Live<'_, M>, hand: u8) -> Margin
     requires { hand < length live.now.crew.players }
-    ensures editor { result.editor ≡ painted_editor hand (live_state M.Machine.own live.now) }
-    ensures line { result.line ≡ status_line_at (live_state M.Machine.own live.now) }
+    ensures over { result.over ≡ overlay_at hand (live_state M.Machine.own live.now) }
+    ensures line { result.line ≡ status_line_at hand (live_state M.Machine.own live.now) }
 {
     let mut editor = *live.crew.editor(hand);
     editor.paused = live.crew.leader().paused;
+    let others = live.crew.cursors_beside(hand);
     Margin {
-        editor,
-        line: live.line(),
+        over: Overlay { editor, others },
+        line: live.line(hand),
     }
 }
 

@@ -16,7 +16,7 @@ returns-in_err-do_command g c =
 
 pub returns : goal.returns
 returns g c =
-    command_did _ _ _ _ _ _ _ _ _ c.in_ok-keep.ensures.kept c.in_ok-note.ensures.noted
+    command_did _ _ _ _ _ _ _ _ _ _ c.in_ok-keep.ensures.kept c.in_ok-note.ensures.noted
     (rw c.moments-moments.ensures.moments at c.own.ensures)
     (ap (λ (more : Bool). c.args.live.now.loose || more) c.loosens.ensures)
-    c.in_ok-do_command.ensures
+    (rw c.of.ensures at c.tell.ensures) c.in_ok-do_command.ensures

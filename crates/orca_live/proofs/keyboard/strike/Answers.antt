@@ -10,11 +10,13 @@ returns-in-Ok g c =
 
 pub returns-in_ok-deny-in-Err : goal.returns-in_ok-deny-in-Err
 returns-in_ok-deny-in-Err g c =
-    struck_denied _ _ _ _ _ _ _ (Ok _) (rw c.around-around.ensures at c.ask.ensures.answer)
-    c.in-Err.is c.ask.ensures.denied c.in_ok-deny-in-Err.ensures
+    struck_denied _ _ _ _ _ _ _ _ (Ok _) (rw c.around-around.ensures at c.ask.ensures.answer)
+    c.in-Err.is c.ask.ensures.denied (rw c.rule.ensures at c.tell.ensures)
+    c.in_ok-deny-in-Err.ensures
 
 pub returns-in_err-deny-in-Err : goal.returns-in_err-deny-in-Err
 returns-in_err-deny-in-Err g c =
     does_err _ _ c.from_residual.ensures.1
-    (struck_denied _ _ _ _ _ _ _ (Err _) (rw c.around-around.ensures at c.ask.ensures.answer)
-    c.in-Err.is c.ask.ensures.denied c.in_err-deny-in-Err.ensures)
+    (struck_denied _ _ _ _ _ _ _ _ (Err _) (rw c.around-around.ensures at c.ask.ensures.answer)
+    c.in-Err.is c.ask.ensures.denied (rw c.rule.ensures at c.tell.ensures)
+    c.in_err-deny-in-Err.ensures)

@@ -12,7 +12,7 @@ returns-in-Bare-clause-painted g c =
     rw (c.from.ensures, c.in-Bare.is)
     (picture_on _ c.args.hand _ items view _ _ _ _ _ _ refl
     (ap viewed_in (rw c.from.ensures at c.index_mut-view.ensures.value)
-    ∙ sym (viewed_at items c.args.hand _ view c.requires.viewer)) c.is_shown.ensures margin.editor
+    ∙ sym (viewed_at items c.args.hand _ view c.requires.viewer)) c.is_shown.ensures margin.over
     margin.line on.painting on.printable on.view)
 
 pub returns-in-Scanned-clause-painted : goal.returns-in-Scanned-clause-painted
@@ -24,5 +24,5 @@ returns-in-Scanned-clause-painted g c =
     rw (c.from.ensures, c.in-Scanned.is)
     (picture_on _ c.args.hand _ items view _ _ _ _ _ _ refl
     (ap viewed_in (rw c.from.ensures at c.index_mut-view.ensures.value)
-    ∙ sym (viewed_at items c.args.hand _ view c.requires.viewer)) c.is_shown.ensures margin.editor
+    ∙ sym (viewed_at items c.args.hand _ view c.requires.viewer)) c.is_shown.ensures margin.over
     margin.line on.painting on.printable on.view)
