@@ -30,7 +30,8 @@ DATA = os.path.join(CRATE, "data")
 # What the program reads, and what it has to print.
 LISTS = ("stdin", "stdout")
 # The lines that end in bytes, and in how many words of them.
-BYTES = {"word": 1, "file": 1, "bytes": 1, "send": 1, "cells": 1, "marks": 1, "vars": 1, "event udp": 1, "event osc": 2}
+BYTES = {"word": 1, "file": 1, "bytes": 1, "send": 1, "told": 1, "cells": 1, "marks": 1, "vars": 1, "event udp": 1,
+         "event osc": 2}
 SIGNS = {"\n": "\\n", "\r": "\\r", "\t": "\\t", "\x1b": "\\e", '"': '\\"', "\\": "\\\\"}
 MEANT = {sign[1]: byte for byte, sign in SIGNS.items()}
 # Where a row of a text begins: after the end of a line, and before an escape by which a picture goes to another place.
