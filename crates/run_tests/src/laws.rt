@@ -4,6 +4,7 @@ use orca_clock::clock_law;
 use orca_course::device_law;
 use orca_live::{
     appending_law, cutting_law, hands_law, journal_law, painting_law, script_law, solo_law,
+    telling_law,
 };
 
 #[test]
@@ -17,4 +18,5 @@ fn the_laws_can_be_called(rt: HostRuntime) {
     journal_law();
     hands_law();
     solo_law();
+    telling_law();
 }

@@ -83,10 +83,11 @@ fn denied() -> Result<JamReply, JamFault> {
     Err(JamFault::LeaderOnly)
 }
 
-/// The key of a hand to which nothing came for a while.
+/// The first key of a hand to which nothing came for a while.
 fn late(crew: &mut Crew, hand: u8) -> Option<Key> {
     if hand < crew.hands() {
-        return crew.due(hand);
+        let keys = crew.due(hand);
+        return keys.as_slice().first().copied();
     }
     None
 }
@@ -257,7 +258,8 @@ fn sequences_of_two_hands_do_not_mix(rt: HostRuntime) -> Result<(), Fail> {
     let mut keys = [None; 6];
     for (i, (hand, byte)) in MIXED.iter().enumerate() {
         if *hand < crew.hands() && i < keys.len() {
-            keys[i] = crew.feed(*hand, *byte);
+            let ended = crew.feed(*hand, *byte);
+            keys[i] = ended.as_slice().first().copied();
         }
     }
     let glyph = Some(Key::Glyph(Glyph::from_value(7)));
