@@ -1,3 +1,4 @@
+pub mod BlockFacts
 pub mod GlyphFacts
 pub mod GlyphLemmas
 pub mod InlineLemmas

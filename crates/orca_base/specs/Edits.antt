@@ -1,11 +1,12 @@
--- What an edit makes of a grid, and what a copy takes of it. Each says of one place alone where its
--- glyph comes from.
-use Rattle.std.specs.Prelude.{ℕ, ◌+◌, ◌-◌, Bool, ◌&&◌, nat_le, nat_lt, if◌then◌else◌}
+-- What an edit makes of a grid, what a copy takes of it, and what a Clip makes of a clip. Each says
+-- of one place alone where its glyph comes from.
+use Rattle.std.specs.Prelude.{ℕ, ◌+◌, ◌-◌, Bool, ◌&&◌, nat_le, nat_lt, max, if◌then◌else◌, [], ◌∷◌, Option, Some}
+use Rattle.std.specs.Option.{option_map}
 use Rattle.orca_base.specs.declared.area.Area.{Area}
 use Rattle.orca_base.specs.declared.place.Place.{Place}
 use Rattle.orca_base.specs.Areas.{size_of, corner_of}
 use Rattle.orca_base.specs.Glyphs.{empty}
-use Rattle.orca_base.specs.Grids.{Size, Sheet, glyph_at, is_inside, sheet_by}
+use Rattle.orca_base.specs.Grids.{Size, Sheet, glyph_at, is_inside, is_place, sheet_by}
 
 -- the place lies in the block of this size whose first place is `corner`
 abbrev pub is_within : Place → Size → Place → Bool
@@ -51,3 +52,25 @@ sheet_after_resize g d = sheet_by d (λ at. if is_inside g.dims at then glyph_at
 -- Copy and Cut: the glyphs of the area
 abbrev pub block_of : Sheet → Area → Sheet
 block_of g area = sheet_by (size_of area) (λ at. glyph_at g (moved origin (corner_of area) at))
+
+-- a block of one cell
+abbrev pub one_cell : ℕ → Sheet
+one_cell glyph = record { dims = record { h = 1; w = 1 }; cells = glyph ∷ [] }
+
+-- the glyph of a cell of a block that has this one at `at`; beyond the block cells are empty
+abbrev pub cell_with : Sheet → Place → ℕ → Place → ℕ
+cell_with block at glyph cell =
+    if is_place cell at then glyph
+    else (if is_inside block.dims cell then glyph_at block cell else empty)
+
+-- a block with a glyph in a cell, and as many rows and columns more as hold the cell
+abbrev pub block_with : Sheet → Place → ℕ → Sheet
+block_with block at glyph =
+    sheet_by (record { h = max block.dims.h (at.y + 1); w = max block.dims.w (at.x + 1) })
+    (cell_with block at glyph)
+
+-- Clip: the clip with a glyph in a cell; the first cell begins a new clip
+abbrev pub clipped : Option Sheet → Place → ℕ → Option Sheet
+clipped clip at glyph =
+    if is_place at origin then Some (one_cell glyph)
+    else option_map (λ block. block_with block at glyph) clip

@@ -1,9 +1,12 @@
-ghost use Rattle.std.specs.Prelude.{◌≡◌, ◌*◌, IfOk, length, vec_len};
+ghost use Rattle.std.specs.Prelude.{◌≡◌, ◌*◌, ◌<◌, IfOk, OnErr, OnOk, length, vec_len};
+ghost use Rattle.orca_base.specs.Edits.{block_with, cell_with, one_cell};
+ghost use Rattle.orca_base.specs.Grids.{IsInside, largest};
 
-use crate::{Glyph, Memory};
+use crate::{Glyph, Memory, Place};
+use std::alloc::Global;
 use std::marker::Model;
 
-/// A copied block of glyphs. A contract sees its size, and its glyphs in reading order.
+/// A block of glyphs, as a clip is one. A contract sees its size, and its glyphs in reading order.
 #[derive(Debug, Drop)]
 pub struct Block {
     h: u16,
@@ -29,6 +32,15 @@ impl Block {
         ensures { result ≡ record { dims = record { h = h; w = w }; cells = cells.items } }
     {
         Block { h, w, cells }
+    }
+
+    /// The block of one cell; [`Memory`] where its room is refused.
+    pub fn one(alloc: Global, glyph: Glyph) -> Result<Block, Memory>
+        ensures { IfOk result (λ block. block ≡ one_cell glyph) }
+    {
+        let mut cells = Vec::new(alloc);
+        cells.push(glyph)?;
+        Ok(Block { h: 1, w: 1, cells })
     }
 
     /// The number of rows.
@@ -63,5 +75,67 @@ impl Block {
             w: self.w,
             cells,
         })
+    }
+
+    /// Puts a glyph into a cell. The block gets as many rows and columns more as hold the cell, and
+    /// these are empty. [`Memory`] where their room is refused; the block is then as before.
+    pub fn put(&mut self, at: Place, glyph: Glyph) -> Result<(), Memory>
+        requires { IsInside largest at }
+        ensures put { OnOk result (self.new ≡ block_with self.old at glyph) }
+        ensures err { OnErr result (self.new ≡ self.old) }
+    {
+        if at.x < self.w {
+            return self.put_below(at, glyph);
+        }
+        *self = self.copy_with(at, glyph)?;
+        Ok(())
+    }
+
+    /// Puts a glyph into a cell of a column of the block. New rows come after the others.
+    fn put_below(&mut self, at: Place, glyph: Glyph) -> Result<(), Memory>
+        requires row { IsInside largest at }
+        requires column { at.x < self.old.dims.w }
+        ensures put { OnOk result (self.new ≡ block_with self.old at glyph) }
+        ensures err { OnErr result (self.new ≡ self.old) }
+    {
+        let h = self.h.max(at.y + 1);
+        let width = usize::from(self.w);
+        self.cells.resize(usize::from(h) * width, Glyph::EMPTY)?;
+        self.cells[usize::from(at.y) * width + usize::from(at.x)] = glyph;
+        self.h = h;
+        Ok(())
+    }
+
+    /// A copy with a glyph in a cell. Its rows may be longer, so it is laid out anew.
+    fn copy_with(&self, at: Place, glyph: Glyph) -> Result<Block, Memory>
+        requires { IsInside largest at }
+        ensures { IfOk result (λ block. block ≡ block_with self.now at glyph) }
+    {
+        let h = self.h.max(at.y + 1);
+        let w = self.w.max(at.x + 1);
+        let width = usize::from(w);
+        let size = usize::from(h) * width;
+        let mut cells = Vec::with_capacity(*self.cells.allocator(), size)?;
+        for n in 0..size {
+            let cell = Place {
+                y: (n / width) as u16,
+                x: (n % width) as u16,
+            };
+            cells.push(self.cell_with(at, glyph, cell))?;
+        }
+        Ok(Block { h, w, cells })
+    }
+
+    /// The glyph of a cell, once the block has this one at a place. Others beyond it are empty.
+    fn cell_with(&self, at: Place, glyph: Glyph, cell: Place) -> Glyph
+        ensures { result ≡ cell_with self.now at glyph cell }
+    {
+        if cell == at {
+            glyph
+        } else if cell.y < self.h && cell.x < self.w {
+            self.cells[usize::from(cell.y) * usize::from(self.w) + usize::from(cell.x)]
+        } else {
+            Glyph::EMPTY
+        }
     }
 }
