@@ -36,6 +36,16 @@ pub enum Command {
         /// The block.
         rect: Rect,
     },
+    /// Puts a glyph into a cell of the clip, which grows to hold it. A new clip begins with the cell
+    /// at row 0 and column 0.
+    Clip {
+        /// The row.
+        y: u32,
+        /// The column.
+        x: u32,
+        /// The glyph.
+        glyph: Glyph,
+    },
     /// Writes the clip, its first cell at a place.
     Paste {
         /// The row.
@@ -117,9 +127,9 @@ pub enum Rule {
     OutOfGrid,
     /// The block of Fill, Erase, Copy, Cut or Move has no row or no column.
     EmptyBlock,
-    /// A side of Resize is 0 or too long for a grid.
+    /// A side of Resize is 0 or too long for a grid, or the largest grid lacks the cell of Clip.
     BadSize,
-    /// There is nothing to paste.
+    /// There is nothing to paste, or no clip for another cell than the first.
     EmptyClip,
     /// There is no edit to undo.
     NothingToUndo,
@@ -162,7 +172,7 @@ impl Rule {
 pub enum Reply {
     /// The grid was edited, or the session begins again at tick 0.
     Edited,
-    /// The clip was taken.
+    /// The clip was taken, or a glyph put into it.
     Copied,
     /// A frame was played.
     Framed {

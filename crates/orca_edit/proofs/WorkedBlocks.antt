@@ -1,8 +1,8 @@
 -- Blocks that are filled, put, moved, copied and cut to another size, computed by the definitions.
-use Rattle.std.specs.Prelude.{ℕ, ◌≡◌, [], ◌∷◌, codes, refl}
+use Rattle.std.specs.Prelude.{ℕ, ◌≡◌, [], ◌∷◌, Some, codes, refl}
 use Rattle.orca_base.specs.declared.area.Area.{Area}
 use Rattle.orca_base.specs.declared.place.Place.{Place}
-use Rattle.orca_base.specs.Edits.{block_of, sheet_after_fill, sheet_after_move, sheet_after_put, sheet_after_resize}
+use Rattle.orca_base.specs.Edits.{block_of, block_with, clipped, sheet_after_fill, sheet_after_move, sheet_after_put, sheet_after_resize}
 use Rattle.orca_base.specs.Grids.{Sheet, by_place}
 use Rattle.orca_edit.proofs.GridRows.{grid}
 
@@ -33,6 +33,29 @@ copy_of_a_corner = refl
 copy_of_the_whole_grid : block_of letters (area 0 0 2 3) ≡ letters
 unfolding by_place
 copy_of_the_whole_grid = refl
+
+-- ---- a glyph in a cell of a block
+
+glyph_inside : block_with letters (place 1 1) 35 ≡ grid (codes "abc" ∷ codes "d#f" ∷ [])
+unfolding by_place
+glyph_inside = refl
+
+glyph_below : block_with letters (place 3 1) 35
+    ≡ grid (codes "abc" ∷ codes "def" ∷ codes "..." ∷ codes ".#." ∷ [])
+unfolding by_place
+glyph_below = refl
+
+glyph_beside : block_with letters (place 0 4) 35 ≡ grid (codes "abc.#" ∷ codes "def.." ∷ [])
+unfolding by_place
+glyph_beside = refl
+
+glyph_beyond_a_corner : block_with letters (place 2 3) 35
+    ≡ grid (codes "abc." ∷ codes "def." ∷ codes "...#" ∷ [])
+unfolding by_place
+glyph_beyond_a_corner = refl
+
+first_cell_begins_anew : clipped (Some letters) (place 0 0) 35 ≡ Some (grid (codes "#" ∷ []))
+first_cell_begins_anew = refl
 
 -- ---- fills
 

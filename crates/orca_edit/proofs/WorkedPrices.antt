@@ -3,7 +3,7 @@
 use Rattle.std.specs.Prelude.{ℕ, ◌≡◌, List, [], ◌∷◌, drop, length, Result, Ok, Err, codes, refl}
 use Rattle.orca_base.specs.declared.area.Rect.{Rect}
 use Rattle.orca_base.specs.declared.command.Command.{Command}
-use Rattle.orca_base.specs.declared.command.Command.TheVariants.{Frame, Write, Copy, Cut, Paste, Move, Resize, Reset, Undo, Rewind, Redo}
+use Rattle.orca_base.specs.declared.command.Command.TheVariants.{Frame, Write, Copy, Cut, Clip, Paste, Move, Resize, Reset, Undo, Rewind, Redo}
 use Rattle.orca_base.specs.declared.command.Fault.{Fault}
 use Rattle.orca_base.specs.declared.command.Fault.TheVariants.{Refused}
 use Rattle.orca_base.specs.declared.command.Reply.{Reply}
@@ -84,6 +84,18 @@ redo_at_a_short_history : account 3 (grid (codes "." ∷ []))
     ∷ []
 unfolding account
 redo_at_a_short_history = refl
+
+-- a glyph that is put into the clip adds no entry, and leaves the tail and the kept numbers
+clip_leaves_the_tail : account 3 (grid (codes "." ∷ []))
+    (Write 0 0 53 ∷ Undo ∷ Clip 0 0 97 ∷ Clip 4 9 98 ∷ Redo ∷ [])
+    ≡ line 12 1 0 0 256 1
+    ∷ line 20 1 1 0 256 1
+    ∷ line 8 1 1 0 256 1
+    ∷ line 8 1 1 0 256 1
+    ∷ line 20 2 0 1 256 2
+    ∷ []
+unfolding account
+clip_leaves_the_tail = refl
 
 -- a clock that counts below
 abbrev clock : Sheet

@@ -2,7 +2,7 @@
 use Rattle.std.specs.Prelude.{ℕ, ◌≡◌, List, [], ◌∷◌, ◌++◌, length, replicate, Option, Some, None, Result, Ok, Err, codes, refl}
 use Rattle.orca_base.specs.declared.area.Rect.{Rect}
 use Rattle.orca_base.specs.declared.command.Command.{Command}
-use Rattle.orca_base.specs.declared.command.Command.TheVariants.{Frame, Write, Fill, Erase, Copy, Cut, Paste, Move, Resize, Reset, Undo, Rewind}
+use Rattle.orca_base.specs.declared.command.Command.TheVariants.{Frame, Write, Fill, Erase, Copy, Cut, Clip, Paste, Move, Resize, Reset, Undo, Rewind}
 use Rattle.orca_base.specs.declared.command.Reply.{Reply}
 use Rattle.orca_base.specs.declared.command.Reply.TheVariants.{Edited, Copied, Framed, Jumped}
 use Rattle.orca_base.specs.declared.command.Rule.{Rule}
@@ -221,6 +221,22 @@ copy_at_a_full_history : seen_after (session_of 1 (grid (codes "ab" ∷ [])))
 unfolding seen_after
 copy_at_a_full_history = refl
 
+-- a glyph that is put into the clip adds no entry either; the first cell begins a new clip
+clip_at_a_full_history : seen_after (session_of 1 (grid (codes "ab" ∷ [])))
+    (Write 0 0 120 ∷ Clip 0 0 97 ∷ Clip 1 1 98 ∷ Paste 0 0 ∷ Clip 0 0 99 ∷ Clip 0 1024 99 ∷ [])
+    ≡ record {
+      answers = Ok Edited ∷ Ok Copied ∷ Ok Copied ∷ Err HistoryFull ∷ Ok Copied
+          ∷ Err BadSize ∷ [];
+      messages = [];
+      grid = grid (codes "xb" ∷ []);
+      tick = 0;
+      moments = 1;
+      sounding = 0;
+      clip = Some (grid (codes "c" ∷ []));
+    }
+unfolding seen_after
+clip_at_a_full_history = refl
+
 -- ---- clips
 
 -- an undo of a smaller grid brings the cells back that were cut off, and a paste is cut off at the
@@ -268,6 +284,23 @@ undo_of_a_cut_leaves_the_clip : seen_after (session (grid (codes "ab" ∷ [])))
     }
 unfolding seen_after
 undo_of_a_cut_leaves_the_clip = refl
+
+-- a clip grows cell by cell, also between its pastes; an undo takes none of its cells
+clip_cell_by_cell : seen_after (session (grid (codes "...." ∷ codes "...." ∷ [])))
+    (Clip 0 1 97 ∷ Clip 1024 0 97 ∷ Clip 0 0 68 ∷ Clip 1 2 55 ∷ Paste 0 1 ∷ Clip 0 1 98 ∷ Undo
+    ∷ Paste 1 2 ∷ [])
+    ≡ record {
+      answers = Err EmptyClip ∷ Err BadSize ∷ Ok Copied ∷ Ok Copied ∷ Ok Edited ∷ Ok Copied
+          ∷ Ok (Jumped 0) ∷ Ok Edited ∷ [];
+      messages = [];
+      grid = grid (codes "...." ∷ codes "..Db" ∷ []);
+      tick = 0;
+      moments = 2;
+      sounding = 0;
+      clip = Some (grid (codes "Db." ∷ codes "..7" ∷ []));
+    }
+unfolding seen_after
+clip_cell_by_cell = refl
 
 -- ---- blocks and the edges of the grid
 

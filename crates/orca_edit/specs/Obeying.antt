@@ -16,9 +16,9 @@ use Rattle.orca_base.specs.declared.limits.TheConstants.{MAX_ROWS, MAX_COLUMNS}
 use Rattle.orca_base.specs.declared.message.Message.{Message}
 use Rattle.orca_base.specs.declared.place.Place.{Place}
 use Rattle.orca_base.specs.Areas.{area_in, area_at}
-use Rattle.orca_base.specs.Edits.{block_of}
+use Rattle.orca_base.specs.Edits.{block_of, clipped, origin}
 use Rattle.orca_base.specs.Glyphs.{empty}
-use Rattle.orca_base.specs.Grids.{Size, Sheet, is_inside}
+use Rattle.orca_base.specs.Grids.{Size, Sheet, is_inside, is_place, largest}
 use Rattle.orca_base.specs.Histories.{done_of, group_of, last_edit}
 use Rattle.orca_notes.specs.Sound.{ends}
 use Rattle.orca_edit.specs.Pieces.{Piece, apply, piece_after}
@@ -88,15 +88,17 @@ abbrev pub names_empty_block : Command → Bool
 names_empty_block c =
     option_map_or (λ rect. (rect.h == 0) || (rect.w == 0)) (named_rect c) false
 
--- BadSize: a side of Resize is 0 or too long
+-- BadSize: a side of Resize is 0 or too long, or the largest grid lacks the cell of a Clip
 abbrev pub names_bad_size : Command → Bool
 names_bad_size (command.Resize h w) =
     not (nat_le 1 h && nat_le h MAX_ROWS && nat_le 1 w && nat_le w MAX_COLUMNS)
+names_bad_size (command.Clip y x glyph) = not (is_inside largest (place y x))
 names_bad_size _ = false
 
--- EmptyClip: a Paste, and nothing was copied or cut so far
+-- EmptyClip: a Paste, or a Clip of another cell than the first, and there is no clip so far
 abbrev pub wants_clip : Option Sheet → Command → Bool
 wants_clip clip (command.Paste y x) = is_none clip
+wants_clip clip (command.Clip y x glyph) = is_none clip && not (is_place (place y x) origin)
 wants_clip clip _ = false
 
 -- NothingToUndo: an Undo, and the history holds no edit
@@ -112,6 +114,7 @@ rewinds_too_far history _ = false
 -- a command that adds an entry of its own to the history; a jump cuts or mends the history
 abbrev pub adds_entry : Command → Bool
 adds_entry (command.Copy rect) = false
+adds_entry (command.Clip y x glyph) = false
 adds_entry command.Undo = false
 adds_entry (command.Rewind moment) = false
 adds_entry command.Redo = false
@@ -184,6 +187,7 @@ entry_of d clip (command.Fill rect glyph) = Some (entry.Fill (area_in d rect) gl
 entry_of d clip (command.Erase rect) = Some (entry.Fill (area_in d rect) empty)
 entry_of d clip (command.Copy rect) = None
 entry_of d clip (command.Cut rect) = Some (entry.Fill (area_in d rect) empty)
+entry_of d clip (command.Clip y x glyph) = None
 entry_of d clip (command.Paste y x) = option_map (entry.Put (place y x)) clip
 entry_of d clip (command.Move rect to_y to_x) =
     Some (entry.Move (area_in d rect) (place to_y to_x))
@@ -256,7 +260,7 @@ extend m c clip e = record {
   messages = (apply (piece_of m) e).messages;
 }
 
--- a command without an entry of its own takes the clip alone
+-- a command without an entry of its own changes the clip alone
 abbrev pub carry_out : MachineState → Command → Option Sheet → Option Entry → Obeyed
 carry_out m c clip None =
     record { answer = Ok Copied; machine = record m { clip = clip }; messages = [] }
@@ -267,6 +271,8 @@ unfoldable pub accept : MachineState → Command → Obeyed
 accept m command.Undo = option_map_or (jump_to m) (last_edit m.history) (refuse m NothingToUndo)
 accept m (command.Rewind moment) = jump_to m moment
 accept m command.Redo = redo m
+accept m (command.Clip y x glyph) =
+    carry_out m (command.Clip y x glyph) (clipped m.clip (place y x) glyph) None
 accept m c =
     carry_out m c (clip_after m.clip (piece_of m).sheet (taken_area (piece_of m).sheet.dims c))
     (entry_of (piece_of m).sheet.dims m.clip c)

@@ -170,7 +170,7 @@ redo_price m k group =
     COMMAND_PRICE + total price m (n - group - 1) (n - 1)
     + sum_by (kept_cells k.spacing m) (range_with_len (n - group) (group + 1))
 
--- a command that adds an entry, without a checkpoint; one without an entry takes the clip alone
+-- a command that adds an entry, without a checkpoint; one without an entry changes the clip alone
 abbrev pub entry_price : MachineState → Command → ℕ
 entry_price m c =
     option_map_or (price (piece_of m)) (entry_of (piece_of m).sheet.dims m.clip c) COMMAND_PRICE

@@ -12,9 +12,9 @@ use orca_base::{Area, Block, Command, Dims, Entry, Fault, Glyph, Memory};
 /// What a command adds to the history, and the area whose glyphs become the clip.
 #[derive(Debug, Drop)]
 pub struct Edit {
-    /// The entry; none for a Copy.
+    /// The entry; none for a Copy and a Clip.
     pub entry: Option<Entry>,
-    /// The area; none for a command that leaves the clip.
+    /// The area; none for a command that takes none.
     pub take: Option<Area>,
 }
 
@@ -81,7 +81,7 @@ fn entry_of(command: &Command, dims: Dims, clip: Option<&Block>) -> Result<Optio
         Command::Erase { rect } | Command::Cut { rect } => {
             fill(area_in(dims, rect), Glyph::EMPTY)
         }
-        Command::Copy { .. } => return Ok(None),
+        Command::Copy { .. } | Command::Clip { .. } => return Ok(None),
         Command::Paste { y, x } => Entry::Put {
             at: place(dims, y, x),
             block: clip.unwrap().copy()?,

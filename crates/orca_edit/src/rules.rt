@@ -65,7 +65,8 @@ fn names_empty_block(command: &Command) -> bool
     named_rect(command).is_some_and(|rect| rect.h == 0 || rect.w == 0)
 }
 
-/// Whether the command asks for a grid with a side that is 0 or too long.
+/// Whether the command asks for a grid with a side that is 0 or too long, or for a cell of the clip
+/// that the largest grid lacks.
 fn names_bad_size(command: &Command) -> bool
     ensures { result ≡ names_bad_size command.now }
 {
@@ -73,16 +74,18 @@ fn names_bad_size(command: &Command) -> bool
         Command::Resize { h, w } => {
             h == 0 || h > u32::from(MAX_ROWS) || w == 0 || w > u32::from(MAX_COLUMNS)
         }
+        Command::Clip { y, x, .. } => !holds(Dims::largest(), y, x),
         _ => false,
     }
 }
 
-/// Whether the command wants a clip, and there is none.
+/// Whether the command needs a clip, and there is none.
 fn wants_clip(clip: Option<&Block>, command: &Command) -> bool
     ensures { result ≡ wants_clip (option_copied clip.entry) command.now }
 {
     match *command {
         Command::Paste { .. } => clip.is_none(),
+        Command::Clip { y, x, .. } => clip.is_none() && (y != 0 || x != 0),
         _ => false,
     }
 }

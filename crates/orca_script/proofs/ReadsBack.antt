@@ -15,7 +15,7 @@ use Rattle.std.proofs.lemmas.List.Elements.{recursion_from_All}
 use Rattle.orca_base.specs.Glyphs.{is_digit, is_glyph, IsGlyph}
 use Rattle.orca_base.specs.Numbers.{number_of}
 use Rattle.orca_base.specs.declared.command.Command.{Command}
-use Rattle.orca_base.specs.declared.command.Command.TheVariants.{Frame, Write, Fill, Erase, Copy, Cut, Paste, Move, Resize, Reset, Undo, Rewind, Redo}
+use Rattle.orca_base.specs.declared.command.Command.TheVariants.{Frame, Write, Fill, Erase, Copy, Cut, Clip, Paste, Move, Resize, Reset, Undo, Rewind, Redo}
 use Rattle.orca_script.specs.Canonical.{Line, line_with, line_text, line_of, sides, canonical, printed, HasValues}
 use Rattle.orca_script.specs.LineValues.{command_named}
 use Rattle.orca_script.specs.Grammar.{is_space, words_of, glyph_word, values_by, line_forms, has_no_command, line_command}
@@ -166,6 +166,13 @@ reads (Cut rect) values =
       number_at _ values 2 (omega arith),
       number_at _ values 3 (omega arith),
     ) refl
+reads (Clip y x glyph) values =
+    rw (
+      words-spaced (codes "clip") (y ∷ x ∷ []) (Some glyph) (omega arith) refl values,
+      number_at _ values 0 (omega arith),
+      number_at _ values 1 (omega arith),
+      glyph_of-glyph glyph values.visible,
+    ) refl
 reads (Paste y x) values =
     rw (
       words-spaced (codes "paste") (y ∷ x ∷ []) None (omega arith) refl values,
@@ -206,6 +213,7 @@ has_command (Fill rect glyph) = refl
 has_command (Erase rect) = refl
 has_command (Copy rect) = refl
 has_command (Cut rect) = refl
+has_command (Clip y x glyph) = refl
 has_command (Paste y x) = refl
 has_command (Move rect y x) = refl
 has_command (Resize h w) = refl
@@ -264,6 +272,7 @@ word_shown (Fill rect glyph) = refl
 word_shown (Erase rect) = refl
 word_shown (Copy rect) = refl
 word_shown (Cut rect) = refl
+word_shown (Clip y x glyph) = refl
 word_shown (Paste y x) = refl
 word_shown (Move rect y x) = refl
 word_shown (Resize h w) = refl

@@ -7,7 +7,7 @@ use Rattle.std.proofs.lemmas.Bool.{false≢true}
 use Rattle.std.proofs.lemmas.Grind.{flat_map-append}
 use Rattle.std.proofs.lemmas.List.{append-nil}
 use Rattle.orca_base.specs.declared.command.Command.{Command}
-use Rattle.orca_base.specs.declared.command.Command.TheVariants.{Frame, Write, Fill, Erase, Copy, Cut, Paste, Move, Resize, Reset, Undo, Rewind, Redo}
+use Rattle.orca_base.specs.declared.command.Command.TheVariants.{Frame, Write, Fill, Erase, Copy, Cut, Clip, Paste, Move, Resize, Reset, Undo, Rewind, Redo}
 use Rattle.orca_script.specs.declared.format_2.Line.TheVariants.{Do, Frames}
 use Rattle.orca_script.specs.Canonical.{line_of}
 use Rattle.orca_script.specs.Runs.{LineHasValues, printed2, most_frames, short_run, run_of, is_frame, lines_behind, text_behind}
@@ -78,6 +78,7 @@ names_frame (Fill rect glyph) e = absurd (false≢true e)
 names_frame (Erase rect) e = absurd (false≢true e)
 names_frame (Copy rect) e = absurd (false≢true e)
 names_frame (Cut rect) e = absurd (false≢true e)
+names_frame (Clip y x glyph) e = absurd (false≢true e)
 names_frame (Paste y x) e = absurd (false≢true e)
 names_frame (Move rect y x) e = absurd (false≢true e)
 names_frame (Resize h w) e = absurd (false≢true e)

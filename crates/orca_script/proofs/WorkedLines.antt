@@ -9,7 +9,7 @@ use Rattle.orca_script.specs.declared.forms.Kind.{Kind}
 use Rattle.orca_script.specs.declared.forms.Kind.TheVariants.{Number, Glyph, Word}
 use Rattle.orca_script.specs.declared.forms.TheConstants.{FRAMES, HEADER}
 use Rattle.orca_script.specs.declared.forms.Verb.{Verb}
-use Rattle.orca_script.specs.declared.forms.Verb.TheVariants.{Frame, Write, Fill, Erase, Copy, Cut, Paste, Move, Resize, Reset, Undo, Rewind, Redo}
+use Rattle.orca_script.specs.declared.forms.Verb.TheVariants.{Frame, Write, Fill, Erase, Copy, Cut, Clip, Paste, Move, Resize, Reset, Undo, Rewind, Redo}
 use Rattle.orca_script.specs.declared.limits.TheConstants.{MAX_LINE_VALUES}
 use Rattle.orca_script.specs.Format2.{header_seed, header_reading, line_frames, line_asks, reading2}
 use Rattle.orca_script.specs.Grammar.{LineForm, line_forms, line_command, values_by, words_of}
@@ -31,7 +31,8 @@ block = Number ∷ Number ∷ Number ∷ Number ∷ []
 forms_are : line_forms
     ≡ row (codes "frame") [] Frame ∷ row (codes "write") (place ++ Glyph ∷ []) Write
     ∷ row (codes "fill") (block ++ Glyph ∷ []) Fill ∷ row (codes "erase") block Erase
-    ∷ row (codes "copy") block Copy ∷ row (codes "cut") block Cut ∷ row (codes "paste") place Paste
+    ∷ row (codes "copy") block Copy ∷ row (codes "cut") block Cut
+    ∷ row (codes "clip") (place ++ Glyph ∷ []) Clip ∷ row (codes "paste") place Paste
     ∷ row (codes "move") (block ++ place) Move ∷ row (codes "resize") place Resize
     ∷ row (codes "reset") [] Reset ∷ row (codes "undo") [] Undo
     ∷ row (codes "rewind") (Number ∷ []) Rewind ∷ row (codes "redo") [] Redo ∷ []
@@ -75,6 +76,17 @@ frame_is_read = refl
 no_number : reading2 (codes "frames") ≡ Err (record { column = 7 })
 unfolding reading2 line_asks line_command line_frames line_forms words_of values_by number_of step
 no_number = refl
+
+-- ---- a glyph of the clip
+
+clip_is_read : reading2 (codes "clip 0 12 a") ≡ Ok (Some (Do (command.Clip 0 12 97)))
+unfolding reading2 line_asks line_command line_frames line_forms words_of values_by number_of command_named
+clip_is_read = refl
+
+-- the first two letters begin a line
+clip_misspelt : reading2 (codes "clop") ≡ Err (record { column = 3 })
+unfolding reading2 line_asks line_command line_frames line_forms words_of values_by number_of step
+clip_misspelt = refl
 
 -- ---- runs
 

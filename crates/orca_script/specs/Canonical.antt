@@ -8,7 +8,7 @@ use Rattle.orca_base.specs.Ascii.{line_feed, space}
 use Rattle.orca_base.specs.Glyphs.{IsGlyph}
 use Rattle.orca_base.specs.declared.area.Rect.{Rect}
 use Rattle.orca_base.specs.declared.command.Command.{Command}
-use Rattle.orca_base.specs.declared.command.Command.TheVariants.{Frame, Write, Fill, Erase, Copy, Cut, Paste, Move, Resize, Reset, Undo, Rewind, Redo}
+use Rattle.orca_base.specs.declared.command.Command.TheVariants.{Frame, Write, Fill, Erase, Copy, Cut, Clip, Paste, Move, Resize, Reset, Undo, Rewind, Redo}
 
 -- a line: its first word, its numbers in order, and its glyph, where it has one
 pub record Line : Type 0 where
@@ -38,6 +38,7 @@ line_of (Fill rect glyph) = line_with (codes "fill") (sides rect) (Some glyph)
 line_of (Erase rect) = line_with (codes "erase") (sides rect) None
 line_of (Copy rect) = line_with (codes "copy") (sides rect) None
 line_of (Cut rect) = line_with (codes "cut") (sides rect) None
+line_of (Clip y x glyph) = line_with (codes "clip") (y ∷ x ∷ []) (Some glyph)
 line_of (Paste y x) = line_with (codes "paste") (y ∷ x ∷ []) None
 line_of (Move rect y x) = line_with (codes "move") (sides rect ++ y ∷ x ∷ []) None
 line_of (Resize h w) = line_with (codes "resize") (h ∷ w ∷ []) None

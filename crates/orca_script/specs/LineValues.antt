@@ -7,7 +7,7 @@ use Rattle.orca_base.specs.declared.command.Command.TheVariants as command
 use Rattle.orca_script.specs.declared.forms.Fixed.{Fixed}
 use Rattle.orca_script.specs.declared.forms.Fixed.TheVariants.{Two, Seed}
 use Rattle.orca_script.specs.declared.forms.Verb.{Verb}
-use Rattle.orca_script.specs.declared.forms.Verb.TheVariants.{Frame, Write, Fill, Erase, Copy, Cut, Paste, Move, Resize, Reset, Undo, Rewind, Redo}
+use Rattle.orca_script.specs.declared.forms.Verb.TheVariants.{Frame, Write, Fill, Erase, Copy, Cut, Clip, Paste, Move, Resize, Reset, Undo, Rewind, Redo}
 
 -- the letters of a word that stands for nothing
 abbrev pub letters_of : Fixed → List ℕ
@@ -46,6 +46,8 @@ command_named Fill values = command.Fill (rect_of values) values.glyph
 command_named Erase values = command.Erase (rect_of values)
 command_named Copy values = command.Copy (rect_of values)
 command_named Cut values = command.Cut (rect_of values)
+command_named Clip values =
+    command.Clip (slice_index values.numbers 0) (slice_index values.numbers 1) values.glyph
 command_named Paste values =
     command.Paste (slice_index values.numbers 0) (slice_index values.numbers 1)
 command_named Move values =

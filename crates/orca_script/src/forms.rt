@@ -44,6 +44,7 @@ pub(crate) enum Verb {
     Erase,
     Copy,
     Cut,
+    Clip,
     Paste,
     Move,
     Resize,
@@ -66,13 +67,14 @@ const G: Kind = Kind::Glyph;
 
 /// The grammar: a line that asks for a command is one of these forms. A form has at most
 /// [`MAX_LINE_VALUES`](crate::limits::MAX_LINE_VALUES) values, one glyph among them.
-pub(crate) static FORMS: [Form; 13] = [
+pub(crate) static FORMS: [Form; 14] = [
     (b"frame", &[], Verb::Frame),
     (b"write", &[N, N, G], Verb::Write),
     (b"fill", &[N, N, N, N, G], Verb::Fill),
     (b"erase", &[N, N, N, N], Verb::Erase),
     (b"copy", &[N, N, N, N], Verb::Copy),
     (b"cut", &[N, N, N, N], Verb::Cut),
+    (b"clip", &[N, N, G], Verb::Clip),
     (b"paste", &[N, N], Verb::Paste),
     (b"move", &[N, N, N, N, N, N], Verb::Move),
     (b"resize", &[N, N], Verb::Resize),

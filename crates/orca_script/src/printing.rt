@@ -47,6 +47,7 @@ pub(crate) fn push_command(command: Command, into: &mut Vec<u8>) -> Result<(), M
         Command::Erase { rect } => push_line(b"erase", &sides(rect), None, into),
         Command::Copy { rect } => push_line(b"copy", &sides(rect), None, into),
         Command::Cut { rect } => push_line(b"cut", &sides(rect), None, into),
+        Command::Clip { y, x, glyph } => push_line(b"clip", &[y, x], Some(glyph), into),
         Command::Paste { y, x } => push_line(b"paste", &[y, x], None, into),
         Command::Move { rect, to_y, to_x } => {
             let Rect { y, x, h, w } = rect;

@@ -100,6 +100,11 @@ impl Values {
             Verb::Erase => Command::Erase { rect: self.rect() },
             Verb::Copy => Command::Copy { rect: self.rect() },
             Verb::Cut => Command::Cut { rect: self.rect() },
+            Verb::Clip => Command::Clip {
+                y: self.number(0),
+                x: self.number(1),
+                glyph: self.glyph,
+            },
             Verb::Paste => Command::Paste {
                 y: self.number(0),
                 x: self.number(1),

@@ -10,14 +10,16 @@ use Rattle.orca_base.specs.declared.command.Entry.{Entry}
 use Rattle.orca_base.specs.declared.command.Entry.TheVariants as entry
 use Rattle.orca_base.specs.declared.command.Fault.{Fault}
 use Rattle.orca_base.specs.declared.command.Fault.TheVariants.{Refused, Memory}
-use Rattle.orca_base.specs.declared.command.Reply.TheVariants.{Edited}
+use Rattle.orca_base.specs.declared.command.Reply.TheVariants.{Copied, Edited}
 use Rattle.orca_base.specs.declared.command.Rule.{Rule}
-use Rattle.orca_base.specs.Edits.{block_of}
-use Rattle.orca_base.specs.Grids.{Size, Sheet}
+use Rattle.orca_base.specs.declared.command.Rule.TheVariants.{BadSize}
+use Rattle.orca_base.specs.Edits.{block_of, clipped}
+use Rattle.orca_base.specs.Grids.{Size, Sheet, IsInside, is_inside, largest}
 use Rattle.orca_base.specs.Histories.{group_of, last_edit}
+use Rattle.orca_base.proofs.PlaceFacts.{inside-is_inside}
 use Rattle.orca_edit.specs.Editing.{IsGridEdit}
 use Rattle.orca_edit.specs.Machines.{Obeys, is_jump, obeyed}
-use Rattle.orca_edit.specs.Obeying.{MachineState, Test, accept, adds_entry, block_rule, block_tests, carry_out, clip_after, entry_of, extend, first_standing, history_tests, obey, piece_of, refuse, reply_of, rule_against, taken_area}
+use Rattle.orca_edit.specs.Obeying.{MachineState, Test, accept, adds_entry, block_rule, block_tests, carry_out, clip_after, entry_of, extend, first_standing, history_tests, obey, piece_of, place, refuse, reply_of, rule_against, taken_area}
 use Rattle.orca_edit.specs.Pieces.{Piece, apply}
 use Rattle.orca_edit.proofs.RuleLemmas.{is-open}
 use Rattle.orca_session.specs.Session.{IsBlockEdit, clip_with}
@@ -98,6 +100,17 @@ pub some-edit : (m : MachineState) → rule_against m command.Undo ≡ None
     → is_none (last_edit m.history) ≡ false
 some-edit m allowed = (is-open m command.Undo allowed).undoes
 
+-- the largest grid has the cell that a Clip names
+pub inside-clip : (m : MachineState) (y x glyph : ℕ)
+    → rule_against m (command.Clip y x glyph) ≡ None → IsInside largest (place y x)
+unfolding rule_against
+inside-clip m y x glyph allowed = elim (cases_Bool (is_inside largest (place y x))) [
+  | inl inside ↦ inside-is_inside largest (place y x) inside
+  | inr outside ↦
+      let some : rule_against m (command.Clip y x glyph) ≡ Some BadSize = rw outside refl in
+      absurd (cc)
+]
+
 -- ---- what is done
 
 pub obey-refused : (m : MachineState) (c : Command) (r : Rule) → rule_against m c ≡ Some r
@@ -120,6 +133,13 @@ pub obey-reset : (m : MachineState) → rule_against m command.Reset ≡ None
 unfolding accept entry_of taken_area
 obey-reset m allowed = obey-accepted m command.Reset allowed
 
+-- a glyph is put into the clip
+pub obey-clip : (m : MachineState) (y x glyph : ℕ) → rule_against m (command.Clip y x glyph) ≡ None
+    → obey m (command.Clip y x glyph)
+    ≡ obeyed (Ok Copied) (record m { clip = clipped m.clip (place y x) glyph }) []
+unfolding accept
+obey-clip m y x glyph allowed = obey-accepted m (command.Clip y x glyph) allowed
+
 -- an edit by a block
 accept-edit : (m : MachineState) (c : Command) → IsBlockEdit c
     → accept m c
@@ -132,6 +152,7 @@ accept-edit m (command.Fill rect glyph) edits = refl
 accept-edit m (command.Erase rect) edits = refl
 accept-edit m (command.Copy rect) edits = refl
 accept-edit m (command.Cut rect) edits = refl
+accept-edit m (command.Clip y x glyph) edits = absurd edits
 accept-edit m (command.Paste y x) edits = refl
 accept-edit m (command.Move rect to_y to_x) edits = refl
 accept-edit m (command.Resize h w) edits = refl
@@ -155,6 +176,7 @@ goes-forward (command.Fill rect glyph) edits = refl
 goes-forward (command.Erase rect) edits = refl
 goes-forward (command.Copy rect) edits = refl
 goes-forward (command.Cut rect) edits = refl
+goes-forward (command.Clip y x glyph) edits = absurd edits
 goes-forward (command.Paste y x) edits = refl
 goes-forward (command.Move rect to_y to_x) edits = refl
 goes-forward (command.Resize h w) edits = refl
@@ -173,6 +195,7 @@ edits-grid d clip (command.Fill rect glyph) edits = tt
 edits-grid d clip (command.Erase rect) edits = tt
 edits-grid d clip (command.Copy rect) edits = tt
 edits-grid d clip (command.Cut rect) edits = tt
+edits-grid d clip (command.Clip y x glyph) edits = absurd edits
 edits-grid d None (command.Paste y x) edits = tt
 edits-grid d (Some block) (command.Paste y x) edits = tt
 edits-grid d clip (command.Move rect to_y to_x) edits = tt
@@ -192,6 +215,7 @@ adds-edit d clip (command.Fill rect glyph) edits some = refl
 adds-edit d clip (command.Erase rect) edits some = refl
 adds-edit d clip (command.Copy rect) edits some = absurd (cc)
 adds-edit d clip (command.Cut rect) edits some = refl
+adds-edit d clip (command.Clip y x glyph) edits some = absurd edits
 adds-edit d clip (command.Paste y x) edits some = refl
 adds-edit d clip (command.Move rect to_y to_x) edits some = refl
 adds-edit d clip (command.Resize h w) edits some = refl
@@ -237,6 +261,7 @@ reply-edit (command.Fill rect glyph) p edits = refl
 reply-edit (command.Erase rect) p edits = refl
 reply-edit (command.Copy rect) p edits = refl
 reply-edit (command.Cut rect) p edits = refl
+reply-edit (command.Clip y x glyph) p edits = absurd edits
 reply-edit (command.Paste y x) p edits = refl
 reply-edit (command.Move rect to_y to_x) p edits = refl
 reply-edit (command.Resize h w) p edits = refl

@@ -38,10 +38,11 @@ pub record KeepsSession (p : PastState) (d : Slate) (notes : List Note) (tick : 
   pub sounding : notes ≡ (present p).notes
   pub next : tick ≡ (present p).tick
 
--- a command that edits the grid by a block or takes the clip: any but a frame, a reset and the
--- three jumps
+-- a command that edits the grid by a block or takes one as the clip: any but a frame, a Clip, a
+-- reset and the three jumps
 abbrev pub IsBlockEdit : Command → Type 0
 IsBlockEdit command.Frame = ⊥
+IsBlockEdit (command.Clip y x glyph) = ⊥
 IsBlockEdit command.Reset = ⊥
 IsBlockEdit command.Undo = ⊥
 IsBlockEdit (command.Rewind moment) = ⊥

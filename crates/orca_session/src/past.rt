@@ -85,7 +85,7 @@ impl Past {
         ensures most { length self.now.trail.entries ≤ self.now.peak }
     {
         match *command {
-            Command::Copy { .. } => None,
+            Command::Copy { .. } | Command::Clip { .. } => None,
             Command::Undo => match self.history.last_edit() {
                 Some(_) => None,
                 None => Some(Rule::NothingToUndo),

@@ -20,7 +20,7 @@ use orca_base::{
     Rule, Steps,
 };
 use orca_board::{Board, listing_law};
-use orca_edit::{Edit, Machine, apply, block_rule, copy, to_entry, touch_law};
+use orca_edit::{Edit, Machine, apply, block_rule, copy, put_in_clip, to_entry, touch_law};
 use orca_frame::frame;
 use orca_grid::Grid;
 use orca_notes::{Messages, Notes};
@@ -136,6 +136,7 @@ impl Session {
             Command::Undo => Ok(self.undo(messages, steps)),
             Command::Rewind { moment } => Ok(self.jump(moment, messages, steps)),
             Command::Redo => Ok(self.redo(steps)),
+            Command::Clip { y, x, glyph } => self.clip(y, x, glyph),
             _ => self.edit(command, steps),
         }
     }
@@ -284,6 +285,23 @@ impl Session {
             Some(area) => Ok(Some(copy(self.past.allocator(), &self.board, area)?)),
             None => Ok(None),
         }
+    }
+
+    /// Puts a glyph into a cell of the clip. If memory is refused, nothing was done.
+    fn clip(&mut self, y: u32, x: u32, glyph: Glyph) -> Result<Reply, Fault>
+        requires allowed { rule_against self.old.machine (command_of.Clip y x glyph) ≡ None }
+        ensures obeys { Obeys self.old.machine (command_of.Clip y x glyph) result
+            self.new.machine [] }
+        ensures notes { (piece_of self.new.machine).notes ≡ (piece_of self.old.machine).notes }
+        ensures kept { self.new.kept
+            ≡ kept_after self.old.machine self.old.kept (command_of.Clip y x glyph) result }
+        ensures residue { self.new.residue ≡ self.old.residue }
+    {
+        let put = put_in_clip(self.past.allocator(), &mut self.clip, y, x, glyph);
+        let Ok(()) = put else {
+            return Err(Fault::Memory);
+        };
+        Ok(Reply::Copied)
     }
 
     /// Does an entry that edits the grid, and adds it to the history. If memory is refused, nothing

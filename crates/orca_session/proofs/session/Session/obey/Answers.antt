@@ -37,6 +37,13 @@ returns-in-Redo-clause-acts g c =
     (acts-silent c.args.self.now.machine c.redo.new.self.machine command.Redo (Ok c.redo.result)
     c.args.messages.now c.requires.silent c.redo.ensures.obeys c.redo.ensures.notes)
 
+pub returns-in-Clip-clause-acts : goal.returns-in-Clip-clause-acts
+returns-in-Clip-clause-acts g c =
+    rw c.in-Clip.is
+    (acts-silent c.args.self.now.machine c.clip.new.self.machine
+    (command.Clip c.in-Clip.y c.in-Clip.x c.in-Clip.glyph) c.clip.result c.args.messages.now
+    c.requires.silent c.clip.ensures.obeys c.clip.ensures.notes)
+
 pub returns-in_default-command : goal.returns-in_default-command
 returns-in_default-command g c = record {
   acts = acts-silent c.args.self.now.machine c.edit.new.self.machine c.args.command.now
