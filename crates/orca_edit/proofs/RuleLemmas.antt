@@ -90,7 +90,7 @@ pub obey-redo : (m : MachineState) → rule_against m command.Redo ≡ None
 unfolding obey accept
 obey-redo m allowed = rw allowed refl
 
--- what is done with a command that is no jump
+-- what is done with a command that is no jump and no Clip
 abbrev pub entered : MachineState → Command → Obeyed
 entered m c =
     let d = (piece_of m).sheet.dims in

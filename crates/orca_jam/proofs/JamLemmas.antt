@@ -12,6 +12,7 @@ use Rattle.orca_base.specs.declared.command.Reply.{Reply}
 use Rattle.orca_base.specs.declared.command.Rule.{Rule}
 use Rattle.orca_base.specs.declared.command.Rule.TheVariants.{NothingToUndo}
 use Rattle.orca_base.specs.declared.message.Message.{Message}
+use Rattle.orca_base.specs.Edits.{clipped}
 use Rattle.orca_base.specs.Grids.{Sheet}
 use Rattle.orca_base.specs.Histories.{last_edit}
 use Rattle.orca_jam.proofs.OwnerLaws.{keeps_owners}
@@ -37,7 +38,7 @@ use Rattle.std.proofs.lemmas.Bool.Decides.{nat_tests}
 use Rattle.std.proofs.lemmas.List.{get_or-set_other, get_or-set_same, length-set, set-get_or, set-set}
 use Rattle.orca_jam.specs.declared.owner.Owner.{Owner}
 use Rattle.orca_edit.specs.Machines.{Acts}
-use Rattle.orca_edit.specs.Obeying.{MachineState, Obeyed, accept, carry_out, jump_to, obey, piece_of, redo, refuse, rule_against}
+use Rattle.orca_edit.specs.Obeying.{MachineState, Obeyed, accept, carry_out, jump_to, obey, piece_of, place, redo, refuse, rule_against}
 
 -- ---- what a machine does with a command, by its kind
 
@@ -52,6 +53,8 @@ accept-cases m (command.Fill rect glyph) P carried jumped redone refused = carri
 accept-cases m (command.Erase rect) P carried jumped redone refused = carried _ _
 accept-cases m (command.Copy rect) P carried jumped redone refused = carried _ _
 accept-cases m (command.Cut rect) P carried jumped redone refused = carried _ _
+accept-cases m (command.Clip y x glyph) P carried jumped redone refused =
+    carried (clipped m.clip (place y x) glyph) None
 accept-cases m (command.Paste y x) P carried jumped redone refused = carried _ _
 accept-cases m (command.Move rect y x) P carried jumped redone refused = carried _ _
 accept-cases m (command.Resize h w) P carried jumped redone refused = carried _ _

@@ -276,6 +276,15 @@ plain-keeps m o hand c are allowed plain accepts edit =
     (carried m o hand c (clip_after m.clip (piece_of m).sheet (taken_area d c))
     (entry_of d m.clip c) are plain edit)
 
+-- a Clip adds no entry
+clip-keeps : (m : MachineState) (o : List Owner) (hand y x glyph : ℕ) → AreOwners m.history o
+    → rule_against m (command.Clip y x glyph) ≡ None
+    → let after = (obey m (command.Clip y x glyph)).machine.history in
+    AreOwners after (owned hand (command.Clip y x glyph) (length after) o)
+unfolding obey accept
+clip-keeps m o hand y x glyph are allowed =
+    rw allowed (none-keeps m.history o hand (command.Clip y x glyph) are refl)
+
 pub keeps_owners : KeepsOwners
 unfolding accept entry_of
 keeps_owners m o hand command.Frame are other allowed =
@@ -304,6 +313,8 @@ keeps_owners m o hand command.Reset are other allowed =
 keeps_owners m o hand (command.Copy rect) are other allowed =
     plain-keeps m o hand (command.Copy rect) are allowed refl refl
     (λ e is. absurd (none-some _ is))
+keeps_owners m o hand (command.Clip y x glyph) are other allowed =
+    clip-keeps m o hand y x glyph are allowed
 keeps_owners m o hand (command.Paste y x) are other allowed =
     plain-keeps m o hand (command.Paste y x) are allowed refl refl
     (λ e is. put (place y x) m.clip e is)
