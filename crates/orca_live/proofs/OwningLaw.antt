@@ -109,6 +109,8 @@ taken m (command.Erase rect) allowed other =
 taken m (command.Copy rect) allowed other =
     record { note = refl; limit = refl; fits = λ fits. fits }
 taken m (command.Cut rect) allowed other = taken_entered m (command.Cut rect) allowed refl refl
+taken m (command.Clip y x glyph) allowed other =
+    record { note = refl; limit = refl; fits = λ fits. fits }
 taken m (command.Paste y x) allowed other = taken_entered m (command.Paste y x) allowed refl refl
 taken m (command.Move rect y x) allowed other =
     taken_entered m (command.Move rect y x) allowed refl refl

@@ -53,7 +53,11 @@ fn own(crew: &mut Crew, who: u8, command: &Command, refused: Option<Rule>, momen
 fn loosens(command: &Command, refused: Option<Rule>) -> bool
     ensures { result ≡ loosens command.now refused }
 {
-    refused.is_none() && !matches!(command, Command::Frame | Command::Copy { .. })
+    refused.is_none()
+        && !matches!(
+            command,
+            Command::Frame | Command::Copy { .. } | Command::Clip { .. }
+        )
 }
 
 /// The last key of a hand, if it is one, came to this.
