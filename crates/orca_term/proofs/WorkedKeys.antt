@@ -13,7 +13,7 @@ unfoldable sequences : ⊤
 unfolding key_of_sequence plain_sequence key_of_numbers numbers_from mouse_sequence
 sequences = tt
 
-unfoldable worked : ⊤
+unfoldable pub worked : ⊤
 unfolding keys_from turn key_of plain_key sequences
 worked = tt
 
@@ -22,10 +22,10 @@ abbrev keys_of : List Item → List Key × List Key
 keys_of items = (keys_from false Nothing items, keys_from true Nothing items)
 
 -- bytes, and a sequence of ESC, a bracket and these bytes
-abbrev bytes : List ℕ → List Item
+abbrev pub bytes : List ℕ → List Item
 bytes text = map Byte text
 
-abbrev sequence : List ℕ → List Item
+abbrev pub sequence : List ℕ → List Item
 sequence text = bytes (introducer ++ text)
 
 -- a key of both readers, and a key of the full one alone
@@ -45,9 +45,9 @@ unfolding worked
 fill = refl
 
 -- the ends of lines
-no_ends : NoKey (bytes (10 ∷ 13 ∷ []))
+ends : keys_of (bytes (10 ∷ 13 ∷ [])) ≡ ([], key.Line ∷ key.Return ∷ [])
 unfolding worked
-no_ends = refl
+ends = refl
 
 -- ---- arrows
 
@@ -175,9 +175,10 @@ other_forms = refl
 -- ---- texts that are pasted
 
 -- what stands around one
-no_paste : NoKey (sequence (codes "200~") ++ sequence (codes "201~"))
+paste : keys_of (sequence (codes "200~") ++ sequence (codes "201~"))
+    ≡ ([], key.PasteBegin ∷ key.PasteEnd ∷ [])
 unfolding worked
-no_paste = refl
+paste = refl
 
 no_paste_with_shift : NoKey (sequence (codes "200;2~"))
 unfolding worked

@@ -46,8 +46,8 @@ plain_key byte = if is_glyph byte then Some (key.Glyph byte) else found_in lone_
 -- the keys of single bytes that full keys add
 abbrev pub further_keys : List (ℕ × Key)
 further_keys =
-    (1, key.All) ∷ (7, key.Guide) ∷ (9, key.Append) ∷ (11, key.Fill) ∷ (12, key.Redraw)
-    ∷ (21, key.Undo) ∷ []
+    (1, key.All) ∷ (7, key.Guide) ∷ (9, key.Append) ∷ (10, key.Line) ∷ (11, key.Fill)
+    ∷ (12, key.Redraw) ∷ (13, key.Return) ∷ (21, key.Undo) ∷ []
 
 -- the key of a byte that belongs to no sequence
 unfoldable pub key_of : Bool → ℕ → Option Key
@@ -128,7 +128,8 @@ numbers_in bytes = numbers_from no_digits bytes
 abbrev pub numbered_keys : List (ℕ × Key)
 numbered_keys =
     (2, key.Append) ∷ (3, key.Erase) ∷ (17, key.Slower FAR_BEATS) ∷ (18, key.Slower 1)
-    ∷ (19, key.Faster 1) ∷ (20, key.Faster FAR_BEATS) ∷ []
+    ∷ (19, key.Faster 1) ∷ (20, key.Faster FAR_BEATS) ∷ (200, key.PasteBegin)
+    ∷ (201, key.PasteEnd) ∷ []
 
 -- the arrow of a last byte, and of a number before `~`
 abbrev pub ended_key : ℕ → ℕ → Option Key

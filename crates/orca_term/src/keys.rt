@@ -120,6 +120,14 @@ pub enum Key {
         /// The number of its columns.
         columns: u16,
     },
+    /// A text that is pasted begins.
+    PasteBegin,
+    /// The text ends. Outside of one this key and the two below do nothing.
+    PasteEnd,
+    /// A line feed, which ends a row of the text.
+    Line,
+    /// A carriage return, which does too.
+    Return,
 }
 
 /// What the bytes so far have begun.

@@ -53,8 +53,10 @@ fn further_key(byte: u8) -> Option<Key>
         0x01 => Some(Key::All),
         0x07 => Some(Key::Guide),
         0x09 => Some(Key::Append),
+        0x0A => Some(Key::Line),
         0x0B => Some(Key::Fill),
         0x0C => Some(Key::Redraw),
+        0x0D => Some(Key::Return),
         0x15 => Some(Key::Undo),
         _ => None,
     }
@@ -189,6 +191,8 @@ fn numbered_key(n: u16) -> Option<Key>
         18 => Some(Key::Slower(1)),
         19 => Some(Key::Faster(1)),
         20 => Some(Key::Faster(FAR_BEATS)),
+        200 => Some(Key::PasteBegin),
+        201 => Some(Key::PasteEnd),
         _ => None,
     }
 }
