@@ -1,6 +1,6 @@
 -- What full keys make of the editor, and ask for, in a grid of 25 x 57, computed by the
 -- definitions.
-use Rattle.std.specs.Prelude.{◌≡◌, ℕ, false, true, Some, refl}
+use Rattle.std.specs.Prelude.{◌≡◌, ℕ, false, true, Some, None, refl}
 use Rattle.orca_base.specs.declared.area.Rect.{Rect}
 use Rattle.orca_base.specs.declared.command.Command.TheVariants as command
 use Rattle.orca_term.specs.Editing.{editor_after, wish_of}
@@ -36,6 +36,7 @@ at y x h w = record {
   append = false;
   guide = true;
   anchor = record { y = 0; x = 0 };
+  flow = None;
 }
 
 -- the same while typing goes on

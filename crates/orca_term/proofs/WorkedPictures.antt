@@ -1,5 +1,5 @@
 -- The status line, the ruler and the styles, computed by the definitions.
-use Rattle.std.specs.Prelude.{◌≡◌, ℕ, Bool, false, true, List, [], ◌∷◌, ◌++◌, codes, replicate, refl}
+use Rattle.std.specs.Prelude.{◌≡◌, ℕ, Bool, false, true, None, List, [], ◌∷◌, ◌++◌, codes, replicate, refl}
 use Rattle.std.specs.Fmt.{decimal}
 use Rattle.orca_base.specs.Glyphs.{empty, is_operator}
 use Rattle.orca_base.specs.MarkSet.{MarkSet, no_marks}
@@ -24,6 +24,7 @@ editor append guide = record {
   append = append;
   guide = guide;
   anchor = record { y = 3; x = 3 };
+  flow = None;
 }
 
 -- a line where all is well

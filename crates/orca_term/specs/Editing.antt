@@ -1,11 +1,13 @@
 -- The editor: a cursor, and a selection that reaches from it downwards and to the right.
 use Rattle.std.specs.Prelude.{ℕ, ◌+◌, ◌-◌, ◌*◌, ◌/◌, Bool, false, not, ◌&&◌, ◌==◌, max, min, if◌then◌else◌, Some, None}
+use Rattle.std.specs.Option.{option_map_or}
 use Rattle.orca_base.specs.declared.area.Area.{Area}
 use Rattle.orca_base.specs.declared.area.Rect.{Rect}
 use Rattle.orca_base.specs.declared.command.Command.TheVariants as command
 use Rattle.orca_base.specs.declared.limits.TheConstants.{BACK_MOMENTS}
 use Rattle.orca_base.specs.declared.place.Place.{Place}
 use Rattle.orca_base.specs.Grids.{Size}
+use Rattle.orca_term.specs.Pasting.{new_flow, flowed, flow_wish}
 use Rattle.orca_term.specs.declared.around.Around.{Around}
 use Rattle.orca_term.specs.declared.cell.ScreenSize.{ScreenSize}
 use Rattle.orca_term.specs.declared.editor.Wish.{Wish}
@@ -28,6 +30,7 @@ new_editor full = record {
   append = false;
   guide = full;
   anchor = record { y = 0; x = 0 };
+  flow = None;
 }
 
 -- the selection
@@ -113,51 +116,60 @@ spanned from to e =
 
 -- ---- keys
 
--- what a key makes of the editor
-abbrev pub editor_after : Key → Around → Editor → Editor
-editor_after (key.Arrow Move side by) a e = moved_to a.dims e (stepped side by (e.y, e.x))
-editor_after (key.Arrow Stretch side by) a e =
+-- what a key makes of the editor outside a text that is pasted
+abbrev pub edited : Key → Around → Editor → Editor
+edited (key.Arrow Move side by) a e = moved_to a.dims e (stepped side by (e.y, e.x))
+edited (key.Arrow Stretch side by) a e =
     let size = stepped side by (e.h, e.w) in cut_to_grid a.dims (with_selection e size.0 size.1)
-editor_after (key.Arrow Slide side by) a e =
+edited (key.Arrow Slide side by) a e =
     let at = slid side by a.dims e in with_cursor e at.0 at.1
-editor_after (key.Glyph glyph) a e = typed a.dims e
-editor_after key.Rub a e = rubbed e
-editor_after key.All a e = record e { y = 0; x = 0; h = a.dims.h; w = a.dims.w }
-editor_after key.Escape a e = record e { h = 1; w = 1; append = false }
-editor_after key.Append a e = record e { append = not e.append }
-editor_after key.Guide a e = record e { guide = not e.guide }
-editor_after key.Pause a e = record e { paused = not e.paused }
-editor_after (key.Press row column) a e = pressed (pointed a e row column) e
-editor_after (key.Drag row column) a e =
+edited (key.Glyph glyph) a e = typed a.dims e
+edited key.Rub a e = rubbed e
+edited key.All a e = record e { y = 0; x = 0; h = a.dims.h; w = a.dims.w }
+edited key.Escape a e = record e { h = 1; w = 1; append = false }
+edited key.Append a e = record e { append = not e.append }
+edited key.Guide a e = record e { guide = not e.guide }
+edited key.Pause a e = record e { paused = not e.paused }
+edited (key.Press row column) a e = pressed (pointed a e row column) e
+edited (key.Drag row column) a e =
     spanned (place_inside a.dims e.anchor) (pointed a e row column) e
-editor_after _ a e = e
+edited _ a e = e
 
--- what a key asks for
-abbrev pub wish_of : Key → Around → Editor → Wish
-wish_of (key.Arrow Slide side by) a e =
+-- what a key asks for outside such a text
+abbrev pub wished : Key → Around → Editor → Wish
+wished (key.Arrow Slide side by) a e =
     let at = slid side by a.dims e in
     if at.0 == e.y && at.1 == e.x then wish.Nothing
     else wish.Do (command.Move (selection_rect e) at.0 at.1)
-wish_of (key.Arrow Grow side by) a e =
+wished (key.Arrow Grow side by) a e =
     let size = stepped side by (a.dims.h, a.dims.w) in wish.Do (command.Resize size.0 size.1)
-wish_of (key.Glyph glyph) a e = wish.Do (command.Write e.y e.x glyph)
-wish_of key.Fill a e = wish.Do (command.Fill (selection_rect e) a.glyph)
-wish_of key.Rub a e = wish.Do (command.Erase (selection_rect (rubbed e)))
-wish_of key.Erase a e = wish.Do (command.Erase (selection_rect e))
-wish_of key.Copy a e = wish.Do (command.Copy (selection_rect e))
-wish_of key.Cut a e = wish.Do (command.Cut (selection_rect e))
-wish_of key.Paste a e = wish.Do (command.Paste e.y e.x)
-wish_of key.Undo a e = wish.Do command.Undo
-wish_of key.Redo a e = wish.Do command.Redo
-wish_of key.Reset a e = wish.Do command.Reset
-wish_of key.Step a e = wish.Do command.Frame
-wish_of key.Back a e = wish.Do (command.Rewind (a.moments - BACK_MOMENTS))
-wish_of key.Pause a e = wish.Toggle
-wish_of key.Save a e = wish.Save
-wish_of key.Quit a e = wish.Quit
-wish_of (key.Slower beats) a e = wish.Slower beats
-wish_of (key.Faster beats) a e = wish.Faster beats
-wish_of key.Redraw a e = wish.Redraw None
-wish_of (key.Screen rows columns) a e =
+wished (key.Glyph glyph) a e = wish.Do (command.Write e.y e.x glyph)
+wished key.Fill a e = wish.Do (command.Fill (selection_rect e) a.glyph)
+wished key.Rub a e = wish.Do (command.Erase (selection_rect (rubbed e)))
+wished key.Erase a e = wish.Do (command.Erase (selection_rect e))
+wished key.Copy a e = wish.Do (command.Copy (selection_rect e))
+wished key.Cut a e = wish.Do (command.Cut (selection_rect e))
+wished key.Paste a e = wish.Do (command.Paste e.y e.x)
+wished key.Undo a e = wish.Do command.Undo
+wished key.Redo a e = wish.Do command.Redo
+wished key.Reset a e = wish.Do command.Reset
+wished key.Step a e = wish.Do command.Frame
+wished key.Back a e = wish.Do (command.Rewind (a.moments - BACK_MOMENTS))
+wished key.Pause a e = wish.Toggle
+wished key.Save a e = wish.Save
+wished key.Quit a e = wish.Quit
+wished (key.Slower beats) a e = wish.Slower beats
+wished (key.Faster beats) a e = wish.Faster beats
+wished key.Redraw a e = wish.Redraw None
+wished (key.Screen rows columns) a e =
     wish.Redraw (Some (record { rows = rows; columns = columns }))
-wish_of _ a e = wish.Nothing
+wished _ a e = wish.Nothing
+
+-- what a key makes of the editor
+abbrev pub editor_after : Key → Around → Editor → Editor
+editor_after key.PasteBegin a e = record e { flow = Some new_flow }
+editor_after key a e = option_map_or (λ f. flowed key f e) e.flow (edited key a e)
+
+-- what a key asks for
+abbrev pub wish_of : Key → Around → Editor → Wish
+wish_of key a e = option_map_or (λ f. flow_wish key f e) e.flow (wished key a e)

@@ -6,6 +6,7 @@ pub mod Keys
 pub mod Lending
 pub mod Pacing
 pub mod Painting
+pub mod Pasting
 pub mod Picture
 pub mod Terminal
 pub mod Viewing

@@ -3,9 +3,10 @@
 ghost use Rattle.std.specs.Prelude.{◌≡◌, ◌≤◌, ◌&&◌, ℕ, false, nat_le, nat_lt};
 ghost use Rattle.orca_base.specs.Areas.{IsArea};
 ghost use Rattle.orca_base.specs.Edits.{is_in_area};
-ghost use Rattle.orca_term.specs.Editing.{area_of, selection_rect, new_editor, cut_to_grid, editor_inside, stepped, moved_to, slid, typed, rubbed, wish_of, editor_after};
+ghost use Rattle.orca_term.specs.Editing.{area_of, selection_rect, new_editor, cut_to_grid, editor_inside, stepped, moved_to, slid, typed, rubbed, edited, wished, wish_of, editor_after};
+ghost use Rattle.orca_term.specs.Pasting.{flowed};
 
-use crate::{Around, Deed, Key, ScreenSize, Side};
+use crate::{Around, Deed, Flow, Key, ScreenSize, Side};
 use orca_base::limits::BACK_MOMENTS;
 use orca_base::{Command, Dims, Place, Rect};
 use std::ops::Range;
@@ -30,6 +31,8 @@ pub struct Editor {
     pub guide: bool,
     /// The place on which the mouse was pressed last, from which a drag selects.
     pub anchor: Place,
+    /// A text that is pasted, while it is read.
+    pub flow: Option<Flow>,
 }
 
 /// What a key asks for, beside what it makes of the editor.
@@ -67,6 +70,7 @@ impl Editor {
             append: false,
             guide: false,
             anchor: Place { y: 0, x: 0 },
+            flow: None,
         }
     }
 
@@ -118,6 +122,44 @@ impl Editor {
         requires inside { IsArea around.now.dims (area_of self.now) }
         ensures { result ≡ wish_of key.now around.now self.now }
     {
+        match self.flow {
+            Some(flow) => flow.wish(key, self),
+            None => self.wish_outside(key, around),
+        }
+    }
+
+    /// Does what a key makes of the editor.
+    fn change(&mut self, key: Key, around: &Around)
+        requires inside { IsArea around.now.dims (area_of self.old) }
+        ensures editor { self.new ≡ editor_after key around.now self.old }
+        ensures inside { IsArea around.now.dims (area_of self.new) }
+    {
+        if let Key::PasteBegin = key {
+            self.flow = Some(Flow::start());
+            return;
+        }
+        match self.flow {
+            Some(flow) => self.read(flow, &key),
+            None => self.change_outside(key, around),
+        }
+    }
+
+    /// Does what a key makes of the editor inside a text.
+    fn read(&mut self, flow: Flow, key: &Key)
+        ensures { self.new ≡ flowed key.now flow self.old }
+    {
+        self.flow = match *key {
+            Key::PasteEnd => None,
+            Key::Escape => None,
+            _ => Some(flow.after(key)),
+        };
+    }
+
+    /// What a key asks for outside a text that is pasted.
+    fn wish_outside(&self, key: &Key, around: &Around) -> Wish
+        requires inside { IsArea around.now.dims (area_of self.now) }
+        ensures { result ≡ wished key.now around.now self.now }
+    {
         let (y, x) = (u32::from(self.y), u32::from(self.x));
         let rect = self.rect();
         match *key {
@@ -156,7 +198,7 @@ impl Editor {
     /// of the grid.
     fn arrow_wish(&self, deed: Deed, side: Side, by: u16, around: &Around) -> Wish
         requires inside { IsArea around.now.dims (area_of self.now) }
-        ensures { result ≡ wish_of (Key.Arrow deed side by) around.now self.now }
+        ensures { result ≡ wished (Key.Arrow deed side by) around.now self.now }
     {
         match deed {
             Deed::Slide => {
@@ -190,10 +232,10 @@ impl Editor {
         }
     }
 
-    /// Does what a key makes of the editor.
-    fn change(&mut self, key: Key, around: &Around)
+    /// Does what a key makes of the editor outside a text that is pasted.
+    fn change_outside(&mut self, key: Key, around: &Around)
         requires inside { IsArea around.now.dims (area_of self.old) }
-        ensures editor { self.new ≡ editor_after key around.now self.old }
+        ensures editor { self.new ≡ edited key around.now self.old }
         ensures inside { IsArea around.now.dims (area_of self.new) }
     {
         let dims = around.dims;
@@ -221,7 +263,7 @@ impl Editor {
     /// Does what an arrow makes of the editor.
     fn follow(&mut self, deed: Deed, side: Side, by: u16, around: &Around)
         requires inside { IsArea around.now.dims (area_of self.old) }
-        ensures editor { self.new ≡ editor_after (Key.Arrow deed side by) around.now self.old }
+        ensures editor { self.new ≡ edited (Key.Arrow deed side by) around.now self.old }
         ensures inside { IsArea around.now.dims (area_of self.new) }
     {
         let dims = around.dims;

@@ -3,7 +3,7 @@
 ghost use Rattle.std.specs.Prelude.{◌≡◌, ◌+◌, ◌-◌, ◌^◌, ◌<◌, max, min};
 ghost use Rattle.orca_base.specs.Areas.{IsArea};
 ghost use Rattle.orca_base.specs.Grids.{IsInside};
-ghost use Rattle.orca_term.specs.Editing.{area_of, editor_after, place_inside, pointed, spanned};
+ghost use Rattle.orca_term.specs.Editing.{area_of, edited, place_inside, pointed, spanned};
 
 use crate::window::page_of;
 use crate::{Around, Editor, Key};
@@ -13,7 +13,7 @@ impl Editor {
     /// Does what a click on a cell of the screen makes of the editor: the cursor, the selection and the
     /// anchor are the place that it points to.
     pub(crate) fn press(&mut self, around: &Around, row: u16, column: u16)
-        ensures editor { self.new ≡ editor_after (Key.Press row column) around.now self.old }
+        ensures editor { self.new ≡ edited (Key.Press row column) around.now self.old }
         ensures inside { IsArea around.now.dims (area_of self.new) }
     {
         let at = self.pointed(around, row, column);
@@ -25,7 +25,7 @@ impl Editor {
     /// Does what a motion to a cell of the screen makes of the editor while the button is held: the
     /// selection reaches from the anchor to the place that it points to.
     pub(crate) fn drag(&mut self, around: &Around, row: u16, column: u16)
-        ensures editor { self.new ≡ editor_after (Key.Drag row column) around.now self.old }
+        ensures editor { self.new ≡ edited (Key.Drag row column) around.now self.old }
         ensures inside { IsArea around.now.dims (area_of self.new) }
     {
         let to = self.pointed(around, row, column);
