@@ -1,9 +1,10 @@
 -- The status line, the ruler and the styles, computed by the definitions.
-use Rattle.std.specs.Prelude.{◌≡◌, ℕ, Bool, false, true, None, List, [], ◌∷◌, ◌++◌, codes, replicate, refl}
+use Rattle.std.specs.Prelude.{◌≡◌, ℕ, Bool, false, true, Some, None, List, [], ◌∷◌, ◌++◌, codes, replicate, refl}
 use Rattle.std.specs.Fmt.{decimal}
 use Rattle.orca_base.specs.Glyphs.{empty, is_operator}
 use Rattle.orca_base.specs.MarkSet.{MarkSet, no_marks}
 use Rattle.orca_term.specs.Came.{came_word}
+use Rattle.orca_term.specs.Pasting.{new_flow}
 use Rattle.orca_term.specs.Picture.{Scene, byte_at, cell_of, glyph_under, grid_cell, loss_words, status_line_text, style_at, style_by, tempo_word}
 use Rattle.orca_term.specs.Words.{glyph_words}
 use Rattle.orca_base.specs.declared.command.Rule.TheVariants.{EmptyClip}
@@ -85,7 +86,7 @@ lost_port : told (record (line 1) { no_udp = true }) ≡ codes "no udp ok"
 lost_port = refl
 
 -- what is lost stands between the editor's words and the last key's
-all_is_lost : status_line_text (editor true true) 68
+all_is_lost : status_line_text (record (editor true true) { flow = Some new_flow }) 68
     (record (line 1) {
       no_midi = true;
       no_udp = true;
@@ -96,7 +97,8 @@ all_is_lost : status_line_text (editor true true) 68
     ≡ decimal 1 ++ codes " " ++ decimal 5 ++ codes " " ++ decimal 0 ++ codes " "
     ++ decimal 3 ++ codes "," ++ decimal 3 ++ codes " " ++ decimal 1 ++ codes "x" ++ decimal 1
     ++ codes " " ++ codes "play" ++ (codes " " ++ tempo_word (line 1)) ++ codes " append"
-    ++ codes " " ++ codes "no midi no udp no osc no journal " ++ codes "saved" ++ codes " D delay"
+    ++ codes " paste" ++ codes " " ++ codes "no midi no udp no osc no journal " ++ codes "saved"
+    ++ codes " D delay"
 unfolding status_line_text
 all_is_lost = refl
 

@@ -3,6 +3,7 @@
 use Rattle.std.specs.Prelude.{ℕ, ◌+◌, ◌*◌, ◌/◌, ◌%◌, ◌≤◌, ◌==◌, Bool, true, false, ◌&&◌, ◌||◌, if◌then◌else◌, List, [], ◌++◌, map, codes, max, min, slice_index_or}
 use Rattle.std.specs.Fmt.{decimal}
 use Rattle.std.specs.List.{list_any, range_with_len}
+use Rattle.std.specs.Option.{is_some}
 use Rattle.orca_base.specs.Ascii.{space}
 use Rattle.orca_base.specs.Edits.{is_in_area}
 use Rattle.orca_base.specs.Glyphs.{bang, empty, is_operator, is_upper}
@@ -178,7 +179,7 @@ glyph_under scene =
     if is_inside scene.sheet.dims at then glyph_at scene.sheet at else empty
 
 -- the text of the status line, with this glyph at the cursor: the guide adds the tempo and the
--- glyph in words, typing that goes on adds a word, and so does what is lost
+-- glyph in words, typing that goes on adds a word, and so do a text that is pasted and what is lost
 unfoldable pub status_line_text : Editor → ℕ → StatusLine → List ℕ
 status_line_text e glyph line =
     decimal line.tick ++ codes " " ++ decimal line.moments ++ codes " " ++ decimal line.sounding
@@ -186,7 +187,8 @@ status_line_text e glyph line =
     ++ codes " " ++ decimal e.h ++ codes "x" ++ decimal e.w
     ++ codes " " ++ state_word e.paused
     ++ (if e.guide then codes " " ++ tempo_word line else [])
-    ++ (if e.append then codes " append" else []) ++ codes " "
+    ++ (if e.append then codes " append" else [])
+    ++ (if is_some e.flow then codes " paste" else []) ++ codes " "
     ++ loss_words line ++ came_word line.unsaved line.came
     ++ (if e.guide then glyph_words glyph else [])
 

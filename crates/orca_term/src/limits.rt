@@ -9,17 +9,18 @@ pub const NAME_BYTES: usize = 14;
 pub const LOSS_BYTES: usize = 8 + 7 + 7 + 11;
 
 /// The most bytes of the status line: eight numbers, the five letters of a pause, the beat, the six letters
-/// of typing that goes on, what is lost, the name of a rule, a glyph, its name, and the thirteen bytes
-/// between them.
+/// of typing that goes on, the five letters of a text that is pasted, what is lost, the name of a rule, a
+/// glyph, its name, and the fourteen bytes between them.
 pub const STATUS_BYTES: usize = 8 * MAX_DIGITS
     + 5
     + 1
     + 6
+    + 5
     + LOSS_BYTES
     + RULE_NAME_BYTES
     + 1
     + NAME_BYTES
-    + 13;
+    + 14;
 
 /// The most digits of a number in a form that a terminal reads.
 pub const FORM_DIGITS: usize = 3;

@@ -57,6 +57,7 @@ pub(crate) fn status_text(editor: &Editor, glyph: Glyph, line: &StatusLine) -> S
     push_word(&mut text, state_word(editor.paused));
     push_tempo(&mut text, editor, line);
     push_word(&mut text, word_if(editor.append, b" append"));
+    push_word(&mut text, word_if(editor.flow.is_some(), b" paste"));
     push_word(&mut text, b" ");
     push_losses(&mut text, line);
     push_word(&mut text, line.came.word(line.unsaved));
