@@ -1,6 +1,6 @@
 -- What a machine that hands share keeps.
 use Rattle.std.proofs.Common.{◌≡◌, ◌≢◌, ℕ, ◌<◌, ◌≤◌, Bool, true, false, true≢false, List, [], length, Option, Some, None, Ok, Err, refl, arith, ap, sym, ◌∙◌}
-use Rattle.std.specs.Prelude.{Result, if◌then◌else◌, ◌&&◌, ◌==◌}
+use Rattle.std.specs.Prelude.{Result, ◌==◌}
 use Rattle.std.specs.Option.{option_map_or}
 use Rattle.std.proofs.Math.Path.{subst}
 use Rattle.orca_base.specs.declared.command.Command.{Command}
@@ -16,7 +16,7 @@ use Rattle.orca_base.specs.Edits.{clipped}
 use Rattle.orca_base.specs.Grids.{Sheet}
 use Rattle.orca_base.specs.Histories.{last_edit}
 use Rattle.orca_jam.proofs.OwnerLaws.{keeps_owners}
-use Rattle.orca_jam.specs.Crews.{CrewState, answer_to, asked, denial_of, new_player, player_at, struck_by, took_by, with_editor, with_player}
+use Rattle.orca_jam.specs.Crews.{CrewState, answer_to, asked, denial_at, denial_of, new_player, offered, player_at, struck_by, took_by, wish_at, with_editor, with_player}
 use Rattle.orca_jam.specs.Jamming.{Answered, AreInside, IsJam, JamState, Jams, Wished, around_of, before, crew_after, crew_in}
 use Rattle.orca_jam.specs.Laws.{AreOwners}
 use Rattle.orca_jam.specs.Owners.{owned}
@@ -25,14 +25,12 @@ use Rattle.orca_jam.specs.declared.answers.JamFault.{JamFault}
 use Rattle.orca_jam.specs.declared.answers.JamReply.{JamReply}
 use Rattle.orca_jam.specs.declared.denial.Denial.{Denial}
 use Rattle.orca_jam.specs.declared.player.Player.{Player}
-use Rattle.orca_term.specs.Editing.{area_of, editor_after, selection_rect, slid}
+use Rattle.orca_term.specs.Editing.{area_of, editor_after}
 use Rattle.orca_term.specs.declared.around.Around.{Around}
 use Rattle.orca_term.specs.declared.editor.Editor.{Editor}
 use Rattle.orca_term.specs.declared.editor.Wish.{Wish}
 use Rattle.orca_term.specs.declared.editor.Wish.TheVariants as wish
-use Rattle.orca_term.specs.declared.keys.Deed.TheVariants.{Move, Stretch, Slide, Grow}
 use Rattle.orca_term.specs.declared.keys.Key.{Key}
-use Rattle.orca_term.specs.declared.keys.Key.TheVariants as key
 use Rattle.std.proofs.lemmas.Grind.{get_or-set_at}
 use Rattle.std.proofs.lemmas.Bool.Decides.{nat_tests}
 use Rattle.std.proofs.lemmas.List.{get_or-set_other, get_or-set_same, length-set, set-get_or, set-set}
@@ -178,56 +176,35 @@ abbrev is_redo : Wish → Bool
 is_redo (wish.Do command.Redo) = true
 is_redo _ = false
 
-no_redo : (c : CrewState) (hand : ℕ) (k : Key) (a : Around) → c.alone ≡ false
-    → is_redo (asked c hand k a) ≡ false
-no_redo c hand key.Redo a shared = rw shared refl
-no_redo c hand (key.Arrow Slide side by) a shared =
-    slides (slid side by a.dims (player_at c hand).editor)
-  where
-    slides : (at : ℕ × ℕ)
-        → is_redo (if at.0 == (player_at c hand).editor.y && at.1 == (player_at c hand).editor.x
-        then wish.Nothing else wish.Do (command.Move (selection_rect (player_at c hand).editor) at.0 at.1))
-        ≡ false
-    slides at = either (at.0 == (player_at c hand).editor.y && at.1 == (player_at c hand).editor.x)
-      where
-        either : (b : Bool) → is_redo (if b then wish.Nothing
-            else wish.Do (command.Move (selection_rect (player_at c hand).editor) at.0 at.1)) ≡ false
-        either true = refl
-        either false = refl
-no_redo c hand (key.Glyph glyph) a shared = refl
-no_redo c hand (key.Arrow Move side by) a shared = refl
-no_redo c hand (key.Arrow Stretch side by) a shared = refl
-no_redo c hand (key.Arrow Grow side by) a shared = refl
-no_redo c hand key.Rub a shared = refl
-no_redo c hand key.Pause a shared = refl
-no_redo c hand key.Copy a shared = refl
-no_redo c hand key.Cut a shared = refl
-no_redo c hand key.Paste a shared = refl
-no_redo c hand key.Undo a shared = refl
-no_redo c hand key.Back a shared = refl
-no_redo c hand key.Reset a shared = refl
-no_redo c hand key.Step a shared = refl
-no_redo c hand key.Save a shared = refl
-no_redo c hand key.Quit a shared = refl
-no_redo c hand key.Escape a shared = refl
-no_redo c hand key.All a shared = refl
-no_redo c hand key.Guide a shared = refl
-no_redo c hand key.Append a shared = refl
-no_redo c hand key.Erase a shared = refl
-no_redo c hand key.Fill a shared = refl
-no_redo c hand key.Redraw a shared = refl
-no_redo c hand (key.Slower beats) a shared = refl
-no_redo c hand (key.Faster beats) a shared = refl
-no_redo c hand (key.Press row column) a shared = refl
-no_redo c hand (key.Drag row column) a shared = refl
-no_redo c hand (key.Screen rows columns) a shared = refl
+no_redo : (c : CrewState) (w : Wish) → c.alone ≡ false → is_redo (offered c w) ≡ false
+no_redo c (wish.Do command.Redo) shared = rw shared refl
+no_redo c (wish.Do command.Frame) shared = refl
+no_redo c (wish.Do (command.Write y x glyph)) shared = refl
+no_redo c (wish.Do (command.Fill rect glyph)) shared = refl
+no_redo c (wish.Do (command.Erase rect)) shared = refl
+no_redo c (wish.Do (command.Copy rect)) shared = refl
+no_redo c (wish.Do (command.Cut rect)) shared = refl
+no_redo c (wish.Do (command.Clip y x glyph)) shared = refl
+no_redo c (wish.Do (command.Paste y x)) shared = refl
+no_redo c (wish.Do (command.Move rect to_y to_x)) shared = refl
+no_redo c (wish.Do (command.Resize h w)) shared = refl
+no_redo c (wish.Do command.Reset) shared = refl
+no_redo c (wish.Do command.Undo) shared = refl
+no_redo c (wish.Do (command.Rewind moment)) shared = refl
+no_redo c wish.Nothing shared = refl
+no_redo c wish.Toggle shared = refl
+no_redo c wish.Save shared = refl
+no_redo c wish.Quit shared = refl
+no_redo c (wish.Slower beats) shared = refl
+no_redo c (wish.Faster beats) shared = refl
+no_redo c (wish.Redraw size) shared = refl
 
 pub asks-no-redo : (c : CrewState) (hand : ℕ) (k : Key) (a : Around) (w : Wish) → c.alone ≡ false
     → Ok w ≡ answer_to c hand k a → w ≢ wish.Do command.Redo
 unfolding denial_of
 asks-no-redo c hand k a w shared told redo =
-    let not_so = no_redo c hand k a shared in
-    let is : w ≡ asked c hand k a = told-by (denial_of c hand k) w (asked c hand k a) told in
+    let not_so = no_redo c (wish_at c hand k a) shared in
+    let is : w ≡ asked c hand k a = told-by (denial_at c hand k a) w (asked c hand k a) told in
     absurd (true≢false (sym (ap is_redo redo) ∙ (ap is_redo is ∙ not_so)))
   where
     told-by : (denial : Option Denial) (w v : Wish)

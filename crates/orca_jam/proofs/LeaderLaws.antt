@@ -45,8 +45,8 @@ free-by false false false last free = refl
 
 pub leader_is_free : LeaderIsFree
 unfolding denial_of
-leader_is_free c key all =
-    free-by c.alone (is_leaders c key) (is_undo key) (last_editor c.owners) (mine c.owners all)
+leader_is_free c w all =
+    free-by c.alone (is_leaders c w) (is_undo w) (last_editor c.owners) (mine c.owners all)
 
 -- ---- and it stays so
 

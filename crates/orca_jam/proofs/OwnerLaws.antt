@@ -23,7 +23,7 @@ use Rattle.orca_jam.specs.Laws.{AreOwners, KeepsOwners, UndoSpares, edits_of_oth
 use Rattle.orca_jam.specs.Owners.{is_edit_command, last_editor, nobodys, owned}
 use Rattle.orca_jam.specs.declared.denial.Denial.TheVariants.{NotYours}
 use Rattle.orca_jam.specs.declared.owner.Owner.{Owner}
-use Rattle.orca_term.specs.declared.keys.Key.TheVariants as key
+use Rattle.orca_term.specs.declared.editor.Wish.TheVariants as wish
 
 -- ---- owners beside entries
 
@@ -235,7 +235,7 @@ own-by hand (Some other) some free = by (other == hand) refl free
         let denied : not_yours hand (Some other) ≡ Some (NotYours other) = rw is refl in
         absurd (none-some _ (sym free ∙ denied))
 
-own : (c : CrewState) (hand : ℕ) → c.alone ≡ false → denial_of c hand key.Undo ≡ None
+own : (c : CrewState) (hand : ℕ) → c.alone ≡ false → denial_of c hand (wish.Do command.Undo) ≡ None
     → is_some (last_editor c.owners) ≡ true → last_editor c.owners ≡ Some hand
 unfolding denial_of
 own c hand shared denied some =

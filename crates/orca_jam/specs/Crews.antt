@@ -2,6 +2,7 @@
 use Rattle.std.specs.Prelude.{ℕ, ◌==◌, ◌+◌, Bool, true, false, not, ◌&&◌, if◌then◌else◌, List, [], ◌∷◌, ◌++◌, drop, map, length, replicate, slice_index_or, slice_set, take, Option, Some, None, Result, Ok, Err}
 use Rattle.std.specs.Option.{option_map_or}
 use Rattle.orca_base.specs.declared.command.Command.{Command}
+use Rattle.orca_base.specs.declared.command.Command.TheVariants as command
 use Rattle.orca_base.specs.Grids.{Size}
 use Rattle.orca_base.specs.declared.place.Place.{Place}
 use Rattle.orca_jam.specs.Denials.{is_undo, not_yours}
@@ -17,9 +18,7 @@ use Rattle.orca_term.specs.declared.around.Around.{Around}
 use Rattle.orca_term.specs.declared.editor.Editor.{Editor}
 use Rattle.orca_term.specs.declared.editor.Wish.{Wish}
 use Rattle.orca_term.specs.declared.editor.Wish.TheVariants as wish
-use Rattle.orca_term.specs.declared.keys.Deed.TheVariants.{Grow}
 use Rattle.orca_term.specs.declared.keys.Key.{Key}
-use Rattle.orca_term.specs.declared.keys.Key.TheVariants as key
 use Rattle.orca_term.specs.declared.keys.Pending.TheVariants.{Nothing}
 
 -- whether a hand plays alone, whether the full keys are read, whether each hand has a picture of
@@ -101,44 +100,54 @@ cursors_beside c hand =
 
 -- ---- what a hand may ask for
 
--- the keys of the first hand alone: they go back, begin anew, pause, save or end, and change the
--- tempo or the size of the grid; with full keys a step is one, and, unless each hand has a picture
--- of its own, what changes the picture
-abbrev pub is_leaders : CrewState → Key → Bool
-is_leaders c key.Back = true
-is_leaders c key.Reset = true
-is_leaders c key.Pause = true
-is_leaders c key.Save = true
-is_leaders c key.Quit = true
-is_leaders c (key.Slower beats) = true
-is_leaders c (key.Faster beats) = true
-is_leaders c key.Step = c.full
-is_leaders c key.Redraw = not c.views
-is_leaders c (key.Screen rows columns) = not c.views
-is_leaders c (key.Arrow Grow side by) = true
+-- the wishes of the first hand alone: to go back, to begin anew, to pause, to save, to end, and to
+-- change the tempo or the size of the grid; with full keys a frame is one, and, unless each hand has
+-- a picture of its own, what changes the picture
+abbrev pub is_leaders : CrewState → Wish → Bool
+is_leaders c wish.Toggle = true
+is_leaders c wish.Save = true
+is_leaders c wish.Quit = true
+is_leaders c (wish.Slower beats) = true
+is_leaders c (wish.Faster beats) = true
+is_leaders c (wish.Redraw size) = not c.views
+is_leaders c (wish.Do (command.Rewind moment)) = true
+is_leaders c (wish.Do command.Reset) = true
+is_leaders c (wish.Do (command.Resize h w)) = true
+is_leaders c (wish.Do command.Frame) = c.full
 is_leaders c _ = false
 
--- why a key is denied to a hand, if it is: the first reason that stands. A hand that plays alone
+-- why a wish is denied to a hand, if it is: the first reason that stands. A hand that plays alone
 -- may do all
-unfoldable pub denial_of : CrewState → ℕ → Key → Option Denial
-denial_of c hand key =
+unfoldable pub denial_of : CrewState → ℕ → Wish → Option Denial
+denial_of c hand w =
     if c.alone then None
-    else (if is_leaders c key && not (hand == LEADER) then Some LeaderOnly
-    else (if is_undo key then not_yours hand (last_editor c.owners) else None))
+    else (if is_leaders c w && not (hand == LEADER) then Some LeaderOnly
+    else (if is_undo w then not_yours hand (last_editor c.owners) else None))
 
 -- hands that share a session do nothing again that was taken back
-abbrev pub offers : CrewState → Key → Bool
-offers c key.Redo = c.alone
+abbrev pub offers : CrewState → Wish → Bool
+offers c (wish.Do command.Redo) = c.alone
 offers c _ = true
 
--- what a key asks for that isn't denied
+-- what comes of a wish that isn't denied
+abbrev pub offered : CrewState → Wish → Wish
+offered c w = if offers c w then w else wish.Nothing
+
+-- what a key of a hand asks for
+abbrev pub wish_at : CrewState → ℕ → Key → Around → Wish
+wish_at c hand key a = wish_of key a (player_at c hand).editor
+
+-- the same where it isn't denied
 abbrev pub asked : CrewState → ℕ → Key → Around → Wish
-asked c hand key a =
-    if offers c key then wish_of key a (player_at c hand).editor else wish.Nothing
+asked c hand key a = offered c (wish_at c hand key a)
+
+-- why a key is denied to a hand, if it is
+abbrev pub denial_at : CrewState → ℕ → Key → Around → Option Denial
+denial_at c hand key a = denial_of c hand (wish_at c hand key a)
 
 -- what a hand is told of a key
 abbrev pub answer_to : CrewState → ℕ → Key → Around → Result Wish Denial
-answer_to c hand key a = option_map_or Err (denial_of c hand key) (Ok (asked c hand key a))
+answer_to c hand key a = option_map_or Err (denial_at c hand key a) (Ok (asked c hand key a))
 
 -- the crew after a key that isn't denied
 abbrev pub struck_by : ℕ → Key → Around → CrewState → CrewState

@@ -2,17 +2,18 @@
 use Rattle.std.specs.Prelude.{ℕ, ◌==◌, Bool, true, false, if◌then◌else◌, List, [], ◌∷◌, ◌++◌, codes, Option, Some, None}
 use Rattle.std.specs.Fmt.{decimal}
 use Rattle.orca_base.specs.Ascii.{line_feed}
+use Rattle.orca_base.specs.declared.command.Command.TheVariants as command
 use Rattle.orca_jam.specs.declared.denial.Denial.{Denial}
 use Rattle.orca_jam.specs.declared.denial.Denial.TheVariants.{LeaderOnly, NotYours}
 use Rattle.orca_term.specs.Came.{hand_rule_name}
 use Rattle.orca_term.specs.declared.came.HandRule.{HandRule}
 use Rattle.orca_term.specs.declared.came.HandRule.TheVariants as rule
-use Rattle.orca_term.specs.declared.keys.Key.{Key}
-use Rattle.orca_term.specs.declared.keys.Key.TheVariants as key
+use Rattle.orca_term.specs.declared.editor.Wish.{Wish}
+use Rattle.orca_term.specs.declared.editor.Wish.TheVariants as wish
 
--- the key that takes back the last edit
-abbrev pub is_undo : Key → Bool
-is_undo key.Undo = true
+-- the wish to take back the last edit
+abbrev pub is_undo : Wish → Bool
+is_undo (wish.Do command.Undo) = true
 is_undo _ = false
 
 -- an undo of a hand, where the last edit is the one of this hand, if there is an edit

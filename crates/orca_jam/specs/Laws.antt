@@ -10,8 +10,8 @@ use Rattle.orca_jam.specs.Owners.{owned}
 use Rattle.orca_jam.specs.declared.crew.TheConstants.{LEADER}
 use Rattle.orca_jam.specs.declared.owner.Owner.{Owner}
 use Rattle.orca_jam.specs.declared.owner.TheConstants.{NOBODY}
-use Rattle.orca_term.specs.declared.keys.Key.{Key}
-use Rattle.orca_term.specs.declared.keys.Key.TheVariants as key
+use Rattle.orca_term.specs.declared.editor.Wish.{Wish}
+use Rattle.orca_term.specs.declared.editor.Wish.TheVariants as wish
 
 -- owners of a history: one of each entry, and an edit where it has one
 abbrev pub AreOwners : List Entry → List Owner → Type 0
@@ -38,7 +38,7 @@ edits_of_others hand history owners = filter (λ e. is_of_other hand e.1) (zip h
 abbrev pub UndoSpares : Type 0
 UndoSpares =
     (m : MachineState) (c : CrewState) (hand : ℕ)
-    → AreOwners m.history c.owners → c.alone ≡ false → denial_of c hand key.Undo ≡ None
+    → AreOwners m.history c.owners → c.alone ≡ false → denial_of c hand (wish.Do command.Undo) ≡ None
     → rule_against m command.Undo ≡ None
     → let after = (obey m command.Undo).machine.history in
     edits_of_others hand after (owned hand command.Undo (length after) c.owners)
@@ -51,7 +51,7 @@ AreLeaders owners = All (λ owner. owner.edit ≡ true → owner.hand ≡ LEADER
 -- where each edit is the first hand's, nothing is denied to it
 abbrev pub LeaderIsFree : Type 0
 LeaderIsFree =
-    (c : CrewState) (key : Key) → AreLeaders c.owners → denial_of c LEADER key ≡ None
+    (c : CrewState) (w : Wish) → AreLeaders c.owners → denial_of c LEADER w ≡ None
 
 -- its own commands, and the frames that nobody asked for, leave it so
 abbrev pub LeaderStaysFree : Type 0

@@ -3,9 +3,9 @@
 ghost use Rattle.std.specs.Prelude.{◌≡◌, ◌+◌, ◌<◌, ◌≤◌, ◌++◌, ℕ, All, false, length, map, nat_le, slice_get, IfOk, OnErr, OnOk};
 ghost use Rattle.orca_base.specs.Areas.{IsArea};
 ghost use Rattle.orca_base.specs.declared.limits.TheConstants.{MAX_HANDS};
-ghost use Rattle.orca_jam.specs.Crews.{answer_to, crew_alone, crew_at_start, cursor_of, cursors_beside, denial_of, fitted_crew, fitted_player, offers, player_at, is_leaders as belongs_to_leader, struck_by, took_by, turned_by, viewers_of, with_editor, with_player};
+ghost use Rattle.orca_jam.specs.Crews.{answer_to, crew_alone, crew_at_start, cursor_of, cursors_beside, denial_of, fitted_crew, fitted_player, offered, player_at, is_leaders as belongs_to_leader, struck_by, took_by, turned_by, viewers_of, with_editor, with_player};
 ghost use Rattle.orca_jam.specs.Denials.{not_yours};
-ghost use Rattle.orca_term.specs.Editing.{area_of, wish_of};
+ghost use Rattle.orca_term.specs.Editing.{area_of};
 ghost use Rattle.orca_term.specs.Keys.{Byte, Due, turn};
 ghost use Rattle.orca_term.specs.declared.limits.TheConstants.{MAX_CURSORS};
 
@@ -14,7 +14,7 @@ use crate::player::Player;
 use crate::{Denial, Owner};
 use orca_base::limits::MAX_HANDS;
 use orca_base::{Command, Dims, Memory};
-use orca_term::{Around, Cursors, Deed, Editor, Key, Strokes, Wish};
+use orca_term::{Around, Cursors, Editor, Key, Strokes, Wish};
 use std::alloc::Global;
 use std::marker::Model;
 
@@ -207,7 +207,7 @@ impl Crew {
     }
 
     /// What a key of a hand asks for, with what it makes of the editor of that hand. A key that is denied
-    /// changes nothing: [`Denial::LeaderOnly`] if it belongs to the first hand, and else
+    /// changes nothing: [`Denial::LeaderOnly`] if what it asks for belongs to the first hand, and else
     /// [`Denial::NotYours`] if it would take back the edit of another.
     pub fn ask(&mut self, hand: u8, key: Key, around: &Around) -> Result<Wish, Denial>
         requires hand { hand < length self.old.players }
@@ -217,67 +217,56 @@ impl Crew {
         ensures asked { OnOk result (self.new ≡ struck_by hand key around.now self.old) }
         ensures inside { IsArea around.now.dims (area_of (player_at self.new hand).editor) }
     {
-        if let Some(denial) = self.denial(hand, &key) {
-            return Err(denial);
-        }
-        let offered = self.offers(&key);
-        let wish = self.strike(hand, key, around);
-        if !offered {
-            return Ok(Wish::Nothing);
-        }
-        Ok(wish)
-    }
-
-    /// What a key of a hand asks for, with what it makes of the editor.
-    fn strike(&mut self, hand: u8, key: Key, around: &Around) -> Wish
-        requires hand { hand < length self.old.players }
-        requires inside { IsArea around.now.dims (area_of (player_at self.old hand).editor) }
-        ensures wish { result ≡ wish_of key around.now (player_at self.old hand).editor }
-        ensures crew { self.new ≡ struck_by hand key around.now self.old }
-        ensures inside { IsArea around.now.dims (area_of (player_at self.new hand).editor) }
-    {
         let mut player = self.player(hand);
         let wish = player.editor.key(key, around);
+        if let Some(denial) = self.denial(hand, &wish) {
+            return Err(denial);
+        }
         self.seat(hand, player);
-        wish
+        Ok(self.offered(wish))
     }
 
-    /// Why a key is denied to a hand, if it is.
+    /// Why a wish is denied to a hand, if it is.
     #[tactic(auto, unfolding(crate::specs::Crews::denial_of))]
-    fn denial(&self, hand: u8, key: &Key) -> Option<Denial>
-        ensures { result ≡ denial_of self.now hand key.now }
+    fn denial(&self, hand: u8, wish: &Wish) -> Option<Denial>
+        ensures { result ≡ denial_of self.now hand wish.now }
     {
         if self.alone {
             return None;
         }
-        if hand != LEADER && self.is_leaders(key) {
+        if hand != LEADER && self.is_leaders(wish) {
             return Some(Denial::LeaderOnly);
         }
-        if !matches!(key, Key::Undo) {
+        if !matches!(wish, Wish::Do(Command::Undo)) {
             return None;
         }
         deny(hand, last_editor(&self.owners))
     }
 
-    /// Whether a key belongs to the first hand.
-    fn is_leaders(&self, key: &Key) -> bool
-        ensures { result ≡ belongs_to_leader self.now key.now }
+    /// Whether a wish belongs to the first hand.
+    fn is_leaders(&self, wish: &Wish) -> bool
+        ensures { result ≡ belongs_to_leader self.now wish.now }
     {
-        match key {
-            Key::Back | Key::Reset | Key::Pause | Key::Save | Key::Quit => true,
-            Key::Slower(_) | Key::Faster(_) => true,
-            Key::Step => self.full,
-            Key::Redraw | Key::Screen { .. } => !self.views,
-            Key::Arrow { deed, .. } => matches!(deed, Deed::Grow),
+        match wish {
+            Wish::Toggle | Wish::Save | Wish::Quit => true,
+            Wish::Slower(_) | Wish::Faster(_) => true,
+            Wish::Redraw(_) => !self.views,
+            Wish::Do(Command::Rewind { .. }) => true,
+            Wish::Do(Command::Reset) => true,
+            Wish::Do(Command::Resize { .. }) => true,
+            Wish::Do(Command::Frame) => self.full,
             _ => false,
         }
     }
 
-    /// Whether a key is offered.
-    fn offers(&self, key: &Key) -> bool
-        ensures { result ≡ offers self.now key.now }
+    /// What comes of a wish that isn't denied.
+    fn offered(&self, wish: Wish) -> Wish
+        ensures { result ≡ offered self.now wish }
     {
-        self.alone || !matches!(key, Key::Redo)
+        if !self.alone && matches!(wish, Wish::Do(Command::Redo)) {
+            return Wish::Nothing;
+        }
+        wish
     }
 
     /// Whether there is room for the owners of so many entries.
