@@ -1,6 +1,6 @@
 -- How bytes are cut into answers changes no command: performances go by their items.
 use Rattle.std.proofs.Common.{◌≡◌, ℕ, zero, suc, length, Bool, true, false, List, [], ◌∷◌, refl, sym, ◌∙◌, ap, subst, arith}
-use Rattle.std.specs.Prelude.{if◌then◌else◌, map, nat_lt, slice_index_or, slice_set, Option, Some, None, unwrap_or}
+use Rattle.std.specs.Prelude.{if◌then◌else◌, map, nat_lt, slice_index_or, slice_set, Option, Some, None, is_some, unwrap_or}
 use Rattle.std.specs.List.{range_with_len}
 use Rattle.std.proofs.lemmas.List.{length-map}
 use Rattle.std.specs.Option.{option_map_or}
@@ -30,7 +30,7 @@ use Rattle.orca_edit.proofs.FoldLemmas.{fold_entries-append, silence-piece_after
 use Rattle.orca_op.specs.Scan.{places, scan}
 use Rattle.orca_op.proofs.VisitFacts.{dims_after_places}
 use Rattle.orca_op.specs.Rules.{rule}
-use Rattle.orca_jam.specs.Crews.{CrewState, asked, denial_of, fitted_crew, fitted_player, new_player, player_at, struck_by, turned_by, turned_player}
+use Rattle.orca_jam.specs.Crews.{CrewState, asked, denial_at, fitted_crew, fitted_player, new_player, player_at, struck_by, turned_by, turned_player}
 use Rattle.orca_jam.specs.declared.denial.Denial.{Denial}
 use Rattle.orca_jam.specs.declared.owner.TheConstants.{NOBODY}
 use Rattle.orca_jam.specs.declared.player.Player.{Player}
@@ -40,14 +40,15 @@ use Rattle.orca_term.specs.declared.around.Around.{Around}
 use Rattle.orca_term.specs.declared.cell.ScreenSize.{ScreenSize}
 use Rattle.orca_term.specs.declared.editor.Wish.{Wish}
 use Rattle.orca_term.specs.declared.editor.Wish.TheVariants as wish
+use Rattle.orca_term.specs.declared.flow.Flow.{Flow}
 use Rattle.orca_term.specs.declared.keys.Key.{Key}
 use Rattle.orca_term.specs.declared.keys.Pending.{Pending}
 use Rattle.orca_live.specs.Carrying.{Carries, midway_carried, press_carried}
 use Rattle.orca_live.specs.Items.{ByteOf, FrameDue, HeardItem}
 use Rattle.orca_live.specs.Laws.{ItemsDecide, screens_of}
-use Rattle.orca_live.specs.Performing.{answered_at, byte_course, denied_course, due_course, fired, frame_course, hand_course, finish_course, item_course, key_course, keys_course, knowing, live_part, lull_course, owning, picture_course, press_course, read_course, redrawn, save_course, struck_course, struck_well, struck_where, take_course, wish_course}
-use Rattle.orca_live.specs.States.{LiveState, Viewed, around_at, dims_at, fitted, hands_in, is_full, is_hand, leader_at, screen_at, unpainted}
-use Rattle.orca_live.proofs.GivenLemmas.{IsAside, blank, blank_twice, core, core_fitted, core_plain, core_twice, finish_closes, journal_aside, paint_aside, plain, players_twice, show_aside, write_aside}
+use Rattle.orca_live.specs.Performing.{answered_at, byte_course, denied_course, due_course, fired, frame_course, hand_course, finish_course, item_course, key_course, keys_course, knowing, live_part, lull_course, lull_of, owning, picture_course, press_course, read_course, redrawn, save_course, struck_course, struck_well, struck_where, take_course, wish_course}
+use Rattle.orca_live.specs.States.{LiveState, Viewed, around_at, dims_at, fitted, hands_in, is_full, is_hand, leader_at, reads_text, screen_at, unpainted}
+use Rattle.orca_live.proofs.GivenLemmas.{IsAside, blank, blank_twice, core, core_plain, core_twice, finish_closes, journal_aside, paint_aside, plain, players_twice, show_aside, write_aside}
 use Rattle.orca_live.proofs.WorthLemmas.{all_counted, worth_of}
 
 -- ---- the number of hands
@@ -172,7 +173,11 @@ press_plain : (hand : ℕ) (key : Key) (s : LiveState)
     → told core (press_course hand key s) ≡ told core (struck_course hand key (core s))
 unfolding press_course key_course struck_course
 press_plain hand key s =
-    let t = fitted (struck_well hand key s) in where_plain hand key t (denial_of t.crew hand key)
+    let t = fitted (struck_well hand key s) in
+    where_plain hand key t (denial_at t.crew hand key (around_at hand t))
+    ∙ ap (λ (a : Around).
+    told core (struck_where hand key (plain t) (denial_at t.crew hand key a)))
+    (sym (around_plain hand t))
 
 press_steady : (hand : ℕ) (key : Key) → Steady (press_course hand key)
 press_steady hand key s =
@@ -262,20 +267,38 @@ item_steady hand item s =
     ∙ ap (λ (hands : ℕ). told core (if nat_lt hand hands then read_course hand item (core s)
     else still (core s))) (sym (same_hands s))
 
+-- nor of whether a text is read
+text_fitted : (d : Size) (players : List Player) (hand : ℕ)
+    → (slice_index_or (map (fitted_player d) players) hand (new_player false)).editor.flow
+    ≡ (slice_index_or players hand (new_player false)).editor.flow
+text_fitted d [] hand = refl
+text_fitted d (p ∷ players) zero = refl
+text_fitted d (p ∷ players) (suc hand) = text_fitted d players hand
+
+lull_by : (text : Bool) (hand : ℕ) → Steady (λ s. if text then still s else item_course hand Due s)
+lull_by true hand s = ap (quiet false) (sym (core_twice s))
+lull_by false hand s = item_steady hand Due s
+
+lull_steady : (hand : ℕ) → Steady (lull_of hand)
+unfolding lull_of
+lull_steady hand s =
+    lull_by (reads_text hand s) hand s
+    ∙ ap (λ (flow : Option Flow).
+    told core (if is_some flow then still (core s) else item_course hand Due (core s)))
+    (sym (text_fitted (dims_at s) s.crew.players hand))
+
 -- nothing came of each of these hands
-lulls_steady : (hands : List ℕ) → Steady (each (λ hand. item_course hand Due) hands)
+lulls_steady : (hands : List ℕ) → Steady (each lull_of hands)
 unfolding each
 lulls_steady [] s = ap (quiet false) (sym (core_twice s))
 lulls_steady (hand ∷ hands) s =
-    onward_steady (item_course hand Due) (each (λ hand. item_course hand Due) hands)
-    (item_steady hand Due) (lulls_steady hands) s
+    onward_steady (lull_of hand) (each lull_of hands) (lull_steady hand) (lulls_steady hands) s
 
-lull_steady : Steady lull_course
+all_steady : Steady lull_course
 unfolding lull_course
-lull_steady s =
+all_steady s =
     lulls_steady (hands_in s) s
-    ∙ ap (λ (hands : ℕ).
-    told core (each (λ hand. item_course hand Due) (range_with_len 0 hands) (core s)))
+    ∙ ap (λ (hands : ℕ). told core (each lull_of (range_with_len 0 hands) (core s)))
     (sym (same_hands s))
 
 -- ---- frames
@@ -349,7 +372,7 @@ frame_steady s = frame_by (is_full s) s
 
 due_steady : Steady due_course
 unfolding due_course
-due_steady = onward_steady lull_course frame_course lull_steady frame_steady
+due_steady = onward_steady lull_course frame_course all_steady frame_steady
 
 -- ---- items
 

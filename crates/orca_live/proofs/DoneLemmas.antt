@@ -25,12 +25,12 @@ use Rattle.orca_course.proofs.WorldLemmas.{made_none, made_screen, made_show, ma
 use Rattle.orca_edit.specs.Machines.{preview_of}
 use Rattle.orca_edit.specs.Prices.{preview_price}
 use Rattle.orca_term.specs.Pacing.{Pace}
-use Rattle.orca_jam.specs.Crews.{CrewState, answer_to, asked, denial_of, player_at, struck_by, turned_by, turned_player}
+use Rattle.orca_jam.specs.Crews.{CrewState, answer_to, asked, denial_at, player_at, struck_by, turned_by, turned_player}
 use Rattle.orca_jam.specs.Denials.{rule_of_denial}
 use Rattle.orca_jam.specs.declared.crew.TheConstants.{LEADER}
 use Rattle.orca_term.specs.Came.{came_to}
 use Rattle.orca_jam.specs.declared.denial.Denial.{Denial}
-use Rattle.orca_term.specs.Keys.{Due, Item, turn}
+use Rattle.orca_term.specs.Keys.{Item, turn}
 use Rattle.orca_term.specs.declared.came.Came.{Came}
 use Rattle.orca_term.specs.declared.came.Came.TheVariants.{Denied, Kept}
 use Rattle.orca_term.specs.declared.editor.Wish.{Wish}
@@ -42,7 +42,7 @@ use Rattle.orca_term.specs.Viewing.{Seen, painting_bytes}
 use Rattle.orca_term.specs.declared.status.StatusLine.{StatusLine}
 use Rattle.orca_term.specs.declared.cell.Cell.{Cell}
 use Rattle.orca_term.specs.declared.cell.ScreenSize.{ScreenSize}
-use Rattle.orca_live.specs.Performing.{additions, hush_course, hand_course, denied_course, lull_course, lines_course, noted, obeyed_by, of_session, owning, item_course, key_course, keys_course, overlay_at, press_course, read_course, save_course, struck_course, struck_well, telling, wish_course, words_at_key, paint_course, painted_course, picture_course, picture_for, preview_course, redrawn, show_course, view_acts, loosens}
+use Rattle.orca_live.specs.Performing.{additions, hush_course, hand_course, denied_course, lull_course, lull_of, lines_course, noted, obeyed_by, of_session, owning, key_course, keys_course, overlay_at, press_course, read_course, save_course, struck_course, struck_well, telling, wish_course, words_at_key, paint_course, painted_course, picture_course, picture_for, preview_course, redrawn, show_course, view_acts, loosens}
 use Rattle.orca_live.specs.Quiet.{silent_manner}
 use Rattle.orca_live.specs.States.{LiveState, Viewed, live_stance, around_at, fitted, hands_in, is_viewer, key_name, piece_at, status_line_at, unpainted, view_at, viewed_in, with_view}
 use Rattle.orca_live.specs.Marking.{marks_by}
@@ -209,7 +209,8 @@ pub struck_asked : (hand : ℕ) (key : Key) (s : LiveState) (answer : Result Wis
     → Does live_stance (struck_course hand key s) s x result t y
 unfolding struck_course
 struck_asked hand key s answer w crew told is changes did =
-    let by = asked_by (denial_of s.crew hand key) (asked s.crew hand key (around_at hand s)) w
+    let around = around_at hand s in
+    let by = asked_by (denial_at s.crew hand key around) (asked s.crew hand key around) w
     (sym is ∙ told) in
     rw by.0 (does_from s refl (rw (by.1, rw is at changes) at did))
 
@@ -224,9 +225,10 @@ pub struck_denied : (hand : ℕ) (key : Key) (s : LiveState) (answer : Result Wi
     (record s { crew = crew; words = words }) (owing n y)
 unfolding struck_course denied_course
 struck_denied hand key s answer denial crew words n result told is same tells called =
+    let around = around_at hand s in
     rw (
       tells,
-      denied_by (denial_of s.crew hand key) (asked s.crew hand key (around_at hand s)) denial
+      denied_by (denial_at s.crew hand key around) (asked s.crew hand key around) denial
           (sym is ∙ told),
       rw is at same,
     )
@@ -289,8 +291,7 @@ hands_over n k past = drop_all k (range_with_len 0 n) (rw length-range_with_len 
 -- nothing came of each hand
 pub lull_did : (hands : ℕ) (s : LiveState) {t : LiveState} {x y : World}
     {result : Result (Option Stop) NoMemory} → hands ≡ length s.crew.players
-    → Does live_stance (each (λ hand. item_course hand Due) (range_with_len 0 hands) s) s x result
-    t y
+    → Does live_stance (each lull_of (range_with_len 0 hands) s) s x result t y
     → Does live_stance (lull_course s) s x result t y
 unfolding lull_course
 lull_did hands s are did = rw are at did

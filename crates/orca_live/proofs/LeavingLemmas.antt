@@ -15,8 +15,8 @@ use Rattle.orca_term.specs.Keys.{Byte, Due, Item as KeyItem}
 use Rattle.orca_term.specs.declared.editor.Wish.{Wish}
 use Rattle.orca_term.specs.declared.editor.Wish.TheVariants as wish
 use Rattle.orca_term.specs.declared.keys.Key.{Key}
-use Rattle.orca_live.specs.Performing.{answered_at, byte_course, denied_course, due_course, finish_course, frame_course, hand_course, hush_course, item_course, key_course, keys_course, knowing, last_grid_course, last_script_course, lines_course, live_part, lull_course, press_course, read_course, save_course, saves_course, script_course, struck_course, struck_well, struck_where, take_course, wish_course, write_course}
-use Rattle.orca_live.specs.States.{LiveState, fitted, hands_in, is_full, is_hand}
+use Rattle.orca_live.specs.Performing.{answered_at, byte_course, denied_course, due_course, finish_course, frame_course, hand_course, hush_course, item_course, key_course, keys_course, knowing, last_grid_course, last_script_course, lines_course, live_part, lull_course, lull_of, press_course, read_course, save_course, saves_course, script_course, struck_course, struck_well, struck_where, take_course, wish_course, write_course}
+use Rattle.orca_live.specs.States.{LiveState, fitted, hands_in, is_full, is_hand, reads_text}
 use Rattle.orca_live.proofs.GivenLemmas.{finish_closes, journal_aside, paint_aside, show_aside, write_aside}
 
 -- what a full history at a frame would need
@@ -70,11 +70,17 @@ module _ (P : Stop → Type 0) (left : P Left) where
   frame_ends true s is ends = rw is (ends refl)
   frame_ends false s is ends = rw is tt
 
-  lulls_leave : (hands : List ℕ) (s : LiveState)
-      → IfSome (each (λ hand. item_course hand Due) hands s).ending P
-  lulls_leave hands s =
-      each-kind (λ end. IfSome end P) (λ hand. item_course hand Due) tt
-      (λ hand t. item_leaves hand Due t) hands s
+  lull_by : (text : Bool) (hand : ℕ) (s : LiveState)
+      → IfSome (if text then still s else item_course hand Due s).ending P
+  lull_by true hand s = tt
+  lull_by false hand s = item_leaves hand Due s
+
+  lull_leaves : (hand : ℕ) (s : LiveState) → IfSome (lull_of hand s).ending P
+  unfolding lull_of
+  lull_leaves hand s = lull_by (reads_text hand s) hand s
+
+  lulls_leave : (hands : List ℕ) (s : LiveState) → IfSome (each lull_of hands s).ending P
+  lulls_leave hands s = each-kind (λ end. IfSome end P) lull_of tt lull_leaves hands s
 
   due_ends : (s : LiveState) → (is_full (lull_course s).state ≡ true → P Full)
       → IfSome (due_course s).ending P

@@ -1,11 +1,12 @@
 -- Of hands that share a session each owns what came of its bytes, and nobody owns the frames of the
 -- clock.
-use Rattle.std.proofs.Common.{arith, ◌≡◌, ◌≢◌, ℕ, zero, suc, true, List, [], ◌∷◌, ◌++◌, length, refl, sym, ◌∙◌, ap, subst, append_assoc, append-nil}
-use Rattle.std.specs.Prelude.{Option, Some, None}
+use Rattle.std.proofs.Common.{arith, ◌≡◌, ◌≢◌, ℕ, zero, suc, true, false, List, [], ◌∷◌, ◌++◌, length, refl, sym, ◌∙◌, ap, subst, append_assoc, append-nil}
+use Rattle.std.specs.Prelude.{Bool, ◌&&◌, if◌then◌else◌, nat_lt, Option, Some, None}
 use Rattle.std.specs.Option.{option_map_or}
 use Rattle.orca_base.specs.declared.command.Command.{Command}
 use Rattle.orca_base.specs.declared.command.Command.TheVariants as command
 use Rattle.orca_base.specs.declared.command.Rule.{Rule}
+use Rattle.orca_base.specs.declared.limits.TheConstants.{MAX_SCREEN_ROWS, MAX_SCREEN_COLUMNS}
 use Rattle.orca_base.specs.MarkSet.{MarkSet}
 use Rattle.orca_base.specs.Ports.{Sent}
 use Rattle.orca_concert.specs.Concerts.{command_course as obey_course, handed_of}
@@ -16,19 +17,26 @@ use Rattle.orca_course.specs.Performers.{Hearing, Turn, begun, first_turns, give
 use Rattle.orca_course.specs.Performers.Turn.{Asked, Given, Learned, Over}
 use Rattle.orca_course.specs.Standings.{Standing, refusal_of, standing_after}
 use Rattle.orca_course.specs.declared.ending.Ending.{Ending}
+use Rattle.orca_course.specs.declared.ending.Stop.{Stop}
 use Rattle.orca_course.specs.declared.item.Losses.{Losses}
 use Rattle.orca_course.specs.declared.item.Item.{Item}
 use Rattle.orca_course.specs.declared.item.Item.TheVariants as item
 use Rattle.orca_course.proofs.MidwayLemmas.{AreHeard, AreMidway, IsBrought, IsHeard, IsMidway, after_turn, all_heard, all_midway}
 use Rattle.orca_edit.specs.Obeying.{MachineState, Obeyed, obey, refuse, rule_against}
-use Rattle.orca_jam.specs.Crews.{CrewState, denial_of, struck_by}
+use Rattle.orca_jam.specs.Crews.{CrewState, denial_at, denial_of, offered, player_at, struck_by}
 use Rattle.orca_jam.specs.Owners.{owned}
 use Rattle.orca_jam.specs.declared.owner.Owner.{Owner}
 use Rattle.orca_jam.specs.declared.owner.TheConstants.{NOBODY}
 use Rattle.orca_rig.specs.declared.inbox.Answer.{Answer}
 use Rattle.orca_rig.specs.declared.inbox.Answer.TheVariants as answer
 use Rattle.orca_term.specs.Codes.{letter_o}
+use Rattle.orca_term.specs.Editing.{wish_of}
 use Rattle.orca_term.specs.Viewing.{painting_bytes}
+use Rattle.orca_term.specs.declared.around.Around.{Around}
+use Rattle.orca_term.specs.declared.editor.Editor.{Editor}
+use Rattle.orca_term.specs.declared.editor.Wish.{Wish}
+use Rattle.orca_term.specs.declared.editor.Wish.TheVariants as wish
+use Rattle.orca_term.specs.declared.flow.Flow.{Flow}
 use Rattle.orca_term.specs.declared.keys.Key.TheVariants as key
 use Rattle.orca_term.specs.declared.cell.Cell.{Cell}
 use Rattle.orca_live.specs.Carrying.{Carries, giver_of, midway_carried}
@@ -147,25 +155,62 @@ names_command who hand c s gives other has = record {
 
 -- ---- the key that gives a command where nothing came for a while
 
-glyph_free : (c : CrewState) (hand glyph : ℕ) → denial_of c hand (key.Glyph glyph) ≡ None
-unfolding denial_of
-glyph_free c hand glyph = grind arith
+-- a glyph is written, or inside a text that is pasted it is a cell of the text, or nothing
+glyph_asks : (P : Wish → Type 0) (glyph : ℕ) (a : Around) (e : Editor) (flow : Option Flow)
+    → e.flow ≡ flow → P (wish.Do (command.Write e.y e.x glyph))
+    → ((y x : ℕ) → P (wish.Do (command.Clip y x glyph))) → P wish.Nothing
+    → P (wish_of (key.Glyph glyph) a e)
+glyph_asks P glyph a e None is writes clips nothing = rw is writes
+glyph_asks P glyph a e (Some f) is writes clips nothing =
+    rw is (by (nat_lt f.y MAX_SCREEN_ROWS && nat_lt f.x MAX_SCREEN_COLUMNS))
+  where
+    by : (taken : Bool)
+        → P (if taken then wish.Do (command.Clip f.y f.x glyph) else wish.Nothing)
+    by true = clips f.y f.x
+    by false = nothing
 
--- the glyph is written by its hand
+-- so it is nobody's alone
+glyph_free : (c : CrewState) (hand glyph : ℕ) (a : Around)
+    → denial_at c hand (key.Glyph glyph) a ≡ None
+unfolding denial_of
+glyph_free c hand glyph a =
+    let e = (player_at c hand).editor in
+    glyph_asks (λ w. denial_of c hand w ≡ None) glyph a e e.flow refl (grind arith)
+    (λ y x. grind arith) (grind arith)
+
+-- the hand that struck a key last gives the command
+record IsGiven (hand : ℕ) (s : LiveState) (c : Course LiveState Stop) : Type 0 where
+  pub has : HasOwners c.state
+  pub owners : (ys : List Act)
+      → owners_after None hand (c.acts ++ ys) s.standing.machine s.crew.owners
+      ≡ owners_after None hand ys c.state.standing.machine c.state.crew.owners
+
+command_given : (hand : ℕ) (c : Command) (s : LiveState) → given_by None hand c ≡ hand
+    → c ≢ command.Redo → HasOwners s → IsGiven hand s (hand_course hand c s)
+command_given hand c s gives other has = record {
+  has = command_has hand c s other has;
+  owners = λ ys. command_owners None hand hand c s ys gives other has;
+}
+
+-- what becomes of the glyph is of its hand
 names_single : (hand : ℕ) (s : LiveState)
     → let c = press_course hand (key.Glyph letter_o) s in Names None s c.acts c.state
 unfolding press_course key_course struck_course wish_course
 names_single hand s has =
     let k = key.Glyph letter_o in
     let u = fitted (struck_well hand k s) in
+    let a = around_at hand u in
     let e = editor_at hand u in
-    let c = command.Write e.y e.x letter_o in
-    let t : LiveState = record u { crew = struck_by hand k (around_at hand u) u.crew } in
+    let t : LiveState = record u { crew = struck_by hand k a u.crew } in
     let here = owns_same s t refl refl has in
-    rw (glyph_free u.crew hand letter_o) (record {
-      has = command_has hand c t (λ same. cc) here;
+    let given = glyph_asks (λ w. IsGiven hand t (wish_course hand (offered u.crew w) t)) letter_o a
+    e e.flow refl (command_given hand _ t refl (λ same. cc) here)
+    (λ y x. command_given hand _ t refl (λ same. cc) here)
+    (record { has = here; owners = λ ys. refl }) in
+    rw (glyph_free u.crew hand letter_o a) (record {
+      has = given.has;
       last = λ struck. hand;
-      owners = λ struck ys. command_owners None hand hand c t ys refl (λ same. cc) here;
+      owners = λ struck ys. given.owners ys;
     })
 
 -- what is shown is of nobody

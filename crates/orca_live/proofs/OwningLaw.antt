@@ -1,5 +1,5 @@
 -- Hands that share a session keep whose each entry is, and an undo spares the edits of others.
-use Rattle.std.proofs.Common.{◌≡◌, ◌≢◌, ℕ, suc, ◌<◌, ◌≤◌, Bool, true, false, List, [], ◌∷◌, length, take, refl, sym, ◌∙◌, ap, subst, arith, length-append}
+use Rattle.std.proofs.Common.{◌≡◌, ◌≢◌, ◌⊎◌, inl, inr, ℕ, suc, ◌<◌, ◌≤◌, Bool, true, false, List, [], ◌∷◌, length, take, refl, sym, ◌∙◌, ap, subst, arith, length-append}
 use Rattle.std.specs.Prelude.{if◌then◌else◌, Option, Some, None}
 use Rattle.std.specs.Option.{option_map_or}
 use Rattle.std.proofs.lemmas.Bool.{le-leb}
@@ -23,9 +23,15 @@ use Rattle.orca_course.specs.Standings.{refusal_of, standing_after}
 use Rattle.orca_course.specs.declared.item.Losses.{Losses}
 use Rattle.orca_edit.specs.Obeying.{MachineState, Obeyed, accept, adds_entry, carry_out, clip_after, entry_of, jump_to, obey, piece_of, refuse, rule_against, taken_area}
 use Rattle.orca_edit.proofs.RuleLemmas.{entered, has-room, some-moment}
-use Rattle.orca_jam.specs.Crews.{CrewState, denial_of, struck_by}
+use Rattle.orca_jam.specs.Crews.{CrewState, denial_at, denial_of, offered, struck_by}
 use Rattle.orca_jam.specs.Denials.{rule_of_denial}
+use Rattle.orca_term.specs.Editing.{wish_of}
+use Rattle.orca_term.specs.declared.around.Around.{Around}
 use Rattle.orca_term.specs.declared.came.Came.TheVariants.{Denied, Kept}
+use Rattle.orca_term.specs.declared.editor.Editor.{Editor}
+use Rattle.orca_term.specs.declared.editor.Wish.{Wish}
+use Rattle.orca_term.specs.declared.editor.Wish.TheVariants as wish
+use Rattle.orca_term.specs.declared.flow.Flow.{Flow}
 use Rattle.orca_jam.specs.Laws.{edits_of_others}
 use Rattle.orca_jam.specs.declared.denial.Denial.{Denial}
 use Rattle.orca_jam.specs.Owners.{owned}
@@ -36,7 +42,7 @@ use Rattle.orca_live.proofs.Carried.{Anyhow, begun_carried}
 use Rattle.orca_live.specs.Hands.{HasOwners, StartsWithOwners}
 use Rattle.orca_live.specs.Laws.{so_far}
 use Rattle.orca_live.specs.Performing.{hand_course, denied_course, key_course, obeyed_by, owning, picture_course, struck_course, struck_well, struck_where, wish_course}
-use Rattle.orca_live.specs.States.{LiveState, around_at, fitted, unpainted, with_view, with_word}
+use Rattle.orca_live.specs.States.{LiveState, around_at, editor_at, fitted, unpainted, with_view, with_word}
 
 -- the last edit is in the history
 edit_by : (last : Option ℕ) (edit : Bool) (n i : ℕ) → ((j : ℕ) → last ≡ Some j → j < n)
@@ -262,7 +268,7 @@ Spares hand s t =
     ≡ edits_of_others hand s.standing.machine.history s.crew.owners
 
 pub spares_allowed : (hand : ℕ) (s : LiveState) → HasOwners s
-    → denial_of s.crew hand key.Undo ≡ None
+    → denial_of s.crew hand (wish.Do command.Undo) ≡ None
     → rule_against s.standing.machine command.Undo ≡ None
     → Spares hand s (hand_course hand command.Undo s).state
 unfolding hand_course obey_course onward mapped
@@ -276,7 +282,7 @@ spares_allowed hand s has granted allowed =
 -- an undo that a rule refuses changes nothing
 spares_by : (hand : ℕ) (s : LiveState) (rule : Option Rule)
     → rule_against s.standing.machine command.Undo ≡ rule → HasOwners s
-    → denial_of s.crew hand key.Undo ≡ None
+    → denial_of s.crew hand (wish.Do command.Undo) ≡ None
     → Spares hand s (hand_course hand command.Undo s).state
 unfolding hand_course obey_course onward mapped obey
 spares_by hand s None is has granted = spares_allowed hand s has granted is
@@ -286,21 +292,38 @@ spares_by hand s (Some rule) is has granted =
     let t = led hand command.Undo s (option_map_or (refuse m) against (accept m command.Undo)) in
     edits_of_others hand t.standing.machine.history t.crew.owners) is
 
+-- the key asks for an undo, or for nothing, inside a text that is pasted
+undo_asks : (a : Around) (e : Editor) (flow : Option Flow) → e.flow ≡ flow
+    → (wish_of key.Undo a e ≡ wish.Nothing) ⊎ (wish_of key.Undo a e ≡ wish.Do command.Undo)
+undo_asks a e None is = inr (rw is refl)
+undo_asks a e (Some f) is = inl (rw is refl)
+
+spares_asked : (hand : ℕ) (w : Wish) (s : LiveState)
+    → (w ≡ wish.Nothing) ⊎ (w ≡ wish.Do command.Undo) → denial_of s.crew hand w ≡ None
+    → HasOwners s → Spares hand s (wish_course hand (offered s.crew w) s).state
+unfolding wish_course
+spares_asked hand w s (inl is) granted has = rw is refl
+spares_asked hand w s (inr is) granted has =
+    rw is
+    (spares_by hand s (rule_against s.standing.machine command.Undo) refl has (rw is at granted))
+
 -- nor does a key that is denied
 spares_where : (hand : ℕ) (s : LiveState) (denial : Option Denial)
-    → denial_of s.crew hand key.Undo ≡ denial → HasOwners s
+    → denial_at s.crew hand key.Undo (around_at hand s) ≡ denial → HasOwners s
     → Spares hand s (struck_where hand key.Undo s denial).state
-unfolding denied_course wish_course denial_of
+unfolding denied_course denial_of
 spares_where hand s (Some denial) is has = refl
 spares_where hand s None is has =
-    let t : LiveState =
-    record s { crew = struck_by hand key.Undo (around_at hand s) s.crew } in
-    spares_by hand t (rule_against s.standing.machine command.Undo) refl
-    (owns_same s t refl refl has) is
+    let around = around_at hand s in
+    let e = editor_at hand s in
+    let t : LiveState = record s { crew = struck_by hand key.Undo around s.crew } in
+    spares_asked hand (wish_of key.Undo around e) t (undo_asks around e e.flow refl) is
+    (owns_same s t refl refl has)
 
 pub spares_key : (hand : ℕ) (s : LiveState) → HasOwners s
     → Spares hand s (key_course hand key.Undo s).state
 unfolding key_course struck_course
 spares_key hand s has =
     let t = fitted s in
-    spares_where hand t (denial_of t.crew hand key.Undo) refl (owns_same s t refl refl has)
+    spares_where hand t (denial_at t.crew hand key.Undo (around_at hand t)) refl
+    (owns_same s t refl refl has)

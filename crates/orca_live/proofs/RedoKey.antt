@@ -6,7 +6,7 @@ use Rattle.std.proofs.lemmas.Bool.{and_parts}
 use Rattle.std.proofs.lemmas.Bool.Decides.{nat_tests}
 use Rattle.orca_base.specs.Ascii.{escape}
 use Rattle.orca_base.specs.declared.limits.TheConstants.{MAX_COLUMNS}
-use Rattle.orca_term.specs.Codes.{bracket, letter_o}
+use Rattle.orca_term.specs.Codes.{letter_o}
 use Rattle.orca_term.specs.Keys.{Item, Byte, Due, after, arrow_in, arrow_key, arrow_keys, awaits, button_key, edges, ended_key, ends_as, escape_and_o, is_collected, is_last, pending_with, single_key, turn_after_escape, turn_after_o, turn_alone, turn_inside, turn_outside, found_in, further_keys, further_sequence, key_at_end, key_of, key_of_numbers, key_of_sequence, lone_keys, mouse_key, mouse_sequence, numbered_edges, numbered_keys, numbers_in, paged_key, pages, plain_key, plain_sequence, shifted_keys, arrow_sides, turn, wheel}
 use Rattle.orca_term.specs.declared.keys.Key.{Key}
 use Rattle.orca_term.specs.declared.keys.Key.TheVariants as key

@@ -1,6 +1,6 @@
 -- The hands that are shown a picture are there, whatever was done before.
-use Rattle.std.proofs.Common.{◌≡◌, ℕ, List, [], length, refl, sym, ◌∙◌, ap}
-use Rattle.std.specs.Prelude.{Option, Some, None, Ok}
+use Rattle.std.proofs.Common.{◌≡◌, ℕ, List, [], length, sym, ◌∙◌, ap}
+use Rattle.std.specs.Prelude.{Option, None, Ok}
 use Rattle.orca_base.specs.MarkSet.{MarkSet}
 use Rattle.orca_course.specs.Acts.{AreDeaf}
 use Rattle.orca_course.specs.Courses.{Course, each}

@@ -8,7 +8,7 @@ use Rattle.std.proofs.lemmas.Bool.{le-ltb}
 use Rattle.std.proofs.lemmas.List.{length-map, length-set}
 use Rattle.std.proofs.lemmas.List.Elements.{All-head, All-tail}
 use Rattle.orca_base.specs.declared.command.Command.{Command}
-use Rattle.orca_base.specs.declared.command.Command.TheVariants.{Frame}
+use Rattle.orca_base.specs.declared.command.Command.TheVariants.{Frame, Redo}
 use Rattle.orca_base.specs.declared.command.Rule.{Rule}
 use Rattle.orca_base.specs.declared.place.Place.{Place}
 use Rattle.orca_base.specs.MarkSet.{MarkSet}
@@ -28,7 +28,7 @@ use Rattle.orca_course.proofs.CuttingLemmas.{Worth, counted, counting}
 use Rattle.orca_course.proofs.CuttingLemmas.Worth.{Counts, Nothing}
 use Rattle.orca_course.proofs.MidwayLemmas.{AreMidway, IsMidway, all_midway}
 use Rattle.orca_edit.specs.Machines.{preview_of}
-use Rattle.orca_jam.specs.Crews.{CrewState, asked, cursor_of, denial_of, fitted_player, player_at, struck_by, took_by, turned_by, with_player}
+use Rattle.orca_jam.specs.Crews.{CrewState, asked, cursor_of, denial_of, fitted_player, offered, player_at, struck_by, took_by, turned_by, wish_at, with_player}
 use Rattle.orca_jam.specs.Laws.{AreLeaders}
 use Rattle.orca_jam.specs.Owners.{owned}
 use Rattle.orca_jam.specs.declared.crew.TheConstants.{LEADER}
@@ -36,18 +36,21 @@ use Rattle.orca_jam.specs.declared.owner.Owner.{Owner}
 use Rattle.orca_jam.specs.declared.owner.TheConstants.{NOBODY}
 use Rattle.orca_jam.specs.declared.player.Player.{Player}
 use Rattle.orca_jam.proofs.LeaderLaws.{leader_is_free, leader_stays_free}
+use Rattle.orca_term.specs.Editing.{wish_of}
 use Rattle.orca_term.specs.Keys.{Byte, Due, Item as KeyItem, turn}
 use Rattle.orca_term.specs.Picture.{picture, scene_of}
 use Rattle.orca_term.specs.Viewing.{painting_bytes}
 use Rattle.orca_term.specs.declared.around.Around.{Around}
 use Rattle.orca_term.specs.declared.cell.Cell.{Cell}
+use Rattle.orca_term.specs.declared.editor.Editor.{Editor}
 use Rattle.orca_term.specs.declared.editor.Wish.{Wish}
 use Rattle.orca_term.specs.declared.editor.Wish.TheVariants as wish
+use Rattle.orca_term.specs.declared.flow.Flow.{Flow}
 use Rattle.orca_term.specs.declared.keys.Key.{Key}
 use Rattle.orca_live.specs.Items.{ByteOf, HeardItem, items_of}
-use Rattle.orca_live.specs.Performing.{answered_at, byte_course, due_course, finish_course, fired, frame_course, hand_course, header_course, hush_course, if_named, item_course, journal_course, key_course, knowing, last_grid_course, last_script_course, lines_course, live_part, lull_course, owning, paint_course, painted_course, picture_course, press_course, preview_course, read_course, save_course, saves_course, script_course, show_course, struck_course, struck_where, take_course, wish_course, write_course, keys_course, painted_editor, struck_well, view_acts}
+use Rattle.orca_live.specs.Performing.{answered_at, byte_course, due_course, finish_course, fired, frame_course, hand_course, header_course, hush_course, if_named, item_course, journal_course, key_course, knowing, last_grid_course, last_script_course, lines_course, live_part, lull_course, lull_of, owning, paint_course, painted_course, picture_course, press_course, preview_course, read_course, save_course, saves_course, script_course, show_course, struck_course, struck_where, take_course, wish_course, write_course, keys_course, painted_editor, struck_well, view_acts}
 use Rattle.orca_live.specs.Solo.{HasNoRedo, IsSolo, PlaysAlone, as_alone, redo_byte}
-use Rattle.orca_live.specs.States.{LiveState, around_at, begun_name, dims_at, fitted, hands_in, is_full, is_hand, is_viewer, leader_at, piece_at, screen_at, status_line_at, view_at, with_view}
+use Rattle.orca_live.specs.States.{LiveState, around_at, begun_name, dims_at, fitted, hands_in, is_full, is_hand, is_viewer, leader_at, piece_at, reads_text, screen_at, status_line_at, view_at, with_view}
 use Rattle.orca_live.proofs.RedoKey.{AreOther, IsSpared, is_redo, turn_other}
 use Rattle.orca_live.proofs.WorthLemmas.{all_counted, worth_of}
 
@@ -186,14 +189,30 @@ wish_agrees (wish.Faster beats) s solo = agreed _ solo
 wish_agrees (wish.Redraw size) s solo = agreed _ solo
 
 -- nothing is denied to one that plays alone
-lone_free : (c : CrewState) (hand : ℕ) (k : Key) → denial_of (lone_crew c) hand k ≡ None
+lone_free : (c : CrewState) (hand : ℕ) (w : Wish) → denial_of (lone_crew c) hand w ≡ None
 unfolding denial_of
-lone_free c hand k = refl
+lone_free c hand w = refl
 
--- every key but that of Redo asks for the same
+-- every wish but that of a redo is offered
+abbrev wants_redo : Wish → Bool
+wants_redo (wish.Do Redo) = true
+wants_redo _ = false
+
+offered_alike : (c : CrewState) (w : Wish) → wants_redo w ≡ false
+    → offered (lone_crew c) w ≡ offered c w
+offered_alike c w other = grind (arith, other)
+
+-- every key but that of Redo asks for another one
+asks_other : (k : Key) (a : Around) (e : Editor) (flow : Option Flow) → e.flow ≡ flow
+    → is_redo k ≡ false → wants_redo (wish_of k a e) ≡ false
+asks_other k a e None is other = grind (arith, is, other)
+asks_other k a e (Some f) is other = grind (arith, is, other)
+
 asked_alike : (c : CrewState) (hand : ℕ) (k : Key) (a : Around) → is_redo k ≡ false
     → asked (lone_crew c) hand k a ≡ asked c hand k a
-asked_alike c hand k a other = grind arith
+asked_alike c hand k a other =
+    let e = (player_at c hand).editor in
+    offered_alike c (wish_of k a e) (asks_other k a e e.flow refl other)
 
 free_agrees : (k : Key) → is_redo k ≡ false → Alike (λ s. struck_where LEADER k s None)
 free_agrees k other s solo =
@@ -210,7 +229,8 @@ free_agrees k other s solo =
 struck_agrees : (k : Key) → is_redo k ≡ false → Alike (struck_course LEADER k)
 unfolding struck_course
 struck_agrees k other s solo =
-    rw (leader_is_free s.crew k solo.own, lone_free s.crew LEADER k) (free_agrees k other s solo)
+    let w = wish_at s.crew LEADER k (around_at LEADER s) in
+    rw (leader_is_free s.crew w solo.own, lone_free s.crew LEADER w) (free_agrees k other s solo)
 
 press_agrees : (k : Key) → is_redo k ≡ false → Alike (press_course LEADER k)
 unfolding press_course key_course
@@ -247,12 +267,16 @@ item_agrees (suc hand) item spared s solo = rw (no_other hand s.crew solo) (agre
 
 -- ---- the clock
 
-lulls_agree : (hands : List ℕ) → Alike (each (λ hand. item_course hand Due) hands)
+lull_agrees : (hand : ℕ) → Alike (lull_of hand)
+unfolding lull_of
+lull_agrees hand s solo =
+    if_agrees (reads_text hand s) (agreed (still s) solo) (item_agrees hand Due (λ is. tt) s solo)
+
+lulls_agree : (hands : List ℕ) → Alike (each lull_of hands)
 unfolding each
 lulls_agree [] s solo = agreed _ solo
 lulls_agree (hand ∷ hands) s solo =
-    onward_agrees (each (λ hand. item_course hand Due) hands)
-    (item_agrees hand Due (λ is. tt) s solo) (λ on. lulls_agree hands)
+    onward_agrees (each lull_of hands) (lull_agrees hand s solo) (λ on. lulls_agree hands)
 
 frame_agrees : Alike frame_course
 unfolding frame_course

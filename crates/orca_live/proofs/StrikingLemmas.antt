@@ -1,6 +1,6 @@
 -- The keys that a hand strikes among acts, and what they make of its editor.
 use Rattle.std.proofs.Common.{◌≡◌, ℕ, zero, suc, ◌<◌, Bool, true, false, List, [], ◌∷◌, ◌++◌, length, refl, sym, ◌∙◌, ap, subst, arith}
-use Rattle.std.specs.Prelude.{if◌then◌else◌, ◌==◌, map, slice_index_or, slice_set, Option, Some, None}
+use Rattle.std.specs.Prelude.{if◌then◌else◌, ◌==◌, map, slice_index_or, slice_set, Option, Some, None, is_some}
 use Rattle.std.proofs.lemmas.Bool.{eqb-false, ltb-true}
 use Rattle.std.proofs.lemmas.Bool.Decides.{nat_tests}
 use Rattle.std.proofs.lemmas.List.{get_or-set_other, get_or-set_same, length-map, length-set}
@@ -19,21 +19,24 @@ use Rattle.orca_course.specs.declared.ending.Stop.TheVariants.{Full}
 use Rattle.orca_course.proofs.CourseLemmas.{each-holds, goes_both, onward_goes}
 use Rattle.orca_edit.specs.Machines.{preview_of}
 use Rattle.orca_edit.specs.Obeying.{obey}
-use Rattle.orca_jam.specs.Crews.{asked, denial_of, fitted_player, new_player, player_at, struck_by, turned_by, turned_player}
+use Rattle.orca_jam.specs.Crews.{CrewState, asked, denial_at, denial_of, fitted_player, new_player, player_at, struck_by, turned_by, turned_player}
 use Rattle.orca_jam.specs.declared.denial.Denial.{Denial}
 use Rattle.orca_jam.specs.declared.owner.TheConstants.{NOBODY}
 use Rattle.orca_jam.specs.declared.player.Player.{Player}
 use Rattle.orca_term.specs.Editing.{editor_after}
 use Rattle.orca_term.specs.Keys.{Item, turn}
+use Rattle.orca_term.specs.declared.around.Around.{Around}
 use Rattle.orca_term.specs.declared.cell.Cell.{Cell}
 use Rattle.orca_term.specs.declared.editor.Editor.{Editor}
 use Rattle.orca_term.specs.declared.editor.Wish.{Wish}
 use Rattle.orca_term.specs.declared.editor.Wish.TheVariants as wish
+use Rattle.orca_term.specs.declared.flow.Flow.{Flow}
 use Rattle.orca_term.specs.declared.keys.Key.{Key}
-use Rattle.orca_live.specs.Hands.{Change, IsMadeBy, editor_by, keys_of}
+use Rattle.orca_term.specs.declared.keys.Key.TheVariants as key
+use Rattle.orca_live.specs.Hands.{Change, IsMadeBy, editor_by, keys_of, text_after, text_by}
 use Rattle.orca_live.specs.Hands.Change.{Denied, Fitted, Struck}
 use Rattle.orca_live.specs.Performing.{additions, denied_course, fired, hand_course, header_course, if_named, journal_course, key_course, lines_course, paint_course, painted_course, picture_course, press_course, preview_course, read_course, save_course, show_course, struck_course, struck_where, view_acts, wish_course, write_course, keys_course, struck_well}
-use Rattle.orca_live.specs.States.{LiveState, around_at, begun_name, dims_at, editor_at, fitted, hands_in, is_hand, is_viewer, leader_at, piece_at}
+use Rattle.orca_live.specs.States.{LiveState, around_at, begun_name, dims_at, editor_at, fitted, hands_in, is_hand, is_viewer, leader_at, piece_at, reads_text}
 use Rattle.orca_live.proofs.CuttingLaw.{owning_hands, press_hands}
 
 -- ---- keys among acts
@@ -82,29 +85,53 @@ keys_of-append (Denied key ∷ xs) ys =
     ap (λ (keys : List Key). key ∷ keys) (keys_of-append xs ys)
 keys_of-append (Fitted d ∷ xs) ys = keys_of-append xs ys
 
-made_none : (e f : Editor) → f ≡ e → IsMadeBy [] e f
-made_none e f same = record { changes = []; own = refl; after = same }
+pub text_by-append : (xs ys : List Key) (text : Bool)
+    → text_by text (xs ++ ys) ≡ text_by (text_by text xs) ys
+text_by-append [] ys text = refl
+text_by-append (x ∷ xs) ys text = text_by-append xs ys (text_after text x)
 
-made_twice : (xs ys : List Key) (e f g : Editor) → IsMadeBy xs e f → IsMadeBy ys f g
-    → IsMadeBy (xs ++ ys) e g
-made_twice xs ys e f g first second = record {
-  changes = first.changes ++ second.changes;
-  own = keys_of-append first.changes second.changes
-      ∙ (ap (λ (keys : List Key). keys ++ keys_of second.changes) first.own
-      ∙ ap (λ (keys : List Key). xs ++ keys) second.own);
-  after = second.after
-      ∙ (ap (editor_by second.changes) first.after
-      ∙ sym (editor_by-append first.changes second.changes e));
+-- these keys and the size of the grid have made one editor of another, and it reads a text where
+-- they say so
+pub record Moves (keys : List Key) (e f : Editor) : Type 0 where
+  pub made : IsMadeBy keys e f
+  pub text : is_some f.flow ≡ text_by (is_some e.flow) keys
+
+moves_none : (e f : Editor) → f ≡ e → Moves [] e f
+moves_none e f same = record {
+  made = record { changes = []; own = refl; after = same };
+  text = ap (λ (e : Editor). is_some e.flow) same;
 }
 
+moves_twice : (xs ys : List Key) (e f g : Editor) → Moves xs e f → Moves ys f g
+    → Moves (xs ++ ys) e g
+moves_twice xs ys e f g first second =
+    let one = first.made in
+    let two = second.made in
+    record {
+      made = record {
+        changes = one.changes ++ two.changes;
+        own = keys_of-append one.changes two.changes
+            ∙ (ap (λ (keys : List Key). keys ++ keys_of two.changes) one.own
+            ∙ ap (λ (keys : List Key). xs ++ keys) two.own);
+        after = two.after
+            ∙ (ap (editor_by two.changes) one.after
+            ∙ sym (editor_by-append one.changes two.changes e));
+      };
+      text = second.text
+          ∙ (ap (λ (text : Bool). text_by text ys) first.text
+          ∙ sym (text_by-append xs ys (is_some e.flow)));
+    }
+
 -- the editors were fitted
-fitted_made : (d : Size) (players : List Player) (hand : ℕ)
-    → IsMadeBy [] (slice_index_or players hand (new_player false)).editor
+fitted_moves : (d : Size) (players : List Player) (hand : ℕ)
+    → Moves [] (slice_index_or players hand (new_player false)).editor
     (slice_index_or (map (fitted_player d) players) hand (new_player false)).editor
-fitted_made d [] hand = made_none _ _ refl
-fitted_made d (p ∷ players) zero =
-    record { changes = Fitted d ∷ []; own = refl; after = refl }
-fitted_made d (p ∷ players) (suc hand) = fitted_made d players hand
+fitted_moves d [] hand = moves_none _ _ refl
+fitted_moves d (p ∷ players) zero = record {
+  made = record { changes = Fitted d ∷ []; own = refl; after = refl };
+  text = refl;
+}
+fitted_moves d (p ∷ players) (suc hand) = fitted_moves d players hand
 
 -- a reader is no editor
 editor_turned : (full : Bool) (item : Item) (players : List Player) (other hand : ℕ)
@@ -126,7 +153,7 @@ editor_turned full item (p ∷ players) (suc other) (suc hand) =
 pub record Strikes (hand : ℕ) (keys : List Key) (s : LiveState) (acts : List Act) (t : LiveState)
     : Type 0 where
   pub own : keys_in hand acts ≡ keys
-  pub moves : IsMadeBy keys (editor_at hand s) (editor_at hand t)
+  pub moves : Moves keys (editor_at hand s) (editor_at hand t)
 
 pub strikes_twice : (hand : ℕ) (xs ys : List Key) (r s t : LiveState) (begun more : List Act)
     → Strikes hand xs r begun s → Strikes hand ys s more t
@@ -135,7 +162,7 @@ strikes_twice hand xs ys r s t begun more first second = record {
   own = keys_in-append hand begun more
       ∙ (ap (λ (keys : List Key). keys ++ keys_in hand more) first.own
       ∙ ap (λ (keys : List Key). xs ++ keys) second.own);
-  moves = made_twice xs ys _ _ _ first.moves second.moves;
+  moves = moves_twice xs ys _ _ _ first.moves second.moves;
 }
 
 -- nothing of the players has changed
@@ -143,7 +170,7 @@ pub strikes_same : (hand : ℕ) (s : LiveState) (acts : List Act) (t : LiveState
     → keys_in hand acts ≡ [] → t.crew.players ≡ s.crew.players → Strikes hand [] s acts t
 strikes_same hand s acts t none same = record {
   own = none;
-  moves = made_none _ _
+  moves = moves_none _ _
       (ap (λ (ps : List Player). (slice_index_or ps hand (new_player false)).editor) same);
 }
 
@@ -152,7 +179,7 @@ strikes_turned : (hand other : ℕ) (item : Item) (s : LiveState)
     → Strikes hand [] s [] (record s { crew = turned_by other item s.crew })
 strikes_turned hand other item s = record {
   own = refl;
-  moves = made_none _ _ (editor_turned s.crew.full item s.crew.players other hand);
+  moves = moves_none _ _ (editor_turned s.crew.full item s.crew.players other hand);
 }
 
 -- ---- commands
@@ -226,22 +253,42 @@ where_silent hand other key s None =
 abbrev editor_in : ℕ → List Player → Editor
 editor_in hand players = (slice_index_or players hand (new_player false)).editor
 
+-- a key outside of a text begins one, or none, and inside it ends it, or does not
+text_by_key : (key : Key) (a : Around) (e : Editor) (flow : Option Flow) → e.flow ≡ flow
+    → is_some (editor_after key a e).flow ≡ text_after (is_some flow) key
+text_by_key key a e None is = grind (arith, is)
+text_by_key key a e (Some f) is = grind (arith, is)
+
+-- nobody is denied a key that begins or ends a text
+denied_text : (c : CrewState) (hand : ℕ) (key : Key) (a : Around) (denial : Denial) (text : Bool)
+    → denial_at c hand key a ≡ Some denial → text ≡ text_after text key
+unfolding denial_of
+denied_text c hand key.PasteBegin a denial text is = absurd (grind (arith, is))
+denied_text c hand key.PasteEnd a denial text is = absurd (grind (arith, is))
+denied_text c hand key.Escape a denial text is = absurd (grind (arith, is))
+denied_text c hand _ a denial text is = refl
+
 -- its own key moves an editor
 where_own : (hand : ℕ) (key : Key) (s : LiveState) (denial : Option Denial)
-    → hand < length s.crew.players
-    → IsMadeBy (key ∷ []) (editor_at hand s) (editor_at hand (struck_where hand key s denial).state)
+    → hand < length s.crew.players → denial_at s.crew hand key (around_at hand s) ≡ denial
+    → Moves (key ∷ []) (editor_at hand s) (editor_at hand (struck_where hand key s denial).state)
 unfolding denied_course
-where_own hand key s (Some denial) below =
-    record { changes = Denied key ∷ []; own = refl; after = refl }
-where_own hand key s None below =
+where_own hand key s (Some denial) below is = record {
+  made = record { changes = Denied key ∷ []; own = refl; after = refl };
+  text = denied_text s.crew hand key (around_at hand s) denial (reads_text hand s) is;
+}
+where_own hand key s None below is =
     let around = around_at hand s in
+    let e = editor_at hand s in
     let t : LiveState = record s { crew = struck_by hand key around s.crew } in
+    let w = asked s.crew hand key around in
+    let after : editor_at hand (wish_course hand w t).state ≡ editor_after key around e =
+    ap (editor_in hand) (wish_players hand w t)
+    ∙ ap (λ (p : Player). p.editor)
+    (get_or-set_same s.crew.players hand _ (new_player false) below) in
     record {
-      changes = Struck key around ∷ [];
-      own = refl;
-      after = ap (editor_in hand) (wish_players hand (asked s.crew hand key around) t)
-          ∙ ap (λ (p : Player). p.editor)
-          (get_or-set_same s.crew.players hand _ (new_player false) below);
+      made = record { changes = Struck key around ∷ []; own = refl; after = after };
+      text = ap (λ (f : Editor). is_some f.flow) after ∙ text_by_key key around e e.flow refl;
     }
 
 -- and that of another hand does not
@@ -263,14 +310,14 @@ press_own : (hand : ℕ) (key : Key) (s : LiveState) → hand < length s.crew.pl
 unfolding press_course key_course struck_course
 press_own hand key s below =
     let t = fitted (struck_well hand key s) in
-    let denial = denial_of t.crew hand key in
+    let denial = denial_at t.crew hand key (around_at hand t) in
     let there = subst (λ (n : ℕ). hand < n)
     (sym (length-map s.crew.players (fitted_player (dims_at s)))) below in
     record {
       own = key_own hand key (struck_where hand key t denial).acts
           (where_silent hand hand key t denial);
-      moves = made_twice [] (key ∷ []) _ _ _ (fitted_made (dims_at s) s.crew.players hand)
-          (where_own hand key t denial there);
+      moves = moves_twice [] (key ∷ []) _ _ _ (fitted_moves (dims_at s) s.crew.players hand)
+          (where_own hand key t denial there refl);
     }
 
 press_other : (hand other : ℕ) (key : Key) (s : LiveState) → (other == hand) ≡ false
@@ -278,12 +325,12 @@ press_other : (hand other : ℕ) (key : Key) (s : LiveState) → (other == hand)
 unfolding press_course key_course struck_course
 press_other hand other key s differs =
     let t = fitted (struck_well other key s) in
-    let denial = denial_of t.crew other key in
+    let denial = denial_at t.crew other key (around_at other t) in
     record {
       own = key_other hand other key (struck_where other key t denial).acts differs
           (where_silent hand other key t denial);
-      moves = made_twice [] [] _ _ _ (fitted_made (dims_at s) s.crew.players hand)
-          (made_none _ _ (where_other hand other key t denial differs));
+      moves = moves_twice [] [] _ _ _ (fitted_moves (dims_at s) s.crew.players hand)
+          (moves_none _ _ (where_other hand other key t denial differs));
     }
 
 -- where the course of keys goes on, all of them were struck
@@ -415,7 +462,7 @@ paint_silent hand marks s =
     record {
       strikes = record {
         own = silent.strikes.own;
-        moves = made_twice [] [] _ _ _ (fitted_made (dims_at s) s.crew.players hand)
+        moves = moves_twice [] [] _ _ _ (fitted_moves (dims_at s) s.crew.players hand)
             silent.strikes.moves;
       };
       goes = silent.goes;

@@ -2,7 +2,7 @@
 -- last save has failed.
 use Rattle.std.proofs.Common.{◌≡◌, ◌≢◌, ◌⊎◌, inl, inr, ℕ, zero, suc, Bool, true, false, List, [], ◌∷◌, ◌++◌, refl, sym, ◌∙◌, ap, subst, arith, append_assoc}
 use Rattle.std.specs.Prelude.{◌&&◌, ◌==◌, if◌then◌else◌, slice_index_or, slice_set, Option, Some, None, codes}
-use Rattle.std.proofs.lemmas.Bool.{eqb-true, eqb-false}
+use Rattle.std.proofs.lemmas.Bool.{eqb-true}
 use Rattle.std.proofs.lemmas.Bool.Decides.{nat_tests}
 use Rattle.orca_base.specs.declared.command.Command.{Command}
 use Rattle.orca_base.specs.declared.command.Command.TheVariants.{Frame}
@@ -11,9 +11,8 @@ use Rattle.orca_base.specs.declared.command.Rule.TheVariants as rule
 use Rattle.orca_base.specs.MarkSet.{MarkSet}
 use Rattle.orca_concert.specs.Concerts.{command_course as obey_course}
 use Rattle.orca_course.specs.Acts.{Act, keys_in}
-use Rattle.orca_course.specs.Acts.Act.{Append, Save, Screen, Strike}
+use Rattle.orca_course.specs.Acts.Act.{Append, Save, Screen}
 use Rattle.orca_course.specs.Courses.{mapped, onward}
-use Rattle.orca_edit.specs.Obeying.{obey}
 use Rattle.orca_jam.specs.Denials.{rule_of_denial}
 use Rattle.orca_jam.specs.declared.crew.TheConstants.{LEADER}
 use Rattle.orca_jam.specs.declared.owner.TheConstants.{NOBODY}

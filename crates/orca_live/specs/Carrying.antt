@@ -19,7 +19,7 @@ use Rattle.orca_course.specs.declared.item.Losses.{Losses}
 use Rattle.orca_course.specs.declared.item.Item.{Item}
 use Rattle.orca_course.specs.declared.item.Item.TheVariants as item
 use Rattle.orca_edit.specs.Machines.{preview_of}
-use Rattle.orca_jam.specs.Crews.{asked, denial_of, fitted_player, player_at, struck_by, turned_by}
+use Rattle.orca_jam.specs.Crews.{CrewState, asked, denial_at, fitted_player, offered, player_at, struck_by, turned_by}
 use Rattle.orca_jam.specs.Denials.{rule_of_denial}
 use Rattle.orca_jam.specs.declared.denial.Denial.{Denial}
 use Rattle.orca_jam.specs.declared.owner.TheConstants.{NOBODY}
@@ -27,19 +27,23 @@ use Rattle.orca_jam.specs.declared.player.Player.{Player}
 use Rattle.orca_jam.proofs.JamLemmas.{asks-no-redo}
 use Rattle.orca_script.specs.Runs.{printed_header}
 use Rattle.orca_term.specs.Codes.{letter_o}
+use Rattle.orca_term.specs.Editing.{wish_of}
 use Rattle.orca_term.specs.Keys.{Byte, Due, Item as KeyItem, turn}
 use Rattle.orca_term.specs.Pacing.{Pace, faster, pace_from, retimed, slower}
 use Rattle.orca_term.specs.Picture.{IsScreen, screen_inside}
+use Rattle.orca_term.specs.declared.around.Around.{Around}
 use Rattle.orca_term.specs.declared.came.Came.TheVariants.{Denied, Kept}
 use Rattle.orca_term.specs.declared.cell.ScreenSize.{ScreenSize}
+use Rattle.orca_term.specs.declared.editor.Editor.{Editor}
 use Rattle.orca_term.specs.declared.editor.Wish.{Wish}
 use Rattle.orca_term.specs.declared.editor.Wish.TheVariants as wish
+use Rattle.orca_term.specs.declared.flow.Flow.{Flow}
 use Rattle.orca_term.specs.declared.keys.Key.{Key}
 use Rattle.orca_term.specs.declared.keys.Key.TheVariants as key
 use Rattle.orca_term.specs.declared.keys.Pending.{Pending}
 use Rattle.orca_term.specs.declared.keys.Pending.TheVariants.{Nothing, Lone, Sequence, Overlong, Single}
-use Rattle.orca_live.specs.Performing.{additions, answered_at, byte_course, denied_course, due_course, finish_course, fired, frame_course, hand_course, header_course, hush_course, if_named, item_course, journal_course, key_course, knowing, last_grid_course, last_script_course, lines_course, lull_course, paced, paint_course, painted_course, picture_course, press_course, preview_course, read_course, save_course, saves_course, script_course, show_course, struck_course, struck_where, take_course, telling, toggled, wish_course, write_course, keys_course, struck_well}
-use Rattle.orca_live.specs.States.{LiveState, Setting, around_at, begun_name, dims_at, fitted, hands_in, is_full, is_hand, is_viewer, key_name, leader_at, piece_at, screen_at, unpainted, with_view, with_word}
+use Rattle.orca_live.specs.Performing.{additions, answered_at, byte_course, denied_course, due_course, finish_course, fired, frame_course, hand_course, header_course, hush_course, if_named, item_course, journal_course, key_course, knowing, last_grid_course, last_script_course, lines_course, lull_course, lull_of, paced, paint_course, painted_course, picture_course, press_course, preview_course, read_course, save_course, saves_course, script_course, show_course, struck_course, struck_where, take_course, telling, toggled, wish_course, write_course, keys_course, struck_well}
+use Rattle.orca_live.specs.States.{LiveState, Setting, around_at, begun_name, dims_at, editor_at, fitted, hands_in, is_full, is_hand, is_viewer, key_name, leader_at, piece_at, reads_text, screen_at, unpainted, with_view, with_word}
 
 -- two states are the same to the session, to the terminals, to the script and to the journal, and
 -- have as many hands, whose last keys came to the same, and of which only the keys and the editors
@@ -166,6 +170,12 @@ inside_is_screen d = record {
   few_columns = omega arith;
 }
 
+-- the key Escape asks for nothing, inside a text that is pasted and outside
+escape_asks : (c : CrewState) (a : Around) (e : Editor) (flow : Option Flow) → e.flow ≡ flow
+    → offered c (wish_of key.Escape a e) ≡ wish.Nothing
+escape_asks c a e None is = rw is refl
+escape_asks c a e (Some f) is = rw is refl
+
 -- the hand whose byte an item is; where a frame is due it is none's
 abbrev pub giver_of : Option ℕ → Item → Option ℕ
 giver_of who (item.Byte hand at byte) = Some hand
@@ -240,7 +250,7 @@ module _ {holds : Holds} (carry : Carries holds) where
       carry.screen (Some hand) hand (screen_inside d) s (inside_is_screen d)
 
   where_carried : (hand : ℕ) (key : Key) (s : LiveState) (denial : Option Denial)
-      → denial_of s.crew hand key ≡ denial
+      → denial_at s.crew hand key (around_at hand s) ≡ denial
       → Along holds (Some hand) (struck_where hand key s denial) s
   unfolding denied_course
   where_carried hand key s (Some denial) is = carry.denied (Some hand) hand denial s
@@ -271,7 +281,7 @@ module _ {holds : Holds} (carry : Carries holds) where
   unfolding struck_course
   press_carried hand key s =
       key_carried (Some hand) hand key s
-      (λ t. where_carried hand key t (denial_of t.crew hand key) refl)
+      (λ t. where_carried hand key t (denial_at t.crew hand key (around_at hand t)) refl)
 
   keys_carried : (hand : ℕ) (keys : List Key) (s : LiveState)
       → Along holds (Some hand) (keys_course hand keys s) s
@@ -288,16 +298,17 @@ module _ {holds : Holds} (carry : Carries holds) where
   unfolding denied_course wish_course
   escape_where hand s (Some denial) = carry.denied None hand denial s
   escape_where hand s None =
-      let t : LiveState =
-      record s { crew = struck_by hand key.Escape (around_at hand s) s.crew } in
-      carry.none None s t
-      (looks_so s t.crew.players s.pace s.at s.came (length-set s.crew.players hand _))
+      let around = around_at hand s in
+      let t : LiveState = record s { crew = struck_by hand key.Escape around s.crew } in
+      rw (escape_asks s.crew around (editor_at hand s) (editor_at hand s).flow refl)
+      (carry.none None s t
+      (looks_so s t.crew.players s.pace s.at s.came (length-set s.crew.players hand _)))
 
   escape_press : (hand : ℕ) (s : LiveState) → Along holds None (press_course hand key.Escape s) s
   unfolding struck_course
   escape_press hand s =
       key_carried None hand key.Escape s
-      (λ t. escape_where hand t (denial_of t.crew hand key.Escape))
+      (λ t. escape_where hand t (denial_at t.crew hand key.Escape (around_at hand t)))
 
   single_press : (hand : ℕ) (s : LiveState)
       → Along holds None (press_course hand (key.Glyph letter_o) s) s
@@ -355,14 +366,22 @@ module _ {holds : Holds} (carry : Carries holds) where
       (λ t. carry.none None t (fired t)
       (looks_so t t.crew.players (fired t).pace t.at t.came refl)))
 
-  lulls_carried : (hands : List ℕ) (s : LiveState)
-      → Along holds None (each (λ hand. item_course hand Due) hands s) s
+  lull_by : (text : Bool) (hand : ℕ) (s : LiveState)
+      → Along holds None (if text then still s else item_course hand Due s) s
+  lull_by true hand s = carry.none None s s (looks_same s)
+  lull_by false hand s = read_carried None hand Due s (λ t. due_keys hand _ _ t)
+
+  lull_carried : (hand : ℕ) (s : LiveState) → Along holds None (lull_of hand s) s
+  unfolding lull_of
+  lull_carried hand s = lull_by (reads_text hand s) hand s
+
+  lulls_carried : (hands : List ℕ) (s : LiveState) → Along holds None (each lull_of hands s) s
   unfolding each onward
   lulls_carried [] s = carry.none None s s (looks_same s)
   lulls_carried (hand ∷ hands) s =
-      let c = item_course hand Due s in
-      onward_carried None s c.ending c (each (λ hand. item_course hand Due) hands) refl
-      (read_carried None hand Due s (λ t. due_keys hand _ _ t)) (lulls_carried hands)
+      let c = lull_of hand s in
+      onward_carried None s c.ending c (each lull_of hands) refl (lull_carried hand s)
+      (lulls_carried hands)
 
   due_carried : (s : LiveState) → Along holds None (due_course s) s
   unfolding due_course lull_course onward

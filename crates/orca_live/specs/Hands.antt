@@ -18,9 +18,10 @@ use Rattle.orca_jam.specs.declared.owner.TheConstants.{NOBODY}
 use Rattle.orca_rig.specs.declared.inbox.Answer.{Answer}
 use Rattle.orca_rig.specs.declared.inbox.Answer.TheVariants as answer
 use Rattle.orca_term.specs.Editing.{editor_after, editor_inside}
-use Rattle.orca_term.specs.Keys.{Byte, Due, Item, keys_from, turn}
+use Rattle.orca_term.specs.Keys.{Byte, Due, Item, turn}
 use Rattle.orca_term.specs.declared.around.Around.{Around}
 use Rattle.orca_term.specs.declared.editor.Editor.{Editor}
+use Rattle.orca_term.specs.declared.editor.Wish.TheVariants as wish
 use Rattle.orca_term.specs.declared.keys.Key.{Key}
 use Rattle.orca_term.specs.declared.keys.Key.TheVariants as key
 use Rattle.orca_term.specs.declared.keys.Pending.{Pending}
@@ -28,7 +29,7 @@ use Rattle.orca_live.specs.Items.{ByteOf, FrameDue, HeardItem, items_of}
 use Rattle.orca_live.specs.Laws.{so_far}
 use Rattle.orca_live.specs.Performing.{hand_course, key_course}
 use Rattle.orca_live.specs.Starting.{live_at_start}
-use Rattle.orca_live.specs.States.{LiveState, Setting, editor_at, is_hand, moments_at}
+use Rattle.orca_live.specs.States.{LiveState, Setting, editor_at, is_hand, moments_at, reads_text}
 
 -- ---- each hand is heard
 
@@ -38,19 +39,58 @@ after_commands [] machine = machine
 after_commands (command ∷ commands) machine =
     after_commands commands (obey machine command).machine
 
--- what the reader of a hand is given: the bytes of this hand, and wherever a frame is due, that
--- nothing came for a while
-abbrev pub items_for : ℕ → List HeardItem → List Item
-items_for hand [] = []
-items_for hand (ByteOf other byte ∷ items) =
-    if other == hand then Byte byte ∷ items_for hand items else items_for hand items
-items_for hand (FrameDue ∷ items) = Due ∷ items_for hand items
+-- what reads the bytes of a hand: what is pending of them, and whether its editor reads a text that
+-- is pasted
+pub record Reader : Type 0 where
+  pub pending : Pending
+  pub text : Bool
 
--- what is pending after these items
-abbrev pub pending_after : Bool → Pending → List Item → Pending
-pending_after full pending [] = pending
-pending_after full pending (item ∷ items) =
-    pending_after full (turn full pending item).pending items
+abbrev pub reader_at : ℕ → LiveState → Reader
+reader_at hand s =
+    record { pending = (player_at s.crew hand).keys; text = reads_text hand s }
+
+-- whether a text is read after a key, and after keys
+abbrev pub text_after : Bool → Key → Bool
+text_after text key.PasteBegin = true
+text_after text key.PasteEnd = false
+text_after text key.Escape = false
+text_after text _ = text
+
+abbrev pub text_by : Bool → List Key → Bool
+text_by text [] = text
+text_by text (key ∷ keys) = text_by (text_after text key) keys
+
+-- what an item of the performance is to a reader: a byte of its hand, and where a frame is due, that
+-- nothing came for a while. Bytes of other hands are nothing to it, nor is a frame while a text is
+-- read
+abbrev pub item_for : ℕ → Reader → HeardItem → Option Item
+item_for hand r (ByteOf other byte) = if other == hand then Some (Byte byte) else None
+item_for hand r FrameDue = if r.text then None else Some Due
+
+-- the keys that it ends
+abbrev pub ended_by : Bool → Reader → Option Item → List Key
+ended_by full r None = []
+ended_by full r (Some item) = (turn full r.pending item).keys
+
+-- the reader after it
+abbrev pub reader_after : Bool → Reader → Option Item → Reader
+reader_after full r None = r
+reader_after full r (Some item) =
+    let t = turn full r.pending item in
+    record { pending = t.pending; text = text_by r.text t.keys }
+
+-- after items, one after another
+abbrev pub reader_by : Bool → ℕ → Reader → List HeardItem → Reader
+reader_by full hand r [] = r
+reader_by full hand r (item ∷ items) =
+    reader_by full hand (reader_after full r (item_for hand r item)) items
+
+-- the keys that they end
+abbrev pub keys_by : Bool → ℕ → Reader → List HeardItem → List Key
+keys_by full hand r [] = []
+keys_by full hand r (item ∷ items) =
+    let i = item_for hand r item in
+    ended_by full r i ++ keys_by full hand (reader_after full r i) items
 
 -- what changes an editor: a key of its hand, which is told this; one that is denied, and moves
 -- nothing; and the size of the grid
@@ -90,15 +130,13 @@ pub record HearsEach (s : LiveState) : Type 0 where
   pub reads : (opening : Losses) (heard : List Hearing) (hand : ℕ) → is_hand hand s ≡ true
       → let c = so_far s opening heard in
       c.ending ≡ None
-      → (player_at c.state.crew hand).keys
-      ≡ pending_after s.crew.full (player_at s.crew hand).keys
-      (items_for hand (items_of (length s.crew.players) heard))
+      → reader_at hand c.state
+      ≡ reader_by s.crew.full hand (reader_at hand s) (items_of (length s.crew.players) heard)
   pub keys : (opening : Losses) (heard : List Hearing) (hand : ℕ) → is_hand hand s ≡ true
       → let c = so_far s opening heard in
       c.ending ≡ None
       → keys_in hand c.acts
-      ≡ keys_from s.crew.full (player_at s.crew hand).keys
-      (items_for hand (items_of (length s.crew.players) heard))
+      ≡ keys_by s.crew.full hand (reader_at hand s) (items_of (length s.crew.players) heard)
   pub moves : (opening : Losses) (heard : List Hearing) (hand : ℕ) → is_hand hand s ≡ true
       → let c = so_far s opening heard in
       c.ending ≡ None → IsMadeBy (keys_in hand c.acts) (editor_at hand s) (editor_at hand c.state)
@@ -164,7 +202,8 @@ pub record SharesSession (s : LiveState) : Type 0 where
   pub spares : (opening : Losses) (heard : List Hearing) (hand : ℕ)
       → let t = (so_far s opening heard).state in
       let u = (hand_course hand command.Undo t).state in
-      denial_of t.crew hand key.Undo ≡ None → rule_against t.standing.machine command.Undo ≡ None
+      denial_of t.crew hand (wish.Do command.Undo) ≡ None
+      → rule_against t.standing.machine command.Undo ≡ None
       → edits_of_others hand u.standing.machine.history u.crew.owners
       ≡ edits_of_others hand t.standing.machine.history t.crew.owners
   -- the key of it leaves them too, whatever becomes of the key

@@ -20,7 +20,7 @@ use Rattle.orca_course.specs.declared.item.Item.TheVariants as item
 use Rattle.orca_edit.specs.Machines.{preview_of}
 use Rattle.orca_edit.specs.Prices.{preview_price}
 use Rattle.orca_grid.specs.GridText.{text_of}
-use Rattle.orca_jam.specs.Crews.{CrewState, asked, cursors_beside, denial_of, player_at, struck_by, took_by, turned_by}
+use Rattle.orca_jam.specs.Crews.{CrewState, asked, cursors_beside, denial_at, player_at, struck_by, took_by, turned_by}
 use Rattle.orca_jam.specs.Denials.{denial_line, rule_of_denial}
 use Rattle.orca_jam.specs.declared.denial.Denial.{Denial}
 use Rattle.orca_jam.specs.declared.owner.TheConstants.{NOBODY}
@@ -42,7 +42,7 @@ use Rattle.orca_term.specs.declared.keys.Key.{Key}
 use Rattle.orca_term.specs.declared.keys.Key.TheVariants as key
 use Rattle.orca_term.specs.declared.overlay.Overlay.{Overlay}
 use Rattle.orca_live.specs.Quiet.{silent_manner}
-use Rattle.orca_live.specs.States.{LiveState, around_at, begun_name, editor_at, fitted, hands_in, is_full, is_hand, is_viewer, key_name, leader_at, live_stance, piece_at, screen_at, status_line_at, unpainted, until_at, view_at, with_view, with_word}
+use Rattle.orca_live.specs.States.{LiveState, around_at, begun_name, editor_at, fitted, hands_in, is_full, is_hand, is_viewer, key_name, leader_at, live_stance, piece_at, reads_text, screen_at, status_line_at, unpainted, until_at, view_at, with_view, with_word}
 
 -- what is done under a name, if there is one
 abbrev pub if_named : Option (List ℕ) → (List ℕ → LiveState → Course LiveState Stop) → LiveState
@@ -182,7 +182,8 @@ struck_where hand key s None =
 
 -- a key of a hand, where the editors are fitted to the grid
 unfoldable pub struck_course : ℕ → Key → LiveState → Course LiveState Stop
-struck_course hand key s = struck_where hand key s (denial_of s.crew hand key)
+struck_course hand key s =
+    struck_where hand key s (denial_at s.crew hand key (around_at hand s))
 
 -- what a key of a hand does
 unfoldable pub key_course : ℕ → Key → LiveState → Course LiveState Stop
@@ -233,9 +234,14 @@ frame_course s =
     if is_full s then ended Full s
     else onward (hand_course NOBODY Frame s) (λ t. still (fired t))
 
--- nothing came for a while: what is pending of a hand may be keys then, in the order of the hands
+-- nothing came of a hand for a while: what is pending may be keys then. The text that a hand pastes
+-- may be cut anywhere, so to one that reads a text this says nothing
+unfoldable pub lull_of : ℕ → LiveState → Course LiveState Stop
+lull_of hand s = if reads_text hand s then still s else item_course hand Due s
+
+-- of each hand, in their order
 unfoldable pub lull_course : LiveState → Course LiveState Stop
-lull_course s = each (λ hand. item_course hand Due) (hands_in s) s
+lull_course s = each lull_of (hands_in s) s
 
 -- a frame is due: nothing came for a while, and then the frame is played
 unfoldable pub due_course : LiveState → Course LiveState Stop

@@ -1,6 +1,6 @@
 -- Where a performance stands: its setting, the session, the hands, the pacer, what each is shown
 -- and told, the commands that are kept for the script, and the lines that wait for the journal.
-use Rattle.std.specs.Prelude.{ℕ, ◌&&◌, ◌==◌, Bool, true, nat_le, nat_lt, if◌then◌else◌, List, length, map, slice_index_or, slice_set, Option, Some, None, unwrap_or, Result}
+use Rattle.std.specs.Prelude.{ℕ, ◌&&◌, ◌==◌, Bool, true, nat_le, nat_lt, if◌then◌else◌, List, length, map, slice_index_or, slice_set, Option, Some, None, is_some, unwrap_or, Result}
 use Rattle.std.specs.List.{range_with_len}
 use Rattle.std.specs.Option.{option_map}
 use Rattle.orca_base.specs.declared.command.Command.{Command}
@@ -157,6 +157,10 @@ hands_in s = range_with_len 0 (length s.crew.players)
 -- the editor of a hand
 abbrev pub editor_at : ℕ → LiveState → Editor
 editor_at hand s = (player_at s.crew hand).editor
+
+-- it reads a text that is pasted
+abbrev pub reads_text : ℕ → LiveState → Bool
+reads_text hand s = is_some (editor_at hand s).flow
 
 -- that of the first one, whose pause holds
 abbrev pub leader_at : LiveState → Editor

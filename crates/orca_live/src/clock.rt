@@ -1,8 +1,7 @@
 //! What a due moment does.
 
-ghost use Rattle.orca_live.specs.Performing.{due_course, frame_course, item_course, lull_course};
+ghost use Rattle.orca_live.specs.Performing.{due_course, frame_course, lull_course, lull_of};
 ghost use Rattle.orca_live.specs.States.{LiveDid};
-ghost use Rattle.orca_term.specs.Keys.{Due};
 
 use crate::Live;
 use crate::keyboard::{do_command, press_all};
@@ -28,16 +27,20 @@ fn do_frame<M: Machine, H: House>(
     Ok(None)
 }
 
-/// Nothing came of a hand for a while: what is pending may be keys then.
-#[tactic(auto, using(orca_course::proofs::WorldLemmas::called_still, crate::proofs::DoneLemmas::read_did), unfolding(crate::specs::Performing::item_course))]
-fn do_item<M: Machine, H: House>(
+/// Nothing came of a hand for a while: what is pending may be keys then, unless its editor reads a text that
+/// is pasted.
+#[tactic(auto, using(orca_course::proofs::WorldLemmas::called_still, crate::proofs::DoneLemmas::read_did), unfolding(crate::specs::Performing::item_course, crate::specs::Performing::lull_of))]
+fn do_lull_of<M: Machine, H: House>(
     live: &mut Live<'_, M>,
     desk: &mut Desk<H>,
     hand: u8,
 ) -> Result<Option<Stop>, NoMemory>
-    ensures { LiveDid M.Machine.own (item_course hand Due) live.old desk.old result live.new desk.new }
+    ensures { LiveDid M.Machine.own (lull_of hand) live.old desk.old result live.new desk.new }
 {
     if hand >= live.crew.hands() {
+        return Ok(None);
+    }
+    if live.crew.editor(hand).flow.is_some() {
         return Ok(None);
     }
     let keys = live.crew.due(hand);
@@ -53,7 +56,7 @@ fn do_lull<M: Machine, H: House>(
     ensures { LiveDid M.Machine.own lull_course live.old desk.old result live.new desk.new }
 {
     for hand in 0..live.crew.hands() {
-        if let Some(stop) = do_item(live, desk, hand)? {
+        if let Some(stop) = do_lull_of(live, desk, hand)? {
             return Ok(Some(stop));
         }
     }

@@ -47,7 +47,8 @@ pub fn journal_law()
 
 /// Each of several hands is heard: wherever a performance stands, its session is the one after its
 /// commands, in the order in which they came, the keys of each hand are those of its own bytes and
-/// the due frames, and they alone have moved its editor. It does nothing.
+/// of the frames that are due while it reads no pasted text, and they alone have moved its editor.
+/// It does nothing.
 #[tactic(auto, using(crate::proofs::HearingLaw::each_is_heard, crate::proofs::NamingLaw::hands_share))]
 pub fn hands_law()
     ensures heard { EachIsHeard }
