@@ -51,6 +51,7 @@ end_stage() {
 
 # await_stage STATUS: ./perform ends with this status, or one of this pattern, and leaves the terminal as it was
 await_stage() {
+    local mode
     wait "$peer" || true
     peer=
     exec {typed}>&-
@@ -58,7 +59,9 @@ await_stage() {
     [[ $(cat status) == $1 ]] || fails "./perform ends with $(cat status): $(tail -c 300 seen)"
     cmp terminal_before terminal_after || fails "./perform leaves the terminal in another state"
     [ "$(grep -ao $'\e\[?25[hl]' seen | tail -n 1)" != $'\e[?25l' ] || fails "./perform leaves the cursor hidden"
-    [ "$(grep -ao $'\e\[?1002[hl]' seen | tail -n 1)" != $'\e[?1002h' ] || fails "./perform leaves the mouse to the terminal"
+    for mode in 1002 1006 2004; do
+        [[ $(grep -ao $'\e\[?'"${mode}[hl]" seen | tail -n 1) != *h ]] || fails "./perform leaves the mode $mode to the terminal"
+    done
 }
 
 # has_room NAME: a performance of this piece of the folder has left a room
@@ -592,8 +595,35 @@ try_mouse() {
     on_stage clicked --bpm 1 --keys plain
     await_text seen ' play '
     end_stage 0
-    ! grep -aqF $'\e[?1002' seen || fails "plain keys ask for the mouse"
+    ! grep -aqE $'\e\\[\\?(1002|2004)' seen || fails "plain keys ask for the mouse, or for texts in brackets"
     echo "peers: a click and a drag are keys"
+}
+
+# A text that is pasted is one block and one undo. Frames come while it is read, and inside each of its brackets.
+try_paste() {
+    rm -f saved script
+    printf '99999999\n%.0s' 1 2 3 >pasted
+    printf '%s\n' 99999999 9912.399 9945..99 >wanted
+    on_stage pasted --bpm 999 --rows 6 --cols 60 --save saved --script script
+    await_text seen ' play '
+    await_text seen $'\e[?1006h\e[?2004h'
+    for part in '\e[B\e[C\e[C\e[20' '0~12 3\r\n4' '5\x11\e' '[20'; do
+        printf %b "$part" >&"$typed"
+        plays_on seen 3 "a part of a text has come"
+    done
+    await_text seen ' paste ok'
+    printf '1~\x13' >&"$typed"
+    within 60 cmp -s saved wanted || fails "a text in brackets gives: $(cat saved)"
+    printf '\x1a\x13' >&"$typed"
+    within 60 cmp -s saved pasted || fails "one undo does not take a text back: $(cat saved)"
+    # The text is the clip, and comes again.
+    printf '\x16' >&"$typed"
+    end_stage 0
+    cmp saved wanted || fails "a text comes again as: $(cat saved)"
+    printf '%s\n' '!orca 2 seed 1' 'clip 0 0 1' 'clip 0 1 2' 'clip 0 2 .' 'clip 0 3 3' 'clip 1 0 4' 'clip 1 1 5' 'paste 1 2' undo 'paste 1 2' |
+        cmp - <(grep -v '^frame' script) || fails "a text in brackets gives: $(cat script)"
+    grep -aqF $'\e[?2004l\e[?1002l' seen || fails "the terminal is not told that texts need no brackets any more"
+    echo "peers: a pasted text is one block and one undo"
 }
 
 # A piece that follows the clock of another one ends with its grid and at its tick. ./perform has the leader, which is paused
