@@ -176,6 +176,9 @@ try_joining() {
     turn_to first
     await_text seen ' play '
     type_glyph 7
+    # A text has begun, and its end never comes.
+    printf '\e[200~8' >&"$typed"
+    await_text seen ' paste '
     begin=$(now)
     kill -TERM "$(cat pid)"
     await_stage 143
