@@ -1,8 +1,8 @@
 #!/usr/bin/env python3
 """Random sessions: the built program's `replay` does scripts of 3,000 commands each, and a model of its own, written
-below from the rules, does the same commands. Both have to print the same refusals, the same grid, tick, moments and
-number of notes that sound. If the program knows the options, the history is short in every third session, and the
-MIDI bytes have to be the same too.
+below from the rules, does the same commands. After every hundredth one both have to print the same refusals, the same
+grid, tick, moments and number of notes that sound. If the program knows the options, the history is short in every
+third session, and the MIDI bytes have to be the same too.
 
 The model keeps a plain list of entries, and a list of what was cut off. When a command goes back or forward again,
 it folds the list from the opened grid. Its operators are A, B, D, E, H, N, S, W in both cases, `*` and `:`. A and B may write
@@ -18,6 +18,7 @@ import sys
 import tempfile
 
 COMMANDS = 3000
+LOOK = 100
 SIDE = 1024               # the most rows and columns of a grid
 MOST = 4294967295         # the greatest number of a script
 GLYPHS = "....." "0123459" "DEEHNSWdehnsw" "ABab" "**::"
@@ -211,13 +212,15 @@ class Session:
             return "EmptyBlock"
         if kind == "resize" and not all(1 <= side <= SIDE for side in rest):
             return "BadSize"
-        if kind == "paste" and self.clip is None:
+        if kind == "clip" and not all(side < SIDE for side in rest[:2]):
+            return "BadSize"
+        if (kind == "paste" or kind == "clip" and rest[:2] != (0, 0)) and self.clip is None:
             return "EmptyClip"
         if kind == "undo" and not any(entry[0] in EDITS for entry in self.entries):
             return "NothingToUndo"
         if kind == "rewind" and rest[0] >= len(self.entries):
             return f"NoSuchMoment kept {len(self.entries)}"
-        if kind not in ("copy", "undo", "rewind", "redo") and len(self.entries) == self.limit:
+        if kind not in ("copy", "clip", "undo", "rewind", "redo") and len(self.entries) == self.limit:
             return "HistoryFull"
         if kind == "redo" and self.tail and len(self.entries) + self.group() > self.limit:
             return "HistoryFull"
@@ -238,6 +241,14 @@ class Session:
     def take(self, area):
         y, x, h, w = area
         self.clip = tuple(row[x:x + w] for row in self.piece[0][y:y + h])
+
+    # the clip with a glyph in a cell, as large as holds it; at the first cell it begins anew
+    def put_in_clip(self, y, x, glyph):
+        old = self.clip if (y, x) != (0, 0) else ()
+        width = max([x + 1] + [len(row) for row in old])
+        rows = [row.ljust(width, ".") for row in old] + ["." * width] * (y + 1 - len(old))
+        rows[y] = rows[y][:x] + glyph + rows[y][x + 1:]
+        self.clip = tuple(rows)
 
     def push(self, entry):
         self.piece, said = applied(self.piece, entry)
@@ -276,6 +287,8 @@ class Session:
             area = self.area(rest)
             self.take(area)
             self.push(("fill", area, "."))
+        elif kind == "clip":
+            self.put_in_clip(*rest)
         elif kind == "paste":
             self.push(("put", rest, self.clip))
         elif kind == "move":
@@ -309,6 +322,13 @@ def some_side(draw):
     return draw.choice([0, 1, 1025, MOST]) if draw.random() < 0.04 else draw.randint(3, 12)
 
 
+# a cell of the clip: the first one, one near it, or one at the edge of what a clip may hold
+def some_cell(draw):
+    if draw.random() < 0.02:
+        return draw.choice([(SIDE - 1, 0), (0, SIDE - 1), (SIDE, 0), (0, SIDE), (MOST, MOST)])
+    return draw.choice([(0, 0), (draw.randrange(5), draw.randrange(5)), (draw.randrange(5), draw.randrange(5))])
+
+
 def some_moment(draw, session):
     n = len(session.entries)
     nearly = [0, n - 1, n, n + 1, n - 1024, n - 1025, draw.randrange(n + 1)]
@@ -328,6 +348,8 @@ def some_command(draw, session, weights):
         return (kind,) + some_rect(draw, session) + (draw.choice(GLYPHS),)
     if kind in ("erase", "copy", "cut"):
         return (kind,) + some_rect(draw, session)
+    if kind == "clip":
+        return (kind,) + some_cell(draw) + (draw.choice(GLYPHS),)
     if kind == "paste":
         return (kind,) + some_place(draw, session)
     if kind == "move":
@@ -339,9 +361,9 @@ def some_command(draw, session, weights):
     return (kind,)
 
 
-PLAYING = {"frame": 86, "write": 6, "fill": 1, "erase": 1, "copy": 1, "cut": 1, "paste": 1, "move": 1,
+PLAYING = {"frame": 86, "write": 6, "fill": 1, "erase": 1, "copy": 1, "cut": 1, "clip": 2, "paste": 1, "move": 1,
            "resize": 0.6, "reset": 0.3, "undo": 0.5, "rewind": 0.6, "redo": 1.2}
-EDITING = {"frame": 40, "write": 22, "fill": 5, "erase": 4, "copy": 5, "cut": 4, "paste": 6, "move": 5,
+EDITING = {"frame": 40, "write": 22, "fill": 5, "erase": 4, "copy": 5, "cut": 4, "clip": 9, "paste": 6, "move": 5,
            "resize": 3, "reset": 2, "undo": 2.5, "rewind": 1.5, "redo": 4}
 
 
@@ -354,10 +376,26 @@ def line_of(draw, command):
     return gap.join(words) + " " * draw.choice([0, 0, 0, 2]) + draw.choice(["\n", "\n", "\n", "\r\n"])
 
 
-GLYPH = {"write": 3, "fill": 5}
+GLYPH = {"write": 3, "fill": 5, "clip": 3}
 
 
 # ---- one session, by the model and by the program
+
+# what differs between the session and the program that does these lines, if anything does: what it is called, what the
+# model prints, and how the program ended
+def difference(words, midi, session, lines, refused):
+    grid, tick, notes = session.piece
+    want = refused + [row + "\n" for row in grid]
+    want.append(f"tick {tick} moments {len(session.entries)} sounding {len(notes)}\n")
+    with open(words[-1], "w", newline="") as file:
+        file.write("".join(lines))
+    done = subprocess.run(words, stdout=subprocess.PIPE, stderr=subprocess.PIPE)
+    if done.returncode != 0 or done.stderr or done.stdout != "".join(want).encode():
+        return "what it prints", want, done
+    if midi and open(midi, "rb").read() != session.said + ends(notes):
+        return "its MIDI bytes", want, done
+    return None
+
 
 def compare(program, work, seed, options):
     draw = random.Random(seed)
@@ -365,34 +403,25 @@ def compare(program, work, seed, options):
     h, w = draw.randint(1, 9), draw.randint(1, 12)
     session = Session(drawn(h, w, lambda y, x: draw.choice(GLYPHS)), limit)
     weights = PLAYING if seed % 2 == 0 else EDITING
-    opened = "".join(row + "\n" for row in session.opened)
-    lines, want = [], []
-    for _ in range(COMMANDS):
+    grid, script, midi = (os.path.join(work, f"{name}{seed}") for name in ("grid", "script", "midi"))
+    with open(grid, "w", newline="") as file:
+        file.write("".join(row + "\n" for row in session.opened))
+    words = [program, "replay"] + (["--limit", str(limit), "--midi", midi] if options else []) + [grid, script]
+    lines, refused = [], []
+    for number in range(1, COMMANDS + 1):
         while draw.random() < 0.02:
             lines.append(draw.choice(["\n", "   \r\n", "# a comment\n"]))
         command = some_command(draw, session, weights)
         lines.append(line_of(draw, command))
         rule = session.obey(command)
         if rule is not None:
-            want.append(f"refused {len(lines)} {rule}\n")
-    grid, tick, notes = session.piece
+            refused.append(f"refused {len(lines)} {rule}\n")
+        if number % LOOK == 0:
+            differs = difference(words, midi if options else None, session, lines, refused)
+            if differs is not None:
+                return differs
     if session.piece != folded(session.opened, session.entries):
         sys.exit(f"seed {seed}: the model is not what its entries make")
-    want += [row + "\n" for row in grid]
-    want.append(f"tick {tick} moments {len(session.entries)} sounding {len(notes)}\n")
-    paths = {name: os.path.join(work, f"{name}{seed}") for name in ("grid", "script", "midi")}
-    with open(paths["grid"], "w", newline="") as file:
-        file.write(opened)
-    with open(paths["script"], "w", newline="") as file:
-        file.write("".join(lines))
-    words = ["replay", paths["grid"], paths["script"]]
-    if options:
-        words += ["--limit", str(limit), "--midi", paths["midi"]]
-    done = subprocess.run([program] + words, stdout=subprocess.PIPE, stderr=subprocess.PIPE)
-    if done.returncode != 0 or done.stderr or done.stdout != "".join(want).encode():
-        return "what it prints", want, done
-    if options and open(paths["midi"], "rb").read() != session.said + ends(notes):
-        return "its MIDI bytes", want, done
     return None
 
 
