@@ -1,13 +1,14 @@
 #!/usr/bin/env python3
-"""Measures `orca play` over a real connection: bench/live.py [PROGRAM] [--short] [--clock] [--hands] [--seconds S]
-[--turns N] [--keys N] [--flood BYTES]
+"""Measures `orca play` over a real connection: bench/live.py [PROGRAM] [--short] [--clock] [--hands] [--paste]
+[--seconds S] [--turns N] [--keys N] [--flood BYTES] [--text BYTES]
 
 It prints how late frames are, how long a key waits for its painting, near a frame and away from one, how a beat that
-fell behind catches up, what eight megabytes of keys and saves do to the frames, how much of a processor is used, and
-how many bytes a frame paints; with --short it prints only how late frames and keys are, with --clock only how late the
-clock of `lead` is, and a frame of `follow` after its clock, and with --hands only how late the frames of `jam` are
-while eight hands send nothing, while each of them sends eight megabytes of keys, and while each sees a picture. PROGRAM is crates/orca/out/orca if
-it is not given. For figures that mean something nothing else may run.
+fell behind catches up, what eight megabytes of keys, a pasted megabyte and saves do to the frames, how much of a
+processor is used, and how many bytes a frame paints; with --short it prints only how late frames and keys are, with
+--clock only how late the clock of `lead` is, and a frame of `follow` after its clock, with --hands only how late the
+frames of `jam` are while eight hands send nothing, while each of them sends eight megabytes of keys, and while each sees
+a picture, and with --paste only what a pasted text does. PROGRAM is crates/orca/out/orca if it is not given. For figures
+that mean something nothing else may run.
 """
 import os
 import random
@@ -25,6 +26,8 @@ import grids
 HERE = os.path.dirname(os.path.abspath(__file__))
 # A clock and a note in each frame, above a small piece.
 BEAT = b'.D1.....\n..:03C82\n' + grids.piece()
+# The same above an empty grid of 256 x 256.
+WIDE_BEAT = b'.D1.....\n..:03C82\n' + grids.dots(254, 256)
 NOTE = b'\x90\x24'
 # How a picture shows the cursor, as cursor_on of .ci/join.bash: the glyph follows.
 CURSOR = b'\x1b[7m'
@@ -35,6 +38,8 @@ NEAR = 0.012
 # How late a frame may be while hands flood, in seconds.
 LATE = 0.005
 HANDS = 8
+# The size of the largest screen.
+LARGE = ('--rows', 100, '--cols', 256)
 # The cursor goes where no instrument is. If a frame comes inside an arrow, the rest of that is written there.
 AWAY = b'\x1b[B' * 20
 # A program that waits for one moment after another, as a player does, and does nothing else: it sleeps, reads the clock for the
@@ -102,12 +107,17 @@ class Player:
                     sys.exit('the program does not listen')
                 time.sleep(0.01)
         self.keys.setsockopt(socket.IPPROTO_TCP, socket.TCP_NODELAY, 1)
+        # What is looked for in the paintings, and when it came.
+        self.wanted, self.seen = None, None
         self.hands = [self.keys, *(socket.create_connection(('127.0.0.1', port)) for _ in range(1, hands))]
 
     def painting(self, seconds):
         """The next bytes that are painted; none if there are none in this time."""
         ready, _, _ = select.select([self.process.stdout], [], [], seconds)
-        return os.read(self.process.stdout.fileno(), 1 << 20) if ready else b''
+        painted = os.read(self.process.stdout.fileno(), 1 << 20) if ready else b''
+        if self.wanted and self.wanted in painted:
+            self.wanted, self.seen = None, time.monotonic()
+        return painted
 
     def frames(self, seconds, sign=NOTE):
         """The moments at which frames come within this time, one by one, or other bytes. What is painted is read, and
@@ -316,17 +326,36 @@ def catching_up(bpm):
 def flood(bpm, count):
     """So many bytes of keys at once: how late the frames are while they come."""
     player, interval = Player(BEAT, '--bpm', bpm, '--midi', 'pipe'), interval_of(bpm)
+    waiter = Waiter(interval)
     before = list(player.frames(20 * interval))
     sender = threading.Thread(target=player.keys.sendall, args=(AWAY + b'\x1b[C\x1b[D' * (count // 6),))
-    waiter, begin = Waiter(interval), time.monotonic()
+    during, begin = [], time.monotonic()
     sender.start()
-    during = []
     while sender.is_alive() or player.has_unread():
         during += player.frames(10 * interval)
     seconds = time.monotonic() - begin
     player.leave()
     late = late_by(before + during, interval)[len(before):]
     spread(f'a frame at {bpm} beats under {count} bytes of keys in {seconds:.1f} s', late, 'microseconds', 1e6)
+    waiter.tell()
+
+
+def pasted(bpm, grid, count, *options):
+    """A text of so many bytes at once: how late the frames are until its picture comes, and how long that takes."""
+    player, interval = Player(grid, '--bpm', bpm, '--midi', 'pipe', '--keys', 'full', *options), interval_of(bpm)
+    player.keys.send(AWAY)
+    waiter = Waiter(interval)
+    before = list(player.frames(20 * interval))
+    text = (b'7' * 255 + b'\n') * (count // 256) + b'7' * (count % 256)
+    sender = threading.Thread(target=player.keys.sendall, args=(b'\x1b[200~' + text + b'\x1b[201~',))
+    player.wanted, during, begin = CURSOR + b'7', [], time.monotonic()
+    sender.start()
+    while not player.seen:
+        during += player.frames(10 * interval)
+        time.monotonic() < begin + 300 or sys.exit('a text is not painted')
+    player.leave()
+    late = late_by(before + during, interval)[len(before):]
+    spread(f'a frame at {bpm}, a text of {count} bytes seen after {player.seen - begin:.3f} s', late, 'microseconds', 1e6)
     waiter.tell()
 
 
@@ -395,7 +424,7 @@ def hands_see(bpm, seconds):
     picture, and while each hand is."""
     interval = interval_of(bpm)
     for views in 'one', 'all':
-        player = Player(BEAT, '--bpm', bpm, '--midi', 'pipe', '--rows', 100, '--cols', 256, '--views', views, verb='jam', hands=HANDS)
+        player = Player(BEAT, '--bpm', bpm, '--midi', 'pipe', *LARGE, '--views', views, verb='jam', hands=HANDS)
         readers, waiter = [Reader(hand) for hand in player.hands[2:]], Waiter(interval)
         for _ in player.frames(2 * interval):
             pass
@@ -443,12 +472,17 @@ def main():
             clocks(bpm, seconds)
             followed(bpm, min(keys, 4 * seconds))
         return
+    if '--paste' in sys.argv:
+        for bpm in (120, 999):
+            for count in 25_600, option('--text', 1_000_000):
+                pasted(bpm, BEAT, count)
+                pasted(bpm, WIDE_BEAT, count, *LARGE)
+        return
     if '--hands' in sys.argv:
         for bpm in (120, 999):
             hands_flood(bpm, seconds / 4, option('--flood', 8_000_000))
             hands_see(bpm, seconds / 4)
         return
-    large = ('--rows', 100, '--cols', 256)
     # In some of these turns the machine itself may be stopped less than in others.
     for bpm in (120, 999):
         for _ in range(option('--turns', 4)):
@@ -461,11 +495,12 @@ def main():
         return
     for bpm in (120, 999):
         flood(bpm, option('--flood', 8_000_000))
+        pasted(bpm, BEAT, option('--text', 1_000_000))
     key_times('25 x 57, paused', grids.piece(), keys)
-    key_times('256 x 256 of dots', grids.dots(256, 256), keys, *large)
-    key_times('256 x 256 with 10 %', grids.crowded(256, 256, 10), keys, *large)
+    key_times('256 x 256 of dots', grids.dots(256, 256), keys, *LARGE)
+    key_times('256 x 256 with 10 %', grids.crowded(256, 256, 10), keys, *LARGE)
     key_times('1,024 x 1,024 of dots, 24 x 80 of it', grids.dots(1_024, 1_024), keys, '--rows', 24, '--cols', 80)
-    key_times('1,024 x 1,024 of dots', grids.dots(1_024, 1_024), keys, *large)
+    key_times('1,024 x 1,024 of dots', grids.dots(1_024, 1_024), keys, *LARGE)
     crowd = grids.crowded(64, 64, 10)
     processor('64 x 64 with 10 %, paused', crowd, seconds, b' ')
     processor('64 x 64 with 10 %, playing at 120', crowd, seconds, b'')
