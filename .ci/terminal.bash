@@ -115,7 +115,7 @@ try_unread_save() {
     type_glyph 7
     end_stage 4
     await_text seen 'perform: crowded: a file could not be read or written'
-    await_text seen "perform: edits of crowded are not saved, and stay in $PWD/.crowded.orca-room"
+    await_text seen "perform: edits of crowded may not be saved; what could be kept is in $PWD/.crowded.orca-room"
     "$top/perform" --recover crowded || fails "--recover ends with $?"
     sed '1s/./7/' crowded | cmp - crowded.recovered.orca || fails "a pipe that nobody reads loses the grid"
     ! has_room crowded || fails "what was recovered stays"
@@ -480,7 +480,7 @@ try_unasked_save() {
     printf '\x06%.0s' {1..1000} >&"$typed"
     type_glyph 8
     end_stage 4
-    await_text seen "perform: edits of crowded are not saved, and stay in $PWD/.crowded.orca-room"
+    await_text seen "perform: edits of crowded may not be saved; what could be kept is in $PWD/.crowded.orca-room"
     cmp crowded opened || fails "a journal that fails makes ./perform save"
     "$top/perform" --discard crowded
     echo "peers: where nobody has asked for a save, nothing is saved"
@@ -835,7 +835,7 @@ try_full_disk() {
         fails "a save to $disk leaves something: $(ls -A small)"
     open_disk
     end_stage 4
-    await_text seen "perform: edits of small/piece are not saved, and stay in $PWD/small/.piece.orca-room"
+    await_text seen "perform: edits of small/piece may not be saved; what could be kept is in $PWD/small/.piece.orca-room"
     cmp small/piece opened || fails "the end saves what was not to be saved"
     "$top/perform" --recover small/piece || fails "$disk: --recover ends with $?"
     sed '1s/./8/' opened | cmp - small/piece.recovered.orca || fails "what Ctrl-S could not save is lost"
