@@ -137,6 +137,7 @@ try_told() {
     await_text seen ' play '
     kill $!
     type_glyph 7
+    await_text seen ' no midi '
     plays_on seen 10 "a synthesizer has gone"
     end_stage 3
     await_text seen 'perform: crowded: a port failed, or the terminal did not take the whole picture'
@@ -479,6 +480,7 @@ try_unasked_save() {
     type_glyph 7
     printf '\x06%.0s' {1..1000} >&"$typed"
     type_glyph 8
+    await_text seen ' no journal '
     end_stage 4
     await_text seen "perform: edits of crowded may not be saved; what could be kept is in $PWD/.crowded.orca-room"
     cmp crowded opened || fails "a journal that fails makes ./perform save"
@@ -828,7 +830,7 @@ try_full_disk() {
     await_text seen ' play '
     close_disk
     printf '7\x13' >&"$typed"
-    # Once this is seen, the key Save was taken.
+    await_text seen ' unsaved'
     type_glyph 8
     cmp small/piece opened || fails "a save to $disk changes the piece"
     [ "$(find small -mindepth 1 -maxdepth 1 ! -name filler -printf '%f\n' | sort | tr '\n' ' ')" = '.piece.orca-room piece ' ] ||
