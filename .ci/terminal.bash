@@ -59,6 +59,7 @@ await_stage() {
     [[ $(cat status) == $1 ]] || fails "./perform ends with $(cat status): $(tail -c 300 seen)"
     cmp terminal_before terminal_after || fails "./perform leaves the terminal in another state"
     [ "$(grep -ao $'\e\[?25[hl]' seen | tail -n 1)" != $'\e[?25l' ] || fails "./perform leaves the cursor hidden"
+    [[ $(grep -aoE $'\e\\[([0-9]+;1H|\\?1049l)' seen | tail -n 1) != *H ]] || fails "./perform paints after its end"
     for mode in 1002 1006 2004; do
         [[ $(grep -ao $'\e\[?'"${mode}[hl]" seen | tail -n 1) != *h ]] || fails "./perform leaves the mode $mode to the terminal"
     done
