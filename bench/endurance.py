@@ -1,10 +1,10 @@
 #!/usr/bin/env python3
 """Plays for a long time to peers that die and come back: bench/endurance.py [PROGRAM] [--minutes M] [--seed S]
 
-For M minutes (30) somebody types random keys at 999 beats a minute. Meanwhile the readers of the MIDI pipe and of the
-picture stop, go and come back at random, and so do UDP and OSC listeners on the loopback. At the end the saved grid has to
-be what the replay of the saved script gives, and the reader of the pipe must have had whole messages. PROGRAM is
-crates/orca/out/orca if it is not given. It ends with 1 if something of that does not hold.
+For M minutes (30) somebody types random keys and pastes random texts at 999 beats a minute. Meanwhile the readers of the
+MIDI pipe and of the picture stop, go and come back at random, and so do UDP and OSC listeners on the loopback. At the end
+the saved grid has to be what the replay of the saved script gives, and the reader of the pipe must have had whole
+messages. PROGRAM is crates/orca/out/orca if it is not given. It ends with 1 if something of that does not hold.
 """
 import fcntl
 import os
@@ -23,6 +23,9 @@ HERE = os.path.dirname(os.path.abspath(__file__))
 KEYS = ([b'\x1b[A', b'\x1b[B', b'\x1b[C', b'\x1b[D', b'\x1b[1;2A', b'\x1b[1;2B', b'\x1b[1;2C', b'\x1b[1;2D'] * 6 +
         [bytes([glyph]) for glyph in range(33, 127)] * 2 +
         [b'\x7f', b'\x03', b'\x18', b'\x16', b'\x1a', b'\x1a', b'\x19', b'\x02', b'\x1b', b'\x06', b'\x12', b'\x13', b'  '] * 3)
+# The share of texts among them, and what these are of.
+PASTES = 0.01
+TEXT_GLYPHS = '...  0123456789DEHNSWdehnsw*:'
 # About how many keys a second.
 KEYS_A_SECOND = 60
 # How many bytes a pipe holds, so that a reader that stands still is soon felt.
@@ -111,11 +114,17 @@ class Picture:
             pass
 
 
+def text():
+    """A pasted text of up to 30 rows."""
+    rows = (''.join(random.choices(TEXT_GLYPHS, k=random.randrange(60))) for _ in range(random.randrange(30)))
+    return ('\x1b[200~' + '\n'.join(rows) + '\x1b[201~').encode()
+
+
 def type_keys(program, keys, seconds):
     until, typed = time.monotonic() + seconds, 0
     while time.monotonic() < until and program.poll() is None:
         for _ in range(random.randint(1, 8)):
-            keys.sendall(random.choice(KEYS))
+            keys.sendall(text() if random.random() < PASTES else random.choice(KEYS))
             typed += 1
         time.sleep(random.uniform(1, 16) / KEYS_A_SECOND)
     return typed
@@ -158,9 +167,9 @@ def main():
         file.write(piece())
     pipe, listeners, port = Pipe('synth'), [Listener(), Listener()], free_port()
     words = [PROGRAM, 'play', 'piece', f'127.0.0.1:{port}', '--bpm', '999', '--seed', '7', '--limit', '4000000',
-             '--midi', 'synth', '--save', 'saved', '--script', 'script']
-    for option, (host, number) in zip(('--udp', '--osc'), (it.address for it in listeners)):
-        words += [option, f'{host}:{number}']
+             '--keys', 'full', '--midi', 'synth', '--save', 'saved', '--script', 'script']
+    for word, (host, number) in zip(('--udp', '--osc'), (it.address for it in listeners)):
+        words += [word, f'{host}:{number}']
     program = subprocess.Popen(words, stdout=subprocess.PIPE, bufsize=0)
     keys, picture, is_over = connect(program, port), Picture(program.stdout.fileno()), threading.Event()
     watch = threading.Thread(target=peers, args=(pipe, picture, listeners, is_over))
