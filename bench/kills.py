@@ -21,10 +21,11 @@ from live import option
 
 HERE = os.path.dirname(os.path.abspath(__file__))
 PERFORM = os.path.join(HERE, '../perform')
-# Keys without a glyph: moves, selections and slides, and those that erase, copy, cut, paste, fill, undo, redo, go back, step
-# and reset.
+# Keys without a glyph: moves, selections and slides, those that erase, copy, cut, paste, fill, undo, redo, go back, step and
+# reset, and a pasted text.
 KEYS = ([b'\x1b[A', b'\x1b[B', b'\x1b[C', b'\x1b[D', b'\x1b[1;2B', b'\x1b[1;2C', b'\x1b[1;3C', b'\x1b[1;5B', b'\x1b[H'] * 4 +
-        [b'\x7f', b'\x03', b'\x18', b'\x16', b'\x1a', b'\x19', b'\x02', b'\x06', b'\x12', b'\x0b'])
+        [b'\x7f', b'\x03', b'\x18', b'\x16', b'\x1a', b'\x19', b'\x02', b'\x06', b'\x12', b'\x0b',
+         b'\x1b[200~12 3\n4\x1b[201~'])
 # How long before a kill a key was surely taken, in seconds.
 SURE = 0.5
 
