@@ -52,6 +52,7 @@ RUNS = [
     'make_without_a_fault',
     'play_without_a_fault',
     'copy_and_paste_by_their_keys_while_a_note_sounds',
+    'paste_a_text_is_one_edit',
     'migrate_without_a_fault',
     'smf_without_a_fault',
     'wav_without_a_fault',
