@@ -102,6 +102,7 @@ try_hands() {
     within 60 saves 789. || fails "three hands write: $(cat saved)"
     say_by_perform 125 "nobody is waited for at 127.0.0.1:$port: the first player types $top/perform PIECE --hands 2" \
         --join "127.0.0.1:$port"
+    say_by_perform 125 "--at says where others join: how many, --hands says" --at "127.0.0.1:$port" piece
     exec {third}>&-
     wait "$resetting" || fails "there is no connection to be reset"
     printf '\e[B1' >&"$typed"
