@@ -7,6 +7,11 @@ await_text() {
     within 60 grep -aqF -- "$2" "$1" || fails "there is no '$2' in $1: $(tail -c 200 "$1" 2>/dev/null)"
 }
 
+# seen_since BYTES PATTERN: the file seen has this after so many bytes
+seen_since() {
+    tail -c "+$1" seen | grep -aqE -- "$2"
+}
+
 # type_glyph GLYPH: types it, and waits until the picture shows it at the cursor. Then all keys before it were taken.
 type_glyph() {
     printf %s "$1" >&"$typed"
@@ -124,9 +129,10 @@ try_unread_save() {
     echo "peers: a grid that is to go to a pipe that nobody reads is kept"
 }
 
-# A reader goes for good. At the end ./perform says that a port may have failed. The script goes to the file that a link
+# A reader goes, another one comes, and goes for good. At the end ./perform says that a port may have failed. The script goes to the file that a link
 # leads to, which keeps its rights.
 try_told() {
+    local begin
     rm -f synth saved script take
     mkfifo synth
     crowd 1 >crowded
@@ -140,6 +146,10 @@ try_told() {
     type_glyph 7
     await_text seen ' no midi '
     plays_on seen 10 "a synthesizer has gone"
+    begin=$(stat -c %s seen)
+    timeout 300 cat synth >/dev/null &
+    within 60 seen_since "$begin" 'play 999 [.*] ok' || fails "a synthesizer that has come back is told as lost"
+    kill $!
     end_stage 3
     await_text seen 'perform: crowded: a port failed, or the terminal did not take the whole picture'
     [ "$(head -c 1 saved)" = 7 ] && grep -q '^write 0 0 7$' script || fails "what a reader that goes leaves is not saved"
@@ -629,6 +639,23 @@ try_paste() {
     echo "peers: a pasted text is one block and one undo"
 }
 
+# A megabyte is pasted at 999 beats, and the piece plays on.
+try_long_paste() {
+    rm -f saved
+    crowd 2 >pasted
+    sed '1s/^.*$/7333333333333333333333333333333333/; 2,4s/.*/3333333333333333333333333333333333/' pasted >wanted
+    on_stage pasted --bpm 999 --save saved
+    await_text seen ' play '
+    { printf '\e[200~7' && yes 3333333333333333333333333333333333 | head -c 500000; } >&"$typed"
+    await_text seen ' paste ok'
+    plays_on seen 3 "half a megabyte has come"
+    { yes 3333333333333333333333333333333333 | head -c 500000 && printf '\e[201~\x13'; } >&"$typed"
+    within 60 cmp -s saved wanted || fails "a megabyte gives: $(cat saved)"
+    plays_on seen 3 "a megabyte is pasted"
+    end_stage 0
+    echo "peers: a megabyte is pasted while the piece plays"
+}
+
 # A piece that follows the clock of another one ends with its grid and at its tick. ./perform has the leader, which is paused
 # meanwhile, in a terminal.
 try_clock() {
@@ -819,7 +846,23 @@ end_at_full_disk() {
     rm small/piece.recovered.*
 }
 
-# Nothing can be written at Ctrl-S, and it can at the end; then it cannot at the end either.
+# The disk fills under the room, and is freed: a line that was lost is told from then on, and Ctrl-S saves again.
+fill_under_room() {
+    on_stage small/piece --bpm 1
+    await_text seen ' play '
+    close_disk
+    printf '\x06%.0s' {1..2000} >&"$typed"
+    await_text seen ' no journal ok'
+    open_disk
+    printf '5\x13' >&"$typed"
+    await_text seen ' no journal saved'
+    end_stage 4
+    [ "$(head -c 1 small/piece)" = 5 ] || fails "Ctrl-S saves nothing once the disk is freed"
+    "$top/perform" --discard small/piece
+    cp opened small/piece
+}
+
+# Nothing can be written at Ctrl-S, and then it can, and at the end; then it cannot at the end either.
 try_full_disk() {
     if ! small_disk; then
         echo "peers: a full disk skipped, since no file system may be mounted here"
@@ -837,12 +880,18 @@ try_full_disk() {
     [ "$(find small -mindepth 1 -maxdepth 1 ! -name filler -printf '%f\n' | sort | tr '\n' ' ')" = '.piece.orca-room piece ' ] ||
         fails "a save to $disk leaves something: $(ls -A small)"
     open_disk
+    printf '\x13' >&"$typed"
+    await_text seen ' saved'
+    sed '1s/./8/' opened | cmp - small/piece || fails "$disk: Ctrl-S saves nothing once there is room"
+    cp small/piece opened
+    type_glyph 6
     end_stage 4
     await_text seen "perform: edits of small/piece may not be saved; what could be kept is in $PWD/small/.piece.orca-room"
     cmp small/piece opened || fails "the end saves what was not to be saved"
     "$top/perform" --recover small/piece || fails "$disk: --recover ends with $?"
-    sed '1s/./8/' opened | cmp - small/piece.recovered.orca || fails "what Ctrl-S could not save is lost"
+    sed '1s/./6/' opened | cmp - small/piece.recovered.orca || fails "what came after Ctrl-S is lost"
     rm small/piece.recovered.*
+    [ "$disk" != 'a full disk' ] || fill_under_room
     end_at_full_disk 4 9 --save small/piece --script small/script
     end_at_full_disk 0 5
     umount small 2>/dev/null || true
