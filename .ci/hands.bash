@@ -58,12 +58,18 @@ saves() {
     [ "$(head -c ${#1} "$work/first/saved")" = "$1" ]
 }
 
-# first_plays WORD..: the first player begins with these words, and waits for the others at $port
+# a grid of three rows of four dots
+rows_of_dots() {
+    printf '....\n%.0s' 1 2 3
+}
+
+# first_plays WORD..: the first player begins with these words and the piece that $grid prints, and waits for the others at
+# $port
 first_plays() {
     choose_port tcp
     turn_to first
     rm -f saved script
-    printf '....\n%.0s' 1 2 3 >piece
+    ${grid:-rows_of_dots} >piece
     on_stage piece --at "127.0.0.1:$port" --bpm 999 --save saved --script script "$@"
     await_text seen "perform --join 127.0.0.1:$port"
     within 60 is_heard "$port" || fails "nobody listens at $port"
@@ -153,6 +159,60 @@ try_views() {
     end_stage 0
     turn_to .
     echo "peers: each player sees a picture of his own, and one who stands still holds nobody up"
+}
+
+# slow_line PORT SLOW: whoever connects to the port SLOW is joined to PORT. His keys go at once, and what comes back at 20
+# kilobytes a second.
+slow_line() {
+    exec timeout 120 python3 -c 'import select, socket, sys, time
+port, slow = map(int, sys.argv[1:])
+listener = socket.create_server(("127.0.0.1", slow))
+player = listener.accept()[0]
+host = socket.socket()
+host.setsockopt(socket.SOL_SOCKET, socket.SO_RCVBUF, 8192)
+host.connect(("127.0.0.1", port))
+rested = time.monotonic()
+while True:
+    may_read = time.monotonic() - rested >= 0.05
+    for peer in select.select([player, host] if may_read else [player], [], [], 0.05)[0]:
+        data = peer.recv(1000)
+        if not data:
+            sys.exit()
+        (host if peer is player else player).sendall(data)
+        if peer is host:
+            rested = time.monotonic()' "$1" "$2" 2>/dev/null
+}
+
+# The second player comes by a line that is slower than what is painted for him. The first one plays on, and once it pauses,
+# the second one sees the same, with Ctrl-L for what he has missed.
+try_slow_line() {
+    local before first slow
+    grid='clocks 2' prelude='stty rows 24 cols 80' first_plays --hands 2
+    first=$port
+    choose_port tcp
+    slow_line "$first" "$port" &
+    slow=$!
+    within 60 is_heard "$port" || fails "there is no slow line"
+    prelude='stty rows 24 cols 80' second_joins
+    turn_to first
+    await_text seen ' play '
+    before=$(tick_in seen)
+    sleep 5
+    [ "$(tick_in seen)" -gt $((${before:-0} + 150)) ] || fails "a slow line holds the first player up: from $before to $(tick_in seen)"
+    printf ' ' >&"$typed"
+    await_text seen ' pause '
+    sleep 1
+    screen_of 24 80 | head -n 4 >../wanted
+    turn_to second
+    printf '\x0c' >&"$typed"
+    within 60 eval 'screen_of 24 80 | head -n 4 | cmp -s - ../wanted' || fails "the second player sees: $(screen_of 24 80)"
+    end_stage 0
+    turn_to first
+    end_stage 0
+    turn_to .
+    kill "$slow" 2>/dev/null || true
+    wait "$slow" 2>/dev/null || true
+    echo "peers: a player at a slow line sees the piece in the end, and nobody waits for him"
 }
 
 # Nobody joins: Ctrl-Q ends that, and leaves nothing. An address that is taken is told. One hand waits for nobody. Signals
