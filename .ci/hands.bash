@@ -131,13 +131,13 @@ try_hands() {
     echo "peers: eight hands play one piece, of which one is reset and one leaves"
 }
 
-# Two players see the piece in terminals of two sizes, each with its own cursor. One stands still for ten seconds, and the
-# other plays on; then its picture is whole again. It leaves, and the first one plays on.
+# Two players see the piece in terminals of two sizes, each with its own cursor. The keys of one come in pieces. It stands
+# still for ten seconds, and the other plays on; then its picture is whole again. It leaves, and the first one plays on.
 try_views() {
-    local before
+    local before part
     prelude='stty rows 24 cols 80' first_plays --hands 2
     prelude='stty rows 6 cols 30' second_joins
-    printf '\e[C8' >&"$typed"
+    for part in '\e' '[' 'C' 8; do printf %b "$part" >&"$typed" && sleep 0.1; done
     within 60 shows 6 30 "?8.." ' 0,1 1x1 play 999' || fails "the second player sees: $(screen_of 6 30)"
     turn_to first
     within 60 shows 24 80 "?8.." ' 0,0 1x1 play 999' || fails "the first player sees: $(screen_of 24 80)"
