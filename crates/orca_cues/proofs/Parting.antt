@@ -9,7 +9,7 @@ use Rattle.std.proofs.lemmas.Bool.{ne_eqb}
 use Rattle.std.proofs.lemmas.List.{take_more}
 use Rattle.std.proofs.lemmas.List.Elements.{recursion_from_All}
 use Rattle.orca_base.specs.Ascii.{line_feed}
-use Rattle.orca_cues.specs.Rooms.{Room, behind, parts_from, whole_from, whole_lines}
+use Rattle.orca_cues.specs.Rooms.{Room, begun_with, parted_from, whole_from, whole_lines}
 
 -- ---- parts
 
@@ -25,7 +25,7 @@ front-none None = refl
 front-none (Some room) = refl
 
 pub front-behind : (front : List ℕ) (byte : ℕ) (room : Option Room)
-    → front_of front (option_map (behind byte) room) ≡ front_of (front ++ byte ∷ []) room
+    → front_of front (option_map (begun_with byte) room) ≡ front_of (front ++ byte ∷ []) room
 front-behind front byte None = refl
 front-behind front byte (Some room) =
     ap (λ grid. Some (record { grid = grid; script = room.script }))
@@ -34,29 +34,29 @@ front-behind front byte (Some room) =
 -- a byte that is no empty line
 pub parts_more : (begins : Bool) (byte : ℕ) (bytes : List ℕ)
     → (begins && (byte == line_feed)) ≡ false
-    → parts_from begins (byte ∷ bytes)
-    ≡ option_map (behind byte) (parts_from (byte == line_feed) bytes)
-unfolding parts_from
+    → parted_from begins (byte ∷ bytes)
+    ≡ option_map (begun_with byte) (parted_from (byte == line_feed) bytes)
+unfolding parted_from
 parts_more begins byte bytes other = rw other refl
 
 -- one that is
 pub parts_here : (begins : Bool) (byte : ℕ) (bytes : List ℕ)
     → (begins && (byte == line_feed)) ≡ true
-    → parts_from begins (byte ∷ bytes) ≡ Some (record { grid = []; script = bytes })
-unfolding parts_from
+    → parted_from begins (byte ∷ bytes) ≡ Some (record { grid = []; script = bytes })
+unfolding parted_from
 parts_here begins byte bytes empty = rw empty refl
 
-pub parts_none : (begins : Bool) → parts_from begins [] ≡ None
-unfolding parts_from
+pub parts_none : (begins : Bool) → parted_from begins [] ≡ None
+unfolding parted_from
 parts_none begins = refl
 
 -- the first bytes of a text, so many of them, have no empty line
 abbrev pub Parted : List ℕ → ℕ → Bool → Type 0
 Parted text i begins =
-    parts_from true text ≡ front_of (take i text) (parts_from begins (drop i text))
+    parted_from true text ≡ front_of (take i text) (parted_from begins (drop i text))
 
 pub parted-start : (text : List ℕ) → Parted text 0 true
-parted-start text = sym (front-none (parts_from true text))
+parted-start text = sym (front-none (parted_from true text))
 
 module _ (text : List ℕ) (i : ℕ) (begins : Bool) (parted : Parted text i begins)
     (below : i < length text) where
@@ -67,16 +67,16 @@ module _ (text : List ℕ) (i : ℕ) (begins : Bool) (parted : Parted text i beg
       → Parted text (i + 1) (here == line_feed)
   parted-more other =
       parted
-      ∙ (ap (λ bytes. front_of (take i text) (parts_from begins bytes)) (drop-cons text i 0 below)
+      ∙ (ap (λ bytes. front_of (take i text) (parted_from begins bytes)) (drop-cons text i 0 below)
       ∙ (ap (front_of (take i text)) (parts_more begins here (drop (suc i) text) other)
-      ∙ (front-behind (take i text) here (parts_from (here == line_feed) (drop (suc i) text))
+      ∙ (front-behind (take i text) here (parted_from (here == line_feed) (drop (suc i) text))
       ∙ rw (take_more text i 0 below, add-one) refl)))
 
   pub parted-here : (begins && (here == line_feed)) ≡ true
-      → parts_from true text ≡ Some (record { grid = take i text; script = drop (i + 1) text })
+      → parted_from true text ≡ Some (record { grid = take i text; script = drop (i + 1) text })
   parted-here empty =
       parted
-      ∙ (ap (λ bytes. front_of (take i text) (parts_from begins bytes)) (drop-cons text i 0 below)
+      ∙ (ap (λ bytes. front_of (take i text) (parted_from begins bytes)) (drop-cons text i 0 below)
       ∙ (ap (front_of (take i text)) (parts_here begins here (drop (suc i) text) empty)
       ∙ rw (add-one, append-nil) refl))
 
@@ -93,10 +93,10 @@ both begins byte on is = rw (on, is) refl
 
 -- all bytes
 pub parted-end : (text : List ℕ) (i : ℕ) (begins : Bool) → Parted text i begins → length text ≤ i
-    → parts_from true text ≡ None
+    → parted_from true text ≡ None
 parted-end text i begins parted all =
     parted
-    ∙ (ap (λ bytes. front_of (take i text) (parts_from begins bytes)) (drop_of_length-le text all)
+    ∙ (ap (λ bytes. front_of (take i text) (parted_from begins bytes)) (drop_of_length-le text all)
     ∙ ap (front_of (take i text)) (parts_none begins))
 
 -- ---- whole lines

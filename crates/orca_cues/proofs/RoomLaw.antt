@@ -11,46 +11,46 @@ use Rattle.orca_base.specs.Glyphs.{IsGlyph}
 use Rattle.orca_base.specs.Grids.{IsSheet, Sheet, glyph_at}
 use Rattle.orca_base.proofs.SheetFacts.{IsGlyph-glyph_at}
 use Rattle.orca_grid.specs.GridText.{line, row_of, rows_of, text_of}
-use Rattle.orca_cues.specs.Rooms.{Room, behind, parts_from, room_parts}
+use Rattle.orca_cues.specs.Rooms.{Room, begun_with, parted_from, room_parts}
 use Rattle.orca_cues.proofs.Parting.{front_of, parts_more, parts_here, IsInside}
 
 -- ---- rows
 
 front-line : (room : Option Room)
-    → option_map (behind line_feed) room ≡ front_of (line_feed ∷ []) room
+    → option_map (begun_with line_feed) room ≡ front_of (line_feed ∷ []) room
 front-line None = refl
 front-line (Some room) = refl
 
 front-more : (byte : ℕ) (bytes : List ℕ) (room : Option Room)
-    → option_map (behind byte) (front_of bytes room) ≡ front_of (byte ∷ bytes) room
+    → option_map (begun_with byte) (front_of bytes room) ≡ front_of (byte ∷ bytes) room
 front-more byte bytes None = refl
 front-more byte bytes (Some room) = refl
 
 -- the rest of a line
 line-parts : (bytes more : List ℕ) → AllByRecursion IsInside bytes
-    → parts_from false (bytes ++ line_feed ∷ more)
-    ≡ front_of (bytes ++ line_feed ∷ []) (parts_from true more)
-line-parts [] more free = parts_more false line_feed more refl ∙ front-line (parts_from true more)
+    → parted_from false (bytes ++ line_feed ∷ more)
+    ≡ front_of (bytes ++ line_feed ∷ []) (parted_from true more)
+line-parts [] more free = parts_more false line_feed more refl ∙ front-line (parted_from true more)
 line-parts (byte ∷ bytes) more free =
     parts_more false byte (bytes ++ line_feed ∷ more) refl
     ∙ rw (ne_eqb byte line_feed free.0)
-    (ap (option_map (behind byte)) (line-parts bytes more free.1)
-    ∙ front-more byte (bytes ++ line_feed ∷ []) (parts_from true more))
+    (ap (option_map (begun_with byte)) (line-parts bytes more free.1)
+    ∙ front-more byte (bytes ++ line_feed ∷ []) (parted_from true more))
 
 -- a row has a cell, and none of its bytes ends a line
 abbrev IsRow : List ℕ → Type 0
 IsRow row = (1 ≤ length row) × AllByRecursion IsInside row
 
 row-parts : (row more : List ℕ) → IsRow row
-    → parts_from true (row ++ line_feed ∷ more) ≡ front_of (line row) (parts_from true more)
+    → parted_from true (row ++ line_feed ∷ more) ≡ front_of (line row) (parted_from true more)
 row-parts [] more is = absurd (omega (arith, is.0))
 row-parts (byte ∷ bytes) more is =
     let free = is.1 in
     let other = ne_eqb byte line_feed free.0 in
     parts_more true byte (bytes ++ line_feed ∷ more) other
     ∙ rw other
-    (ap (option_map (behind byte)) (line-parts bytes more free.1)
-    ∙ front-more byte (bytes ++ line_feed ∷ []) (parts_from true more))
+    (ap (option_map (begun_with byte)) (line-parts bytes more free.1)
+    ∙ front-more byte (bytes ++ line_feed ∷ []) (parted_from true more))
 
 front-twice : (xs ys : List ℕ) (script : List ℕ)
     → front_of xs (Some (record { grid = ys; script = script }))
@@ -58,12 +58,12 @@ front-twice : (xs ys : List ℕ) (script : List ℕ)
 front-twice xs ys script = refl
 
 rows-parts : (rows : List (List ℕ)) (script : List ℕ) → AllByRecursion IsRow rows
-    → parts_from true (flat_map line rows ++ line_feed ∷ script)
+    → parted_from true (flat_map line rows ++ line_feed ∷ script)
     ≡ Some (record { grid = flat_map line rows; script = script })
 rows-parts [] script are = parts_here true line_feed script refl
 rows-parts (row ∷ rows) script are =
     let rest = flat_map line rows ++ line_feed ∷ script in
-    ap (parts_from true) (append_assoc (line row) (flat_map line rows) (line_feed ∷ script)
+    ap (parted_from true) (append_assoc (line row) (flat_map line rows) (line_feed ∷ script)
     ∙ append_assoc row (line_feed ∷ []) rest)
     ∙ (row-parts row rest are.0 ∙ ap (front_of (line row)) (rows-parts rows script are.1))
 

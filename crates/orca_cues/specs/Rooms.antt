@@ -14,19 +14,19 @@ abbrev pub room_in : HeldRoom → Room
 room_in room = record { grid = room.grid.now; script = room.script.now }
 
 -- a byte more before it
-abbrev pub behind : ℕ → Room → Room
-behind byte room = record { grid = byte ∷ room.grid; script = room.script }
+abbrev pub begun_with : ℕ → Room → Room
+begun_with byte room = record { grid = byte ∷ room.grid; script = room.script }
 
 -- the parts before and behind the first empty line, where a line begins at the first byte or not
-unfoldable pub parts_from : Bool → List ℕ → Option Room
-parts_from begins [] = None
-parts_from begins (byte ∷ bytes) =
+unfoldable pub parted_from : Bool → List ℕ → Option Room
+parted_from begins [] = None
+parted_from begins (byte ∷ bytes) =
     if begins && (byte == line_feed) then Some (record { grid = []; script = bytes })
-    else option_map (behind byte) (parts_from (byte == line_feed) bytes)
+    else option_map (begun_with byte) (parted_from (byte == line_feed) bytes)
 
 -- the parts of a text: an empty line is a line feed at the start, or right behind a line feed
 abbrev pub room_parts : List ℕ → Option Room
-room_parts text = parts_from true text
+room_parts text = parted_from true text
 
 -- a byte, and then these lines: a byte that no line feed follows is in no whole line
 abbrev pub whole_from : ℕ → List ℕ → List ℕ

@@ -39,7 +39,7 @@ use Rattle.orca_term.specs.declared.editor.Wish.TheVariants as wish
 use Rattle.orca_term.specs.declared.keys.Key.{Key}
 use Rattle.orca_term.specs.declared.keys.Pending.{Pending}
 use Rattle.orca_live.specs.Hands.{EachIsHeard, IsMadeBy, Reader, ended_by, item_for, keys_by, reader_after, reader_at, reader_by, text_by}
-use Rattle.orca_live.specs.Items.{ByteOf, FrameDue, HeardItem, items_of}
+use Rattle.orca_live.specs.Items.{ByteOf, FrameDue, HeardItem, items_heard}
 use Rattle.orca_live.specs.Laws.{so_far}
 use Rattle.orca_live.specs.Performing.{answered_at, byte_course, denied_course, due_course, fired, frame_course, hand_course, item_course, key_course, keys_course, knowing, live_part, lull_course, lull_of, owning, press_course, read_course, save_course, struck_course, struck_well, struck_where, take_course, wish_course}
 use Rattle.orca_live.specs.States.{LiveState, around_at, dims_at, editor_at, fitted, hands_in, is_full, is_hand, leader_at, reads_text}
@@ -595,7 +595,7 @@ module _ (hand n : ℕ) (there : nat_lt hand n ≡ true) where
       absurd (none-some ending (sym both.0))
 
   heeds_begun : (opening : Losses) (heard : List Hearing)
-      → Heeds (items_of n heard) (λ s. begun live_part s opening heard)
+      → Heeds (items_heard n heard) (λ s. begun live_part s opening heard)
   unfolding begun
   heeds_begun opening heard s are goes =
       let turns = first_turns opening ++ heard_turns heard in
@@ -607,7 +607,7 @@ pub each_is_heard : EachIsHeard
 each_is_heard s = record {
   obeys = obeys_commands s;
   reads = λ opening heard hand is goes.
-      heard_reader hand (items_of (length s.crew.players) heard) s _ _
+      heard_reader hand (items_heard (length s.crew.players) heard) s _ _
       (heeds_begun hand (length s.crew.players) is opening heard s refl goes);
   keys = λ opening heard hand is goes.
       (heeds_begun hand (length s.crew.players) is opening heard s refl goes).strikes.own;

@@ -47,7 +47,7 @@ use Rattle.orca_term.specs.declared.editor.Wish.{Wish}
 use Rattle.orca_term.specs.declared.editor.Wish.TheVariants as wish
 use Rattle.orca_term.specs.declared.flow.Flow.{Flow}
 use Rattle.orca_term.specs.declared.keys.Key.{Key}
-use Rattle.orca_live.specs.Items.{ByteOf, HeardItem, items_of}
+use Rattle.orca_live.specs.Items.{ByteOf, HeardItem, items_heard}
 use Rattle.orca_live.specs.Performing.{answered_at, byte_course, due_course, finish_course, fired, frame_course, hand_course, header_course, hush_course, if_named, item_course, journal_course, key_course, knowing, last_grid_course, last_script_course, lines_course, live_part, lull_course, lull_of, owning, paint_course, painted_course, picture_course, press_course, preview_course, read_course, save_course, saves_course, script_course, show_course, struck_course, struck_where, take_course, wish_course, write_course, keys_course, painted_editor, struck_well, view_acts}
 use Rattle.orca_live.specs.Solo.{HasNoRedo, IsSolo, PlaysAlone, as_alone, redo_byte}
 use Rattle.orca_live.specs.States.{LiveState, around_at, begun_name, dims_at, fitted, hands_in, is_full, is_hand, is_viewer, leader_at, piece_at, reads_text, screen_at, status_line_at, view_at, with_view}
@@ -411,7 +411,7 @@ turns_agree (Over ending ∷ turns) midway none s solo =
     onward_agrees (each (turn_course live_part) turns) (agreed (ended ending s) solo)
     (λ on. absurd cc)
 
-begun_agrees : (opening : Losses) (heard : List Hearing) → HasNoRedo (items_of 1 heard)
+begun_agrees : (opening : Losses) (heard : List Hearing) → HasNoRedo (items_heard 1 heard)
     → Alike (λ s. begun live_part s opening heard)
 unfolding begun
 begun_agrees opening heard none s solo =
@@ -456,7 +456,7 @@ unfolding performance lastly
 plays_alone s came heard solo none =
     let c = begun live_part s came heard in
     let first =
-    begun_agrees came heard (subst (λ (n : ℕ). HasNoRedo (items_of n heard)) solo.one none) s solo
+    begun_agrees came heard (subst (λ (n : ℕ). HasNoRedo (items_heard n heard)) solo.one none) s solo
     in
     let same =
     ap (λ (d : Course LiveState Ending). lastly_by d.ending d (finished live_part)) first.same

@@ -26,7 +26,7 @@ use Rattle.orca_live.specs.Carrying.{Carries}
 use Rattle.orca_live.specs.Performing.{hand_course, picture_course, telling, words_at_key}
 use Rattle.orca_live.specs.Laws.{so_far}
 use Rattle.orca_live.specs.States.{LiveState, Setting, key_name, unpainted, with_view, with_word, word_at}
-use Rattle.orca_live.specs.Telling.{AreSizes, IsKept, TellsFailures, TellsSaves, is_size, told_word}
+use Rattle.orca_live.specs.Telling.{AreSizes, WasSaved, TellsFailures, TellsSaves, tells_size, told_word}
 use Rattle.orca_live.proofs.Carried.{Anyhow, begun_carried}
 use Rattle.orca_live.proofs.StrikingLemmas.{command_silent, keys_in-append, views_keys}
 
@@ -82,7 +82,7 @@ abbrev Since : ℕ → LiveState → List Act → LiveState → Type 0
 Since hand s acts t =
     word_at hand t ≡ Kept
     → ((word_at hand s ≡ Kept) × AreSizes (keys_in hand acts))
-    ⊎ IsKept hand (key_name s.setting) acts
+    ⊎ WasSaved hand (key_name s.setting) acts
 
 abbrev Tells : ℕ → LiveState → List Act → LiveState → Type 0
 Tells hand s acts t = (t.setting ≡ s.setting) × Since hand s acts t
@@ -94,8 +94,8 @@ quiet_tells hand s acts t setting none before =
     (setting, λ is. inl (before is, subst AreSizes (sym none) tt))
 
 -- what was saved, and then quiet acts
-kept_then : (hand : ℕ) (name : List ℕ) (xs ys : List Act) → IsKept hand name xs
-    → AreSizes (keys_in hand ys) → IsKept hand name (xs ++ ys)
+kept_then : (hand : ℕ) (name : List ℕ) (xs ys : List Act) → WasSaved hand name xs
+    → AreSizes (keys_in hand ys) → WasSaved hand name (xs ++ ys)
 kept_then hand name xs ys kept sizes = record {
   begun = kept.begun;
   bytes = kept.bytes;
@@ -106,8 +106,8 @@ kept_then hand name xs ys kept sizes = record {
       (sizes_append (keys_in hand kept.since) (keys_in hand ys) kept.sizes sizes);
 }
 
-kept_after : (hand : ℕ) (name : List ℕ) (xs ys : List Act) → IsKept hand name ys
-    → IsKept hand name (xs ++ ys)
+kept_after : (hand : ℕ) (name : List ℕ) (xs ys : List Act) → WasSaved hand name ys
+    → WasSaved hand name (xs ++ ys)
 kept_after hand name xs ys kept = record {
   begun = xs ++ kept.begun;
   bytes = kept.bytes;
@@ -129,7 +129,7 @@ since_twice hand r s t xs ys same first second is =
     ))
     (λ kept. inr (kept_then hand (key_name r.setting) xs ys kept later.1)))
     (λ kept. inr (kept_after hand (key_name r.setting) xs ys
-    (subst (λ (set : Setting). IsKept hand (key_name set) ys) same kept)))
+    (subst (λ (set : Setting). WasSaved hand (key_name set) ys) same kept)))
 
 tells_twice : (hand : ℕ) (r s t : LiveState) (xs ys : List Act) → Tells hand r xs s
     → Tells hand s ys t → Tells hand r (xs ++ ys) t
@@ -167,7 +167,7 @@ struck_other hand who (key.Screen rows columns) words is = is
 struck_other hand who k words is = left_word words who hand Well (λ is. cc) is
 
 struck_own : (hand : ℕ) (k : Key) (words : List Came) → word_in hand (words_at_key hand k words) ≡ Kept
-    → (word_in hand words ≡ Kept) × (is_size k ≡ true)
+    → (word_in hand words ≡ Kept) × (tells_size k ≡ true)
 struck_own hand (key.Screen rows columns) words is = (is, refl)
 struck_own hand k words is = absurd (well_other (sym (own_word words hand) ∙ is))
 

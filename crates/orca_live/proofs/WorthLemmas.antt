@@ -13,7 +13,7 @@ use Rattle.orca_course.proofs.CuttingLemmas.{Worth, counted}
 use Rattle.orca_course.proofs.CuttingLemmas.Worth.{Counts, Nothing}
 use Rattle.orca_rig.specs.declared.inbox.Answer.{Answer}
 use Rattle.orca_rig.specs.declared.inbox.Answer.TheVariants as answer
-use Rattle.orca_live.specs.Items.{ByteOf, FrameDue, HeardItem, items_by, items_of}
+use Rattle.orca_live.specs.Items.{ByteOf, FrameDue, HeardItem, items_by, items_heard}
 
 -- what an item comes to where so many hands are heard, whenever it came
 abbrev pub worth_of : ℕ → Item → Worth HeardItem
@@ -46,11 +46,11 @@ module _ (hands : ℕ) where
   answer_counted answer.Failed bytes came rest items more = refl
 
   answers_counted : (heard : List Hearing) (rest : List Turn) → counted (worth_of hands) rest ≡ []
-      → counted (worth_of hands) (flat_map turns_of heard ++ rest) ≡ items_of hands heard
+      → counted (worth_of hands) (flat_map turns_of heard ++ rest) ≡ items_heard hands heard
   answers_counted [] rest none = none
   answers_counted (h ∷ heard) rest none =
       ap (counted (worth_of hands)) (append_assoc (turns_of h) (flat_map turns_of heard) rest)
-      ∙ answer_counted h.poll.answer h.poll.bytes h.came _ (items_of hands heard)
+      ∙ answer_counted h.poll.answer h.poll.bytes h.came _ (items_heard hands heard)
       (answers_counted heard rest none)
 
   spent_counted : (b : Bool)
@@ -59,5 +59,5 @@ module _ (hands : ℕ) where
   spent_counted false = refl
 
   pub all_counted : (heard : List Hearing)
-      → counted (worth_of hands) (heard_turns heard) ≡ items_of hands heard
+      → counted (worth_of hands) (heard_turns heard) ≡ items_heard hands heard
   all_counted heard = answers_counted heard _ (spent_counted (nat_le MAX_POLLS (length heard)))

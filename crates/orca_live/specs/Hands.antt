@@ -25,7 +25,7 @@ use Rattle.orca_term.specs.declared.editor.Wish.TheVariants as wish
 use Rattle.orca_term.specs.declared.keys.Key.{Key}
 use Rattle.orca_term.specs.declared.keys.Key.TheVariants as key
 use Rattle.orca_term.specs.declared.keys.Pending.{Pending}
-use Rattle.orca_live.specs.Items.{ByteOf, FrameDue, HeardItem, items_of}
+use Rattle.orca_live.specs.Items.{ByteOf, FrameDue, HeardItem, items_heard}
 use Rattle.orca_live.specs.Laws.{so_far}
 use Rattle.orca_live.specs.Performing.{hand_course, key_course}
 use Rattle.orca_live.specs.Starting.{live_at_start}
@@ -131,12 +131,12 @@ pub record HearsEach (s : LiveState) : Type 0 where
       → let c = so_far s opening heard in
       c.ending ≡ None
       → reader_at hand c.state
-      ≡ reader_by s.crew.full hand (reader_at hand s) (items_of (length s.crew.players) heard)
+      ≡ reader_by s.crew.full hand (reader_at hand s) (items_heard (length s.crew.players) heard)
   pub keys : (opening : Losses) (heard : List Hearing) (hand : ℕ) → is_hand hand s ≡ true
       → let c = so_far s opening heard in
       c.ending ≡ None
       → keys_in hand c.acts
-      ≡ keys_by s.crew.full hand (reader_at hand s) (items_of (length s.crew.players) heard)
+      ≡ keys_by s.crew.full hand (reader_at hand s) (items_heard (length s.crew.players) heard)
   pub moves : (opening : Losses) (heard : List Hearing) (hand : ℕ) → is_hand hand s ≡ true
       → let c = so_far s opening heard in
       c.ending ≡ None → IsMadeBy (keys_in hand c.acts) (editor_at hand s) (editor_at hand c.state)

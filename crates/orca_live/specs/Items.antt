@@ -20,10 +20,10 @@ items_by hands answer.End bytes rest = []
 items_by hands answer.Failed bytes rest = []
 
 -- the items of answers, up to the first one that ends them
-abbrev pub items_of : ℕ → List Hearing → List HeardItem
-items_of hands [] = []
-items_of hands (h ∷ heard) = items_by hands h.poll.answer h.poll.bytes (items_of hands heard)
+abbrev pub items_heard : ℕ → List Hearing → List HeardItem
+items_heard hands [] = []
+items_heard hands (h ∷ heard) = items_by hands h.poll.answer h.poll.bytes (items_heard hands heard)
 
 -- how many polls were answered by bytes or a due frame
-abbrev pub turns_of : List Hearing → ℕ
-turns_of heard = count_by (λ (h : Hearing). not (is_ending h.poll.answer)) heard
+abbrev pub lasting_answers : List Hearing → ℕ
+lasting_answers heard = count_by (λ (h : Hearing). not (is_ending h.poll.answer)) heard

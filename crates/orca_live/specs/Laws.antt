@@ -17,7 +17,7 @@ use Rattle.orca_course.specs.declared.item.Losses.{Losses}
 use Rattle.orca_cues.specs.Scripts.{cues_asking}
 use Rattle.orca_edit.specs.Obeying.{MachineState, machine_closed}
 use Rattle.orca_script.specs.Runs.{lines_behind}
-use Rattle.orca_live.specs.Items.{items_of}
+use Rattle.orca_live.specs.Items.{items_heard}
 use Rattle.orca_live.specs.Performing.{live_part}
 use Rattle.orca_live.specs.States.{LiveState, Viewed}
 use Rattle.orca_term.specs.declared.cell.ScreenSize.{ScreenSize}
@@ -68,7 +68,7 @@ abbrev pub ItemsDecide : Type 0
 ItemsDecide =
     (opening other : Losses) (heard others : List Hearing) (s t : LiveState)
     → let hands = length s.crew.players in
-    items_of hands heard ≡ items_of hands others → AreAlike s t
+    items_heard hands heard ≡ items_heard hands others → AreAlike s t
     → HasEnded (whole_performance s opening heard) → HasEnded (whole_performance t other others)
     → PlayAlike (whole_performance s opening heard) (whole_performance t other others)
 

@@ -7,7 +7,7 @@ use Rattle.orca_course.specs.declared.ending.Ending.{Ending}
 use Rattle.orca_course.specs.declared.item.Losses.{Losses}
 use Rattle.orca_jam.specs.Crews.{CrewState}
 use Rattle.orca_jam.specs.Laws.{AreLeaders}
-use Rattle.orca_live.specs.Items.{ByteOf, HeardItem, items_of}
+use Rattle.orca_live.specs.Items.{ByteOf, HeardItem, items_heard}
 use Rattle.orca_live.specs.Laws.{whole_performance}
 use Rattle.orca_live.specs.States.{LiveState}
 
@@ -41,5 +41,5 @@ pub record PlaysSame (c d : Course LiveState Ending) : Type 0 where
 abbrev pub PlaysAlone : Type 0
 PlaysAlone =
     (s : LiveState) (opening : Losses) (heard : List Hearing) → IsSolo s.crew
-    → HasNoRedo (items_of (length s.crew.players) heard)
+    → HasNoRedo (items_heard (length s.crew.players) heard)
     → PlaysSame (whole_performance s opening heard) (whole_performance (as_alone s) opening heard)

@@ -18,16 +18,16 @@ abbrev pub told_word : ℕ → LiveState → List ℕ
 told_word hand s = let line = status_line_at hand s in came_word line.unsaved line.came
 
 -- a key by which a terminal tells its size
-abbrev pub is_size : Key → Bool
-is_size (key.Screen rows columns) = true
-is_size _ = false
+abbrev pub tells_size : Key → Bool
+tells_size (key.Screen rows columns) = true
+tells_size _ = false
 
 abbrev pub AreSizes : List Key → Type 0
 AreSizes [] = Unit {0}
-AreSizes (key ∷ keys) = (is_size key ≡ true) × AreSizes keys
+AreSizes (key ∷ keys) = (tells_size key ≡ true) × AreSizes keys
 
 -- among acts the grid was saved under this name, and since then the hand struck no key of its own
-pub record IsKept (hand : ℕ) (name : List ℕ) (acts : List Act) : Type 0 where
+pub record WasSaved (hand : ℕ) (name : List ℕ) (acts : List Act) : Type 0 where
   pub begun : List Act
   pub bytes : List ℕ
   pub since : List Act
@@ -37,7 +37,7 @@ pub record IsKept (hand : ℕ) (name : List ℕ) (acts : List Act) : Type 0 wher
 -- a hand is told that the grid was saved only where it was saved under the name of the key, where
 -- the hand struck no key since then, and where no save that the first hand is told of has failed
 pub record SavesAsTold (s t : LiveState) (hand : ℕ) (acts : List Act) : Type 0 where
-  pub kept : IsKept hand (key_name s.setting) acts
+  pub kept : WasSaved hand (key_name s.setting) acts
   pub whole : hand ≡ LEADER → t.came.unsaved ≡ false
 
 abbrev pub TellsSaves : Type 0

@@ -44,8 +44,8 @@ use Rattle.orca_term.specs.Picture.{IsScreen}
 use Rattle.orca_words.specs.Requests.{Performance, Setup}
 use Rattle.orca_player.specs.Doing.{Came, CameBy, IsBlamed, status_at}
 use Rattle.orca_player.specs.declared.live.TheConstants.{ALONE}
-use Rattle.orca_player.specs.Outlines.{concert, crew_of, follow_outline, follow_start, followed, hands_of, lead_outline, lead_start, led, live_outline, live_start, nothing, opening, performed_outline, played, played_course, room_name, standing_at, status_of_end, status_of_ending}
-use Rattle.orca_player.specs.Performances.{BrokeOff, EndsSilent, Lasted, Performed, whole}
+use Rattle.orca_player.specs.Outlines.{concert, crew_of, follow_outline, follow_start, followed, hands_asked, lead_outline, lead_start, led, live_outline, live_start, nothing, opening, performed_outline, played, played_course, room_name, standing_at, status_of_end, status_of_ending}
+use Rattle.orca_player.specs.Performances.{BrokeOff, EndsSilent, Lasted, Performed, whole_course}
 use Rattle.orca_player.specs.declared.status.Status.{Status}
 use Rattle.orca_player.specs.declared.status.Status.TheVariants.{Memory}
 use Rattle.orca_player.proofs.CameLemmas.{by, by_memory, came_none, came_plain, came_refused, came_whole, unsaid_after}
@@ -245,7 +245,7 @@ pub lasted_whole : {S : Type 0} {p : Part S} {s t : S} {m : ℕ} (n : ℕ) {x y 
     {ending : Ending}
     → sounding (p.stance.standing s) ≡ [] → m ≡ 0 → EndsSilent p
     → Lasted p s (owing m x) ending t (owing n y)
-    → Performed p (whole p s) s x (status_at (status_of_ending ending) y) t y
+    → Performed p (whole_course p s) s x (status_at (status_of_ending ending) y) t y
 lasted_whole n {x = x} {y = y} {ending = ending} begins none silent lasted =
     let polls = lasted.polls in
     record {
@@ -288,19 +288,19 @@ broke_elsewhere n result begins none came polls silenced = record {
 
 -- nothing was to follow it
 pub broke_whole : {S : Type 0} {p : Part S} {s t : S} {x y : World} → BrokeOff p s x y
-    → Performed p (whole p s) s x Memory t y
+    → Performed p (whole_course p s) s x Memory t y
 broke_whole {p = p} {s = s} broke = record {
   brought = broke.brought;
   few = broke.few;
   all = broke.all;
   state = λ other. absurd (other refl);
   came = λ u stands.
-      broke.came u (whole p s broke.brought) [] stands (sym (append-nil _)) (omega arith);
+      broke.came u (whole_course p s broke.brought) [] stands (sym (append-nil _)) (omega arith);
 }
 
 -- one that neither paints nor saves
 pub performed_by : {S : Type 0} (p : Part S) (s : Standing) {u t : S} {x y : World}
-    {status : Status} → p.stance.standing u ≡ Some s → Performed p (whole p u) u x status t y
+    {status : Status} → p.stance.standing u ≡ Some s → Performed p (whole_course p u) u x status t y
     → CameBy (λ b. performed_outline p s u b) x status y
 unfolding opening mapped
 performed_by p s stands did =
@@ -339,7 +339,7 @@ pub live_none : (room : Option (List ℕ)) (s : LiveState) (x : World) → IsScr
 unfolding opening mapped
 live_none room s x sized =
     by_memory (
-      polls-left room nothing.closing (whole live_part s nothing)
+      polls-left room nothing.closing (whole_course live_part s nothing)
           ∙ polls_none live_part live_is_deaf nothing.opening s,
       sized,
     ) (came_none _ x)
@@ -356,7 +356,7 @@ viewers_few full false limit (Some hands) some = some hands refl
 pub seated_start : (setup : Setup) (play : Performance) (at : ℕ) (s : Standing) {u : LiveState}
     (x : World) → ((count : ℕ) → play.hands ≡ Some count → 1 ≤ count)
     → u ≡ live_start setup play at s
-    → AreSeated (hands_of play) x → AreSeated (length u.views) x
+    → AreSeated (hands_asked play) x → AreSeated (length u.views) x
 seated_start setup play at s {u = u} x some is seated hand below =
     let many : length u.views ≡ viewers_of (crew_of setup play) =
     ap (λ (v : LiveState). length v.views) is ∙ length-replicate _ _ in

@@ -11,7 +11,7 @@ use Rattle.orca_jam.specs.Laws.{AreLeaders}
 use Rattle.orca_jam.specs.declared.crew.TheConstants.{LEADER}
 use Rattle.orca_jam.specs.declared.owner.Owner.{Owner}
 use Rattle.orca_live.specs.Hands.{EachIsHeard, HandsShare, HasOwners, StartsWithOwners}
-use Rattle.orca_live.specs.Items.{items_of}
+use Rattle.orca_live.specs.Items.{items_heard}
 use Rattle.orca_live.specs.Laws.{whole_performance}
 use Rattle.orca_live.specs.Solo.{HasNoRedo, PlaysAlone, PlaysSame, as_alone}
 use Rattle.orca_live.specs.States.{LiveState, unpainted}
@@ -56,7 +56,7 @@ one_viewer true = refl
 one_viewer false = refl
 
 solo_live : PlaysAlone → (setup : Setup) (play : Performance) (b : Brought) (s : Standing)
-    (at : ℕ) → HasNoRedo (items_of ALONE b.hearings)
+    (at : ℕ) → HasNoRedo (items_heard ALONE b.hearings)
     → live_outline setup (with_hands (Some 1) play) b s at
     ≡ live_outline setup (alone_of play) b s at
 unfolding live_outline
@@ -71,7 +71,7 @@ solo_live law setup play b s at none =
     (one_viewer play.views)
 
 solo_listening : PlaysAlone → (setup : Setup) (play : Performance) (b : Brought)
-    (s : Standing) (start : Option ℕ) → HasNoRedo (items_of ALONE b.hearings)
+    (s : Standing) (start : Option ℕ) → HasNoRedo (items_heard ALONE b.hearings)
     → let missed = leavings (room_name play) b.closing false in
     waiting missed play.address ALONE start (live_outline setup (with_hands (Some 1) play) b s)
     ≡ waiting missed play.address ALONE start (live_outline setup (alone_of play) b s)
@@ -80,7 +80,7 @@ solo_listening law setup play b s None none = refl
 solo_listening law setup play b s (Some at) none = rw (solo_live law setup play b s at none) refl
 
 solo_grid : PlaysAlone → (setup : Setup) (play : Performance) (b : Brought)
-    (read : Result Sheet GridRefusal) → HasNoRedo (items_of ALONE b.hearings)
+    (read : Result Sheet GridRefusal) → HasNoRedo (items_heard ALONE b.hearings)
     → grid_outline setup (Play (with_hands (Some 1) play)) b read
     ≡ grid_outline setup (Play (alone_of play)) b read
 unfolding grid_outline work_outline
@@ -90,7 +90,7 @@ solo_grid law setup play b (Ok sheet) none =
     (solo_listening law setup play b (start_of setup sheet) b.start none)
 
 solo_loaded : PlaysAlone → (setup : Setup) (play : Performance) (b : Brought)
-    (grid : Option (List ℕ)) → HasNoRedo (items_of ALONE b.hearings)
+    (grid : Option (List ℕ)) → HasNoRedo (items_heard ALONE b.hearings)
     → performed setup (Play (with_hands (Some 1) play)) (record { grid = grid; brought = b })
     ≡ performed setup (Play (alone_of play)) (record { grid = grid; brought = b })
 unfolding performed loading
@@ -99,7 +99,7 @@ solo_loaded law setup play b (Some text) none =
     rw (solo_grid law setup play b (grid_text text) none) refl
 
 solo_request : PlaysAlone → (setup : Setup) (play : Performance) (h : Heard)
-    → play.hands ≡ Some 1 → HasNoRedo (items_of ALONE h.brought.hearings)
+    → play.hands ≡ Some 1 → HasNoRedo (items_heard ALONE h.brought.hearings)
     → request_outline (Perform setup (Play play)) h
     ≡ request_outline (Perform setup (Play (alone_of play))) h
 unfolding request_outline

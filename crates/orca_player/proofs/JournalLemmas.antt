@@ -25,7 +25,7 @@ use Rattle.orca_trace.specs.Calls.{Poll}
 use Rattle.orca_words.specs.Recordings.{HasOwnJournal, OwnsJournals}
 use Rattle.orca_words.specs.Requests.{Perform, Performance, Play, Setup}
 use Rattle.orca_player.specs.Laws.{KeepsJournals, KeepsRoom, KeepsRooms}
-use Rattle.orca_player.specs.Outlines.{Brought, Heard, Outline, after_claim, attach_acts, closings, grid_outline, hands_of, leavings, live_outline, live_start, loading, opening, outline, performed, preceded, request_outline, room_name, room_start, roomed, setting_of, start_of, status_of_ending, work_outline, waiting}
+use Rattle.orca_player.specs.Outlines.{Brought, Heard, Outline, after_claim, attach_acts, closings, grid_outline, hands_asked, leavings, live_outline, live_start, loading, opening, outline, performed, preceded, request_outline, room_name, room_start, roomed, setting_of, start_of, status_of_ending, work_outline, waiting}
 use Rattle.orca_player.proofs.CameLemmas.{attaches-calls, calls_bare}
 use Rattle.orca_player.proofs.LawLemmas.{ended_by}
 use Rattle.orca_player.proofs.LeavingLemmas.{closings_none}
@@ -191,7 +191,7 @@ kept_grid law setup play b (Err refusal) name journal none own = tt
 kept_grid law setup play b (Ok sheet) name journal none own =
     rw (no_room play none)
     (kept_by name (printed_header setup.seed) None _ _
-    (Listen play.address (hands_of play) b.start ∷ []) _ tt
+    (Listen play.address (hands_asked play) b.start ∷ []) _ tt
     (some_or (Kept name setup.seed) _ b.start _ tt
     (λ at is. kept_live law setup play b (start_of setup sheet) name journal none own at)))
 
@@ -258,7 +258,7 @@ module _ (law : JournalsPerformance) (setup : Setup) (play : Performance) (h : H
   room_live : (sheet : Sheet) → option_map grid_text h.grid ≡ Some (Ok sheet) → (at : ℕ)
       → h.brought.start ≡ Some at
       → InRoom (preceded (Claim name (room_start setup sheet) (Some ClaimMade) ∷ [])
-      (preceded (Listen play.address (hands_of play) h.brought.start ∷ [])
+      (preceded (Listen play.address (hands_asked play) h.brought.start ∷ [])
       (live_outline setup play h.brought (start_of setup sheet) at)))
   unfolding live_outline opening mapped
   room_live sheet read at listens =
@@ -266,7 +266,7 @@ module _ (law : JournalsPerformance) (setup : Setup) (play : Performance) (h : H
       let s = start_of setup sheet in
       let start = room_start setup sheet in
       let c = performance live_part (live_start setup play at s) b.opening b.hearings in
-      let listen = Listen play.address (hands_of play) b.start in
+      let listen = Listen play.address (hands_asked play) b.start in
       let gone = closings (room_name play) c.ending b.closing c.state.loose in
       let tells = tells_live law setup play b s name start (Some start) journal own
       (rw roomy refl) at in
@@ -296,14 +296,14 @@ module _ (law : JournalsPerformance) (setup : Setup) (play : Performance) (h : H
       → (answer : Option Claimed)
       → InRoom (preceded (Claim name (room_start setup sheet) answer ∷ [])
       (after_claim answer (waiting (leavings (Some name) h.brought.closing false) play.address
-      (hands_of play) h.brought.start (live_outline setup play h.brought (start_of setup sheet)))))
+      (hands_asked play) h.brought.start (live_outline setup play h.brought (start_of setup sheet)))))
   unfolding waiting
   room_claimed sheet read None = tt
   room_claimed sheet read (Some ClaimLeft) = tt
   room_claimed sheet read (Some ClaimHeld) = tt
   room_claimed sheet read (Some ClaimMade) =
       some_or (λ o. InRoom (preceded (Claim name (room_start setup sheet) (Some ClaimMade) ∷ [])
-      (preceded (Listen play.address (hands_of play) h.brought.start ∷ []) o)))
+      (preceded (Listen play.address (hands_asked play) h.brought.start ∷ []) o)))
       _ h.brought.start _ tt (room_live sheet read)
 
   room_grid : (read : Result Sheet GridRefusal) → option_map grid_text h.grid ≡ Some read

@@ -21,7 +21,7 @@ use Rattle.orca_edit.specs.Obeying.{MachineState, machine_closed}
 use Rattle.orca_grid.specs.GridText.{grid_text}
 use Rattle.orca_grid.specs.declared.refusal.GridRefusal.{GridRefusal}
 use Rattle.orca_jam.specs.Crews.{crew_alone, crew_at_start, new_player, viewers_of}
-use Rattle.orca_live.specs.Items.{items_of}
+use Rattle.orca_live.specs.Items.{items_heard}
 use Rattle.orca_live.specs.Laws.{ItemsDecide, ReplaysScript as LiveReplays, replayed}
 use Rattle.orca_live.specs.Performing.{live_part}
 use Rattle.orca_live.proofs.WorthLemmas.{all_counted, worth_of}
@@ -37,7 +37,7 @@ use Rattle.orca_term.specs.Picture.{IsScreen}
 use Rattle.orca_term.specs.declared.cell.ScreenSize.{ScreenSize}
 use Rattle.orca_player.specs.Doing.{ReadsBack}
 use Rattle.orca_player.specs.Laws.{CutsAlike, EndAlike, HasEnd, IsReplayed, ReplaysAlike, hands_heard}
-use Rattle.orca_player.specs.Outlines.{Brought, Heard, Outline, Script, preceded, asked_outline, attach_acts, closings, concert, crew_of, follow_outline, follow_start, grid_outline, hands_of, lead_outline, lead_start, leavings, live_outline, live_start, loading, made_outline, migrated, opening, outline, performed, performed_outline, reading_outline, recovery_outline, request_outline, room_name, room_start, roomed, script_kept, script_outline, setting_of, standing_at, start_of, status_of_ending, stopped_run, work_outline, waiting}
+use Rattle.orca_player.specs.Outlines.{Brought, Heard, Outline, Script, preceded, asked_outline, attach_acts, closings, concert, crew_of, follow_outline, follow_start, grid_outline, hands_asked, lead_outline, lead_start, leavings, live_outline, live_start, loading, made_outline, migrated, opening, outline, performed, performed_outline, reading_outline, recovery_outline, request_outline, room_name, room_start, roomed, script_kept, script_outline, setting_of, standing_at, start_of, status_of_ending, stopped_run, work_outline, waiting}
 use Rattle.orca_player.specs.declared.live.TheConstants.{ALONE}
 use Rattle.orca_player.specs.declared.status.Status.TheVariants.{FileFault}
 use Rattle.orca_player.proofs.CameLemmas.{attaches-calls, calls_bare, AreCalls}
@@ -215,13 +215,13 @@ shown_listened law address hands setup play at b s sized =
 
 shown_listening : ShowsPerformance → (setup : Setup) (play : Performance) (start : Option ℕ)
     (b : Brought) (s : Standing)
-    → let o = waiting (leavings (room_name play) b.closing false) play.address (hands_of play) start
+    → let o = waiting (leavings (room_name play) b.closing false) play.address (hands_asked play) start
     (live_outline setup play b s) in
     Sized o → Shown o
 unfolding waiting
 shown_listening law setup play None b s = λ sized. tt
 shown_listening law setup play (Some at) b s =
-    shown_listened law play.address (hands_of play) setup play at b s
+    shown_listened law play.address (hands_asked play) setup play at b s
 
 -- a room before them changes nothing of that
 shown_roomed : (room : Option (List ℕ)) (text : List ℕ) (claimed : Option Claimed) (o : Outline)
@@ -307,7 +307,7 @@ brings script claimed start b =
 -- the same items of so many hands, cut into answers in two ways
 abbrev AreCut : ℕ → Option ℕ → Option ℕ → Brought → Brought → Type 0
 AreCut hands start other b c =
-    (is_some other ≡ is_some start) × (items_of hands b.hearings ≡ items_of hands c.hearings)
+    (is_some other ≡ is_some start) × (items_heard hands b.hearings ≡ items_heard hands c.hearings)
 
 -- if both have an end
 abbrev Alike : Outline → Outline → Type 0
@@ -320,7 +320,7 @@ alike_none o = λ ends others. record { commands = refl; standing = refl; given 
 alike_by : {S : Type 0} (p : Part S) (core : S → S)
     → ByItems (worth_of ALONE) p core Anywhere p.stance.standing
     → (address : List ℕ) (at other : ℕ) (s : Standing) (b c : Brought) (u v : S)
-    → items_of ALONE b.hearings ≡ items_of ALONE c.hearings → core u ≡ core v
+    → items_heard ALONE b.hearings ≡ items_heard ALONE c.hearings → core u ≡ core v
     → Alike (preceded (Listen address ALONE (Some at) ∷ []) (performed_outline p s u b))
     (preceded (Listen address ALONE (Some other) ∷ []) (performed_outline p s v c))
 unfolding opening mapped
@@ -352,11 +352,11 @@ crew_counted full views limit None = refl
 crew_counted full views limit (Some hands) = length-replicate hands (new_player full)
 
 play_alike : ItemsDecide → (setup : Setup) (play : Performance) (sheet : Sheet)
-    (start other : Option ℕ) (b c : Brought) → AreCut (hands_of play) start other b c
+    (start other : Option ℕ) (b c : Brought) → AreCut (hands_asked play) start other b c
     → let s = start_of setup sheet in
-    Alike (waiting (leavings (room_name play) b.closing false) play.address (hands_of play) start
+    Alike (waiting (leavings (room_name play) b.closing false) play.address (hands_asked play) start
     (live_outline setup play b s))
-    (waiting (leavings (room_name play) c.closing false) play.address (hands_of play) other
+    (waiting (leavings (room_name play) c.closing false) play.address (hands_asked play) other
     (live_outline setup play c s))
 unfolding waiting live_outline opening mapped
 play_alike cutting setup play sheet None None b c cut = λ ends others. record {
@@ -528,7 +528,7 @@ roomed_again setup script replay (Some name) text (Some ClaimMade) o ends given 
 
 listen_again : LiveReplays → (setup : Setup) (play : Performance) (start : Option ℕ)
     (b : Brought) (sheet : Sheet) (script : Script)
-    → let o = waiting (leavings (room_name play) b.closing false) play.address (hands_of play) start
+    → let o = waiting (leavings (room_name play) b.closing false) play.address (hands_asked play) start
     (live_outline setup play b (start_of setup sheet)) in
     HasEnd o → o.given ≡ Some script → ReadsBack script → IsPlayed setup script o
     (λ other. script_outline sheet other.seed other.limit

@@ -24,7 +24,7 @@ use Rattle.orca_cues.specs.Scripts.{script_by}
 use Rattle.orca_cues.specs.declared.source.Cue.{Cue}
 use Rattle.orca_grid.specs.GridText.{grid_text}
 use Rattle.orca_grid.specs.declared.refusal.GridRefusal.{GridRefusal}
-use Rattle.orca_live.specs.Items.{turns_of}
+use Rattle.orca_live.specs.Items.{lasting_answers}
 use Rattle.orca_live.specs.Performing.{live_part}
 use Rattle.orca_live.specs.States.{LiveState}
 use Rattle.orca_live.proofs.LeavingLemmas.{take_ends}
@@ -104,7 +104,7 @@ unfolding opening mapped
 performed_fine p s u b ends = grind (arith, ends)
 
 -- the items of a performance end it by leaving alone, if there is room where a moment is due
-live_takes : (s : LiveState) (b : Brought) → turns_of b.hearings < MAX_POLLS → HasFrameRoom s b
+live_takes : (s : LiveState) (b : Brought) → lasting_answers b.hearings < MAX_POLLS → HasFrameRoom s b
     → TakesIn (λ stop. stop ≡ Left) live_part s (turns_before b.opening b.hearings)
 live_takes s b few room before (item.Due at) more is goes =
     let due = due_at live_part s b.opening b.hearings before more at few is goes in
@@ -114,7 +114,7 @@ live_takes s b few room before (item.Due at) more is goes =
 live_takes s b few room before i more is goes = take_ends (λ stop. stop ≡ Left) refl i _ tt
 
 live_fine : (setup : Setup) (play : Performance) (at : ℕ) (b : Brought) (s : Standing)
-    → turns_of b.hearings < MAX_POLLS → HasFrameRoom (live_start setup play at s) b
+    → lasting_answers b.hearings < MAX_POLLS → HasFrameRoom (live_start setup play at s) b
     → FineOutline (live_outline setup play b s at)
 unfolding live_outline performance mapped opening
 live_fine setup play at b s few room =
@@ -123,7 +123,7 @@ live_fine setup play at b s few room =
     (performance_in (λ stop. stop ≡ Left) refl live_part u b.opening b.hearings
     (live_takes u b few room) few)
 
-follow_fine : (b : Brought) (s : Standing) → turns_of b.hearings < MAX_POLLS
+follow_fine : (b : Brought) (s : Standing) → lasting_answers b.hearings < MAX_POLLS
     → NeverFull (follow_part state_manner) (follow_start s) b → FineOutline (follow_outline b s)
 unfolding follow_outline
 follow_fine b s few room =
@@ -131,7 +131,7 @@ follow_fine b s few room =
     (performance_well _ (follow_ends_well state_manner (λ line answer messages r. tt)) _ b.opening
     b.hearings few room)
 
-lead_fine : (bpm : ℕ) (b : Brought) (s : Standing) (at : ℕ) → turns_of b.hearings < MAX_POLLS
+lead_fine : (bpm : ℕ) (b : Brought) (s : Standing) (at : ℕ) → lasting_answers b.hearings < MAX_POLLS
     → NeverFull (lead_part state_manner) (lead_start bpm at s) b
     → FineOutline (lead_outline bpm b s at)
 unfolding lead_outline

@@ -26,7 +26,7 @@ use Rattle.orca_script.proofs.ReadsBack.{shown_line, spaced_shown}
 use Rattle.orca_script.proofs.RunsReadBack.{script_reads_back}
 use Rattle.orca_words.specs.Requests.{Recovery, Setup, Recover, request_of}
 use Rattle.orca_player.specs.Outlines.{Heard, Outline, Script, concert, grid_recovered, hush_acts, hushing, is_control, loading, midi_line, opening, outline, preceded, reading_outline, recovered, recovery_outline, request_outline, rescue_of, rescued, script_recovered, standing_at, status_of_end, room_start}
-use Rattle.orca_player.specs.Recoveries.{IsBegun, IsKept, IsRecovered, Recovers, room_text, saves_of, script_saves}
+use Rattle.orca_player.specs.Recoveries.{IsBegun, CanBeKept, IsRecovered, Recovers, room_text, saves_of, script_saves}
 use Rattle.orca_course.specs.declared.ending.Stop.{Stop}
 use Rattle.orca_course.proofs.ActLemmas.{commands_in-append}
 use Rattle.orca_cues.specs.Rooms.{room_parts, whole_lines}
@@ -500,7 +500,7 @@ values_front (command ∷ done) left values = (values.0, values_front done left 
 
 kept_recovers : (words : List (List ℕ)) (r : Recovery) (setup : Setup) (sheet : Sheet)
     (commands : List Command) (cut : List ℕ) (h : Heard) → request_of words ≡ Some (Recover r)
-    → h.brought.script ≡ Some (room_text setup sheet commands cut) → IsKept setup sheet commands
+    → h.brought.script ≡ Some (room_text setup sheet commands cut) → CanBeKept setup sheet commands
     → All IsInside cut
     → IsRecovered r sheet (record { seed = setup.seed; commands = commands }) (outline words h)
 unfolding outline request_outline recovery_outline loading

@@ -21,7 +21,7 @@ use Rattle.orca_live.specs.States.{LiveState, live_stance}
 use Rattle.orca_trace.specs.Calls.{Call}
 use Rattle.orca_player.specs.Doing.{CameBy, status_at}
 use Rattle.orca_player.specs.Outlines.{Brought, Outline, leavings, nothing, played_course, status_of_ending, waiting}
-use Rattle.orca_player.specs.Performances.{BrokeOff, EndsSilent, Lasted, Performed, whole}
+use Rattle.orca_player.specs.Performances.{BrokeOff, EndsSilent, Lasted, Performed, whole_course}
 use Rattle.orca_player.specs.declared.status.Status.{Status}
 use Rattle.orca_player.specs.declared.status.Status.TheVariants.{InboxFault, Memory}
 use Rattle.orca_player.proofs.CameLemmas.{IsKind, by, by_memory, came_bare, came_refused, came_still, kind_plain}
@@ -159,7 +159,7 @@ module _ (room : Option (List ℕ)) {s t : LiveState} {m : ℕ} (n : ℕ) {x y z
       record {
         brought = b;
         few = polls.few;
-        all = polls-left room came (whole live_part s b) ∙ polls.all;
+        all = polls-left room came (whole_course live_part s b) ∙ polls.all;
         state = λ other. did.state;
         came = λ u stands.
             opened_whole _ {c = played_course room s b} {s = s} {t = t} u stands begins none n _
@@ -192,7 +192,7 @@ module _ (room : Option (List ℕ)) {s t : LiveState} {m : ℕ} (n : ℕ) {x y z
       record {
         brought = b;
         few = polls.few;
-        all = polls-left room came (whole live_part s b) ∙ polls.all;
+        all = polls-left room came (whole_course live_part s b) ∙ polls.all;
         state = λ other. absurd (other refl);
         came = λ u stands.
             opened_silent _ {c = played_course room s b} {s = s} {t = t} u stands begins none n
@@ -206,7 +206,7 @@ pub broke_left : (room : Option (List ℕ)) {s t : LiveState} {x y : World}
 broke_left room {s = s} broke = record {
   brought = broke.brought;
   few = broke.few;
-  all = polls-left room broke.brought.closing (whole live_part s broke.brought) ∙ broke.all;
+  all = polls-left room broke.brought.closing (whole_course live_part s broke.brought) ∙ broke.all;
   state = λ other. absurd (other refl);
   came = λ u stands. broke.came u (played_course room s broke.brought) _ stands refl (omega arith);
 }

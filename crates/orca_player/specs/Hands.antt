@@ -3,7 +3,7 @@
 use Rattle.std.specs.Prelude.{◌≡◌, ◌≢◌, ℕ, false, List, Some, None}
 use Rattle.orca_base.specs.Grids.{Sheet}
 use Rattle.orca_live.specs.Hands.{HearsEach, SharesSession}
-use Rattle.orca_live.specs.Items.{items_of}
+use Rattle.orca_live.specs.Items.{items_heard}
 use Rattle.orca_live.specs.Solo.{HasNoRedo}
 use Rattle.orca_words.specs.Requests.{Performance, Play, Setup}
 use Rattle.orca_player.specs.Clocks.{AskFor}
@@ -30,5 +30,5 @@ pub record SharesFairly (words : List (List ℕ)) : Type 0 where
   pub alone : (others : List (List ℕ)) (setup : Setup) (play : Performance) (h : Heard)
       → AskFor words setup (Play play) → play.hands ≡ Some 1
       → AskFor others setup (Play (alone_of play))
-      → HasNoRedo (items_of ALONE h.brought.hearings)
+      → HasNoRedo (items_heard ALONE h.brought.hearings)
       → outline words h ≡ outline others h

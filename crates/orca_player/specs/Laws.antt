@@ -8,13 +8,13 @@ use Rattle.orca_course.specs.Acts.Act.{Claim}
 use Rattle.orca_course.specs.Courses.{Course}
 use Rattle.orca_course.specs.Standings.{Standing}
 use Rattle.orca_grid.specs.GridText.{grid_text}
-use Rattle.orca_live.specs.Items.{items_of}
+use Rattle.orca_live.specs.Items.{items_heard}
 use Rattle.orca_live.specs.Journals.{KeepsJournal, KeepsText}
 use Rattle.orca_player.specs.declared.live.TheConstants.{ALONE}
 use Rattle.orca_rig.specs.declared.files.Claim.TheVariants.{Made}
 use Rattle.orca_script.specs.Runs.{printed_script}
 use Rattle.orca_words.specs.Requests.{Perform, Performance, Play, Replay, Request, Setup, request_of}
-use Rattle.orca_player.specs.Outlines.{Heard, Outline, Script, hands_of, leavings, outline, request_outline, room_start}
+use Rattle.orca_player.specs.Outlines.{Heard, Outline, Script, hands_asked, leavings, outline, request_outline, room_start}
 use Rattle.orca_player.specs.declared.status.Status.{Status}
 use Rattle.orca_player.specs.Doing.{ReadsBack}
 
@@ -24,7 +24,7 @@ HasEnd o = o.course.ending ≢ None
 
 -- how many hands are heard: one, unless hands share a performance
 abbrev pub hands_heard : Option Request → ℕ
-hands_heard (Some (Perform setup (Play play))) = hands_of play
+hands_heard (Some (Perform setup (Play play))) = hands_asked play
 hands_heard asked = ALONE
 
 -- the files hold the same, and the same bytes of the hands that are heard and due frames come, in
@@ -34,7 +34,7 @@ pub record HearAlike (hands : ℕ) (h k : Heard) : Type 0 where
   pub script : k.brought.script ≡ h.brought.script
   pub claimed : k.brought.claimed ≡ h.brought.claimed
   pub starts : is_some k.brought.start ≡ is_some h.brought.start
-  pub items : items_of hands h.brought.hearings ≡ items_of hands k.brought.hearings
+  pub items : items_heard hands h.brought.hearings ≡ items_heard hands k.brought.hearings
 
 -- the same commands, the same session at last, and the same script that is saved
 pub record EndAlike (o p : Outline) : Type 0 where

@@ -234,8 +234,8 @@ setting_of setup performance = record {
 }
 
 -- how many hands a performance listens for
-abbrev pub hands_of : Performance → ℕ
-hands_of play = unwrap_or play.hands ALONE
+abbrev pub hands_asked : Performance → ℕ
+hands_asked play = unwrap_or play.hands ALONE
 
 -- its crew: a hand that plays alone, or so many that share the session, with room for the owners
 -- of a whole history
@@ -375,7 +375,7 @@ work_outline setup (Replay name) sheet b =
     loading name b.script (script_outline sheet setup.seed setup.limit)
 work_outline setup (Play play) sheet b =
     roomed (room_name play) (room_start setup sheet) b.claimed
-    (waiting (leavings (room_name play) b.closing false) play.address (hands_of play) b.start
+    (waiting (leavings (room_name play) b.closing false) play.address (hands_asked play) b.start
     (live_outline setup play b (start_of setup sheet)))
 work_outline setup (Follow address) sheet b =
     listening address ALONE b.start (λ at. follow_outline b (start_of setup sheet))

@@ -23,8 +23,8 @@ EndsSilent {S} p =
     → sounding (p.stance.standing (p.takes (item.Ended ending) s).state) ≡ []
 
 -- a whole performance by what was brought
-abbrev pub whole : {S : Type 0} → Part S → S → Brought → Course S Ending
-whole p s b = performance p s b.opening b.hearings
+abbrev pub whole_course : {S : Type 0} → Part S → S → Brought → Course S Ending
+whole_course p s b = performance p s b.opening b.hearings
 
 -- a performance was done whole, and ended so
 pub record Lasted {S : Type 0} (p : Part S) (s : S) (x : World) (ending : Ending) (t : S)
@@ -37,10 +37,10 @@ pub record Lasted {S : Type 0} (p : Part S) (s : S) (x : World) (ending : Ending
 pub record BrokeOff {S : Type 0} (p : Part S) (s : S) (x y : World) : Type 0 where
   pub brought : Brought
   pub few : length brought.hearings ≤ MAX_POLLS
-  pub all : polls_in (whole p s brought).acts ≡ polls_of brought.hearings
+  pub all : polls_in (whole_course p s brought).acts ≡ polls_of brought.hearings
   pub came : (u : Standing) (c : Course S Ending) (more : List Act)
-      → p.stance.standing s ≡ Some u → c.acts ≡ (whole p s brought).acts ++ more
-      → (whole p s brought).bill ≤ c.bill
+      → p.stance.standing s ≡ Some u → c.acts ≡ (whole_course p s brought).acts ++ more
+      → (whole_course p s brought).bill ≤ c.bill
       → Came (opening p.stance (option_map status_of_ending) u c) x Memory y
 
 -- a performance was done, with what is done at its end, from a state in which a session stands that

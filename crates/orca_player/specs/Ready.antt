@@ -14,7 +14,7 @@ use Rattle.orca_cues.specs.Rooms.{room_parts, whole_lines}
 use Rattle.orca_cues.specs.Scripts.{any_script_of, script_by}
 use Rattle.orca_cues.specs.declared.source.Cue.{Cue}
 use Rattle.orca_grid.specs.GridText.{grid_text}
-use Rattle.orca_live.specs.Items.{turns_of}
+use Rattle.orca_live.specs.Items.{lasting_answers}
 use Rattle.orca_live.specs.Laws.{so_far}
 use Rattle.orca_live.specs.Performing.{answered_at, lull_course}
 use Rattle.orca_live.specs.States.{LiveState, is_full}
@@ -69,14 +69,14 @@ CanDo setup (Wav wave) sheet b = wave.frames ≤ setup.limit
 CanDo setup (Replay name) sheet b = IfSome b.script IsScript
 CanDo setup (Play play) sheet b =
     IfSome (room_name play) (λ name. IfSome b.claimed (λ answer. answer ≡ claim.Made))
-    × (turns_of b.hearings < MAX_POLLS)
+    × (lasting_answers b.hearings < MAX_POLLS)
     × IfSome b.start (λ at. HasFrameRoom (live_start setup play at (start_of setup sheet)) b)
 CanDo setup (Follow address) sheet b =
-    (turns_of b.hearings < MAX_POLLS)
+    (lasting_answers b.hearings < MAX_POLLS)
     × IfSome b.start (λ at. NeverFull (follow_part state_manner)
     (follow_start (start_of setup sheet)) b)
 CanDo setup (Lead lead) sheet b =
-    (turns_of b.hearings < MAX_POLLS)
+    (lasting_answers b.hearings < MAX_POLLS)
     × IfSome b.start (λ at. NeverFull (lead_part state_manner)
     (lead_start lead.bpm at (start_of setup sheet)) b)
 

@@ -57,7 +57,7 @@ pub record IsBegun (r : Recovery) (setup : Setup) (sheet : Sheet) (commands : Li
 
 -- a performance can have kept this: the grid is one that a session can have, and the seed and the
 -- numbers of the commands have 32 bits
-pub record IsKept (setup : Setup) (sheet : Sheet) (commands : List Command) : Type 0 where
+pub record CanBeKept (setup : Setup) (sheet : Sheet) (commands : List Command) : Type 0 where
   pub is_sheet : IsSheet sheet
   pub small : setup.seed < 2 ^ 32
   pub values : All (λ command. HasValues (line_of command)) commands
@@ -68,11 +68,11 @@ pub record Recovers (words : List (List ℕ)) : Type 0 where
   pub kept : (r : Recovery) (setup : Setup) (sheet : Sheet) (commands : List Command)
       (cut : List ℕ) (h : Heard) → request_of words ≡ Some (Recover r)
       → h.brought.script ≡ Some (room_text setup sheet commands cut)
-      → IsKept setup sheet commands → All (λ byte. byte ≢ line_feed) cut
+      → CanBeKept setup sheet commands → All (λ byte. byte ≢ line_feed) cut
       → IsRecovered r sheet (record { seed = setup.seed; commands = commands }) (outline words h)
   -- so wherever the lines of some commands were cut off, those before are recovered
   pub begun : (r : Recovery) (setup : Setup) (sheet : Sheet) (commands : List Command)
       (lines : List ℕ) (h : Heard) → request_of words ≡ Some (Recover r)
       → h.brought.script ≡ Some (room_start setup sheet ++ lines)
-      → IsKept setup sheet commands → Extends lines (flat_map printed commands)
+      → CanBeKept setup sheet commands → Extends lines (flat_map printed commands)
       → IsBegun r setup sheet commands lines (outline words h)

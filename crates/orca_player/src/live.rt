@@ -7,7 +7,7 @@ ghost use Rattle.orca_course.specs.Worlds.{AreSeated, has_ended, has_listened};
 ghost use Rattle.orca_live.specs.Performing.{live_part};
 ghost use Rattle.orca_live.specs.States.{live_state, residue_of, setting_in};
 ghost use Rattle.orca_player.specs.Doing.{CameBy};
-ghost use Rattle.orca_player.specs.Outlines.{crew_of, hands_of, leavings, live_outline, live_start, played, played_course, room_name, room_start, roomed, setting_of, standing_at, waiting};
+ghost use Rattle.orca_player.specs.Outlines.{crew_of, hands_asked, leavings, live_outline, live_start, played, played_course, room_name, room_start, roomed, setting_of, standing_at, waiting};
 ghost use Rattle.orca_player.specs.Performances.{Performed};
 ghost use Rattle.orca_script.specs.Runs.{ScriptReadsBack};
 ghost use Rattle.orca_term.specs.Picture.{IsScreen};
@@ -46,7 +46,7 @@ pub(crate) fn play<H: House>(
     ensures { CameBy (λ b. roomed (room_name (performance_in performance.now))
         (room_start (setup_in setup.now) opening.now.grid) b.claimed
         (waiting (leavings (room_name (performance_in performance.now)) b.closing false)
-        performance.now.address.now (hands_of (performance_in performance.now)) b.start
+        performance.now.address.now (hands_asked (performance_in performance.now)) b.start
         (live_outline (setup_in setup.now) (performance_in performance.now) b
         (standing_at opening.now.grid opening.now.seed opening.now.limit))))
         desk.old result desk.new }
@@ -72,7 +72,7 @@ fn play_in<H: House>(
     ensures { CameBy (λ b. roomed (Some name.now)
         (room_start (setup_in setup.now) opening.now.grid) b.claimed
         (waiting (leavings (room_name (performance_in performance.now)) b.closing false)
-        performance.now.address.now (hands_of (performance_in performance.now)) b.start
+        performance.now.address.now (hands_asked (performance_in performance.now)) b.start
         (live_outline (setup_in setup.now) (performance_in performance.now) b
         (standing_at opening.now.grid opening.now.seed opening.now.limit))))
         desk.old result desk.new }
@@ -101,7 +101,7 @@ fn wait<H: House>(
     requires same { (opening.now.seed ≡ setup.now.seed) × (opening.now.limit ≡ setup.now.limit) }
     ensures { CameBy (λ b. waiting
         (leavings (room_name (performance_in performance.now)) b.closing false)
-        performance.now.address.now (hands_of (performance_in performance.now)) b.start
+        performance.now.address.now (hands_asked (performance_in performance.now)) b.start
         (live_outline (setup_in setup.now) (performance_in performance.now) b
         (standing_at opening.now.grid opening.now.seed opening.now.limit)))
         desk.old result desk.new }
@@ -123,7 +123,7 @@ fn start<H: House>(
 ) -> Status
     requires open { has_ended desk.old ≡ false }
     requires same { (opening.now.seed ≡ setup.now.seed) × (opening.now.limit ≡ setup.now.limit) }
-    requires seated { AreSeated (hands_of (performance_in performance.now)) desk.old }
+    requires seated { AreSeated (hands_asked (performance_in performance.now)) desk.old }
     ensures { CameBy (λ b. live_outline (setup_in setup.now) (performance_in performance.now)
         b (standing_at opening.now.grid opening.now.seed opening.now.limit) at)
         desk.old result desk.new }

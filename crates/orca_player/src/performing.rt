@@ -7,7 +7,7 @@ ghost use Rattle.orca_course.specs.Following.{sounding};
 ghost use Rattle.orca_course.specs.Worlds.{AreSeated, Made, Sated, has_ended, has_listened, owing};
 ghost use Rattle.orca_player.specs.Doing.{CameBy};
 ghost use Rattle.orca_player.specs.Outlines.{Brought, Outline, leavings, status_of_ending, waiting};
-ghost use Rattle.orca_player.specs.Performances.{BrokeOff, EndsSilent, Lasted, Performed, whole};
+ghost use Rattle.orca_player.specs.Performances.{BrokeOff, EndsSilent, Lasted, Performed, whole_course};
 ghost use Rattle.orca_words.specs.RequestIn.{text_in};
 
 use crate::Status;
@@ -54,7 +54,7 @@ pub(crate) fn perform_all<P: Closes, H: House>(performer: &mut P, desk: &mut Des
     requires residue { P.residue performer.old ≡ 0 }
     requires silent { EndsSilent P.part }
     requires seated { AreSeated (P.part.seats (P.state performer.old)) desk.old }
-    ensures { Performed P.part (whole P.part (P.state performer.old)) (P.state performer.old)
+    ensures { Performed P.part (whole_course P.part (P.state performer.old)) (P.state performer.old)
         desk.old result (P.state performer.new) desk.new }
 {
     match perform_whole(performer, desk) {

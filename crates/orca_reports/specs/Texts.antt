@@ -12,14 +12,14 @@ abbrev pub figure : List ℕ → ℕ → List ℕ
 figure word n = word ++ space ∷ decimal n
 
 -- ` kept K`, where there is no such moment
-abbrev pub kept_text : Rule → List ℕ
-kept_text (NoSuchMoment kept) = figure (codes " kept") kept
-kept_text _ = []
+abbrev pub kept_word : Rule → List ℕ
+kept_word (NoSuchMoment kept) = figure (codes " kept") kept
+kept_word _ = []
 
 -- `refused LINE RULE`
 unfoldable pub refusal_text : ℕ → Rule → List ℕ
 refusal_text number rule =
-    figure (codes "refused") number ++ space ∷ rule_name rule ++ kept_text rule ++ line_feed ∷ []
+    figure (codes "refused") number ++ space ∷ rule_name rule ++ kept_word rule ++ line_feed ∷ []
 
 -- `tick T moments M sounding K`
 unfoldable pub state_text : ℕ → ℕ → ℕ → List ℕ

@@ -1,6 +1,6 @@
 ghost use Rattle.std.specs.Prelude.{◌≡◌, ◌++◌, OnOk};
 ghost use Rattle.orca_reports.specs.Manners.{state_at};
-ghost use Rattle.orca_reports.specs.Texts.{kept_text, refusal_text, state_text};
+ghost use Rattle.orca_reports.specs.Texts.{kept_word, refusal_text, state_text};
 
 use crate::figures::push_figure;
 use crate::going::goes;
@@ -82,7 +82,7 @@ pub(crate) fn write_refusal(line: &mut Vec<u8>, number: u32, rule: Rule) -> Resu
 
 /// Appends how many entries the history has, where the rule speaks of them.
 fn push_kept(line: &mut Vec<u8>, rule: Rule) -> Result<(), Memory>
-    ensures { OnOk result (line.new.items ≡ line.old.items ++ kept_text rule) }
+    ensures { OnOk result (line.new.items ≡ line.old.items ++ kept_word rule) }
 {
     match rule {
         Rule::NoSuchMoment { kept } => push_figure(line, " kept", u64::from(kept)),
