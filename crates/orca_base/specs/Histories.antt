@@ -1,9 +1,9 @@
 -- The entries of a history, and which of them are edits.
 use Rattle.std.specs.Prelude.{ℕ, suc, ◌+◌, Bool, true, false, not, ◌&&◌, nat_le, if◌then◌else◌, List, [], ◌∷◌, Option, Some, None, filter, length, take_while}
-use Rattle.std.specs.List.{sum}
+use Rattle.std.specs.List.{list_any, sum}
 use Rattle.std.specs.Option.{option_map_or}
 use Rattle.orca_base.specs.declared.command.Entry.{Entry}
-use Rattle.orca_base.specs.declared.command.Entry.TheVariants.{Frame, Hush}
+use Rattle.orca_base.specs.declared.command.Entry.TheVariants.{Resize, Reset, Frame, Hush}
 use Rattle.orca_base.specs.declared.limits.TheConstants.{KEPT_PATCHES, KEPT_TOUCHED}
 
 -- each entry is an edit, but for a frame and the end of a jump
@@ -11,6 +11,21 @@ abbrev pub is_edit : Entry → Bool
 is_edit Frame = false
 is_edit Hush = false
 is_edit _ = true
+
+-- an edit of the grid: any edit but a Reset, which is about time
+abbrev pub edits_grid : Entry → Bool
+edits_grid Reset = false
+edits_grid entry = is_edit entry
+
+-- a change of size
+abbrev pub sets_size : Entry → Bool
+sets_size (Resize dims) = true
+sets_size _ = false
+
+-- a change of size first, and after it an edit of the grid, which may not fit another size
+abbrev pub is_size_used : List Entry → Bool
+is_size_used [] = false
+is_size_used (entry ∷ entries) = sets_size entry && list_any edits_grid entries
 
 -- the place of the last edit in a history
 abbrev pub last_edit : List Entry → Option ℕ

@@ -1,7 +1,7 @@
 -- The names of the rules by which a command is refused, as they are printed.
 use Rattle.std.specs.Prelude.{ℕ, List, codes}
 use Rattle.orca_base.specs.declared.command.Rule.{Rule}
-use Rattle.orca_base.specs.declared.command.Rule.TheVariants.{OutOfGrid, EmptyBlock, BadSize, EmptyClip, NothingToUndo, NoSuchMoment, HistoryFull, NothingToRedo}
+use Rattle.orca_base.specs.declared.command.Rule.TheVariants.{OutOfGrid, EmptyBlock, BadSize, EmptyClip, NothingToUndo, NoSuchMoment, SizeInUse, HistoryFull, NothingToRedo}
 
 -- the name of a rule
 abbrev pub rule_name : Rule → List ℕ
@@ -11,5 +11,6 @@ rule_name BadSize = codes "BadSize"
 rule_name EmptyClip = codes "EmptyClip"
 rule_name NothingToUndo = codes "NothingToUndo"
 rule_name (NoSuchMoment kept) = codes "NoSuchMoment"
+rule_name SizeInUse = codes "SizeInUse"
 rule_name HistoryFull = codes "HistoryFull"
 rule_name NothingToRedo = codes "NothingToRedo"

@@ -80,6 +80,13 @@ pub enum Command {
     },
     /// Brings back what was cut off last, up to its next edit.
     Redo,
+    /// Takes one entry out of the history, as if it had never been done, and ends every note.
+    Retract {
+        /// The number of the entry.
+        moment: u32,
+    },
+    /// Ends every note.
+    Hush,
 }
 
 /// What a history keeps of a command. All but `Frame` and `Hush` are edits.
@@ -115,7 +122,7 @@ pub enum Entry {
     Reset,
     /// A frame is played.
     Frame,
-    /// Every note ends: the last entry of a jump.
+    /// Every note ends: a Hush, or the last entry of a jump or a Retract.
     Hush,
 }
 
@@ -131,13 +138,15 @@ pub enum Rule {
     BadSize,
     /// There is nothing to paste, or no clip for another cell than the first.
     EmptyClip,
-    /// There is no edit to undo.
+    /// There is no edit to undo, or no entry to take out of the history.
     NothingToUndo,
     /// The history has no such moment.
     NoSuchMoment {
         /// How many entries the history has.
         kept: u32,
     },
+    /// An edit that stands after a Resize may not fit the size before it.
+    SizeInUse,
     /// The history has as many entries as it may have, or what Redo brings back doesn't fit into it.
     HistoryFull,
     /// Nothing was cut off that Redo could bring back.
@@ -161,6 +170,7 @@ impl Rule {
             Rule::EmptyClip => "EmptyClip",
             Rule::NothingToUndo => "NothingToUndo",
             Rule::NoSuchMoment { .. } => "NoSuchMoment",
+            Rule::SizeInUse => "SizeInUse",
             Rule::HistoryFull => "HistoryFull",
             Rule::NothingToRedo => "NothingToRedo",
         }
@@ -170,7 +180,7 @@ impl Rule {
 /// What a session did.
 #[derive(Clone, Copy, Debug, PartialEq, Eq)]
 pub enum Reply {
-    /// The grid was edited, or the session begins again at tick 0.
+    /// The grid was edited, the session begins again at tick 0, or every note ended.
     Edited,
     /// The clip was taken, or a glyph put into it.
     Copied,
@@ -188,6 +198,11 @@ pub enum Reply {
     Redone {
         /// How many.
         entries: u32,
+    },
+    /// An entry was taken out of the history.
+    Retracted {
+        /// Its number.
+        moment: u32,
     },
 }
 

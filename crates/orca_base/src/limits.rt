@@ -58,6 +58,9 @@ pub const JUMP_REACH: u16 = 256;
 /// The most bytes of a file that is loaded.
 pub const MAX_FILE_BYTES: usize = 16_777_216;
 
+/// The most bytes of a room, and the most that is loaded of one.
+pub const MAX_ROOM_BYTES: usize = 268_435_456;
+
 /// The most decimal digits of a number, in words and in scripts.
 pub const MAX_DIGITS: usize = 10;
 
@@ -96,6 +99,9 @@ pub const DEFAULT_HISTORY: u32 = 1_000_000;
 
 /// How many of the newest entries of a history keep a patch, by which they can be undone.
 pub const KEPT_PATCHES: u32 = 1_024;
+
+/// Among how many of the last entries of a history a hand looks for an edit to take back.
+pub const RETRACTED_ENTRIES: u32 = 4_096;
 
 /// The most cells that one entry of a history touches: those of two grids.
 pub const MAX_TOUCHED: u32 = 2 * MAX_CELLS as u32;
