@@ -62,7 +62,8 @@ piece_at-end m =
     ap (λ (h : List Entry). piece_after m.opened m.seed h m.closed)
     (take_all (length m.history) m.history (omega arith))
 
-range-split : (a n k : ℕ)
+-- a range in two parts
+pub range-split : (a n k : ℕ)
     → range_with_len a (n + k) ≡ range_with_len a n ++ range_with_len (a + n) k
 range-split a zero k =
     let many : 0 + k ≡ k = omega arith in

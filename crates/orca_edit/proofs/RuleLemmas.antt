@@ -5,9 +5,9 @@ use Rattle.std.proofs.lemmas.Bool.{cases_Bool, leb-false}
 use Rattle.std.proofs.lemmas.Option.{none-some}
 use Rattle.orca_base.specs.declared.command.Command.{Command}
 use Rattle.orca_base.specs.declared.command.Command.TheVariants as command
-use Rattle.orca_base.specs.declared.command.Rule.TheVariants.{HistoryFull, NoSuchMoment, NothingToRedo, NothingToUndo}
+use Rattle.orca_base.specs.declared.command.Rule.TheVariants.{HistoryFull, NoSuchMoment, NothingToRedo, NothingToUndo, SizeInUse}
 use Rattle.orca_base.specs.Histories.{last_edit}
-use Rattle.orca_edit.specs.Obeying.{MachineState, Obeyed, Test, accept, adds_entry, block_tests, carry_out, clip_after, entry_of, first_standing, has_no_room, jump_to, obey, piece_of, redo, redoes_nothing, rewinds_too_far, rule_against, taken_area, test, undoes_nothing}
+use Rattle.orca_edit.specs.Obeying.{MachineState, Obeyed, Test, accept, adds_entry, block_tests, carry_out, clip_after, entry_of, first_standing, has_no_room, jump_to, obey, piece_of, redo, redoes_nothing, retract, rewinds_too_far, rule_against, taken_area, takes_used_size, test, undoes_nothing}
 
 -- where none of these tests stands, this one doesn't
 no-test : (before : List Test) (t : Test) (after : List Test)
@@ -28,6 +28,7 @@ no-test (b ∷ before) t after none = elim (cases_Bool b.stands) [
 pub record IsOpen (m : MachineState) (c : Command) : Type 0 where
   pub undoes : undoes_nothing m.history c ≡ false
   pub rewinds : rewinds_too_far m.history c ≡ false
+  pub sizes : takes_used_size m.history c ≡ false
   pub room : has_no_room m.limit m.history m.tail c ≡ false
   pub redoes : redoes_nothing m.tail c ≡ false
 
@@ -38,13 +39,15 @@ is-open m c allowed =
     let undoes : Test = test NothingToUndo (undoes_nothing m.history c) in
     let rewinds : Test =
     test (NoSuchMoment (length m.history)) (rewinds_too_far m.history c) in
+    let sizes : Test = test SizeInUse (takes_used_size m.history c) in
     let room : Test = test HistoryFull (has_no_room m.limit m.history m.tail c) in
     let redoes : Test = test NothingToRedo (redoes_nothing m.tail c) in
     record {
-      undoes = no-test block undoes (rewinds ∷ room ∷ redoes ∷ []) allowed;
-      rewinds = no-test (block ++ undoes ∷ []) rewinds (room ∷ redoes ∷ []) allowed;
-      room = no-test (block ++ undoes ∷ rewinds ∷ []) room (redoes ∷ []) allowed;
-      redoes = no-test (block ++ undoes ∷ rewinds ∷ room ∷ []) redoes [] allowed;
+      undoes = no-test block undoes (rewinds ∷ sizes ∷ room ∷ redoes ∷ []) allowed;
+      rewinds = no-test (block ++ undoes ∷ []) rewinds (sizes ∷ room ∷ redoes ∷ []) allowed;
+      sizes = no-test (block ++ undoes ∷ rewinds ∷ []) sizes (room ∷ redoes ∷ []) allowed;
+      room = no-test (block ++ undoes ∷ rewinds ∷ sizes ∷ []) room (redoes ∷ []) allowed;
+      redoes = no-test (block ++ undoes ∷ rewinds ∷ sizes ∷ room ∷ []) redoes [] allowed;
     }
 
 not-full : (adds full b : Bool) → adds ≡ true → (adds && full) || b ≡ false → full ≡ false
@@ -90,7 +93,20 @@ pub obey-redo : (m : MachineState) → rule_against m command.Redo ≡ None
 unfolding obey accept
 obey-redo m allowed = rw allowed refl
 
--- what is done with a command that is no jump and no Clip
+-- a Retract finds its entry
+pub some-entry : (m : MachineState) (moment : ℕ)
+    → rule_against m (command.Retract moment) ≡ None → moment < length m.history
+some-entry m moment allowed =
+    leb-false (length m.history) moment (is-open m (command.Retract moment) allowed).undoes
+
+-- and takes it out
+pub obey-retract : (m : MachineState) (moment : ℕ)
+    → rule_against m (command.Retract moment) ≡ None
+    → obey m (command.Retract moment) ≡ retract m moment
+unfolding obey accept
+obey-retract m moment allowed = rw allowed refl
+
+-- what is done with a command that is no jump, no Retract and no Clip
 abbrev pub entered : MachineState → Command → Obeyed
 entered m c =
     let d = (piece_of m).sheet.dims in

@@ -3,7 +3,7 @@
 use Rattle.std.specs.Prelude.{ℕ, ◌≡◌, List, [], ◌∷◌, drop, length, Result, Ok, Err, codes, refl}
 use Rattle.orca_base.specs.declared.area.Rect.{Rect}
 use Rattle.orca_base.specs.declared.command.Command.{Command}
-use Rattle.orca_base.specs.declared.command.Command.TheVariants.{Frame, Write, Copy, Cut, Clip, Paste, Move, Resize, Reset, Undo, Rewind, Redo}
+use Rattle.orca_base.specs.declared.command.Command.TheVariants.{Frame, Write, Copy, Cut, Clip, Paste, Move, Resize, Reset, Undo, Rewind, Redo, Retract, Hush}
 use Rattle.orca_base.specs.declared.command.Fault.{Fault}
 use Rattle.orca_base.specs.declared.command.Fault.TheVariants.{Refused}
 use Rattle.orca_base.specs.declared.command.Reply.{Reply}
@@ -20,7 +20,7 @@ use Rattle.orca_op.specs.Rules.{rule}
 use Rattle.orca_op.specs.Scan.{busy, scan, visit_deeds, is_idle, written_places}
 use Rattle.orca_op.specs.State.{has_bang, holds, peek}
 use Rattle.orca_op.specs.ValueRules.{value_or}
-use Rattle.orca_edit.specs.Obeying.{MachineState, machine_at_start, rule_against, entry_of, taken_area, jump_to, redo, accept, obey}
+use Rattle.orca_edit.specs.Obeying.{MachineState, machine_at_start, rule_against, entry_of, taken_area, jump_to, redo, retract, accept, obey}
 use Rattle.orca_edit.specs.Pieces.{apply, piece_after}
 use Rattle.orca_edit.specs.Prices.{Kept, best_moment, bill, charge, kept_after, kept_at_start, least_first, spaced, total}
 use Rattle.orca_edit.proofs.GridRows.{grid}
@@ -63,7 +63,7 @@ lines_of m k (c ∷ cs) =
     ∷ lines_of o.machine kept cs
 
 account : ℕ → Sheet → List Command → List Line
-unfolding obey accept rule_against entry_of taken_area jump_to redo apply piece_after by_place
+unfolding obey accept rule_against entry_of taken_area jump_to redo retract apply piece_after by_place
     scan busy written_places list_after visit_deeds is_idle is_operator needs_bang has_bang peek
     holds rule kind_of after value_or value cased from_value move_to sound happens
     bill charge kept_after least_first first_where total
@@ -96,6 +96,21 @@ clip_leaves_the_tail : account 3 (grid (codes "." ∷ []))
     ∷ []
 unfolding account
 clip_leaves_the_tail = refl
+
+-- a Retract plays all entries from the checkpoint on again; it leaves no tail, and one patch
+retract_at_a_short_history : account 3 (grid (codes "." ∷ []))
+    (Frame ∷ Write 0 0 53 ∷ Write 0 0 54 ∷ Undo ∷ Retract 0 ∷ Retract 3 ∷ Hush ∷ Retract 1 ∷ [])
+    ≡ line 9 1 0 0 256 1
+    ∷ line 12 2 0 0 256 2
+    ∷ line 12 3 0 0 256 3
+    ∷ line 20 3 1 0 256 3
+    ∷ line 30 3 0 2 256 3
+    ∷ line 8 3 0 2 256 3
+    ∷ line 8 3 0 2 256 3
+    ∷ line 30 3 0 2 256 3
+    ∷ []
+unfolding account
+retract_at_a_short_history = refl
 
 -- a clock that counts below
 abbrev clock : Sheet

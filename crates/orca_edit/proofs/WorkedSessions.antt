@@ -2,11 +2,11 @@
 use Rattle.std.specs.Prelude.{ℕ, ◌≡◌, List, [], ◌∷◌, ◌++◌, length, replicate, Option, Some, None, Result, Ok, Err, codes, refl}
 use Rattle.orca_base.specs.declared.area.Rect.{Rect}
 use Rattle.orca_base.specs.declared.command.Command.{Command}
-use Rattle.orca_base.specs.declared.command.Command.TheVariants.{Frame, Write, Fill, Erase, Copy, Cut, Clip, Paste, Move, Resize, Reset, Undo, Rewind}
+use Rattle.orca_base.specs.declared.command.Command.TheVariants.{Frame, Write, Fill, Erase, Copy, Cut, Clip, Paste, Move, Resize, Reset, Undo, Rewind, Retract, Hush}
 use Rattle.orca_base.specs.declared.command.Reply.{Reply}
-use Rattle.orca_base.specs.declared.command.Reply.TheVariants.{Edited, Copied, Framed, Jumped}
+use Rattle.orca_base.specs.declared.command.Reply.TheVariants.{Edited, Copied, Framed, Jumped, Retracted}
 use Rattle.orca_base.specs.declared.command.Rule.{Rule}
-use Rattle.orca_base.specs.declared.command.Rule.TheVariants.{OutOfGrid, EmptyBlock, BadSize, EmptyClip, NothingToUndo, NoSuchMoment, HistoryFull}
+use Rattle.orca_base.specs.declared.command.Rule.TheVariants.{OutOfGrid, EmptyBlock, BadSize, EmptyClip, NothingToUndo, NoSuchMoment, SizeInUse, HistoryFull}
 use Rattle.orca_base.specs.declared.message.Message.{Message}
 use Rattle.orca_base.specs.declared.message.Message.TheVariants.{On, Off}
 use Rattle.orca_base.specs.Grids.{Sheet, by_place}
@@ -19,7 +19,7 @@ use Rattle.orca_op.specs.Rules.{rule}
 use Rattle.orca_op.specs.Scan.{scan, visit_deeds, is_idle}
 use Rattle.orca_op.specs.State.{has_bang, peek}
 use Rattle.orca_op.specs.ValueRules.{value_or}
-use Rattle.orca_edit.specs.Obeying.{MachineState, machine_at_start, machine_closed, piece_of, rule_against, entry_of, taken_area, jump_to, accept, obey}
+use Rattle.orca_edit.specs.Obeying.{MachineState, machine_at_start, machine_closed, piece_of, rule_against, entry_of, taken_area, jump_to, retract, accept, obey}
 use Rattle.orca_edit.specs.Pieces.{apply, piece_after}
 use Rattle.orca_edit.proofs.GridRows.{grid}
 
@@ -52,7 +52,7 @@ record Seen : Type 0 where
 
 -- what is seen of a session after commands
 seen_after : MachineState → List Command → Seen
-unfolding obey accept rule_against entry_of taken_area jump_to apply piece_after by_place
+unfolding obey accept rule_against entry_of taken_area jump_to retract apply piece_after by_place
     scan visit_deeds is_idle is_operator needs_bang has_bang peek rule kind_of after
     value_or value note_of note_number sound happens
 seen_after m cs =
@@ -183,6 +183,83 @@ nothing_to_go_back_to : seen_after (session (grid (codes "." ∷ []))) (Undo ∷
 unfolding seen_after
 nothing_to_go_back_to = refl
 
+-- ---- entries taken out
+
+-- a size that a later edit may need stays, and goes once that edit has gone
+size_taken_out : seen_after (session (grid (codes "...." ∷ codes "...." ∷ [])))
+    (Resize 1 4 ∷ Write 0 0 97 ∷ Retract 0 ∷ Retract 1 ∷ Retract 0 ∷ Retract 2 ∷ [])
+    ≡ record {
+      answers = Ok Edited ∷ Ok Edited ∷ Err SizeInUse ∷ Ok (Retracted 1) ∷ Ok (Retracted 0)
+          ∷ Err NothingToUndo ∷ [];
+      messages = [];
+      grid = grid (codes "...." ∷ codes "...." ∷ []);
+      tick = 0;
+      moments = 2;
+      sounding = 0;
+      clip = None;
+    }
+unfolding seen_after
+size_taken_out = refl
+
+-- a reset after it needs no size
+size_before_a_reset_taken_out : seen_after (session (grid (codes "...." ∷ [])))
+    (Write 0 0 55 ∷ Resize 2 4 ∷ Reset ∷ Retract 1 ∷ Retract 0 ∷ [])
+    ≡ record {
+      answers = Ok Edited ∷ Ok Edited ∷ Ok Edited ∷ Ok (Retracted 1) ∷ Ok (Retracted 0) ∷ [];
+      messages = [];
+      grid = grid (codes "...." ∷ []);
+      tick = 0;
+      moments = 3;
+      sounding = 0;
+      clip = None;
+    }
+unfolding seen_after
+size_before_a_reset_taken_out = refl
+
+-- a frame is taken out like any entry, and the tick is one less
+frame_taken_out : seen_after (session (grid (codes "...." ∷ [])))
+    (Frame ∷ Write 0 0 55 ∷ Frame ∷ Retract 0 ∷ [])
+    ≡ record {
+      answers = Ok (Framed 0) ∷ Ok Edited ∷ Ok (Framed 1) ∷ Ok (Retracted 0) ∷ [];
+      messages = [];
+      grid = grid (codes "7..." ∷ []);
+      tick = 1;
+      moments = 3;
+      sounding = 0;
+      clip = None;
+    }
+unfolding seen_after
+frame_taken_out = refl
+
+-- an edit under a note that sounds is taken out: the note ends, and the tick stays
+retract_while_a_note_sounds : seen_after (session sounding_clock)
+    (Write 0 7 57 ∷ Frame ∷ Retract 0 ∷ [])
+    ≡ record {
+      answers = Ok Edited ∷ Ok (Framed 0) ∷ Ok (Retracted 0) ∷ [];
+      messages = On 0 36 119 ∷ Off 0 36 ∷ [];
+      grid = clock_after_a_frame;
+      tick = 1;
+      moments = 2;
+      sounding = 0;
+      clip = None;
+    }
+unfolding seen_after
+retract_while_a_note_sounds = refl
+
+-- a Hush ends the note, and leaves the grid and the tick
+hush_while_a_note_sounds : seen_after (session sounding_clock) (Frame ∷ Hush ∷ Frame ∷ [])
+    ≡ record {
+      answers = Ok (Framed 0) ∷ Ok Edited ∷ Ok (Framed 1) ∷ [];
+      messages = On 0 36 119 ∷ Off 0 36 ∷ [];
+      grid = sounding_clock;
+      tick = 2;
+      moments = 3;
+      sounding = 0;
+      clip = None;
+    }
+unfolding seen_after
+hush_while_a_note_sounds = refl
+
 -- ---- full histories
 
 -- a session with a history of this many entries at most
@@ -204,6 +281,21 @@ write_at_a_full_history : seen_after (session_of 3 (grid (codes "." ∷ [])))
     }
 unfolding seen_after
 write_at_a_full_history = refl
+
+-- it refuses a Hush, and no Retract
+hush_at_a_full_history : seen_after (session_of 1 (grid (codes "." ∷ [])))
+    (Write 0 0 53 ∷ Hush ∷ Retract 0 ∷ [])
+    ≡ record {
+      answers = Ok Edited ∷ Err HistoryFull ∷ Ok (Retracted 0) ∷ [];
+      messages = [];
+      grid = grid (codes "." ∷ []);
+      tick = 0;
+      moments = 1;
+      sounding = 0;
+      clip = None;
+    }
+unfolding seen_after
+hush_at_a_full_history = refl
 
 -- a copy adds no entry; a cut that is refused leaves the clip
 copy_at_a_full_history : seen_after (session_of 1 (grid (codes "ab" ∷ [])))

@@ -16,12 +16,13 @@ use Rattle.orca_op.specs.State.{sheet_of}
 use Rattle.orca_edit.specs.Obeying.{names_outside, names_empty_block, names_bad_size, wants_clip}
 use Rattle.orca_edit.specs.Pieces.{Piece, apply}
 
--- a command that edits the grid or takes the clip: any but a frame and the three jumps
+-- a command that edits the grid or takes the clip: any but a frame, the three jumps and a Retract
 abbrev pub IsEditing : Command → Type 0
 IsEditing command.Frame = ⊥
 IsEditing command.Undo = ⊥
 IsEditing (command.Rewind moment) = ⊥
 IsEditing command.Redo = ⊥
+IsEditing (command.Retract moment) = ⊥
 IsEditing _ = Unit {0}
 
 -- the command puts the clip into the grid

@@ -1,10 +1,11 @@
 -- What holds of the folds of histories: the statements of the laws.
-use Rattle.std.specs.Prelude.{ℕ, ◌+◌, ◌≤◌, ◌≡◌, Bool, true, List, [], ◌∷◌, ◌++◌, length, take, drop, slice_get, Some, None, All}
+use Rattle.std.specs.Prelude.{ℕ, ◌+◌, ◌<◌, ◌≤◌, ◌≡◌, Bool, true, false, List, [], ◌∷◌, ◌++◌, length, take, drop, slice_get, Some, None, All}
+use Rattle.std.specs.List.{remove}
 use Rattle.orca_base.specs.declared.command.Command.TheVariants.{Undo, Redo}
 use Rattle.orca_base.specs.declared.command.Entry.{Entry}
 use Rattle.orca_base.specs.declared.command.Entry.TheVariants.{Hush}
 use Rattle.orca_base.specs.Grids.{Sheet, IsSheet}
-use Rattle.orca_base.specs.Histories.{is_edit}
+use Rattle.orca_base.specs.Histories.{is_edit, is_size_used}
 use Rattle.orca_op.specs.Laws.{IsLawful}
 use Rattle.orca_op.specs.Rules.{rule}
 use Rattle.orca_edit.specs.Editing.{AllFit, FitsIn, WritesGlyphs}
@@ -139,6 +140,12 @@ FitsOneMore =
     → AllFit (opened_piece opened seed) history
     → FitsIn (piece_after opened seed history closed).sheet.dims entry
     → AllFit (opened_piece opened seed) (history ++ entry ∷ [])
+
+-- the others without one of them, if no edit may need the size that it gave
+abbrev pub FitsWithout : Type 0
+FitsWithout =
+    (p : Piece) (entries : List Entry) (number : ℕ) → number < length entries → AllFit p entries
+    → is_size_used (drop number entries) ≡ false → AllFit p (remove entries number)
 
 -- what fits doesn't depend on notes
 abbrev pub FitsWithoutNotes : Type 0

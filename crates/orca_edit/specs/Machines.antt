@@ -1,5 +1,5 @@
 -- What the calls of a session do to the machine that it means.
-use Rattle.std.specs.Prelude.{◌≡◌, Bool, true, false, List, [], All, None, Result, Ok, Err}
+use Rattle.std.specs.Prelude.{◌≡◌, Bool, true, false, not, List, [], All, None, Result, Ok, Err}
 use Rattle.orca_base.specs.declared.command.Command.{Command}
 use Rattle.orca_base.specs.declared.command.Command.TheVariants as command
 use Rattle.orca_base.specs.declared.command.Fault.{Fault}
@@ -30,12 +30,17 @@ is_jump (command.Rewind moment) = true
 is_jump command.Redo = true
 is_jump _ = false
 
--- memory was refused: no rule stands against the command, it is no jump, nothing has changed, and no
--- message is given
+-- a command to which memory may be refused: any but a jump and a Retract
+abbrev pub may_lack_memory : Command → Bool
+may_lack_memory (command.Retract moment) = false
+may_lack_memory c = not (is_jump c)
+
+-- memory was refused: no rule stands against the command, it is one that may lack memory, nothing
+-- has changed, and no message is given
 pub record IsGivenUp (old : MachineState) (c : Command) (new : MachineState)
     (messages : List Message) : Type 0 where
   pub allowed : rule_against old c ≡ None
-  pub forward : is_jump c ≡ false
+  pub lacking : may_lack_memory c ≡ true
   pub machine : new ≡ old
   pub silent : messages ≡ []
 

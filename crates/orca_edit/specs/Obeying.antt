@@ -1,6 +1,6 @@
 -- A session as a machine: what it does with a command, and when it refuses one.
 use Rattle.std.specs.Prelude.{ℕ, ◌+◌, ◌-◌, ◌==◌, Bool, true, false, not, ◌&&◌, ◌||◌, nat_le, nat_lt, min, if◌then◌else◌, List, [], ◌∷◌, ◌++◌, length, take, drop, Option, Some, None, is_none, Result, Ok, Err}
-use Rattle.std.specs.List.{list_all}
+use Rattle.std.specs.List.{list_all, remove}
 use Rattle.std.specs.Option.{option_map, option_map_or}
 use Rattle.orca_base.specs.declared.area.Area.{Area}
 use Rattle.orca_base.specs.declared.area.Rect.{Rect}
@@ -9,9 +9,9 @@ use Rattle.orca_base.specs.declared.command.Command.TheVariants as command
 use Rattle.orca_base.specs.declared.command.Entry.{Entry}
 use Rattle.orca_base.specs.declared.command.Entry.TheVariants as entry
 use Rattle.orca_base.specs.declared.command.Reply.{Reply}
-use Rattle.orca_base.specs.declared.command.Reply.TheVariants.{Edited, Copied, Framed, Jumped, Redone}
+use Rattle.orca_base.specs.declared.command.Reply.TheVariants.{Edited, Copied, Framed, Jumped, Redone, Retracted}
 use Rattle.orca_base.specs.declared.command.Rule.{Rule}
-use Rattle.orca_base.specs.declared.command.Rule.TheVariants.{OutOfGrid, EmptyBlock, BadSize, EmptyClip, NothingToUndo, NoSuchMoment, HistoryFull, NothingToRedo}
+use Rattle.orca_base.specs.declared.command.Rule.TheVariants.{OutOfGrid, EmptyBlock, BadSize, EmptyClip, NothingToUndo, NoSuchMoment, SizeInUse, HistoryFull, NothingToRedo}
 use Rattle.orca_base.specs.declared.limits.TheConstants.{MAX_ROWS, MAX_COLUMNS}
 use Rattle.orca_base.specs.declared.message.Message.{Message}
 use Rattle.orca_base.specs.declared.place.Place.{Place}
@@ -19,7 +19,7 @@ use Rattle.orca_base.specs.Areas.{area_in, area_at}
 use Rattle.orca_base.specs.Edits.{block_of, clipped, origin}
 use Rattle.orca_base.specs.Glyphs.{empty}
 use Rattle.orca_base.specs.Grids.{Size, Sheet, is_inside, is_place, largest}
-use Rattle.orca_base.specs.Histories.{done_of, group_of, last_edit}
+use Rattle.orca_base.specs.Histories.{done_of, group_of, is_size_used, last_edit}
 use Rattle.orca_notes.specs.Sound.{ends}
 use Rattle.orca_edit.specs.Pieces.{Piece, apply, piece_after}
 
@@ -101,9 +101,10 @@ wants_clip clip (command.Paste y x) = is_none clip
 wants_clip clip (command.Clip y x glyph) = is_none clip && not (is_place (place y x) origin)
 wants_clip clip _ = false
 
--- NothingToUndo: an Undo, and the history holds no edit
+-- NothingToUndo: an Undo, and the history holds no edit, or a Retract of an entry that there isn't
 abbrev pub undoes_nothing : List Entry → Command → Bool
 undoes_nothing history command.Undo = is_none (last_edit history)
+undoes_nothing history (command.Retract moment) = nat_le (length history) moment
 undoes_nothing history _ = false
 
 -- NoSuchMoment: a Rewind to a moment that isn't below the count of the entries
@@ -111,13 +112,20 @@ abbrev pub rewinds_too_far : List Entry → Command → Bool
 rewinds_too_far history (command.Rewind moment) = nat_le (length history) moment
 rewinds_too_far history _ = false
 
--- a command that adds an entry of its own to the history; a jump cuts or mends the history
+-- SizeInUse: a Retract of a change of size, and an edit of the grid stands after it
+abbrev pub takes_used_size : List Entry → Command → Bool
+takes_used_size history (command.Retract moment) = is_size_used (drop moment history)
+takes_used_size history _ = false
+
+-- a command that adds an entry of its own to the history; a jump cuts or mends the history, and a
+-- Retract leaves it as long as it was
 abbrev pub adds_entry : Command → Bool
 adds_entry (command.Copy rect) = false
 adds_entry (command.Clip y x glyph) = false
 adds_entry command.Undo = false
 adds_entry (command.Rewind moment) = false
 adds_entry command.Redo = false
+adds_entry (command.Retract moment) = false
 adds_entry _ = true
 
 -- a Redo, and there is something to bring back
@@ -164,6 +172,7 @@ abbrev pub history_tests : ℕ → List Entry → List Entry → Command → Lis
 history_tests limit history tail c =
     test NothingToUndo (undoes_nothing history c)
     ∷ test (NoSuchMoment (length history)) (rewinds_too_far history c)
+    ∷ test SizeInUse (takes_used_size history c)
     ∷ test HistoryFull (has_no_room limit history tail c)
     ∷ test NothingToRedo (redoes_nothing tail c)
     ∷ []
@@ -196,6 +205,8 @@ entry_of d clip command.Reset = Some entry.Reset
 entry_of d clip command.Undo = None
 entry_of d clip (command.Rewind moment) = None
 entry_of d clip command.Redo = None
+entry_of d clip (command.Retract moment) = None
+entry_of d clip command.Hush = Some entry.Hush
 
 -- the area that becomes the clip
 unfoldable pub taken_area : Size → Command → Option Area
@@ -247,6 +258,15 @@ redo m = record {
   messages = [];
 }
 
+-- a Retract takes one entry out of the history, and leaves all others in order; every note ends, and
+-- nothing can come back
+unfoldable pub retract : MachineState → ℕ → Obeyed
+retract m moment = record {
+  answer = Ok (Retracted moment);
+  machine = record m { history = remove m.history moment ++ entry.Hush ∷ []; tail = [] };
+  messages = ends (piece_of m).notes;
+}
+
 -- the answer to a command that adds an entry
 abbrev pub reply_of : Command → Piece → Reply
 reply_of command.Frame p = Framed p.tick
@@ -271,6 +291,7 @@ unfoldable pub accept : MachineState → Command → Obeyed
 accept m command.Undo = option_map_or (jump_to m) (last_edit m.history) (refuse m NothingToUndo)
 accept m (command.Rewind moment) = jump_to m moment
 accept m command.Redo = redo m
+accept m (command.Retract moment) = retract m moment
 accept m (command.Clip y x glyph) =
     carry_out m (command.Clip y x glyph) (clipped m.clip (place y x) glyph) None
 accept m c =

@@ -9,7 +9,7 @@ use Rattle.orca_base.specs.declared.command.Entry.TheVariants.{Fill, Put, Move, 
 use Rattle.orca_base.specs.declared.command.Fault.{Fault}
 use Rattle.orca_base.specs.declared.command.Fault.TheVariants.{Refused, Memory}
 use Rattle.orca_base.specs.declared.command.Reply.{Reply}
-use Rattle.orca_base.specs.declared.command.Reply.TheVariants.{Edited, Copied, Framed, Jumped, Redone}
+use Rattle.orca_base.specs.declared.command.Reply.TheVariants.{Edited, Copied, Framed, Jumped, Redone, Retracted}
 use Rattle.orca_base.specs.declared.command.Rule.{Rule}
 use Rattle.orca_base.specs.declared.limits.TheConstants.{COMMAND_PRICE, OPERATOR_PRICE, TOUCH_PRICE, FIRST_SPACING, MAX_CHECKPOINTS, KEPT_PATCHES, KEPT_TOUCHED}
 use Rattle.orca_base.specs.Grids.{cells_of}
@@ -118,12 +118,17 @@ kept_redone m k group =
       peak = max k.peak n;
     }
 
+-- after a Retract, which led to this machine: its last entry alone has a patch
+abbrev pub kept_retracted : MachineState → Kept → Kept
+kept_retracted m k = record k { first = length m.history - 1 }
+
 -- after a reply that led to this machine; a copy adds nothing to the history, and changes nothing
 abbrev pub kept_by : Reply → MachineState → Kept → Kept
 kept_by Edited m k = pushed m k
 kept_by (Framed tick) m k = pushed m k
 kept_by (Jumped moment) m k = jumped m k moment
 kept_by (Redone group) m k = kept_redone m k group
+kept_by (Retracted moment) m k = kept_retracted m k
 kept_by Copied m k = k
 
 -- after a command, by its answer; one that was refused, or had no memory, changes nothing
@@ -170,6 +175,16 @@ redo_price m k group =
     COMMAND_PRICE + total price m (n - group - 1) (n - 1)
     + sum_by (kept_cells k.spacing m) (range_with_len (n - group) (group + 1))
 
+-- a Retract of a moment, which led to the machine after it: loading a checkpoint, each entry from
+-- there up to the last one, and each checkpoint on the way
+abbrev pub retract_price : MachineState → Kept → ℕ → MachineState → ℕ
+retract_price m k moment after =
+    let n = length after.history in
+    let best = best_moment k.spacing moment in
+    COMMAND_PRICE + cells_of (piece_of m).sheet.dims + cells_of (moment_piece m best).sheet.dims
+    + total price after best (n - 1)
+    + sum_by (kept_cells k.spacing after) (range_with_len (best + 1) (n - best))
+
 -- a command that adds an entry, without a checkpoint; one without an entry changes the clip alone
 abbrev pub entry_price : MachineState → Command → ℕ
 entry_price m c =
@@ -183,6 +198,7 @@ bill_of (Ok Edited) m k c after = entry_price m c + new_cells k.spacing after
 bill_of (Ok (Framed tick)) m k c after = entry_price m c + new_cells k.spacing after
 bill_of (Ok (Jumped moment)) m k c after = jump_price m k moment + new_cells k.spacing after
 bill_of (Ok (Redone group)) m k c after = redo_price after k group
+bill_of (Ok (Retracted moment)) m k c after = retract_price m k moment after
 
 -- the bill of a command: what a session may take for it at most
 unfoldable pub bill : MachineState → Kept → Command → ℕ

@@ -19,7 +19,7 @@ pub struct Edit {
 }
 
 /// What a command does in a grid of this size, with this clip. A block is cut to the grid. The
-/// command is no frame and no jump.
+/// command is no frame, no jump and no Retract.
 ///
 /// The first rule that stands refuses the command, of those on its places, its block, its size and
 /// the clip. [`Fault::Memory`] is for a Paste alone, if the room for its copy of the clip is
@@ -97,7 +97,9 @@ fn entry_of(command: &Command, dims: Dims, clip: Option<&Block>) -> Result<Optio
             },
         },
         Command::Reset => Entry::Reset,
+        Command::Hush => Entry::Hush,
         Command::Frame | Command::Undo | Command::Rewind { .. } | Command::Redo => unreachable!(),
+        Command::Retract { .. } => unreachable!(),
     };
     Ok(Some(entry))
 }

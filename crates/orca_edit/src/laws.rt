@@ -1,7 +1,7 @@
 //! Laws of the folds of histories, and of prices. Each function does nothing; its contract is the
 //! law.
 
-ghost use Rattle.orca_edit.specs.Folding.{ClosesAll, FitsAtFirst, FitsAtMoment, FitsInParts, FitsOn, FitsOneMore, FitsWithoutNotes, FoldsFromMoment, FoldsFromOpened, FoldsMore, FoldsNext, FoldsOn, FoldsOneMore, HushesAll, IgnoresCloses, IgnoresNotes, IsSheetAfter, KeepsSeed, KeepsSheet};
+ghost use Rattle.orca_edit.specs.Folding.{ClosesAll, FitsAtFirst, FitsAtMoment, FitsInParts, FitsOn, FitsOneMore, FitsWithout, FitsWithoutNotes, FoldsFromMoment, FoldsFromOpened, FoldsMore, FoldsNext, FoldsOn, FoldsOneMore, HushesAll, IgnoresCloses, IgnoresNotes, IsSheetAfter, KeepsSeed, KeepsSheet};
 ghost use Rattle.orca_edit.specs.Prices.{change_price, price, touched};
 ghost use Rattle.orca_edit.specs.Pricing.{ChargesReply, EndsAtPiece, FirstIsWorn, IgnoresNotesOf, JumpWearsNone, ListsPlaces, PaysTwice, PiecesAgree, TotalsAgree, TotalsNone, TotalsOne, TotalsSplit, TouchedByHush, TouchedJumped, TouchedLater, TouchedMore, TouchesBothWays, TouchesFew, TouchesListed};
 
@@ -33,13 +33,14 @@ pub fn moment_law()
 {}
 
 /// Entries that all fit: the first ones do, and the others after them. Each fits the piece of its
-/// moment.
+/// moment. They do without one of them, if no edit may need the size that it gave.
 pub fn fit_law()
     ensures on { FitsOn }
     ensures parts { FitsInParts }
     ensures first { FitsAtFirst }
     ensures moment { FitsAtMoment }
     ensures one { FitsOneMore }
+    ensures without { FitsWithout }
     ensures notes { FitsWithoutNotes }
 {}
 

@@ -25,8 +25,8 @@ pub trait Machine: Look + Drop {
     /// command's bill.
     ///
     /// [`Fault::Refused`] names the first rule that stands against the command. [`Fault::Memory`] if
-    /// memory is refused; never for `Undo`, `Rewind` and `Redo`. After either the machine is as
-    /// before, and there is no message.
+    /// memory is refused; never for `Undo`, `Rewind`, `Redo` and `Retract`. After either the machine
+    /// is as before, and there is no message.
     fn act<L: Ledger>(
         &mut self,
         command: &Command,

@@ -1,4 +1,4 @@
-use Rattle.orca_edit.proofs.FitLemmas.{AllFit-append, AllFit-parts, AllFit-push, AllFit-same, AllFit-take, fits-moment}
+use Rattle.orca_edit.proofs.FitLemmas.{AllFit-append, AllFit-parts, AllFit-push, AllFit-same, AllFit-take, AllFit-without, fits-moment}
 use Rattle.orca_edit.proofs.laws.fit_law.Goals as goal
 
 pub returns-clause-on : goal.returns-clause-on
@@ -18,3 +18,6 @@ returns-clause-notes c = AllFit-same
 
 pub returns-clause-moment : goal.returns-clause-moment
 returns-clause-moment c = fits-moment
+
+pub returns-clause-without : goal.returns-clause-without
+returns-clause-without c = AllFit-without
