@@ -1,12 +1,13 @@
 -- Entries that move to the tail and back.
 use Rattle.std.proofs.Common.{◌≡◌, ℕ, suc, ◌+◌, ◌<◌, ◌≤◌, true, false, List, [], ◌∷◌, ◌++◌, length, take, drop, get_or, refl, arith, ap, sym, ◌∙◌, add-one, drop-cons, append-nil, length-append, length-drop}
-use Rattle.std.specs.Prelude.{not, take_while}
+use Rattle.std.specs.Prelude.{◌&&◌, Bool, not, take_while}
+use Rattle.std.specs.List.{list_any}
 use Rattle.std.proofs.Math.Seq.{get_or-append_seam, take-append_seam}
 use Rattle.std.proofs.lemmas.List.{drop-drop, get_or-drop, get_or-take, length-take-le, take-take, take_more}
 use Rattle.std.proofs.lemmas.List.Elements.{filter-append}
 use Rattle.std.proofs.lemmas.List.Sums.{take_while-cons}
 use Rattle.orca_base.specs.declared.command.Entry.{Entry}
-use Rattle.orca_base.specs.Histories.{done_of, is_done, is_edit}
+use Rattle.orca_base.specs.Histories.{done_of, edits_grid, is_done, is_edit, is_size_used, sets_size}
 
 -- an entry of a list, and those after it
 pub drop-entry : (es : List Entry) (m n : ℕ) (e : Entry) → m + 1 ≡ n → n ≤ length es
@@ -87,3 +88,28 @@ pops all first less n m e next within is popped =
           ∙ (ap (take (length less)) same ∙ take-take (length less) n all (omega arith)));
       cut = drop-entry all m n e next within here;
     }
+
+-- ---- a change of size
+
+-- whether its size is used, by what stands after it
+used-at : (es : List Entry) (m : ℕ) (e : Entry) (b : Bool) → m < length es → e ≡ get_or es m e
+    → b ≡ sets_size e
+    → is_size_used (drop m es) ≡ (b && list_any edits_grid (drop (m + 1) es))
+used-at es m e b below is sets =
+    ap is_size_used (drop-entry es m (m + 1) e refl (omega arith) (sym is))
+    ∙ ap (λ (x : Bool). x && list_any edits_grid (drop (m + 1) es)) (sym sets)
+
+pub used-by : (es : List Entry) (m : ℕ) (e : Entry) (b used : Bool) → m < length es
+    → e ≡ get_or es m e → b ≡ sets_size e → b ≡ true
+    → used ≡ list_any edits_grid (drop (m + 1) es) → used ≡ is_size_used (drop m es)
+used-by es m e b used below is sets stands found =
+    found
+    ∙ sym (used-at es m e b below is sets
+    ∙ ap (λ (x : Bool). x && list_any edits_grid (drop (m + 1) es)) stands)
+
+pub unused-by : (es : List Entry) (m : ℕ) (e : Entry) (b : Bool) → m < length es
+    → e ≡ get_or es m e → b ≡ sets_size e → b ≡ false → b ≡ is_size_used (drop m es)
+unused-by es m e b below is sets fails =
+    fails
+    ∙ sym (used-at es m e b below is sets
+    ∙ ap (λ (x : Bool). x && list_any edits_grid (drop (m + 1) es)) fails)

@@ -1,8 +1,10 @@
 -- The room that jumps and redos need.
-use Rattle.std.proofs.Common.{◌≡◌, ℕ, ◌+◌, ◌-◌, ◌<◌, ◌≤◌, ◌⊎◌, true, List, [], ◌∷◌, ◌++◌, length, take, drop, refl, arith, ap, sym, ◌∙◌, inl, inr, subst, append_assoc, length-append, length-drop}
-use Rattle.std.specs.Prelude.{All}
+use Rattle.std.proofs.Common.{◌≡◌, ℕ, ◌+◌, ◌-◌, ◌<◌, ◌≤◌, ◌⊎◌, true, List, [], ◌∷◌, ◌++◌, length, suc, take, drop, refl, arith, ap, sym, ◌∙◌, inl, inr, subst, append_assoc, drop-cons, length-append, length-drop}
+use Rattle.std.specs.Prelude.{All, get_or}
+use Rattle.std.specs.List.{remove}
 use Rattle.std.proofs.lemmas.Bool.{cases_Bool, cases_lt}
 use Rattle.std.proofs.lemmas.List.{length-take-le, take-append-drop, take_all, take_more}
+use Rattle.std.proofs.lemmas.List.Edits.{length-remove}
 use Rattle.std.proofs.lemmas.List.Elements.{All-append, All-drop, All-nil, filter-append, filter_passes}
 use Rattle.std.proofs.lemmas.Option.{get_or_from_slice_get, slice_get_within}
 use Rattle.circular_buffer.proofs.Places.{slice_get-drop, slice_get-last}
@@ -182,4 +184,38 @@ pub lists-redone : (es tail : List Entry) (group : ℕ) → All (λ e. is_done e
 lists-redone es tail group done = record {
   done = All-drop (λ (e : Entry). is_done e ≡ true) group tail done;
   hushed = λ _. ends-redone es (take group tail);
+}
+
+-- ---- a Retract
+
+-- no more was done without an entry
+done-later : (e : Entry) (es : List Entry) → length (done_of es) ≤ length (done_of (e ∷ es))
+done-later e es = elim (cases_Bool (is_done e)) [
+  | inl done ↦ rw done (omega arith)
+  | inr hush ↦ rw hush (omega arith)
+]
+
+done-remove : (es : List Entry) (m : ℕ) → m < length es
+    → length (done_of (remove es m)) ≤ length (done_of es)
+done-remove es m below =
+    let e : Entry = get_or es m Hush in
+    omega (
+      arith,
+      done-both (take m es) (drop (suc m) es),
+      done-split es m,
+      ap (λ (l : List Entry). length (done_of l)) (drop-cons es m Hush below),
+      done-later e (drop (suc m) es),
+    )
+
+pub length-retracted : (es : List Entry) (m : ℕ) → m < length es
+    → length (remove es m ++ Hush ∷ []) ≡ length es
+length-retracted es m below =
+    length-append (remove es m) (Hush ∷ []) ∙ length-remove es m below
+
+pub room-retracted : (es : List Entry) (m tail room tail_room : ℕ) → m < length es
+    → HasRoom es tail room tail_room → HasRoom (remove es m ++ Hush ∷ []) 0 room tail_room
+room-retracted es m tail room tail_room below had = record {
+  all = omega (arith, had.all, length-retracted es m below);
+  hush = λ _. inl (ends-in-hush (remove es m));
+  cut = omega (arith, had.cut, done-remove es m below, hush-push (remove es m) Hush refl);
 }

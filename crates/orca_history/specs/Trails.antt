@@ -1,5 +1,6 @@
 -- The history of a session: its entries, those that jumps cut off, and the patches of the newest.
 use Rattle.std.specs.Prelude.{ℕ, ◌≡◌, ◌+◌, ◌-◌, ◌<◌, ◌≤◌, true, false, List, [], ◌∷◌, ◌++◌, length, take, drop, map, min, if◌then◌else◌, nat_lt, Option, Some, None, slice_get, All}
+use Rattle.std.specs.List.{remove}
 use Rattle.std.specs.Option.{option_map}
 use Rattle.orca_base.specs.declared.command.Entry.{Entry}
 use Rattle.orca_base.specs.declared.command.Entry.TheVariants.{Hush}
@@ -89,6 +90,16 @@ trail_redone t patch =
       kept = untouched patch ∷ [];
     }
 
+-- a Retract: one entry is taken out, and then comes Hush, which alone has a patch; the tail is lost
+abbrev pub trail_retracted : Trail → ℕ → Before → Trail
+trail_retracted t moment patch = record {
+  limit = t.limit;
+  entries = remove t.entries moment ++ Hush ∷ [];
+  tail = [];
+  first = length t.entries - 1;
+  kept = untouched patch ∷ [];
+}
+
 -- the patch of an entry, if it is kept
 abbrev pub patch_at : Trail → ℕ → Option Before
 patch_at t n =
@@ -117,6 +128,14 @@ RedoneLaw =
     → (patch_at (trail_redone t patch) (length t.entries + group_of t.tail - 1) ≡ Some patch)
     × ((n : ℕ) → n < length t.entries + group_of t.tail - 1
     → patch_at (trail_redone t patch) n ≡ None)
+
+-- so it is after a Retract
+abbrev pub RetractedLaw : Type 0
+RetractedLaw =
+    (t : Trail) (moment : ℕ) (patch : Before) → 0 < length t.entries
+    → (patch_at (trail_retracted t moment patch) (length t.entries - 1) ≡ Some patch)
+    × ((n : ℕ) → n < length t.entries - 1
+    → patch_at (trail_retracted t moment patch) n ≡ None)
 
 -- of the patches of a history as few are worn as serve: those that stay may be kept together, and
 -- where fewer go those that stay may not

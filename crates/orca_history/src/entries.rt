@@ -1,6 +1,7 @@
 ghost use Rattle.std.specs.Prelude.{◌≡◌, ◌+◌, ◌-◌, ◌^◌, ◌<◌, ◌≤◌, ◌↔◌, [], ◌∷◌, ◌++◌, length, take, drop, reverse, slice_get, option_copied, IfSome, IsSome, OnOk, OnErr, vec_len, vec_capacity};
 ghost use Rattle.orca_base.specs.declared.command.Entry.TheVariants.{Hush};
-ghost use Rattle.orca_base.specs.Histories.{done_of, group_of, is_done, is_edit, last_edit};
+ghost use Rattle.std.specs.List.{list_any, remove};
+ghost use Rattle.orca_base.specs.Histories.{done_of, edits_grid, group_of, is_done, is_edit, is_size_used, last_edit, sets_size};
 ghost use Rattle.orca_history.specs.Entries.{IsLists};
 
 use orca_base::{Entry, Memory};
@@ -84,6 +85,18 @@ impl Entries {
         group
     }
 
+    /// Takes an entry out, and then comes Hush. The tail is lost.
+    pub fn retract(&mut self, moment: u32)
+        requires { moment < length self.old.entries }
+        ensures entries { self.new.entries ≡ remove self.old.entries moment ++ Hush ∷ [] }
+        ensures tail { self.new.tail ≡ [] }
+        ensures lists { IsLists self.new }
+    {
+        let _ = self.done.remove(moment as usize);
+        self.done.push_reserved(Entry::Hush);
+        self.undone.clear();
+    }
+
     /// The number of entries.
     pub fn len(&self) -> u32
         requires { length self.now.entries < 2 ^ 32 }
@@ -114,6 +127,15 @@ impl Entries {
             }
         }
         None
+    }
+
+    /// Whether an entry is a change of size, and an edit of the grid stands after it.
+    pub fn is_size_used(&self, index: u32) -> bool
+        requires { index < length self.now.entries }
+        ensures { result ≡ is_size_used (drop index self.now.entries) }
+    {
+        let first = index as usize;
+        sets_size(&self.done[first]) && edit_grid(&self.done[first + 1..])
     }
 
     /// The number of entries of the tail.
@@ -193,6 +215,27 @@ fn is_edit(entry: &Entry) -> bool
     ensures { result ≡ is_edit entry.now }
 {
     !matches!(entry, Entry::Frame | Entry::Hush)
+}
+
+/// Whether one of the entries edits the grid.
+fn edit_grid(entries: &[Entry]) -> bool
+    ensures { result ≡ list_any edits_grid entries.now }
+{
+    entries.iter().any(|entry| edits_grid(entry))
+}
+
+/// Whether an entry edits the grid.
+fn edits_grid(entry: &Entry) -> bool
+    ensures { result ≡ edits_grid entry.now }
+{
+    !matches!(entry, Entry::Reset | Entry::Frame | Entry::Hush)
+}
+
+/// Whether an entry is a change of size.
+fn sets_size(entry: &Entry) -> bool
+    ensures { result ≡ sets_size entry.now }
+{
+    matches!(entry, Entry::Resize { .. })
 }
 
 /// Whether an entry is no end of a jump.

@@ -1,6 +1,6 @@
-ghost use Rattle.std.specs.Prelude.{◌≡◌, ◌+◌, ◌<◌, ◌≤◌, ◌↔◌, [], length, slice_get, option_copied, IfOk, IfSome, IsSome, OnOk, OnErr};
-ghost use Rattle.orca_base.specs.Histories.{group_of, last_edit};
-ghost use Rattle.orca_history.specs.Trails.{IsTrail, patch_at, trail_at_start, trail_jumped, trail_pushed, trail_redone};
+ghost use Rattle.std.specs.Prelude.{◌≡◌, ◌+◌, ◌<◌, ◌≤◌, ◌↔◌, [], drop, length, slice_get, option_copied, IfOk, IfSome, IsSome, OnOk, OnErr};
+ghost use Rattle.orca_base.specs.Histories.{group_of, is_size_used, last_edit};
+ghost use Rattle.orca_history.specs.Trails.{IsTrail, patch_at, trail_at_start, trail_jumped, trail_pushed, trail_redone, trail_retracted};
 
 use crate::entries::Entries;
 use crate::ring::Ring;
@@ -97,6 +97,20 @@ impl History {
         group
     }
 
+    /// Takes an entry out, and then comes `Hush` with this patch of no change. The tail is lost, and no
+    /// other patch is kept. It takes no memory.
+    pub fn retract(&mut self, moment: u32, patch: Patch)
+        requires within { moment < length self.old.entries }
+        requires no_change { patch.changes ≡ [] }
+        ensures retracted { self.new ≡ trail_retracted self.old moment patch }
+        ensures trail { IsTrail self.new }
+    {
+        let last = self.entries.len() - 1;
+        self.entries.retract(moment);
+        self.ring.jump(0, patch);
+        self.first = last;
+    }
+
     /// The number of entries, at most [`History::limit`].
     pub fn len(&self) -> u32
         ensures len { result ≡ length self.now.entries }
@@ -128,7 +142,15 @@ impl History {
         self.entries.last_edit()
     }
 
-    /// The number of entries of the tail, which jumps cut off and no later push lost.
+    /// Whether an entry is a change of size, and an edit of the grid stands after it.
+    pub fn is_size_used(&self, index: u32) -> bool
+        requires { index < length self.now.entries }
+        ensures { result ≡ is_size_used (drop index self.now.entries) }
+    {
+        self.entries.is_size_used(index)
+    }
+
+    /// The number of entries of the tail, which jumps cut off and no later push or Retract lost.
     pub fn tail(&self) -> u32
         ensures tail { result ≡ length self.now.tail }
         ensures trail { IsTrail self.now }
