@@ -15,7 +15,7 @@ use Rattle.std.proofs.lemmas.List.Elements.{recursion_from_All}
 use Rattle.orca_base.specs.Glyphs.{is_digit, is_glyph, IsGlyph}
 use Rattle.orca_base.specs.Numbers.{number_of}
 use Rattle.orca_base.specs.declared.command.Command.{Command}
-use Rattle.orca_base.specs.declared.command.Command.TheVariants.{Frame, Write, Fill, Erase, Copy, Cut, Clip, Paste, Move, Resize, Reset, Undo, Rewind, Redo}
+use Rattle.orca_base.specs.declared.command.Command.TheVariants.{Frame, Write, Fill, Erase, Copy, Cut, Clip, Paste, Move, Resize, Reset, Undo, Rewind, Redo, Retract, Hush}
 use Rattle.orca_script.specs.Canonical.{Line, line_with, line_text, line_of, sides, canonical, printed, HasValues}
 use Rattle.orca_script.specs.LineValues.{command_named}
 use Rattle.orca_script.specs.Grammar.{is_space, words_of, glyph_word, values_by, line_forms, has_no_command, line_command}
@@ -203,6 +203,12 @@ reads (Rewind moment) values =
       number_at _ values 0 (omega arith),
     ) refl
 reads Redo values = rw (words-spaced (codes "redo") [] None (omega arith) refl values) refl
+reads (Retract moment) values =
+    rw (
+      words-spaced (codes "retract") (moment ∷ []) None (omega arith) refl values,
+      number_at _ values 0 (omega arith),
+    ) refl
+reads Hush values = rw (words-spaced (codes "hush") [] None (omega arith) refl values) refl
 
 -- it has a command
 pub has_command : (command : Command) → has_no_command (canonical command) ≡ false
@@ -221,6 +227,8 @@ has_command Reset = refl
 has_command Undo = refl
 has_command (Rewind moment) = refl
 has_command Redo = refl
+has_command (Retract moment) = refl
+has_command Hush = refl
 
 pub reads_back : (command : Command) → HasValues (line_of command) →
     reading (canonical command) ≡ Ok (Some command)
@@ -280,6 +288,8 @@ word_shown Reset = refl
 word_shown Undo = refl
 word_shown (Rewind moment) = refl
 word_shown Redo = refl
+word_shown (Retract moment) = refl
+word_shown Hush = refl
 
 -- no shown byte is part of the end of a line
 shown_apart : (b c : ℕ) → is_shown b ≡ true → c < 32 → eqb b c ≡ false

@@ -18,7 +18,7 @@ use Rattle.orca_script.proofs.Words.{front, later_words, words-none, words-plain
 -- the words of the table
 pub sound_forms : AllByRecursion IsSound line_forms
 unfolding line_forms
-sound_forms = (record { some = omega arith; plain = refl }, (record { some = omega arith; plain = refl }, (record { some = omega arith; plain = refl }, (record { some = omega arith; plain = refl }, (record { some = omega arith; plain = refl }, (record { some = omega arith; plain = refl }, (record { some = omega arith; plain = refl }, (record { some = omega arith; plain = refl }, (record { some = omega arith; plain = refl }, (record { some = omega arith; plain = refl }, (record { some = omega arith; plain = refl }, (record { some = omega arith; plain = refl }, (record { some = omega arith; plain = refl }, (record { some = omega arith; plain = refl }, tt))))))))))))))
+sound_forms = (record { some = omega arith; plain = refl }, (record { some = omega arith; plain = refl }, (record { some = omega arith; plain = refl }, (record { some = omega arith; plain = refl }, (record { some = omega arith; plain = refl }, (record { some = omega arith; plain = refl }, (record { some = omega arith; plain = refl }, (record { some = omega arith; plain = refl }, (record { some = omega arith; plain = refl }, (record { some = omega arith; plain = refl }, (record { some = omega arith; plain = refl }, (record { some = omega arith; plain = refl }, (record { some = omega arith; plain = refl }, (record { some = omega arith; plain = refl }, (record { some = omega arith; plain = refl }, (record { some = omega arith; plain = refl }, tt))))))))))))))))
 
 -- a comment has no command
 command_by-hash : (word : List ℕ) (words : List (List ℕ)) →

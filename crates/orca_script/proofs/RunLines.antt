@@ -7,7 +7,7 @@ use Rattle.std.proofs.lemmas.Bool.{false≢true}
 use Rattle.std.proofs.lemmas.Grind.{flat_map-append}
 use Rattle.std.proofs.lemmas.List.{append-nil}
 use Rattle.orca_base.specs.declared.command.Command.{Command}
-use Rattle.orca_base.specs.declared.command.Command.TheVariants.{Frame, Write, Fill, Erase, Copy, Cut, Clip, Paste, Move, Resize, Reset, Undo, Rewind, Redo}
+use Rattle.orca_base.specs.declared.command.Command.TheVariants.{Frame, Write, Fill, Erase, Copy, Cut, Clip, Paste, Move, Resize, Reset, Undo, Rewind, Redo, Retract, Hush}
 use Rattle.orca_script.specs.declared.format_2.Line.TheVariants.{Do, Frames}
 use Rattle.orca_script.specs.Canonical.{line_of}
 use Rattle.orca_script.specs.Runs.{LineHasValues, printed2, most_frames, short_run, run_of, is_frame, lines_behind, text_behind}
@@ -86,6 +86,8 @@ names_frame Reset e = absurd (false≢true e)
 names_frame Undo e = absurd (false≢true e)
 names_frame (Rewind moment) e = absurd (false≢true e)
 names_frame Redo e = absurd (false≢true e)
+names_frame (Retract moment) e = absurd (false≢true e)
+names_frame Hush e = absurd (false≢true e)
 
 pub frame_values : LineHasValues (Do Frame)
 unfolding line_of

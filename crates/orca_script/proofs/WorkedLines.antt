@@ -9,7 +9,7 @@ use Rattle.orca_script.specs.declared.forms.Kind.{Kind}
 use Rattle.orca_script.specs.declared.forms.Kind.TheVariants.{Number, Glyph, Word}
 use Rattle.orca_script.specs.declared.forms.TheConstants.{FRAMES, HEADER}
 use Rattle.orca_script.specs.declared.forms.Verb.{Verb}
-use Rattle.orca_script.specs.declared.forms.Verb.TheVariants.{Frame, Write, Fill, Erase, Copy, Cut, Clip, Paste, Move, Resize, Reset, Undo, Rewind, Redo}
+use Rattle.orca_script.specs.declared.forms.Verb.TheVariants.{Frame, Write, Fill, Erase, Copy, Cut, Clip, Paste, Move, Resize, Reset, Undo, Rewind, Redo, Retract, Hush}
 use Rattle.orca_script.specs.declared.limits.TheConstants.{MAX_LINE_VALUES}
 use Rattle.orca_script.specs.Format2.{header_seed, header_reading, line_frames, line_asks, reading2}
 use Rattle.orca_script.specs.Grammar.{LineForm, line_forms, line_command, values_by, words_of}
@@ -35,7 +35,8 @@ forms_are : line_forms
     ∷ row (codes "clip") (place ++ Glyph ∷ []) Clip ∷ row (codes "paste") place Paste
     ∷ row (codes "move") (block ++ place) Move ∷ row (codes "resize") place Resize
     ∷ row (codes "reset") [] Reset ∷ row (codes "undo") [] Undo
-    ∷ row (codes "rewind") (Number ∷ []) Rewind ∷ row (codes "redo") [] Redo ∷ []
+    ∷ row (codes "rewind") (Number ∷ []) Rewind ∷ row (codes "redo") [] Redo
+    ∷ row (codes "retract") (Number ∷ []) Retract ∷ row (codes "hush") [] Hush ∷ []
 unfolding line_forms
 forms_are = refl
 
@@ -87,6 +88,24 @@ clip_is_read = refl
 clip_misspelt : reading2 (codes "clop") ≡ Err (record { column = 3 })
 unfolding reading2 line_asks line_command line_frames line_forms words_of values_by number_of step
 clip_misspelt = refl
+
+-- ---- an entry taken out, and the end of all notes
+
+retract_is_read : reading2 (codes "retract 12") ≡ Ok (Some (Do (command.Retract 12)))
+unfolding reading2 line_asks line_command line_frames line_forms words_of values_by number_of command_named
+retract_is_read = refl
+
+retract_of_no_entry : reading2 (codes "retract") ≡ Err (record { column = 8 })
+unfolding reading2 line_asks line_command line_frames line_forms words_of values_by number_of step
+retract_of_no_entry = refl
+
+hush_is_read : reading2 (codes "hush") ≡ Ok (Some (Do command.Hush))
+unfolding reading2 line_asks line_command line_frames line_forms words_of values_by number_of command_named
+hush_is_read = refl
+
+hush_of_a_number : reading2 (codes "hush 1") ≡ Err (record { column = 6 })
+unfolding reading2 line_asks line_command line_frames line_forms words_of values_by number_of step
+hush_of_a_number = refl
 
 -- ---- runs
 

@@ -8,7 +8,7 @@ use Rattle.orca_base.specs.Ascii.{line_feed, space}
 use Rattle.orca_base.specs.Glyphs.{IsGlyph}
 use Rattle.orca_base.specs.declared.area.Rect.{Rect}
 use Rattle.orca_base.specs.declared.command.Command.{Command}
-use Rattle.orca_base.specs.declared.command.Command.TheVariants.{Frame, Write, Fill, Erase, Copy, Cut, Clip, Paste, Move, Resize, Reset, Undo, Rewind, Redo}
+use Rattle.orca_base.specs.declared.command.Command.TheVariants.{Frame, Write, Fill, Erase, Copy, Cut, Clip, Paste, Move, Resize, Reset, Undo, Rewind, Redo, Retract, Hush}
 
 -- a line: its first word, its numbers in order, and its glyph, where it has one
 pub record Line : Type 0 where
@@ -46,6 +46,8 @@ line_of Reset = line_with (codes "reset") [] None
 line_of Undo = line_with (codes "undo") [] None
 line_of (Rewind moment) = line_with (codes "rewind") (moment ∷ []) None
 line_of Redo = line_with (codes "redo") [] None
+line_of (Retract moment) = line_with (codes "retract") (moment ∷ []) None
+line_of Hush = line_with (codes "hush") [] None
 
 -- the canonical line of a command
 abbrev pub canonical : Command → List ℕ

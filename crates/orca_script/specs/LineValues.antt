@@ -7,7 +7,7 @@ use Rattle.orca_base.specs.declared.command.Command.TheVariants as command
 use Rattle.orca_script.specs.declared.forms.Fixed.{Fixed}
 use Rattle.orca_script.specs.declared.forms.Fixed.TheVariants.{Two, Seed}
 use Rattle.orca_script.specs.declared.forms.Verb.{Verb}
-use Rattle.orca_script.specs.declared.forms.Verb.TheVariants.{Frame, Write, Fill, Erase, Copy, Cut, Clip, Paste, Move, Resize, Reset, Undo, Rewind, Redo}
+use Rattle.orca_script.specs.declared.forms.Verb.TheVariants.{Frame, Write, Fill, Erase, Copy, Cut, Clip, Paste, Move, Resize, Reset, Undo, Rewind, Redo, Retract, Hush}
 
 -- the letters of a word that stands for nothing
 abbrev pub letters_of : Fixed → List ℕ
@@ -58,3 +58,5 @@ command_named Reset values = command.Reset
 command_named Undo values = command.Undo
 command_named Rewind values = command.Rewind (slice_index values.numbers 0)
 command_named Redo values = command.Redo
+command_named Retract values = command.Retract (slice_index values.numbers 0)
+command_named Hush values = command.Hush

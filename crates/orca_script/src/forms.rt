@@ -52,6 +52,8 @@ pub(crate) enum Verb {
     Undo,
     Rewind,
     Redo,
+    Retract,
+    Hush,
 }
 
 /// A form of a line: its first word, what each further word stands for, and the command that it asks
@@ -67,7 +69,7 @@ const G: Kind = Kind::Glyph;
 
 /// The grammar: a line that asks for a command is one of these forms. A form has at most
 /// [`MAX_LINE_VALUES`](crate::limits::MAX_LINE_VALUES) values, one glyph among them.
-pub(crate) static FORMS: [Form; 14] = [
+pub(crate) static FORMS: [Form; 16] = [
     (b"frame", &[], Verb::Frame),
     (b"write", &[N, N, G], Verb::Write),
     (b"fill", &[N, N, N, N, G], Verb::Fill),
@@ -82,6 +84,8 @@ pub(crate) static FORMS: [Form; 14] = [
     (b"undo", &[], Verb::Undo),
     (b"rewind", &[N], Verb::Rewind),
     (b"redo", &[], Verb::Redo),
+    (b"retract", &[N], Verb::Retract),
+    (b"hush", &[], Verb::Hush),
 ];
 
 /// The form that format 2 has beside those of the table: so many frames.

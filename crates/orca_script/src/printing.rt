@@ -58,6 +58,8 @@ pub(crate) fn push_command(command: Command, into: &mut Vec<u8>) -> Result<(), M
         Command::Undo => push_line(b"undo", &[], None, into),
         Command::Rewind { moment } => push_line(b"rewind", &[moment], None, into),
         Command::Redo => push_line(b"redo", &[], None, into),
+        Command::Retract { moment } => push_line(b"retract", &[moment], None, into),
+        Command::Hush => push_line(b"hush", &[], None, into),
     }
 }
 

@@ -124,6 +124,10 @@ impl Values {
                 moment: self.number(0),
             },
             Verb::Redo => Command::Redo,
+            Verb::Retract => Command::Retract {
+                moment: self.number(0),
+            },
+            Verb::Hush => Command::Hush,
         }
     }
 }
