@@ -7,4 +7,6 @@ mod PriceLemmas
 mod PushLemmas
 mod RedoLemmas
 mod RedoPrices
+mod RetractLemmas
+mod RetractPrices
 mod SessionLemmas

@@ -18,7 +18,7 @@ use Rattle.orca_base.specs.Grids.{Size, Sheet, IsInside, is_inside, largest}
 use Rattle.orca_base.specs.Histories.{group_of, last_edit}
 use Rattle.orca_base.proofs.PlaceFacts.{inside-is_inside}
 use Rattle.orca_edit.specs.Editing.{IsGridEdit}
-use Rattle.orca_edit.specs.Machines.{Obeys, is_jump, obeyed}
+use Rattle.orca_edit.specs.Machines.{Obeys, may_lack_memory, obeyed}
 use Rattle.orca_edit.specs.Obeying.{MachineState, Test, accept, adds_entry, block_rule, block_tests, carry_out, clip_after, entry_of, extend, first_standing, history_tests, obey, piece_of, place, refuse, reply_of, rule_against, taken_area}
 use Rattle.orca_edit.specs.Pieces.{Piece, apply}
 use Rattle.orca_edit.proofs.RuleLemmas.{is-open}
@@ -133,6 +133,11 @@ pub obey-reset : (m : MachineState) → rule_against m command.Reset ≡ None
 unfolding accept entry_of taken_area
 obey-reset m allowed = obey-accepted m command.Reset allowed
 
+pub obey-hush : (m : MachineState) → rule_against m command.Hush ≡ None
+    → obey m command.Hush ≡ extend m command.Hush m.clip entry.Hush
+unfolding accept entry_of taken_area
+obey-hush m allowed = obey-accepted m command.Hush allowed
+
 -- a glyph is put into the clip
 pub obey-clip : (m : MachineState) (y x glyph : ℕ) → rule_against m (command.Clip y x glyph) ≡ None
     → obey m (command.Clip y x glyph)
@@ -160,6 +165,8 @@ accept-edit m command.Reset edits = absurd edits
 accept-edit m command.Undo edits = absurd edits
 accept-edit m (command.Rewind moment) edits = absurd edits
 accept-edit m command.Redo edits = absurd edits
+accept-edit m (command.Retract moment) edits = absurd edits
+accept-edit m command.Hush edits = absurd edits
 
 pub obey-edit : (m : MachineState) (d : Size) (clip : Option Sheet) (c : Command)
     (take : Option Area) (e : Option Entry) → d ≡ (piece_of m).sheet.dims → clip ≡ m.clip
@@ -168,22 +175,24 @@ pub obey-edit : (m : MachineState) (d : Size) (clip : Option Sheet) (c : Command
 obey-edit m d clip c take e size same allowed edits taken is =
     rw (taken, is, size, same) (obey-accepted m c allowed ∙ accept-edit m c edits)
 
--- it is no jump
-pub goes-forward : (c : Command) → IsBlockEdit c → is_jump c ≡ false
-goes-forward command.Frame edits = absurd edits
-goes-forward (command.Write y x glyph) edits = refl
-goes-forward (command.Fill rect glyph) edits = refl
-goes-forward (command.Erase rect) edits = refl
-goes-forward (command.Copy rect) edits = refl
-goes-forward (command.Cut rect) edits = refl
-goes-forward (command.Clip y x glyph) edits = absurd edits
-goes-forward (command.Paste y x) edits = refl
-goes-forward (command.Move rect to_y to_x) edits = refl
-goes-forward (command.Resize h w) edits = refl
-goes-forward command.Reset edits = absurd edits
-goes-forward command.Undo edits = absurd edits
-goes-forward (command.Rewind moment) edits = absurd edits
-goes-forward command.Redo edits = absurd edits
+-- memory may be refused to it
+pub lacks-memory : (c : Command) → IsBlockEdit c → may_lack_memory c ≡ true
+lacks-memory command.Frame edits = absurd edits
+lacks-memory (command.Write y x glyph) edits = refl
+lacks-memory (command.Fill rect glyph) edits = refl
+lacks-memory (command.Erase rect) edits = refl
+lacks-memory (command.Copy rect) edits = refl
+lacks-memory (command.Cut rect) edits = refl
+lacks-memory (command.Clip y x glyph) edits = absurd edits
+lacks-memory (command.Paste y x) edits = refl
+lacks-memory (command.Move rect to_y to_x) edits = refl
+lacks-memory (command.Resize h w) edits = refl
+lacks-memory command.Reset edits = absurd edits
+lacks-memory command.Undo edits = absurd edits
+lacks-memory (command.Rewind moment) edits = absurd edits
+lacks-memory command.Redo edits = absurd edits
+lacks-memory (command.Retract moment) edits = absurd edits
+lacks-memory command.Hush edits = absurd edits
 
 -- an entry of it edits the grid
 pub edits-grid : (d : Size) (clip : Option Sheet) (c : Command) → IsBlockEdit c
@@ -204,6 +213,8 @@ edits-grid d clip command.Reset edits = absurd edits
 edits-grid d clip command.Undo edits = absurd edits
 edits-grid d clip (command.Rewind moment) edits = absurd edits
 edits-grid d clip command.Redo edits = absurd edits
+edits-grid d clip (command.Retract moment) edits = absurd edits
+edits-grid d clip command.Hush edits = absurd edits
 
 -- an entry of it is added
 pub adds-edit : (d : Size) (clip : Option Sheet) (c : Command) → IsBlockEdit c
@@ -223,13 +234,15 @@ adds-edit d clip command.Reset edits some = absurd edits
 adds-edit d clip command.Undo edits some = absurd edits
 adds-edit d clip (command.Rewind moment) edits some = absurd edits
 adds-edit d clip command.Redo edits some = absurd edits
+adds-edit d clip (command.Retract moment) edits some = absurd edits
+adds-edit d clip command.Hush edits some = absurd edits
 
 -- ---- memory
 
-pub given-up : (m : MachineState) (c : Command) → rule_against m c ≡ None → is_jump c ≡ false
-    → Obeys m c (Err Memory) m []
-given-up m c allowed forward =
-    record { allowed = allowed; forward = forward; machine = refl; silent = refl }
+pub given-up : (m : MachineState) (c : Command) → rule_against m c ≡ None
+    → may_lack_memory c ≡ true → Obeys m c (Err Memory) m []
+given-up m c allowed lacking =
+    record { allowed = allowed; lacking = lacking; machine = refl; silent = refl }
 
 -- the rule on places, from the parts of a session
 pub rule-of-parts : (m : MachineState) (d : Size) (clip : Option Sheet) (c : Command)
@@ -250,7 +263,7 @@ only-memory m d clip c (Refused r) size same allowed edits refused =
     let some : block_rule d clip c ≡ Some r = refused r refl in
     absurd (cc)
 only-memory m d clip c Memory size same allowed edits refused =
-    given-up m c allowed (goes-forward c edits)
+    given-up m c allowed (lacks-memory c edits)
 
 -- ---- an edit by a block
 
@@ -269,6 +282,8 @@ reply-edit command.Reset p edits = absurd edits
 reply-edit command.Undo p edits = absurd edits
 reply-edit (command.Rewind moment) p edits = absurd edits
 reply-edit command.Redo p edits = absurd edits
+reply-edit (command.Retract moment) p edits = absurd edits
+reply-edit command.Hush p edits = absurd edits
 
 -- it gives no message
 silent-edit : (p : Piece) (e : Entry) → IsGridEdit e → (apply p e).messages ≡ []

@@ -22,7 +22,7 @@ use Rattle.orca_edit.specs.Editing.{FitsIn, IsGridEdit, slate_with, steps_of}
 use Rattle.orca_edit.specs.Machines.{obeyed}
 use Rattle.orca_edit.specs.Obeying.{MachineState, Obeyed, entry_of, jump_to, obey, piece_of}
 use Rattle.orca_edit.specs.Pieces.{Piece, apply}
-use Rattle.orca_edit.specs.Prices.{Kept, best_moment, bill_of, change_price, charge, entry_price, fits_from, jump_price, jumped, kept_after, kept_by, kept_cells, least_first, load_price, new_cells, moment_piece, price, pushed, redo_price, total, touched, undo_price}
+use Rattle.orca_edit.specs.Prices.{Kept, best_moment, bill_of, change_price, charge, entry_price, fits_from, jump_price, jumped, kept_after, kept_by, kept_cells, least_first, load_price, new_cells, moment_piece, price, pushed, redo_price, retract_price, total, touched, undo_price}
 use Rattle.orca_edit.specs.Pricing.{AgreeUpTo, IgnoresNotesOf, ListsPlaces, PaysTwice, TouchesBothWays, listed_by}
 use Rattle.orca_edit.proofs.FoldLemmas.{silence-closes}
 use Rattle.orca_edit.proofs.PriceLemmas.{change_price-same, charge-reply, piece_at-agree, price-same, total-agree, touched-same}
@@ -147,6 +147,20 @@ redo-plain p clip k group =
       cells-sum p clip k.spacing (length p.trail.entries - group) (group + 1),
     )
 
+pub retract-plain : (p q : PastState) (clip : Option Sheet) (k : Kept) (moment : ℕ)
+    → retract_price (plain_machine p) k moment (plain_machine q)
+    ≡ retract_price (machine_of p clip) k moment (machine_of q clip)
+retract-plain p q clip k moment =
+    let n : ℕ = length q.trail.entries in
+    let best : ℕ = best_moment k.spacing moment in
+    omega (
+      arith,
+      total-plain price price-same q clip best (n - 1),
+      cells-sum q clip k.spacing (best + 1) (n - best),
+      ap cells_of (size-plain p clip best),
+      ap cells_of (present-plain p clip),
+    )
+
 -- ---- by the answer
 
 -- one that was refused, or had no memory, changes no number
@@ -174,7 +188,7 @@ pub charge-done : (m : MachineState) (k : Kept) (c : Command) (reply : Reply)
 charge-done m k c reply after messages from to done paid =
     omega (arith, paid, (charge-reply m k c reply after messages done).0)
 
--- what the entry of a frame and of a reset costs
+-- what the entry of a frame, of a reset and of a Hush costs
 pub entry-frame : (m : MachineState) → entry_price m command.Frame ≡ price (piece_of m) entry.Frame
 unfolding entry_of
 entry-frame m = refl
@@ -182,6 +196,10 @@ entry-frame m = refl
 pub entry-reset : (m : MachineState) → entry_price m command.Reset ≡ price (piece_of m) entry.Reset
 unfolding entry_of
 entry-reset m = refl
+
+pub entry-hush : (m : MachineState) → entry_price m command.Hush ≡ price (piece_of m) entry.Hush
+unfolding entry_of
+entry-hush m = refl
 
 -- no place is cut off where the size stays
 pub cut-kept : TouchesBothWays → (p : Piece) (a b : Size) → a ≡ p.sheet.dims → b ≡ p.sheet.dims

@@ -252,14 +252,14 @@ take-past (e ∷ es) more j =
     let next : suc (length es) + j ≡ suc (length es + j) = omega arith in
     rw next (ap (λ (l : List Entry). e ∷ l) (take-past es more j))
 
-get-past : (es more : List Entry) (j : ℕ)
+pub get-past : (es more : List Entry) (j : ℕ)
     → slice_get (es ++ more) (length es + j) ≡ slice_get more j
 get-past [] more j = ap (slice_get more) (zero-add j)
 get-past (e ∷ es) more j =
     let next : suc (length es) + j ≡ suc (length es + j) = omega arith in
     rw next (get-past es more j)
 
-get-first : (es more : List Entry) (j : ℕ) → j < length es
+pub get-first : (es more : List Entry) (j : ℕ) → j < length es
     → slice_get (es ++ more) j ≡ slice_get es j
 get-first [] more j below = absurd (omega arith)
 get-first (e ∷ es) more zero below = refl

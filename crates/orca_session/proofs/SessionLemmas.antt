@@ -1,12 +1,12 @@
 -- What the calls of a session leave, seen by its parts.
-use Rattle.std.proofs.Common.{◌≡◌, ℕ, false, List, [], Some, None, Ok, Err, refl, ap, sym, ◌∙◌, subst}
+use Rattle.std.proofs.Common.{◌≡◌, ℕ, false, true, List, [], Some, None, Ok, Err, refl, ap, sym, ◌∙◌, subst}
 use Rattle.std.specs.Prelude.{Option, Result, All, IsSome, is_none}
 use Rattle.std.proofs.lemmas.List.Elements.{All-nil}
 use Rattle.orca_base.specs.declared.command.Command.{Command}
 use Rattle.orca_base.specs.declared.command.Command.TheVariants as command
 use Rattle.orca_base.specs.declared.command.Entry.TheVariants as entry
 use Rattle.orca_base.specs.declared.command.Fault.TheVariants.{Refused, Memory}
-use Rattle.orca_base.specs.declared.command.Reply.TheVariants.{Edited, Framed, Jumped, Redone}
+use Rattle.orca_base.specs.declared.command.Reply.TheVariants.{Edited, Framed, Jumped, Redone, Retracted}
 use Rattle.orca_base.specs.declared.command.Reply.{Reply}
 use Rattle.orca_base.specs.declared.command.Fault.{Fault}
 use Rattle.orca_base.specs.declared.command.Rule.{Rule}
@@ -16,8 +16,8 @@ use Rattle.orca_base.specs.Grids.{Sheet}
 use Rattle.orca_base.specs.Histories.{group_of}
 use Rattle.orca_base.specs.Ranges.{CarriesFewValues}
 use Rattle.orca_checkpoints.specs.Points.{Points}
-use Rattle.orca_edit.specs.Machines.{Acts, Obeys, is_jump, obeyed}
-use Rattle.orca_edit.specs.Obeying.{MachineState, jump_to, piece_of, redo, rule_against}
+use Rattle.orca_edit.specs.Machines.{Acts, Obeys, may_lack_memory, obeyed}
+use Rattle.orca_edit.specs.Obeying.{MachineState, jump_to, piece_of, redo, retract, rule_against}
 use Rattle.orca_edit.specs.Pieces.{Piece, apply, opened_piece}
 use Rattle.orca_edit.proofs.FoldLemmas.{piece_after-zero}
 use Rattle.orca_history.specs.declared.ring.Kept.{Kept}
@@ -27,9 +27,9 @@ use Rattle.orca_notes.proofs.PlayFacts.{Plays-none}
 use Rattle.orca_op.specs.Slate.{Slate, slate_of_sheet}
 use Rattle.orca_op.specs.State.{sheet_of}
 use Rattle.orca_patch.specs.Patches.{Before}
-use Rattle.orca_session.specs.Past.{PastState, machine_of, past_at_start, past_jumped, past_pushed, past_redone, present}
+use Rattle.orca_session.specs.Past.{PastState, machine_of, past_at_start, past_jumped, past_pushed, past_redone, past_retracted, present}
 use Rattle.orca_session.specs.Session.{KeepsSession}
-use Rattle.orca_session.proofs.ObeyLemmas.{given-up, obey-frame, obey-refused, obey-reset}
+use Rattle.orca_session.proofs.ObeyLemmas.{given-up, obey-frame, obey-hush, obey-refused, obey-reset}
 
 -- ---- the start
 
@@ -71,9 +71,9 @@ acts-refused m c r messages silent is =
     acts-silent m m c (Err (Refused r)) messages silent (obey-refused m c r is) refl
 
 pub acts-given-up : (m : MachineState) (c : Command) → rule_against m c ≡ None
-    → is_jump c ≡ false → Acts m c (Err Memory) m []
-acts-given-up m c allowed forward =
-    acts-silent m m c (Err Memory) [] refl (given-up m c allowed forward) refl
+    → may_lack_memory c ≡ true → Acts m c (Err Memory) m []
+acts-given-up m c allowed lacking =
+    acts-silent m m c (Err Memory) [] refl (given-up m c allowed lacking) refl
 
 -- ---- a frame
 
@@ -117,6 +117,28 @@ pub notes-reset : (p : Piece) → (apply p entry.Reset).piece.notes ≡ []
 unfolding apply
 notes-reset p = refl
 
+-- ---- a Hush
+
+pub acts-hush : (p q : PastState) (clip : Option Sheet) (newest : Kept) (points : Points)
+    (messages : List Message) → rule_against (machine_of p clip) command.Hush ≡ None
+    → q ≡ past_pushed p entry.Hush newest points → messages ≡ ends (present p).notes
+    → Plays (present p).notes messages (present q).notes → All CarriesFewValues messages
+    → Acts (machine_of p clip) command.Hush (Ok Edited) (machine_of q clip) messages
+unfolding apply
+acts-hush p q clip newest points messages allowed pushed said plays few = record {
+  obeys = obey-hush (machine_of p clip) allowed
+      ∙ (ap (λ (x : PastState). obeyed (Ok Edited) (machine_of x clip) (ends (present p).notes))
+      (sym pushed)
+      ∙ ap (λ (ms : List Message). obeyed (Ok Edited) (machine_of q clip) ms) (sym said));
+  plays = plays;
+  few_values = few;
+}
+
+-- no note sounds after it
+pub notes-hush : (p : Piece) → (apply p entry.Hush).piece.notes ≡ []
+unfolding apply
+notes-hush p = refl
+
 -- ---- a jump
 
 pub jump-parts : (p q : PastState) (clip : Option Sheet) (patch : Before) (points : Points)
@@ -139,6 +161,19 @@ unfolding redo
 redo-parts p q clip patch points redone =
     ap (λ (x : PastState). obeyed (Ok (Redone (group_of p.trail.tail))) (machine_of x clip) [])
     (sym redone)
+
+-- ---- a Retract
+
+pub retract-parts : (p q : PastState) (clip : Option Sheet) (patch : Before) (points : Points)
+    (moment : ℕ) (messages : List Message) → q ≡ past_retracted p moment patch points
+    → messages ≡ ends (present p).notes
+    → retract (machine_of p clip) moment
+    ≡ obeyed (Ok (Retracted moment)) (machine_of q clip) messages
+unfolding retract
+retract-parts p q clip patch points moment messages retracted said =
+    ap (λ (x : PastState). obeyed (Ok (Retracted moment)) (machine_of x clip)
+    (ends (present p).notes)) (sym retracted)
+    ∙ ap (λ (ms : List Message). obeyed (Ok (Retracted moment)) (machine_of q clip) ms) (sym said)
 
 -- an option that isn't none is some
 pub some-not-none : (o : Option ℕ) → is_none o ≡ false → IsSome o

@@ -14,7 +14,7 @@ use Rattle.orca_edit.specs.Pieces.{Piece, fold_entries, opened_piece, piece_afte
 use Rattle.orca_edit.specs.Prices.{Kept as Numbers, of_entry, touched}
 use Rattle.orca_edit.specs.Pricing.{touched_from}
 use Rattle.orca_history.specs.declared.ring.Kept.{Kept}
-use Rattle.orca_history.specs.Trails.{Trail, IsTrail, patch_at, touched_of, trail_at_start, trail_jumped, trail_pushed, trail_redone}
+use Rattle.orca_history.specs.Trails.{Trail, IsTrail, patch_at, touched_of, trail_at_start, trail_jumped, trail_pushed, trail_redone, trail_retracted}
 use Rattle.orca_op.specs.Slate.{Slate}
 use Rattle.orca_patch.specs.Patches.{Before, CoversCut, before_of, no_change, sheet_before}
 
@@ -135,6 +135,17 @@ past_redone p patch points = record p {
 -- the past after a redo, but for its patch and its checkpoints
 abbrev pub brought_back : PastState → PastState
 brought_back p = past_redone p (no_change p.opened.dims 0) p.points
+
+-- an entry is taken out, and then comes a Hush with this patch; these checkpoints, and no tail
+abbrev pub past_retracted : PastState → ℕ → Before → Points → PastState
+past_retracted p moment patch points = record p {
+  trail = trail_retracted p.trail moment patch;
+  points = points;
+}
+
+-- the past after a Retract, but for its patch and its checkpoints
+abbrev pub left_by : PastState → ℕ → PastState
+left_by p moment = past_retracted p moment (no_change p.opened.dims 0) p.points
 
 -- every note ends
 abbrev pub past_closed : PastState → PastState

@@ -39,7 +39,7 @@ pub record KeepsSession (p : PastState) (d : Slate) (notes : List Note) (tick : 
   pub next : tick ≡ (present p).tick
 
 -- a command that edits the grid by a block or takes one as the clip: any but a frame, a Clip, a
--- reset and the three jumps
+-- reset, a Hush, a Retract and the three jumps
 abbrev pub IsBlockEdit : Command → Type 0
 IsBlockEdit command.Frame = ⊥
 IsBlockEdit (command.Clip y x glyph) = ⊥
@@ -47,6 +47,8 @@ IsBlockEdit command.Reset = ⊥
 IsBlockEdit command.Undo = ⊥
 IsBlockEdit (command.Rewind moment) = ⊥
 IsBlockEdit command.Redo = ⊥
+IsBlockEdit (command.Retract moment) = ⊥
+IsBlockEdit command.Hush = ⊥
 IsBlockEdit _ = Unit {0}
 
 -- what a block edit costs, with its entry or without one

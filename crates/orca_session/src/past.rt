@@ -1,16 +1,16 @@
-ghost use Rattle.std.specs.Prelude.{◌≡◌, ◌+◌, ◌/◌, ◌<◌, ◌≤◌, [], length, max, IfOk, OnOk, OnErr};
+ghost use Rattle.std.specs.Prelude.{◌≡◌, ◌+◌, ◌/◌, ◌<◌, ◌≤◌, false, [], drop, length, max, IfOk, OnOk, OnErr};
 ghost use Rattle.orca_base.specs.declared.command.Command.TheVariants as command_of;
-ghost use Rattle.orca_base.specs.Histories.{group_of};
+ghost use Rattle.orca_base.specs.Histories.{group_of, is_size_used};
 ghost use Rattle.orca_board.specs.Sizes.{cut_places};
 ghost use Rattle.orca_edit.specs.Editing.{FitsIn};
 ghost use Rattle.orca_edit.specs.Obeying.{first_standing, history_tests};
 ghost use Rattle.orca_edit.specs.Pieces.{apply, silence};
-ghost use Rattle.orca_edit.specs.Prices.{IsSpaced, best_moment, jump_price, jumped, load_price, new_cells, pushed, redo_price, kept_redone, undo_price};
+ghost use Rattle.orca_edit.specs.Prices.{IsSpaced, best_moment, jump_price, jumped, load_price, new_cells, pushed, redo_price, kept_redone, kept_retracted, retract_price, undo_price};
 ghost use Rattle.orca_edit.specs.Pricing.{listed_by};
 ghost use Rattle.orca_op.specs.Slate.{residue};
 ghost use Rattle.orca_op.specs.State.{sheet_of};
 ghost use Rattle.orca_patch.specs.Patches.{no_change};
-ghost use Rattle.orca_session.specs.Past.{kept_entry, moment_of, numbers_of, past_at_start, past_closed, past_jumped, past_pushed, past_redone, plain_machine, present, redone};
+ghost use Rattle.orca_session.specs.Past.{kept_entry, moment_of, numbers_of, past_at_start, past_closed, past_jumped, past_pushed, past_redone, past_retracted, plain_machine, present, redone};
 
 use crate::again::{do_again, tick_after};
 use crate::keeping::{keep_due, touched_by};
@@ -98,6 +98,7 @@ impl Past {
                 Some(Rule::NoSuchMoment { kept })
             }
             Command::Redo => self.rule_against_redo(),
+            Command::Retract { moment } => self.rule_against_retract(moment),
             _ => {
                 if self.history.len() < self.history.limit() {
                     return None;
@@ -120,6 +121,21 @@ impl Past {
             return None;
         }
         Some(Rule::HistoryFull)
+    }
+
+    /// The first rule that stands against a Retract, of those on the history.
+    fn rule_against_retract(&self, moment: u32) -> Option<Rule>
+        ensures rule { result ≡ first_standing
+            (history_tests self.now.trail.limit self.now.trail.entries self.now.trail.tail
+            (command_of.Retract moment)) }
+    {
+        if moment >= self.history.len() {
+            return Some(Rule::NothingToUndo);
+        }
+        if self.history.is_size_used(moment) {
+            return Some(Rule::SizeInUse);
+        }
+        None
     }
 
     /// Adds the entry that was done on the board since its last `begin`, with the patch of what it
@@ -299,6 +315,48 @@ impl Past {
         touch_law();
         self.peak = self.peak.max(len + group);
         keep_due(&mut self.checkpoints, len + group, tick, board, steps);
+        tick
+    }
+
+    /// Takes an entry out, and ends every note. The board goes to the moment of the entry, and those
+    /// after it are done again from there on, with the checkpoints that are due. Answers the tick
+    /// after them. It takes no memory.
+    pub fn retract<L: Ledger>(
+        &mut self,
+        board: &mut Board,
+        moment: u32,
+        steps: &mut Steps<L>,
+    ) -> u32
+        requires within { moment < length self.old.trail.entries }
+        requires free { is_size_used (drop moment self.old.trail.entries) ≡ false }
+        requires sheet { sheet_of board.old.scan ≡ (present self.old).sheet }
+        ensures sheet { sheet_of board.new.scan ≡ (present self.new).sheet }
+        ensures tick { result ≡ (present self.new).tick }
+        ensures retracted { self.new ≡ past_retracted self.old moment
+            (no_change board.new.scan.dims result) self.new.points }
+        ensures silent { (present self.new).notes ≡ [] }
+        ensures numbers { numbers_of self.new
+            ≡ kept_retracted (plain_machine self.new) (numbers_of self.old) }
+        ensures price { steps.new + residue board.new ≤ steps.old + residue board.old
+            + retract_price (plain_machine self.old) (numbers_of self.old) moment
+            (plain_machine self.new) }
+    {
+        self.is_spaced();
+        let mut tick = self.load_on(board, moment, steps);
+        let len = self.history.len();
+        let seed = self.seed;
+        self.checkpoints.drop_above(moment);
+        for at in moment..len - 1 {
+            // Each entry after it moves down by one.
+            let entry = self.history.entry(at + 1).unwrap();
+            tick = do_again(board, entry, Now { tick, seed }, steps);
+            keep_due(&mut self.checkpoints, at + 1, tick, board, steps);
+        }
+        let patch = Patch::empty(self.alloc, Look::dims(board), tick);
+        self.history.retract(moment, patch);
+        patch_laws();
+        touch_law();
+        keep_due(&mut self.checkpoints, len, tick, board, steps);
         tick
     }
 

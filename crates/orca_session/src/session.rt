@@ -136,6 +136,8 @@ impl Session {
             Command::Undo => Ok(self.undo(messages, steps)),
             Command::Rewind { moment } => Ok(self.jump(moment, messages, steps)),
             Command::Redo => Ok(self.redo(steps)),
+            Command::Retract { moment } => Ok(self.retract(moment, messages, steps)),
+            Command::Hush => self.hush(messages, steps),
             Command::Clip { y, x, glyph } => self.clip(y, x, glyph),
             _ => self.edit(command, steps),
         }
@@ -201,6 +203,35 @@ impl Session {
             return Err(Fault::Memory);
         };
         self.tick = 0;
+        self.notes.hush(messages);
+        Ok(Reply::Edited)
+    }
+
+    /// Ends every note, and adds that to the history.
+    #[tactic(auto, unfolding(orca_edit::specs::Pieces::apply))]
+    fn hush<L: Ledger>(
+        &mut self,
+        messages: &mut Messages,
+        steps: &mut Steps<L>,
+    ) -> Result<Reply, Fault>
+        requires allowed { rule_against self.old.machine command_of.Hush ≡ None }
+        requires silent { messages.old ≡ [] }
+        ensures acts { Acts self.old.machine command_of.Hush result self.new.machine messages.new }
+        ensures kept { self.new.kept
+            ≡ kept_after self.old.machine self.old.kept command_of.Hush result }
+        ensures price { steps.new + self.new.residue ≤ steps.old + self.old.residue
+            + charge result self.old.machine self.old.kept command_of.Hush }
+    {
+        listing_law();
+        touch_law();
+        let dims = Look::dims(&self.board);
+        self.board.begin(steps);
+        let pushed = self
+            .past
+            .push(Entry::Hush, &mut self.board, dims, self.tick, steps);
+        let Ok(()) = pushed else {
+            return Err(Fault::Memory);
+        };
         self.notes.hush(messages);
         Ok(Reply::Edited)
     }
@@ -390,6 +421,27 @@ impl Session {
         let entries = self.past.history().group();
         self.tick = self.past.redo(&mut self.board, self.tick, steps);
         Reply::Redone { entries }
+    }
+
+    /// Takes an entry out of the history, and ends every note. What is done again is not handed out.
+    fn retract<L: Ledger>(
+        &mut self,
+        moment: u32,
+        messages: &mut Messages,
+        steps: &mut Steps<L>,
+    ) -> Reply
+        requires allowed { rule_against self.old.machine (command_of.Retract moment) ≡ None }
+        requires silent { messages.old ≡ [] }
+        ensures acts { Acts self.old.machine (command_of.Retract moment) (Ok result)
+            self.new.machine messages.new }
+        ensures kept { self.new.kept
+            ≡ kept_after self.old.machine self.old.kept (command_of.Retract moment) (Ok result) }
+        ensures price { steps.new + self.new.residue ≤ steps.old + self.old.residue
+            + charge (Ok result) self.old.machine self.old.kept (command_of.Retract moment) }
+    {
+        self.tick = self.past.retract(&mut self.board, moment, steps);
+        self.notes.hush(messages);
+        Reply::Retracted { moment }
     }
 }
 
