@@ -36,46 +36,48 @@ use Rattle.std.proofs.lemmas.Bool.Decides.{nat_tests}
 use Rattle.std.proofs.lemmas.List.{get_or-set_other, get_or-set_same, length-set, set-get_or, set-set}
 use Rattle.orca_jam.specs.declared.owner.Owner.{Owner}
 use Rattle.orca_edit.specs.Machines.{Acts}
-use Rattle.orca_edit.specs.Obeying.{MachineState, Obeyed, accept, carry_out, jump_to, obey, piece_of, place, redo, refuse, rule_against}
+use Rattle.orca_edit.specs.Obeying.{MachineState, Obeyed, accept, carry_out, jump_to, obey, piece_of, place, redo, refuse, retract, rule_against}
 
 -- ---- what a machine does with a command, by its kind
 
 accept-cases : (m : MachineState) (c : Command) (P : Obeyed → Type 0)
     → ((clip : Option Sheet) (e : Option Entry) → P (carry_out m c clip e))
-    → ((moment : ℕ) → P (jump_to m moment)) → P (redo m) → ((rule : Rule) → P (refuse m rule))
-    → P (accept m c)
+    → ((moment : ℕ) → P (jump_to m moment)) → P (redo m) → ((moment : ℕ) → P (retract m moment))
+    → ((rule : Rule) → P (refuse m rule)) → P (accept m c)
 unfolding accept
-accept-cases m command.Frame P carried jumped redone refused = carried _ _
-accept-cases m (command.Write y x glyph) P carried jumped redone refused = carried _ _
-accept-cases m (command.Fill rect glyph) P carried jumped redone refused = carried _ _
-accept-cases m (command.Erase rect) P carried jumped redone refused = carried _ _
-accept-cases m (command.Copy rect) P carried jumped redone refused = carried _ _
-accept-cases m (command.Cut rect) P carried jumped redone refused = carried _ _
-accept-cases m (command.Clip y x glyph) P carried jumped redone refused =
+accept-cases m command.Frame P carried jumped redone retracted refused = carried _ _
+accept-cases m (command.Write y x glyph) P carried jumped redone retracted refused = carried _ _
+accept-cases m (command.Fill rect glyph) P carried jumped redone retracted refused = carried _ _
+accept-cases m (command.Erase rect) P carried jumped redone retracted refused = carried _ _
+accept-cases m (command.Copy rect) P carried jumped redone retracted refused = carried _ _
+accept-cases m (command.Cut rect) P carried jumped redone retracted refused = carried _ _
+accept-cases m (command.Clip y x glyph) P carried jumped redone retracted refused =
     carried (clipped m.clip (place y x) glyph) None
-accept-cases m (command.Paste y x) P carried jumped redone refused = carried _ _
-accept-cases m (command.Move rect y x) P carried jumped redone refused = carried _ _
-accept-cases m (command.Resize h w) P carried jumped redone refused = carried _ _
-accept-cases m command.Reset P carried jumped redone refused = carried _ _
-accept-cases m command.Undo P carried jumped redone refused =
+accept-cases m (command.Paste y x) P carried jumped redone retracted refused = carried _ _
+accept-cases m (command.Move rect y x) P carried jumped redone retracted refused = carried _ _
+accept-cases m (command.Resize h w) P carried jumped redone retracted refused = carried _ _
+accept-cases m command.Reset P carried jumped redone retracted refused = carried _ _
+accept-cases m command.Undo P carried jumped redone retracted refused =
     by (last_edit m.history)
   where
     by : (last : Option ℕ) → P (option_map_or (jump_to m) last (refuse m NothingToUndo))
     by (Some i) = jumped i
     by None = refused NothingToUndo
-accept-cases m (command.Rewind moment) P carried jumped redone refused = jumped moment
-accept-cases m command.Redo P carried jumped redone refused = redone
+accept-cases m (command.Rewind moment) P carried jumped redone retracted refused = jumped moment
+accept-cases m command.Redo P carried jumped redone retracted refused = redone
+accept-cases m (command.Retract moment) P carried jumped redone retracted refused = retracted moment
+accept-cases m command.Hush P carried jumped redone retracted refused = carried _ _
 
 obey-cases : (m : MachineState) (c : Command) (P : Obeyed → Type 0)
     → ((clip : Option Sheet) (e : Option Entry) → P (carry_out m c clip e))
-    → ((moment : ℕ) → P (jump_to m moment)) → P (redo m) → ((rule : Rule) → P (refuse m rule))
-    → P (obey m c)
+    → ((moment : ℕ) → P (jump_to m moment)) → P (redo m) → ((moment : ℕ) → P (retract m moment))
+    → ((rule : Rule) → P (refuse m rule)) → P (obey m c)
 unfolding obey
-obey-cases m c P carried jumped redone refused = by (rule_against m c)
+obey-cases m c P carried jumped redone retracted refused = by (rule_against m c)
   where
     by : (rule : Option Rule) → P (option_map_or (refuse m) rule (accept m c))
     by (Some rule) = refused rule
-    by None = accept-cases m c P carried jumped redone refused
+    by None = accept-cases m c P carried jumped redone retracted refused
 
 -- ---- the limit stays
 
@@ -85,10 +87,10 @@ carried-limit m c clip None = refl
 carried-limit m c clip (Some e) = refl
 
 obey-limit : (m : MachineState) (c : Command) → (obey m c).machine.limit ≡ m.limit
-unfolding jump_to redo
+unfolding jump_to redo retract
 obey-limit m c =
     obey-cases m c (λ o. o.machine.limit ≡ m.limit) (carried-limit m c) (λ moment. refl) refl
-    (λ rule. refl)
+    (λ moment. refl) (λ rule. refl)
 
 -- ---- after a refusal all is as before
 
@@ -105,10 +107,11 @@ carried-ok m c clip None rule is = absurd (ok-err _ _ is)
 carried-ok m c clip (Some e) rule is = absurd (ok-err _ _ is)
 
 obey-refused : (m : MachineState) (c : Command) → AsBefore m (obey m c)
-unfolding jump_to redo
+unfolding jump_to redo retract
 obey-refused m c =
     obey-cases m c (AsBefore m) (carried-ok m c) (λ moment rule is. absurd (ok-err _ _ is))
-    (λ rule is. absurd (ok-err _ _ is)) (λ refused rule is. (refl, refl))
+    (λ rule is. absurd (ok-err _ _ is)) (λ moment rule is. absurd (ok-err _ _ is))
+    (λ refused rule is. (refl, refl))
 
 -- what was accepted no rule stands against
 obey-allowed : (m : MachineState) (c : Command) (reply : Reply) → (obey m c).answer ≡ Ok reply
@@ -191,6 +194,8 @@ no_redo c (wish.Do (command.Resize h w)) shared = refl
 no_redo c (wish.Do command.Reset) shared = refl
 no_redo c (wish.Do command.Undo) shared = refl
 no_redo c (wish.Do (command.Rewind moment)) shared = refl
+no_redo c (wish.Do (command.Retract moment)) shared = refl
+no_redo c (wish.Do command.Hush) shared = refl
 no_redo c wish.Nothing shared = refl
 no_redo c wish.Toggle shared = refl
 no_redo c wish.Save shared = refl

@@ -1,26 +1,27 @@
 -- The owners of a history go with it, and an undo spares the edits of other hands.
-use Rattle.std.proofs.Common.{◌≡◌, ℕ, zero, suc, ◌-◌, Bool, true, false, true≢false, List, [], ◌∷◌, ◌++◌, length, take, map, Option, Some, None, refl, arith, ap, sym, ◌∙◌, length-append}
-use Rattle.std.specs.Prelude.{if◌then◌else◌, ◌==◌, is_some, nat_lt, cond}
+use Rattle.std.proofs.Common.{◌≡◌, ℕ, zero, suc, ◌-◌, ◌<◌, Bool, true, false, true≢false, List, [], ◌∷◌, ◌++◌, length, drop, take, map, Option, Some, None, refl, arith, ap, sym, ◌∙◌, length-append}
+use Rattle.std.specs.Prelude.{if◌then◌else◌, ◌==◌, ◌||◌, filter, is_some, nat_lt, not, slice_get, zip, cond}
+use Rattle.std.specs.List.{remove}
 use Rattle.std.specs.Option.{option_map, option_map_or, option_or}
 use Rattle.std.proofs.Math.Path.{subst}
 use Rattle.std.proofs.lemmas.Bool.Decides.{nat_tests}
 use Rattle.std.proofs.lemmas.Option.{none-some, same_Some}
-use Rattle.std.proofs.lemmas.List.{length-map, map-append}
+use Rattle.std.proofs.lemmas.List.{length-map, map-append, take_all}
+use Rattle.std.proofs.lemmas.List.Edits.{length-remove}
 use Rattle.orca_base.specs.declared.command.Command.{Command}
 use Rattle.orca_base.specs.declared.command.Command.TheVariants as command
 use Rattle.orca_base.specs.declared.command.Entry.{Entry}
-use Rattle.orca_base.specs.declared.command.Entry.TheVariants.{Hush, Put}
+use Rattle.orca_base.specs.declared.command.Entry.TheVariants.{Fill, Put, Move, Resize, Reset, Frame, Hush}
 use Rattle.orca_base.specs.declared.place.Place.{Place}
 use Rattle.orca_base.specs.Grids.{Sheet}
 use Rattle.orca_base.specs.Histories.{is_edit, last_edit}
-use Rattle.orca_edit.specs.Machines.{is_jump}
-use Rattle.orca_edit.specs.Obeying.{MachineState, accept, carry_out, clip_after, entry_of, jump_to, obey, piece_of, place, rule_against, taken_area}
+use Rattle.orca_edit.specs.Obeying.{MachineState, accept, carry_out, clip_after, entry_of, jump_to, obey, piece_of, place, retract, rule_against, taken_area}
 use Rattle.orca_edit.proofs.RedoLemmas.{plain-by}
-use Rattle.orca_edit.proofs.RuleLemmas.{entered, obey-rewind, obey-undo, undoes_some}
+use Rattle.orca_edit.proofs.RuleLemmas.{entered, obey-retract, obey-rewind, obey-undo, some-entry, undoes_some}
 use Rattle.orca_jam.specs.Crews.{CrewState, denial_of}
 use Rattle.orca_jam.specs.Denials.{not_yours}
-use Rattle.orca_jam.specs.Laws.{AreOwners, KeepsOwners, UndoSpares, edits_of_others, is_of_other}
-use Rattle.orca_jam.specs.Owners.{is_edit_command, last_editor, nobodys, owned}
+use Rattle.orca_jam.specs.Laws.{AreOwners, KeepsOwners, RetractSpares, UndoSpares, edits_of_others, frames_and_others, is_frame, is_of_other}
+use Rattle.orca_jam.specs.Owners.{ends_in_hush, is_edit_command, last_editor, left_owners, nobodys, owned}
 use Rattle.orca_jam.specs.declared.denial.Denial.TheVariants.{NotYours}
 use Rattle.orca_jam.specs.declared.owner.Owner.{Owner}
 use Rattle.orca_term.specs.declared.editor.Wish.TheVariants as wish
@@ -77,13 +78,13 @@ first-owners (suc n) (e ∷ h) (w ∷ o) are =
 
 -- the owners after a jump
 jumped : (hand : ℕ) (c : Command) (n : ℕ) (h : List Entry) (o : List Owner) → AreOwners h o
-    → is_jump c ≡ true
+    → ends_in_hush c ≡ true → left_owners c o ≡ o
     → owned hand c (length (take n h ++ Hush ∷ [])) o ≡ take n o ++ nobodys ∷ []
 unfolding owned
-jumped hand c n h o are is =
+jumped hand c n h o are is all =
     let long : length (take n h ++ Hush ∷ []) - 1 ≡ length (take n h) =
     omega (arith, length-append (take n h) (Hush ∷ [])) in
-    rw (is, long, cut n h o are) refl
+    rw (is, all, long, cut n h o are) refl
 
 added-alike : (h : List Entry) (o : List Owner) (e : Entry) (w : Owner) → AreOwners h o
     → w.edit ≡ is_edit e → AreOwners (h ++ e ∷ []) (o ++ w ∷ [])
@@ -94,17 +95,118 @@ added-alike h o e w are is =
     ∙ (ap (λ (edit : Bool). map is_edit h ++ edit ∷ []) is ∙ sym entries))
 
 jump-keeps : (m : MachineState) (o : List Owner) (hand : ℕ) (c : Command) (n : ℕ)
-    → AreOwners m.history o → is_jump c ≡ true → obey m c ≡ jump_to m n
+    → AreOwners m.history o → ends_in_hush c ≡ true → left_owners c o ≡ o
+    → obey m c ≡ jump_to m n
     → let after = (obey m c).machine.history in AreOwners after (owned hand c (length after) o)
 unfolding jump_to
-jump-keeps m o hand c n are is jumps =
-    rw (jumps, jumped hand c n m.history o are is)
+jump-keeps m o hand c n are is all jumps =
+    rw (jumps, jumped hand c n m.history o are is all)
     (added-alike (take n m.history) (take n o) Hush nobodys (first-owners n m.history o are) refl)
+
+-- ---- a Retract
+
+later-owners : (n : ℕ) (h : List Entry) (o : List Owner) → AreOwners h o
+    → AreOwners (drop n h) (drop n o)
+later-owners zero h o are = are
+later-owners (suc n) [] [] are = refl
+later-owners (suc n) [] (w ∷ o) are = absurd (no-owner w o are)
+later-owners (suc n) (e ∷ h) [] are = absurd (no-entry e h are)
+later-owners (suc n) (e ∷ h) (w ∷ o) are = later-owners n h o (rest-of e w h o are)
+
+both-owners : (h more : List Entry) (o rest : List Owner) → AreOwners h o
+    → AreOwners more rest → AreOwners (h ++ more) (o ++ rest)
+both-owners h more o rest first second =
+    map-append (λ (owner : Owner). owner.edit) o rest
+    ∙ (ap (λ (edits : List Bool). edits ++ map (λ (owner : Owner). owner.edit) rest) first
+    ∙ (ap (λ (edits : List Bool). map is_edit h ++ edits) second
+    ∙ sym (map-append is_edit h more)))
+
+other-owners : (n : ℕ) (h : List Entry) (o : List Owner) → AreOwners h o
+    → AreOwners (remove h n) (remove o n)
+other-owners n h o are =
+    both-owners (take n h) (drop (suc n) h) (take n o) (drop (suc n) o) (first-owners n h o are)
+    (later-owners (suc n) h o are)
+
+-- the owners after a Retract
+retracted : (hand n : ℕ) (h : List Entry) (o : List Owner) → AreOwners h o → n < length h
+    → owned hand (command.Retract n) (length (remove h n ++ Hush ∷ [])) o
+    ≡ remove o n ++ nobodys ∷ []
+unfolding owned
+retracted hand n h o are below =
+    let few = as_many h o are in
+    ap (λ (ws : List Owner). ws ++ nobodys ∷ [])
+    (take_all (length (remove h n ++ Hush ∷ []) - 1) (remove o n)
+    (omega (
+      arith,
+      few,
+      below,
+      length-append (remove h n) (Hush ∷ []),
+      length-remove h n below,
+      length-remove o n (omega (arith, few, below)),
+    )))
+
+retract-keeps : (m : MachineState) (o : List Owner) (hand n : ℕ) → AreOwners m.history o
+    → rule_against m (command.Retract n) ≡ None
+    → let after = (obey m (command.Retract n)).machine.history in
+    AreOwners after (owned hand (command.Retract n) (length after) o)
+unfolding retract
+retract-keeps m o hand n are allowed =
+    rw (obey-retract m n allowed, retracted hand n m.history o are (some-entry m n allowed))
+    (added-alike (remove m.history n) (remove o n) Hush nobodys (other-owners n m.history o are) refl)
+
+-- the Hush at the end is no frame, and no edit of another hand
+hush-adds-none : (hand : ℕ) (h : List Entry) (o : List Owner) → AreOwners h o
+    → frames_and_others hand (h ++ Hush ∷ []) (o ++ nobodys ∷ []) ≡ frames_and_others hand h o
+hush-adds-none hand [] [] are = refl
+hush-adds-none hand [] (w ∷ o) are = absurd (no-owner w o are)
+hush-adds-none hand (e ∷ h) [] are = absurd (no-entry e h are)
+hush-adds-none hand (e ∷ h) (w ∷ o) are =
+    ap (λ (rest : List (Entry × Owner)).
+    cond (is_frame e || is_of_other hand w) ((e, w) ∷ rest) rest)
+    (hush-adds-none hand h o (rest-of e w h o are))
+
+-- an edit is no frame
+edit-plays-none : (e : Entry) → is_edit e ≡ true → is_frame e ≡ false
+edit-plays-none (Fill area glyph) edits = refl
+edit-plays-none (Put at block) edits = refl
+edit-plays-none (Move area to) edits = refl
+edit-plays-none (Resize dims) edits = refl
+edit-plays-none Reset edits = refl
+edit-plays-none Frame edits = absurd (true≢false (sym edits))
+edit-plays-none Hush edits = refl
+
+retract-leaves : (hand n : ℕ) (h : List Entry) (o : List Owner) (w : Owner) → AreOwners h o
+    → slice_get o n ≡ Some w → w.edit ≡ true → w.hand ≡ hand
+    → frames_and_others hand (remove h n ++ Hush ∷ []) (remove o n ++ nobodys ∷ [])
+    ≡ frames_and_others hand h o
+retract-leaves hand n [] [] w are is edits his = absurd (none-some w is)
+retract-leaves hand n [] (x ∷ o) w are is edits his = absurd (no-owner x o are)
+retract-leaves hand n (e ∷ h) [] w are is edits his = absurd (no-entry e h are)
+retract-leaves hand zero (e ∷ h) (x ∷ o) w are is edits his =
+    let same : x ≡ w = same_Some x w is in
+    let edit : x.edit ≡ true = ap (λ (y : Owner). y.edit) same ∙ edits in
+    let own : x.hand ≡ hand = ap (λ (y : Owner). y.hand) same ∙ his in
+    let plays : is_frame e ≡ false = edit-plays-none e (sym (edit-of e x h o are) ∙ edit) in
+    let mine : (x.hand == hand) ≡ true = grind (arith, nat_tests) in
+    rw (plays, edit, mine) (hush-adds-none hand h o (rest-of e x h o are))
+retract-leaves hand (suc n) (e ∷ h) (x ∷ o) w are is edits his =
+    ap (λ (rest : List (Entry × Owner)).
+    cond (is_frame e || is_of_other hand x) ((e, x) ∷ rest) rest)
+    (retract-leaves hand n h o w (rest-of e x h o are) is edits his)
+
+pub retract_spares : RetractSpares
+unfolding retract
+retract_spares m o hand moment owner are is edits his allowed =
+    rw (
+      obey-retract m moment allowed,
+      retracted hand moment m.history o are (some-entry m moment allowed),
+    )
+    (retract-leaves hand moment m.history o owner are is edits his)
 
 -- ---- an entry more
 
 entry-keeps : (h : List Entry) (o : List Owner) (hand : ℕ) (c : Command) (e : Entry)
-    → AreOwners h o → is_jump c ≡ false → is_edit_command c ≡ is_edit e
+    → AreOwners h o → ends_in_hush c ≡ false → is_edit_command c ≡ is_edit e
     → AreOwners (h ++ e ∷ []) (owned hand c (length (h ++ e ∷ [])) o)
 unfolding owned
 entry-keeps h o hand c e are is edit =
@@ -116,7 +218,7 @@ entry-keeps h o hand c e are is edit =
 
 -- none more
 none-keeps : (h : List Entry) (o : List Owner) (hand : ℕ) (c : Command) → AreOwners h o
-    → is_jump c ≡ false → AreOwners h (owned hand c (length h) o)
+    → ends_in_hush c ≡ false → AreOwners h (owned hand c (length h) o)
 unfolding owned
 none-keeps h o hand c are is =
     let few = as_many h o are in
@@ -124,7 +226,7 @@ none-keeps h o hand c are is =
     rw (is, same) are
 
 carried : (m : MachineState) (o : List Owner) (hand : ℕ) (c : Command) (clip : Option Sheet)
-    (e : Option Entry) → AreOwners m.history o → is_jump c ≡ false
+    (e : Option Entry) → AreOwners m.history o → ends_in_hush c ≡ false
     → ((x : Entry) → e ≡ Some x → is_edit_command c ≡ is_edit x)
     → let after = (carry_out m c clip e).machine.history in
     AreOwners after (owned hand c (length after) o)
@@ -250,7 +352,7 @@ undo-at : (m : MachineState) (c : CrewState) (hand i : ℕ) → AreOwners m.hist
     ≡ edits_of_others hand m.history c.owners
 unfolding jump_to
 undo-at m c hand i are last mine jumps =
-    rw (jumps, jumped hand command.Undo i m.history c.owners are refl)
+    rw (jumps, jumped hand command.Undo i m.history c.owners are refl refl)
     (spared hand m.history c.owners i are last mine)
 
 pub undo_spares : UndoSpares
@@ -264,7 +366,7 @@ undo_spares m c hand are shared denied allowed =
 
 -- the owners after such a command
 plain-keeps : (m : MachineState) (o : List Owner) (hand : ℕ) (c : Command)
-    → AreOwners m.history o → rule_against m c ≡ None → is_jump c ≡ false
+    → AreOwners m.history o → rule_against m c ≡ None → ends_in_hush c ≡ false
     → accept m c ≡ entered m c
     → ((x : Entry) → entry_of (piece_of m).sheet.dims m.clip c ≡ Some x
     → is_edit_command c ≡ is_edit x)
@@ -320,7 +422,12 @@ keeps_owners m o hand (command.Paste y x) are other allowed =
     (λ e is. put (place y x) m.clip e is)
 keeps_owners m o hand command.Undo are other allowed =
     undoes_some m (last_edit m.history) refl allowed _ (λ i last.
-    jump-keeps m o hand command.Undo i are refl (obey-undo m i allowed last))
+    jump-keeps m o hand command.Undo i are refl refl (obey-undo m i allowed last))
 keeps_owners m o hand (command.Rewind moment) are other allowed =
-    jump-keeps m o hand (command.Rewind moment) moment are refl (obey-rewind m moment allowed)
+    jump-keeps m o hand (command.Rewind moment) moment are refl refl (obey-rewind m moment allowed)
 keeps_owners m o hand command.Redo are other allowed = absurd (other refl)
+keeps_owners m o hand (command.Retract moment) are other allowed =
+    retract-keeps m o hand moment are allowed
+keeps_owners m o hand command.Hush are other allowed =
+    plain-keeps m o hand command.Hush are allowed refl refl
+    (λ x is. ap is_edit (same_Some _ x is))

@@ -1,8 +1,9 @@
 -- What holds of the owners of a history, and of hands that share a session.
-use Rattle.std.specs.Prelude.{ℕ, ◌≡◌, ◌≢◌, Bool, true, false, not, ◌&&◌, ◌==◌, List, filter, length, map, zip, None, All}
+use Rattle.std.specs.Prelude.{ℕ, ◌≡◌, ◌≢◌, Bool, true, false, not, ◌&&◌, ◌||◌, ◌==◌, List, filter, length, map, zip, Some, None, slice_get, All}
 use Rattle.orca_base.specs.declared.command.Command.{Command}
 use Rattle.orca_base.specs.declared.command.Command.TheVariants as command
 use Rattle.orca_base.specs.declared.command.Entry.{Entry}
+use Rattle.orca_base.specs.declared.command.Entry.TheVariants.{Frame}
 use Rattle.orca_base.specs.Histories.{is_edit}
 use Rattle.orca_edit.specs.Obeying.{MachineState, obey, rule_against}
 use Rattle.orca_jam.specs.Crews.{CrewState, denial_of}
@@ -43,6 +44,28 @@ UndoSpares =
     → let after = (obey m command.Undo).machine.history in
     edits_of_others hand after (owned hand command.Undo (length after) c.owners)
     ≡ edits_of_others hand m.history c.owners
+
+-- the entry is a frame
+abbrev pub is_frame : Entry → Bool
+is_frame Frame = true
+is_frame _ = false
+
+-- the frames and the edits of other hands, in order, each with its entry
+abbrev pub frames_and_others : ℕ → List Entry → List Owner → List (Entry × Owner)
+frames_and_others hand history owners =
+    filter (λ e. is_frame e.0 || is_of_other hand e.1) (zip history owners)
+
+-- a Retract of an edit of the hand's own leaves every edit of every other hand and every frame, in
+-- order
+abbrev pub RetractSpares : Type 0
+RetractSpares =
+    (m : MachineState) (owners : List Owner) (hand moment : ℕ) (owner : Owner)
+    → AreOwners m.history owners → slice_get owners moment ≡ Some owner → owner.edit ≡ true
+    → owner.hand ≡ hand → rule_against m (command.Retract moment) ≡ None
+    → let after = (obey m (command.Retract moment)).machine.history in
+    frames_and_others hand after
+    (owned hand (command.Retract moment) (length after) owners)
+    ≡ frames_and_others hand m.history owners
 
 -- each edit is the first hand's
 abbrev pub AreLeaders : List Owner → Type 0

@@ -8,7 +8,7 @@ ghost use Rattle.orca_edit.specs.Obeying.{piece_of};
 ghost use Rattle.orca_edit.specs.Prices.{charge, kept_after, preview_price};
 ghost use Rattle.orca_jam.specs.Crews.{crew_at_start, player_at};
 ghost use Rattle.orca_jam.specs.Jamming.{IsAsBefore, Jams, clock_answer, crew_after, crew_in, jam_price};
-ghost use Rattle.orca_jam.specs.Laws.{AreOwners, UndoSpares};
+ghost use Rattle.orca_jam.specs.Laws.{AreOwners, RetractSpares, UndoSpares};
 ghost use Rattle.orca_jam.specs.declared.owner.TheConstants.{NOBODY};
 
 use crate::answers::failed;
@@ -79,8 +79,9 @@ impl<M: Machine> Jam<M> {
         ensures price { steps.new + self.new.residue ≤ steps.old + self.old.residue
             + jam_price self.old hand key result }
 
-        // The law of an undo: it leaves every edit of every other hand.
+        // The law of an undo: it leaves every edit of every other hand. So does a Retract, and every frame.
         ensures spares { UndoSpares }
+        ensures retracts { RetractSpares }
     {
         crew_law();
         self.shared.key(hand, key, messages, steps)

@@ -1,8 +1,7 @@
 //! Whose the entries of a history are.
 
 ghost use Rattle.std.specs.Prelude.{◌≡◌, ◌≤◌, ℕ, length, vec_capacity, vec_len};
-ghost use Rattle.orca_edit.specs.Machines.{is_jump as jumps};
-ghost use Rattle.orca_jam.specs.Owners.{is_edit_command as edits, last_editor as editor_of_last, owned};
+ghost use Rattle.orca_jam.specs.Owners.{ends_in_hush as ends, is_edit_command as edits, last_editor as editor_of_last, left_owners, owned};
 
 use orca_base::Command;
 
@@ -12,7 +11,8 @@ pub const NOBODY: u8 = 255;
 /// Whose an entry of the history is.
 #[derive(Clone, Copy, Debug, PartialEq, Eq)]
 pub struct Owner {
-    /// The hand that asked for it; [`NOBODY`] for the end of a jump and for the frames of the clock.
+    /// The hand that asked for it; [`NOBODY`] for the end of a jump or a Retract and for the frames
+    /// of the clock.
     pub hand: u8,
     /// Whether the entry is an edit.
     pub edit: bool,
@@ -45,7 +45,8 @@ pub(crate) fn follow(owners: &mut Vec<Owner>, hand: u8, command: &Command, momen
 
     ensures room { vec_capacity owners.new ≡ vec_capacity owners.old }
 {
-    if is_jump(command) {
+    if ends_in_hush(command) {
+        leave(owners, command);
         owners.truncate(moments.saturating_sub(1));
         owners.push_reserved(Owner {
             hand: NOBODY,
@@ -57,13 +58,28 @@ pub(crate) fn follow(owners: &mut Vec<Owner>, hand: u8, command: &Command, momen
     }
 }
 
-/// Whether a command goes back in the history, or forward again.
-fn is_jump(command: &Command) -> bool
-    ensures { result ≡ jumps command.now }
+/// Takes out the owner of the entry that a Retract takes out.
+fn leave(owners: &mut Vec<Owner>, command: &Command)
+    ensures owners { owners.new.items ≡ left_owners command.now owners.old.items }
+    ensures few { vec_len owners.new ≤ vec_len owners.old }
+    ensures room { vec_capacity owners.new ≡ vec_capacity owners.old }
+{
+    if let Command::Retract { moment } = *command {
+        let moment = moment as usize;
+        if moment < owners.len() {
+            let _ = owners.remove(moment);
+        }
+    }
+}
+
+/// Whether a command adds a Hush of nobody's: it goes back in the history, or forward again, or takes an entry
+/// out.
+fn ends_in_hush(command: &Command) -> bool
+    ensures { result ≡ ends command.now }
 {
     matches!(
         command,
-        Command::Undo | Command::Rewind { .. } | Command::Redo
+        Command::Undo | Command::Rewind { .. } | Command::Redo | Command::Retract { .. }
     )
 }
 
@@ -71,5 +87,5 @@ fn is_jump(command: &Command) -> bool
 fn is_edit(command: &Command) -> bool
     ensures { result ≡ edits command.now }
 {
-    !matches!(command, Command::Frame)
+    !matches!(command, Command::Frame | Command::Hush)
 }

@@ -1,5 +1,5 @@
 use Rattle.orca_jam.proofs.LeaderLaws.{leader_is_free, leader_stays_free}
-use Rattle.orca_jam.proofs.OwnerLaws.{keeps_owners, undo_spares}
+use Rattle.orca_jam.proofs.OwnerLaws.{keeps_owners, retract_spares, undo_spares}
 use Rattle.orca_jam.proofs.laws.crew_law.Goals as goal
 
 pub returns-clause-owners : goal.returns-clause-owners
@@ -13,3 +13,6 @@ returns-clause-free c = leader_is_free
 
 pub returns-clause-stays : goal.returns-clause-stays
 returns-clause-stays c = leader_stays_free
+
+pub returns-clause-retracts : goal.returns-clause-retracts
+returns-clause-retracts c = retract_spares
