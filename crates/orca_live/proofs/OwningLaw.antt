@@ -1,9 +1,11 @@
 -- Hands that share a session keep whose each entry is, and an undo spares the edits of others.
 use Rattle.std.proofs.Common.{◌≡◌, ◌≢◌, ◌⊎◌, inl, inr, ℕ, suc, ◌<◌, ◌≤◌, Bool, true, false, List, [], ◌∷◌, length, take, refl, sym, ◌∙◌, ap, subst, arith, length-append}
 use Rattle.std.specs.Prelude.{if◌then◌else◌, Option, Some, None}
+use Rattle.std.specs.List.{remove}
 use Rattle.std.specs.Option.{option_map_or}
 use Rattle.std.proofs.lemmas.Bool.{le-leb}
 use Rattle.std.proofs.lemmas.List.{length-take-le}
+use Rattle.std.proofs.lemmas.List.Edits.{length-remove}
 use Rattle.std.proofs.lemmas.Option.{none-some, same_Some}
 use Rattle.orca_jam.specs.declared.owner.TheConstants.{NOBODY}
 use Rattle.orca_base.specs.declared.command.Command.{Command}
@@ -21,8 +23,8 @@ use Rattle.orca_course.specs.Courses.{mapped, onward}
 use Rattle.orca_course.specs.Performers.{Hearing}
 use Rattle.orca_course.specs.Standings.{refusal_of, standing_after}
 use Rattle.orca_course.specs.declared.item.Losses.{Losses}
-use Rattle.orca_edit.specs.Obeying.{MachineState, Obeyed, accept, adds_entry, carry_out, clip_after, entry_of, jump_to, obey, piece_of, refuse, rule_against, taken_area}
-use Rattle.orca_edit.proofs.RuleLemmas.{entered, has-room, some-moment}
+use Rattle.orca_edit.specs.Obeying.{MachineState, Obeyed, accept, adds_entry, carry_out, clip_after, entry_of, jump_to, obey, piece_of, refuse, retract, rule_against, taken_area}
+use Rattle.orca_edit.proofs.RuleLemmas.{entered, has-room, some-entry, some-moment}
 use Rattle.orca_jam.specs.Crews.{CrewState, denial_at, denial_of, offered, struck_by}
 use Rattle.orca_jam.specs.Denials.{rule_of_denial}
 use Rattle.orca_term.specs.Editing.{wish_of}
@@ -95,6 +97,19 @@ taken_jump m i below = record {
       );
 }
 
+taken_retract : (m : MachineState) (i : ℕ) → i < length m.history → IsTaken m (retract m i)
+unfolding retract
+taken_retract m i below = record {
+  note = refl;
+  limit = refl;
+  fits = λ fits.
+      omega (
+        arith,
+        length-append (remove m.history i) (Hush ∷ []),
+        length-remove m.history i below,
+      );
+}
+
 taken_undo : (m : MachineState) (last : Option ℕ) → last_edit m.history ≡ last
     → rule_against m command.Undo ≡ None
     → IsTaken m (option_map_or (jump_to m) last (refuse m NothingToUndo))
@@ -126,6 +141,9 @@ taken m command.Undo allowed other = taken_undo m (last_edit m.history) refl all
 taken m (command.Rewind moment) allowed other =
     taken_jump m moment (some-moment m moment allowed)
 taken m command.Redo allowed other = absurd (other refl)
+taken m (command.Retract moment) allowed other =
+    taken_retract m moment (some-entry m moment allowed)
+taken m command.Hush allowed other = taken_entered m command.Hush allowed refl refl
 
 taken_obeyed : (m : MachineState) (c : Command) → rule_against m c ≡ None → c ≢ command.Redo
     → IsTaken m (obey m c)
