@@ -2,7 +2,7 @@
 use Rattle.std.specs.Prelude.{ℕ, zero, Bool, true, false, ◌||◌, nat_le, if◌then◌else◌, List, [], ◌∷◌, ◌++◌, length, slice_set, Option, Some, None, unwrap_or}
 use Rattle.std.specs.Option.{option_map}
 use Rattle.orca_base.specs.declared.command.Command.{Command}
-use Rattle.orca_base.specs.declared.command.Command.TheVariants.{Clip, Copy, Frame}
+use Rattle.orca_base.specs.declared.command.Command.TheVariants.{Clip, Copy, Frame, Hush, Reset}
 use Rattle.orca_base.specs.declared.command.Rule.{Rule}
 use Rattle.orca_base.specs.declared.port.Port.TheVariants as port
 use Rattle.orca_base.specs.MarkSet.{MarkSet}
@@ -76,11 +76,13 @@ abbrev pub owning : ℕ → Command → Option Rule → ℕ → CrewState → Cr
 owning who command (Some rule) n c = c
 owning who command None n c = if nat_le n c.room then took_by who command n c else c
 
--- whether a command is one that a save of the grid would keep: a rule did not refuse it, and it is no
--- frame, and changes more than the clip
+-- whether a command is one that a save of the grid would keep: a rule did not refuse it, it is no
+-- frame, no Reset and no Hush, and it changes more than the clip
 abbrev pub loosens : Command → Option Rule → Bool
 loosens command (Some rule) = false
 loosens Frame None = false
+loosens Reset None = false
+loosens Hush None = false
 loosens (Copy rect) None = false
 loosens (Clip y x glyph) None = false
 loosens command None = true

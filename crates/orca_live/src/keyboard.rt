@@ -56,7 +56,11 @@ fn loosens(command: &Command, refused: Option<Rule>) -> bool
     refused.is_none()
         && !matches!(
             command,
-            Command::Frame | Command::Copy { .. } | Command::Clip { .. }
+            Command::Frame
+                | Command::Reset
+                | Command::Hush
+                | Command::Copy { .. }
+                | Command::Clip { .. }
         )
 }
 
