@@ -27,7 +27,7 @@ asked_in (Load name text ∷ acts) = AskLoad name ∷ asked_in acts
 asked_in (Save name bytes ∷ acts) = AskSave name bytes ∷ asked_in acts
 asked_in (Begin name bytes ∷ acts) = AskBegin name bytes ∷ asked_in acts
 asked_in (Append name bytes ∷ acts) = AskAppend name bytes ∷ asked_in acts
-asked_in (Claim name bytes claimed ∷ acts) = AskClaim name bytes ∷ asked_in acts
+asked_in (Claim name bytes claimed ∷ acts) = AskClaim name bytes claimed ∷ asked_in acts
 asked_in (Remove name ∷ acts) = AskRemove name ∷ asked_in acts
 asked_in (_ ∷ acts) = asked_in acts
 

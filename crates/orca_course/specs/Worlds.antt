@@ -2,11 +2,9 @@
 use Rattle.std.specs.Prelude.{ℕ, ◌+◌, ◌≤◌, ◌≡◌, Bool, true, false, List, [], ◌∷◌, ◌++◌, length, Option, Some, None, IfSome, IsSomeAnd, ◌<◌, Result, Ok, Err, Vec}
 use Rattle.std.specs.Option.{option_map}
 use Rattle.std.specs.List.{list_any}
-use Rattle.std.specs.Coded.{Coded, coded_list, coded_ℕ}
 use Rattle.std.specs.FinMap.{get}
-use Rattle.std.specs.FinMap as finite
 use Rattle.std.specs.declared.alloc.Global.{Global}
-use Rattle.orca_base.specs.declared.limits.TheConstants.{MAX_FILE_BYTES}
+use Rattle.orca_base.specs.declared.limits.TheConstants.{MAX_ROOM_BYTES}
 use Rattle.orca_base.specs.Ports.{Sent}
 use Rattle.orca_rig.specs.declared.fault.OutsideFault.TheVariants.{Memory}
 use Rattle.orca_rig.specs.declared.inbox.Answer.{Answer}
@@ -29,10 +27,6 @@ pub record Counts : Type 0 where
   pub ports : ℕ
   pub files : ℕ
   pub inbox : ℕ
-
--- what tells the contents of two stores apart
-abbrev pub contents_code : Coded Contents
-contents_code = finite.code (coded_list coded_ℕ) (coded_list coded_ℕ)
 
 -- the outside, as a run sees it: all calls so far, each with its answer; what the files hold, where
 -- that is told; the counts of failures; and the steps that were counted
@@ -85,10 +79,11 @@ LeavesInbox x y =
 
 -- ---- calls
 
--- the text of a file: what the file of this name holds, where that is told
+-- the text of a file, which is no longer than that of a room: what the file of this name holds,
+-- where that is told
 abbrev pub IsTextOf : Option Contents → List ℕ → List ℕ → Type 0
 IsTextOf contents name text =
-    (length text ≤ MAX_FILE_BYTES) × IfSome contents (λ files. get files name ≡ Some text)
+    (length text ≤ MAX_ROOM_BYTES) × IfSome contents (λ files. get files name ≡ Some text)
 
 -- a load gives the text of its file; and all other calls of files alone change what they hold
 abbrev pub Stores : Call → Option Contents → Option Contents → Type 0

@@ -4,7 +4,7 @@ ghost use Rattle.std.specs.Prelude.{◌≡◌, ◌≢◌, ◌≤◌, [], ◌∷�
 ghost use Rattle.orca_edit.specs.Machines.{Acts, preview_of};
 ghost use Rattle.orca_edit.specs.Obeying.{piece_of};
 ghost use Rattle.orca_edit.specs.Prices.{charge, kept_after, preview_price};
-ghost use Rattle.orca_base.specs.declared.limits.TheConstants.{MAX_FILE_BYTES};
+ghost use Rattle.orca_base.specs.declared.limits.TheConstants.{MAX_ROOM_BYTES};
 ghost use Rattle.orca_rig.specs.Arrived.{arrived};
 ghost use Rattle.orca_base.specs.declared.limits.TheConstants.{MAX_HANDS};
 ghost use Rattle.orca_course.specs.Acts.{Act, given};
@@ -43,7 +43,8 @@ pub struct Desk<H: House> {
 impl<H: House> Model for Desk<H> {
     ghost use Rattle.std.specs.Coded.{codes};
     ghost use Rattle.orca_course.specs.Told.{AreWanted, Records, Tells};
-    ghost use Rattle.orca_course.specs.Worlds.{World, contents_code};
+    ghost use Rattle.orca_course.specs.Worlds.{World};
+    ghost use Rattle.orca_rig.specs.Outside.{contents_code};
 
     ghost Value = { World };
 
@@ -204,14 +205,21 @@ impl<H: House> Desk<H> {
         }
     }
 
-    /// The bytes of the file of that name; none if its load fails, which is recorded.
-    pub fn load(&mut self, alloc: Global, name: &str) -> Result<Option<Vec<u8>>, NoMemory>
+    /// The bytes of the file of that name, which has at most `most`, and no more than a room may
+    /// have; none if its load fails, which is recorded.
+    pub fn load(
+        &mut self,
+        alloc: Global,
+        name: &str,
+        most: u32,
+    ) -> Result<Option<Vec<u8>>, NoMemory>
+        requires { most ≤ MAX_ROOM_BYTES }
         ensures called { Called result (Load name.now (loaded_text result)) self.old self.new }
-        ensures short { IfSome (loaded_text result) (λ text. length text ≤ MAX_FILE_BYTES) }
+        ensures short { IfSome (loaded_text result) (λ text. length text ≤ most) }
         ensures inbox { LeavesInbox self.old self.new }
     {
         let mut text = Vec::new(alloc);
-        let answer = self.files.load(name, &mut text);
+        let answer = self.files.load(name, most, &mut text);
         self.notes.note(&Kind::Load(answer), name.as_bytes(), &text);
         self.unstored |= matches!(answer, Err(OutsideFault::Failed));
         match answer {

@@ -1,11 +1,13 @@
 //! How a file of the system is begun, and how bytes are added to it.
 
-ghost use Rattle.std.specs.Prelude.{◌≡◌, IsErr, IsErrOf, IfOk, IfSome, OnOk};
+ghost use Rattle.std.specs.Prelude.{◌≡◌, ◌+◌, nat_le, IsErr, IsErrOf, IfOk, IfSome, OnOk};
 ghost use Rattle.std.specs.Io.KnownBytes.{Appends};
+ghost use Rattle.orca_base.specs.declared.limits.TheConstants.{MAX_ROOM_BYTES};
 ghost use Rattle.orca_edge.specs.Names.{gives_way};
 
 use crate::fresh::{Wanted, replace_open};
 use crate::whole::{read_whole, write_whole};
+use orca_base::limits::MAX_ROOM_BYTES;
 use orca_rig::OutsideFault;
 use std::alloc::Global;
 use std::fs::{OpenFile, OpenOptions, Permissions};
@@ -65,22 +67,31 @@ fn permissions_of_older<R: rt::Files + AllocGlobal>(
 fn is_older<F: Read + Drop>(alloc: Global, file: F) -> Result<bool, OutsideFault>
     ensures { IfOk result (λ gives. IfSome (F.remaining file) (λ held. gives ≡ gives_way held)) }
 {
-    let head = read_whole(alloc, &mut file.take(HEAD.len() as u64))?;
+    let head = read_whole(alloc, &mut file.take(HEAD.len() as u64), HEAD.len() as u32)?;
     Ok(head.is_empty() || head.as_slice() == HEAD.as_slice())
 }
 
 /// Adds the bytes at the end of a file that was begun. Nobody could find what is added to one that
-/// has no name any more, so that is a failure. Nothing waits for the disk.
+/// has no name any more, and a room that is too long could not be loaded, so either is a failure,
+/// and nothing is added. Nothing waits for the disk.
 pub(crate) fn append_file<F: Write + OpenFile>(
     file: &mut F,
     bytes: &[u8],
 ) -> Result<(), OutsideFault>
     ensures { OnOk result (Appends (F.contents file.old) (F.contents file.new) bytes.now) }
 {
-    if file.metadata()?.nlink() == 0 {
+    let found = file.metadata()?;
+    if found.nlink() == 0 || !has_room(found.len(), bytes.len()) {
         return Err(OutsideFault::Failed);
     }
     add_all(file, bytes)
+}
+
+/// Whether a file of so many bytes may have so many more.
+fn has_room(held: u64, more: usize) -> bool
+    ensures { result ≡ nat_le (held + more) MAX_ROOM_BYTES }
+{
+    held.saturating_add(more as u64) <= MAX_ROOM_BYTES as u64
 }
 
 /// Adds all of the bytes. A part may have been taken when it fails, so that is a failure, whatever

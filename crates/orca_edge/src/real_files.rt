@@ -1,6 +1,5 @@
 ghost use Rattle.std.specs.Prelude.{◌≡◌, ◌≢◌, true, ◌<◌, ◌≤◌, None, false, ℕ, List, length, position, string_bytes, vec_len, vec_capacity, IfOk, OnOk, OnErr, IsErr, IsErrOf};
 ghost use Rattle.std.specs.Str.{bytes_eq};
-ghost use Rattle.orca_base.specs.declared.limits.TheConstants.{MAX_FILE_BYTES};
 ghost use Rattle.orca_rig.specs.Saved.{is_spoilt, names_of, spoilt_after};
 ghost use Rattle.orca_edge.specs.Names.{is_own};
 
@@ -248,9 +247,11 @@ where
 
     ghost spoilt = { λ f. is_spoilt (names_of f.spoilt.items) };
 
+    ghost held = { λ _. None };
+
     /// A missing file, a directory, one that cannot be read and one that is too long are failures.
-    fn load(&mut self, name: &str, into: &mut Vec<u8>) -> Result<(), OutsideFault> {
-        let done = load_file(self.rt, name, into);
+    fn load(&mut self, name: &str, most: u32, into: &mut Vec<u8>) -> Result<(), OutsideFault> {
+        let done = load_file(self.rt, name, most, into);
         self.misses.count(done)
     }
 
@@ -302,7 +303,9 @@ where
     /// Adds to the file that was begun or claimed, whatever has its name by now: a file that has
     /// taken the name since is left as it is. An append to a name that was neither is a failure,
     /// and so is one to a file that has no name any more, since nobody could find what is added.
-    /// Nothing waits for the disk.
+    /// Of one that would make the file larger than
+    /// [`MAX_ROOM_BYTES`](orca_base::limits::MAX_ROOM_BYTES) no byte is written. Nothing waits for
+    /// the disk.
     fn append(&mut self, name: &str, bytes: &[u8]) -> Result<(), OutsideFault> {
         let done = self.add(name, bytes);
         self.misses.count(done)
@@ -336,12 +339,18 @@ where
     }
 }
 
-/// Makes `into` the bytes of the file of that name. After an error it is as before.
-fn load_file<R: rt::Files>(rt: &R, name: &str, into: &mut Vec<u8>) -> Result<(), OutsideFault>
-    ensures short { OnOk result (length into.new.items ≤ MAX_FILE_BYTES) }
+/// Makes `into` the bytes of the file of that name, which has at most so many. After an error it is
+/// as before.
+fn load_file<R: rt::Files>(
+    rt: &R,
+    name: &str,
+    most: u32,
+    into: &mut Vec<u8>,
+) -> Result<(), OutsideFault>
+    ensures short { OnOk result (length into.new.items ≤ most) }
     ensures untouched { OnErr result (into.new.items ≡ into.old.items) }
 {
     let mut file = fs::open(rt, name)?;
-    *into = read_whole(*into.allocator(), &mut file)?;
+    *into = read_whole(*into.allocator(), &mut file, most)?;
     Ok(())
 }

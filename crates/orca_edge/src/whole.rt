@@ -5,9 +5,7 @@ ghost use Rattle.std.specs.IoError.{error_kind};
 ghost use Rattle.std.specs.declared.io.ErrorKind.TheVariants.{Interrupted, WouldBlock};
 ghost use Rattle.std.specs.Io.{WritesAtMost};
 ghost use Rattle.std.specs.Io.KnownBytes.{Appends, WriteAppends};
-ghost use Rattle.orca_base.specs.declared.limits.TheConstants.{MAX_FILE_BYTES};
 
-use orca_base::limits::MAX_FILE_BYTES;
 use orca_rig::OutsideFault;
 use std::alloc::Global;
 use std::io;
@@ -20,9 +18,10 @@ pub(crate) const TRIES: u64 = u64::MAX;
 /// How many bytes are read at once.
 const PIECE_BYTES: usize = 4096;
 
-/// All that the reader has left. An interrupted read is tried again.
-pub fn read_whole<R: Read>(alloc: Global, from: &mut R) -> Result<Vec<u8>, OutsideFault>
-    ensures short { IfOk result (λ bytes. length bytes.items ≤ MAX_FILE_BYTES) }
+/// All that the reader has left, which has at most so many bytes. An interrupted read is tried
+/// again.
+pub fn read_whole<R: Read>(alloc: Global, from: &mut R, most: u32) -> Result<Vec<u8>, OutsideFault>
+    ensures short { IfOk result (λ bytes. length bytes.items ≤ most) }
     ensures whole { IfOk result (λ bytes.
         IfSome (R.remaining from.old) (λ left. bytes.items ≡ left)) }
 {
@@ -31,7 +30,7 @@ pub fn read_whole<R: Read>(alloc: Global, from: &mut R) -> Result<Vec<u8>, Outsi
     for _ in 0..TRIES {
         match from.read(&mut piece) {
             Ok(0) => return Ok(bytes),
-            Ok(count) if count > MAX_FILE_BYTES - bytes.len() => return Err(OutsideFault::Failed),
+            Ok(count) if count > most as usize - bytes.len() => return Err(OutsideFault::Failed),
             Ok(count) => bytes.extend_from_slice(&piece[..count])?,
             Err(error) if error.kind() == ErrorKind::Interrupted => {}
             Err(error) => return Err(OutsideFault::from(error)),

@@ -9,6 +9,7 @@ ghost use Rattle.orca_words.specs.RequestIn.{migration_in};
 
 use crate::Status;
 use crate::concert::settled;
+use orca_base::limits::MAX_FILE_BYTES;
 use orca_course::Desk;
 use orca_cues::{check_any_script, print_script};
 use orca_rig::{Disk, House};
@@ -25,7 +26,7 @@ pub(crate) fn migrate<H: House>(
     ensures { CameBy (λ brought. loading migration.now.script.now brought.script
         (migrated (migration_in migration.now))) desk.old result desk.new }
 {
-    match desk.load(alloc, migration.script) {
+    match desk.load(alloc, migration.script, MAX_FILE_BYTES as u32) {
         Ok(Some(text)) => check_and_save(alloc, migration, text.as_slice(), desk),
         Ok(None) => Status::FileFault,
         Err(_) => Status::Memory,

@@ -16,7 +16,7 @@ use crate::concert::concert;
 use crate::opening::{Opening, attach};
 use crate::status::refused_status;
 use orca_base::Port;
-use orca_base::limits::{DEFAULT_SEED, MAX_CHANNEL};
+use orca_base::limits::{DEFAULT_SEED, MAX_CHANNEL, MAX_FILE_BYTES};
 use orca_course::{Desk, NoMemory};
 use orca_cues::{Room, Script, check_script2, print_script, room_parts, script_seed, whole_lines};
 use orca_grid::{Grid, GridRefusal};
@@ -76,7 +76,7 @@ fn end_all<H: House>(desk: &mut Desk<H>) -> Result<(), NoMemory>
 fn load<H: House>(alloc: Global, recovery: &Recovery<'_>, desk: &mut Desk<H>) -> Status
     ensures { CameBy (room_loaded (recovery_in recovery.now)) desk.old result desk.new }
 {
-    match desk.load(alloc, recovery.room) {
+    match desk.load(alloc, recovery.room, MAX_FILE_BYTES as u32) {
         Ok(Some(text)) => read_room(alloc, recovery, text.as_slice(), desk),
         Ok(None) => Status::FileFault,
         Err(_) => Status::Memory,

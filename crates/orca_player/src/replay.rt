@@ -10,6 +10,7 @@ ghost use Rattle.orca_reports.specs.Manners.{replay_manner};
 use crate::Status;
 use crate::concert::concert;
 use crate::opening::Opening;
+use orca_base::limits::MAX_FILE_BYTES;
 use orca_course::Desk;
 use orca_cues::{Script, check_any_script, script_seed};
 use orca_reports::ReplayReport;
@@ -21,7 +22,7 @@ pub(crate) fn replay<H: House>(opening: &mut Opening, name: &str, desk: &mut Des
         (script_outline opening.old.grid opening.old.seed opening.old.limit))
         desk.old result desk.new }
 {
-    match desk.load(opening.alloc, name) {
+    match desk.load(opening.alloc, name, MAX_FILE_BYTES as u32) {
         Ok(Some(text)) => {
             let script = text.as_slice();
             opening.seed = script_seed(script).unwrap_or(opening.seed);

@@ -26,7 +26,7 @@ use crate::recovery::recover;
 use crate::replay::replay;
 use crate::status::refused_status;
 use orca_base::Dims;
-use orca_base::limits::DEFAULT_HISTORY;
+use orca_base::limits::{DEFAULT_HISTORY, MAX_FILE_BYTES};
 use orca_clock::clock_law;
 use orca_course::Desk;
 use orca_cues::{Frames, Maker, Turns};
@@ -175,7 +175,7 @@ fn open<H: House>(alloc: Global, setup: &Setup<'_>, work: &Work<'_>, desk: &mut 
     let Ok(()) = attach_all(desk, setup) else {
         return Status::Memory;
     };
-    match desk.load(alloc, setup.grid) {
+    match desk.load(alloc, setup.grid, MAX_FILE_BYTES as u32) {
         Ok(Some(text)) => read_grid(alloc, setup, work, text.as_slice(), desk),
         Ok(None) => Status::FileFault,
         Err(_) => Status::Memory,

@@ -15,8 +15,11 @@ use Rattle.std.proofs.lemmas.Cmp.{nat_list_cmp_total}
 use Rattle.std.specs.Cmp.Lexicographic.{slice_cmp}
 use Rattle.std.specs.FinMap.{get, find, insert, remove, from_entries, get-from_entries, get-insert, get-remove, same_map, from_entries_push, nat_cmp-IsAntisymmetric, slice_cmp-IsAntisymmetric}
 use Rattle.std.specs.declared.alloc.Global.{Global}
+use Rattle.orca_base.specs.declared.limits.TheConstants.{MAX_ROOM_BYTES}
 use Rattle.orca_base.specs.declared.port.Port.{Port}
 use Rattle.orca_base.specs.Ports.{is_same_port}
+use Rattle.orca_rig.specs.Outside.{Contents}
+use Rattle.orca_rig.specs.Saved.{HasRoom}
 use Rattle.orca_rig.specs.InMemory.{named, files_of, sents, sends_to, attaches, attaches_to}
 
 -- a file: its name and its bytes
@@ -114,6 +117,19 @@ find_over (file ∷ files) (suc i) name bytes d q within is before =
     (λ first second.
     let same : name ≡ held = sym (same_bytes q name second) ∙ same_bytes q held first in
     absurd (cc (sym other ∙ same_bytes_back name held same))))
+
+-- a file that may be as large as these bytes are is no larger than a room may be
+pub has_room_after : (files after : Contents) (name held bytes : List ℕ)
+    → after ≡ insert files held bytes → held ≡ name → length bytes ≤ MAX_ROOM_BYTES
+    → HasRoom name (Some after)
+has_room_after files after name held bytes is same short =
+    rw (
+      is,
+      same,
+      get-insert nat_list_cmp_total files name bytes name,
+      is_eq-slice_cmp,
+      same_bytes_back name name refl,
+    ) short
 
 -- the first place of a name
 abbrev pub place_of : List ℕ → List File → ℕ

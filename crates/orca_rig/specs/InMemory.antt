@@ -7,9 +7,8 @@ use Rattle.std.specs.Ordering.{nat_cmp}
 use Rattle.std.specs.Str.{bytes_eq}
 use Rattle.std.specs.Cmp.Lexicographic.{slice_cmp}
 use Rattle.std.specs.FinMap as finite
-use Rattle.std.specs.Coded.{Coded, code_by, coded×, coded⊎, coded_list, coded_option, coded_ℕ}
 use Rattle.std.specs.declared.alloc.Global.{Global}
-use Rattle.orca_base.specs.declared.limits.TheConstants.{MAX_FILE_BYTES}
+use Rattle.orca_base.specs.declared.limits.TheConstants.{MAX_ROOM_BYTES}
 use Rattle.orca_base.specs.declared.port.Port.{Port}
 use Rattle.orca_base.specs.Ports.{Sent, is_same_port}
 use Rattle.orca_rig.specs.declared.fault.OutsideFault.{OutsideFault}
@@ -67,7 +66,7 @@ ask_of (call.Load name) = Ask.Load (string_bytes name)
 ask_of (call.Save name bytes) = Ask.Save (string_bytes name) bytes.items
 ask_of (call.Begin name bytes) = Ask.Begin (string_bytes name) bytes.items
 ask_of (call.Append name bytes) = Ask.Append (string_bytes name) bytes.items
-ask_of (call.Claim name bytes) = Ask.Claim (string_bytes name) bytes.items
+ask_of (call.Claim name bytes found) = Ask.Claim (string_bytes name) bytes.items found
 ask_of (call.Remove name) = Ask.Remove (string_bytes name)
 
 abbrev pub asks_of : List Call → List Ask
@@ -77,9 +76,15 @@ asks_of = map ask_of
 abbrev pub is_to_fail : List ℕ → ℕ → Bool
 is_to_fail fail calls = list_any (λ number. number == calls + 1) fail
 
--- no file of that name can be loaded: if there is one, it is too long
-abbrev pub IsUnloadable : Contents → List ℕ → Type 0
-IsUnloadable files name = IfSome (finite.get files name) (λ bytes. MAX_FILE_BYTES < length bytes)
+-- no file of that name can be loaded where it may have so many bytes: if there is one, it has more
+abbrev pub IsUnloadable : Contents → List ℕ → ℕ → Type 0
+IsUnloadable files name most = IfSome (finite.get files name) (λ bytes. most < length bytes)
+
+-- so many bytes can't be added to the file of that name: there is none, or it would be larger than a
+-- room may be
+abbrev pub IsFull : Contents → List ℕ → ℕ → Type 0
+IsFull files name more =
+    IfSome (finite.get files name) (λ bytes. MAX_ROOM_BYTES < length bytes + more)
 
 -- the names that are held as clauses see them
 abbrev pub claims_of : Holds → Claims
@@ -131,75 +136,3 @@ sents = map (λ sent. record { port = sent.0; bytes = sent.1.items })
 -- what was attached, as clauses see it
 abbrev pub attaches : List (Port × String Global) → List Attached
 attaches = map (λ attached. record { port = attached.0; name = string_bytes attached.1 })
-
--- a store is kept as the tuple of its parts
-abbrev pub store_code : Coded Store
-store_code =
-    code_by (Contents × (List Ask × (List ℕ × (ℕ × (ℕ × (List Name × (Option Name × List Name)))))))
-    (coded× (finite.code coded_name coded_name)
-    (coded× (coded_list ask_code)
-    (coded× coded_name
-    (coded× coded_ℕ
-    (coded× coded_ℕ
-    (coded× (coded_list coded_name)
-    (coded× (coded_option coded_name) (coded_list coded_name))))))))
-    (λ s. (
-      s.contents,
-      (s.asked, (s.fail, (s.faults, (s.wants, (s.spoilt, (s.claims.own, s.claims.others)))))),
-    ))
-    (λ p. record {
-      contents = p.0;
-      asked = p.1.0;
-      fail = p.1.1.0;
-      faults = p.1.1.1.0;
-      wants = p.1.1.1.1.0;
-      spoilt = p.1.1.1.1.1.0;
-      claims = record { own = p.1.1.1.1.1.1.0; others = p.1.1.1.1.1.1.1 };
-    })
-    (λ _. refl)
-  where
-    Name : Type 0
-    Name = List ℕ
-
-    coded_name : Coded Name
-    coded_name = coded_list coded_ℕ
-
-    Named : Type 0
-    Named = Name × List ℕ
-
-    Parts : Type 0
-    Parts = (Name ⊎ Name) ⊎ ((Named ⊎ Named) ⊎ (Named ⊎ Named))
-
-    parts_of : Ask → Parts
-    parts_of (Ask.Load name) = inl (inl name)
-    parts_of (Ask.Remove name) = inl (inr name)
-    parts_of (Ask.Save name bytes) = inr (inl (inl (name, bytes)))
-    parts_of (Ask.Begin name bytes) = inr (inl (inr (name, bytes)))
-    parts_of (Ask.Append name bytes) = inr (inr (inl (name, bytes)))
-    parts_of (Ask.Claim name bytes) = inr (inr (inr (name, bytes)))
-
-    ask_from : Parts → Ask
-    ask_from (inl (inl name)) = Ask.Load name
-    ask_from (inl (inr name)) = Ask.Remove name
-    ask_from (inr (inl (inl parts))) = Ask.Save parts.0 parts.1
-    ask_from (inr (inl (inr parts))) = Ask.Begin parts.0 parts.1
-    ask_from (inr (inr (inl parts))) = Ask.Append parts.0 parts.1
-    ask_from (inr (inr (inr parts))) = Ask.Claim parts.0 parts.1
-
-    ask_back : (call : Ask) → ask_from (parts_of call) ≡ call
-    ask_back (Ask.Load name) = refl
-    ask_back (Ask.Remove name) = refl
-    ask_back (Ask.Save name bytes) = refl
-    ask_back (Ask.Begin name bytes) = refl
-    ask_back (Ask.Append name bytes) = refl
-    ask_back (Ask.Claim name bytes) = refl
-
-    coded_named : Coded Named
-    coded_named = coded× coded_name coded_name
-
-    ask_code : Coded Ask
-    ask_code =
-        code_by Parts
-        (coded⊎ (coded⊎ coded_name coded_name)
-        (coded⊎ (coded⊎ coded_named coded_named) (coded⊎ coded_named coded_named)))
-        parts_of ask_from ask_back

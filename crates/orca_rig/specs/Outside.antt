@@ -4,22 +4,30 @@ use Rattle.std.specs.Option.{option_map}
 use Rattle.std.specs.Ordering.{nat_cmp}
 use Rattle.std.specs.Cmp.Lexicographic.{slice_cmp}
 use Rattle.std.specs.FinMap.{FinMap}
+use Rattle.std.specs.FinMap as finite
+use Rattle.std.specs.Coded.{Coded, coded_list, coded_ℕ}
 use Rattle.orca_rig.specs.declared.fault.OutsideFault.{OutsideFault}
 use Rattle.orca_rig.specs.declared.fault.OutsideFault.TheVariants.{Failed, Memory}
+use Rattle.orca_rig.specs.declared.files.Claim.{Claim as Claimed}
 
 -- files: a finite map from names to bytes
 abbrev pub Contents : Type 0
 Contents = FinMap (slice_cmp nat_cmp) (List ℕ)
 
+-- what tells the contents of two stores apart
+abbrev pub contents_code : Coded Contents
+contents_code = finite.code (coded_list coded_ℕ) (coded_list coded_ℕ)
+
 -- a call of a store: a load of the file of this name, a save of these bytes under this name, a
 -- begin of a file of this name with these bytes, an append of these bytes to the file of this name,
--- a claim of this name with these bytes, or a removal of the file of this name
+-- a claim of this name with these bytes and what it found, unless it failed, or a removal of the
+-- file of this name
 pub data Ask : Type 0 where
   Load : List ℕ → Ask
   Save : List ℕ → List ℕ → Ask
   Begin : List ℕ → List ℕ → Ask
   Append : List ℕ → List ℕ → Ask
-  Claim : List ℕ → List ℕ → Ask
+  Claim : List ℕ → List ℕ → Option Claimed → Ask
   Remove : List ℕ → Ask
 
 -- the last value of a counter of 64 bits, where it stands still

@@ -1,10 +1,11 @@
 -- What a save, a begin, an append, a claim and a removal leave.
-use Rattle.std.specs.Prelude.{◌≡◌, ◌≢◌, ℕ, Bool, ◌||◌, List, ◌++◌, map, Option, Some, None, IfSome, IsSome, Result, Ok, Err, ◌⊎◌, String, string_bytes}
+use Rattle.std.specs.Prelude.{◌≡◌, ◌≢◌, ◌≤◌, ℕ, Bool, true, false, ◌||◌, List, length, ◌++◌, map, Option, Some, None, IfSome, IsSome, Result, Ok, Err, ◌⊎◌, String, string_bytes}
 use Rattle.std.specs.List.{list_any}
 use Rattle.std.specs.Option.{option_map}
 use Rattle.std.specs.Str.{bytes_eq}
 use Rattle.std.specs.FinMap.{get, insert, remove}
 use Rattle.std.specs.declared.alloc.Global.{Global}
+use Rattle.orca_base.specs.declared.limits.TheConstants.{MAX_ROOM_BYTES}
 use Rattle.orca_rig.specs.declared.fault.OutsideFault.{OutsideFault}
 use Rattle.orca_rig.specs.declared.fault.OutsideFault.TheVariants.{Failed, Memory}
 use Rattle.orca_rig.specs.declared.files.Claim.{Claim}
@@ -43,6 +44,11 @@ IsAppended (Err Failed) name bytes old new =
     (new ≡ old) ⊎ ((more rest : List ℕ) × (bytes ≡ more ++ rest) × HasMore name more old new)
 IsAppended (Err Memory) name bytes old new = new ≡ old
 
+-- the file of this name is no larger than a room may be, where it is told
+abbrev pub HasRoom : List ℕ → Option Contents → Type 0
+HasRoom name files =
+    IfSome files (λ held. IfSome (get held name) (λ bytes. length bytes ≤ MAX_ROOM_BYTES))
+
 -- the file of this name is there, where it is told
 abbrev pub IsThere : List ℕ → Option Contents → Type 0
 IsThere name files = IfSome files (λ held. IsSome (get held name))
@@ -59,6 +65,25 @@ IsClaimed (Ok Left) name bytes old new = IsThere name old × (new ≡ old)
 IsClaimed (Ok Held) name bytes old new = IsThere name old × (new ≡ old)
 IsClaimed (Err Failed) name bytes old new = OthersStay name old new
 IsClaimed (Err Memory) name bytes old new = new ≡ old
+
+-- the names of the files that a program holds, this one or another
+abbrev pub Holds : Type 0
+Holds = List ℕ → Bool
+
+-- a claim tells a file that is there as held exactly where a program holds it, where that is told
+abbrev pub IsFound : Result Claim OutsideFault → List ℕ → Option Holds → Type 0
+IsFound (Ok Made) name held = Unit {0}
+IsFound (Ok Left) name held = IfSome held (λ holds. holds name ≡ false)
+IsFound (Ok Held) name held = IfSome held (λ holds. holds name ≡ true)
+IsFound (Err fault) name held = Unit {0}
+
+-- after a claim that made its file this program holds that, where it is told; after any other claim
+-- the same files are held
+abbrev pub IsHeldAfter : Result Claim OutsideFault → List ℕ → Option Holds → Option Holds → Type 0
+IsHeldAfter (Ok Made) name old new = IfSome new (λ holds. holds name ≡ true)
+IsHeldAfter (Ok Left) name old new = new ≡ old
+IsHeldAfter (Ok Held) name old new = new ≡ old
+IsHeldAfter (Err fault) name old new = new ≡ old
 
 -- after a removal there is no file of this name; where it was not removed all are as before
 abbrev pub IsRemoved : {T : Type 0}

@@ -1,9 +1,9 @@
 ghost use Rattle.std.specs.Prelude.{◌≡◌, ◌≤◌, ℕ, Bool, true, false, List, Option, Some, length, OnOk, OnErr, IfSome, IsErrOf};
 ghost use Rattle.std.specs.FinMap.{get};
-ghost use Rattle.orca_base.specs.declared.limits.TheConstants.{MAX_FILE_BYTES};
+ghost use Rattle.std.specs.Result.{result_ok};
 ghost use Rattle.orca_rig.specs.Outside.{Contents, Ask, Rose, after_call, wants_after};
 ghost use Rattle.orca_rig.specs.Outside.Ask.{Append, Begin, Load, Remove, Save};
-ghost use Rattle.orca_rig.specs.Saved.{IsAppended, IsClaimed, IsRemoved, IsSaved, spoilt_after};
+ghost use Rattle.orca_rig.specs.Saved.{HasRoom, Holds, IsAppended, IsClaimed, IsFound, IsHeldAfter, IsRemoved, IsSaved, spoilt_after};
 
 use crate::OutsideFault;
 
@@ -48,15 +48,20 @@ pub trait Files: Drop {
     /// a [`claim`](Files::claim) of the file of that name has failed.
     ghost spoilt: { Self → List ℕ → Bool };
 
-    /// Makes `into` exactly the bytes of the file of that name, which has at most
-    /// [`MAX_FILE_BYTES`](orca_base::limits::MAX_FILE_BYTES). After an error `into` is as before.
-    fn load(&mut self, name: &str, into: &mut Vec<u8>) -> Result<(), OutsideFault>
+    /// Whether a program holds the file of that name, this one or another, where that is told. It
+    /// says nothing of a name that no file has.
+    ghost held: { Self → Option Holds };
+
+    /// Makes `into` exactly the bytes of the file of that name, which has at most `most` bytes.
+    /// After an error `into` is as before.
+    fn load(&mut self, name: &str, most: u32, into: &mut Vec<u8>) -> Result<(), OutsideFault>
         ensures loaded { OnOk result (IfSome (contents self.old)
             (λ files. get files name.now ≡ Some into.new.items)) }
-        ensures short { OnOk result (length into.new.items ≤ MAX_FILE_BYTES) }
+        ensures short { OnOk result (length into.new.items ≤ most) }
         ensures untouched { OnErr result (into.new.items ≡ into.old.items) }
         ensures contents { contents self.new ≡ contents self.old }
         ensures spoilt { spoilt self.new ≡ spoilt self.old }
+        ensures held { held self.new ≡ held self.old }
         ensures asked { asked self.new ≡ after_call result (Load name.now) (asked self.old) }
 
         ensures count { faults self.old ≤ faults self.new }
@@ -76,6 +81,7 @@ pub trait Files: Drop {
         ensures saved { IsSaved result name.now bytes.now (contents self.old) (contents self.new) }
         ensures spoilt { (file : List ℕ) → spoilt self.new file
             ≡ spoilt_after result name.now file (spoilt self.old file) }
+        ensures held { held self.new ≡ held self.old }
         ensures asked { asked self.new
             ≡ after_call result (Save name.now bytes.now) (asked self.old) }
 
@@ -94,6 +100,7 @@ pub trait Files: Drop {
         ensures saved { IsSaved result name.now bytes.now (contents self.old) (contents self.new) }
         ensures spoilt { (file : List ℕ) → spoilt self.new file
             ≡ spoilt_after result name.now file (spoilt self.old file) }
+        ensures held { held self.new ≡ held self.old }
         ensures asked { asked self.new
             ≡ after_call result (Begin name.now bytes.now) (asked self.old) }
 
@@ -106,10 +113,12 @@ pub trait Files: Drop {
         ensures wants { wants self.new ≡ wants_after result (wants self.old) };
 
     /// Adds the bytes at the end of the file of that name, which was begun or claimed. A store may
-    /// also add to one that is only there. After [`OutsideFault::Failed`] a beginning of them was
-    /// added. After [`OutsideFault::Memory`] all are as before. Once a save, a begin, an append or
-    /// a claim of a file has failed, no later append adds to that file: it may be an older one, or
-    /// end in a piece that was cut off. No other file is spoilt.
+    /// also add to one that is only there. One that would make the file larger than
+    /// [`MAX_ROOM_BYTES`](orca_base::limits::MAX_ROOM_BYTES) is a failure. After
+    /// [`OutsideFault::Failed`] a beginning of them was added. After [`OutsideFault::Memory`] all
+    /// are as before. Once a save, a begin, an append or a claim of a file has failed, no later
+    /// append adds to that file: it may be an older one, or end in a piece that was cut off. No
+    /// other file is spoilt.
     fn append(&mut self, name: &str, bytes: &[u8]) -> Result<(), OutsideFault>
         ensures appended { IsAppended result name.now bytes.now
             (contents self.old) (contents self.new) }
@@ -117,6 +126,8 @@ pub trait Files: Drop {
             ≡ spoilt_after result name.now file (spoilt self.old file) }
         ensures whole { OnOk result (spoilt self.old name.now ≡ false) }
         ensures last { spoilt self.old name.now ≡ true → contents self.new ≡ contents self.old }
+        ensures room { OnOk result (HasRoom name.now (contents self.new)) }
+        ensures held { held self.new ≡ held self.old }
         ensures asked { asked self.new
             ≡ after_call result (Append name.now bytes.now) (asked self.old) }
 
@@ -138,8 +149,10 @@ pub trait Files: Drop {
             (contents self.old) (contents self.new) }
         ensures spoilt { (file : List ℕ) → spoilt self.new file
             ≡ spoilt_after result name.now file (spoilt self.old file) }
-        ensures asked { asked self.new
-            ≡ after_call result (Ask.Claim name.now bytes.now) (asked self.old) }
+        ensures found { IsFound result name.now (held self.old) }
+        ensures held { IsHeldAfter result name.now (held self.old) (held self.new) }
+        ensures asked { asked self.new ≡ after_call result
+            (Ask.Claim name.now bytes.now (result_ok result)) (asked self.old) }
 
         ensures count { faults self.old ≤ faults self.new }
         ensures failed { IsErrOf result OutsideFault.Failed
@@ -155,6 +168,7 @@ pub trait Files: Drop {
     fn remove(&mut self, name: &str) -> Result<(), OutsideFault>
         ensures removed { IsRemoved result name.now (contents self.old) (contents self.new) }
         ensures spoilt { spoilt self.new ≡ spoilt self.old }
+        ensures held { OnErr result (held self.new ≡ held self.old) }
         ensures asked { asked self.new ≡ after_call result (Remove name.now) (asked self.old) }
 
         ensures count { faults self.old ≤ faults self.new }

@@ -1,32 +1,33 @@
 ghost use Rattle.std.specs.Prelude.{◌≡◌, ◌+◌, min, ◌<◌, ◌≤◌, ◌^◌, [], ◌∷◌, ◌++◌, true, false, not, ◌⊎◌, ℕ, List, IsNone, length, position, string_bytes, vec_len, vec_capacity, Some, None, IsTrue, IfSome, IfNone, IsOk, IfOk, OnOk, OnErr, IsErrOf};
 ghost use Rattle.std.specs.Str.{bytes_eq};
 ghost use Rattle.std.specs.Option.{option_copied};
-ghost use Rattle.orca_base.specs.declared.limits.TheConstants.{MAX_FILE_BYTES};
+ghost use Rattle.std.specs.Result.{result_ok};
+ghost use Rattle.orca_base.specs.declared.limits.TheConstants.{MAX_ROOM_BYTES};
 ghost use Rattle.std.specs.Ordering.{nat_cmp};
 ghost use Rattle.std.specs.Cmp.Lexicographic.{slice_cmp};
 ghost use Rattle.std.specs.FinMap.{get, find, insert, remove};
 ghost use Rattle.orca_rig.specs.Outside.{Ask, Rose, after_call, last_count, wants_after};
 ghost use Rattle.orca_rig.specs.Outside.Ask.{Append, Begin, Load, Remove, Save};
-ghost use Rattle.orca_rig.specs.Saved.{IsAppended, IsClaimed, IsRemoved, IsSaved, is_spoilt, names_of, spoilt_after};
-ghost use Rattle.orca_rig.specs.InMemory.{named, files_of, asks_of, ask_of, names_differ, is_to_fail, IsUnloadable, claims_of, claims_after, found, is_held, is_own};
+ghost use Rattle.orca_rig.specs.Saved.{HasRoom, IsAppended, IsClaimed, IsRemoved, IsSaved, is_spoilt, names_of, spoilt_after};
+ghost use Rattle.orca_rig.specs.InMemory.{named, files_of, asks_of, ask_of, names_differ, is_to_fail, IsFull, IsUnloadable, claims_of, claims_after, found, is_held, is_own};
 
 use crate::spoilt::has_name;
 use crate::{Claim, Disk, Files, Misses, OutsideFault, is_spoilt, keep_spoilt};
 use orca_base::Memory;
-use orca_base::limits::MAX_FILE_BYTES;
+use orca_base::limits::MAX_ROOM_BYTES;
 use std::alloc::{AllocError, Global};
 use std::marker::Model;
 
 /// A call of a store: a load of the file of a name, a save of bytes under a name, a begin of a file
-/// of a name with bytes, an append of bytes to the file of a name, a claim of a name with bytes, or
-/// a removal of the file of a name.
+/// of a name with bytes, an append of bytes to the file of a name, a claim of a name with bytes and
+/// what it found, unless it failed, or a removal of the file of a name.
 #[derive(Drop)]
 enum Call {
     Load(String),
     Save(String, Vec<u8>),
     Begin(String, Vec<u8>),
     Append(String, Vec<u8>),
-    Claim(String, Vec<u8>),
+    Claim(String, Vec<u8>, Option<Claim>),
     Remove(String),
 }
 
@@ -50,12 +51,14 @@ pub struct MemFiles {
 }
 
 impl Model for MemFiles {
-    ghost use Rattle.orca_rig.specs.InMemory.{Store, store_code, files_of, asks_of, claims_of};
+    ghost use Rattle.std.specs.Coded.{codes};
+    ghost use Rattle.orca_rig.specs.InMemory.{Store, files_of, asks_of, claims_of};
+    ghost use Rattle.orca_rig.specs.Outside.{contents_code};
     ghost use Rattle.orca_rig.specs.Saved.{names_of};
 
     ghost Value = { Store };
 
-    ghost coded = { store_code };
+    ghost coded = { Prim.hlevel (codes, contents_code) };
 
     ghost view = { λ f. record {
       contents = files_of f.files.items;
@@ -146,14 +149,27 @@ fn bytes_of<'a>(files: &'a [(String, Vec<u8>)], name: &str) -> Option<&'a [u8]>
     None
 }
 
-/// The bytes of the file of that name, where it is there and short enough.
-fn loadable<'a>(files: &'a [(String, Vec<u8>)], name: &str) -> Option<&'a [u8]>
+/// The bytes of the file of that name, where it is there and has no more than so many.
+fn loadable<'a>(files: &'a [(String, Vec<u8>)], name: &str, most: u32) -> Option<&'a [u8]>
     ensures found { IfSome result (λ bytes. get (files_of files.now) name.now ≡ Some bytes.now) }
-    ensures short { IfSome result (λ bytes. length bytes.now ≤ MAX_FILE_BYTES) }
-    ensures none { IfNone result (IsUnloadable (files_of files.now) name.now) }
+    ensures short { IfSome result (λ bytes. length bytes.now ≤ most) }
+    ensures none { IfNone result (IsUnloadable (files_of files.now) name.now most) }
 {
     let bytes = bytes_of(files, name)?;
-    if bytes.len() > MAX_FILE_BYTES {
+    if bytes.len() > most as usize {
+        return None;
+    }
+    Some(bytes)
+}
+
+/// The bytes of the file of that name, where it is there and may have so many more.
+fn extensible<'a>(files: &'a [(String, Vec<u8>)], name: &str, more: usize) -> Option<&'a [u8]>
+    ensures found { IfSome result (λ bytes. get (files_of files.now) name.now ≡ Some bytes.now) }
+    ensures room { IfSome result (λ bytes. length bytes.now + more ≤ MAX_ROOM_BYTES) }
+    ensures none { IfNone result (IsFull (files_of files.now) name.now more) }
+{
+    let bytes = bytes_of(files, name)?;
+    if bytes.len() > MAX_ROOM_BYTES || more > MAX_ROOM_BYTES - bytes.len() {
         return None;
     }
     Some(bytes)
@@ -261,16 +277,23 @@ fn append_call(alloc: Global, name: &str, bytes: &[u8]) -> Result<Call, AllocErr
     Ok(Call::Append(String::from_str(alloc, name)?, bytes.to_vec(alloc)?))
 }
 
-/// A claim, as it is kept.
-fn claim_call(alloc: Global, name: &str, bytes: &[u8]) -> Result<Call, AllocError>
-    ensures { IfOk result (λ call. ask_of call ≡ Ask.Claim name.now bytes.now) }
+/// A claim and what it found, as it is kept.
+fn claim_call(
+    alloc: Global,
+    name: &str,
+    bytes: &[u8],
+    found: Option<Claim>,
+) -> Result<Call, AllocError>
+    ensures { IfOk result (λ call. ask_of call ≡ Ask.Claim name.now bytes.now found) }
 {
-    Ok(Call::Claim(String::from_str(alloc, name)?, bytes.to_vec(alloc)?))
+    let name = String::from_str(alloc, name)?;
+    Ok(Call::Claim(name, bytes.to_vec(alloc)?, found))
 }
 
 /// The bytes of a file with more at their end.
 fn joined(alloc: Global, held: &[u8], more: &[u8]) -> Result<Vec<u8>, AllocError>
-    ensures { IfOk result (λ all. all.items ≡ held.now ++ more.now) }
+    ensures all { IfOk result (λ all. all.items ≡ held.now ++ more.now) }
+    ensures count { IfOk result (λ all. length all.items ≡ length held.now + length more.now) }
 {
     let mut all = held.to_vec(alloc)?;
     all.extend_from_slice(more)?;
@@ -279,16 +302,16 @@ fn joined(alloc: Global, held: &[u8], more: &[u8]) -> Result<Vec<u8>, AllocError
 
 impl MemFiles {
     /// Does a load. Nothing is counted.
-    fn take(&mut self, name: &str, into: &mut Vec<u8>) -> Result<(), OutsideFault>
+    fn take(&mut self, name: &str, most: u32, into: &mut Vec<u8>) -> Result<(), OutsideFault>
         ensures loaded { OnOk result (get self.old.contents name.now ≡ Some into.new.items) }
-        ensures short { OnOk result (length into.new.items ≤ MAX_FILE_BYTES) }
+        ensures short { OnOk result (length into.new.items ≤ most) }
         ensures untouched { OnErr result (into.new.items ≡ into.old.items) }
         ensures asked { Some self.new.asked
             ≡ after_call result (Load name.now) (Some self.old.asked) }
         ensures same { self.new ≡ record self.old { asked = self.new.asked } }
         ensures cause { IsErrOf result OutsideFault.Failed
             → is_to_fail self.old.fail (length self.old.asked) ≡ false
-            → IsUnloadable self.old.contents name.now }
+            → IsUnloadable self.old.contents name.now most }
         ensures not_listed { OnOk result (is_to_fail self.old.fail (length self.old.asked)
             ≡ false) }
     {
@@ -296,7 +319,7 @@ impl MemFiles {
         let alloc = *into.allocator();
         let call = Call::Load(String::from_str(alloc, name)?);
         let fails = is_to_fail(&self.to_fail, &self.calls);
-        let (Some(bytes), false) = (loadable(&self.files, name), fails) else {
+        let (Some(bytes), false) = (loadable(&self.files, name, most), fails) else {
             self.calls.push_reserved(call);
             return Err(OutsideFault::Failed);
         };
@@ -388,6 +411,7 @@ impl MemFiles {
         ensures spoilt { (file : List ℕ) → is_spoilt self.new.spoilt file
             ≡ spoilt_after result name.now file (is_spoilt self.old.spoilt file) }
         ensures whole { OnOk result (is_spoilt self.old.spoilt name.now ≡ false) }
+        ensures room { OnOk result (HasRoom name.now (Some self.new.contents)) }
         ensures asked { Some self.new.asked
             ≡ after_call result (Append name.now bytes.now) (Some self.old.asked) }
         ensures fail { self.new.fail ≡ self.old.fail }
@@ -397,7 +421,7 @@ impl MemFiles {
         ensures cause { IsErrOf result OutsideFault.Failed
             → is_to_fail self.old.fail (length self.old.asked) ≡ false
             → (is_spoilt self.old.spoilt name.now ≡ true)
-            ⊎ IsNone (get self.old.contents name.now) }
+            ⊎ IsFull self.old.contents name.now (length bytes.now) }
         ensures not_listed { OnOk result (is_to_fail self.old.fail (length self.old.asked)
             ≡ false) }
     {
@@ -406,7 +430,7 @@ impl MemFiles {
         let call = append_call(alloc, name, bytes)?;
         let own = String::from_str(alloc, name)?;
         let fails = is_spoilt(&self.spoilt, name) || is_to_fail(&self.to_fail, &self.calls);
-        let (Some(held), false) = (bytes_of(&self.files, name), fails) else {
+        let (Some(held), false) = (extensible(&self.files, name, bytes.len()), fails) else {
             self.calls.push_reserved(call);
             return keep_spoilt(&mut self.spoilt, own, Err(OutsideFault::Failed));
         };
@@ -437,7 +461,8 @@ impl MemFiles {
         ensures spoilt { (file : List ℕ) → is_spoilt self.new.spoilt file
             ≡ spoilt_after result name.now file (is_spoilt self.old.spoilt file) }
         ensures asked { Some self.new.asked
-            ≡ after_call result (Ask.Claim name.now bytes.now) (Some self.old.asked) }
+            ≡ after_call result (Ask.Claim name.now bytes.now (result_ok result))
+            (Some self.old.asked) }
         ensures fail { self.new.fail ≡ self.old.fail }
         ensures faults { self.new.faults ≡ self.old.faults }
         ensures wants { self.new.wants ≡ self.old.wants }
@@ -450,13 +475,14 @@ impl MemFiles {
     {
         take_room(&mut self.calls, &mut self.files, &mut self.spoilt)?;
         let alloc = *self.files.allocator();
-        let call = claim_call(alloc, name, bytes)?;
         let held = String::from_str(alloc, name)?;
         if is_to_fail(&self.to_fail, &self.calls) {
-            self.calls.push_reserved(call);
+            self.calls
+                .push_reserved(claim_call(alloc, name, bytes, None)?);
             return keep_spoilt(&mut self.spoilt, held, Err(OutsideFault::Failed));
         }
         let claim = self.find(name);
+        let call = claim_call(alloc, name, bytes, Some(claim))?;
         if let Claim::Made = claim {
             let kept = bytes.to_vec(alloc)?;
             let own = String::from_str(alloc, name)?;
@@ -511,9 +537,11 @@ impl Files for MemFiles {
 
     ghost spoilt = { λ f. is_spoilt f.spoilt };
 
-    fn load(&mut self, name: &str, into: &mut Vec<u8>) -> Result<(), OutsideFault>
+    ghost held = { λ f. Some (is_held f.claims) };
+
+    fn load(&mut self, name: &str, most: u32, into: &mut Vec<u8>) -> Result<(), OutsideFault>
         ensures loaded { OnOk result (get self.old.contents name.now ≡ Some into.new.items) }
-        ensures short { OnOk result (length into.new.items ≤ MAX_FILE_BYTES) }
+        ensures short { OnOk result (length into.new.items ≤ most) }
         ensures untouched { OnErr result (into.new.items ≡ into.old.items) }
         ensures contents { self.new.contents ≡ self.old.contents }
         ensures spoilt { self.new.spoilt ≡ self.old.spoilt }
@@ -531,15 +559,15 @@ impl Files for MemFiles {
         ensures claims { self.new.claims ≡ self.old.claims }
         ensures cause { IsErrOf result OutsideFault.Failed
             → is_to_fail self.old.fail (length self.old.asked) ≡ false
-            → IsUnloadable self.old.contents name.now }
+            → IsUnloadable self.old.contents name.now most }
         ensures not_listed { OnOk result (is_to_fail self.old.fail (length self.old.asked)
             ≡ false) }
         ensures counted { IsErrOf result OutsideFault.Failed
             → self.new.faults ≡ min (self.old.faults + 1) last_count }
         ensures quiet { self.old.fail ≡ []
-            → self.old.faults < self.new.faults → IsUnloadable self.old.contents name.now }
+            → self.old.faults < self.new.faults → IsUnloadable self.old.contents name.now most }
     {
-        let done = self.take(name, into);
+        let done = self.take(name, most, into);
         self.misses.count(done)
     }
 
@@ -612,6 +640,7 @@ impl Files for MemFiles {
         ensures whole { OnOk result (is_spoilt self.old.spoilt name.now ≡ false) }
         ensures last { is_spoilt self.old.spoilt name.now ≡ true
             → self.new.contents ≡ self.old.contents }
+        ensures room { OnOk result (HasRoom name.now (Some self.new.contents)) }
         ensures asked { Some self.new.asked
             ≡ after_call result (Append name.now bytes.now) (Some self.old.asked) }
 
@@ -628,7 +657,7 @@ impl Files for MemFiles {
         ensures cause { IsErrOf result OutsideFault.Failed
             → is_to_fail self.old.fail (length self.old.asked) ≡ false
             → (is_spoilt self.old.spoilt name.now ≡ true)
-            ⊎ IsNone (get self.old.contents name.now) }
+            ⊎ IsFull self.old.contents name.now (length bytes.now) }
         ensures not_listed { OnOk result (is_to_fail self.old.fail (length self.old.asked)
             ≡ false) }
         ensures counted { IsErrOf result OutsideFault.Failed
@@ -644,7 +673,8 @@ impl Files for MemFiles {
         ensures spoilt { (file : List ℕ) → is_spoilt self.new.spoilt file
             ≡ spoilt_after result name.now file (is_spoilt self.old.spoilt file) }
         ensures asked { Some self.new.asked
-            ≡ after_call result (Ask.Claim name.now bytes.now) (Some self.old.asked) }
+            ≡ after_call result (Ask.Claim name.now bytes.now (result_ok result))
+            (Some self.old.asked) }
 
         ensures count { self.old.faults ≤ self.new.faults }
         ensures failed { IsErrOf result OutsideFault.Failed → Rose self.old.faults self.new.faults }

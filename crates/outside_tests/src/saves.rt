@@ -1,3 +1,4 @@
+use orca_base::limits::MAX_FILE_BYTES;
 use orca_edge::RealFiles;
 use orca_rig::{Disk, Files, OutsideFault};
 use std::os::fd::{AsRawFd, IntoRawFd};
@@ -8,6 +9,9 @@ use std::{fs, io, rt};
 
 /// A plain file that may be written, in a folder that takes no new file: the name of this process.
 const OLD: &str = "/proc/self/comm";
+
+/// The most bytes of a file that is looked at.
+const MOST: u32 = MAX_FILE_BYTES as u32;
 
 const FAILED: Result<(), OutsideFault> = Err(OutsideFault::Failed);
 
@@ -22,7 +26,7 @@ pub fn check_held<R: Abort + AllocGlobal, F: Files>(
     held: &[u8],
 ) {
     let mut bytes = Vec::new(rt.alloc());
-    assert!(rt; files.load(name, &mut bytes) == Ok(()));
+    assert!(rt; files.load(name, MOST, &mut bytes) == Ok(()));
     assert!(rt; bytes.as_slice() == held);
 }
 
@@ -30,7 +34,7 @@ pub fn check_held<R: Abort + AllocGlobal, F: Files>(
 fn a_save_that_fails_leaves_the_file(rt: HostRuntime) {
     let mut files = RealFiles::new(&rt);
     let mut before = Vec::new(rt.alloc());
-    assert!(rt; files.load(OLD, &mut before) == Ok(()));
+    assert!(rt; files.load(OLD, MOST, &mut before) == Ok(()));
     assert!(rt; files.save(OLD, b"first", Disk::Awaited) == FAILED);
     check_held(&rt, &mut files, OLD, before.as_slice());
 }

@@ -1,3 +1,4 @@
+use orca_base::limits::MAX_FILE_BYTES;
 use orca_edge::whole::{read_whole, write_whole};
 use std::alloc::Global;
 use std::io;
@@ -83,7 +84,7 @@ const READS: [(usize, Option<ErrorKind>, Option<usize>); 4] = [
 
 /// How many bytes are read, if all are.
 fn length_of(alloc: Global, reader: &mut SlowReader) -> Option<usize> {
-    let bytes = read_whole(alloc, reader).ok()?;
+    let bytes = read_whole(alloc, reader, MAX_FILE_BYTES as u32).ok()?;
     Some(bytes.len())
 }
 

@@ -1,11 +1,10 @@
 use Rattle.std.proofs.Common.{◌≤◌, length}
 use Rattle.std.specs.Io.KnownBytes.{Consumes}
-use Rattle.orca_base.specs.declared.limits.TheConstants.{MAX_FILE_BYTES}
 use Rattle.orca_edge.proofs.whole.read_whole.Given as goal
 
 -- what is kept was read, and is short enough
 abbrev pub invariant-loop : goal.invariant-loop
 invariant-loop g l = record {
-  short : length l.bytes.items ≤ MAX_FILE_BYTES;
+  short : length l.bytes.items ≤ l.initial.most;
   read : Consumes (g.R.Read.remaining l.initial.from) (g.R.Read.remaining l.from) l.bytes.items;
 }
