@@ -70,10 +70,12 @@ try_journal_saved_over() {
     printf '82..\n' | cmp - again
 }
 
-# synced WORD..: the calls on the disk that the program makes with these words, each with the name of its file alone
+# synced WORD..: the calls on the disk that the program makes with these words, each with the name of its file alone, and
+# N for the number of a new file
 synced() {
     strace -qq -y -e trace=fsync,rename -o calls "$program" "$@" >/dev/null 2>&1 </dev/null
-    sed -nE 's,^(fsync)\([0-9]+<.*/([^/]*)>\).*,\1 \2,p; s,^rename\(.*[/"]([^"/]+)"\).*,rename \1,p' calls
+    sed -nE 's,^(fsync)\([0-9]+<.*/([^/]*)>\).*,\1 \2,p; s,^rename\(.*[/"]([^"/]+)"\).*,rename \1,p' calls |
+        sed 's,\.orca-save-[0-9]*,.orca-save-N,'
 }
 
 # A save at the end is on the disk before the run ends: the file, then its name, then its folder. One by key waits for
@@ -81,10 +83,10 @@ synced() {
 try_syncs() {
     local folder=${work##*/}
     strace -qq true 2>/dev/null || { echo "outputs: calls on the disk are not looked at, since strace does not run here" && return; }
-    synced migrate old moved | cmp - <(printf '%s\n' 'fsync .orca-save-0' 'rename moved' "fsync $folder")
+    synced migrate old moved | cmp - <(printf '%s\n' 'fsync .orca-save-N' 'rename moved' "fsync $folder")
     printf '7\x11' >keyed
-    synced play piece ./keyed --bpm 1 --journal kept --save saved | cmp - <(printf '%s\n' 'fsync .orca-save-0' 'rename kept' \
-        "fsync $folder" 'fsync .orca-save-0' 'rename saved' "fsync $folder")
+    synced play piece ./keyed --bpm 1 --journal kept --save saved | cmp - <(printf '%s\n' 'fsync .orca-save-N' 'rename kept' \
+        "fsync $folder" 'fsync .orca-save-N' 'rename saved' "fsync $folder")
     printf '7\x13\x11' >keyed
     synced play piece ./keyed --bpm 1 | cmp - <(printf '%s\n' 'rename piece' 'fsync piece' "fsync $folder")
 }

@@ -5,6 +5,7 @@ ghost use Rattle.std.specs.Path.{path_buf_bytes, path_with_file_name};
 ghost use Rattle.std.specs.Io.KnownBytes.{Appends};
 ghost use Rattle.orca_edge.specs.Names.{behind, LeadsTo, IsBeside};
 
+use crate::moments::microseconds;
 use crate::whole::{status_of, write_whole};
 use libc::{LOCK_EX, LOCK_NB};
 use orca_rig::{Disk, OutsideFault};
@@ -14,6 +15,7 @@ use std::io::{ErrorKind, Write};
 use std::os::fd::{AsRawFd, IntoRawFd};
 use std::os::unix::fs::OpenOptionsExt;
 use std::path::PathBuf;
+use std::rt::Clock;
 use std::{fs, io, rt};
 
 /// The most symbolic links that are followed from one name, as many as the system follows.
@@ -150,7 +152,7 @@ pub(crate) fn replace<R>(
     disk: Disk,
 ) -> Result<(), OutsideFault>
 where
-    R: rt::Files + AllocGlobal,
+    R: rt::Files + AllocGlobal + Clock,
     R::File: IntoRawFd,
 {
     let (file, paths) = create_beside(rt, target_of(rt, name)?, wanted.mode())?;
@@ -170,7 +172,7 @@ pub(crate) fn replace_open<R>(
     wanted: Wanted<'_>,
 ) -> Result<R::File, OutsideFault>
 where
-    R: rt::Files + AllocGlobal,
+    R: rt::Files + AllocGlobal + Clock,
     R::File: IntoRawFd,
 {
     let (file, paths) = create_beside(rt, target_of(rt, name)?, wanted.mode())?;
@@ -188,7 +190,7 @@ pub(crate) fn make_locked<R>(
     bytes: &[u8],
 ) -> Result<Option<R::File>, OutsideFault>
 where
-    R: rt::Files + AllocGlobal,
+    R: rt::Files + AllocGlobal + Clock,
     R::File: AsRawFd + IntoRawFd,
 {
     let target = PathBuf::from_str(rt.alloc(), name)?;
@@ -318,7 +320,7 @@ fn follow(path: &mut PathBuf, link: &PathBuf) -> Result<(), AllocError>
 
 /// Creates a file in the folder of the target, under a name that no file has. It is written at its
 /// end.
-fn create_beside<R: rt::Files + AllocGlobal>(
+fn create_beside<R: rt::Files + AllocGlobal + Clock>(
     rt: &R,
     target: PathBuf,
     mode: u32,
@@ -331,7 +333,9 @@ fn create_beside<R: rt::Files + AllocGlobal>(
     let folder = folder_of(rt, &target)?;
     let mut options = OpenOptions::new();
     options.append(true).create_new(true).mode(mode);
-    for number in 0..MAX_NAMES {
+    let first = first_number(rt);
+    for tried in 0..MAX_NAMES {
+        let number = first.saturating_add(u64::from(tried));
         let name = format!(in rt.alloc(); ".orca-save-{number}")?;
         let fresh = target.with_file_name(rt.alloc(), name.as_str())?;
         match options.open(rt, &fresh) {
@@ -350,6 +354,15 @@ fn create_beside<R: rt::Files + AllocGlobal>(
         }
     }
     Err(OutsideFault::Failed)
+}
+
+/// The number of the first name that is tried for a new file: what the clock shows, in microseconds.
+/// So no files that were left in the folder are in the way.
+fn first_number<C: Clock>(clock: &C) -> u64 {
+    match clock.monotonic() {
+        Ok(shown) => microseconds(shown),
+        Err(_) => 0,
+    }
 }
 
 /// The folder that a file is in.

@@ -14,6 +14,7 @@ use std::fs::{OpenFile, OpenOptions, Permissions};
 use std::io::{ErrorKind, Read, Write};
 use std::os::fd::IntoRawFd;
 use std::os::unix::fs::MetadataExt;
+use std::rt::Clock;
 use std::{fs, rt};
 
 /// What an older journal begins with, as each script does.
@@ -22,7 +23,7 @@ const HEAD: [u8; 6] = *b"!orca ";
 /// Begins the file of that name with these bytes, and gives it, open to be added to.
 pub(crate) fn begin_file<R>(rt: &R, name: &str, bytes: &[u8]) -> Result<R::File, OutsideFault>
 where
-    R: rt::Files + AllocGlobal,
+    R: rt::Files + AllocGlobal + Clock,
     R::File: IntoRawFd,
 {
     let permissions = older_permissions(rt, name)?;
