@@ -4,3 +4,4 @@ mod EndsLemmas
 mod CommaLemmas
 mod WorkedWaits
 mod WorkedNames
+mod WorkedHttp

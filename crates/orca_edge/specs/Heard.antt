@@ -1,5 +1,5 @@
 -- What the streams of an inbox gave, and what is answered of it.
-use Rattle.std.specs.Prelude.{◌≡◌, ◌≢◌, ℕ, ◌+◌, ◌<◌, ◌≤◌, ◌==◌, ◌⊎◌, if◌then◌else◌, List, [], ◌∷◌, length, take, slice_index_or, Option, Result, Ok, Err, Bool, true, false}
+use Rattle.std.specs.Prelude.{◌≡◌, ◌≢◌, ℕ, ◌+◌, ◌<◌, ◌≤◌, ◌==◌, ◌&&◌, ◌⊎◌, not, if◌then◌else◌, List, [], ◌∷◌, length, take, slice_index_or, Option, Some, None, Result, Ok, Err, Bool, true, false}
 use Rattle.std.specs.List.{list_any}
 use Rattle.std.specs.IoError.{error_kind}
 use Rattle.std.specs.Io.KnownBytes.{Consumes, Keeps}
@@ -110,27 +110,33 @@ abbrev pub is_first_broken : {S : Type 0} → List (Hand S) → Bool
 is_first_broken [] = false
 is_first_broken (hand ∷ hands) = is_broken hand.state
 
--- nothing yet while a hand is open; after that a failure if hand 0 has broken, and else the end
-abbrev pub last_turn : {S : Type 0} → List (Hand S) → Glance
-last_turn hands =
-    if list_any (λ hand. is_open hand.state) hands then turn.Nothing
+-- a hand is not open any more whose end is that of all
+abbrev pub is_over : {S : Type 0} → (S → Bool) → List (Hand S) → Bool
+is_over leads = list_any (λ hand. leads hand.stream && not (is_open hand.state))
+
+-- nothing yet while a hand is open, and none has ended whose end is that of all; after that a
+-- failure if hand 0 has broken, and else the end
+abbrev pub last_turn : {S : Type 0} → (S → Bool) → List (Hand S) → Glance
+last_turn leads hands =
+    if list_any (λ hand. is_open hand.state) hands && not (is_over leads hands) then turn.Nothing
     else (if is_first_broken hands then turn.Answered answer.Failed
     else turn.Answered answer.End)
 
 -- the turn in which a hand gave this piece: the bytes are answered, and the hands are read again
 -- only where a signal came
-abbrev pub hand_turn : {S : Type 0} → Piece → ℕ → ℕ → List (Hand S) → Glance
-hand_turn (piece.Bytes count) hand now hands = turn.Answered (answer.Bytes hand count now)
-hand_turn piece.Nothing hand now hands = turn.Nothing
-hand_turn piece.Interrupted hand now hands = turn.Again
-hand_turn piece.End hand now hands = last_turn hands
-hand_turn piece.Broken hand now hands = last_turn hands
+abbrev pub hand_turn : {S : Type 0} → (S → Bool) → Piece → ℕ → ℕ → List (Hand S) → Glance
+hand_turn leads (piece.Bytes count) hand now hands = turn.Answered (answer.Bytes hand count now)
+hand_turn leads piece.Nothing hand now hands = turn.Nothing
+hand_turn leads piece.Interrupted hand now hands = turn.Again
+hand_turn leads piece.End hand now hands = last_turn leads hands
+hand_turn leads piece.Broken hand now hands = last_turn leads hands
 
 -- a turn tells what a read of this hand gave, and the hand stands as after that; where there is no
 -- such hand it has failed
-abbrev pub TellsRead : {S : Type 0} → List (Hand S) → List (Hand S) → ℕ → ℕ → Glance → Type 0
-TellsRead {S} old new hand now told =
-    (hand < length old → (piece : Piece) × (told ≡ hand_turn piece hand now new)
+abbrev pub TellsRead : {S : Type 0}
+    → (S → Bool) → List (Hand S) → List (Hand S) → ℕ → ℕ → Glance → Type 0
+TellsRead {S} leads old new hand now told =
+    (hand < length old → (piece : Piece) × (told ≡ hand_turn leads piece hand now new)
     × ((other : Hand S) → (slice_index_or new hand other).state
     ≡ state_after (slice_index_or old hand other).state piece))
     × (length old ≤ hand → told ≡ turn.Answered answer.Failed)
@@ -153,3 +159,13 @@ is_moment (answer.Bytes hand count at) = false
 is_moment (answer.Due at) = true
 is_moment answer.End = false
 is_moment answer.Failed = false
+
+-- the bytes of a hand that came with an answer, or without one
+abbrev pub came_bytes : ℕ → Option Answer → List ℕ → List ℕ
+came_bytes hand None filled = []
+came_bytes hand (Some answer) filled = hand_bytes hand answer filled
+
+-- there is a seat of this number, and it is free
+abbrev pub IsFree : {S : Type 0} → (S → Bool) → List (Hand S) → ℕ → Type 0
+IsFree {S} free hands number = (number < length hands)
+    × ((other : Hand S) → free (slice_index_or hands number other).stream ≡ true)

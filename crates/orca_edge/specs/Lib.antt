@@ -3,3 +3,4 @@ pub mod Heard
 pub mod Waits
 pub mod Names
 pub mod Owed
+pub mod Http

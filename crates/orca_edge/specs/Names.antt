@@ -29,6 +29,7 @@ file_and_address hands name =
 
 -- what is a file, and no connection
 abbrev pub is_file : {F : Type 0} → Source F → Bool
+is_file source.Vacant = false
 is_file (source.Connection stream) = false
 is_file (source.File file) = true
 is_file (source.Leashed pair) = true
@@ -39,9 +40,17 @@ is_of_file hand = is_file hand.stream
 
 -- whether a hand is heard over the terminal on a leash
 abbrev pub is_leashed : {F : Type 0} → Source F → Bool
+is_leashed source.Vacant = false
 is_leashed (source.Connection stream) = false
 is_leashed (source.File file) = false
 is_leashed (source.Leashed pair) = true
+
+-- whether nobody is there, after one who was no player was sent away
+abbrev pub is_vacant : {F : Type 0} → Source F → Bool
+is_vacant source.Vacant = true
+is_vacant (source.Connection stream) = false
+is_vacant (source.File file) = false
+is_vacant (source.Leashed pair) = false
 
 abbrev pub is_on_leash : {F : Type 0} → Hand (Source F) → Bool
 is_on_leash hand = is_leashed hand.stream

@@ -1,13 +1,13 @@
 //! The streams of the hands, the turns over them, and the waits between the turns.
 
-ghost use Rattle.std.specs.Prelude.{◌≡◌, ◌≢◌, ◌≤◌, ◌<◌, ◌+◌, ◌++◌, ◌∷◌, [], ℕ, min, nat_le, true, false, None, if◌then◌else◌, IfOk, OnOk, length, slice_index_or};
+ghost use Rattle.std.specs.Prelude.{◌≡◌, ◌≢◌, ◌≤◌, ◌<◌, ◌+◌, ◌++◌, ◌∷◌, [], ℕ, Bool, min, nat_le, true, false, None, if◌then◌else◌, IfOk, IfSome, IsNone, OnOk, length, slice_index_or, slice_set};
 ghost use Rattle.std.specs.List.{list_any};
 ghost use Rattle.std.specs.Option.{option_map_or};
 ghost use Rattle.std.specs.Io.KnownBytes.{Consumes};
 ghost use Rattle.orca_base.specs.declared.limits.TheConstants.{ARRIVAL_BYTES};
 ghost use Rattle.orca_rig.specs.Arrived.{MayAnswer};
 ghost use Rattle.orca_rig.specs.Outside.{last_count};
-ghost use Rattle.orca_edge.specs.Heard.{IsPieceOf, IsPiece, piece_bytes, hand_bytes, turn_bytes, is_moment, AreHeard, IsHandTurn, IsNext, IsNextAfter, TellsRead, state_after, hand_turn, is_open, is_broken, is_first_broken, last_turn};
+ghost use Rattle.orca_edge.specs.Heard.{IsPieceOf, IsPiece, IsFree, piece_bytes, came_bytes, turn_bytes, is_moment, AreHeard, IsHandTurn, IsNext, IsNextAfter, TellsRead, state_after, hand_turn, is_open, is_broken, is_first_broken, is_over, last_turn};
 
 use crate::moments::{FOREVER, Wait, Watch, has_come, milliseconds, wait_of};
 use crate::whole::{TRIES, status_of};
@@ -25,8 +25,8 @@ use std::{io, thread};
 /// The number of no descriptor, about which the system tells nothing.
 pub(crate) const NONE: RawFd = -1;
 
-/// The most descriptors that the system is asked about: two for each hand.
-const MOST_ASKED: usize = 2 * MAX_HANDS as usize;
+/// The most descriptors that the system is asked about: two for each hand, and that of the door.
+const MOST_ASKED: usize = 2 * MAX_HANDS as usize + 1;
 
 /// What the system is asked about a hand: nothing about one that is not open.
 const NOT_ASKED: pollfd = pollfd {
@@ -45,6 +45,27 @@ pub(crate) trait Wakes {
 pub(crate) trait Shows {
     /// Shows these bytes there, as far as that takes them at once.
     fn show(&mut self, bytes: &[u8]);
+}
+
+/// Who sits where a stream is heard.
+pub(crate) trait Sits {
+    /// Nobody does, and the next who comes may.
+    ghost free: { Self → Bool };
+
+    /// The end of the stream is the end for all.
+    ghost leads: { Self → Bool };
+
+    /// Whether the seat is free.
+    fn is_free(&self) -> bool
+        ensures { result ≡ free self.now };
+
+    /// Whether the end of the stream is the end for all.
+    fn leads(&self) -> bool
+        ensures { result ≡ leads self.now };
+
+    /// Whether it may still turn out that whoever sits there is no player, or somebody may still
+    /// come.
+    fn is_awaited(&self) -> bool;
 }
 
 /// The hands, hand 0 first.
@@ -173,7 +194,7 @@ impl<S: Read> Hand<S> {
     }
 }
 
-impl<S: Read> Hands<S> {
+impl<S: Read + Sits> Hands<S> {
     /// No hand yet, and room for so many.
     pub(crate) fn new(alloc: Global, count: u8) -> Result<Hands<S>, AllocError>
         ensures { IfOk result (λ hands. hands.hands.items ≡ []) }
@@ -192,6 +213,38 @@ impl<S: Read> Hands<S> {
     {
         let state = State::Open;
         self.hands.push(Hand { stream, state })
+    }
+
+    /// The lowest seat that is free.
+    pub(crate) fn free(&self) -> Option<u8>
+        ensures { IfSome result (IsFree S.free self.now.hands.items) }
+    {
+        for number in 0..MAX_HANDS {
+            if let Some(hand) = self.hands.get(usize::from(number)) {
+                if hand.stream.is_free() {
+                    return Some(number);
+                }
+            }
+        }
+        None
+    }
+
+    /// Gives a free seat to what this stream is heard over. The others stay as they are.
+    pub(crate) fn seat(&mut self, number: u8, stream: S)
+    where
+        S: Drop,
+        requires { IsFree S.free self.old.hands.items number }
+        ensures seated { self.new.hands.items ≡ slice_set self.old.hands.items number
+            (record { stream = stream; state = State.Open }) }
+        ensures turns { (self.new.next ≡ self.old.next) × (self.new.reads ≡ self.old.reads) }
+    {
+        let state = State::Open;
+        self.hands[usize::from(number)] = Hand { stream, state };
+    }
+
+    /// Whether a seat is free, or may still turn out to be.
+    pub(crate) fn is_awaited(&self) -> bool {
+        self.hands.iter().any(|hand| hand.stream.is_awaited())
     }
 
     /// How many hands there are.
@@ -213,7 +266,8 @@ impl<S: Read> Hands<S> {
         ensures due { option_map_or (λ moment. nat_le moment now) due false ≡ true
             → result ≡ Glance.Answered (Answer.Due now) }
         ensures told { option_map_or (λ moment. nat_le moment now) due false ≡ false
-            → TellsRead self.old.hands.items self.new.hands.items self.old.next now result }
+            → TellsRead S.leads self.old.hands.items self.new.hands.items self.old.next now
+            result }
         ensures next { option_map_or (λ moment. nat_le moment now) due false ≡ false
             → IsNext self.old.next self.new.next (length self.old.hands.items) }
         ensures waits { option_map_or (λ moment. nat_le moment now) due false ≡ true
@@ -240,7 +294,7 @@ impl<S: Read> Hands<S> {
 
     /// The turn in which this hand gave the piece.
     fn turn_of(&self, piece: Piece, hand: u8, now: u64) -> Glance
-        ensures { result ≡ hand_turn piece hand now self.now.hands.items }
+        ensures { result ≡ hand_turn S.leads piece hand now self.now.hands.items }
     {
         match piece {
             Piece::Bytes(count) => Glance::Answered(Answer::Bytes {
@@ -254,11 +308,12 @@ impl<S: Read> Hands<S> {
         }
     }
 
-    /// What a turn gives whose hand brings nothing any more: the last answer, once no hand is open.
+    /// What a turn gives whose hand brings nothing any more: the last answer, once no hand is open,
+    /// or one has ended whose end is that of all.
     fn last_turn(&self) -> Glance
-        ensures { result ≡ last_turn self.now.hands.items }
+        ensures { result ≡ last_turn S.leads self.now.hands.items }
     {
-        if self.is_open() {
+        if self.is_open() && !self.is_over() {
             Glance::Nothing
         } else if self.is_broken() {
             Glance::Answered(Answer::Failed)
@@ -272,6 +327,15 @@ impl<S: Read> Hands<S> {
         ensures { result ≡ list_any (λ hand. is_open hand.state) self.now.hands.items }
     {
         self.hands.iter().any(|hand| hand.state.is_open())
+    }
+
+    /// Whether a hand is not open any more whose end is that of all.
+    fn is_over(&self) -> bool
+        ensures { result ≡ is_over S.leads self.now.hands.items }
+    {
+        self.hands
+            .iter()
+            .any(|hand| hand.stream.leads() && !hand.state.is_open())
     }
 
     /// Whether hand 0 has broken.
@@ -308,62 +372,72 @@ impl<S: Shows> Hands<S> {
     }
 }
 
-impl<S: Read + Wakes> Hands<S> {
-    /// Waits for bytes or for the moment. Bytes go before the moment where the last answer was a
-    /// moment.
+impl<S: Read + Sits + Wakes> Hands<S> {
+    /// Waits for bytes or for the moment, or until somebody is at the door while a seat is free: then
+    /// it answers nothing. Bytes go before the moment where the last answer was a moment.
     pub(crate) fn wait<C: Clock>(
         &mut self,
         clock: &Watch<'_, C>,
         was_due: bool,
         until: Option<u64>,
+        door: RawFd,
         bytes: &mut [u8; ARRIVAL_BYTES],
-    ) -> Answer
-        ensures answer { MayAnswer until clock.now.last result }
+    ) -> Option<Answer>
+        ensures answer { IfSome result (MayAnswer until clock.now.last) }
         // A moment follows a moment only once as many reads as there are hands found nothing.
-        ensures patient { was_due ≡ true → is_moment result ≡ true
+        ensures patient { was_due ≡ true → option_map_or is_moment result false ≡ true
             → length self.old.hands.items ≤ self.new.reads }
-        ensures next { IsNextAfter result self.new.next (length self.old.hands.items) }
+        ensures next { IfSome result (λ answer.
+            IsNextAfter answer self.new.next (length self.old.hands.items)) }
         ensures heard { AreHeard S.remaining self.old.hands.items self.new.hands.items
-            (λ hand. hand_bytes hand result bytes.new) }
+            (λ hand. came_bytes hand result bytes.new) }
     {
         self.reads = 0;
         let mut due = first_due(was_due, until);
         let mut unread = self.len();
         for _ in 0..TRIES {
             let Ok(now) = clock.moment() else {
-                return Answer::Failed;
+                return Some(Answer::Failed);
             };
             match self.turn(due, now, bytes) {
-                Glance::Answered(answer) => return answer,
+                Glance::Answered(answer) => return Some(answer),
                 Glance::Again => unread = self.len(),
                 Glance::Nothing => unread = unread.saturating_sub(1),
             }
             // A wait for events comes only after a round in which no hand had anything.
             if unread == 0 {
-                if self.rest(clock.rt, wait_of(until, now)).is_err() {
-                    return Answer::Failed;
+                match self.rest(clock.rt, wait_of(until, now), door) {
+                    Ok(false) => {}
+                    Ok(true) => return None,
+                    Err(_) => return Some(Answer::Failed),
                 }
                 due = until;
                 unread = self.len();
             }
         }
-        Answer::Failed
+        Some(Answer::Failed)
     }
 
-    /// Waits for events, or sleeps, or goes on at once. A signal ends a wait.
-    fn rest<C: Clock>(&self, rt: &C, wait: Wait) -> io::Result<()> {
+    /// Waits for events, or sleeps, or goes on at once. A signal ends a wait. It answers whether
+    /// somebody is at the door while a seat is free.
+    fn rest<C: Clock>(&self, rt: &C, wait: Wait, door: RawFd) -> io::Result<bool> {
         let limit = match wait {
-            Wait::Look => return Ok(()),
+            Wait::Look => return Ok(false),
             Wait::Sleep(pause) => {
                 thread::sleep(rt, Duration::from_micros(pause));
-                return Ok(());
+                return Ok(false);
             }
             Wait::Events(limit) => milliseconds(limit),
             Wait::Forever => FOREVER,
         };
-        match status_of(poll(&mut self.asked(), limit)) {
-            Err(error) if error.kind() != ErrorKind::Interrupted => Err(error),
-            _ => Ok(()),
+        let mut asked = self.asked();
+        if self.free().is_some() {
+            asked[MOST_ASKED - 1].fd = door;
+        }
+        match status_of(poll(&mut asked, limit)) {
+            Ok(()) => Ok(asked[MOST_ASKED - 1].revents != 0),
+            Err(error) if error.kind() == ErrorKind::Interrupted => Ok(false),
+            Err(error) => Err(error),
         }
     }
 

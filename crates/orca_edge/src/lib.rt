@@ -6,6 +6,7 @@ mod claim;
 mod connection;
 mod fresh;
 mod hands;
+mod http;
 mod journal;
 mod moments;
 mod owed;

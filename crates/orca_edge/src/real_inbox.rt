@@ -1,14 +1,14 @@
-ghost use Rattle.std.specs.Prelude.{◌≡◌, ◌≢◌, ◌≤◌, ◌<◌, ◌+◌, ◌++◌, ◌∷◌, [], true, false, None, length, map, replicate, take, IfOk, OnOk, OnErr, IfSome, IsErrOf, IsSomeAnd};
+ghost use Rattle.std.specs.Prelude.{◌≡◌, ◌≢◌, ◌≤◌, ◌<◌, ◌+◌, ◌++◌, ◌∷◌, [], true, false, None, length, map, replicate, take, IsErr, IfOk, OnOk, OnErr, IfSome, IsErrOf, IsSomeAnd};
 ghost use Rattle.std.specs.Io.{ReadsAtMost};
 ghost use Rattle.std.specs.Option.{option_map, option_map_or};
 ghost use Rattle.orca_rig.specs.Outside.{Rose, wants_after};
-ghost use Rattle.orca_rig.specs.Arrived.{moment_after, is_ending};
+ghost use Rattle.orca_rig.specs.Arrived.{moment_after, is_ending, MayAnswer};
 ghost use Rattle.orca_edge.specs.Heard.{is_moment, IsOfOne};
-ghost use Rattle.orca_edge.specs.Names.{names_file, names_terminal, file_and_address, are_of_files, is_of_file, is_on_leash};
+ghost use Rattle.orca_edge.specs.Names.{names_file, names_terminal, file_and_address, are_of_files, is_leashed, is_of_file, is_on_leash, is_vacant};
 ghost use Rattle.orca_base.specs.declared.limits.TheConstants.{MAX_HANDS};
 
 use crate::connection::Connection;
-use crate::hands::{Hands, NONE, Shows, Wakes};
+use crate::hands::{Hands, NONE, Shows, Sits, Wakes};
 use crate::moments::{FOREVER, Watch, microseconds};
 use crate::whole::{TRIES, status_of, unless_interrupted, unless_silent};
 use libc::net::{POLLIN, poll};
@@ -28,9 +28,14 @@ const TERMINAL: &str = "/dev/tty";
 /// What whoever started the program tells it by.
 const LEASH: &str = "/dev/stdin";
 
+/// The descriptors of which any end is the end for all, where there are none.
+const NO_ENDS: [RawFd; 2] = [NONE, NONE];
+
 /// What a hand is heard over.
 #[derive(Drop)]
 enum Source<F> {
+    /// Nothing: who had connected was no player, and was sent away. The next one may sit there.
+    Vacant,
     Connection(Connection<TcpStream>),
     /// A terminal, a pipe, a device or a plain file.
     File(F),
@@ -61,12 +66,47 @@ impl<F: Read> Leashed<F> {
     }
 }
 
-impl<F: Read> Read for Source<F> {
+impl<F: Read + Drop> Read for Source<F> {
     fn read(&mut self, bytes: &mut [u8]) -> io::Result<usize> {
         match self {
-            Source::Connection(connection) => connection.stream.read(bytes),
+            Source::Vacant => Err(io::Error::from(ErrorKind::WouldBlock)),
+            Source::Connection(connection) => match connection.hear(bytes) {
+                Some(read) => read,
+                None => {
+                    *self = Source::Vacant;
+                    Err(io::Error::from(ErrorKind::WouldBlock))
+                }
+            },
             Source::File(file) => file.read(bytes),
             Source::Leashed(pair) => pair.hear(bytes),
+        }
+    }
+}
+
+impl<F> Sits for Source<F> {
+    ghost free = { is_vacant };
+
+    ghost leads = { is_leashed };
+
+    fn is_free(&self) -> bool {
+        match self {
+            Source::Vacant => true,
+            Source::Connection(_) | Source::File(_) | Source::Leashed(_) => false,
+        }
+    }
+
+    fn leads(&self) -> bool {
+        match self {
+            Source::Leashed(_) => true,
+            Source::Vacant | Source::Connection(_) | Source::File(_) => false,
+        }
+    }
+
+    fn is_awaited(&self) -> bool {
+        match self {
+            Source::Vacant => true,
+            Source::Connection(connection) => !connection.is_heard(),
+            Source::File(_) | Source::Leashed(_) => false,
         }
     }
 }
@@ -79,17 +119,7 @@ impl<F> Shows for Source<F> {
                 // What was given up is told by what the next one begins with.
                 let _ = connection.paint(bytes);
             }
-            Source::File(_) | Source::Leashed(_) => {}
-        }
-    }
-}
-
-impl<F: AsRawFd> Source<F> {
-    /// The descriptor of its leash, if it is on one.
-    fn leash(&self) -> RawFd {
-        match self {
-            Source::Connection(_) | Source::File(_) => NONE,
-            Source::Leashed(pair) => pair.leash.as_raw_fd(),
+            Source::Vacant | Source::File(_) | Source::Leashed(_) => {}
         }
     }
 }
@@ -97,6 +127,7 @@ impl<F: AsRawFd> Source<F> {
 impl<F: AsRawFd> Wakes for Source<F> {
     fn wakers(&self) -> (RawFd, RawFd) {
         match self {
+            Source::Vacant => (NONE, NONE),
             Source::Connection(connection) => (connection.stream.as_raw_fd(), NONE),
             Source::File(file) => (file.as_raw_fd(), NONE),
             Source::Leashed(pair) => (pair.terminal.as_raw_fd(), pair.leash.as_raw_fd()),
@@ -116,9 +147,14 @@ impl<F: AsRawFd> Wakes for Source<F> {
 /// before it names a file by the rule above. The file is hand 0. It is opened first, so that nobody
 /// else can be that. To one hand a comma is a letter of the name.
 ///
+/// A web page is no player: a browser sends the head of a request in one piece, so the first read
+/// of its connection begins as one (`begins_as_http`). The bytes of that read are nobody's. A
+/// browser may also connect ahead and be silent, so the door stays open until each connection has
+/// given a byte.
+///
 /// The file `-` is the terminal of the program, `/dev/tty`, on a leash: the standard input is heard
-/// as the same hand, before the terminal, and the end of either is the end of the hand. So whoever
-/// starts the program can tell it the size of the window, and end its keys. `./-` is a file of that
+/// as the same hand, before the terminal, and the end of either is the end for all hands. So whoever
+/// starts the program can tell it the size of the window, and end it. `./-` is a file of that
 /// name.
 ///
 /// | what happens | what is answered |
@@ -128,12 +164,15 @@ impl<F: AsRawFd> Wakes for Source<F> {
 /// | there are several hands, and the name is that of a file alone | `listen_hands` fails |
 /// | fewer connect than there are hands without a file | `listen_hands` waits |
 /// | nobody has the pipe open for writing | `listen_hands` waits |
-/// | whoever holds the leash of `-` closes it while others are waited for | `listen_hands` fails |
+/// | the leash of `-` or the terminal ends while others are waited for | `listen_hands` fails |
+/// | the first read of a connection begins as HTTP does | it is closed; the next is that hand |
+/// | somebody else connects while a connection is silent | nothing, as long as it is |
+/// | somebody else connects later | it is refused |
 /// | a peer closes its end, also inside the bytes of a key | its bytes, and then no more of it |
 /// | a pipe's last writer closes it, a plain file has been read, a terminal hangs up | the same |
-/// | whoever holds the leash closes it, or is killed | the same, also if more keys are there |
 /// | a peer resets its connection | no more of it; bytes that came before may be lost |
 /// | a device is taken away, or a read of a terminal fails that another job has now | the same |
+/// | the leash of `-` is closed, also by a kill, or its terminal ends | all count as gone |
 /// | all have gone | [`Answer::End`], or [`Answer::Failed`] if that of hand 0 broke |
 /// | a hand is told something | its connection gets that, but one that was closed, and no file |
 /// | a connection has no room for all of it | the rest is dropped; what follows begins with CAN |
@@ -153,7 +192,7 @@ impl<F: AsRawFd> Wakes for Source<F> {
 #[derive(Drop)]
 pub struct RealInbox<'a, R: Net + rt::Files> {
     clock: Watch<'a, R>,
-    /// What was bound before `listen_hands`.
+    /// What was bound before `listen_hands`; after it the door, as long as somebody is awaited.
     bound: Option<R::Listener>,
     hands: Option<Hands<Source<R::File>>>,
     /// The last answer was [`Answer::Due`].
@@ -216,10 +255,36 @@ where
     {
         let rt = self.clock.rt;
         let mut opened = Hands::new(rt.alloc(), hands)?;
-        open_named(rt, self.bound.take(), name, hands, &mut opened)?;
+        self.bound = open_named(rt, self.bound.take(), name, hands, &mut opened)?;
         self.clock.origin = microseconds(rt.monotonic()?);
         self.hands = Some(opened);
         Ok(())
+    }
+
+    /// Waits for bytes or for the moment, and lets in who comes meanwhile while a seat is free.
+    fn hear(&mut self, until: Option<u64>, bytes: &mut [u8; ARRIVAL_BYTES]) -> Answer
+        ensures answer { MayAnswer until self.old.clock.last result }
+        ensures hand_count { option_map_or (λ opened. length opened.hands.items) self.new.hands 0
+            ≡ option_map_or (λ opened. length opened.hands.items) self.old.hands 0 }
+        ensures clock { self.new.clock ≡ self.old.clock }
+        ensures listened { self.new.listened ≡ self.old.listened }
+        ensures misses { self.new.misses ≡ self.old.misses }
+    {
+        let Some(hands) = &mut self.hands else {
+            return Answer::Failed;
+        };
+        let mut was_due = self.was_due;
+        for _ in 0..TRIES {
+            let door = door_of(&self.bound);
+            let answer = hands.wait(&self.clock, was_due, until, door, bytes);
+            see_to(&mut self.bound, hands);
+            if let Some(answer) = answer {
+                return answer;
+            }
+            // Each hand was read, and had nothing. So many who come hold no moment up.
+            was_due = false;
+        }
+        Answer::Failed
     }
 
     /// Keeps what was answered.
@@ -269,7 +334,8 @@ where
     ghost wants = { λ i. i.misses.wants };
 
     /// Opens the file, where the name says one, and waits until as many have connected to the
-    /// address as there are other hands. Then it accepts nobody else. The moment of the start is 0.
+    /// address as there are other hands. Then it accepts nobody else, but in the place of those who
+    /// turn out to be no players. The moment of the start is 0.
     fn listen_hands(&mut self, name: &str, hands: u8) -> Result<u64, OutsideFault>
         requires fresh { self.old.listened ≡ false }
         requires some { 1 ≤ hands }
@@ -311,10 +377,7 @@ where
     ) -> Answer {
         // What was sent is written down by an inbox that tells its log.
         let _ = outs;
-        let answer = match &mut self.hands {
-            Some(hands) => hands.wait(&self.clock, self.was_due, until, bytes),
-            None => Answer::Failed,
-        };
+        let answer = self.hear(until, bytes);
         self.keep(answer);
         answer
     }
@@ -370,7 +433,7 @@ fn open_named<R>(
     name: &str,
     hands: u8,
     opened: &mut Hands<Source<R::File>>,
-) -> Result<(), OutsideFault>
+) -> Result<Option<R::Listener>, OutsideFault>
 where
     R: AllocGlobal + Net<Stream = TcpStream> + rt::Files + Clock,
     R::File: AsRawFd,
@@ -381,25 +444,31 @@ where
         ≡ map is_of_file opened.old.hands.items ++ are_of_files hands name.now) }
 {
     if let Some((file, address)) = file_and_address(name, hands) {
-        let leash = open_file(rt, file, 1, opened)?;
+        let ends = open_file(rt, file, 1, opened)?;
         let listener = listener_at(rt, bound, address)?;
-        accept_all(&listener, leash, hands - 1, opened)
+        accept_all(&listener, ends, hands - 1, opened)?;
+        listener.set_nonblocking(true)?;
+        Ok(Some(listener))
     } else if is_file_name(name) {
         open_file(rt, name, hands, opened)?;
-        Ok(())
+        Ok(None)
     } else {
-        accept_all(&listener_at(rt, bound, name)?, NONE, hands, opened)
+        let listener = listener_at(rt, bound, name)?;
+        accept_all(&listener, NO_ENDS, hands, opened)?;
+        listener.set_nonblocking(true)?;
+        Ok(Some(listener))
     }
 }
 
-/// Opens the file for the one hand that there may be, and gives the descriptor of its leash, if it
-/// is on one. That a pipe is opened waits until somebody has it open for writing.
+/// Opens the file for the one hand that there may be, and gives the descriptors of which any end is
+/// the end for all: those of a terminal and its leash. That a pipe is opened waits until somebody
+/// has it open for writing.
 fn open_file<R: rt::Files>(
     rt: &R,
     name: &str,
     hands: u8,
     opened: &mut Hands<Source<R::File>>,
-) -> Result<RawFd, OutsideFault>
+) -> Result<[RawFd; 2], OutsideFault>
 where
     R::File: AsRawFd,
     ensures alone { OnOk result (hands ≡ 1) }
@@ -421,9 +490,17 @@ where
     } else {
         Source::File(open_to_hear(rt, name)?)
     };
-    let leash = source.leash();
+    let ends = ends_of(&source);
     opened.add(source)?;
-    Ok(leash)
+    Ok(ends)
+}
+
+/// The descriptors of which any end is the end for all.
+fn ends_of<F: AsRawFd>(source: &Source<F>) -> [RawFd; 2] {
+    match source {
+        Source::Vacant | Source::Connection(_) | Source::File(_) => NO_ENDS,
+        Source::Leashed(pair) => [pair.terminal.as_raw_fd(), pair.leash.as_raw_fd()],
+    }
 }
 
 /// Opens a file for reading, so that no read of it waits.
@@ -448,11 +525,11 @@ fn listener_at<R: Net>(
     }
 }
 
-/// Accepts so many connections, one after another. The end of the leash, if there is one, ends
+/// Accepts so many connections, one after another. The end of one of these, if there are any, ends
 /// that.
 fn accept_all<L: OpenListener<Stream = TcpStream> + AsRawFd, F: Read + Drop>(
     listener: &L,
-    leash: RawFd,
+    ends: [RawFd; 2],
     hands: u8,
     opened: &mut Hands<Source<F>>,
 ) -> Result<(), OutsideFault>
@@ -462,19 +539,74 @@ fn accept_all<L: OpenListener<Stream = TcpStream> + AsRawFd, F: Read + Drop>(
         ≡ map is_of_file opened.old.hands.items ++ replicate hands false) }
 {
     for _hand in 0..hands {
-        let stream = accept(listener, leash)?;
-        stream.set_nonblocking(true)?;
-        // A picture is to be seen at once, also if the one before it was not taken yet.
-        stream.set_nodelay(true)?;
+        let stream = accept(listener, ends)?;
+        make_prompt(&stream)?;
         opened.add(Source::Connection(Connection::new(stream)))?;
     }
     Ok(())
 }
 
+/// Makes a connection one of which no read and no write waits. A picture is to be seen at once, also
+/// if the one before it was not taken yet.
+fn make_prompt(stream: &TcpStream) -> io::Result<()> {
+    stream.set_nonblocking(true)?;
+    stream.set_nodelay(true)
+}
+
+/// The descriptor of the door, if it is open.
+fn door_of<L: AsRawFd>(listener: &Option<L>) -> RawFd {
+    match listener {
+        Some(listener) => listener.as_raw_fd(),
+        None => NONE,
+    }
+}
+
+/// Lets in who is at the door while a seat is free. Once no seat can become free any more, or the
+/// system lets nobody in, the door is closed: whoever comes later is refused.
+fn see_to<L: OpenListener<Stream = TcpStream> + Drop, F: Read + Drop>(
+    door: &mut Option<L>,
+    hands: &mut Hands<Source<F>>,
+)
+    ensures { length hands.new.hands.items ≡ length hands.old.hands.items }
+{
+    let Some(listener) = &*door else {
+        return;
+    };
+    let is_over = let_in(listener, hands).is_err();
+    if is_over || !hands.is_awaited() {
+        *door = None;
+    }
+}
+
+/// Gives the lowest free seat to who is at the door, if anybody is.
+fn let_in<L: OpenListener<Stream = TcpStream>, F: Read + Drop>(
+    listener: &L,
+    hands: &mut Hands<Source<F>>,
+) -> io::Result<()>
+    ensures { length hands.new.hands.items ≡ length hands.old.hands.items }
+{
+    let Some(seat) = hands.free() else {
+        return Ok(());
+    };
+    match listener.accept() {
+        Ok((stream, _)) => {
+            if make_prompt(&stream).is_ok() {
+                hands.seat(seat, Source::Connection(Connection::new(stream)));
+            }
+            Ok(())
+        }
+        Err(error) => match error.kind() {
+            // Nobody is there, or has gone again.
+            ErrorKind::WouldBlock | ErrorKind::Interrupted | ErrorKind::ConnectionAborted => Ok(()),
+            _ => Err(error),
+        },
+    }
+}
+
 /// Accepts one connection.
-fn accept<L: OpenListener + AsRawFd>(listener: &L, leash: RawFd) -> io::Result<L::Stream> {
+fn accept<L: OpenListener + AsRawFd>(listener: &L, ends: [RawFd; 2]) -> io::Result<L::Stream> {
     for _ in 0..TRIES {
-        if let Some(waited) = unless_interrupted(await_peer(listener.as_raw_fd(), leash)) {
+        if let Some(waited) = unless_interrupted(await_peer(listener.as_raw_fd(), ends)) {
             waited?;
             if let Some(accepted) = unless_interrupted(listener.accept()) {
                 let (stream, _) = accepted?;
@@ -485,23 +617,25 @@ fn accept<L: OpenListener + AsRawFd>(listener: &L, leash: RawFd) -> io::Result<L
     Err(io::Error::from(ErrorKind::TimedOut))
 }
 
-/// Waits until somebody connects. Whoever held the leash may let it go meanwhile: then nobody is
-/// waited for any more.
-fn await_peer(listener: RawFd, leash: RawFd) -> io::Result<()> {
+/// Waits until somebody connects. Whoever held the leash may let it go meanwhile, or the terminal
+/// may hang up: then nobody is waited for any more.
+fn await_peer(listener: RawFd, ends: [RawFd; 2]) -> io::Result<()> {
     let connects = pollfd {
         fd: listener,
         events: POLLIN,
         revents: 0,
     };
-    // Of the end of a leash the system tells unasked.
-    let ends = pollfd {
-        fd: leash,
+    // Of an end the system tells unasked.
+    let end = pollfd {
+        fd: NONE,
         events: 0,
         revents: 0,
     };
-    let mut asked = [connects, ends];
+    let mut asked = [connects, end, end];
+    asked[1].fd = ends[0];
+    asked[2].fd = ends[1];
     status_of(poll(&mut asked, FOREVER))?;
-    if asked[1].revents == 0 {
+    if asked[1].revents == 0 && asked[2].revents == 0 {
         Ok(())
     } else {
         Err(io::Error::from(ErrorKind::BrokenPipe))
