@@ -4,6 +4,7 @@
 
 mod claim;
 mod connection;
+mod device;
 mod fresh;
 mod hands;
 mod http;

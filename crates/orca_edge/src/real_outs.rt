@@ -4,6 +4,7 @@ ghost use Rattle.std.specs.IoError.{error_kind};
 ghost use Rattle.std.specs.declared.io.ErrorKind.TheVariants.{Interrupted};
 ghost use Rattle.orca_edge.specs.Taken.{Takes, TakesEnds, TakesOrNot};
 
+use crate::device::Device;
 use crate::room::{Gate, Patience};
 use crate::sinks::{Output, Sink};
 use crate::whole::{TRIES, unless_interrupted};
@@ -47,6 +48,10 @@ use std::{io, rt, str};
 /// channel and key first. At the end of the run they are waited for once more, for half a second at
 /// most. They are forgotten where Midi is attached to something else.
 ///
+/// A device that is gone, as one that is unplugged, a terminal line that hung up and a pipe that
+/// nobody reads, is opened anew by its name, at most once a second, until it is there again. That
+/// makes no file, and a pipe is not waited for. The ends that are owed go first, as ever.
+///
 /// A device that shows room may have it for one byte alone, and would let a longer write wait. So
 /// it may take the first bytes of a MIDI message and no more. The rest then goes before anything
 /// else there. A painting may be given up inside an escape sequence, which CAN ends; and the
@@ -59,6 +64,8 @@ pub struct RealOuts<'a, R: rt::Files + Clock> {
     output: Output,
     errors: Gate,
     midi: Option<Sink<R::File>>,
+    /// What Midi is attached to, if it is.
+    device: Option<Device>,
     udp: Option<Peer>,
     osc: Option<Peer>,
     misses: Misses,
@@ -72,6 +79,7 @@ impl<R: rt::Files + Clock> Drop for RealOuts<'_, R> {
             output: _,
             errors: _,
             midi,
+            device: _,
             udp: _,
             osc: _,
             misses: _,
@@ -96,7 +104,7 @@ struct Lane {
     address: SocketAddr,
 }
 
-impl<R: Print + Eprint + rt::Files + Net + Clock> RealOuts<'_, R>
+impl<R: AllocGlobal + Print + Eprint + rt::Files + Net + Clock> RealOuts<'_, R>
 where
     R::File: AsRawFd,
 {
@@ -110,6 +118,7 @@ where
             output: Output::new(Gate::new(STDOUT_FILENO)),
             errors: Gate::new(STDERR_FILENO),
             midi: None,
+            device: None,
             udp: None,
             osc: None,
             misses: Misses::none(),
@@ -129,7 +138,10 @@ where
         match port {
             Port::Midi => {
                 self.midi = None;
+                self.device = None;
+                let device = Device::new(String::from_str(self.rt.alloc(), name)?);
                 self.midi = Some(open_sink(self.rt, name)?);
+                self.device = Some(device);
             }
             Port::Udp => {
                 self.udp = None;
@@ -142,6 +154,16 @@ where
             Port::Text | Port::Fault | Port::View => return Err(OutsideFault::Failed),
         }
         Ok(())
+    }
+
+    /// Opens the device of Midi anew, if it is gone and has come back.
+    fn return_to_device(&mut self)
+        ensures misses { self.new.misses ≡ self.old.misses }
+        ensures output { self.new.output ≡ self.old.output }
+    {
+        if let (Some(device), Some(sink)) = (&mut self.device, &mut self.midi) {
+            device.return_to(self.rt, sink);
+        }
     }
 
     /// Sends the bytes where the port goes. They are dropped where it is not attached. The ends of
@@ -179,7 +201,13 @@ where
                 self.errors.wait(&Patience::start(rt))?;
                 print_fault(rt, bytes)?;
             }
-            Port::Midi => write_midi(rt, &mut self.midi, bytes)?,
+            Port::Midi => {
+                let done = write_midi(rt, &mut self.midi, bytes);
+                if let Some(device) = &mut self.device {
+                    device.note(&done);
+                }
+                done?
+            }
             Port::Udp => send_to(rt, &mut self.udp, bytes)?,
             Port::Osc => send_to(rt, &mut self.osc, bytes)?,
         }
@@ -187,7 +215,7 @@ where
     }
 }
 
-impl<R: Print + Eprint + rt::Files + Net + Clock> Outs for RealOuts<'_, R>
+impl<R: AllocGlobal + Print + Eprint + rt::Files + Net + Clock> Outs for RealOuts<'_, R>
 where
     R::File: AsRawFd,
 {
@@ -222,6 +250,7 @@ where
     /// [`WIRE_BYTES`](orca_base::limits::WIRE_BYTES). A datagram that nobody takes is none, since the
     /// system does not tell.
     fn send(&mut self, port: Port, bytes: &[u8]) -> Result<(), OutsideFault> {
+        self.return_to_device();
         let done = self.write(port, bytes);
         self.misses.count(done)
     }

@@ -41,7 +41,7 @@ where
 /// Opens what stands under the name for writing. A pipe that nobody reads would be waited for. So
 /// both ends of a pipe are opened first, which never waits, and then it has a reader. If that was
 /// its only one, writing to it fails.
-fn open_at_once<R: rt::Files>(rt: &R, name: &str) -> io::Result<R::File> {
+pub(crate) fn open_at_once<R: rt::Files>(rt: &R, name: &str) -> io::Result<R::File> {
     let mut writing = OpenOptions::new();
     writing.write(true);
     if !is_pipe(rt, name) {

@@ -170,6 +170,19 @@ impl<W: Write> Sink<W> {
         Ok(())
     }
 
+    /// The sink goes on at another place, which gets the ends that are owed. The rest of a message
+    /// that was begun elsewhere goes nowhere.
+    pub(crate) fn move_to(&mut self, to: W, gate: Gate)
+    where
+        W: Drop,
+        ensures held { holdings W.contents self.new ≡ W.contents to }
+        ensures owed { self.new.owed ≡ self.old.owed }
+    {
+        self.to = to;
+        self.gate = gate;
+        self.rest = Wire::empty();
+    }
+
     /// What is owed is tried once more, also where the sink is stuck.
     pub(crate) fn send_last<C: Clock>(&mut self, patience: &Patience<'_, C>) -> io::Result<()>
         ensures sent { HasEnds W.contents self.old self.new }
