@@ -1,6 +1,8 @@
 use crate::saves::check_held;
+use orca_base::limits::MAX_ROOM_BYTES;
 use orca_edge::RealFiles;
 use orca_rig::{Claim, Disk, Files, MemFiles, OutsideFault};
+use std::fs::{OpenFile, OpenOptions};
 use std::io::ErrorKind;
 use std::os::unix::fs::{MetadataExt, symlink};
 use std::os::unix::net::UnixListener;
@@ -155,4 +157,33 @@ fn a_store_in_memory_knows_who_holds_a_file(rt: HostRuntime) {
     let held = String::from_str(alloc, "held").expect(&rt, "memory");
     files.hold(held).expect(&rt, "memory");
     check_claims(&rt, &mut files);
+}
+
+#[test]
+fn a_room_has_a_most(rt: HostRuntime) {
+    let mut files = RealFiles::new(&rt);
+    assert!(rt; files.claim("rig_large", TEXT) == Ok(Claim::Made));
+    let mut options = OpenOptions::new();
+    let file = options.write(true).open(&rt, "rig_large");
+    // It has no bytes on the disk but those that were written.
+    let length = MAX_ROOM_BYTES as u64;
+    let cut = file.expect(&rt, "a file").set_len(length - 2);
+    cut.expect(&rt, "a length");
+    assert!(rt; files.append("rig_large", b"ab") == Ok(()));
+    assert!(rt; files.append("rig_large", b"c") == FAILED);
+    let found = fs::metadata(&rt, "rig_large").expect(&rt, "a file");
+    assert!(rt; found.len() == length);
+    assert!(rt; files.remove("rig_large") == Ok(()));
+}
+
+#[test]
+fn a_file_that_is_too_long_is_not_loaded(rt: HostRuntime) {
+    let mut files = RealFiles::new(&rt);
+    fs::write(&rt, "rig_five", b"12345").expect(&rt, "a write");
+    let mut bytes = Vec::new(rt.alloc());
+    assert!(rt; files.load("rig_five", 4, &mut bytes) == FAILED);
+    assert!(rt; bytes.is_empty());
+    assert!(rt; files.load("rig_five", 5, &mut bytes) == Ok(()));
+    assert!(rt; bytes.as_slice() == b"12345".as_slice());
+    fs::remove_file(&rt, "rig_five").expect(&rt, "a removal");
 }

@@ -8,7 +8,7 @@ use orca_rig::{Answer, Inbox, MemInbox, MemOuts};
 use std::alloc::Global;
 use std::io;
 use std::io::{PipeWriter, Read, Write};
-use std::net::{Net, OpenListener, TcpListener, TcpStream};
+use std::net::{Net, OpenListener, SocketAddr, TcpListener, TcpStream};
 use std::os::fd::AsRawFd;
 use std::process::Abort;
 use std::rt::{Clock, Files};
@@ -373,4 +373,36 @@ fn an_inbox_in_memory_takes_what_is_told(rt: HostRuntime) {
     assert!(rt; inbox.listen_hands("keys", 2) == Ok(0));
     assert!(rt; inbox.tell(1, b"one") == Ok(()));
     assert!(rt; inbox.tell(0, b"") == Ok(()));
+}
+
+/// Somebody connects to this address, and sends the bytes.
+fn join<R: Net<Stream = TcpStream> + Abort>(
+    rt: &R,
+    address: SocketAddr,
+    bytes: &[u8],
+) -> TcpStream {
+    let mut stream = TcpStream::connect(rt, address).expect(rt, "a connection");
+    stream.write_all(bytes).expect(rt, "a write");
+    stream
+}
+
+#[test]
+fn a_web_page_is_no_player(rt: HostRuntime) {
+    let outs = make_outs(&rt, rt.alloc());
+    let listener = TcpListener::bind(&rt, "127.0.0.1:0").expect(&rt, "a listener");
+    let address = listener.local_addr().expect(&rt, "an address");
+    let page = join(&rt, address, b"POST / HTTP/1.1\r\n\r\nabc");
+    let mut inbox = RealInbox::over(&rt, listener);
+    assert!(rt; inbox.listen_hands("127.0.0.1:0", 1) == Ok(0));
+    let players = vec![in rt.alloc(); Player::Connection(join(&rt, address, b"abc"))];
+    let mut room = Room {
+        players: players.expect(&rt, "memory"),
+        inbox,
+    };
+    room.hear(&rt, &outs, None, Some((0, b"abc")));
+    // Nobody else is let in, and the page is not either.
+    assert!(rt; TcpStream::connect(&rt, address).is_err());
+    drop(page);
+    room.send(&rt, 0, b"d");
+    room.hear(&rt, &outs, None, Some((0, b"d")));
 }
