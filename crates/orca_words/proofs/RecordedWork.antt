@@ -19,7 +19,7 @@ use Rattle.orca_words.specs.declared.limits.TheConstants.{MIN_SONG_BPM}
 use Rattle.orca_words.specs.declared.request.Request.{Request as Held}
 use Rattle.orca_words.specs.Recordings.{HasOwnJournal, HasSongTempo, IfPerform, IsPortless, OwnsJournals, RecordsWithoutPorts}
 use Rattle.orca_words.specs.RequestIn.{request_in}
-use Rattle.orca_words.specs.Requests.{Events, Follow, Lead, Make, Migrate, Perform, Performance, Play, Recording, Recover, Replay, Request, Run, Setup, Smf, Wav, Work, frames_given, greatest, is_same_name, jam_of, leading_of, migration_of, number_in, option_number, option_text, performance_of, performing, portless_setup_of, positional_text, recording_of, recovery_of, request_by, request_in_form, request_of, setup_of, with_own_journal, with_ports, workload_of}
+use Rattle.orca_words.specs.Requests.{Events, Follow, Lead, Make, Migrate, Perform, Performance, Play, Recording, Recover, Replay, Request, Run, Setup, Smf, Wav, Work, frames_given, greatest, is_same_name, jam_of, leading_of, migration_of, number_in, option_number, option_text, performance_of, performing, portless_setup_of, positional_text, recording_of, recovery_of, request_by, request_in_form, request_of, setup_of, with_fit_names, with_names_apart, with_own_journal, with_ports, workload_of}
 
 -- ---- numbers
 
@@ -120,6 +120,21 @@ own_journal found setup before play is made =
     before.save before.script (option_text found (codes "midi")) in
     rw (grid_named found setup is, midi_named found setup is) (grind (arith, apart, made))
 
+kept_apart : (found : List Row) (before play : Performance)
+    → with_names_apart found before ≡ Some play → before ≡ play
+unfolding with_names_apart
+kept_apart found before play made = grind (arith, made)
+
+fit_journal : (found : List Row) (setup : Setup) (before play : Performance)
+    → setup_of found ≡ Some setup → with_fit_names found before ≡ Some play
+    → HasOwnJournal setup (Play play)
+unfolding with_fit_names
+fit_journal found setup before play is made =
+    option_and_then_some (with_names_apart found) (with_own_journal found before) play made
+    (λ owned own apart.
+    subst (λ p. HasOwnJournal setup (Play p)) (kept_apart found owned play apart)
+    (own_journal found setup before owned is own))
+
 -- ---- what is asked for
 
 -- the three facts of a setup and a work
@@ -154,9 +169,9 @@ recordable verb.Replay found =
     (λ s _ script _. (tt, tt, tt))
 recordable verb.Play found =
     performed_holds Play (setup_of found)
-    (option_and_then (with_own_journal found) (performance_of found)) (λ s setup play read.
-    option_and_then_some (with_own_journal found) (performance_of found) play read
-    (λ before made same. (tt, tt, own_journal found s before play setup same)))
+    (option_and_then (with_fit_names found) (performance_of found)) (λ s setup play read.
+    option_and_then_some (with_fit_names found) (performance_of found) play read
+    (λ before made same. (tt, tt, fit_journal found s before play setup same)))
 recordable verb.Make found = other_holds Make (workload_of found) (λ load. tt)
 recordable verb.Migrate found = other_holds Migrate (migration_of found) (λ migration. tt)
 recordable verb.Smf found =
@@ -165,9 +180,9 @@ recordable verb.Smf found =
     (tempo_not_below found MIN_SONG_BPM song (omega arith) read, no_ports found s setup, tt))
 recordable verb.Jam found =
     performed_holds Play (setup_of found)
-    (option_and_then (with_own_journal found) (jam_of found)) (λ s setup play read.
-    option_and_then_some (with_own_journal found) (jam_of found) play read
-    (λ before made same. (tt, tt, own_journal found s before play setup same)))
+    (option_and_then (with_fit_names found) (jam_of found)) (λ s setup play read.
+    option_and_then_some (with_fit_names found) (jam_of found) play read
+    (λ before made same. (tt, tt, fit_journal found s before play setup same)))
 recordable verb.Wav found =
     performed_holds Wav (portless_setup_of found) (recording_of found 1)
     (λ s setup wave read. (tt, no_ports found s setup, tt))

@@ -7,7 +7,7 @@ use Rattle.clap.proofs.OnLiterals.{clap_on_literals}
 use Rattle.orca_base.specs.Ascii.{space}
 use Rattle.orca_base.specs.Numbers.{number_of}
 use Rattle.orca_words.specs.Forms.{command_of, forms}
-use Rattle.orca_words.specs.Requests.{Events, Follow, Lead, Make, Migrate, Perform, Play, Recover, Replay, Request, Run, Setup, Smf, Wav, jam_of, leading_of, migration_of, number_in, option_full, option_text, option_views, performance_of, portless_setup_of, recording_of, recovery_of, request_by, request_in_form, request_of, setup_of, with_own_journal, workload_of}
+use Rattle.orca_words.specs.Requests.{Events, Follow, Lead, Make, Migrate, Perform, Play, Recover, Replay, Request, Run, Setup, Smf, Wav, jam_of, leading_of, migration_of, number_in, option_full, option_text, option_views, performance_of, portless_setup_of, recording_of, recovery_of, request_by, request_in_form, request_of, setup_of, with_fit_names, with_names_apart, with_own_journal, with_own_room, workload_of}
 
 -- what a line asks for
 unfoldable asked : Text → Option Request
@@ -18,7 +18,7 @@ unfolding option_text option_full option_views number_in number_of
 values = tt
 
 unfoldable parts : ⊤
-unfolding setup_of portless_setup_of performance_of jam_of workload_of migration_of recording_of leading_of recovery_of with_own_journal
+unfolding setup_of portless_setup_of performance_of jam_of workload_of migration_of recording_of leading_of recovery_of with_fit_names with_names_apart with_own_journal with_own_room
 parts = tt
 
 unfoldable worked : ⊤
@@ -180,6 +180,42 @@ play_room : asked (codes "play g a --room r") ≡ Some (Perform none_set (Play (
 unfolding worked none_set
 play_room = refl
 
+-- a grid may be saved under its own name beside its room
+play_room_saved : asked (codes "play g a --room r --save g")
+    ≡ Some (Perform none_set (Play (record {
+      address = codes "a";
+      bpm = 120;
+      rows = 24;
+      cols = 80;
+      full = false;
+      hands = None;
+      views = false;
+      save = Some (codes "g");
+      script = None;
+      journal = Some (codes "r");
+      room = true;
+    })))
+unfolding worked none_set
+play_room_saved = refl
+
+-- without a room names may meet
+play_script_saved : asked (codes "play g a --script g")
+    ≡ Some (Perform none_set (Play (record {
+      address = codes "a";
+      bpm = 120;
+      rows = 24;
+      cols = 80;
+      full = false;
+      hands = None;
+      views = false;
+      save = None;
+      script = Some (codes "g");
+      journal = None;
+      room = false;
+    })))
+unfolding worked none_set
+play_script_saved = refl
+
 recover_all : asked (codes "recover r --midi=m o --limit 9 --script s")
     ≡ Some (Recover (record {
       room = codes "r";
@@ -323,6 +359,16 @@ refused : list_all (λ line. not (is_some (asked line))) (codes ""
     ∷ codes "play g a --room s --script s"
     ∷ codes "play g a --room a"
     ∷ codes "play g a --room m --midi m"
+    ∷ codes "play n n --room r"
+    ∷ codes "play n a --room r --script n"
+    ∷ codes "play n a --room r --midi n"
+    ∷ codes "play g n --room r --script n"
+    ∷ codes "play g n --room r --midi n"
+    ∷ codes "play g a --room r --script n --midi n"
+    ∷ codes "play g n --room r --save n"
+    ∷ codes "play g a --room r --save n --script n"
+    ∷ codes "play g a --room r --save n --midi n"
+    ∷ codes "jam g a 2 --room r --save n --script n"
     ∷ codes "make 1 0 3 4"
     ∷ codes "make 1 1025 3 4"
     ∷ codes "make 1 2 1025 4"
@@ -392,6 +438,12 @@ refused : list_all (λ line. not (is_some (asked line))) (codes ""
     ∷ codes "recover r o --seed 7"
     ∷ codes "recover r o --udp u"
     ∷ codes "recover r o --script s --script s"
+    ∷ codes "recover n n"
+    ∷ codes "recover n o --script n"
+    ∷ codes "recover n o --midi n"
+    ∷ codes "recover r n --script n"
+    ∷ codes "recover r n --midi n"
+    ∷ codes "recover r o --script n --midi n"
     ∷ []) ≡ true
 unfolding worked
 refused = refl

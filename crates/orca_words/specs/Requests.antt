@@ -231,6 +231,30 @@ with_own_journal found play =
     || is_same_name play.journal (option_text found (codes "midi"))
     then None else Some play
 
+-- whether a name is one of three others
+abbrev pub is_one_of : Option Text → Option Text → Option Text → Option Text → Bool
+is_one_of name a b c = is_same_name name a || is_same_name name b || is_same_name name c
+
+-- whether two of three names are the same text
+abbrev pub do_meet : Option Text → Option Text → Option Text → Bool
+do_meet a b c = is_same_name a b || is_same_name a c || is_same_name b c
+
+-- a performance with a room, unless two of its names meet: those of its grid, its address, what it
+-- saves at the end, and its MIDI port. The grid alone may be saved under its own name
+unfoldable pub with_names_apart : List Row → Performance → Option Performance
+with_names_apart found play =
+    let grid = Some (positional_text found (codes "GRID")) in
+    let address = Some play.address in
+    let midi = option_text found (codes "midi") in
+    if play.room && (is_one_of grid address play.script midi
+    || is_one_of play.save address play.script midi || do_meet address play.script midi)
+    then None else Some play
+
+-- a performance whose names may be used together
+unfoldable pub with_fit_names : List Row → Performance → Option Performance
+with_fit_names found play =
+    option_and_then (with_names_apart found) (with_own_journal found play)
+
 -- the four numbers of `make`
 unfoldable pub workload_of : List Row → Option Workload
 workload_of found =
@@ -267,11 +291,18 @@ migration_of found =
       seed = seed;
     }))
 
+-- a recovery, unless two of its names meet
+unfoldable pub with_own_room : Recovery → Option Recovery
+with_own_room r =
+    let room = Some r.room in
+    let out = Some r.out in
+    if is_one_of room out r.script r.midi || do_meet out r.script r.midi then None else Some r
+
 -- the names and the limit of `recover`
 unfoldable pub recovery_of : List Row → Option Recovery
 recovery_of found =
     with_number (option_number found (codes "limit") DEFAULT_HISTORY 1 MAX_HISTORY) (λ limit.
-    Some (record {
+    with_own_room (record {
       room = positional_text found (codes "ROOM");
       out = positional_text found (codes "OUT");
       script = option_text found (codes "script");
@@ -291,14 +322,14 @@ request_by verb.Replay found =
     performing (setup_of found) (Some (Replay (positional_text found (codes "SCRIPT"))))
 request_by verb.Play found =
     performing (setup_of found)
-    (option_map Play (option_and_then (with_own_journal found) (performance_of found)))
+    (option_map Play (option_and_then (with_fit_names found) (performance_of found)))
 request_by verb.Make found = option_map Make (workload_of found)
 request_by verb.Migrate found = option_map Migrate (migration_of found)
 request_by verb.Smf found =
     performing (portless_setup_of found) (option_map Smf (recording_of found MIN_SONG_BPM))
 request_by verb.Jam found =
     performing (setup_of found)
-    (option_map Play (option_and_then (with_own_journal found) (jam_of found)))
+    (option_map Play (option_and_then (with_fit_names found) (jam_of found)))
 request_by verb.Wav found =
     performing (portless_setup_of found) (option_map Wav (recording_of found 1))
 request_by verb.Follow found =

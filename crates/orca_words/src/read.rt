@@ -2,7 +2,7 @@
 
 ghost use Rattle.std.specs.Prelude.{◌≡◌, ◌≤◌, None, Some, find, map, option_map, string_bytes, IfOk, IsErrOf, MatchOption};
 ghost use Rattle.std.specs.Str.{bytes_eq};
-ghost use Rattle.orca_words.specs.Requests.{frames_given, is_same_name, jam_of, kept_name, leading_of, migration_of, performance_of, performing, portless_setup_of, recording_of, recovery_of, request_by, request_in_form, request_of, setup_of, with_own_journal, workload_of};
+ghost use Rattle.orca_words.specs.Requests.{do_meet, frames_given, is_one_of, is_same_name, jam_of, kept_name, leading_of, migration_of, performance_of, performing, portless_setup_of, recording_of, recovery_of, request_by, request_in_form, request_of, setup_of, with_fit_names, with_names_apart, with_own_journal, with_own_room, workload_of};
 ghost use Rattle.orca_words.specs.Forms.{form_by, form_in};
 ghost use Rattle.orca_words.specs.RequestIn.{leading_in, migration_in, performance_in, recording_in, recovery_in, request_in, rows_in, setup_in, text_in, work_in, workload_in};
 ghost use Rattle.orca_words.specs.Recordings.{HasOwnJournal, HasSongTempo, IfPerform, RecordsWithoutPorts};
@@ -119,7 +119,7 @@ fn request_by<'a>(verb: Verb, found: &ArgMatches<'a>) -> Option<Request<'a>>
             perform(setup(found), Work::Replay { script })
         }
         Verb::Play => {
-            let play = with_own_journal(found, performance(found)?)?;
+            let play = with_fit_names(found, performance(found)?)?;
             perform(setup(found), Work::Play(play))
         }
         Verb::Make => Some(Request::Make(workload(found)?)),
@@ -129,7 +129,7 @@ fn request_by<'a>(verb: Verb, found: &ArgMatches<'a>) -> Option<Request<'a>>
             perform(portless_setup(found), Work::Smf(song))
         }
         Verb::Jam => {
-            let play = with_own_journal(found, jam(found)?)?;
+            let play = with_fit_names(found, jam(found)?)?;
             perform(setup(found), Work::Play(play))
         }
         Verb::Wav => {
@@ -323,6 +323,51 @@ fn with_own_journal<'a>(found: &ArgMatches<'a>, play: Performance<'a>) -> Option
     Some(play)
 }
 
+/// The performance with a room, unless two of its names meet: those of its grid, its address, what it
+/// saves at the end, and its MIDI port. The grid alone may be saved under its own name.
+#[tactic(auto, unfolding(crate::specs::Requests::with_names_apart))]
+fn with_names_apart<'a>(found: &ArgMatches<'a>, play: Performance<'a>) -> Option<Performance<'a>>
+    ensures { option_map performance_in result
+        ≡ with_names_apart (rows_in found.now) (performance_in play.entry) }
+{
+    let grid = Some(positional_text(found, "GRID"));
+    let address = Some(play.address);
+    let midi = option_text(found, "midi");
+    if play.room
+        && (is_one_of(grid, address, play.script, midi)
+            || is_one_of(play.save, address, play.script, midi)
+            || do_meet(address, play.script, midi))
+    {
+        return None;
+    }
+    Some(play)
+}
+
+/// The performance, if its names may be used together.
+#[tactic(auto, unfolding(crate::specs::Requests::with_fit_names))]
+fn with_fit_names<'a>(found: &ArgMatches<'a>, play: Performance<'a>) -> Option<Performance<'a>>
+    ensures { option_map performance_in result
+        ≡ with_fit_names (rows_in found.now) (performance_in play.entry) }
+{
+    let play = with_own_journal(found, play)?;
+    with_names_apart(found, play)
+}
+
+/// Whether a name is one of three others.
+fn is_one_of(name: Option<&str>, a: Option<&str>, b: Option<&str>, c: Option<&str>) -> bool
+    ensures { result ≡ is_one_of (text_in name.entry) (text_in a.entry) (text_in b.entry)
+        (text_in c.entry) }
+{
+    is_same_name(name, a) || is_same_name(name, b) || is_same_name(name, c)
+}
+
+/// Whether two of three names are the same text.
+fn do_meet(a: Option<&str>, b: Option<&str>, c: Option<&str>) -> bool
+    ensures { result ≡ do_meet (text_in a.entry) (text_in b.entry) (text_in c.entry) }
+{
+    is_same_name(a, b) || is_same_name(a, c) || is_same_name(b, c)
+}
+
 /// Whether both names are there, and are the same text.
 fn is_same_name(one: Option<&str>, other: Option<&str>) -> bool
     ensures { result ≡ is_same_name (text_in one.entry) (text_in other.entry) }
@@ -342,13 +387,29 @@ fn recovery<'a>(found: &ArgMatches<'a>) -> Option<Recovery<'a>>
     ensures { option_map recovery_in result ≡ recovery_of (rows_in found.now) }
 {
     let limit = option_number(found, "limit", DEFAULT_HISTORY, 1, MAX_HISTORY)?;
-    Some(Recovery {
+    with_own_room(Recovery {
         room: positional_text(found, "ROOM"),
         out: positional_text(found, "OUT"),
         script: option_text(found, "script"),
         midi: option_text(found, "midi"),
         limit,
     })
+}
+
+/// The recovery, unless two of its names meet: its room is read before anything goes to the others,
+/// and each of them holds what it is given.
+#[tactic(auto, unfolding(crate::specs::Requests::with_own_room))]
+fn with_own_room(recovery: Recovery<'_>) -> Option<Recovery<'_>>
+    ensures { option_map recovery_in result ≡ with_own_room (recovery_in recovery.entry) }
+{
+    let room = Some(recovery.room);
+    let out = Some(recovery.out);
+    if is_one_of(room, out, recovery.script, recovery.midi)
+        || do_meet(out, recovery.script, recovery.midi)
+    {
+        return None;
+    }
+    Some(recovery)
 }
 
 /// The four numbers of `make`.
