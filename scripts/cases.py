@@ -1,34 +1,52 @@
 #!/usr/bin/env python3
-"""Keeps the stored cases: crates/orca_cases/data/FAMILY.cases, each case with its answer.
+"""Keeps the stored cases: crates/orca_cases/data/FAMILY.cases, each case with its answer. And draws new ones by chance.
 
     scripts/cases.py list                        the families, and whether all are compared
     scripts/cases.py add FAMILY CASES [ANSWERS]  adds the cases of a file
-    scripts/cases.py renew [FAMILY..]            shows the answers that the program does not give any more
+    scripts/cases.py renew [FAMILY..]            shows the stored answers that the model does not give
+    scripts/cases.py draw KIND [COUNT]           prints new cases with the answers of the model, to be added
+    scripts/cases.py try [KIND..]                draws new cases, and shows which the program answers otherwise
 
 The head of crates/orca_cases/src/main.rt says what a case is. In the file CASES it has its answer between `gives` and
 `end`, or under its name in the file ANSWERS. Bytes are texts or hexadecimal, and are stored as texts where they can be.
 A new family begins with a comment that says what it shows.
 
-Answers come from outside: from the rules by hand, from a standard, from another implementation. For cases without an
-answer `add` shows what the program gives, and stores nothing. Compare each with the rules; then `--checked-by-hand`
-stores them. In the same way `renew` shows each change, and `--write` stores it. That also writes `stdin` and `stdout`
-anew, as they have to be once a family is gone.
+Answers come from the model of the rules in `model/`, a second definition in Python, and never from the program. A case
+without an answer gets the model's. An answer that you worked out by hand has to be the model's too; where they differ,
+compare both with the rules. `renew --write` stores the model's. It also writes `stdin` and `stdout` anew, as they have
+to be once a family is gone.
 
-The program is crates/orca_cases/out/orca_cases, which `rt run` builds in its crate, or `--program PROGRAM`.
+The model leaves out rooms, boards beside one another and the largest songs. For such a case without an answer `add`
+shows what the program gives, and stores nothing. Compare it with the rules; then `--checked-by-hand` stores it. In the
+same way `renew` shows for it what the program gives.
+
+The program is crates/orca_cases/out/orca_cases, which `rt run` builds in its crate, or `--program PROGRAM`. The status
+is 1 where something differs.
 """
 import argparse
 import collections
 import difflib
 import os
+import random
 import re
 import subprocess
 import sys
 import tempfile
 
-CRATE = os.path.join(os.path.dirname(os.path.dirname(os.path.realpath(__file__))), "crates/orca_cases")
+TOP = os.path.dirname(os.path.dirname(os.path.realpath(__file__)))
+sys.path.insert(0, TOP)
+sys.dont_write_bytecode = True      # the checkout stays as it is
+
+from model.cases import answer_of
+from model.draw import KINDS, drawn
+from model.program import Unanswered
+
+CRATE = os.path.join(TOP, "crates/orca_cases")
 DATA = os.path.join(CRATE, "data")
 # What the program reads, and what it has to print.
 LISTS = ("stdin", "stdout")
+# The greatest cost of a song that the model is asked for.
+MOST_COST = 5_000_000
 # The lines that end in bytes, and in how many words of them.
 BYTES = {"word": 1, "file": 1, "bytes": 1, "send": 1, "told": 1, "cells": 1, "marks": 1, "vars": 1, "event udp": 1,
          "event osc": 2}
@@ -148,6 +166,33 @@ def show(stored, other, title):
     print("\n".join(difflib.unified_diff(*lines, f"{title}, stored", f"{title}, given", lineterm="")))
 
 
+# The model.
+
+def model_answer(name, case):
+    """The answer of the model, or none where it has none."""
+    lines = list(in_hex(case.asked))
+    try:
+        return as_stored("\n".join(answer_of(lines))) if cost_of(lines) <= MOST_COST else None
+    except Unanswered:
+        return None
+    except (ValueError, IndexError) as error:
+        return fails(f"{name} has a line that is none: {error}")
+
+
+def cost_of(lines):
+    """What a song costs the model: the cells that are no `.` in all of its frames."""
+    words = [bytes.fromhex(line[5:].replace("-", "")) for line in lines if line.startswith("word ")]
+    if words[:1] != [b"smf"] or not words[2:3] or not words[2].isdigit():
+        return 0
+    texts = [bytes.fromhex(line.split(" ")[2].lstrip("-")) for line in lines if line.startswith("file ")]
+    return int(words[2]) * sum(len(text) - text.count(b".") for text in texts)
+
+
+def new_family(folder, cases):
+    """Stores cases in a folder as the family `new`, for the program."""
+    write(os.path.join(folder, "new.cases"), "".join(lines_of(name, case) for name, case in cases.items()))
+
+
 # What is asked for.
 
 def lists():
@@ -186,9 +231,16 @@ def new_cases(words):
 
 
 def with_answers(words, cases):
-    """The cases, with the answers that are given where there are none; these are shown."""
+    """The cases with all their answers: given, the model's, or the program's, if they were checked by hand."""
+    answers = {name: model_answer(name, case) for name, case in cases.items()}
+    wrong = [name for name, case in cases.items() if case.answer and answers[name] not in (None, case.answer)]
+    for name in wrong:
+        show(answers[name], cases[name].answer, name)
+    if wrong:
+        fails(f"nothing is stored: the model gives another answer to {' '.join(wrong)}")
+    cases = {name: case._replace(answer=case.answer or answers[name]) for name, case in cases.items()}
     with tempfile.TemporaryDirectory() as folder:
-        write(os.path.join(folder, "new.cases"), "".join(lines_of(name, case) for name, case in cases.items()))
+        new_family(folder, cases)
         differ = cases_that_differ(words.program, folder, "new")
     for name, case in differ.items():
         show(cases[name].answer, case.answer, name)
@@ -209,18 +261,64 @@ def add(words):
     write_lists()
 
 
+def other_answers(words, family, stored):
+    """The cases of a family with another answer than the stored one: the model's, or else the program's."""
+    answers = {name: model_answer(name, case) for name, case in stored.items()}
+    given = {}
+    if None in answers.values():
+        given = {name: case.answer for name, case in cases_that_differ(words.program, DATA, family).items()}
+    answers = {name: answer or given.get(name, stored[name].answer) for name, answer in answers.items()}
+    return {name: answer for name, answer in answers.items() if answer != stored[name].answer}
+
+
 def renew(words):
+    wrong = 0
     for family in words.families or families():
         text = read(path_of(family))
-        stored, changed = cases_of(text), cases_that_differ(words.program, DATA, family)
-        for name, case in changed.items():
-            show(stored[name].answer, case.answer, f"{family}: {name}")
-            text = text.replace(lines_of(name, stored[name]), lines_of(name, case))
+        stored = cases_of(text)
+        changed = other_answers(words, family, stored)
+        wrong += len(changed)
+        for name, answer in changed.items():
+            show(stored[name].answer, answer, f"{family}: {name}")
+            text = text.replace(lines_of(name, stored[name]), lines_of(name, stored[name]._replace(answer=answer)))
         print(f"{family}: {len(changed)} of {len(stored)} answers are not the stored ones")
         if words.write:
             write(path_of(family), text)
     if words.write:
         write_lists()
+    return wrong > 0 and not words.write
+
+
+def new_ones(kinds, seed, count):
+    """So many new cases, of each kind as many, with the answers of the model."""
+    cases = {}
+    for number, kind in enumerate(kinds):
+        if kind not in KINDS:
+            fails(f"{kind} is no kind of cases: {' '.join(KINDS)}")
+        share = (count + number) // len(kinds)
+        for place, lines in enumerate(drawn(kind, seed, share)):
+            asked = as_stored("\n".join(lines))
+            cases[f"{kind}_{seed}_{place}"] = Case("", asked, as_stored("\n".join(answer_of(lines))))
+    return cases
+
+
+def draw(words):
+    for name, case in new_ones([words.kind], words.seed, words.count).items():
+        print(lines_of(name, case), end="")
+
+
+def try_new(words):
+    kinds = words.kinds or [kind for kind in KINDS if kind not in words.without]
+    print(f"{words.count} new cases of the seed {words.seed}", flush=True)
+    cases = new_ones(kinds, words.seed, words.count)
+    with tempfile.TemporaryDirectory() as folder:
+        new_family(folder, cases)
+        differ = cases_that_differ(words.program, folder, "new")
+    for name, case in differ.items():
+        print(lines_of(name, cases[name]), end="")
+        show(cases[name].answer, case.answer, name)
+    print(f"{len(cases) - len(differ)} of {len(cases)} agree")
+    return len(differ) > 0
 
 
 def main():
@@ -238,8 +336,22 @@ def main():
     renews.set_defaults(work=renew)
     renews.add_argument("families", nargs="*")
     renews.add_argument("--write", action="store_true")
+    draws = kinds.add_parser("draw")
+    draws.set_defaults(work=draw)
+    draws.add_argument("kind", help=" ".join(KINDS))
+    draws.add_argument("count", type=int, nargs="?", default=10)
+    tries = kinds.add_parser("try")
+    tries.set_defaults(work=try_new)
+    tries.add_argument("kinds", nargs="*", help=" ".join(KINDS))
+    tries.add_argument("--count", type=int, default=300)
+    tries.add_argument("--without", nargs="+", default=[], help="kinds that are left out")
+    for some in (draws, tries):
+        some.add_argument("--seed", type=int, default=random.randrange(10 ** 9))
     words = parser.parse_args()
-    words.work(words)
+    try:
+        sys.exit(1 if words.work(words) else 0)
+    except OSError as error:
+        fails(error)
 
 
 if __name__ == "__main__":
