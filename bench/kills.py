@@ -3,10 +3,9 @@
 
 For M minutes (30) one performance after the other is played by ./perform at 999 beats a minute, in a terminal of its own,
 with random keys. After some seconds its program, its keeper or all of its processes are killed, or the key Quit ends it. Then
---recover has to give each glyph that was typed half a second before, in order; its grid has to be what the model of
-.ci/sessions.py makes of its script; and no note may be on at its port. It ends with 1 if something of that does not hold.
+--recover has to give each glyph that was typed half a second before, in order; its grid has to be what the model of the rules
+in model/ makes of its script; and no note may be on at its port. It ends with 1 if something of that does not hold.
 """
-import importlib.util
 import os
 import pty
 import random
@@ -20,7 +19,15 @@ import time
 from live import option
 
 HERE = os.path.dirname(os.path.abspath(__file__))
+sys.path.insert(0, os.path.join(HERE, '..'))
+sys.dont_write_bytecode = True      # the checkout stays as it is
+
+from model.grids import Grid, text_of
+from model.script import read_script
+from model.session import Session
+
 PERFORM = os.path.join(HERE, '../perform')
+GLYPHS = b'.....0123459DEEHNSWdehnswABab**::'
 # Keys without a glyph: moves, selections and slides, those that erase, copy, cut, paste, fill, undo, redo, go back, step and
 # reset, and a pasted text.
 KEYS = ([b'\x1b[A', b'\x1b[B', b'\x1b[C', b'\x1b[D', b'\x1b[1;2B', b'\x1b[1;2C', b'\x1b[1;3C', b'\x1b[1;5B', b'\x1b[H'] * 4 +
@@ -30,32 +37,15 @@ KEYS = ([b'\x1b[A', b'\x1b[B', b'\x1b[C', b'\x1b[D', b'\x1b[1;2B', b'\x1b[1;2C',
 SURE = 0.5
 
 
-def model():
-    spec = importlib.util.spec_from_file_location('sessions', os.path.join(HERE, '../.ci/sessions.py'))
-    sessions = importlib.util.module_from_spec(spec)
-    spec.loader.exec_module(sessions)
-    return sessions
-
-
-SESSIONS = model()
-# Glyphs whose operators write no letter that the model has no rule for.
-GLYPHS = [glyph for glyph in SESSIONS.GLYPHS if glyph not in 'ABab']
-
-
 def grid_of(script, opened):
-    """The grid after a script, by the model; and the glyphs that it writes."""
-    session, glyphs = SESSIONS.Session(opened, 1000000), []
-    for line in script.splitlines():
-        kind, *rest = line.split()
-        if kind.startswith('!'):
-            continue
-        rest = [word if kind in SESSIONS.GLYPH and i + 1 == SESSIONS.GLYPH[kind] else int(word) for i, word in enumerate(rest)]
-        if kind == 'write':
-            glyphs.append(rest[2])
-        count = (rest or [1])[0] if kind in ('frame', 'frames') else 1
-        for _ in range(count):
-            session.obey(('frame',) if kind == 'frames' else (kind, *rest))
-    return ''.join(row + '\n' for row in session.piece[0]), glyphs
+    """The text of the grid after a script, by the model; and the glyphs that it writes."""
+    seed, items = read_script(script.encode())
+    session = Session(opened, seed, 1_000_000)
+    for item in items:
+        for _ in range(item.times):
+            session.obey(item.command)
+    written = [chr(item.command.values[2]) for item in items if item.command.name == 'write']
+    return text_of(session.piece.grid).decode(), written
 
 
 def notes_on(data):
@@ -115,7 +105,7 @@ def type_keys(draw, terminal, seconds):
     """Types for so long: the glyphs, each with its moment."""
     typed, end = [], time.time() + seconds
     while time.time() < end:
-        key = draw.choice(KEYS) if draw.random() < 0.5 else draw.choice(GLYPHS).encode()
+        key = draw.choice(KEYS) if draw.random() < 0.5 else bytes([draw.choice(GLYPHS)])
         os.write(terminal, key)
         if len(key) == 1 and 32 < key[0] < 127:
             typed.append((time.time(), key.decode()))
@@ -157,9 +147,10 @@ def one_round(draw, kind):
     for name in os.listdir('.'):
         if not os.path.isdir(name):
             os.remove(name)
-    opened = SESSIONS.drawn(draw.randint(2, 19), draw.randint(2, 70), lambda y, x: draw.choice(GLYPHS))
-    with open('piece', 'w') as file:
-        file.write(''.join(row + '\n' for row in opened))
+    height, width = draw.randint(2, 19), draw.randint(2, 70)
+    opened = Grid(height, width, bytes(draw.choices(GLYPHS, k=height * width)))
+    with open('piece', 'wb') as file:
+        file.write(text_of(opened))
     open('midi', 'w').close()
     pid, terminal = start(draw)
     typed = type_keys(draw, terminal, draw.uniform(0.5, 8))
