@@ -2,8 +2,8 @@
 """Checks docs/THEOREM.md against the sources: what it quotes, and how many lines it says that definitions have.
 
 A block ```of FILE NAME is the contract of that function, or that definition, without its comments. A row of a table that
-ends with a word, its file and two numbers tells how many lines of the file the contract of `run` rests on, and how many
-lines the word has together with all that it rests on. One sentence tells the same of the whole contract.
+ends with a word, its file and two numbers tells how many lines of the file the contract that was quoted last rests on,
+and how many lines the word has together with all that it rests on. One sentence tells the same of the whole contract.
 
 A line counts unless it is blank, a comment or an import. Types and constants of the code count as definitions. What the
 standard library and the ported crates define does not count. A name stands for what it is imported as, or for what the
@@ -17,14 +17,16 @@ import functools
 import pathlib
 import re
 import sys
+import textwrap
 
 TOP = pathlib.Path(__file__).resolve().parent.parent
 CRATES = TOP / 'crates'
 PAGE = TOP / 'docs/THEOREM.md'
 RUN = 'orca_player/src/top.rt'
-ROW = re.compile(r'^(\|.*\| `([^` ]+)` \| `(\w+/(?:specs|src)/[^`]+)` \|) [\d,]+ \| [\d,]+ \|$', re.M)
-WHOLE = re.compile(r'[\d,]+ lines: [\d,]+ definitions in [\d,]+ files')
-BLOCK = re.compile(r'^```of (\S+) (\S+)\n(.*?)^```$', re.M | re.S)
+ROW = (r'^(?P<head>\|[^\n]*\| `(?P<word>[^` \n]+)` \| `(?P<file>\w+/(?:specs|src)/[^`\n]+)` \|)'
+       r' [\d,]+ \| [\d,]+ \|$')
+WHOLE = r'[\d,]+ lines: [\d,]+ definitions in [\d,]+ files'
+BLOCK = r'^```of (?P<source>\S+) (?P<name>\S+)\n.*?^```$'
 
 NAME = r'[^\W\d][\w◌]*(?:-\w+)*'
 WORD = re.compile(rf'(?<![.\w]){NAME}(?:\.{NAME})*')
@@ -130,53 +132,67 @@ def lines_in(places):
 
 
 def contract_of(path, name):
-    """The head of a function, without comments."""
-    found = re.search(rf'^pub fn {name}\b.*?(?=^\{{$)', path.read_text(), re.M | re.S)
-    return counted_lines(found[0]) if found else None
+    """The head of a function, or of a call of a trait, without comments."""
+    text = path.read_text()
+    found = (re.search(rf'^pub fn {name}\b.*?(?=^\{{$)', text, re.M | re.S)
+             or re.search(rf'^    fn {name}\b.*?;$', text, re.M | re.S))
+    return counted_lines(textwrap.dedent(found[0])) if found else None
 
 
 @functools.cache
-def below_run():
-    """All that the contract of `run` rests on."""
-    path = CRATES / RUN
-    return all_below(named_in(path, contract_of(path, 'run')))
+def below(path, name):
+    """All that the contract of a function rests on."""
+    return all_below(named_in(path, contract_of(path, name)))
 
 
-def files_below_run():
+@functools.cache
+def files_below(path, name):
     """The files of these definitions, each with its lines that count."""
     files = {}
-    for place in below_run():
+    for place in below(path, name):
         files.setdefault(place[0], []).append(place)
     return {path: lines_in(places) for path, places in files.items()}
 
 
-def row_now(row):
+def row_now(row, root):
     """A row of a table, with its numbers as they are now."""
-    path = CRATES / row[3]
-    if not path.exists() or (path, row[2]) not in below_run():
-        sys.exit(f'docs/THEOREM.md: the contract of run rests on no {row[2]} of {row[3]}')
-    return f'{row[1]} {files_below_run()[path]:,} | {lines_in(all_below([(path, row[2])])):,} |'
+    path = CRATES / row['file']
+    if not path.exists() or (path, row['word']) not in below(*root):
+        sys.exit(f'docs/THEOREM.md: the contract of {root[1]} rests on no {row["word"]} of {row["file"]}')
+    return f'{row["head"]} {files_below(*root)[path]:,} | {lines_in(all_below([(path, row["word"])])):,} |'
 
 
-def block_now(block):
+def block_now(path, name):
     """A block, with the lines as they are now."""
-    path = CRATES / block[1]
-    lines = path.exists() and (contract_of(path, block[2]) if path.suffix == '.rt' else items_of(path).get(block[2]))
+    lines = path.exists() and (contract_of(path, name) if path.suffix == '.rt' else items_of(path).get(name))
     if not lines:
-        sys.exit(f'docs/THEOREM.md: {block[1]} has no {block[2]}')
-    return '\n'.join([f'```of {block[1]} {block[2]}', *lines, '```'])
+        sys.exit(f'docs/THEOREM.md: {path.relative_to(CRATES)} has no {name}')
+    return '\n'.join([f'```of {path.relative_to(CRATES)} {name}', *lines, '```'])
+
+
+def whole_now(root):
+    return f'{lines_in(below(*root)):,} lines: {len(below(*root)):,} definitions in {len(files_below(*root)):,} files'
 
 
 def page_now(page):
     """The page, as it has to be now."""
-    below = below_run()
-    whole = f'{lines_in(below):,} lines: {len(below):,} definitions in {len(files_below_run()):,} files'
-    return BLOCK.sub(block_now, ROW.sub(row_now, WHOLE.sub(whole, page)))
+    root = None
+
+    def now(part):
+        nonlocal root
+        if part['source']:
+            path, name = CRATES / part['source'], part['name']
+            if path.suffix == '.rt':
+                root = path, name
+            return block_now(path, name)
+        return row_now(part, root) if part['word'] else whole_now(root)
+
+    return re.sub(f'{BLOCK}|{ROW}|{WHOLE}', now, page, flags=re.M | re.S)
 
 
 def main():
     if sys.argv[1:] == ['--list']:
-        for path, lines in sorted(files_below_run().items()):
+        for path, lines in sorted(files_below(CRATES / RUN, 'run').items()):
             print(f'{lines:5} {path.relative_to(CRATES)}')
         return
     page = PAGE.read_text()

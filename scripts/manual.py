@@ -14,7 +14,7 @@ import textwrap
 
 TOP = os.path.dirname(os.path.dirname(os.path.realpath(__file__)))
 PLAYERS = ["README.md", "CHANGELOG.md", *(f"docs/{name}.md" for name in
-           "COMMANDS FIRST OPERATORS PIECES SESSIONS SOUND THEOREM".split())]
+           "COMMANDS FIRST KEYS OPERATORS PIECES SESSIONS SET SOUND THEOREM".split())]
 PERFORM = "`./perform`"
 # The built program, and its status for words that it does not read.
 PROGRAM, INVALID = "crates/orca/out/orca", 1
@@ -175,15 +175,14 @@ def page_of_orca(commands, version, date):
 
 
 def page_of_perform(commands, version, date):
-    readme = sections_of("README.md")
-    keys = next(name for name in readme if name.startswith("Keys"))
     lines = head_of("perform", "plays a piece in a terminal", version, date)
     lines += section("SYNOPSIS", [code("perform PIECE [OPTION]..."),
                                   *(line for form, *_ in rows_of(commands, PERFORM) for line in (".br", inline(form)))])
     lines += section("DESCRIPTION", page_of(commands[PERFORM]))
     lines += section("OPTIONS", page_table([["option", "", "example"], *(
         row for row in rows_of(commands, "Options") if option_of(row) in options_of_perform())]))
-    lines += section(keys.upper(), page_of(readme[keys]))
+    for name, blocks in sections_of("docs/KEYS.md").items():
+        lines += section(name.upper(), page_of(blocks)) if name else []
     lines += section("EXIT STATUS", page_of(commands["Statuses"]))
     examples = [re.sub(r"pieces/(\w+)\.orca", r"\1", line) for line in
                 dict.fromkeys(re.findall(r"\./perform [^`\n|]*[^`\n| ]", read("docs/COMMANDS.md")))
