@@ -87,8 +87,8 @@ second_joins() {
 try_hands() {
     local resetting third hand hands=()
     first_plays --hands 8
-    await_text seen 'waiting for others'
-    await_text seen 'Anybody who reaches this address may join: no password is asked for.'
+    await_text seen 'waiting for 7 more'
+    await_text seen 'Nothing is encrypted, and anybody who reaches this address may join.'
     # What is typed before all are there is not for the piece.
     printf 6 >&"$typed"
     second_joins
@@ -106,7 +106,7 @@ try_hands() {
     await_text seen ' play '
     type_glyph 7
     within 60 saves 789. || fails "three hands write: $(cat saved)"
-    say_by_perform 125 "nobody is waited for at 127.0.0.1:$port: the first player types $top/perform PIECE --hands 2" \
+    say_by_perform 125 "nobody is waited for at 127.0.0.1:$port, or all have joined: the first player types $top/perform PIECE --hands 2" \
         --join "127.0.0.1:$port"
     say_by_perform 125 "--at says where others join: how many, --hands says" --at "127.0.0.1:$port" piece
     exec {third}>&-
@@ -222,10 +222,7 @@ try_joining() {
     first_plays --hands 2
     turn_to second
     printf '....\n' >piece
-    on_stage piece --hands 2 --at "127.0.0.1:$port"
-    await_stage 7
-    await_text seen "another program listens at the port $port"
-    await_text seen "perform: piece: the keys failed, or nobody has joined at 127.0.0.1:$port"
+    say_by_perform 125 "--at 127.0.0.1:$port: another program listens at the port $port" piece --hands 2 --at "127.0.0.1:$port"
     turn_to first
     end_stage 7
     ! has_room piece && [ ! -e saved ] || fails "a performance that nobody joined leaves something"

@@ -19,6 +19,35 @@ ends_with() {
     tr -d '\r' <seen | grep -aqF -- "$line" || fails "./perform $* ends with $status and says: $(tail -c 500 seen)"
 }
 
+# What the words alone forbid, also two names of one file.
+try_refused_words() {
+    local usage='usage: perform [--lead] PIECE [options], perform --recover PIECE [--number N] [--save NAME],' task
+    usage+=' perform --discard PIECE [--number N], perform --join HOST:PORT, or perform --ports'
+    refuses "$usage"
+    refuses "$usage" song other
+    refuses "nobody is waited for at 127.0.0.1:1, or all have joined: the first player types $top/perform PIECE --hands 2" --join 127.0.0.1:1
+    refuses "nobody is waited for at [::1]:1, or all have joined: the first player types $top/perform PIECE --hands 2" --join '[::1]:1'
+    refuses "--join here: an address is HOST:PORT, as in 127.0.0.1:9000" --join here
+    refuses "--join 127.0.0.1:99999: an address is HOST:PORT, as in 127.0.0.1:9000" --join 127.0.0.1:99999
+    refuses "--join has no option --bpm" --join 127.0.0.1:1 --bpm 3
+    refuses "--ports has no option --bpm" --ports --bpm 3
+    refuses "--discard has no option --save" --discard song --save x
+    for task in recover discard; do refuses "--$task has no option --midi" --$task song --midi take; done
+    refuses "--hands: nobody edits a piece that leads or follows" --lead song --hands 2
+    refuses "--at: nobody edits a piece that leads or follows" --follow clock song --at here
+    refuses "the option --bpm is given twice" song --bpm 9 --bpm=9
+    refuses "--hands 9: a number from 1 to 8 is wanted" song --hands 9
+    refuses "--number 0: a number from 1 to 4294967295 is wanted" --recover song --number 0
+    refuses "--journal: a performance keeps what is typed by itself, in a room" song --journal take
+    refuses "--midi: its value is missing" song --midi=
+    refuses "--script and the piece both name ./song" song --script ./song
+    refuses "--save and --script both name ../refused/new" song --script new --save ../refused/new
+    refuses "--save and the room both name .song.orca-room" song --save .song.orca-room
+    refuses "--script and the piece both name ./new" new --script ./new
+    refuses $'a?[31m: there is nothing to recover' --recover $'a\e[31m'
+    (ulimit -S -n 12 && refuses "only 12 open files are allowed: at least 16 are wanted (ulimit)" song)
+}
+
 # What nobody can mean is refused before the terminal is taken, and what the program refuses is told after it.
 try_refusals() {
     local folder name
@@ -30,7 +59,6 @@ try_refusals() {
     mkdir folder
     printf x >full
     printf 'x\x01' >full2
-    refuses "--script and the piece both name song" song --script ./song
     refuses "--midi song: this file has something in it, and would be emptied" song --midi song
     refuses "--midi full: this file has something in it, and would be emptied" song --midi=full
     refuses "--midi a b: there is no such name; perform --ports shows devices, mkfifo makes a pipe, and touch a file" \
@@ -39,15 +67,11 @@ try_refusals() {
     refuses "fifo: this is no file, and a piece is one" fifo
     refuses "folder: this is no file, and a piece is one" folder
     refuses "--save: its value is missing" song --save
-    refuses "nobody is waited for at 127.0.0.1:1: the first player types $top/perform PIECE --hands 2" --join 127.0.0.1:1
-    refuses "usage: perform [--lead|--recover|--discard] PIECE [options], perform --join HOST:PORT, or perform --ports"
-    refuses "usage: perform [--lead|--recover|--discard] PIECE [options], perform --join HOST:PORT, or perform --ports" song other
+    try_refused_words
     cd ..
     has "what the program refuses" script stty || return 0
     ends_with 1 "song: --bpm 0: a number from 1 to 999 is wanted" song --bpm 0
-    ends_with 1 "song: play: the option --bpm is given twice" song --bpm 9 --bpm 9
     ends_with 1 "song: lead: there is no option --rows" --lead song --rows 3
-    ends_with 1 "song: HANDS 9: a number from 1 to 8 is wanted" song --hands 9
     ends_with 4 "no/song: --save no/song: there is no folder $folder/no" no/song
     ends_with 4 "no: GRID no: there is no such file" --lead no
     ends_with 2 "full2: grid refused: bad byte at 1" full2

@@ -134,8 +134,8 @@ try_reader_that_returns() {
     plays_on view 30 "a piece begins"
     fill_pipe
     plays_on view 60 "a pipe is full"
-    # The page's rescue takes what waits in the pipe.
-    timeout 1 bash -c "$(lines_of docs/SOUND.md FluidSynth 3)" || true
+    # This takes what waits in the pipe.
+    timeout 1 cat synth >/dev/null || true
     plays_on view 120 "a pipe was read away"
     cat synth >got {held}>&- &
     peer=$!

@@ -70,6 +70,11 @@ await_stage() {
     done
 }
 
+# program_of SCRIPT: the program of this ./perform, which its keeper waits for
+program_of() {
+    pgrep -P "$(pgrep -d , -P "$(pgrep -d , -P "$1")")" -f "^$(readlink -f "$built") "
+}
+
 # has_room NAME: a performance of this piece of the folder has left a room
 has_room() { [ -e "./.$1.orca-room" ]; }
 
@@ -178,7 +183,7 @@ on_signal() {
     script=$(cat pid)
     case $2 in
         script) kill "-$1" "$script" ;;
-        program) kill "-$1" "$(pgrep -P "$(pgrep -P "$script")" -f "^$(readlink -f "$built") play")" ;;
+        program) kill "-$1" "$(program_of "$script")" ;;
         keeper) kill "-$1" "$(pgrep -P "$script")" ;;
         group) kill "-$1" -- "-$script" ;;
         window)
@@ -226,29 +231,46 @@ are_off() {
         END { for (note in sounds) exit 1 }'
 }
 
+# has_synth: a pipe `synth`, which is held open, and whose reader writes the file midi
+has_synth() {
+    rm -f synth midi
+    mkfifo synth
+    exec {held}<>synth
+    cat synth >midi {held}>&- &
+    reader=$!
+}
+
+# ends_synth: the pipe has no writer any more, so its reader has all
+ends_synth() {
+    exec {held}>&-
+    wait "$reader" || true
+}
+
 # on_kill TARGET STATE: the program, the keeper, or all processes are killed, or the program crashes, while the piece plays or
 # is paused. The notes end, with --recover at the latest, and that gives what was typed.
 on_kill() {
-    local script
-    rm -f midi crowded.recovered.*
-    touch midi
-    on_stage crowded --bpm 999 --midi midi
+    local script held reader
+    rm -f crowded.recovered.*
+    has_synth
+    on_stage crowded --bpm 999 --midi synth
     await_text seen ' play '
     type_glyph 7
     [ "$2" = play ] || { printf ' ' >&"$typed" && await_text seen ' pause '; }
     script=$(cat pid)
     case $1 in
-        program) kill -KILL "$(pgrep -P "$(pgrep -P "$script")" -f "^$(readlink -f "$built") play")" ;;
-        crash) kill -USR1 "$(pgrep -P "$(pgrep -P "$script")" -f "^$(readlink -f "$built") play")" ;;
+        program) kill -KILL "$(program_of "$script")" ;;
+        crash) kill -USR1 "$(program_of "$script")" ;;
         keeper) kill -KILL "$(pgrep -P "$script")" ;;
         group) kill -KILL -- "-$script" ;;
     esac
     wait "$peer" || true
     peer=
     exec {typed}>&-
+    [ "$1" = group ] || await_text seen 'perform: edits of crowded may not be saved; they are in '
     within 60 recovers || fails "a performance whose $1 was killed ($2) is not recovered: $(cat fault)"
     grep -q '^write 0 0 7$' crowded.recovered.script && "$built" replay crowded crowded.recovered.script |
         sed '/ /d' | cmp - crowded.recovered.orca || fails "a performance whose $1 was killed ($2) loses what was typed"
+    ends_synth
     are_off midi || fails "a performance whose $1 was killed ($2) leaves notes on"
     ! has_room crowded || fails "a performance whose $1 was killed ($2) leaves a room"
 }
@@ -260,8 +282,8 @@ recovers() {
 
 # leave_notes_on [GLYPH]: all of a performance is killed while it plays, after this was typed
 leave_notes_on() {
-    rm -f midi && touch midi
-    on_stage crowded --bpm 999 --midi midi
+    has_synth
+    on_stage crowded --bpm 999 --midi synth
     await_text seen ' play '
     [ $# = 0 ] || type_glyph "$1"
     within 60 has_bytes midi 100
@@ -273,7 +295,7 @@ leave_notes_on() {
 
 # Whatever is killed of a performance, what was typed stays.
 try_kills() {
-    local target state
+    local target state held reader
     crowd 1 >crowded
     for state in play pause; do
         for target in program crash keeper group; do
@@ -282,7 +304,9 @@ try_kills() {
     done
     rm crowded.recovered.*
     leave_notes_on 7
-    within 60 "$top/perform" --discard crowded || fails "a performance that was killed is not discarded"
+    within 60 "$top/perform" --discard crowded 2>fault || fails "a performance that was killed is not discarded"
+    grep -qE '^perform: the edits of crowded of [-0-9]{10} at [0-9:]{5} are dropped$' fault || fails "--discard says: $(cat fault)"
+    ends_synth
     are_off midi || fails "a performance that is discarded leaves notes on"
     echo "peers: whatever is killed of ./perform, what was typed is recovered"
 }
@@ -290,9 +314,10 @@ try_kills() {
 # A kill in the middle of an append may cut its text anywhere: what stands before in whole lines is recovered. The file is
 # never there without its start.
 try_cut_room() {
-    local cut start room=.crowded.orca-room
+    local cut start held reader room=.crowded.orca-room
     crowd 1 >crowded
     leave_notes_on 7
+    ends_synth
     cp "$room" whole
     start=$(($(sed '/^!/q' whole | wc -c)))
     for cut in {0..100}; do
@@ -371,78 +396,174 @@ play_and_leave() {
     end_stage "${status:-0}"
 }
 
-# What was typed and not saved stays in a room until it is recovered or discarded, and the piece is not played over.
+# What was typed and not saved stays in a room until it is recovered or discarded. The next performance puts it aside.
 try_room() {
-    local name='-a room' wanted
+    local name='-a room' number
     crowd 1 >"$name"
     play_and_leave --bpm 1 -- "$name"
-    await_text seen "perform: edits of $name are not saved, and stay in $PWD/.$name.orca-room"
+    await_text seen "perform: edits of $name are not saved, and stay in $PWD/.$name.orca-room: perform --recover -- -a\ room saves"
     has_room "$name" || fails "what was typed and not saved is gone"
-    cp ".$name.orca-room" kept
-    on_stage --bpm 1 -- "$name"
-    await_stage 13
-    grep -aqE 'perform: a performance of -a room has edits that were not saved, of [-0-9]{10} at [0-9:]{5}: ' seen ||
-        fails "./perform says: $(cat seen)"
-    cmp ".$name.orca-room" kept || fails "a room that was left is changed"
+    for number in 1 2; do
+        cp ".$name.orca-room" "kept$number"
+        on_stage --bpm 1 -- "$name"
+        await_text seen ' play '
+        grep -aqE "perform: edits of -a room of [-0-9]{10} at [0-9:]{5} may not have been saved, and are in $PWD/.-a room.$number.orca" \
+            seen || fails "./perform says: $(cat seen)"
+        printf %s "$number" >&"$typed"
+        await_text seen "$(cursor_on "$number")"
+        end_stage 0
+        await_text seen "perform --recover --number $number -- -a\ room saves them beside it"
+        cmp ".$name.$number.orca-room" "kept$number" || fails "a room that is put aside is changed"
+    done
     "$top/perform" --recover -- "$name" 2>fault || fails "--recover ends with $?: $(cat fault)"
-    sed '1s/./7/' "./$name" | cmp - "./$name.recovered.orca" && grep -q '^write 0 0 7$' "./$name.recovered.script" ||
-        fails "--recover gives something else"
+    "$top/perform" --recover --number 1 -- "$name" 2>fault || fails "--recover ends with $?: $(cat fault)"
+    "$top/perform" --recover --number 2 --save other -- "$name" 2>fault || fails "--recover ends with $?: $(cat fault)"
+    sed '1s/./2/' "./$name" | cmp - "./$name.recovered.orca" && grep -q '^write 0 0 2$' "./$name.recovered.script" &&
+        sed '1s/./7/' "./$name" | cmp - "./$name.recovered.2.orca" && grep -q '^write 0 0 7$' "./$name.recovered.2.script" &&
+        sed '1s/./1/' "./$name" | cmp - other && grep -q '^write 0 0 1$' other.script || fails "--recover gives something else"
+    ! ls -A | grep 'orca-room$' || fails "rooms stay"
     play_and_leave --bpm 1 -- "$name"
-    say_by_perform 125 "$name.recovered.orca: this file is there already: give it another name first" --recover -- "$name"
-    rm "./$name.recovered.orca" && ln -s nowhere "./$name.recovered.orca"
-    say_by_perform 125 "$name.recovered.orca: this file is there already: give it another name first" --recover -- "$name"
-    "$top/perform" --discard -- "$name" || fails "--discard ends with $?"
-    ! has_room "$name" || fails "a room stays"
+    say_by_perform 125 'other: this file, or other.script, is there already: give another name' --recover --save other -- "$name"
+    rm "./$name.recovered.orca" && ln -s nowhere "./$name.recovered.orca" && chmod 600 "./$name"
+    "$top/perform" --recover -- "$name" 2>fault || fails "--recover ends with $?: $(cat fault)"
+    [ "$(stat -c %a "./$name.recovered.3.orca" "./$name.recovered.3.script")" = $'600\n600' ] && [ ! -e nowhere ] ||
+        fails "what is recovered is open to others, or goes to the end of a link"
     crowd 1 >crowded
     say_by_perform 125 'crowded: there is nothing to recover' --recover crowded
     say_by_perform 125 'crowded: there is nothing to discard' --discard crowded
     on_stage crowded --bpm 1
     await_text seen ' play '
-    say_by_perform 125 'crowded is being performed now' --recover crowded
-    say_by_perform 125 'crowded is being performed now' --discard crowded
+    say_by_perform 14 'crowded is being performed now' --recover crowded
+    say_by_perform 14 'crowded is being performed now' --discard crowded
     end_stage 0
     ! has_room crowded || fails "a performance without an edit leaves a room"
+    rm -f other* ./-a*
     echo "peers: what was typed and not saved is recovered or discarded"
+}
+
+# kills_after KEYS: all of a performance is killed after these keys, and the status line that they lead to
+kills_after() {
+    local held reader
+    has_synth
+    on_stage crowded --bpm 999 --midi synth
+    within 60 has_bytes midi 100 || fails "the port gets too little"
+    printf %b "$1" >&"$typed"
+    await_text seen "$2"
+    kill -KILL -- "-$(cat pid)"
+    wait "$peer" || true
+    peer=
+    exec {typed}>&-
+    has_room crowded || fails "a performance that was killed leaves no room"
+    "${@:3}"
+    ends_synth
+    are_off midi || fails "a performance that was killed leaves notes on"
+}
+
+# begins_again: the piece is performed, and nothing is said of a room
+begins_again() {
+    on_stage crowded --bpm 1
+    await_text seen ' play '
+    end_stage 0
+    ! grep -aqE 'saved|orca-room' seen && [ -z "$(find . -name '.crowded*')" ] || fails "a room that holds nothing is told: $(cat seen)"
+}
+
+# A room that holds nothing goes without a word: where nothing was typed, and where all was saved. Its notes end.
+try_empty_rooms() {
+    crowd 1 >crowded
+    kills_after '\x06' ' play ' begins_again
+    kills_after ' 7\x13' ' saved' begins_again
+    [ "$(head -c 1 crowded)" = 7 ] || fails "Ctrl-S saves nothing"
+    # What was typed and taken back is nothing.
+    on_stage crowded --bpm 1
+    await_text seen ' play '
+    printf ' 8\x1a' >&"$typed"
+    await_text seen ' pause '
+    end_stage 0
+    ! has_room crowded && ! grep -aq 'orca-room' seen || fails "an edit that was taken back leaves a room"
+    echo "peers: a room that holds nothing goes without a word"
+}
+
+# The piece that a performance saves over stays beside it.
+try_older() {
+    crowd 1 >crowded
+    crowd 2 >crowded~
+    cp crowded opened
+    on_stage crowded --bpm 1
+    await_text seen ' play '
+    printf '7\x13' >&"$typed"
+    await_text seen ' saved'
+    end_stage 0
+    [ "$(head -c 1 crowded)" = 7 ] && cmp crowded~ opened || fails "the piece is not kept as it was"
+    rm crowded~
+    echo "peers: the piece that is saved over stays beside it"
 }
 
 # What is no room, or that of another piece: it stays as it is, and the piece is not played.
 try_other_rooms() {
     local kind room=.crowded.orca-room
     crowd 1 >crowded
-    for kind in 'ln -s nowhere' 'ln -s crowded' mkfifo mkdir; do
+    for kind in 'ln -s nowhere' 'ln -s crowded' mkfifo mkdir 'cp crowded'; do
         $kind "$room"
         on_stage crowded --bpm 1
-        await_stage 13
+        await_stage 125
         await_text seen "$PWD/$room: this is no room of yours: move it away"
         say_by_perform 125 "$PWD/$room: this is no room of yours: move it away" --recover crowded
         say_by_perform 125 "$PWD/$room: this is no room of yours: move it away" --discard crowded
-        [ -L "$room" ] || [ -p "$room" ] || [ -d "$room" ] || fails "$kind: what is no room is gone"
-        [ ! -d "$room" ] || [ -L "$room" ] || rmdir "$room"
-        rm -f "$room"
+        [ -e "$room" ] || [ -L "$room" ] || fails "$kind: what is no room is gone"
+        rm -rf "$room"
     done
     # That of another piece has all of that one, and what is recovered is that.
     crowd 2 >other
     play_and_leave other --bpm 1
     mv .other.orca-room "$room"
-    on_stage crowded --bpm 1
-    await_stage 13
     "$top/perform" --recover crowded 2>fault || fails "another room is not recovered: $(cat fault)"
     sed '1s/./7/' other | cmp - crowded.recovered.orca || fails "another room is recovered as another grid"
     rm crowded.recovered.*
     # A file without a grid is no room either, and stays.
-    echo nothing >"$room"
+    (umask 077 && echo nothing >"$room")
     ! "$top/perform" --recover crowded 2>fault || fails "a file without a grid is recovered"
     [ "$(cat "$room")" = nothing ] || fails "a recovery that failed takes the room away"
     rm -f "$room" crowded.recovered.*
-    # Nor is that of another user, which can't be read.
-    if [ "$(id -u)" = 0 ] && chmod 711 "$work" && setpriv --reuid=65534 --clear-groups test -x "$top/perform" 2>/dev/null; then
-        mkdir theirs && chmod 777 theirs
-        (umask 077 && crowd 1 >theirs/.other.orca-room)
-        as_nobody='setpriv --reuid=65534 --regid=65534 --clear-groups' \
-            refuses "$PWD/theirs/.other.orca-room: this is no room of yours: move it away" --recover theirs/other
-        rm -r theirs
-    fi
+    try_planted_room
     echo "peers: what is no room of the piece stays, and is told"
+}
+
+# A room names a file as its port: that gets nothing. Nor can somebody else have a room put there, or one be taken for it.
+try_planted_room() {
+    local nobody='setpriv --reuid=65534 --regid=65534 --clear-groups' task
+    for task in --recover --discard; do
+        echo precious >victim
+        (umask 077 && printf '....\n\n!orca 2 seed 1\n# midi %s\nwrite 0 0 7\n' "$PWD/victim" >.crowded.orca-room)
+        "$top/perform" $task crowded 2>fault || fails "$task ends with $?: $(cat fault)"
+        [ "$(cat victim)" = precious ] || fails "$task writes into a file that a room names"
+    done
+    rm -f crowded.recovered.*
+    if [ "$(id -u)" != 0 ] || ! $nobody true 2>/dev/null; then
+        echo "peers: the room of another user skipped, since nobody else can be here"
+        return
+    fi
+    chmod 711 "$work"
+    mkdir -m 777 theirs
+    crowd 1 >theirs/other
+    $nobody sh -c 'umask 077; : >theirs/.other.orca-room'
+    for task in --recover --discard; do
+        say_by_perform 125 "theirs/other may be performed by $(id -un 65534) now: ask him" $task theirs/other
+    done
+    on_stage theirs/other
+    await_stage 125
+    await_text seen "theirs/other may be performed by $(id -un 65534) now: ask him"
+    [ -e theirs/.other.orca-room ] || fails "somebody else's room is gone"
+    # In a folder where anybody may put a file, and nobody can take another one's away, a room is elsewhere.
+    chmod 1777 theirs
+    chown 65533 theirs
+    on_stage theirs/other --bpm 1
+    await_text seen ' play '
+    type_glyph 7
+    end_stage 0
+    await_text seen "/orca-rooms-$UID/.other."
+    "$top/perform" --discard theirs/other 2>fault || fails "a room elsewhere is not found: $(cat fault)"
+    [ -e theirs/.other.orca-room ] || fails "somebody else's file is gone"
+    rm -r theirs
 }
 
 # A piece in a folder that can't be written has its room in the temporary folder, where nobody else can enter.
@@ -464,10 +585,23 @@ try_room_elsewhere() {
     [ "$(stat -c %a "temporary/orca-rooms-$UID")" = 700 ] || fails "somebody else may enter the folder of rooms"
     room=$(ls -A "temporary/orca-rooms-$UID")
     [[ $room == .piece.*.orca-room ]] || fails "a room elsewhere is called $room"
+    await_text seen "perform --recover --save NAME locked_away/piece saves them, and "
+    ! "$top/perform" --recover locked_away/piece 2>fault || fails "a folder that can't be written gets a file"
+    grep -qxF "perform: what is left is in $TMPDIR/orca-rooms-$UID/$room; --save NAME saves it elsewhere than in $(
+        )locked_away/piece.recovered.orca" fault || fails "--recover says: $(cat fault)"
+    "$top/perform" --recover --save found locked_away/piece 2>fault || fails "a room elsewhere is not recovered: $(cat fault)"
+    sed '1s/./7/' locked_away/piece | cmp - found && grep -q '^write 0 0 7$' found.script || fails "a room elsewhere has another grid"
+    rm found found.script
+    play_and_leave locked_away/piece --bpm 1
+    if [ -n "$as_root" ]; then mount -o remount,bind,rw locked_away; else chmod 755 locked_away; fi
+    # It is found once the folder can be written.
     on_stage locked_away/piece --bpm 1
-    await_stage 13
-    "$top/perform" --discard locked_away/piece || fails "a room elsewhere is not discarded"
+    await_text seen ' play '
+    end_stage 0
+    await_text seen '--number 1 '
+    "$top/perform" --discard locked_away/piece 2>fault || fails "a room elsewhere is not discarded"
     [ -z "$(ls -A "temporary/orca-rooms-$UID")" ] || fails "a room elsewhere stays"
+    if [ -n "$as_root" ]; then mount -o remount,bind,ro locked_away; else chmod 555 locked_away; fi
     chmod 755 "temporary/orca-rooms-$UID"
     say_by_perform 125 "$TMPDIR/orca-rooms-$UID: this has to be a folder that nobody else can enter" locked_away/piece
     if [ -n "$as_root" ]; then umount locked_away; else chmod 755 locked_away; fi
@@ -877,7 +1011,7 @@ try_full_disk() {
     await_text seen ' unsaved'
     type_glyph 8
     cmp small/piece opened || fails "a save to $disk changes the piece"
-    [ "$(find small -mindepth 1 -maxdepth 1 ! -name filler -printf '%f\n' | sort | tr '\n' ' ')" = '.piece.orca-room piece ' ] ||
+    [ "$(find small -mindepth 1 -maxdepth 1 ! -name filler -printf '%f\n' | sort | tr '\n' ' ')" = '.piece.orca-room piece piece~ ' ] ||
         fails "a save to $disk leaves something: $(ls -A small)"
     open_disk
     printf '\x13' >&"$typed"

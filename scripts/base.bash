@@ -2,8 +2,9 @@
 # For ./orca, ./perform and scripts/pack, which source this first: what each of them needs. Then $top is the folder that
 # they lie in, and $program is the program: the one that was installed with them, or that of this checkout.
 set -euE
+set +o posix
 trap 'exit 125' ERR
-unset CDPATH
+unset CDPATH POSIXLY_CORRECT
 # The number of a closed input, output or error would be given to the next file that is opened.
 { : 9<&0; } 2>/dev/null || exec </dev/null
 { : 9>&1; } 2>/dev/null || exec >/dev/null
@@ -18,9 +19,10 @@ kit='rattle-kit-13b logic dac8208d650f15bf'
 # How this is called; an installed copy may have longer names.
 called=${0##*/}
 
-# say TEXT: one line for the user, who may have gone
+# say TEXT: one line for the user, who may have gone. A name may have bytes that would ask the terminal for something.
 say() {
-    echo "$called: $*" >&2 || true
+    local line="$called: $*"
+    printf '%s\n' "${line//[[:cntrl:]]/?}" >&2 || true
 }
 
 # fails TEXT: the script ends, and the text says what to do
@@ -55,6 +57,12 @@ tell_about() {
 }
 
 ((BASH_VERSINFO[0] * 100 + BASH_VERSINFO[1] >= 404)) || fails "bash 4.4 or later is needed, and this is $BASH_VERSION"
+# Where few files or processes are allowed, bash ends without a word, or waits.
+for word in n/16/files u/16/processes; do
+    IFS=/ read -r word least what <<<"$word"
+    word=$(ulimit "-$word")
+    [ "$word" = unlimited ] || [ "$word" -ge "$least" ] || fails "only $word open $what are allowed: at least $least are wanted (ulimit)"
+done
 wants readlink find
 top=$(readlink -f "${BASH_SOURCE[0]}")
 top=${top%/scripts/*}

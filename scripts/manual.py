@@ -224,15 +224,16 @@ def options_of_words():
 
 
 def options_of_perform():
-    """Those of `play`, but for the room, which `perform` gives by itself, and the journal, which can't be given with it."""
-    return [option for option in options_of_words()["play"] if option not in ("--journal", "--room")]
+    """Those of `play` and `jam`, but for the room, which `perform` gives by itself, and the journal, which can't be given with it."""
+    return [option for option in options_of_words()["jam"] if option not in ("--journal", "--room")]
 
 
 def completion(commands):
     options = dict(options_of_words())
     words = " ".join(options)
     own = [option for form, *_ in rows_of(commands, PERFORM) for option in re.findall(r"--[a-z]+", form)]
-    options["perform"] = [*own, *options_of_perform()]
+    options["perform"] = [*dict.fromkeys([*own, *options_of_perform()])]
+    options["recovery"], options["discard"] = ["--number", "--save", "--limit"], ["--number"]
     table = " ".join(f"[{word}]='{' '.join(names)}'" for word, names in options.items())
     text = read("completions/orca.in").replace("@words@", words).replace("@options@", table)
     return text.replace("@orca@", NAMES["orca"]).replace("@perform@", NAMES["perform"])
