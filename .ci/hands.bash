@@ -255,3 +255,97 @@ try_joining() {
     turn_to .
     echo "peers: whoever leaves, each terminal is as it was"
 }
+
+# close_window: the terminal of the one on stage is closed
+close_window() {
+    {
+        pkill -KILL -P "$peer" script
+        wait "$peer" || true
+    } 2>/dev/null
+    peer='' && exec {typed}>&-
+}
+
+# leaves_nothing: no process of the first player's is there, and nobody listens
+leaves_nothing() {
+    ! is_heard "$port" && ! pgrep -f "^$(readlink -f "$built") jam.*piece" && ! kill -0 "$(cat "$work/first/pid")"
+} >/dev/null
+
+# The window of the first player is closed, or the script or the keeper is killed, while others are waited for or while they
+# play: the performance ends for all.
+try_closed_windows() {
+    local turn target state
+    for state in waiting playing; do
+        for target in window window window window window script keeper; do
+            first_plays --hands 2
+            [ "$state" = waiting ] || { second_joins && turn_to first && await_text seen ' play ' && type_glyph 7; }
+            case $target in
+                window) close_window ;;
+                script) kill -KILL "$(cat pid)" ;;
+                keeper) kill -KILL "$(pgrep -P "$(cat pid)")" ;;
+            esac
+            within 10 leaves_nothing || fails "a performance whose $target has gone ($state) goes on"
+            [ -z "$peer" ] || { wait "$peer" || true; peer='' && exec {typed}>&-; }
+            [ "$state" = waiting ] || { [ "$(head -c 1 saved)" = 7 ] && turn_to second && await_stage 0; }
+        done
+    done
+    turn_to .
+    echo "peers: where the first player's window is closed, the performance ends for all"
+}
+
+# The keeper or the script of one who joined is killed: none of his processes stays.
+try_gone_player() {
+    local target
+    for target in keeper script; do
+        first_plays --hands 2
+        second_joins
+        turn_to first
+        await_text seen ' play '
+        turn_to second
+        pgrep -P "$(pgrep -d , -P "$(cat pid)")" >children
+        case $target in
+            keeper) kill -KILL "$(pgrep -P "$(cat pid)")" ;;
+            script) kill -KILL "$(cat pid)" ;;
+        esac
+        await_stage 137
+        within 10 eval '! ps -o pid= -p "$(paste -sd , children)" >/dev/null' || fails "a player whose $target was killed leaves processes"
+        turn_to first
+        end_stage 0
+    done
+    turn_to .
+    echo "peers: a player who is killed leaves no process"
+}
+
+# What is no player comes by HTTP, while one is waited for and while it plays: nothing is typed, and no place is taken.
+try_web() {
+    local state
+    first_plays --hands 2
+    for state in waiting playing; do
+        timeout 10 curl -s -o text -d hello=world "http://127.0.0.1:$port/x" || true
+        timeout 10 curl -s -o text -X OPTIONS "http://127.0.0.1:$port/x" || true
+        (printf 'POST / HTTP/1.0\r\nContent-Type: text/plain\r\n\r\n\e[B\e[BPWNED\x01\x7f' >"/dev/tcp/127.0.0.1/$port") 2>/dev/null || true
+        [ "$state" = playing ] || { second_joins && await_text seen ' play ' && turn_to first && type_glyph 7; }
+    done
+    end_stage 0
+    printf '!orca 2 seed 1\nwrite 0 0 7\n' | cmp - <(grep -v '^frame' script) || fails "a browser has typed: $(cat script)"
+    turn_to second
+    await_stage 0
+    turn_to .
+    echo "peers: a browser takes no place, and types nothing"
+}
+
+# One hand has keys refused again and again: each rule is told once, with a number, and after the room.
+try_refused_hand() {
+    first_plays --hands 2
+    exec {typed2}<>"/dev/tcp/127.0.0.1/$port"
+    await_text seen ' play '
+    type_glyph 7
+    printf '\x13\x1a%.0s' {1..500} >&"$typed2"
+    plays_on seen 5 "keys are refused"
+    end_stage 0
+    exec {typed2}>&-
+    tr -d '\r' <seen | grep -aoE 'perform: piece: hand 1 refused .*' >refused
+    printf 'perform: piece: hand 1 refused %s, 500 times\n' LeaderOnly 'NotYours 0' | cmp - refused ||
+        fails "refused keys are told as: $(head -n 5 refused)"
+    turn_to .
+    echo "peers: refused keys are told once for each rule"
+}

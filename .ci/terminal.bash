@@ -280,6 +280,10 @@ recovers() {
     "$top/perform" --recover crowded 2>fault
 }
 
+discards() {
+    "$top/perform" --discard crowded 2>fault
+}
+
 # leave_notes_on [GLYPH]: all of a performance is killed while it plays, after this was typed
 leave_notes_on() {
     has_synth
@@ -304,11 +308,104 @@ try_kills() {
     done
     rm crowded.recovered.*
     leave_notes_on 7
-    within 60 "$top/perform" --discard crowded 2>fault || fails "a performance that was killed is not discarded"
+    within 60 discards || fails "a performance that was killed is not discarded: $(cat fault)"
     grep -qE '^perform: the edits of crowded of [-0-9]{10} at [0-9:]{5} are dropped$' fault || fails "--discard says: $(cat fault)"
     ends_synth
     are_off midi || fails "a performance that is discarded leaves notes on"
     echo "peers: whatever is killed of ./perform, what was typed is recovered"
+}
+
+# try_dead_keeper: a signal that nothing handles ends the keeper. The terminal is as it was, and the room is told.
+try_dead_keeper() {
+    local signal
+    crowd 1 >crowded
+    for signal in SEGV USR1 ALRM KILL; do
+        on_stage crowded --bpm 1
+        await_text seen ' play '
+        type_glyph 7
+        kill "-$signal" "$(pgrep -P "$(cat pid)")"
+        await_stage "$((128 + $(kill -l "$signal")))"
+        await_text seen "perform: edits of crowded may not be saved; they are in $PWD/.crowded.orca-room"
+        "$top/perform" --discard crowded 2>fault || fails "a performance whose keeper met $signal leaves: $(cat fault)"
+    done
+    echo "peers: whatever ends the keeper, the terminal is as it was"
+}
+
+# The program of a piece that leads is killed: its notes end, and so does the clock that it gave.
+try_dead_leader() {
+    local held reader
+    printf 'D....\n.:03Cfz\n' >long
+    has_synth
+    on_stage long --lead --bpm 999 --midi synth
+    within 60 has_bytes midi 100 || fails "the port gets too little"
+    kill -KILL "$(program_of "$(cat pid)")"
+    await_stage 137
+    ends_synth
+    { for part in {0..15}; do printf "\\xb$(printf %x "$part")\x7b\x00"; done && printf '\xfc'; } |
+        cmp - <(tail -c 49 midi) || fails "the notes and the clock of a leader that was killed go on"
+    echo "peers: the notes and the clock of a leader that is killed end"
+}
+
+# Where a file has no lock or no second name, the room is elsewhere, and what is typed is kept; where it can't be kept, that is
+# said. Of the tools that try it, one here fails in the folder `stick`; or else the system refuses the calls.
+try_no_links() {
+    local call room
+    rm -rf stick tools temporary && mkdir stick tools temporary
+    crowd 1 >stick/piece
+    printf '%s\n' '#!/bin/sh' 'case "$*" in *stick/.*) echo "ln: failed: Operation not permitted" >&2; exit 1 ;; esac' \
+        "exec $(command -v ln) \"\$@\"" >tools/ln
+    chmod +x tools/ln
+    PATH=$PWD/tools:$PATH TMPDIR=$PWD/temporary play_and_leave stick/piece --bpm 1
+    room=$(ls -A "temporary/orca-rooms-$UID")
+    [[ $room == .piece.*.orca-room ]] && [ -z "$(find stick -name '*.orca-room*')" ] || fails "the room is not elsewhere: $room"
+    TMPDIR=$PWD/temporary "$top/perform" --recover stick/piece 2>fault || fails "a room elsewhere is not recovered: $(cat fault)"
+    sed '1s/./7/' stick/piece | cmp - stick/piece.recovered.orca || fails "a room elsewhere gives another grid"
+    has "files without links and locks" strace || return 0
+    for call in link,linkat:error=EPERM flock:error=ENOLCK; do
+        got=0
+        TMPDIR=$PWD/temporary strace -f -o trace -e "trace=${call%%:*}" -e "inject=$call" "$top/perform" stick/piece \
+            </dev/null >text 2>fault || got=$?
+        [ "$got" = 125 ] && grep -q "^perform: what is typed can't be kept in $PWD/temporary/orca-rooms-$UID: " fault ||
+            fails "without ${call%%:*} ./perform ends with $got and says: $(cat fault)"
+    done
+    echo "peers: where files have no links or locks, the room is elsewhere, or that is said"
+}
+
+# A piece whose name is as long as a name may be is played, and its room is elsewhere.
+try_long_name() {
+    local name
+    name=$(printf 'n%.0s' {1..250})
+    rm -rf temporary && mkdir temporary
+    crowd 1 >"$name"
+    TMPDIR=$PWD/temporary play_and_leave "$name" --bpm 1
+    TMPDIR=$PWD/temporary "$top/perform" --recover --save found "$name" 2>fault || fails "a long name is not recovered: $(cat fault)"
+    sed '1s/./7/' "$name" | cmp - found || fails "a long name gives another grid"
+    rm "$name" "$name~" found found.script
+    echo "peers: a piece with the longest name is played, and recovered"
+}
+
+# A device that is lost and comes back, again and again. Each time it gets notes.
+try_device_again() {
+    local turn
+    crowd 1 >crowded
+    rm -f usb got
+    socat -u PTY,link=usb,raw,echo=0 OPEN:got,creat,append 2>/dev/null &
+    reader=$!
+    within 60 test -c usb || fails "there is no device"
+    on_stage crowded --bpm 999 --midi usb --save saved
+    for ((turn = 0; turn < 20; turn++)); do
+        : >got
+        within 60 has_bytes got 30 || fails "a device that came back $turn times gets nothing"
+        kill "$reader"
+        wait "$reader" 2>/dev/null || true
+        socat -u PTY,link=usb,raw,echo=0 OPEN:got,creat,append 2>/dev/null &
+        reader=$!
+    done
+    within 60 has_bytes got 30 || fails "a device that came back gets nothing"
+    end_stage "[03]"
+    kill "$reader" 2>/dev/null || true
+    wait "$reader" 2>/dev/null || true
+    echo "peers: a device comes back 20 times, and is sent to again"
 }
 
 # A kill in the middle of an append may cut its text anywhere: what stands before in whole lines is recovered. The file is
@@ -321,7 +418,7 @@ try_cut_room() {
     cp "$room" whole
     start=$(($(sed '/^!/q' whole | wc -c)))
     for cut in {0..100}; do
-        head -c "$((start + ($(stat -c %s whole) - start) * cut / 100))" whole >"$room"
+        (umask 077 && head -c "$((start + ($(stat -c %s whole) - start) * cut / 100))" whole >"$room")
         head -n "$(wc -l <"$room")" "$room" | sed '1,/^$/d; /^#/d' >lines
         recovers || fails "a room of $cut of 100 parts is not recovered: $(cat fault)"
         "$built" replay crowded lines | sed '/ /d' | cmp - crowded.recovered.orca ||
