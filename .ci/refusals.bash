@@ -45,7 +45,7 @@ try_refused_words() {
     refuses "--save and the room both name .song.orca-room" song --save .song.orca-room
     refuses "--script and the piece both name ./new" new --script ./new
     refuses $'a?[31m: there is nothing to recover' --recover $'a\e[31m'
-    (ulimit -S -n 12 && refuses "only 12 open files are allowed: at least 16 are wanted (ulimit)" song)
+    (ulimit -S -n 12 && refuses "only 12 files are allowed at once: at least 16 are wanted (ulimit)" song)
 }
 
 # What nobody can mean is refused before the terminal is taken, and what the program refuses is told after it.

@@ -518,7 +518,7 @@ try_room() {
     sed '1s/./2/' "./$name" | cmp - "./$name.recovered.orca" && grep -q '^write 0 0 2$' "./$name.recovered.script" &&
         sed '1s/./7/' "./$name" | cmp - "./$name.recovered.2.orca" && grep -q '^write 0 0 7$' "./$name.recovered.2.script" &&
         sed '1s/./1/' "./$name" | cmp - other && grep -q '^write 0 0 1$' other.script || fails "--recover gives something else"
-    ! ls -A | grep 'orca-room$' || fails "rooms stay"
+    [ -z "$(find . -maxdepth 1 -name '*.orca-room')" ] || fails "rooms stay"
     play_and_leave --bpm 1 -- "$name"
     say_by_perform 125 'other: this file, or other.script, is there already: give another name' --recover --save other -- "$name"
     rm "./$name.recovered.orca" && ln -s nowhere "./$name.recovered.orca" && chmod 600 "./$name"
@@ -1003,7 +1003,7 @@ try_recipe() {
     chmod +x pages/bin/fluidsynth
     type_pages true "$(lines_of docs/SOUND.md FluidSynth 1)" "$(lines_of docs/SOUND.md FluidSynth 2)"
     is_clean
-    type_pages 'is_loud pages/take.raw' "$(lines_of docs/SOUND.md FluidSynth 4)"
+    type_pages 'is_loud pages/take.raw' "$(lines_of docs/SOUND.md FluidSynth 3)"
     is_clean
     [ "$(sox --i -s pages/take.wav)" -gt 1000 ] || fails "the take of the recipe has no length"
     echo "peers: the recipe of FluidSynth plays, cleans up, and gives a take of $(sox --i -d pages/take.wav)"

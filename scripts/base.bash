@@ -61,7 +61,8 @@ tell_about() {
 for word in n/16/files u/16/processes; do
     IFS=/ read -r word least what <<<"$word"
     word=$(ulimit "-$word")
-    [ "$word" = unlimited ] || [ "$word" -ge "$least" ] || fails "only $word open $what are allowed: at least $least are wanted (ulimit)"
+    [ "$word" = unlimited ] || [ "$word" -ge "$least" ] ||
+        fails "only $word $what are allowed at once: at least $least are wanted (ulimit)"
 done
 wants readlink find
 top=$(readlink -f "${BASH_SOURCE[0]}")

@@ -1,6 +1,6 @@
 # shellcheck shell=bash
-# For ./perform, which sources this: rooms, in which the program keeps what is typed. That of a piece is beside it, or where that
-# folder has no place for one, in a folder that nobody else can enter. An old one is put aside with a number.
+# For ./perform, which sources this: rooms, in which the program keeps what is typed. That of a piece is beside it, or
+# where that folder takes none, in one that nobody else can enter. An old one is put aside with a number.
 
 # name_rooms: then $stems are how the names of the rooms of the piece begin, in both folders
 name_rooms() {
@@ -36,8 +36,8 @@ choose_room() {
     room=${stems[1]}.orca-room
 }
 
-# find_rooms NUMBERS: then $found are the rooms of the piece whose names have these, a pattern, the newest first. Where anybody
-# may put a file, somebody else's is no room.
+# find_rooms NUMBERS: then $found are the rooms of the piece whose names have these, a pattern, the newest first. Where
+# anybody may put a file, somebody else's is no room.
 find_rooms() {
     local at
     found=()
@@ -47,7 +47,7 @@ find_rooms() {
     done
 }
 
-# hold ROOM: this holds it from here on. One of somebody else, one that is no room, and one in use are told, and end this.
+# hold ROOM: this holds it from here on. One of somebody else, one that is none, and one in use are told, and end this.
 hold() {
     local mode owner user got=0
     read -r mode owner user < <(stat -c '%f %u %U' -- "$1")
@@ -72,8 +72,8 @@ holds_nothing() {
     return "$got"
 } &>/dev/null
 
-# end_notes PORT [BYTES]: a program that was killed has ended no note, so a pipe or a device gets All Notes Off on each channel,
-# and these bytes. One that does not take them at once is left alone, and a file has no note that sounds.
+# end_notes PORT [BYTES]: a program that was killed has ended no note, so a pipe or a device gets All Notes Off on each
+# channel, and these bytes. One that does not take them at once is left alone, and a file has no note that sounds.
 end_notes() {
     local notes
     [ -p "$1" ] || [ -c "$1" ] || return 0
@@ -86,16 +86,17 @@ end_its_notes() { end_notes "$(sed -n '/^$/,$ s/^# midi //p' "$1" | head -n 1)";
 
 # tell_room ROOM WORDS: what it has, and how that is saved or dropped
 tell_room() {
-    local name number='' where=' beside it' save=''
+    local name number='' where=' beside it' save='' ways
     printf -v name %q "$piece"
     [[ $name != -* ]] || name="-- $name"
     [ "$1" = "$room" ] || number=${1%.orca-room} number=" --number ${number##*.}"
     [ -w "${stems[0]%/*}/" ] || where='' save=' --save NAME'
-    say "edits of $piece $2 $1: $called --recover$number$save $name saves them$where, and $called --discard$number $name drops them"
+    ways="$called --recover$number$save $name saves them$where, and $called --discard$number $name drops them"
+    say "edits of $piece $2 $1: $ways"
 }
 
-# clear_way: an old room holds up no performance. One that holds nothing goes, and any other is put aside; then $aside is the last
-# of these, and $since when it was left.
+# clear_way: an old room holds up no performance. One that holds nothing goes, and any other is put aside; then $aside is
+# the last of these, and $since when it was left.
 clear_way() {
     local old number
     find_rooms ''
@@ -122,13 +123,13 @@ name_recovered() {
     local base=${piece%.recovered?(.+([0-9])).orca} number=0
     grid=${given[--save]-} script=$grid.script
     until [ -n "$grid" ] && [ ! -e "$grid" ] && [ ! -L "$grid" ] && [ ! -e "$script" ] && [ ! -L "$script" ]; do
-        [ -z "$grid" ] || [ -z "${given[--save]-}" ] || fails "$grid: this file, or $script, is there already: give another name"
+        [ -z "${given[--save]-}" ] || fails "$grid: this file, or $script, is there already: give another name"
         grid=$base.recovered.$((number += 1)) grid=${grid%.1}.orca script=${grid%.orca}.script
     done
 }
 
-# settle: what a performance has left goes to files that are as open to others as the piece is, unless it is to be discarded,
-# and the room goes, but for one that was not understood to its end. Notes have ended where it was put aside.
+# settle: what a performance has left goes to files that are as open to others as the piece is, unless it is to be
+# discarded, and the room goes, but for one that was not understood to its end. Notes have ended where it was put aside.
 settle() {
     local got=0 numbers='?(.+([0-9]))' since grid script
     [ -z "${given[--number]-}" ] || numbers=.$((10#${given[--number]}))
@@ -138,9 +139,10 @@ settle() {
     since=$(date -r "$found" '+%F at %R')
     if [ "$task" = recover ]; then
         name_recovered
-        (umask 077 && exec "$top/orca" recover ${given[--limit]+"--limit=${given[--limit]}"} --script="$script" -- "$found" "$grid") ||
-            got=$?
-        [ -e "$grid" ] && [ -e "$script" ] || fails "what is left is in $found; --save NAME saves it elsewhere than in $grid"
+        [ -z "${given[--limit]-}" ] || words=(--limit "${given[--limit]}")
+        (umask 077 && exec "$top/orca" recover "${words[@]}" --script="$script" -- "$found" "$grid") || got=$?
+        [ -e "$grid" ] && [ -e "$script" ] ||
+            fails "what is left is in $found; --save NAME saves it elsewhere than in $grid"
         chmod --reference="$piece" -- "$grid" "$script" 2>/dev/null || true
         say "the grid is in $grid, and the script in $script"
         [ "$got" = 0 ] || { say "they have the beginning alone, and $found has all" && exit "$got"; }
