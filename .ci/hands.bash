@@ -106,8 +106,6 @@ try_hands() {
     await_text seen ' play '
     type_glyph 7
     within 60 saves 789. || fails "three hands write: $(cat saved)"
-    say_by_perform 125 "nobody is waited for at 127.0.0.1:$port, or all have joined: the first player types $top/perform PIECE --hands 2" \
-        --join "127.0.0.1:$port"
     say_by_perform 125 "--at says where others join: how many, --hands says" --at "127.0.0.1:$port" piece
     exec {third}>&-
     wait "$resetting" || fails "there is no connection to be reset"
@@ -141,6 +139,8 @@ try_views() {
     within 60 shows 6 30 "?8.." ' 0,1 1x1 play 999' || fails "the second player sees: $(screen_of 6 30)"
     turn_to first
     within 60 shows 24 80 "?8.." ' 0,0 1x1 play 999' || fails "the first player sees: $(screen_of 24 80)"
+    say_by_perform 125 "nobody is waited for at 127.0.0.1:$port, or all have joined: the first player types $top/perform PIECE --hands 2" \
+        --join "127.0.0.1:$port"
     kill -STOP "$(pgrep -P "${peers[second]}" script)"
     before=$(tick_in seen)
     type_glyph 7
