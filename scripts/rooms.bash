@@ -147,7 +147,7 @@ settle() {
         say "the grid is in $grid, and the script in $script"
         [ "$got" = 0 ] || { say "they have the beginning alone, and $found has all" && exit "$got"; }
     fi
-    [[ $found == *.+([0-9]).orca-room ]] || end_its_notes "$found"
+    [[ " ${stems[*]/%/.orca-room} " != *" $found "* ]] || end_its_notes "$found"
     rm -- "$found"
     [ "$task" = recover ] || say "the edits of $piece of $since are dropped"
 }
