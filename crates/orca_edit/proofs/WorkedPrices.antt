@@ -112,6 +112,19 @@ retract_at_a_short_history : account 3 (grid (codes "." ∷ []))
 unfolding account
 retract_at_a_short_history = refl
 
+-- a change of size, which goes once the edit after it has gone
+size_retracted : account 9 (grid (codes "...." ∷ codes "...." ∷ []))
+    (Resize 1 4 ∷ Write 0 0 97 ∷ Retract 0 ∷ Retract 1 ∷ Retract 0 ∷ Retract 2 ∷ [])
+    ≡ line 56 1 0 0 256 1
+    ∷ line 12 2 0 0 256 2
+    ∷ line 8 2 0 0 256 2
+    ∷ line 76 2 0 1 256 2
+    ∷ line 28 2 0 1 256 2
+    ∷ line 8 2 0 1 256 2
+    ∷ []
+unfolding account
+size_retracted = refl
+
 -- a clock that counts below
 abbrev clock : Sheet
 clock = grid (codes ".Cz" ∷ codes "..." ∷ [])
