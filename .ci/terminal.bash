@@ -580,21 +580,6 @@ try_empty_rooms() {
     echo "peers: a room that holds nothing goes without a word"
 }
 
-# A room with a wrong line gives what stands before that, and stays.
-try_wrong_line() {
-    crowd 1 >crowded
-    play_and_leave crowded --bpm 1
-    printf 'frobnicate 1 2\nwrite 0 1 8\n' >>.crowded.orca-room
-    got=0
-    "$top/perform" --recover crowded 2>fault || got=$?
-    [ "$got" = 5 ] && has_room crowded && sed '1s/./7/' crowded | cmp - crowded.recovered.orca &&
-        grep -q "^perform: they have the beginning alone, and $PWD/.crowded.orca-room has all$" fault ||
-        fails "a room with a wrong line ends with $got and says: $(cat fault)"
-    "$top/perform" --discard crowded 2>fault
-    rm crowded.recovered.*
-    echo "peers: a room with a wrong line gives what stands before that, and stays"
-}
-
 # The piece that a performance saves over stays beside it.
 try_older() {
     crowd 1 >crowded
