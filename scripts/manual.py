@@ -215,7 +215,8 @@ def options_of_words():
     with tempfile.TemporaryDirectory() as folder:
         for form, *_ in rows_of(commands, ""):
             word, *names = form.strip("`").split()
-            words = [word, *("1" for _ in names)]
+            # No two names are the same, since a room wants them apart; HANDS is at most 8.
+            words = [word, *(str(number + 1) for number in range(len(names)))]
             # A value is a number, or a word that the row of the option names.
             options[word] = [option_of(row) for row in rows_of(commands, "Options")
                              if any(reads(folder, [*words, option_of(row), value])
