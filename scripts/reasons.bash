@@ -1,9 +1,9 @@
 # shellcheck shell=bash
-# For ./orca and ./perform, which source this: why a number, a port or an address will not do. Each of these functions leaves
-# the reason in $why, which is empty where none is found.
+# For ./orca and ./perform, which source this: why a number, a port or an address will not do. Each of these
+# functions leaves the reason in $why, which is empty where none is found.
 why=
 
-# The least and the most of each number. Beside them stand the constants of limits.rt that they are (.ci/pages compares).
+# The least and the most of each number. Beside them stand the constants of limits.rt (.ci/pages compares).
 declare -A bounds=(
     [--number]='1 4294967295' [--seed]='0 4294967295' [FRAMES]='0 4294967295' [SEED]='0 4294967295'
     [--limit]='1 4000000' # MAX_HISTORY
@@ -33,20 +33,17 @@ why_no_number() {
 
 # why_no_address ADDRESS: HOST:PORT. Then $host and $port are its parts. A name server may never answer.
 why_no_address() {
-    local got=0 pattern='^(\[[0-9A-Fa-f:.%]+\]|[^],:[[:space:]]+):([0-9]{1,5})$'
+    local pattern='^(\[[0-9A-Fa-f:.%]+\]|[^],:[[:space:]]+):([0-9]{1,5})$'
     why='an address is HOST:PORT, as in 127.0.0.1:9000'
     [[ $1 =~ $pattern ]] && ((10#${BASH_REMATCH[2]} >= 1 && 10#${BASH_REMATCH[2]} <= 65535)) || return 0
-    host=${BASH_REMATCH[1]} port=${BASH_REMATCH[2]}
+    host=${BASH_REMATCH[1]} port=${BASH_REMATCH[2]} why=
     host=${host//[][]/}
-    why="there is no host $host"
-    command -v getent timeout >/dev/null || { why= && return; }
-    timeout 1 getent ahosts "$host" >/dev/null || got=$?
-    [ "$got" != 124 ] || { say "looking for $host" && got=0 && timeout 2 getent ahosts "$host" >/dev/null || got=$?; }
-    [ "$got" != 0 ] || why=
+    ! command -v getent >/dev/null || timeout 3 getent ahosts "$host" >/dev/null ||
+        why="there is no host $host"
 }
 
-# is_heard [ADDRESSES]: somebody listens for TCP at $port of 127.0.0.1 or ::1, or of all addresses, or else of these
+# is_heard [ADDRESSES]: somebody listens for TCP at $port of 127.0.0.1, ::1 or all addresses, or else of these
 is_heard() {
     local addresses='(0100007F|0{8}|0{24}01000000|0{32})'
-    grep -qsE "$(printf ': %s:%04X [0-9A-F:]* 0A ' "${1-$addresses}" "$((10#$port))")" /proc/net/tcp /proc/net/tcp6
+    grep -qsE "$(printf ': %s:%04X [0-9A-F:]* 0A ' "${1-$addresses}" "$((10#$port))")" /proc/net/tcp{,6}
 }
