@@ -1022,7 +1022,7 @@ try_readme() {
     make_pages
     while read -r line; do
         case $line in
-            *PIECE* | *'orca play '* | *--join*) ;;
+            *PIECE* | *'orca play '* | *--join* | *--prove*) ;;
             *) lines+=("$line; echo \"\$? $line\" >>statuses") ;;
         esac
     done < <(awk '/^```/ { is_inside = !is_inside }

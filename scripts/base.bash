@@ -60,5 +60,5 @@ wants readlink find
 top=$(readlink -f "${BASH_SOURCE[0]%/*}/..")
 program=$top/program
 manual="man $called, and the pages in ${top%/lib/*}/share/doc"
-build_in_turn() { :; }
+build_in_turn() { [ "${1-}" != --prove ] || fails "this is no checkout, and has no sources to be proved"; }
 [ -e "$program" ] || source "$top/scripts/build.bash"
