@@ -209,11 +209,16 @@ def main():
     runs = stored()
     with tempfile.TemporaryDirectory() as folder:
         if sys.argv[1:2] == ['--try']:
+            if not shutil.which('rt'):
+                sys.exit("memory.py: the toolchain's command rt isn't on the path")
             for number in sys.argv[2:]:
                 try_once(number, runs, folder)
             print('all is as it may be')
         else:
-            sweep(sys.argv[1] if len(sys.argv) > 1 else os.path.join(CRATE, 'out/orca_cases'), runs, folder)
+            program = sys.argv[1] if len(sys.argv) > 1 else os.path.join(CRATE, 'out/orca_cases')
+            if not os.access(program, os.X_OK):
+                sys.exit(f"memory.py: {program} isn't built")
+            sweep(program, runs, folder)
 
 
 if __name__ == '__main__':

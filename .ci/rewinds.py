@@ -86,6 +86,8 @@ def main():
 
 if __name__ == '__main__':
     PROGRAM = os.path.abspath(sys.argv[1] if len(sys.argv) > 1 else os.path.join(HERE, '../crates/orca/out/orca'))
+    if not os.access(PROGRAM, os.X_OK):
+        sys.exit(f"rewinds.py: {PROGRAM} isn't built")
     with tempfile.TemporaryDirectory() as folder:
         os.chdir(folder)
         main()
