@@ -15,8 +15,8 @@ import tempfile
 import time
 
 import grids
+from built import program_of
 
-HERE = os.path.dirname(os.path.abspath(__file__))
 SHARE = int(sys.argv[sys.argv.index('--share') + 1]) if '--share' in sys.argv else 1
 # How often a time is taken; the least counts.
 TRIES = 3
@@ -194,8 +194,7 @@ def main():
 
 
 if __name__ == '__main__':
-    words = [word for word in sys.argv[1:2] if not word.startswith('--')]
-    PROGRAM = os.path.abspath(words[0] if words else os.path.join(HERE, '../crates/orca/out/orca'))
+    PROGRAM = program_of(sys.argv[1:])
     with tempfile.TemporaryDirectory() as folder:
         os.chdir(folder)
         main()

@@ -16,6 +16,8 @@ import sys
 import sysconfig
 import tempfile
 
+from built import program_of
+
 HERE = os.path.dirname(os.path.abspath(__file__))
 MACHINE = ['qemu-system-x86_64', '-accel', 'tcg', '-icount', 'shift=0,sleep=off', '-cpu', 'max', '-smp', '1', '-m', '1024',
            '-nographic', '-no-reboot', '-nodefaults', '-serial', 'stdio', '-append', 'console=ttyS0 quiet panic=-1']
@@ -63,8 +65,15 @@ def fill(root, program, options):
 
 
 def main():
+    if len(sys.argv) < 2:
+        sys.exit(__doc__)
     kernel, words = sys.argv[1], sys.argv[2:]
-    program = words.pop(0) if words and not words[0].startswith('--') else os.path.join(HERE, '../crates/orca/out/orca')
+    program = program_of(words)
+    if words and not words[0].startswith('--'):
+        words.pop(0)
+    for tool in MACHINE[0], 'busybox', 'cpio':
+        if not shutil.which(tool):
+            sys.exit(f"the command {tool} isn't on the path: install it")
     with tempfile.TemporaryDirectory() as folder:
         root, image = folder + '/root', folder + '/image'
         fill(root, program, words)

@@ -16,9 +16,9 @@ import tempfile
 import threading
 import time
 
+from built import program_of
 from live import free_port, option
 
-HERE = os.path.dirname(os.path.abspath(__file__))
 # Keys and how often they come: moves, glyphs, edits, and those that save, step, reset and pause.
 KEYS = ([b'\x1b[A', b'\x1b[B', b'\x1b[C', b'\x1b[D', b'\x1b[1;2A', b'\x1b[1;2B', b'\x1b[1;2C', b'\x1b[1;2D'] * 6 +
         [bytes([glyph]) for glyph in range(33, 127)] * 2 +
@@ -195,8 +195,7 @@ def main():
 
 
 if __name__ == '__main__':
-    words = [word for word in sys.argv[1:2] if not word.startswith('--')]
-    PROGRAM = os.path.abspath(words[0] if words else os.path.join(HERE, '../crates/orca/out/orca'))
+    PROGRAM = program_of(sys.argv[1:])
     with tempfile.TemporaryDirectory() as folder:
         os.chdir(folder)
         sys.exit(main())

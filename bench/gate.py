@@ -12,6 +12,7 @@ A time is in minutes. For each crate: its own proof, its tests, its edits, and t
 import glob
 import os
 import re
+import shutil
 import subprocess
 import sys
 import threading
@@ -147,6 +148,8 @@ def tell(log):
 
 if __name__ == '__main__':
     if len(sys.argv) == 3 and sys.argv[1] == 'run':
+        if not shutil.which('rt'):
+            sys.exit("gate.py: the toolchain's command rt isn't on the path")
         sys.exit(run(sys.argv[2]))
     if len(sys.argv) != 2:
         sys.exit(__doc__)

@@ -22,8 +22,8 @@ import threading
 import time
 
 import grids
+from built import program_of
 
-HERE = os.path.dirname(os.path.abspath(__file__))
 # A clock and a note in each frame, above a small piece.
 BEAT = b'.D1.....\n..:03C82\n' + grids.piece()
 # The same above an empty grid of 256 x 256.
@@ -511,8 +511,7 @@ def main():
 
 
 if __name__ == '__main__':
-    words = [word for word in sys.argv[1:2] if not word.startswith('--')]
-    PROGRAM = os.path.abspath(words[0] if words else os.path.join(HERE, '../crates/orca/out/orca'))
+    PROGRAM = program_of(sys.argv[1:])
     with tempfile.TemporaryDirectory() as folder:
         os.chdir(folder)
         main()

@@ -16,6 +16,7 @@ import tempfile
 import time
 
 import grids
+from built import program_of
 
 ROUNDS = int(sys.argv[sys.argv.index('--rounds') + 1]) if '--rounds' in sys.argv else 40
 # A grid's name, what it is, and the frames of a short and of a long run, which takes some 30 milliseconds.
@@ -50,7 +51,9 @@ def ratios(old, new, path, few, many):
 
 
 def main():
-    old, new = (os.path.abspath(it) for it in sys.argv[1:3])
+    if len(sys.argv) < 3:
+        sys.exit(__doc__)
+    old, new = program_of(sys.argv[1:]), program_of(sys.argv[2:])
     # So many of the sorted ratios lie below the interval, and as many above it.
     beside = max(0, int(ROUNDS / 2 - 0.98 * math.sqrt(ROUNDS)))
     print(f"{'grid':<20} {'old ns':>12} {'new/old':>8} {'interval':>18}")
