@@ -179,7 +179,7 @@ def page_of_perform(commands, version, date):
     lines += section("SYNOPSIS", [code("perform PIECE [OPTION]..."),
                                   *(line for form, *_ in rows_of(commands, PERFORM) for line in (".br", inline(form)))])
     lines += section("DESCRIPTION", page_of(commands[PERFORM]))
-    lines += section("OPTIONS", page_table([["option", "", "example"], *(
+    lines += section("OPTIONS", page_table([["option", ""], *(
         row for row in rows_of(commands, "Options") if option_of(row) in options_of_perform())]))
     for name, blocks in sections_of("docs/KEYS.md").items():
         lines += section(name.upper(), page_of(blocks)) if name else []
