@@ -8,8 +8,8 @@
     scripts/cases.py try [KIND..]                draws new cases, and shows which the program answers otherwise
 
 The head of crates/orca_cases/src/main.rt says what a case is. In the file CASES it has its answer between `gives` and
-`end`, or under its name in the file ANSWERS. Bytes are texts or hexadecimal, and are stored as texts where they can be.
-A new family begins with a comment that says what it shows.
+`end`, or under its name in the file ANSWERS. Bytes are texts or hexadecimal, and are stored as texts where they can be,
+in short forms. A new family begins with a comment that says what it shows.
 
 Answers come from the model of the rules in `model/`, a second definition in Python, and never from the program. A case
 without an answer gets the model's. An answer that you worked out by hand has to be the model's too; where they differ,
@@ -26,6 +26,7 @@ is 1 where something differs.
 import argparse
 import collections
 import difflib
+import itertools
 import os
 import random
 import re
@@ -47,6 +48,8 @@ DATA = os.path.join(CRATE, "data")
 LISTS = ("stdin", "stdout")
 # The greatest cost of a song that the model is asked for.
 MOST_COST = 5_000_000
+# An answer of so many signs is stored once in a family.
+LONG_ANSWER = 64
 # The lines that end in bytes, and in how many words of them.
 BYTES = {"word": 1, "file": 1, "bytes": 1, "send": 1, "told": 1, "cells": 1, "marks": 1, "vars": 1, "event udp": 1,
          "event osc": 2}
@@ -55,6 +58,15 @@ MEANT = {sign[1]: byte for byte, sign in SIGNS.items()}
 # Where a row of a text begins: after the end of a line, and before an escape by which a picture goes to another place.
 ROW = re.compile(r"(?<=\n)(?!\Z)|(?!\A)(?=\x1b\[\d*;)")
 TEXT = re.compile(r'"((?:[^"\\]|\\[nrte"\\])*)"')
+# What is stored in a short form: what begins a row of a picture or sets a style, and a part of a text or of hexadecimal
+# that stands there several times. What a backslash begins already is taken as a whole.
+PICTURE = re.compile(r"(\\\\)|\\e\[(\d+);1H\\e\[0m|\\e\[0m(?:\\e\[([1247])m)?")
+AGAIN = re.compile(r"(\\.)|([^\\)])\2{15,}")
+AGAIN_IN_HEX = re.compile(r"(.)\1{15,}|(..)\2{7,}|(....)\3{3,}")
+# What the short forms are in a line, those of rows, and a word that can stand beside others.
+SHORT = re.compile(r"\\(?:(\\)|\((\d+)\*([^)]*)\)|\[(\d+)\]|([01247]))")
+ROWS = re.compile(r"^  (\d*)\|(.*)$", re.MULTILINE)
+PLAIN = re.compile(r'word "([^ "\\]+)"')
 
 # What stands above a case, the lines that ask, and those of the answer; each a text. A case may have no answer.
 Case = collections.namedtuple("Case", "above asked answer")
@@ -74,6 +86,46 @@ def write(path, text):
         file.write(text)
 
 
+# Short forms.
+
+def times(found):
+    part = found[found.lastindex]
+    return found[0] if part[0] == "\\" else f"\\({len(found[0]) // len(part)}*{part})"
+
+
+def short_sign(found):
+    if found[1]:
+        return found[0]
+    return f"\\[{found[2]}]" if found[2] else f"\\{found[3] or 0}"
+
+
+def short_rows(rows):
+    """Rows as they are stored: one that ends with the end of a line behind a bar, with how often it stands there."""
+    for row, same in itertools.groupby(rows):
+        count = len(list(same))
+        if row.endswith("\\n") and not row.endswith(" \\n"):
+            yield f"{count if count > 1 else ''}|{row[:-2]}"
+        else:
+            yield from [f'"{row}"'] * count
+
+
+def long_sign(found):
+    again, count, part, row, style = found.groups()
+    if again:
+        return found[0]
+    if count:
+        return part * int(count)
+    if row:
+        return f"\\e[{row};1H\\e[0m"
+    return "\\e[0m" if style == "0" else f"\\e[0m\\e[{style}m"
+
+
+def written_out(text):
+    """Lines without short forms but `words`."""
+    text = ROWS.sub(lambda found: "\n".join([f'  "{found[2]}\\n"'] * int(found[1] or 1)), text)
+    return SHORT.sub(long_sign, text)
+
+
 # Bytes in hexadecimal, and as texts.
 
 def text_of(word):
@@ -82,9 +134,10 @@ def text_of(word):
         fails(f"{word} is no text in quotes and no hexadecimal")
     text = bytes.fromhex(word.lstrip("-")).decode("latin-1")
     if not text or not all(" " <= sign <= "~" or sign in SIGNS for sign in text):
-        return word
+        return AGAIN_IN_HEX.sub(times, word)
     rows = ("".join(SIGNS.get(sign, sign) for sign in row) for row in ROW.split(text))
-    return "\n  ".join(f'"{row}"' for row in rows)
+    rows = [AGAIN.sub(times, PICTURE.sub(short_sign, row)) for row in rows]
+    return "".join(f"\n  {row}" for row in short_rows(rows)) if len(rows) > 1 else f'"{rows[0]}"'
 
 
 def hex_of(text):
@@ -98,9 +151,12 @@ def count_of_bytes(words):
 
 
 def in_hex(text):
-    """Lines with all bytes in hexadecimal."""
-    for line in text.replace('"\n  "', "").replace('\n  "', ' "').splitlines():
-        yield TEXT.sub(lambda found: hex_of(found[1]), line) if count_of_bytes(line.split(" ")) else line
+    """Lines with all bytes in hexadecimal, and each word of the command line in one of its own."""
+    for line in written_out(text).replace('"\n  "', "").replace('\n  "', ' "').splitlines():
+        if line.startswith("words "):
+            yield from (f"word {hex_of(word)}" for word in line.split(" ")[1:])
+        else:
+            yield TEXT.sub(lambda found: hex_of(found[1]), line) if count_of_bytes(line.split(" ")) else line
 
 
 def line_as_stored(line):
@@ -108,14 +164,19 @@ def line_as_stored(line):
     words = line.split(" ")
     count = count_of_bytes(words)
     if not count:
-        return line
-    held = [text_of(word) for word in words[-count:]]
-    between = "\n  " if "\n" in held[-1] else " "
-    return " ".join(words[:-count] + held[:-1]) + between + held[-1]
+        return AGAIN.sub(times, line)
+    return " ".join(words[:-count] + [text_of(word) for word in words[-count:]]).replace(" \n", "\n")
 
 
 def as_stored(text):
-    return "".join(f"{line_as_stored(line)}\n" for line in in_hex(text))
+    lines = [line_as_stored(line) for line in in_hex(text)]
+    stored = ""
+    for is_plain, some in itertools.groupby(lines, lambda line: bool(PLAIN.fullmatch(line))):
+        if is_plain:
+            stored += f"words {' '.join(PLAIN.fullmatch(line)[1] for line in some)}\n"
+        else:
+            stored += "".join(f"{line}\n" for line in some)
+    return stored
 
 
 # Families.
@@ -132,23 +193,30 @@ def cases_of(text):
     """The cases of a text by their names."""
     found, parts = {}, re.findall(r"^(?:.*\n)*?end\n", text, re.MULTILINE)
     for part in parts:
-        case = re.fullmatch(r"((?:.*\n)*?)case (\w+)\n((?:.*\n)*?)(?:gives\n((?:.*\n)*))?end\n", part)
-        if not case or case[2] in found:
-            fails(f"this is no case, or the second one of its name:\n{part}")
-        found[case[2]] = Case(case[1], case[3], case[4])
+        case = re.fullmatch(r"((?:.*\n)*?)case (\w+)\n((?:.*\n)*?)(?:gives(?: as (\w+))?\n((?:.*\n)*))?end\n", part)
+        if not case or case[2] in found or case[4] and case[4] not in found:
+            fails(f"this is no case, the second one of its name, or its answer is that of no earlier case:\n{part}")
+        found[case[2]] = Case(case[1], case[3], found[case[4]].answer if case[4] else case[5])
     if re.search(r"^case ", text[len("".join(parts)):], re.MULTILINE):
         fails("the last case has no end")
     return found
+
+
+def text_of_cases(cases):
+    """Cases as they are stored. A long answer that an earlier case has is named by that case."""
+    text, first = "", {}
+    for name, case in cases.items():
+        other = first.setdefault(case.answer, name)
+        is_again = other != name and len(case.answer) >= LONG_ANSWER
+        answer = f" as {other}\n" if is_again else f"\n{case.answer or ''}"
+        text += f"{case.above}case {name}\n{case.asked}gives{answer}end\n"
+    return text
 
 
 def answers_of(text):
     """The answers of a text by the names of their cases."""
     found = re.findall(r"^case (\w+)\n((?:(?!case ).*\n)*)", text, re.MULTILINE)
     return {name: as_stored(answer) for name, answer in found}
-
-
-def lines_of(name, case):
-    return f"case {name}\n{case.asked}gives\n{case.answer or ''}end\n"
 
 
 def cases_that_differ(program, folder, family):
@@ -158,7 +226,7 @@ def cases_that_differ(program, folder, family):
     done = subprocess.run([program], cwd=folder, input=f"family {family}\n", stdout=subprocess.PIPE, text=True)
     if done.returncode != 0:
         fails(f"{program} ends with {done.returncode}")
-    return cases_of(done.stdout)
+    return {name: case._replace(answer=as_stored(case.answer)) for name, case in cases_of(done.stdout).items()}
 
 
 def show(stored, other, title):
@@ -190,7 +258,7 @@ def cost_of(lines):
 
 def new_family(folder, cases):
     """Stores cases in a folder as the family `new`, for the program."""
-    write(os.path.join(folder, "new.cases"), "".join(lines_of(name, case) for name, case in cases.items()))
+    write(os.path.join(folder, "new.cases"), text_of_cases(cases))
 
 
 # What is asked for.
@@ -254,10 +322,10 @@ def with_answers(words, cases):
 def add(words):
     cases, path = new_cases(words), path_of(words.family)
     text = read(path) if os.path.exists(path) else ""
-    added = "".join(case.above + lines_of(name, case) for name, case in with_answers(words, cases).items())
-    if not (text or added).startswith("# "):
+    text = text_of_cases({**cases_of(text), **with_answers(words, cases)})
+    if not text.startswith("# "):
         fails("a new family begins with a comment that says what it shows")
-    write(path, text + added)
+    write(path, text)
     write_lists()
 
 
@@ -274,16 +342,16 @@ def other_answers(words, family, stored):
 def renew(words):
     wrong = 0
     for family in words.families or families():
-        text = read(path_of(family))
-        stored = cases_of(text)
+        stored = {name: Case(case.above, as_stored(case.asked), as_stored(case.answer))
+                  for name, case in cases_of(read(path_of(family))).items()}
         changed = other_answers(words, family, stored)
         wrong += len(changed)
         for name, answer in changed.items():
             show(stored[name].answer, answer, f"{family}: {name}")
-            text = text.replace(lines_of(name, stored[name]), lines_of(name, stored[name]._replace(answer=answer)))
+            stored[name] = stored[name]._replace(answer=answer)
         print(f"{family}: {len(changed)} of {len(stored)} answers are not the stored ones")
         if words.write:
-            write(path_of(family), text)
+            write(path_of(family), text_of_cases(stored))
     if words.write:
         write_lists()
     return wrong > 0 and not words.write
@@ -303,8 +371,7 @@ def new_ones(kinds, seed, count):
 
 
 def draw(words):
-    for name, case in new_ones([words.kind], words.seed, words.count).items():
-        print(lines_of(name, case), end="")
+    print(text_of_cases(new_ones([words.kind], words.seed, words.count)), end="")
 
 
 def try_new(words):
@@ -315,7 +382,7 @@ def try_new(words):
         new_family(folder, cases)
         differ = cases_that_differ(words.program, folder, "new")
     for name, case in differ.items():
-        print(lines_of(name, cases[name]), end="")
+        print(text_of_cases({name: cases[name]}), end="")
         show(cases[name].answer, case.answer, name)
     print(f"{len(cases) - len(differ)} of {len(cases)} agree")
     return len(differ) > 0

@@ -81,6 +81,7 @@ impl Case {
             "word" => self
                 .words
                 .push(String::from_utf8(read_bytes(alloc, rest)?)?)?,
+            "words" => self.add_words(alloc, rest)?,
             "file" => self.outside.files.push(read_file(alloc, rest)?)?,
             "held" => self.outside.held = Some(String::from_str(alloc, rest)?),
             "want" => self.wanted.push(String::from_str(alloc, rest)?)?,
@@ -91,6 +92,14 @@ impl Case {
                 at: rest.parse::<u64>()?,
             })?,
             _ => bail!("these cases have no line {key:?}"),
+        }
+        Ok(())
+    }
+
+    /// Adds words that stand in one line.
+    fn add_words(&mut self, alloc: Global, rest: &str) -> Result<()> {
+        for word in rest.split(' ') {
+            self.words.push(String::from_str(alloc, word)?)?;
         }
         Ok(())
     }

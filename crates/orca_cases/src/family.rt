@@ -8,6 +8,8 @@ use std::alloc::Global;
 
 /// What ends a case.
 const END: &str = "\nend\n";
+/// What parts a case from its answer.
+const GIVES: &str = "\ngives";
 
 /// Does the cases of a family, and gives the line that counts those that agree with their answers. Before
 /// it stands each case that does not, with what it gave.
@@ -18,8 +20,12 @@ pub(crate) fn compare(alloc: Global, name: &str, text: &str) -> Result<String> {
     for case in cases.split(END) {
         count = count.saturating_add(1);
         let (asked, stored) = case
-            .split_once("\ngives")
+            .split_once(GIVES)
             .context(format_args!("no answer to {case}"))?;
+        let stored = match stored.strip_prefix(" as ") {
+            Some(name) => stored_answer(alloc, cases, name).context(format_args!("{asked}"))?,
+            None => stored,
+        };
         let answer = answer_of(alloc, asked).context(format_args!("{asked}"))?;
         if answer.as_str().strip_suffix('\n') == stored.strip_prefix('\n') {
             agreed = agreed.saturating_add(1);
@@ -29,6 +35,21 @@ pub(crate) fn compare(alloc: Global, name: &str, text: &str) -> Result<String> {
     }
     writeln!(told, "{name}: {agreed} of {count} agree")?;
     Ok(told)
+}
+
+/// What stands behind `gives` in a case before another one.
+fn stored_answer<'a>(alloc: Global, cases: &'a str, name: &str) -> Result<&'a str> {
+    let head = format!(in alloc; "\ncase {name}\n")?;
+    let (_, rest) = cases
+        .split_once(head.as_str())
+        .context("its answer is that of no case")?;
+    let (case, _) = rest
+        .split_once(END)
+        .context("its answer is that of no earlier case")?;
+    let (_, stored) = case
+        .split_once(GIVES)
+        .context("its answer is that of a case without one")?;
+    Ok(stored)
 }
 
 /// The answer to a case, from its lines but for the last.

@@ -1,8 +1,9 @@
 //! Does cases over files and ports in memory, and compares what they give with stored answers.
 //!
 //! A line `family NAME` of the standard input asks for the cases of the file `NAME.cases`. Each is lines
-//! from `case NAME` to `end`, and its answer stands between `gives` and `end`. A line is printed that counts
-//! the cases that agree; before it stands each case that does not, with what it gave.
+//! from `case NAME` to `end`, and its answer stands between `gives` and `end`. `gives as NAME` stands for the
+//! answer to an earlier case. A line is printed that counts the cases that agree; before it stands each case
+//! that does not, with what it gave.
 //!
 //! A case may also stand on the standard input itself, without an answer. Then its answer is printed behind
 //! its line `case NAME`, with all bytes in hexadecimal.
@@ -15,9 +16,20 @@
 //! A stored answer has a text wherever one can stand, and each row of a text of several rows in a line of
 //! its own. A row ends behind `\n`, and before an escape by which a picture goes to another place.
 //!
+//! Lines may have short forms, which are written out before they are read:
+//!
+//! | form | meaning |
+//! |---|---|
+//! | a line with two blanks and `\|ROW` | a row with `\n` at its end; with a number before the bar as often |
+//! | `\(N*PART)` | the part N times |
+//! | `\[ROW]` | the beginning of a row of a picture: `\e[ROW;1H\e[0m` |
+//! | `\0` | `\e[0m`, the plain style of a picture |
+//! | `\1`, `\2`, `\4`, `\7` | a style: `\e[0m`, and then `\e[1m` or the like |
+//!
 //! | line | meaning |
 //! |---|---|
 //! | `word WORD` | one word of the command line, in order |
+//! | `words WORD ..` | several, as they are, with a blank between two |
 //! | `file NAME BYTES` | a file that is held at the start |
 //! | `held NAME` | another program holds the file of that name |
 //! | `want NAME` | a file that is told at the end |
@@ -67,11 +79,13 @@ mod family;
 mod pair;
 mod runs;
 mod scans;
+mod short;
 mod step;
 
 use answer::{Answer, Form};
 use anyhow::{Context, Result, ensure};
 use case::{Case, join_rows, take_line};
+use short::write_out;
 use std::alloc::Global;
 use std::rt::Files;
 use std::{fs, io};
@@ -98,6 +112,7 @@ fn print_family(rt: &(impl Files + Print + Alloc<A = Global>), name: &str) -> Re
     let alloc = rt.alloc();
     let file = format!(in alloc; "{name}.cases")?;
     let text = fs::read_to_string(rt, file.as_str()).context(format_args!("{file}"))?;
+    let text = write_out(alloc, text.as_str()).context(format_args!("{file}"))?;
     let told = family::compare(alloc, name, text.as_str()).context(format_args!("{file}"))?;
     rt.print(told)?;
     Ok(())
@@ -105,7 +120,8 @@ fn print_family(rt: &(impl Files + Print + Alloc<A = Global>), name: &str) -> Re
 
 fn main(rt: HostRuntime) -> Result<()> {
     let alloc = rt.alloc();
-    let text = join_rows(alloc, io::read_to_string(alloc, rt.reader())?.as_str())?;
+    let text = write_out(alloc, io::read_to_string(alloc, rt.reader())?.as_str())?;
+    let text = join_rows(alloc, text.as_str())?;
     let mut open = None;
     for line in text.as_str().lines() {
         match line.strip_prefix("family ") {
