@@ -281,7 +281,7 @@ try_closed_windows() {
             case $target in
                 window) close_window ;;
                 script) kill -KILL "$(cat pid)" ;;
-                keeper) kill -KILL "$(pgrep -P "$(cat pid)")" ;;
+                keeper) kill -KILL "$(keeper_of "$(cat pid)")" ;;
             esac
             within 10 leaves_nothing || fails "a performance whose $target has gone ($state) goes on"
             [ -z "$peer" ] || { wait "$peer" || true; peer='' && exec {typed}>&-; }
@@ -303,7 +303,7 @@ try_gone_player() {
         turn_to second
         pgrep -P "$(pgrep -d , -P "$(cat pid)")" >children
         case $target in
-            keeper) kill -KILL "$(pgrep -P "$(cat pid)")" ;;
+            keeper) kill -KILL "$(keeper_of "$(cat pid)")" ;;
             script) kill -KILL "$(cat pid)" ;;
         esac
         await_stage 137

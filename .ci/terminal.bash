@@ -70,9 +70,12 @@ await_stage() {
     done
 }
 
+# keeper_of SCRIPT: the keeper of this ./perform, which it began last
+keeper_of() { pgrep -nP "$1"; }
+
 # program_of SCRIPT: the program of this ./perform, which its keeper waits for
 program_of() {
-    pgrep -P "$(pgrep -d , -P "$(pgrep -d , -P "$1")")" -f "^$(readlink -f "$built") "
+    pgrep -P "$(pgrep -d , -P "$(keeper_of "$1")")" -f "^$(readlink -f "$built") "
 }
 
 # has_room NAME: a performance of this piece of the folder has left a room
@@ -184,7 +187,7 @@ on_signal() {
     case $2 in
         script) kill "-$1" "$script" ;;
         program) kill "-$1" "$(program_of "$script")" ;;
-        keeper) kill "-$1" "$(pgrep -P "$script")" ;;
+        keeper) kill "-$1" "$(keeper_of "$script")" ;;
         group) kill "-$1" -- "-$script" ;;
         window)
             {
@@ -260,7 +263,7 @@ on_kill() {
     case $1 in
         program) kill -KILL "$(program_of "$script")" ;;
         crash) kill -USR1 "$(program_of "$script")" ;;
-        keeper) kill -KILL "$(pgrep -P "$script")" ;;
+        keeper) kill -KILL "$(keeper_of "$script")" ;;
         group) kill -KILL -- "-$script" ;;
     esac
     wait "$peer" || true
@@ -323,7 +326,7 @@ try_dead_keeper() {
         on_stage crowded --bpm 1
         await_text seen ' play '
         type_glyph 7
-        kill "-$signal" "$(pgrep -P "$(cat pid)")"
+        kill "-$signal" "$(keeper_of "$(cat pid)")"
         await_stage "$((128 + $(kill -l "$signal")))"
         await_text seen "perform: edits of crowded may not be saved; they are in $PWD/.crowded.orca-room"
         "$top/perform" --discard crowded 2>fault || fails "a performance whose keeper met $signal leaves: $(cat fault)"
