@@ -1,17 +1,19 @@
-ghost use Rattle.std.specs.Prelude.{◌≡◌, ◌*◌, ◌<◌, IfOk, OnErr, OnOk, length, vec_len};
+ghost use Rattle.std.specs.Prelude.{◌≡◌, ◌*◌, ◌<◌, IfOk, OnErr, OnOk, if◌then◌else◌, length, vec_len};
 ghost use Rattle.orca_base.specs.Edits.{block_with, cell_with, one_cell};
 ghost use Rattle.orca_base.specs.Grids.{IsInside, largest};
 
 use crate::{Glyph, Memory, Place};
 use std::alloc::Global;
 use std::marker::Model;
+use std::rc::Rc;
 
 /// A block of glyphs, as a clip is one. A contract sees its size, and its glyphs in reading order.
+/// Copies share the glyphs, so that a history of pastes has them once.
 #[derive(Debug, Drop)]
 pub struct Block {
     h: u16,
     w: u16,
-    cells: Vec<Glyph>,
+    cells: Rc<Vec<Glyph>>,
 }
 
 impl Model for Block {
@@ -20,16 +22,16 @@ impl Model for Block {
 
     ghost Value = { Sheet };
 
-    ghost view = { λ b. record { dims = record { h = b.h; w = b.w }; cells = b.cells.items } };
+    ghost view = { λ b. record { dims = record { h = b.h; w = b.w }; cells = b.cells.value.items } };
 
-    ghost invariant = { λ b. length b.cells.items ≡ b.h * b.w };
+    ghost invariant = { λ b. length b.cells.value.items ≡ b.h * b.w };
 }
 
 impl Block {
     /// The block of `h` rows and `w` columns with these glyphs, as many as it has places.
-    pub fn of(h: u16, w: u16, cells: Vec<Glyph>) -> Block
-        requires { vec_len cells ≡ h * w }
-        ensures { result ≡ record { dims = record { h = h; w = w }; cells = cells.items } }
+    pub fn of(h: u16, w: u16, cells: Rc<Vec<Glyph>>) -> Block
+        requires { vec_len cells.value ≡ h * w }
+        ensures { result ≡ record { dims = record { h = h; w = w }; cells = cells.value.items } }
     {
         Block { h, w, cells }
     }
@@ -40,7 +42,11 @@ impl Block {
     {
         let mut cells = Vec::new(alloc);
         cells.push(glyph)?;
-        Ok(Block { h: 1, w: 1, cells })
+        Ok(Block {
+            h: 1,
+            w: 1,
+            cells: Rc::new(alloc, cells)?,
+        })
     }
 
     /// The number of rows.
@@ -65,45 +71,50 @@ impl Block {
         self.cells.as_slice()
     }
 
-    /// An equal block; [`Memory`] where its room is refused.
+    /// An equal block, which shares the glyphs; [`Memory`] where no more can share them.
     pub fn copy(&self) -> Result<Block, Memory>
         ensures { IfOk result (λ block. block ≡ self.now) }
     {
-        let cells = self.cells.to_vec(*self.cells.allocator())?;
         Ok(Block {
             h: self.h,
             w: self.w,
-            cells,
+            cells: self.cells.clone()?,
         })
     }
 
     /// Puts a glyph into a cell. The block gets as many rows and columns more as hold the cell, and
-    /// these are empty. [`Memory`] where their room is refused; the block is then as before.
+    /// these are empty. Its copies stay as they are. [`Memory`] where room is refused; the block is
+    /// then as before.
     pub fn put(&mut self, at: Place, glyph: Glyph) -> Result<(), Memory>
         requires { IsInside largest at }
         ensures put { OnOk result (self.new ≡ block_with self.old at glyph) }
         ensures err { OnErr result (self.new ≡ self.old) }
     {
-        if at.x < self.w {
-            return self.put_below(at, glyph);
+        if at.x < self.w && self.put_below(at, glyph)? {
+            return Ok(());
         }
         *self = self.copy_with(at, glyph)?;
         Ok(())
     }
 
-    /// Puts a glyph into a cell of a column of the block. New rows come after the others.
-    fn put_below(&mut self, at: Place, glyph: Glyph) -> Result<(), Memory>
+    /// Puts a glyph into a cell of a column of the block, unless a copy shares the glyphs. New rows
+    /// come after the others. Whether it did so.
+    fn put_below(&mut self, at: Place, glyph: Glyph) -> Result<bool, Memory>
         requires row { IsInside largest at }
         requires column { at.x < self.old.dims.w }
-        ensures put { OnOk result (self.new ≡ block_with self.old at glyph) }
+        ensures put { IfOk result (λ put.
+            self.new ≡ (if put then block_with self.old at glyph else self.old)) }
         ensures err { OnErr result (self.new ≡ self.old) }
     {
         let h = self.h.max(at.y + 1);
         let width = usize::from(self.w);
-        self.cells.resize(usize::from(h) * width, Glyph::EMPTY)?;
-        self.cells[usize::from(at.y) * width + usize::from(at.x)] = glyph;
+        let Some(cells) = Rc::get_mut(&mut self.cells) else {
+            return Ok(false);
+        };
+        cells.resize(usize::from(h) * width, Glyph::EMPTY)?;
+        cells[usize::from(at.y) * width + usize::from(at.x)] = glyph;
         self.h = h;
-        Ok(())
+        Ok(true)
     }
 
     /// A copy with a glyph in a cell. Its rows may be longer, so it is laid out anew.
@@ -123,6 +134,7 @@ impl Block {
             };
             cells.push(self.cell_with(at, glyph, cell))?;
         }
+        let cells = Rc::new(*self.cells.allocator(), cells)?;
         Ok(Block { h, w, cells })
     }
 

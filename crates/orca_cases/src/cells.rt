@@ -6,6 +6,7 @@ use crate::step::Step;
 use anyhow::{Context, Result, ensure};
 use orca_base::{Area, Block, Dims, Glyph, Look, Place};
 use std::alloc::Global;
+use std::rc::Rc;
 
 /// A grid, or a block of one.
 #[derive(Drop)]
@@ -49,7 +50,7 @@ impl Cells {
         let Dims { h, w } = self.dims;
         let glyphs = self.glyphs.to_vec(alloc)?;
         ensure!(glyphs.len() == self.dims.cells(), "a grid has another size");
-        Ok(Block::of(h, w, glyphs))
+        Ok(Block::of(h, w, Rc::new(alloc, glyphs)?))
     }
 
     /// The grid after a step that is no frame. `began` is the grid of the last frame or load.

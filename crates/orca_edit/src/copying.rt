@@ -8,6 +8,7 @@ ghost use Rattle.orca_edit.specs.Obeying.{place};
 use crate::areas::place;
 use orca_base::{Area, Block, Dims, Glyph, Look, Memory, Place};
 use std::alloc::Global;
+use std::rc::Rc;
 
 /// Copies the glyphs of an area of the grid; [`Memory`] if their room is refused.
 pub fn copy<T: Look>(alloc: Global, look: &T, area: Area) -> Result<Block, Memory>
@@ -30,6 +31,7 @@ pub fn copy<T: Look>(alloc: Global, look: &T, area: Area) -> Result<Block, Memor
         });
         cells.push(glyph)?;
     }
+    let cells = Rc::new(alloc, cells)?;
     Ok(Block::of(area.h, area.w, cells))
 }
 

@@ -22,8 +22,7 @@ pub struct Edit {
 /// command is no frame, no jump and no Retract.
 ///
 /// The first rule that stands refuses the command, of those on its places, its block, its size and
-/// the clip. [`Fault::Memory`] is for a Paste alone, if the room for its copy of the clip is
-/// refused.
+/// the clip. [`Fault::Memory`] is for a Paste alone, if its copy of the clip is refused.
 pub fn to_entry(command: &Command, dims: Dims, clip: Option<&Block>) -> Result<Edit, Fault>
     requires { IsEditing command.now }
     ensures accepted { OnOk result (block_rule dims (option_copied clip.entry) command.now ≡ None) }
