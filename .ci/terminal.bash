@@ -583,6 +583,21 @@ try_empty_rooms() {
     echo "peers: a room that holds nothing goes without a word"
 }
 
+# A wrong line in a room ends what is recovered, and is said by its number in the room, which stays.
+try_wrong_line() {
+    local room=.crowded.orca-room got=0
+    crowd 1 >crowded
+    (umask 077 && { cat crowded && printf '\n!orca 2 seed 1\nwrite 0 0 7\nxyz\nwrite 0 0 8\n'; } >"$room")
+    "$top/perform" --recover crowded 2>fault || got=$?
+    [ "$got" = 5 ] || fails "a room with a wrong line is recovered with $got: $(cat fault)"
+    grep -q "script refused: line $(($(wc -l <crowded) + 4)) column 1" fault || fails "a wrong line is not said: $(cat fault)"
+    sed '1s/./7/' crowded | cmp - crowded.recovered.orca || fails "what stands before a wrong line is not recovered"
+    printf '!orca 2 seed 1\nwrite 0 0 7\n' | cmp - crowded.recovered.script || fails "a wrong line gives another script"
+    [ -e "$room" ] || fails "a room that was not understood to its end is gone"
+    rm "$room" crowded.recovered.*
+    echo "peers: a room with a wrong line is recovered up to it"
+}
+
 # The piece that a performance saves over stays beside it.
 try_older() {
     crowd 1 >crowded

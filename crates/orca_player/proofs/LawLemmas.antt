@@ -43,7 +43,7 @@ use Rattle.orca_player.specs.declared.status.Status.TheVariants.{FileFault}
 use Rattle.orca_player.proofs.CameLemmas.{attaches-calls, calls_bare, AreCalls}
 use Rattle.orca_player.proofs.ClockLemmas.{Anywhere, follow_by_items, lead_by_items, lead_core}
 use Rattle.orca_player.proofs.LeavingLemmas.{commands-left, leavings_quiet}
-use Rattle.orca_player.proofs.RecoveryLemmas.{screen-recovery}
+use Rattle.orca_player.proofs.RecoveryLemmas.{room_alike, screen-recovery}
 use Rattle.orca_concert.proofs.EndingLemmas.{concert-standing}
 
 -- each beginning of acts shows the pictures of each hand
@@ -435,6 +435,8 @@ asked_alike cutting (Some (Perform setup work)) grid script claimed start other 
     (work_outline setup work sheet (brings script claimed other c)) =
     λ sheet. work_alike cutting setup work sheet script claimed start other b c cut in
     grind (arith, same, commands_attached)
+asked_alike cutting (Some (Recover r)) grid script claimed start other b c cut =
+    λ ends other_ends. room_alike r b.closing c.closing script
 asked_alike cutting request grid script claimed start other b c cut = alike_none _
 
 pub cuts_alike : (cutting : ItemsDecide) (words : List (List ℕ)) → CutsAlike words

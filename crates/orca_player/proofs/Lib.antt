@@ -12,6 +12,8 @@ pub mod ReadyLemmas
 pub mod RecordedLemmas
 pub mod RecoveredLemmas
 pub mod RecoveryLemmas
+pub mod RescueLemmas
 pub mod RoomLemmas
 pub mod SheetLemmas
+pub mod SoftLemmas
 pub mod TopLemmas

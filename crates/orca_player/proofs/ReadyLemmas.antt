@@ -1,26 +1,27 @@
 -- How a run can end: without a refusal if all is ready, and for faulty words alone as such.
 use Rattle.std.proofs.Common.{◌≡◌, ◌≢◌, ℕ, ◌*◌, ◌<◌, ◌≤◌, arith, zero-add, true, false, List, sym, ◌∙◌, ap, subst, refl}
-use Rattle.std.specs.Prelude.{Option, Some, None, IfSome, IsSomeAnd, IsOk, Ok, Err, Result}
+use Rattle.std.specs.Prelude.{Option, Some, None, IfSome, IsSomeAnd, IsOk, Ok, Err, Result, unwrap_or}
 use Rattle.std.specs.Option.{option_map, option_map_or}
 use Rattle.std.proofs.lemmas.Bool.Decides.{nat_tests}
-use Rattle.orca_base.specs.declared.limits.TheConstants.{MAX_POLLS}
+use Rattle.orca_base.specs.declared.limits.TheConstants.{MAX_POLLS, DEFAULT_SEED}
 use Rattle.orca_base.specs.Grids.{Sheet}
 use Rattle.orca_clock.specs.Followers.{follow_part}
 use Rattle.orca_clock.specs.Leaders.{lead_part}
 use Rattle.orca_concert.specs.Concerts.{concert_with, concert_course, cues_course}
 use Rattle.orca_concert.specs.Manners.{Manner}
 use Rattle.orca_concert.proofs.EndingLemmas.{Closes, Ends, Frames, concert-ends, cues-end, frames-cue}
-use Rattle.orca_course.specs.Courses.{mapped}
+use Rattle.orca_course.specs.Courses.{afterwards, mapped}
 use Rattle.orca_course.specs.Performers.{Part, performance}
 use Rattle.orca_course.specs.Standings.{Standing}
 use Rattle.orca_course.specs.declared.ending.Ending.{Ending}
 use Rattle.orca_course.specs.declared.ending.Stop.{Stop}
 use Rattle.orca_course.specs.declared.ending.Stop.TheVariants.{Left}
 use Rattle.orca_course.specs.declared.item.Item.TheVariants as item
+use Rattle.orca_course.specs.declared.item.Losses.{Losses}
 use Rattle.orca_course.proofs.PerformanceLemmas.{EndsIn, TakesIn, performance_in, performance_well, turns_before}
 use Rattle.orca_cues.specs.Cues.{frames_cue}
 use Rattle.orca_cues.specs.Rooms.{Room, room_parts, whole_lines}
-use Rattle.orca_cues.specs.Scripts.{script_by}
+use Rattle.orca_cues.specs.Scripts.{script_by, seed_in}
 use Rattle.orca_cues.specs.declared.source.Cue.{Cue}
 use Rattle.orca_grid.specs.GridText.{grid_text}
 use Rattle.orca_grid.specs.declared.refusal.GridRefusal.{GridRefusal}
@@ -29,20 +30,23 @@ use Rattle.orca_live.specs.Performing.{live_part}
 use Rattle.orca_live.specs.States.{LiveState}
 use Rattle.orca_live.proofs.LeavingLemmas.{take_ends}
 use Rattle.orca_reports.specs.Manners.{events_manner, make_manner, replay_manner, run_manner, state_manner}
-use Rattle.orca_reports.specs.Rescues.{Rescue, recovery_manner}
 use Rattle.orca_reports.specs.Songs.{recording_at_start, smf_manner}
 use Rattle.orca_reports.specs.Waves.{frame_samples, wav_manner, wave_at_start}
 use Rattle.orca_reports.proofs.EndingLemmas.{AnyRoom, IsLong, Never, WaveRoom, smf-closes, smf-frames, wav-frames}
 use Rattle.orca_rig.specs.declared.files.Claim.{Claim as Claimed}
 use Rattle.orca_rig.specs.declared.files.Claim.TheVariants.{Made as ClaimMade}
+use Rattle.orca_rooms.specs.Limits.{room_limit}
+use Rattle.orca_rooms.specs.Sound.{sound_script}
 use Rattle.orca_wav.specs.declared.limits.TheConstants.{MAX_WAVE_BYTES, SAMPLE_BYTES}
 use Rattle.orca_words.specs.Requests.{Events, Follow, Lead, Make, Migrate, Perform, Performance, Play, Recording, Recover, Replay, Request, Run, Setup, Smf, Wav, Work, request_of, Recovery}
-use Rattle.orca_player.specs.Outlines.{Brought, Heard, Outline, asked_outline, concert, follow_outline, follow_start, grid_outline, is_too_long, lead_outline, lead_start, live_outline, live_start, loading, made_outline, migrated, opening, outline, performed, performed_outline, reading_outline, recovery_outline, request_outline, room_name, room_start, roomed, script_outline, standing_at, start_of, stopped_run, status_of_end, status_of_ending, wave_bytes, work_outline, waiting, grid_recovered, recovered, script_recovered}
-use Rattle.orca_player.specs.Ready.{CanDo, HasFrameRoom, IsReady, IsScript, NeverFull, IsRoom}
+use Rattle.orca_reports.specs.Rescues.{rescue_at_start}
+use Rattle.orca_player.specs.Outlines.{Brought, Heard, Outline, asked_outline, concert, follow_outline, follow_start, grid_outline, is_too_long, lead_outline, lead_start, live_outline, live_start, loading, made_outline, migrated, opening, outline, performed, performed_outline, reading_outline, recovery_outline, request_outline, room_name, room_start, roomed, script_outline, standing_at, start_of, stopped_run, status_of_end, status_of_ending, wave_bytes, work_outline, waiting, grid_recovered, hushed, is_strict, limit_for, lines_ahead, recovered, rescue_by, script_recovered, sound_recovered, wrong_recovered}
+use Rattle.orca_player.specs.Ready.{CanBeDone, CanDo, HasFrameRoom, IsReady, IsScript, NeverFull, IsRoom}
 use Rattle.orca_player.specs.declared.status.Status.{Status}
 use Rattle.orca_player.specs.declared.status.Status.TheVariants.{Done, FileFault, InboxFault, Usage}
 use Rattle.orca_player.proofs.ClockLemmas.{follow_ends_well, lead_ends_well}
 use Rattle.orca_player.proofs.DueLemmas.{due_at}
+use Rattle.orca_player.proofs.SoftLemmas.{concert_soft}
 use Rattle.orca_player.proofs.TopLemmas.{cues_in}
 
 -- a run that would end without a refusal: all is done, or something outside fails
@@ -200,45 +204,50 @@ work_fine setup (Lead lead) sheet b short ready = grind (arith, lead_fine)
 
 -- ---- rooms
 
-rescue_fine : (rescue : Rescue) (cues : List Cue) (s : Standing)
-    → FineOutline (concert recovery_manner rescue cues s)
-rescue_fine rescue cues s =
-    goes_fine recovery_manner rescue cues s (record {
-      final = λ s r. tt;
-      close = λ messages r. tt;
-      saves = λ r. grind arith;
-    }) (λ line answer messages r. tt)
+sound_fine : (r : Recovery) (sheet : Sheet) (text : List ℕ) (came : Losses)
+    → is_strict (limit_for r (room_limit text)) (room_limit text) ≡ false
+    → FineOutline (sound_recovered r sheet text None came)
+unfolding sound_recovered rescue_by opening mapped afterwards
+sound_fine r sheet text came soft =
+    let limit = limit_for r (room_limit text) in
+    let s = concert_with (standing_at sheet (unwrap_or (seed_in text) DEFAULT_SEED) limit)
+    (rescue_at_start (is_strict limit (room_limit text))) in
+    let none = concert_soft (sound_script text) s soft in
+    rw none tt
 
-lines_fine : (r : Recovery) (sheet : Sheet) (text : List ℕ) → IsOk (script_by true text)
-    → FineOutline (script_recovered r sheet text)
-unfolding script_recovered reading_outline
-lines_fine r sheet text ok =
-    let found = cues_in (script_by true text) ok in rw found.1 (rescue_fine _ found.0 _)
+lines_fine : (r : Recovery) (sheet : Sheet) (before : ℕ) (text : List ℕ) (came : Losses)
+    → CanBeDone r text → FineOutline (script_recovered r sheet before text came)
+unfolding script_recovered
+lines_fine r sheet before text came ready =
+    let found = cues_in (script_by true text) ready.0 in
+    rw found.1 (sound_fine r sheet text came ready.1)
 
-sheet_fine : (r : Recovery) (script : List ℕ) (read : Result Sheet GridRefusal) → IsOk read
-    → IsOk (script_by true (whole_lines script)) → FineOutline (grid_recovered r script read)
+sheet_fine : (r : Recovery) (room : Room) (came : Losses) (read : Result Sheet GridRefusal)
+    → IsOk read → CanBeDone r (whole_lines room.script) → FineOutline (grid_recovered r room came read)
 unfolding grid_recovered
-sheet_fine r script (Err refusal) ok lines = absurd cc
-sheet_fine r script (Ok sheet) ok lines = lines_fine r sheet (whole_lines script) lines
+sheet_fine r room came (Err refusal) ok ready = absurd cc
+sheet_fine r room came (Ok sheet) ok ready =
+    lines_fine r sheet (lines_ahead room) (whole_lines room.script) came ready
 
-parts_fine : (r : Recovery) (parts : Option Room) → IsSomeAnd parts (λ room. IsOk (grid_text room.grid)
-    × IsOk (script_by true (whole_lines room.script))) → FineOutline (recovered r parts)
+parts_fine : (r : Recovery) (came : Losses) (parts : Option Room)
+    → IsSomeAnd parts (λ room. IsOk (grid_text room.grid) × CanBeDone r (whole_lines room.script))
+    → FineOutline (recovered r came parts)
 unfolding recovered
-parts_fine r None ready = absurd ready
-parts_fine r (Some room) ready = sheet_fine r room.script (grid_text room.grid) ready.0 ready.1
+parts_fine r came None ready = absurd ready
+parts_fine r came (Some room) ready = sheet_fine r room came (grid_text room.grid) ready.0 ready.1
 
-room_loads : (r : Recovery) (text : Option (List ℕ)) → IfSome text IsRoom
-    → FineOutline (loading r.room text (λ text. recovered r (room_parts text)))
-unfolding loading
-room_loads r None ready = tt
-room_loads r (Some text) ready = parts_fine r (room_parts text) ready
+room_loads : (r : Recovery) (came : Losses) (text : Option (List ℕ)) → IfSome text (IsRoom r)
+    → FineOutline (loading r.room text (λ text. hushed r (recovered r came (room_parts text))))
+unfolding loading hushed
+room_loads r came None ready = tt
+room_loads r came (Some text) ready = parts_fine r came (room_parts text) ready
 
 request_fine : (request : Request) (h : Heard) → IsReady request h
     → FineOutline (request_outline request h)
 unfolding request_outline performed loading grid_outline migrated reading_outline made_outline recovery_outline
 request_fine (Make load) h ready = make_fine _ _
 request_fine (Migrate m) h ready = grind arith
-request_fine (Recover r) h ready = room_loads r h.brought.script ready
+request_fine (Recover r) h ready = room_loads r h.brought.closing h.brought.script ready
 request_fine (Perform setup work) h ready = grind (arith, work_fine)
 
 asked_fine : (asked : Option Request) (h : Heard)
@@ -263,5 +272,5 @@ ending-other end = grind arith
 
 pub request-other : (request : Request) (h : Heard)
     → IfSome (request_outline request h).course.ending (λ status. status ≢ Usage)
-unfolding request_outline recovery_outline recovered grid_recovered script_recovered performed loading grid_outline work_outline roomed waiting script_outline reading_outline migrated made_outline concert live_outline follow_outline lead_outline opening mapped
+unfolding request_outline recovery_outline hushed recovered grid_recovered script_recovered wrong_recovered sound_recovered rescue_by afterwards performed loading grid_outline work_outline roomed waiting script_outline reading_outline migrated made_outline concert live_outline follow_outline lead_outline opening mapped
 request-other request h = grind (arith, end-other, ending-other)

@@ -1,17 +1,24 @@
 -- What was done of a recovery: notes of another run were ended before, and then the rest.
 use Rattle.std.proofs.Common.{◌≡◌, ◌≢◌, inl, inr, ℕ, ◌+◌, Bool, true, false, List, [], ◌∷◌, ◌++◌, refl, sym, ◌∙◌, ap, subst, append_assoc, append-nil, arith}
-use Rattle.std.specs.Prelude.{Option, Some, None, IfSome, IfErr, IsOkUnless, OnOk, Ok, Err, Result, ◌||◌, unwrap_or}
+use Rattle.std.specs.Prelude.{Option, Some, None, IfErr, IsOk, IsOkUnless, OnOk, Ok, Err, Result, ◌||◌, ◌==◌, if◌then◌else◌, unwrap_or}
+use Rattle.std.proofs.lemmas.Bool.{ne_eqb}
 use Rattle.orca_base.specs.Grids.{Sheet}
 use Rattle.orca_base.specs.Ports.{Sent}
+use Rattle.orca_base.specs.declared.command.Command.{Command}
 use Rattle.orca_base.specs.declared.limits.TheConstants.{DEFAULT_SEED}
+use Rattle.orca_concert.specs.Concerts.{Concert, concert_course, concert_with}
+use Rattle.orca_concert.proofs.DeafLemmas.{concert_is_deaf}
 use Rattle.orca_course.specs.Acts.{Act, commands_in, given, gives, is_of_messages, open_after, polls_in, stand_after}
-use Rattle.orca_course.specs.Acts.Act.{Attach, Give, Stand}
+use Rattle.orca_course.specs.Acts.Act.{Attach, Give, Load, Stand}
+use Rattle.orca_course.specs.Courses.{Course, afterwards, mapped}
 use Rattle.orca_course.specs.Following.{Follows, keys_after_acts, turn_given}
 use Rattle.orca_course.specs.Standings.{Standing}
-use Rattle.orca_course.specs.Worlds.{AreBegun, Calls, Made, Sated, World, is_lost, is_unstored}
+use Rattle.orca_course.specs.Worlds.{AreBegun, Called, Calls, Made, Sated, World, is_lost, is_unstored}
+use Rattle.orca_course.specs.declared.ending.Stop.{Stop}
+use Rattle.orca_course.specs.declared.item.Losses.{Losses}
 use Rattle.orca_course.specs.declared.refused.NoMemory.{NoMemory}
-use Rattle.orca_course.proofs.ActLemmas.{given-append, given-gives, lost_after, open_after-append}
-use Rattle.orca_course.proofs.WorldLemmas.{AreSafe, lost_made, made_twice, made_within, sated_twice, stored_made, unsent_after}
+use Rattle.orca_course.proofs.ActLemmas.{commands_in-append, given-append, given-gives, lost_after, open_after-append, polls-deaf}
+use Rattle.orca_course.proofs.WorldLemmas.{AreSafe, lost_made, made_none, made_twice, made_within, sated_twice, stored_made, unsent_after}
 use Rattle.orca_notes.specs.Device.{Suits, Voice, keys_after}
 use Rattle.orca_notes.specs.Device.KeyEffect.{Neither}
 use Rattle.orca_cues.specs.Rooms.{Room, room_parts, whole_lines}
@@ -21,16 +28,19 @@ use Rattle.orca_cues.specs.declared.source.Cue.{Cue}
 use Rattle.orca_grid.specs.GridText.{grid_text}
 use Rattle.orca_grid.specs.declared.refusal.GridRefusal.{GridRefusal}
 use Rattle.orca_grid.specs.declared.refusal.GridRefusal.TheVariants as refused
-use Rattle.orca_reports.specs.Rescues.{recovery_manner}
-use Rattle.orca_script.specs.Runs.{ScriptReadsBack, printed_script}
+use Rattle.orca_grid.specs.declared.refusal.GridRefusal.TheVariants.{NoCells}
+use Rattle.orca_reports.specs.Rescues.{Rescue, recovery_manner, rescue_at_start}
+use Rattle.orca_rooms.specs.Limits.{room_limit}
+use Rattle.orca_rooms.specs.Sound.{sound_script}
 use Rattle.orca_words.specs.Requests.{Recovery}
-use Rattle.orca_player.specs.Doing.{refused_status, AreEarly, AreSettled, Came, CameBy, IsWholeRun, ReadsBack, WasRefused}
-use Rattle.orca_player.specs.Outlines.{Brought, Outline, Script, concert, grid_recovered, hush_acts, hushing, loading, nothing, opening, preceded, reading_outline, recovered, recovery_outline, rescued, room_loaded, script_in, script_kept, script_recovered, standing_at, stopped_run}
+use Rattle.orca_player.specs.Laws.{EndAlike}
+use Rattle.orca_player.specs.Doing.{refused_status, AreEarly, AreSettled, Came, CameBy, IsWholeRun, WasRefused}
+use Rattle.orca_player.specs.Outlines.{Brought, Outline, fault_behind, grid_recovered, hush_acts, hushed, hushing, is_strict, limit_for, lines_ahead, lines_recovered, loading, nothing, opening, planned_end, preceded, recovered, recovery_outline, rescue_by, script_done, script_recovered, sound_recovered, standing_at, stopped_run, wrong_recovered}
 use Rattle.orca_player.specs.Takes.{saves_in}
 use Rattle.orca_player.specs.declared.status.Status.{Status}
 use Rattle.orca_player.specs.declared.status.Status.TheVariants.{GridRefused, Memory, ScriptRefused}
-use Rattle.orca_player.proofs.CourseLemmas.{polls-concert}
-use Rattle.orca_player.proofs.CameLemmas.{IsIdle, IsKind, by, by_memory, came_none, came_plain, came_refused, came_stopped, kind_of, splits_after, unsaid_after}
+use Rattle.orca_player.proofs.CameLemmas.{IsIdle, by, by_after, by_failed, by_memory, came_none, came_refused, kind_of, loaded, splits_after, unsaid_after}
+use Rattle.orca_player.proofs.RescueLemmas.{polls-rescue, saved_quiet}
 
 -- ---- acts that sound nothing
 
@@ -268,7 +278,7 @@ by_hushed {acts = acts} {o = o} hushed silent did =
 -- ---- the outline of a recovery
 
 -- it sends nothing before its session is opened, asks the inbox nothing, and is not recorded
-record IsRecovery (o : Outline) : Type 0 where
+pub record IsRecovery (o : Outline) : Type 0 where
   pub first : o.first ≡ []
   pub silent : AreSilent o.course.acts
   pub polls : polls_in o.course.acts ≡ []
@@ -284,57 +294,58 @@ recovery_stopped status = record {
   take = refl;
 }
 
-script_recovery : (r : Recovery) (sheet : Sheet) (text : List ℕ)
-    (read : Result (List Cue) ScriptFault)
-    → IsRecovery (reading_outline
-    (λ cues. rescued r sheet (script_in DEFAULT_SEED text cues) cues) read)
-unfolding reading_outline concert opening
-script_recovery r sheet text (Err fault) = recovery_stopped _
-script_recovery r sheet text (Ok cues) = record {
+rescue_recovery : (r : Recovery) (seed : ℕ) (commands : List Command) (wrong : Option ScriptFault)
+    (came : Losses) (u : Standing) (c : Course (Concert Rescue) Stop) → polls_in c.acts ≡ []
+    → IsRecovery (rescue_by r seed commands wrong came u c)
+unfolding rescue_by opening
+rescue_recovery r seed commands wrong came u c none = record {
   first = refl;
   silent = tt;
-  polls = polls-concert _ _ _ _;
+  polls = polls-rescue r seed commands wrong came u c none;
   screen = refl;
   take = refl;
 }
 
-grid_recovery : (r : Recovery) (script : List ℕ) (read : Result Sheet GridRefusal)
-    → IsRecovery (grid_recovered r script read)
+sound_recovery : (r : Recovery) (sheet : Sheet) (text : List ℕ) (wrong : Option ScriptFault)
+    (came : Losses) → IsRecovery (sound_recovered r sheet text wrong came)
+unfolding sound_recovered
+sound_recovery r sheet text wrong came =
+    let limit = limit_for r (room_limit text) in
+    let s = concert_with (standing_at sheet (unwrap_or (seed_in text) DEFAULT_SEED) limit)
+    (rescue_at_start (is_strict limit (room_limit text))) in
+    let c = concert_course recovery_manner (sound_script text) s in
+    rescue_recovery r _ _ wrong came _ c
+    (polls-deaf c.acts (concert_is_deaf recovery_manner (sound_script text) s))
+
+wrong_by : (first : Bool) (status : Status) (o : Outline) → IsRecovery o
+    → IsRecovery (if first then stopped_run status else o)
+wrong_by true status o is = recovery_stopped status
+wrong_by false status o is = is
+
+lines_recovery : (r : Recovery) (sheet : Sheet) (before : ℕ) (text : List ℕ) (came : Losses)
+    (read : Result (List Cue) ScriptFault) → IsRecovery (lines_recovered r sheet before text came read)
+unfolding wrong_recovered
+lines_recovery r sheet before text came (Ok cues) = sound_recovery r sheet text None came
+lines_recovery r sheet before text came (Err fault) =
+    wrong_by (fault.line == 1) (ScriptRefused fault.line fault.column) _
+    (sound_recovery r sheet text (Some (fault_behind before fault)) came)
+
+grid_recovery : (r : Recovery) (room : Room) (came : Losses) (read : Result Sheet GridRefusal)
+    → IsRecovery (grid_recovered r room came read)
 unfolding grid_recovered script_recovered
-grid_recovery r script (Err refusal) = recovery_stopped _
-grid_recovery r script (Ok sheet) =
-    script_recovery r sheet (whole_lines script) (script_by true (whole_lines script))
+grid_recovery r room came (Err refusal) = recovery_stopped _
+grid_recovery r room came (Ok sheet) =
+    lines_recovery r sheet (lines_ahead room) (whole_lines room.script) came
+    (script_by true (whole_lines room.script))
 
-parts_recovery : (r : Recovery) (parts : Option Room) → IsRecovery (recovered r parts)
+parts_recovery : (r : Recovery) (came : Losses) (parts : Option Room)
+    → IsRecovery (recovered r came parts)
 unfolding recovered
-parts_recovery r None = recovery_stopped _
-parts_recovery r (Some room) = grid_recovery r room.script (grid_text room.grid)
+parts_recovery r came None = recovery_stopped _
+parts_recovery r came (Some room) = grid_recovery r room came (grid_text room.grid)
 
-loaded_recovery : (r : Recovery) (text : Option (List ℕ))
-    → IsRecovery (loading r.room text (λ text. recovered r (room_parts text)))
-unfolding loading
-loaded_recovery r None =
-    record { first = refl; silent = tt; polls = refl; screen = refl; take = refl }
-loaded_recovery r (Some text) =
-    let is = parts_recovery r (room_parts text) in record {
-      first = is.first;
-      silent = is.silent;
-      polls = is.polls;
-      screen = is.screen;
-      take = is.take;
-    }
-
-pub kind_recovered : {status : Status} (r : Recovery) (parts : Option Room)
-    → (status ≢ Memory → IfSome (recovered r parts).given ReadsBack)
-    → IsKind (recovered r parts) [] status
-kind_recovered r parts reads =
-    let is = parts_recovery r parts in record {
-      polls = is.polls;
-      few = omega arith;
-      sized = rw is.screen tt;
-      reads = reads;
-      takes = λ other ends. rw is.take tt;
-    }
+idle_by : (o : Outline) → IsRecovery o → IsIdle o
+idle_by o is = (is.polls, rw is.screen tt)
 
 -- ---- the notes of another run
 
@@ -350,7 +361,7 @@ safe-hush : (midi : Option (List ℕ)) → AreSafe (hush_acts midi)
 safe-hush None = tt
 safe-hush (Some name) = tt
 
-given-hush : (midi : Option (List ℕ)) → given (hush_acts midi) ≡ hushing midi
+pub given-hush : (midi : Option (List ℕ)) → given (hush_acts midi) ≡ hushing midi
 given-hush None = refl
 given-hush (Some name) = given-gives (hushing (Some name))
 
@@ -366,127 +377,230 @@ hushed_by midi {x = x} calls =
       sated = calls.called.1;
     }
 
--- they were ended, and the room was recovered
-pub by_recovery : {T : Type 0} {done : T} (r : Recovery) {x y z : World} {status : Status}
-    → Calls (hush_acts r.midi) (Ok done) x y → CameBy (room_loaded r) y status z
-    → CameBy (recovery_outline r) x status z
-unfolding recovery_outline
-by_recovery r {x = x} {z = z} {status = status} calls did =
-    let o = λ (b : Brought). preceded (hush_acts r.midi) (room_loaded r b) in
-    subst (λ (first : List Sent). CameBy (λ b. record (o b) {
+-- they were ended, and then the rest was done
+by_notes : {T : Type 0} {done : T} (r : Recovery) (o : Brought → Outline) {x y z : World}
+    {status : Status} → Calls (hush_acts r.midi) (Ok done) x y
+    → ((b : Brought) → StartsSilent (o b)) → CameBy o y status z
+    → CameBy (λ b. hushed r (o b)) x status z
+unfolding hushed
+by_notes r o {x = x} {z = z} {status = status} calls silent did =
+    subst (λ (first : List Sent). CameBy (λ b. record (preceded (hush_acts r.midi) (o b)) {
       first = first;
-    }) x status z) (given-hush r.midi)
-    (by_hushed (hushed_by r.midi calls) (λ b.
-    let is = loaded_recovery r b.script in (is.first, is.silent)) did)
+    }) x status z) (given-hush r.midi) (by_hushed (hushed_by r.midi calls) silent did)
 
--- a recovery asks the inbox nothing, and paints nothing
-pub idle_recovery : (r : Recovery) → IsIdle (recovery_outline r nothing)
-unfolding recovery_outline
-idle_recovery r =
-    let is = loaded_recovery r None in
+-- and the room was recovered
+pub by_hush : {T : Type 0} {done : T} (r : Recovery) (parts : Option Room) {x y z : World}
+    {status : Status} → Calls (hush_acts r.midi) (Ok done) x y
+    → CameBy (λ b. recovered r b.closing parts) y status z
+    → CameBy (λ b. hushed r (recovered r b.closing parts)) x status z
+by_hush r parts calls did =
+    by_notes r (λ b. recovered r b.closing parts) calls
+    (λ b. let is = parts_recovery r b.closing parts in (is.first, is.silent)) did
+
+hushed_idle : (r : Recovery) (o : Outline) → IsRecovery o → IsIdle (hushed r o)
+unfolding hushed
+hushed_idle r o is =
     let quiet = quiet_acts (hush_acts r.midi) (quiet-hush r.midi) in
-    (quiet.polls (room_loaded r nothing).course.acts ∙ is.polls, rw is.screen tt)
-
-pub screen-recovery : (r : Recovery) (b : Brought) → (recovery_outline r b).screen ≡ None
-unfolding recovery_outline
-screen-recovery r b = (loaded_recovery r b.script).screen
+    (quiet.polls o.course.acts ∙ is.polls, rw is.screen tt)
 
 -- memory was refused to that
-pub recovery_cut : {T : Type 0} (r : Recovery) {e : NoMemory} {x y : World}
-    → Calls {T = T} (hush_acts r.midi) (Err e) x y → CameBy (recovery_outline r) x Memory y
-unfolding recovery_outline
-recovery_cut r {x = x} {y = y} calls =
-    let o = room_loaded r nothing in
-    by_memory (idle_recovery r)
+pub hush_cut : {T : Type 0} (r : Recovery) (parts : Option Room) {e : NoMemory} {x y : World}
+    → Calls {T = T} (hush_acts r.midi) (Err e) x y
+    → CameBy (λ b. hushed r (recovered r b.closing parts)) x Memory y
+unfolding hushed
+hush_cut r parts {x = x} {y = y} calls =
+    let o = recovered r nothing.closing parts in
+    by_memory (hushed_idle r o (parts_recovery r nothing.closing parts))
     (subst (λ (first : List Sent). Came (record (preceded (hush_acts r.midi) o) { first = first }) x
     Memory y) (given-hush r.midi)
     (came_unhushed (hush_acts r.midi) o (quiet-hush r.midi) calls.called))
 
+-- ---- its text
+
+-- it was loaded before
+pub by_room : {T : Type 0} {done : T} (r : Recovery) (text : List ℕ) {x y z : World}
+    {status : Status} → Called (Ok done) (Load r.room (Some text)) x y
+    → CameBy (λ b. hushed r (recovered r b.closing (room_parts text))) y status z
+    → CameBy (recovery_outline r) x status z
+unfolding recovery_outline loading
+by_room r text called did =
+    by_after (record did.brought { script = Some text }) (loaded called) (kind_of did) did.came refl
+
+-- a recovery asks the inbox nothing, and paints nothing
+pub idle_recovery : (r : Recovery) → IsIdle (recovery_outline r nothing)
+unfolding recovery_outline loading
+idle_recovery r = (refl, tt)
+
+screen_by : (r : Recovery) (came : Losses) (text : Option (List ℕ))
+    → (loading r.room text (λ text. hushed r (recovered r came (room_parts text)))).screen ≡ None
+unfolding loading hushed
+screen_by r came None = refl
+screen_by r came (Some text) = (parts_recovery r came (room_parts text)).screen
+
+pub screen-recovery : (r : Recovery) (b : Brought) → (recovery_outline r b).screen ≡ None
+unfolding recovery_outline
+screen-recovery r b = screen_by r b.closing b.script
+
+-- ---- its parts
+
+pub parts_unread : (r : Recovery) (parts : Option Room) (x : World) → parts ≡ None
+    → CameBy (λ b. recovered r b.closing parts) x (GridRefused NoCells) x
+unfolding recovered
+parts_unread r None x none =
+    by_failed [] (GridRefused NoCells) refl tt refl (made_none x, refl) (refl, refl, λ same. cc)
+parts_unread r (Some room) x none = absurd cc
+
+pub parts_read : (r : Recovery) (parts : Option Room) (room : Room) {x y : World}
+    {status : Status} → parts ≡ Some room
+    → CameBy (λ b. grid_recovered r room b.closing (grid_text room.grid)) x status y
+    → CameBy (λ b. recovered r b.closing parts) x status y
+unfolding recovered
+parts_read r parts room is did = rw is did
+
 -- ---- its grid
 
-pub grid_unread : {T : Type 0} (r : Recovery) (script : List ℕ) (read : Result Sheet GridRefusal)
+pub grid_read : (r : Recovery) (room : Room) (read : Result Sheet GridRefusal) (sheet : Sheet)
+    {x y : World} {status : Status} → read ≡ Ok sheet
+    → CameBy (λ b. script_recovered r sheet (lines_ahead room) (whole_lines room.script) b.closing) x
+    status y
+    → CameBy (λ b. grid_recovered r room b.closing read) x status y
+unfolding grid_recovered
+grid_read r room read sheet is did = rw is did
+
+pub grid_unread : {T : Type 0} (r : Recovery) (room : Room) (read : Result Sheet GridRefusal)
     (refusal : GridRefusal) (result : Result T GridRefusal) (x : World) → result ≡ Err refusal
     → IfErr read (λ named. result ≡ Err named) → OnOk read (IsOkUnless result refused.Memory)
-    → Came (grid_recovered r script read) x (refused_status refusal) x
+    → CameBy (λ b. grid_recovered r room b.closing read) x (refused_status refusal) x
 unfolding grid_recovered
-grid_unread r script read refused.Memory result x said is memory = came_none _ x
-grid_unread r script read refusal result x said is memory =
+grid_unread r room read refused.Memory result x said is memory =
+    by_memory (idle_by _ (grid_recovery r room nothing.closing read)) (came_none _ x)
+grid_unread r room read refusal result x said is memory =
     let found : read ≡ Err refusal = grind arith in
-    rw found (came_stopped (GridRefused refusal) x (refl, refl, λ same. cc))
-
-pub grid_reads : {T : Type 0} (r : Recovery) (script : List ℕ) (read : Result Sheet GridRefusal)
-    (refusal : GridRefusal) (result : Result T GridRefusal) → result ≡ Err refusal
-    → IfErr read (λ named. result ≡ Err named) → OnOk read (IsOkUnless result refused.Memory)
-    → refused_status refusal ≢ Memory → IfSome (grid_recovered r script read).given ReadsBack
-unfolding grid_recovered
-grid_reads r script read refused.Memory result said is memory other = absurd (other refl)
-grid_reads r script read refusal result said is memory other =
-    let found : read ≡ Err refusal = grind arith in rw found tt
+    by_failed [] (GridRefused refusal) (rw found refl) tt refl (made_none x, refl)
+    (refl, refl, λ same. cc)
 
 -- ---- its script
 
-pub script_unread : (r : Recovery) (sheet : Sheet) (text : List ℕ) (fault : ScriptFault) (x : World)
-    → script_by true text ≡ Err fault
-    → Came (script_recovered r sheet text) x (ScriptRefused fault.line fault.column) x
-unfolding script_recovered reading_outline
-script_unread r sheet text fault x read = rw read (came_stopped _ x (refl, refl))
+all_by : (r : Recovery) (sheet : Sheet) (before : ℕ) (text : List ℕ)
+    (read : Result (List Cue) ScriptFault) {x y : World} {status : Status} → IsOk read
+    → CameBy (λ b. sound_recovered r sheet text None b.closing) x status y
+    → CameBy (λ b. lines_recovered r sheet before text b.closing read) x status y
+all_by r sheet before text (Ok cues) ok did = did
+all_by r sheet before text (Err fault) ok did = absurd cc
 
-pub unread_reads : (r : Recovery) (sheet : Sheet) (text : List ℕ) (fault : ScriptFault)
-    → script_by true text ≡ Err fault → IfSome (script_recovered r sheet text).given ReadsBack
-unfolding script_recovered reading_outline
-unread_reads r sheet text fault read = rw read tt
+-- no line is wrong
+pub all_sound : (r : Recovery) (sheet : Sheet) (before : ℕ) (text : List ℕ) {x y : World}
+    {status : Status} → IsOk (script_by true text)
+    → CameBy (λ b. sound_recovered r sheet text None b.closing) x status y
+    → CameBy (λ b. script_recovered r sheet before text b.closing) x status y
+unfolding script_recovered
+all_sound r sheet before text ok did = all_by r sheet before text (script_by true text) ok did
 
--- what is printed of a script with its own seed
-seed_twice : (seed : Option ℕ) (other : ℕ)
-    → unwrap_or seed (unwrap_or seed other) ≡ unwrap_or seed other
-seed_twice None other = refl
-seed_twice (Some seed) other = refl
+-- the first one is
+pub first_wrong : (r : Recovery) (sheet : Sheet) (before : ℕ) (text : List ℕ) (fault : ScriptFault)
+    (x : World) → script_by true text ≡ Err fault → fault.line ≡ 1
+    → CameBy (λ b. script_recovered r sheet before text b.closing) x
+    (ScriptRefused fault.line fault.column) x
+unfolding script_recovered wrong_recovered
+first_wrong r sheet before text fault x read one =
+    by_failed [] (ScriptRefused fault.line fault.column) (rw (read, one) refl) tt refl
+    (made_none x, refl) (refl, refl)
 
--- the text that was printed is that of this script
-pub printed_rescue : (text bytes : List ℕ) (seed : ℕ) (cues : List Cue)
+-- a later one is
+pub later_wrong : (r : Recovery) (sheet : Sheet) (before : ℕ) (text : List ℕ) (fault : ScriptFault)
+    {x y : World} {status : Status} → script_by true text ≡ Err fault → fault.line ≢ 1
+    → CameBy (λ b. sound_recovered r sheet text (Some (fault_behind before fault)) b.closing) x status y
+    → CameBy (λ b. script_recovered r sheet before text b.closing) x status y
+unfolding script_recovered wrong_recovered
+later_wrong r sheet before text fault read other did =
+    rw (read, ne_eqb fault.line 1 other) did
+
+-- memory was refused before the session was open
+pub sound_unopened : (r : Recovery) (sheet : Sheet) (text : List ℕ) (wrong : Option ScriptFault)
+    (x : World) → CameBy (λ b. sound_recovered r sheet text wrong b.closing) x Memory x
+sound_unopened r sheet text wrong x =
+    by_memory (idle_by _ (sound_recovery r sheet text wrong nothing.closing)) (came_none _ x)
+
+-- its commands were done from the start of the session on
+pub sound_from : (r : Recovery) (sheet : Sheet) (text : List ℕ) (wrong : Option ScriptFault)
+    (seed limit : ℕ) (strict : Bool) (s : Standing) (u : Rescue) {x y : World} {status : Status}
+    → u ≡ rescue_at_start strict → s ≡ standing_at sheet seed limit
+    → strict ≡ is_strict limit (room_limit text) → limit ≡ limit_for r (room_limit text)
     → seed ≡ unwrap_or (seed_in text) DEFAULT_SEED
-    → bytes ≡ printed_script (unwrap_or (seed_in text) seed) (commands_of_cues cues)
-    → let script = script_in DEFAULT_SEED text cues in
-    bytes ≡ printed_script script.seed script.commands
-printed_rescue text bytes seed cues is printed =
-    printed
-    ∙ ap (λ seed. printed_script seed (commands_of_cues cues))
-    (ap (unwrap_or (seed_in text)) is ∙ seed_twice (seed_in text) DEFAULT_SEED)
+    → CameBy (λ b. rescue_by r seed (commands_of_cues (sound_script text)) wrong b.closing s
+    (concert_course recovery_manner (sound_script text) (concert_with s u))) x status y
+    → CameBy (λ b. sound_recovered r sheet text wrong b.closing) x status y
+unfolding sound_recovered
+sound_from r sheet text wrong seed limit strict s u begun stands tight most own did =
+    rw (begun, stands, tight, most, own) at did
 
-pub rescue_reads : (text : List ℕ) (seed : ℕ) (cues : List Cue)
-    → seed ≡ unwrap_or (seed_in text) DEFAULT_SEED
-    → ScriptReadsBack (unwrap_or (seed_in text) seed) (commands_of_cues cues)
-    → ReadsBack (script_in DEFAULT_SEED text cues)
-rescue_reads text seed cues is back =
-    subst (λ seed. ScriptReadsBack seed (commands_of_cues cues))
-    (ap (unwrap_or (seed_in text)) is ∙ seed_twice (seed_in text) DEFAULT_SEED) back
+-- ---- the same room, whatever its saves come to
 
-pub script_rescued : (r : Recovery) (sheet : Sheet) (text bytes : List ℕ) (seed : ℕ)
-    (cues : List Cue) {x y : World} {status : Status} → script_by true text ≡ Ok cues
-    → seed ≡ unwrap_or (seed_in text) DEFAULT_SEED
-    → let script = script_in DEFAULT_SEED text cues in
-    bytes ≡ printed_script script.seed script.commands
-    → Came (concert recovery_manner (record { out = r.out; name = r.script; script = bytes }) cues
-    (standing_at sheet seed r.limit)) x status y
-    → Came (script_recovered r sheet text) x status y
-unfolding script_recovered reading_outline concert opening
-script_rescued r sheet text bytes seed cues {x = x} {y = y} {status = status} read is printed came =
-    rw read (came_plain (rescued r sheet (script_in DEFAULT_SEED text cues) cues)
-    (subst (λ bytes. Came (concert recovery_manner (record {
-      out = r.out;
-      name = r.script;
-      script = bytes;
-    }) cues (standing_at sheet (unwrap_or (seed_in text) DEFAULT_SEED) r.limit)) x status y) printed
-    (rw is at came)))
+rescue_alike : (r : Recovery) (seed : ℕ) (commands : List Command) (wrong : Option ScriptFault)
+    (came other : Losses) (u : Standing) (c : Course (Concert Rescue) Stop)
+    → EndAlike (rescue_by r seed commands wrong came u c)
+    (rescue_by r seed commands wrong other u c)
+unfolding rescue_by opening mapped afterwards
+rescue_alike r seed commands wrong came other u c =
+    let script = script_done seed commands c.ending c.state.kept in
+    let planned = planned_end wrong c.ending in
+    let m = c.state.standing.machine in
+    let one = (saved_quiet r script m planned came).commands in
+    let two = (saved_quiet r script m planned other).commands in
+    record {
+      commands = commands_in-append c.acts _
+          ∙ (rw (one, ← two) (sym (commands_in-append c.acts _)));
+      standing = refl;
+      given = refl;
+    }
 
-given_reads : (name : Option (List ℕ)) (script : Script) → ReadsBack script
-    → IfSome (script_kept name script.seed (Some script.commands)) ReadsBack
-given_reads None script back = tt
-given_reads (Some name) script back = back
+alike_same : (o : Outline) → EndAlike o o
+alike_same o = record { commands = refl; standing = refl; given = refl }
 
-pub rescued_reads : (r : Recovery) (sheet : Sheet) (text : List ℕ) (cues : List Cue)
-    → script_by true text ≡ Ok cues → ReadsBack (script_in DEFAULT_SEED text cues)
-    → IfSome (script_recovered r sheet text).given ReadsBack
-unfolding script_recovered reading_outline
-rescued_reads r sheet text cues read back =
-    rw read (given_reads r.script (script_in DEFAULT_SEED text cues) back)
+wrong_alike : (first : Bool) (status : Status) (o p : Outline) → EndAlike o p
+    → EndAlike (if first then stopped_run status else o) (if first then stopped_run status else p)
+wrong_alike true status o p alike = alike_same (stopped_run status)
+wrong_alike false status o p alike = alike
+
+sound_alike : (r : Recovery) (sheet : Sheet) (text : List ℕ) (wrong : Option ScriptFault)
+    (came other : Losses)
+    → EndAlike (sound_recovered r sheet text wrong came) (sound_recovered r sheet text wrong other)
+unfolding sound_recovered
+sound_alike r sheet text wrong came other = rescue_alike r _ _ wrong came other _ _
+
+lines_alike : (r : Recovery) (sheet : Sheet) (before : ℕ) (text : List ℕ) (came other : Losses)
+    (read : Result (List Cue) ScriptFault)
+    → EndAlike (lines_recovered r sheet before text came read)
+    (lines_recovered r sheet before text other read)
+unfolding wrong_recovered
+lines_alike r sheet before text came other (Ok cues) = sound_alike r sheet text None came other
+lines_alike r sheet before text came other (Err fault) =
+    wrong_alike (fault.line == 1) (ScriptRefused fault.line fault.column) _ _
+    (sound_alike r sheet text (Some (fault_behind before fault)) came other)
+
+grid_alike : (r : Recovery) (room : Room) (came other : Losses) (read : Result Sheet GridRefusal)
+    → EndAlike (grid_recovered r room came read) (grid_recovered r room other read)
+unfolding grid_recovered script_recovered
+grid_alike r room came other (Err refusal) = alike_same _
+grid_alike r room came other (Ok sheet) =
+    lines_alike r sheet (lines_ahead room) (whole_lines room.script) came other _
+
+parts_alike : (r : Recovery) (came other : Losses) (parts : Option Room)
+    → EndAlike (recovered r came parts) (recovered r other parts)
+unfolding recovered
+parts_alike r came other None = alike_same _
+parts_alike r came other (Some room) = grid_alike r room came other (grid_text room.grid)
+
+pub room_alike : (r : Recovery) (came other : Losses) (text : Option (List ℕ))
+    → EndAlike (loading r.room text (λ text. hushed r (recovered r came (room_parts text))))
+    (loading r.room text (λ text. hushed r (recovered r other (room_parts text))))
+unfolding loading hushed
+room_alike r came other None = alike_same _
+room_alike r came other (Some text) =
+    let alike = parts_alike r came other (room_parts text) in
+    let quiet = quiet_acts (hush_acts r.midi) (quiet-hush r.midi) in
+    record {
+      commands = quiet.commands _ ∙ (alike.commands ∙ sym (quiet.commands _));
+      standing = alike.standing;
+      given = alike.given;
+    }

@@ -8,4 +8,5 @@ pub mod Running
 pub mod Laws
 pub mod Hands
 pub mod Recoveries
+pub mod Rescued
 pub mod Takes

@@ -1,8 +1,10 @@
 -- The definition of a run: all that it does on the outside, in order, what it may cost, and how it
 -- ends, by its words and by what the outside gives to it.
-use Rattle.std.specs.Prelude.{ℕ, ◌+◌, ◌*◌, nat_lt, Bool, true, false, ◌||◌, if◌then◌else◌, List, [], ◌∷◌, ◌++◌, Option, Some, None, Result, Ok, Err, unwrap_or, codes, map}
+use Rattle.std.specs.Prelude.{ℕ, ◌+◌, ◌*◌, ◌==◌, nat_lt, Bool, true, false, ◌||◌, if◌then◌else◌, List, [], ◌∷◌, ◌++◌, length, Option, Some, None, Result, Ok, Err, unwrap_or, codes, map}
+use Rattle.std.specs.Fmt.{decimal}
 use Rattle.std.specs.List.{list_any, range_with_len}
 use Rattle.std.specs.Option.{option_map, option_map_or}
+use Rattle.std.specs.Str.Lines.{lines}
 use Rattle.orca_base.specs.Ascii.{line_feed}
 use Rattle.orca_base.specs.MidiBytes.{control_bytes}
 use Rattle.orca_base.specs.Ports.{Sent}
@@ -13,11 +15,11 @@ use Rattle.orca_base.specs.declared.command.Command.{Command}
 use Rattle.orca_base.specs.Grids.{Sheet, Size}
 use Rattle.orca_clock.specs.Followers.{Followed, follow_at_start, follow_part}
 use Rattle.orca_clock.specs.Leaders.{Led, lead_at_start, lead_part}
-use Rattle.orca_concert.specs.Concerts.{concert_with, concert_course, stance_of}
+use Rattle.orca_concert.specs.Concerts.{Concert, concert_with, concert_course, stance_of}
 use Rattle.orca_concert.specs.Manners.{Manner}
 use Rattle.orca_course.specs.Acts.{Act, gives}
 use Rattle.orca_course.specs.Acts.Act.{Attach, Claim, Learn, Listen, Load, Remove, Save, Stand}
-use Rattle.orca_course.specs.Courses.{Course, course, ended, joined, mapped}
+use Rattle.orca_course.specs.Courses.{Course, afterwards, course, ended, joined, mapped}
 use Rattle.orca_course.specs.Doing.{Stance}
 use Rattle.orca_course.specs.Performers.{Hearing, Part, performance}
 use Rattle.orca_course.specs.Standings.{Standing, standing, tally_at_start}
@@ -30,9 +32,11 @@ use Rattle.orca_cues.specs.Cues.{frames_cue}
 use Rattle.orca_cues.specs.Made.{made_cues, made_sheet}
 use Rattle.orca_cues.specs.Rooms.{Room, room_parts, whole_lines}
 use Rattle.orca_cues.specs.Scripts.{any_script_of, commands_of_cues, script_by, seed_in}
+use Rattle.orca_rooms.specs.Limits.{limit_word, room_limit}
+use Rattle.orca_rooms.specs.Sound.{first_commands, sound_script}
 use Rattle.orca_cues.specs.declared.fault.ScriptFault.{ScriptFault}
 use Rattle.orca_cues.specs.declared.source.Cue.{Cue}
-use Rattle.orca_edit.specs.Obeying.{machine_at_start}
+use Rattle.orca_edit.specs.Obeying.{MachineState, machine_at_start, piece_of}
 use Rattle.orca_edit.specs.Prices.{kept_at_start}
 use Rattle.orca_grid.specs.GridText.{grid_text, text_of}
 use Rattle.orca_grid.specs.declared.refusal.GridRefusal.{GridRefusal}
@@ -42,7 +46,7 @@ use Rattle.orca_jam.specs.Crews.{CrewState, crew_alone, crew_at_start}
 use Rattle.orca_live.specs.Starting.{live_at_start, nothing_failed}
 use Rattle.orca_live.specs.States.{LiveState, Setting}
 use Rattle.orca_reports.specs.Manners.{events_manner, make_manner, replay_manner, run_manner, state_manner}
-use Rattle.orca_reports.specs.Rescues.{Rescue, recovery_manner}
+use Rattle.orca_reports.specs.Rescues.{Rescue, recovery_manner, rescue_at_start}
 use Rattle.orca_reports.specs.SavedSongs.{song_of}
 use Rattle.orca_reports.specs.SavedWaves.{wave_of}
 use Rattle.orca_reports.specs.Songs.{recording_at_start, smf_manner}
@@ -306,10 +310,18 @@ midi_line None = []
 midi_line (Some name) =
     if list_any is_control name then [] else codes "# midi " ++ (name ++ line_feed ∷ [])
 
+-- the line of the most entries that its history may have, a comment too
+abbrev pub limit_line : ℕ → List ℕ
+limit_line limit = limit_word ++ (decimal limit ++ line_feed ∷ [])
+
+-- the first lines of its script
+abbrev pub script_start : Setup → List ℕ
+script_start setup =
+    printed_header setup.seed ++ (limit_line setup.limit ++ midi_line setup.midi)
+
 -- what a room begins with: the text of the grid, an empty line, and the first lines of a script
 abbrev pub room_start : Setup → Sheet → List ℕ
-room_start setup sheet =
-    text_of sheet ++ line_feed ∷ (printed_header setup.seed ++ midi_line setup.midi)
+room_start setup sheet = text_of sheet ++ line_feed ∷ script_start setup
 
 -- a run goes on in a room that was made. One that is there ends it, and so does a fault
 abbrev pub after_claim : Option Claimed → Outline → Outline
@@ -427,46 +439,135 @@ hushing (Some name) = map all_notes_off channels
 abbrev pub hush_acts : Option (List ℕ) → List Act
 hush_acts name = attach_act port.Midi name ++ gives (hushing name)
 
--- where the grid and the script of a recovery go
-abbrev pub rescue_of : Recovery → Script → Rescue
-rescue_of r script = record {
-  out = r.out;
-  name = r.script;
-  script = printed_script script.seed script.commands;
-}
+-- the most entries of a recovered session: those that are asked for, or else those of the room
+abbrev pub limit_for : Recovery → Option ℕ → ℕ
+limit_for r own = unwrap_or r.limit (unwrap_or own DEFAULT_HISTORY)
 
--- the commands of a script are done on the grid of a room, and both are saved
-abbrev pub rescued : Recovery → Sheet → Script → List Cue → Outline
-rescued r sheet script cues =
-    let s = standing_at sheet script.seed r.limit in
-    record (concert recovery_manner (rescue_of r script) cues s) {
-      given = script_kept r.script script.seed (Some script.commands);
+-- whether a full history ends it. It does not if the performance had no more entries: that one
+-- passed over the same commands
+abbrev pub is_strict : ℕ → Option ℕ → Bool
+is_strict limit own = option_map_or (λ most. nat_lt limit most) own true
+
+-- how a recovery would end: a full history comes before a wrong line
+abbrev pub planned_end : Option ScriptFault → Option Stop → Status
+planned_end wrong (Some stop) = status_of_stop stop
+planned_end None None = Done
+planned_end (Some fault) None = ScriptRefused fault.line fault.column
+
+-- how many commands were done, if not all
+abbrev pub done_before : Option Stop → Rescue → Option ℕ
+done_before None r = None
+done_before (Some stop) r = Some r.done
+
+-- the script of those that were done
+abbrev pub script_done : ℕ → List Command → Option Stop → Rescue → Script
+script_done seed commands end r =
+    record { seed = seed; commands = first_commands (done_before end r) commands }
+
+-- the save of a script, if it has a name
+abbrev pub script_saves : Option (List ℕ) → Script → List Act
+script_saves None script = []
+script_saves (Some name) script =
+    Save name (printed_script script.seed script.commands) ∷ []
+
+-- what is saved of a session: its grid, and then its script
+abbrev pub saves_of : Recovery → Script → MachineState → List Act
+saves_of r script m = Save r.out (text_of (piece_of m).sheet) ∷ script_saves r.script script
+
+-- where not all was done, it is learnt whether the files have failed
+abbrev pub learnt_at : Status → Losses → List Act
+learnt_at Done came = []
+learnt_at planned came = Learn came ∷ []
+
+-- that is reported first
+abbrev pub status_learnt : Status → Losses → Status
+status_learnt Done came = Done
+status_learnt planned came = if came.unstored then FileFault else planned
+
+-- what is saved at last, by how the commands ended, and how the run ends
+abbrev pub saved_course : Recovery → ℕ → List Command → Option ScriptFault → Losses → Option Stop
+    → Concert Rescue → Course (Concert Rescue) Status
+saved_course r seed commands wrong came end s =
+    let planned = planned_end wrong end in
+    record {
+      acts = saves_of r (script_done seed commands end s.kept) s.standing.machine
+          ++ learnt_at planned came;
+      bill = 0;
+      state = s;
+      ending = Some (status_learnt planned came);
     }
 
+-- the commands of a room are done from where a run stands, and what they led to is saved
+unfoldable pub rescue_by : Recovery → ℕ → List Command → Option ScriptFault → Losses → Standing
+    → Course (Concert Rescue) Stop → Outline
+rescue_by r seed commands wrong came s c =
+    record (opening (stance_of recovery_manner) (λ end. end) s
+    (afterwards c (saved_course r seed commands wrong came))) {
+      given = script_kept r.script seed
+          (Some (script_done seed commands c.ending c.state.kept).commands);
+    }
+
+-- so they are from their start on
+abbrev pub rescued : Recovery → ℕ → List Cue → Option ScriptFault → Losses → Bool → Standing
+    → Outline
+rescued r seed cues wrong came strict s =
+    rescue_by r seed (commands_of_cues cues) wrong came s
+    (concert_course recovery_manner cues (concert_with s (rescue_at_start strict)))
+
+-- the lines of a script before its first wrong one are done on the grid of a room
+unfoldable pub sound_recovered : Recovery → Sheet → List ℕ → Option ScriptFault → Losses
+    → Outline
+sound_recovered r sheet text wrong came =
+    let own = room_limit text in
+    let limit = limit_for r own in
+    let seed = unwrap_or (seed_in text) DEFAULT_SEED in
+    rescued r seed (sound_script text) wrong came (is_strict limit own)
+    (standing_at sheet seed limit)
+
+-- a fault of a script, counted in a text in which so many lines stand before it
+abbrev pub fault_behind : ℕ → ScriptFault → ScriptFault
+fault_behind before fault = record { line = before + fault.line; column = fault.column }
+
+-- a script whose first line is wrong is none of this format, and nothing is done by it. Another
+-- wrong line has the number that it has in the room, where so many lines stand before the script
+unfoldable pub wrong_recovered : Recovery → Sheet → ℕ → List ℕ → ScriptFault → Losses → Outline
+wrong_recovered r sheet before text fault came =
+    if fault.line == 1 then stopped_run (ScriptRefused fault.line fault.column)
+    else sound_recovered r sheet text (Some (fault_behind before fault)) came
+
 -- every line of the script of a room is read before anything is done by it
-unfoldable pub script_recovered : Recovery → Sheet → List ℕ → Outline
-script_recovered r sheet text =
-    reading_outline (λ cues. rescued r sheet (script_in DEFAULT_SEED text cues) cues)
-    (script_by true text)
+abbrev pub lines_recovered : Recovery → Sheet → ℕ → List ℕ → Losses
+    → Result (List Cue) ScriptFault → Outline
+lines_recovered r sheet before text came (Ok cues) = sound_recovered r sheet text None came
+lines_recovered r sheet before text came (Err fault) = wrong_recovered r sheet before text fault came
+
+unfoldable pub script_recovered : Recovery → Sheet → ℕ → List ℕ → Losses → Outline
+script_recovered r sheet before text came =
+    lines_recovered r sheet before text came (script_by true text)
+
+-- how many lines of a room stand before its script
+abbrev pub lines_ahead : Room → ℕ
+lines_ahead room = length (lines room.grid) + 1
 
 -- the grid of a room is read, and then the whole lines of its script
-unfoldable pub grid_recovered : Recovery → List ℕ → Result Sheet GridRefusal → Outline
-grid_recovered r script (Err refusal) = stopped_run (GridRefused refusal)
-grid_recovered r script (Ok sheet) = script_recovered r sheet (whole_lines script)
+unfoldable pub grid_recovered : Recovery → Room → Losses → Result Sheet GridRefusal → Outline
+grid_recovered r room came (Err refusal) = stopped_run (GridRefused refusal)
+grid_recovered r room came (Ok sheet) =
+    script_recovered r sheet (lines_ahead room) (whole_lines room.script) came
 
 -- a room without an empty line has no grid
-unfoldable pub recovered : Recovery → Option Room → Outline
-recovered r None = stopped_run (GridRefused NoCells)
-recovered r (Some room) = grid_recovered r room.script (grid_text room.grid)
-
--- a room is loaded, and its parts are read
-abbrev pub room_loaded : Recovery → Brought → Outline
-room_loaded r b = loading r.room b.script (λ text. recovered r (room_parts text))
+unfoldable pub recovered : Recovery → Losses → Option Room → Outline
+recovered r came None = stopped_run (GridRefused NoCells)
+recovered r came (Some room) = grid_recovered r room came (grid_text room.grid)
 
 -- the notes of the run that has left it are ended before
+unfoldable pub hushed : Recovery → Outline → Outline
+hushed r o = record (preceded (hush_acts r.midi) o) { first = hushing r.midi }
+
+-- a room is loaded, and its parts are read
 unfoldable pub recovery_outline : Recovery → Brought → Outline
 recovery_outline r b =
-    record (preceded (hush_acts r.midi) (room_loaded r b)) { first = hushing r.midi }
+    loading r.room b.script (λ text. hushed r (recovered r b.closing (room_parts text)))
 
 -- the ports are attached, the grid is loaded, and the work is done
 unfoldable pub performed : Setup → Work → Heard → Outline

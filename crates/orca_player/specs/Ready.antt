@@ -22,18 +22,26 @@ use Rattle.orca_reports.specs.Manners.{state_manner}
 use Rattle.orca_reports.specs.Songs.{recording_at_start, smf_manner}
 use Rattle.orca_rig.specs.declared.files.Claim.TheVariants as claim
 use Rattle.orca_rig.specs.declared.inbox.Answer.TheVariants as answer
-use Rattle.orca_words.specs.Requests.{Events, Follow, Lead, Make, Migrate, Perform, Play, Recording, Recover, Replay, Request, Run, Setup, Smf, Wav, Work}
-use Rattle.orca_player.specs.Outlines.{Brought, Heard, follow_start, is_too_long, lead_start, live_start, room_name, start_of}
+use Rattle.orca_rooms.specs.Limits.{room_limit}
+use Rattle.orca_words.specs.Requests.{Events, Follow, Lead, Make, Migrate, Perform, Play, Recording, Recover, Recovery, Replay, Request, Run, Setup, Smf, Wav, Work}
+use Rattle.orca_player.specs.Outlines.{Brought, Heard, follow_start, is_strict, is_too_long, lead_start, limit_for, live_start, room_name, start_of}
 
 -- each line of a text asks for commands, or for none
 abbrev pub IsScript : List ℕ → Type 0
 IsScript text = (cues : List Cue) × (any_script_of text ≡ Ok cues)
 
--- a text has the parts of a room: a grid, and lines each of which asks for commands, or for none
-abbrev pub IsRoom : List ℕ → Type 0
-IsRoom text =
+-- each whole line of the script of a room asks for commands, or for none, and the session that is
+-- recovered has no fewer entries than the performance
+abbrev pub CanBeDone : Recovery → List ℕ → Type 0
+CanBeDone r script =
+    IsOk (script_by true script)
+    × (is_strict (limit_for r (room_limit script)) (room_limit script) ≡ false)
+
+-- a text has the parts of a room: a grid, and such a script
+abbrev pub IsRoom : Recovery → List ℕ → Type 0
+IsRoom r text =
     IsSomeAnd (room_parts text) (λ room. IsOk (grid_text room.grid)
-    × IsOk (script_by true (whole_lines room.script)))
+    × CanBeDone r (whole_lines room.script))
 
 -- where a performance stands before the frame of an answer at this moment
 abbrev pub before_frame : ℕ → LiveState → LiveState
@@ -84,7 +92,7 @@ CanDo setup (Lead lead) sheet b =
 abbrev pub IsReady : Request → Heard → Type 0
 IsReady (Make load) h = Unit {0}
 IsReady (Migrate m) h = IfSome h.brought.script IsScript
-IsReady (Recover r) h = IfSome h.brought.script IsRoom
+IsReady (Recover r) h = IfSome h.brought.script (IsRoom r)
 IsReady (Perform setup work) h =
     (is_too_long work ≡ false)
     × IfSome h.grid (λ text. IsOkAnd (grid_text text) (λ sheet. CanDo setup work sheet h.brought))

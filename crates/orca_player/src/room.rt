@@ -5,7 +5,7 @@ ghost use Rattle.std.specs.List.{list_any};
 ghost use Rattle.std.specs.Option.{option_map};
 ghost use Rattle.orca_course.specs.Answered.{losses_of};
 ghost use Rattle.orca_course.specs.Worlds.{Made, Sated, Wants};
-ghost use Rattle.orca_player.specs.Outlines.{is_control, leavings, midi_line, room_name, room_start};
+ghost use Rattle.orca_player.specs.Outlines.{is_control, leavings, limit_line, midi_line, room_name, room_start};
 ghost use Rattle.orca_words.specs.RequestIn.{performance_in, setup_in, text_in};
 
 use orca_base::Memory;
@@ -13,6 +13,7 @@ use orca_course::{Desk, NoMemory};
 use orca_grid::Grid;
 use orca_rig::House;
 use orca_script::print_header;
+use orca_send::push_decimal;
 use orca_words::{Performance, Setup};
 use std::alloc::Global;
 
@@ -34,8 +35,19 @@ pub(crate) fn room_start(alloc: Global, setup: &Setup<'_>, grid: &Grid) -> Resul
     Grid::print(grid, &mut start)?;
     start.push(b'\n')?;
     print_header(setup.seed, &mut start)?;
+    print_limit(setup.limit, &mut start)?;
     print_midi(setup.midi, &mut start)?;
     Ok(start)
+}
+
+/// Adds the line of the most entries of the history, by which the room is recovered.
+fn print_limit(limit: u32, into: &mut Vec<u8>) -> Result<(), Memory>
+    ensures { OnOk result (into.new.items ≡ into.old.items ++ limit_line limit) }
+{
+    into.extend_from_slice(b"# limit ")?;
+    push_decimal(into, u64::from(limit))?;
+    into.push(b'\n')?;
+    Ok(())
 }
 
 /// Adds the line that names the MIDI port, unless its name has a byte that a line does not have.

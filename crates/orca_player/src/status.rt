@@ -20,9 +20,11 @@ pub enum Status {
     /// Or a file could not be saved, added to or taken away, and all else was done.
     FileFault,
     /// The script has a line outside its grammar: the first such line and the column where it
-    /// leaves the grammar, both counted from 1.
+    /// leaves the grammar, both counted from 1. In a room that line is counted from its beginning,
+    /// unless it is the first of the script.
     ScriptRefused { line: u32, column: u32 },
-    /// A frame was to be played, and the history had as many entries as it may have.
+    /// A frame was to be played, or a command of a room to be done, and the history had as many
+    /// entries as it may have.
     HistoryFull,
     /// The inbox failed.
     InboxFault,

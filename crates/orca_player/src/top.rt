@@ -51,9 +51,9 @@ use std::alloc::Global;
 /// messages of each command are sent at once, one by one. At the end, unless it comes early, the text
 /// of the word is printed, every note ends, and `play` and `jam` save. While they play, they add their
 /// commands to their journal. `smf` and `wav` hand no message out, and save last. `migrate` loads a
-/// script, reads all its lines, and saves it. `recover` ends the notes of the run that has left the
-/// room, if a MIDI port is named, and loads the room. It does the commands on the grid of the room,
-/// hands no message of them out, and saves last.
+/// script, reads all its lines, and saves it. `recover` loads a room, and ends the notes of the run
+/// that has left it, if a MIDI port is named. It does the commands up to a wrong line on the grid of
+/// the room, with the limit that the room names, hands no message of them out, and saves last.
 ///
 /// A port that fails does not end the run: if all else was done, the status is
 /// [`Status::OutFault`]. Neither does a save or an append, with [`Status::FileFault`]. A status
@@ -102,8 +102,9 @@ pub fn run<H: House>(alloc: Global, words: &Vec<String>, desk: &mut Desk<H>) -> 
     // command was accepted that is not in the grid that was saved, but frames and copies.
     ensures rooms { KeepsRooms (map string_bytes words.now.items) }
 
-    // What was kept in a room is recovered: the session after exactly its commands, whose grid is
-    // saved, and their script. A line that was cut off is lost alone.
+    // What was kept in a room is recovered, unless a smaller limit is asked for: the session after
+    // exactly its commands, whose grid is saved, and their script. A line that was cut off is lost
+    // alone.
     ensures recovers { Recovers (map string_bytes words.now.items) }
 
     // A run that follows a clock does the commands of all bytes that it hears, however they were cut

@@ -1,26 +1,34 @@
--- What `recover` saves of a room.
-use Rattle.std.specs.Prelude.{ℕ, false, List, Option, Some, None}
-use Rattle.orca_concert.specs.Manners.{Aside, Manner, News, remarks, silence}
-use Rattle.orca_concert.specs.Manners.News.{Last, Stands}
-use Rattle.orca_concert.specs.Manners.Remark.{File}
-use Rattle.orca_reports.specs.Manners.{grid_at}
+-- What is kept of the commands of a room that is recovered, and when a full history ends them.
+use Rattle.std.specs.Prelude.{ℕ, ◌+◌, Bool, false, if◌then◌else◌, min, Result, Err}
+use Rattle.orca_base.specs.declared.command.Reply.{Reply}
+use Rattle.orca_base.specs.declared.command.Rule.{Rule}
+use Rattle.orca_base.specs.declared.command.Rule.TheVariants.{HistoryFull}
+use Rattle.orca_concert.specs.Manners.{Aside, Manner, News, halt, silence}
+use Rattle.orca_concert.specs.Manners.News.{Done}
+use Rattle.orca_course.specs.declared.ending.Stop.TheVariants.{Full}
+use Rattle.orca_rig.specs.Outside.{last_count}
 
--- where the grid goes, where the script goes, if anywhere, and the text of the script
+-- whether a full history ends them, and how many were done, as far as the counter goes
 pub record Rescue : Type 0 where
-  pub out : List ℕ
-  pub name : Option (List ℕ)
-  pub script : List ℕ
+  pub strict : Bool
+  pub done : ℕ
 
--- a script is saved, if it has a name
-abbrev pub script_saved : Option (List ℕ) → Rescue → Aside Rescue
-script_saved None r = silence r
-script_saved (Some name) r = remarks (File name r.script) r
+-- nothing was done yet
+abbrev pub rescue_at_start : Bool → Rescue
+rescue_at_start strict = record { strict = strict; done = 0 }
 
--- nothing is printed of a command, and a full history does not end the run. At last the grid is
--- saved, and then the script
+-- one command more
+abbrev pub one_more : Rescue → Rescue
+one_more r = record { strict = r.strict; done = min (r.done + 1) last_count }
+
+-- a command that the history has no room for ends them, or is passed over like any that is refused
+abbrev pub done_tells : Result Reply Rule → Rescue → Aside Rescue
+done_tells (Err HistoryFull) r = if r.strict then halt Full r else silence (one_more r)
+done_tells answer r = silence (one_more r)
+
+-- nothing is printed, handed out or saved
 abbrev pub recovery_tells : News → Rescue → Aside Rescue
-recovery_tells (Stands s) r = remarks (File r.out (grid_at s.machine)) r
-recovery_tells Last r = script_saved r.name r
+recovery_tells (Done line answer messages) r = done_tells answer r
 recovery_tells other r = silence r
 
 abbrev pub recovery_manner : Manner Rescue

@@ -1,83 +1,66 @@
-ghost use Rattle.std.specs.Prelude.{◌≡◌, Bool, Option, option_map};
-ghost use Rattle.orca_concert.specs.Manners.{aside_course};
-ghost use Rattle.orca_course.specs.Doing.{Does, nowhere};
-ghost use Rattle.orca_course.specs.Standings.{Standing};
-ghost use Rattle.orca_reports.specs.Rescues.{script_saved};
+ghost use Rattle.std.specs.Prelude.{◌≡◌};
+ghost use Rattle.orca_reports.specs.Rescues.{done_tells, rescue_at_start};
 
-use crate::run::write_grid;
+use orca_base::{Reply, Rule};
 use orca_concert::{News, Report};
 use orca_course::{Desk, NoMemory, Stop};
 use orca_edit::Machine;
-use orca_rig::{Disk, House};
-use std::alloc::Global;
+use orca_rig::House;
 use std::marker::Model;
 
-/// The report of `recover`: at last the grid is saved, and then the script. Nothing is printed or
-/// handed out, also of a refused command, and a full history does not end the run.
+/// The report of `recover`. Nothing is printed, handed out or saved, and the commands are counted. A
+/// command that the history has no room for ends the run where it has to fit, and else it is passed
+/// over, as the performance did.
 #[derive(Drop)]
-pub struct RecoveryReport<'a> {
-    // Room for the text of the grid.
-    text: Vec<u8>,
-    // The name that the grid is saved under.
-    out: &'a str,
-    // The name that the script is saved under, if it is.
-    name: Option<&'a str>,
-    // The text of the script.
-    script: &'a [u8],
+pub struct RecoveryReport {
+    // Whether each command has to fit.
+    strict: bool,
+    // How many were done. The count stands still at its last value.
+    done: u64,
 }
 
-impl<'a> Model for RecoveryReport<'a> {
-    ghost use Rattle.std.specs.Prelude.{option_map};
+impl Model for RecoveryReport {
     ghost use Rattle.orca_reports.specs.Rescues.{Rescue};
 
     ghost Value = { Rescue };
 
-    ghost view = { λ r. record {
-      out = r.out.now;
-      name = option_map (λ text. text.now) r.name;
-      script = r.script.now;
-    } };
+    ghost view = { λ r. record { strict = r.strict; done = r.done } };
 }
 
-impl<'a> RecoveryReport<'a> {
-    /// The report of a run whose grid is saved under a name, and, if that has one, this script.
-    pub fn new(
-        alloc: Global,
-        out: &'a str,
-        name: Option<&'a str>,
-        script: &'a [u8],
-    ) -> RecoveryReport<'a>
-        ensures { result ≡ record {
-          out = out.now;
-          name = option_map (λ text. text.now) name.entry;
-          script = script.now;
-        } }
+impl RecoveryReport {
+    /// The report of a run in which each command has to fit into the history, or not.
+    pub fn new(strict: bool) -> RecoveryReport
+        ensures { result ≡ rescue_at_start strict }
     {
-        RecoveryReport {
-            text: Vec::new(alloc),
-            out,
-            name,
-            script,
-        }
+        RecoveryReport { strict, done: 0 }
     }
 
-    /// Saves the script, if it has a name.
-    fn save_script<H: House>(&self, desk: &mut Desk<H>) -> Result<Option<Stop>, NoMemory>
-        ensures { (at : Option Standing) (hands : Bool) → Does (nowhere at hands)
-            (aside_course (script_saved self.now.name self.now)) self.now desk.old result self.now
-            desk.new }
+    /// How many commands were done before the history was full.
+    pub fn done(&self) -> u64
+        ensures { result ≡ self.now.done }
     {
-        match self.name {
-            None => Ok(None),
-            Some(name) => {
-                desk.save(name, self.script, Disk::Awaited)?;
-                Ok(None)
+        self.done
+    }
+
+    /// Counts a command, unless the run ends since it has no room.
+    fn heard(&mut self, answer: Result<Reply, Rule>) -> Option<Stop>
+        ensures ending { result ≡ (done_tells answer self.old).ending }
+        ensures kept { self.new ≡ (done_tells answer self.old).state }
+    {
+        match answer {
+            Err(Rule::HistoryFull) => {
+                if self.strict {
+                    return Some(Stop::Full);
+                }
             }
+            Ok(_) | Err(_) => {}
         }
+        self.done = self.done.saturating_add(1);
+        None
     }
 }
 
-impl Report for RecoveryReport<'_> {
+impl Report for RecoveryReport {
     ghost use Rattle.orca_reports.specs.Rescues.{Rescue, recovery_manner};
 
     ghost Kept = { Rescue };
@@ -93,19 +76,13 @@ impl Report for RecoveryReport<'_> {
     #[tactic(auto, using(orca_course::proofs::WorldLemmas::called_still, crate::proofs::DoneLemmas::unsaid))]
     fn tell<M: Machine, H: House>(
         &mut self,
-        desk: &mut Desk<H>,
-        machine: &M,
+        _: &mut Desk<H>,
+        _: &M,
         news: News<'_>,
     ) -> Result<Option<Stop>, NoMemory> {
         match news {
-            News::Stands(_) => {
-                machine.is_shown();
-                write_grid(&mut self.text, machine)?;
-                desk.save(self.out, self.text.as_slice(), Disk::Awaited)?;
-                Ok(None)
-            }
-            News::Last => self.save_script(desk),
-            News::Done { .. } | News::Closed(_) => Ok(None),
+            News::Done { answer, .. } => Ok(self.heard(answer)),
+            News::Stands(_) | News::Closed(_) | News::Last => Ok(None),
         }
     }
 }

@@ -7,7 +7,7 @@ use Rattle.clap.proofs.OnLiterals.{clap_on_literals}
 use Rattle.orca_base.specs.Ascii.{space}
 use Rattle.orca_base.specs.Numbers.{number_of}
 use Rattle.orca_words.specs.Forms.{command_of, forms}
-use Rattle.orca_words.specs.Requests.{Events, Follow, Lead, Make, Migrate, Perform, Play, Recover, Replay, Request, Run, Setup, Smf, Wav, jam_of, leading_of, migration_of, number_in, option_full, option_text, option_views, performance_of, portless_setup_of, recording_of, recovery_of, request_by, request_in_form, request_of, setup_of, with_fit_names, with_names_apart, with_own_journal, with_own_room, workload_of}
+use Rattle.orca_words.specs.Requests.{Events, Follow, Lead, Make, Migrate, Perform, Play, Recover, Replay, Request, Run, Setup, Smf, Wav, jam_of, leading_of, migration_of, number_in, number_set, option_full, option_text, option_views, performance_of, portless_setup_of, recording_of, recovery_of, request_by, request_in_form, request_of, setup_of, with_fit_names, with_names_apart, with_own_journal, with_own_room, workload_of}
 
 -- what a line asks for
 unfoldable asked : Text → Option Request
@@ -18,7 +18,7 @@ unfolding option_text option_full option_views number_in number_of
 values = tt
 
 unfoldable parts : ⊤
-unfolding setup_of portless_setup_of performance_of jam_of workload_of migration_of recording_of leading_of recovery_of with_fit_names with_names_apart with_own_journal with_own_room
+unfolding setup_of portless_setup_of performance_of jam_of workload_of migration_of recording_of leading_of recovery_of number_set with_fit_names with_names_apart with_own_journal with_own_room
 parts = tt
 
 unfoldable worked : ⊤
@@ -222,7 +222,7 @@ recover_all : asked (codes "recover r --midi=m o --limit 9 --script s")
       out = codes "o";
       script = Some (codes "s");
       midi = Some (codes "m");
-      limit = 9;
+      limit = Some 9;
     }))
 unfolding worked
 recover_all = refl
@@ -233,7 +233,7 @@ recover_none : asked (codes "recover r o")
       out = codes "o";
       script = None;
       midi = None;
-      limit = 1000000;
+      limit = None;
     }))
 unfolding worked
 recover_none = refl

@@ -54,13 +54,14 @@ pub record Migration : Type 0 where
   pub out : Text
   pub seed : ℕ
 
--- a room, where its grid and its script go, the port whose notes are ended, and the most entries
+-- a room, where its grid and its script go, the port whose notes are ended, and the most entries,
+-- unless the room says them
 pub record Recovery : Type 0 where
   pub room : Text
   pub out : Text
   pub script : Option Text
   pub midi : Option Text
-  pub limit : ℕ
+  pub limit : Option ℕ
 
 -- a grid and commands that are generated
 pub record Workload : Type 0 where
@@ -116,6 +117,12 @@ positional_number found name least most = number_in least most (positional_text 
 abbrev pub option_number : List Row → Text → ℕ → ℕ → ℕ → Option ℕ
 option_number found name default least most =
     option_map_or (number_in least most) (option_text found name) (Some default)
+
+-- the number that an option sets, if the words set it
+unfoldable pub number_set : List Row → Text → ℕ → ℕ → Option (Option ℕ)
+number_set found name least most =
+    option_map_or (λ text. option_map Some (number_in least most text)) (option_text found name)
+    (Some None)
 
 -- ---- keys
 
@@ -301,14 +308,13 @@ with_own_room r =
 -- the names and the limit of `recover`
 unfoldable pub recovery_of : List Row → Option Recovery
 recovery_of found =
-    with_number (option_number found (codes "limit") DEFAULT_HISTORY 1 MAX_HISTORY) (λ limit.
-    with_own_room (record {
+    option_and_then (λ limit. with_own_room (record {
       room = positional_text found (codes "ROOM");
       out = positional_text found (codes "OUT");
       script = option_text found (codes "script");
       midi = option_text found (codes "midi");
       limit = limit;
-    }))
+    })) (number_set found (codes "limit") 1 MAX_HISTORY)
 
 -- the work, on the grid and with the options that the words name
 abbrev pub performing : Option Setup → Option Work → Option Request

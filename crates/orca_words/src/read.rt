@@ -11,8 +11,8 @@ use crate::command::parse;
 use crate::forms::{FORMS, Form, Verb};
 use crate::limits::{DEFAULT_SCREEN_COLUMNS, DEFAULT_SCREEN_ROWS, MAX_MADE_FRAMES, MIN_SONG_BPM};
 use crate::values::{
-    option_full, option_number, option_text, option_views, positional_number, positional_text,
-    small_option,
+    number_set, option_full, option_number, option_text, option_views, positional_number,
+    positional_text, small_option,
 };
 use crate::{
     Leading, Migration, Performance, Recording, Recovery, Request, Setup, WordsFault, Work,
@@ -386,7 +386,7 @@ fn is_same_name(one: Option<&str>, other: Option<&str>) -> bool
 fn recovery<'a>(found: &ArgMatches<'a>) -> Option<Recovery<'a>>
     ensures { option_map recovery_in result ≡ recovery_of (rows_in found.now) }
 {
-    let limit = option_number(found, "limit", DEFAULT_HISTORY, 1, MAX_HISTORY)?;
+    let limit = number_set(found, "limit", 1, MAX_HISTORY)?;
     with_own_room(Recovery {
         room: positional_text(found, "ROOM"),
         out: positional_text(found, "OUT"),

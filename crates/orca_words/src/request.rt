@@ -140,9 +140,10 @@ pub struct Recovery<'a> {
     pub script: Option<&'a str>,
     /// The file, pipe or device whose notes are ended.
     pub midi: Option<&'a str>,
-    /// The most entries of the history: 1 to [`MAX_HISTORY`](orca_base::limits::MAX_HISTORY).
-    pub limit: u32,
-    ghost limit_in_range: { (1 ≤ limit) × (limit ≤ MAX_HISTORY) },
+    /// The most entries of the history, 1 to [`MAX_HISTORY`](orca_base::limits::MAX_HISTORY). None
+    /// where the room says it.
+    pub limit: Option<u32>,
+    ghost limit_in_range: { ForSome limit (λ most. (1 ≤ most) × (most ≤ MAX_HISTORY)) },
 }
 
 /// A grid and commands that are generated.

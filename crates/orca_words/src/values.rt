@@ -1,7 +1,7 @@
 //! The texts and the numbers that a parse found.
 
 ghost use Rattle.std.specs.Prelude.{◌≡◌, ◌≤◌, option_map, IfSome};
-ghost use Rattle.orca_words.specs.Requests.{keys_named, number_in, option_full, option_number, option_text, option_views, positional_number, positional_text, views_named};
+ghost use Rattle.orca_words.specs.Requests.{keys_named, number_in, number_set, option_full, option_number, option_text, option_views, positional_number, positional_text, views_named};
 ghost use Rattle.orca_words.specs.RequestIn.{rows_in, text_in};
 
 use clap::ArgMatches;
@@ -38,6 +38,25 @@ pub(crate) fn option_number(
     match option_text(found, name) {
         Some(text) => number_in(text, least, most),
         None => Some(default),
+    }
+}
+
+/// The number that an option sets, where the words set it. None stands for a text that is not 1 to 10
+/// digits, or a number outside its range.
+#[tactic(auto, unfolding(crate::specs::Requests::number_set))]
+pub(crate) fn number_set(
+    found: &ArgMatches,
+    name: &str,
+    least: u32,
+    most: u32,
+) -> Option<Option<u32>>
+    ensures value { result ≡ number_set (rows_in found.now) name.now least most }
+    ensures within { IfSome result (λ set. IfSome set (λ number.
+        (least ≤ number) × (number ≤ most))) }
+{
+    match option_text(found, name) {
+        Some(text) => Some(Some(number_in(text, least, most)?)),
+        None => Some(None),
     }
 }
 

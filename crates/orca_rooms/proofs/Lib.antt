@@ -1,0 +1,3 @@
+pub mod LimitLemmas
+pub mod PrintLemmas
+pub mod SoundLemmas

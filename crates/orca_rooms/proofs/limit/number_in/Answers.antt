@@ -1,0 +1,5 @@
+use Rattle.orca_rooms.proofs.LimitLemmas.{no_number}
+use Rattle.orca_rooms.proofs.limit.number_in.Goals as goal
+
+pub returns-in-Err : goal.returns-in-Err
+returns-in-Err c = no_number c.args.digits.now c.in-Err.ensures.cases.0
