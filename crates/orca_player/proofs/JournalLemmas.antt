@@ -1,10 +1,13 @@
 -- A run with a journal keeps it, and so does a run in a room.
-use Rattle.std.proofs.Common.{◌≡◌, ◌≢◌, ℕ, Bool, true, false, List, [], ◌∷◌, ◌++◌, refl, sym, ap, subst, append_assoc, append-nil, arith}
+use Rattle.std.proofs.Common.{◌≡◌, ◌≢◌, ℕ, Bool, true, false, List, [], ◌∷◌, ◌++◌, refl, sym, ◌∙◌, ap, subst, append_assoc, append-nil, arith}
 use Rattle.std.specs.Prelude.{Option, Some, None, IfSome, Result, Ok, Err}
+use Rattle.std.specs.List.{list_any}
 use Rattle.std.specs.Option.{option_map, option_map_or}
 use Rattle.std.proofs.lemmas.Option.{IfSome_then}
 use Rattle.orca_base.specs.declared.command.Command.{Command}
 use Rattle.orca_base.specs.Grids.{Sheet}
+use Rattle.orca_base.specs.declared.port.Port.{Port}
+use Rattle.orca_base.specs.declared.port.Port.TheVariants as port
 use Rattle.orca_course.specs.Acts.{Act, commands_in}
 use Rattle.orca_course.specs.Acts.Act.{Attach, Await, Claim, Listen, Load, Stand}
 use Rattle.orca_course.specs.Courses.{mapped}
@@ -24,8 +27,8 @@ use Rattle.orca_term.specs.declared.cell.ScreenSize.{ScreenSize}
 use Rattle.orca_trace.specs.Calls.{Poll}
 use Rattle.orca_words.specs.Recordings.{HasOwnJournal, OwnsJournals}
 use Rattle.orca_words.specs.Requests.{Perform, Performance, Play, Setup}
-use Rattle.orca_player.specs.Laws.{KeepsJournals, KeepsRoom, KeepsRooms}
-use Rattle.orca_player.specs.Outlines.{Brought, Heard, Outline, after_claim, attach_acts, closings, grid_outline, hands_asked, leavings, live_outline, live_start, loading, opening, outline, performed, preceded, request_outline, room_name, room_start, roomed, setting_of, start_of, status_of_ending, work_outline, waiting}
+use Rattle.orca_player.specs.Laws.{KeepsJournals, KeepsRoom, KeepsRooms, is_listen}
+use Rattle.orca_player.specs.Outlines.{Brought, Heard, Outline, after_claim, attach_act, attach_acts, closings, grid_outline, hands_asked, leavings, live_outline, live_start, loading, opening, outline, performed, preceded, request_outline, room_name, room_start, roomed, setting_of, start_of, status_of_ending, work_outline, waiting}
 use Rattle.orca_player.proofs.CameLemmas.{attaches-calls, calls_bare}
 use Rattle.orca_player.proofs.LawLemmas.{ended_by}
 use Rattle.orca_player.proofs.LeavingLemmas.{closings_none}
@@ -231,6 +234,25 @@ first_none : (setup : Setup) (text : Option (List ℕ))
 first_none setup text =
     (calls_bare (attach_acts setup) (attaches-calls setup)).commands (Load setup.grid text ∷ [])
 
+-- and do not open the inbox
+attach_unheard : (port : Port) (name : Option (List ℕ)) (more : List Act)
+    → list_any is_listen more ≡ false → list_any is_listen (attach_act port name ++ more) ≡ false
+attach_unheard port None more none = none
+attach_unheard port (Some name) more none = none
+
+first_unheard : (setup : Setup) (text : Option (List ℕ))
+    → list_any is_listen (attach_acts setup ++ Load setup.grid text ∷ []) ≡ false
+first_unheard setup text =
+    let load = Load setup.grid text ∷ [] in
+    let midi = attach_act port.Midi setup.midi in
+    let udp = attach_act port.Udp setup.udp in
+    let osc = attach_act port.Osc setup.osc in
+    let parts : (midi ++ (udp ++ osc)) ++ load ≡ midi ++ (udp ++ (osc ++ load)) =
+    append_assoc midi (udp ++ osc) load ∙ ap (λ more. midi ++ more) (append_assoc udp osc load) in
+    ap (list_any is_listen) parts
+    ∙ attach_unheard port.Midi setup.midi _ (attach_unheard port.Udp setup.udp _
+    (attach_unheard port.Osc setup.osc load refl))
+
 leaves_so : (room : Option (List ℕ)) (name : List ℕ) (ending : Option Ending) (came : Losses)
     (loose : Bool) → room ≡ Some name → option_map status_of_ending ending ≢ None
     → closings room ending came loose ≡ leavings (Some name) came loose
@@ -284,6 +306,7 @@ module _ (law : JournalsPerformance) (setup : Setup) (play : Performance) (h : H
         gone = gone;
         splits = sym (append_assoc (attach_acts setup) (Load setup.grid h.grid ∷ [])
             (Claim name start (Some ClaimMade) ∷ (listen ∷ Stand s ∷ (c.acts ++ gone))));
+        unheard = first_unheard setup h.grid;
         none = first_none setup h.grid;
         ends = refl;
         keeps = record { asked = all.asked; begun = all.begun; ended = all.last };

@@ -1,10 +1,11 @@
 -- Laws of performances, on the outlines of runs: how bytes were cut into answers changes nothing
 -- that lasts, the script that is saved ends in the same session, and a journal is kept.
 use Rattle.std.specs.Prelude.{◌≡◌, ◌≢◌, ℕ, Bool, true, false, List, [], ◌∷◌, ◌++◌, Ok, Option, Some, None, IfSome, is_some}
+use Rattle.std.specs.List.{list_any}
 use Rattle.std.specs.Option.{option_map}
 use Rattle.orca_base.specs.Grids.{Sheet}
 use Rattle.orca_course.specs.Acts.{Act, commands_in}
-use Rattle.orca_course.specs.Acts.Act.{Claim}
+use Rattle.orca_course.specs.Acts.Act.{Claim, Listen}
 use Rattle.orca_course.specs.Courses.{Course}
 use Rattle.orca_course.specs.Standings.{Standing}
 use Rattle.orca_grid.specs.GridText.{grid_text}
@@ -83,10 +84,15 @@ KeepsJournals words =
     → IfSome (outline words h).screen (λ screen.
     KeepsJournal name setup.seed (outline words h).course)
 
--- a run claims a room before it does a command: it made a file of this name with the text of the
--- grid, an empty line, and the first lines of a script. From there on it keeps its commands in this
--- file, behind that, and does not take it away. The very last acts do, once a performance has ended,
--- unless files have failed at a call, or a command is loose
+-- whether an act opens the inbox
+abbrev pub is_listen : Act → Bool
+is_listen (Listen address hands start) = true
+is_listen act = false
+
+-- a run claims a room before it opens the inbox or does a command: it made a file of this name with
+-- the text of the grid, an empty line, and the first lines of a script. From there on it keeps its
+-- commands in this file, behind that, and does not take it away. The very last acts do, once a
+-- performance has ended, unless files have failed at a call, or a command is loose
 pub record KeepsRoom (setup : Setup) (name : List ℕ) (h : Heard) (o : Outline) : Type 0 where
   pub sheet : Sheet
   pub read : option_map grid_text h.grid ≡ Some (Ok sheet)
@@ -95,6 +101,7 @@ pub record KeepsRoom (setup : Setup) (name : List ℕ) (h : Heard) (o : Outline)
   pub gone : List Act
   pub splits : o.course.acts
       ≡ before ++ Claim name (room_start setup sheet) (Some Made) ∷ (during.acts ++ gone)
+  pub unheard : list_any is_listen before ≡ false
   pub none : commands_in before ≡ []
   pub ends : during.ending ≡ o.course.ending
   pub keeps : KeepsText name (room_start setup sheet) (Some (room_start setup sheet)) during
