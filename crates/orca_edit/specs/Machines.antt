@@ -1,12 +1,14 @@
 -- What the calls of a session do to the machine that it means.
-use Rattle.std.specs.Prelude.{◌≡◌, Bool, true, false, not, List, [], All, None, Result, Ok, Err}
+use Rattle.std.specs.Prelude.{◌≡◌, Bool, true, false, not, ◌&&◌, List, [], ◌∷◌, All, None, Result, Ok, Err}
 use Rattle.orca_base.specs.declared.command.Command.{Command}
 use Rattle.orca_base.specs.declared.command.Command.TheVariants as command
+use Rattle.orca_base.specs.declared.command.Entry.{Entry}
 use Rattle.orca_base.specs.declared.command.Fault.{Fault}
 use Rattle.orca_base.specs.declared.command.Fault.TheVariants.{Refused, Memory}
 use Rattle.orca_base.specs.declared.command.Reply.{Reply}
 use Rattle.orca_base.specs.declared.command.Rule.{Rule}
 use Rattle.orca_base.specs.declared.message.Message.{Message}
+use Rattle.orca_base.specs.Histories.{edits_grid, is_size_used}
 use Rattle.orca_base.specs.Ranges.{CarriesFewValues}
 use Rattle.orca_base.specs.MarkSet.{MarkSet}
 use Rattle.orca_notes.specs.Device.{Plays}
@@ -29,6 +31,11 @@ is_jump command.Undo = true
 is_jump (command.Rewind moment) = true
 is_jump command.Redo = true
 is_jump _ = false
+
+-- an edit of the grid first, which a Retract may take out: it is no change of size that is in use
+abbrev pub is_free_edit : List Entry → Bool
+is_free_edit [] = false
+is_free_edit (entry ∷ entries) = edits_grid entry && not (is_size_used (entry ∷ entries))
 
 -- a command to which memory may be refused: any but a jump and a Retract
 abbrev pub may_lack_memory : Command → Bool

@@ -1,8 +1,8 @@
-ghost use Rattle.std.specs.Prelude.{◌≡◌, ◌≤◌, ◌+◌, ℕ, List, [], length};
+ghost use Rattle.std.specs.Prelude.{◌≡◌, ◌≤◌, ◌+◌, ℕ, List, [], drop, length};
 ghost use Rattle.orca_base.specs.declared.limits.TheConstants.{MAX_NOTES};
 ghost use Rattle.orca_base.specs.declared.note.Note.{Note};
 ghost use Rattle.orca_edit.specs.Folding.{RedoesUndo};
-ghost use Rattle.orca_edit.specs.Machines.{Acts, Closes, preview_of};
+ghost use Rattle.orca_edit.specs.Machines.{Acts, Closes, is_free_edit, preview_of};
 ghost use Rattle.orca_edit.specs.Obeying.{MachineState, piece_of};
 ghost use Rattle.orca_edit.specs.Prices.{IsSpaced, Kept, charge, kept_after, preview_price};
 
@@ -81,6 +81,11 @@ pub trait Machine: Look + Drop {
     /// The most entries that the history may have.
     fn limit(&self) -> u32
         ensures { result ≡ (machine self.now).limit };
+
+    /// Whether an entry of the history is an edit of the grid that a Retract may take out: there is such an
+    /// entry, and it is no change of size that is in use.
+    fn is_free_edit(&self, moment: u32) -> bool
+        ensures { result ≡ is_free_edit (drop moment (machine self.now).history) };
 
     /// The most entries that the history has had.
     fn peak(&self) -> u32

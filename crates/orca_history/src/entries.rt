@@ -1,6 +1,7 @@
-ghost use Rattle.std.specs.Prelude.{◌≡◌, ◌+◌, ◌-◌, ◌^◌, ◌<◌, ◌≤◌, ◌↔◌, [], ◌∷◌, ◌++◌, length, take, drop, reverse, slice_get, option_copied, IfSome, IsSome, OnOk, OnErr, vec_len, vec_capacity};
+ghost use Rattle.std.specs.Prelude.{◌≡◌, ◌+◌, ◌-◌, ◌^◌, ◌<◌, ◌≤◌, ◌↔◌, [], ◌∷◌, ◌++◌, length, take, drop, reverse, slice_get, option_copied, ◌&&◌, false, not, IfSome, IsSome, OnOk, OnErr, vec_len, vec_capacity};
 ghost use Rattle.orca_base.specs.declared.command.Entry.TheVariants.{Hush};
 ghost use Rattle.std.specs.List.{list_any, remove};
+ghost use Rattle.std.specs.Option.{option_map_or};
 ghost use Rattle.orca_base.specs.Histories.{done_of, edits_grid, group_of, is_done, is_edit, is_size_used, last_edit, sets_size};
 ghost use Rattle.orca_history.specs.Entries.{IsLists};
 
@@ -136,6 +137,18 @@ impl Entries {
     {
         let first = index as usize;
         sets_size(&self.done[first]) && edit_grid(&self.done[first + 1..])
+    }
+
+    /// Whether an entry is an edit of the grid, and no change of size after which another edit of the grid
+    /// stands. None is from [`Entries::len`] on.
+    pub fn is_free_edit(&self, index: u32) -> bool
+        ensures { result ≡ (option_map_or edits_grid (slice_get self.now.entries index) false
+            && not (is_size_used (drop index self.now.entries))) }
+    {
+        match self.done.get(index as usize) {
+            Some(entry) => edits_grid(entry) && !self.is_size_used(index),
+            None => false,
+        }
     }
 
     /// The number of entries of the tail.

@@ -1,5 +1,6 @@
-ghost use Rattle.std.specs.Prelude.{◌≡◌, ◌+◌, ◌<◌, ◌≤◌, ◌↔◌, [], drop, length, slice_get, option_copied, IfOk, IfSome, IsSome, OnOk, OnErr};
-ghost use Rattle.orca_base.specs.Histories.{group_of, is_size_used, last_edit};
+ghost use Rattle.std.specs.Prelude.{◌≡◌, ◌+◌, ◌<◌, ◌≤◌, ◌↔◌, [], drop, length, slice_get, option_copied, ◌&&◌, false, not, IfOk, IfSome, IsSome, OnOk, OnErr};
+ghost use Rattle.std.specs.Option.{option_map_or};
+ghost use Rattle.orca_base.specs.Histories.{edits_grid, group_of, is_size_used, last_edit};
 ghost use Rattle.orca_history.specs.Trails.{IsTrail, patch_at, trail_at_start, trail_jumped, trail_pushed, trail_redone, trail_retracted};
 
 use crate::entries::Entries;
@@ -148,6 +149,15 @@ impl History {
         ensures { result ≡ is_size_used (drop index self.now.entries) }
     {
         self.entries.is_size_used(index)
+    }
+
+    /// Whether an entry is an edit of the grid, and no change of size after which another edit of the grid
+    /// stands. None is from [`History::len`] on.
+    pub fn is_free_edit(&self, index: u32) -> bool
+        ensures { result ≡ (option_map_or edits_grid (slice_get self.now.entries index) false
+            && not (is_size_used (drop index self.now.entries))) }
+    {
+        self.entries.is_free_edit(index)
     }
 
     /// The number of entries of the tail, which jumps cut off and no later push or Retract lost.

@@ -1,4 +1,5 @@
 mod BillLemmas
+pub mod FreeEdits
 mod JumpLemmas
 pub mod ObeyLemmas
 mod PastLemmas

@@ -517,6 +517,11 @@ impl Machine for Session {
         self.past.history().limit()
     }
 
+    #[tactic(auto, using(crate::proofs::FreeEdits::free_edit))]
+    fn is_free_edit(&self, moment: u32) -> bool {
+        self.past.history().is_free_edit(moment)
+    }
+
     fn peak(&self) -> u32 {
         self.past.peak()
     }
