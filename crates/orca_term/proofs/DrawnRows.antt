@@ -1,20 +1,23 @@
 -- The picture a row at a time.
-use Rattle.std.proofs.Common.{◌≡◌, ℕ, zero, suc, ◌+◌, ◌-◌, ◌*◌, ◌/◌, ◌%◌, ◌<◌, ◌≤◌, ◌==◌, Bool, true, false, ◌&&◌, map, List, [], ◌∷◌, ◌++◌, append_assoc, refl, ap, sym, ◌∙◌, rules, arith, add-one}
+use Rattle.std.proofs.Common.{◌≡◌, ℕ, zero, suc, ◌+◌, ◌-◌, ◌*◌, ◌%◌, ◌<◌, ◌≤◌, ◌==◌, Bool, true, false, ◌&&◌, map, get_or, take, List, [], ◌∷◌, ◌++◌, append_assoc, length, refl, subst, ap, sym, ◌∙◌, rules, arith, add-one}
 use Rattle.std.specs.List.{list_any, range_with_len}
 use Rattle.std.proofs.lemmas.Bool.{cond-true, cond-false, or_parts}
-use Rattle.std.proofs.lemmas.List.{append-nil}
-use Rattle.std.proofs.lemmas.List.FromFn.{map-range_with_len_more}
-use Rattle.std.proofs.lemmas.Nat.{div-mul-add, mod-mul-add}
-use Rattle.std.specs.Prelude.{if◌then◌else◌}
+use Rattle.std.proofs.lemmas.List.{append-nil, get_or-take, length-append}
+use Rattle.std.proofs.lemmas.List.FromFn.{length-map-range_with_len, map-range_with_len_more}
+use Rattle.std.specs.Prelude.{if◌then◌else◌, slice_index_or}
 use Rattle.orca_base.specs.Glyphs.{empty}
 use Rattle.orca_base.specs.Grids.{Size, glyph_at, is_inside}
 use Rattle.orca_base.specs.declared.place.Place.{Place}
 use Rattle.orca_term.specs.Codes.{plus}
-use Rattle.orca_term.specs.Editing.{page_of, window_place}
-use Rattle.orca_term.specs.Picture.{Scene, blank_cell, faint, grid_cell, is_met, style_at, status_cell, cell_of, cell_at}
+use Rattle.orca_base.specs.Ascii.{space}
+use Rattle.orca_term.specs.Editing.{page_of}
+use Rattle.orca_base.specs.declared.limits.TheConstants.{MAX_SCREEN_COLUMNS}
+use Rattle.orca_term.specs.Picture.{Scene, blank_cell, cut_row, faint, glyph_under, grid_cell, grid_row, is_met, page_row, picture, piece_row, rows_of, screen_cells, status_cells, style_at, tells_sent, text_cell, text_row, upper_rows}
+use Rattle.orca_term.specs.Traffic.{FrameSent, sent_text}
 use Rattle.orca_term.specs.declared.cell.Cell.{Cell}
 use Rattle.orca_term.specs.declared.cell.ScreenSize.{ScreenSize}
 use Rattle.orca_term.specs.declared.limits.TheConstants.{RULER_PLACES}
+use Rattle.orca_term.specs.declared.status.StatusLine.{StatusLine}
 
 -- a cell more
 pub cell_more : (f : ℕ → Cell) (n : ℕ) (start before after : List Cell) (cell : Cell)
@@ -24,44 +27,21 @@ cell_more f n start before after cell drawn is more =
     rw (more, drawn, is, map-range_with_len_more f 0 n n (omega arith))
     (append_assoc start (map f (range_with_len 0 n)) (f n ∷ []))
 
--- the cells up to a column of a row
-row_part : (f : ℕ → ℕ → Cell) (w y x : ℕ) → x ≤ w
-    → map (λ n. f (n / w) (n % w)) (range_with_len 0 (y * w + x))
-    ≡ map (λ n. f (n / w) (n % w)) (range_with_len 0 (y * w)) ++ map (f y) (range_with_len 0 x)
-row_part f w y zero h =
-    let start : y * w + 0 ≡ y * w = omega arith in
-    ap (λ k. map (λ n. f (n / w) (n % w)) (range_with_len 0 k)) start ∙ sym (append-nil _)
-row_part f w y (suc x) h =
-    let g : ℕ → Cell = λ n. f (n / w) (n % w) in
-    let here : g (y * w + x) ≡ f y x =
-    ap (λ k. f k ((y * w + x) % w)) (div-mul-add y w x (omega arith))
-    ∙ ap (f y) (mod-mul-add y w x (omega arith)) in
-    let more : map g (range_with_len 0 (y * w + x + 1))
-    ≡ map g (range_with_len 0 (y * w + x)) ++ g (y * w + x) ∷ [] =
-    map-range_with_len_more g 0 (y * w + x) (y * w + x) (omega arith) in
-    let through : map g (range_with_len 0 (y * w + x + 1))
-    ≡ map g (range_with_len 0 (y * w)) ++ map (f y) (range_with_len 0 (x + 1)) =
-    cell_more (f y) x (map g (range_with_len 0 (y * w))) (map g (range_with_len 0 (y * w + x)))
-    (map g (range_with_len 0 (y * w + x + 1))) (g (y * w + x))
-    (row_part f w y x (omega arith)) here more in
-    let next : y * w + suc x ≡ y * w + x + 1 = omega arith in
-    ap (λ k. map g (range_with_len 0 k)) next
-    ∙ (through
-    ∙ ap (λ k. map g (range_with_len 0 (y * w)) ++ map (f y) (range_with_len 0 k)) (add-one x))
-
--- a row more
-row_more : (f : ℕ → ℕ → Cell) (w y : ℕ)
-    → map (λ n. f (n / w) (n % w)) (range_with_len 0 ((y + 1) * w))
-    ≡ map (λ n. f (n / w) (n % w)) (range_with_len 0 (y * w)) ++ map (f y) (range_with_len 0 w)
-row_more f w y =
-    let next : (y + 1) * w ≡ y * w + w = omega arith in
-    ap (λ k. map (λ n. f (n / w) (n % w)) (range_with_len 0 k)) next
-    ∙ row_part f w y w (omega arith)
-
--- functions that are the same everywhere make the same cells
-same_cells : (f g : ℕ → Cell) → ((x : ℕ) → f x ≡ g x) → (xs : List ℕ) → map f xs ≡ map g xs
-same_cells f g same [] = refl
-same_cells f g same (x ∷ xs) = rw (same x, same_cells f g same xs) refl
+-- functions that are the same before a column make the same cells up to it
+pub same_cells : (f g : ℕ → Cell) (n : ℕ) → ((x : ℕ) → x < n → f x ≡ g x)
+    → map f (range_with_len 0 n) ≡ map g (range_with_len 0 n)
+same_cells f g zero same = refl
+same_cells f g (suc n) same =
+    let so_far : map f (range_with_len 0 n) ≡ map g (range_with_len 0 n) =
+    same_cells f g n (λ x below. same x (omega arith)) in
+    let more : map f (range_with_len 0 (n + 1)) ≡ map g (range_with_len 0 (n + 1)) =
+    rw (
+      map-range_with_len_more f 0 n n (omega arith),
+      map-range_with_len_more g 0 n n (omega arith),
+      so_far,
+      same n (omega arith),
+    ) refl in
+    subst (λ (k : ℕ). map f (range_with_len 0 k) ≡ map g (range_with_len 0 k)) (add-one n) more
 
 -- cells that are all one from a column on
 one_from : (f : ℕ → Cell) (cell : Cell) (n k : ℕ) → ((x : ℕ) → n ≤ x → x < n + k → f x ≡ cell)
@@ -142,47 +122,131 @@ row_place scene at ruled inside is =
     (by_row scene.editor.guide (at.y % RULER_PLACES == 0) (at.x % RULER_PLACES == 0)
     (glyph_at scene.sheet at == empty) (style_at scene at == faint) ruled is))
 
--- the first rows of the screen
-abbrev pub rows_before : ScreenSize → Scene → List ℕ → ℕ → List Cell
-rows_before d scene text y = map (cell_at d scene text) (range_with_len 0 (y * d.columns))
+-- ---- rows
 
--- a row of the window more
-pub grid_row_more : (d : ScreenSize) (scene : Scene) (text : List ℕ) (y top left columns : ℕ)
-    → y < d.rows - 1 → top ≡ page_of (d.rows - 1) scene.editor.y
-    → left ≡ page_of d.columns scene.editor.x → columns ≡ d.columns
-    → (before after : List Cell) → before ≡ rows_before d scene text y
-    → after ≡ before ++ map (λ x. grid_cell scene (record { y = top + y; x = left + x }))
-    (range_with_len 0 columns)
-    → after ≡ rows_before d scene text (y + 1)
-unfolding cell_of
-grid_row_more d scene text y top left columns row is_top is_left is_w before after drawn more =
-    let other : (y + 1 == d.rows) ≡ false = search (rules, arith) in
-    rw (
-      more,
-      drawn,
-      is_top,
-      is_left,
-      is_w,
-      row_more (cell_of d scene text) d.columns y,
-      same_cells (cell_of d scene text y) (λ x. grid_cell scene (window_place d scene.editor y x))
-          (λ x. cond-false _ _ _ other) (range_with_len 0 d.columns),
-    ) refl
+-- a row more
+pub row_more : (row : ℕ → List Cell) (y : ℕ) (before after more : List Cell)
+    → before ≡ rows_of row y → after ≡ before ++ more → more ≡ row y → after ≡ rows_of row (y + 1)
+row_more row y before after more drawn is same =
+    rw (is, drawn, same) (sym (ap (rows_of row) (add-one y)))
 
--- the status line, after all rows of the window
-pub status_row_more : (d : ScreenSize) (scene : Scene) (text : List ℕ) (y columns : ℕ)
-    → y + 1 ≡ d.rows → columns ≡ d.columns
-    → (before after : List Cell) → before ≡ rows_before d scene text y
-    → after ≡ before ++ map (status_cell text) (range_with_len 0 columns)
-    → after ≡ rows_before d scene text d.rows
-unfolding cell_of
-status_row_more d scene text y columns row is_columns before after drawn more =
-    let last : (y + 1 == d.rows) ≡ true = search (rules, arith) in
-    let same : map (cell_of d scene text y) (range_with_len 0 d.columns)
-    ≡ map (status_cell text) (range_with_len 0 columns) =
-    same_cells (cell_of d scene text y) (status_cell text) (λ x. cond-true _ _ _ last)
-    (range_with_len 0 d.columns)
-    ∙ ap (λ n. map (status_cell text) (range_with_len 0 n)) (sym is_columns) in
-    more
-    ∙ (ap (λ (cells : List Cell). cells ++ map (status_cell text) (range_with_len 0 columns)) drawn
-    ∙ (ap (λ (cells : List Cell). rows_before d scene text y ++ cells) (sym same)
-    ∙ (sym (row_more (cell_of d scene text) d.columns y) ∙ ap (rows_before d scene text) row)))
+-- a row of the window, where its corner is known
+pub grid_row_is : (d : ScreenSize) (scene : Scene) (y top left columns : ℕ)
+    → top ≡ page_of (d.rows - 1) scene.editor.y → left ≡ page_of d.columns scene.editor.x
+    → columns ≡ d.columns
+    → map (λ x. grid_cell scene (record { y = top + y; x = left + x })) (range_with_len 0 columns)
+    ≡ grid_row d scene y
+grid_row_is d scene y top left columns is_top is_left is_w = rw (is_top, is_left, is_w) refl
+
+-- how many cells there are after one row more
+pub len_more : (old new y columns : ℕ) → old ≡ y * columns → new ≡ old + columns
+    → new ≡ (y + 1) * columns
+len_more old new y columns len more = omega arith
+
+-- rows that are the same before a number
+same_rows : (f g : ℕ → List Cell) (n : ℕ) → ((y : ℕ) → y < n → f y ≡ g y)
+    → rows_of f n ≡ rows_of g n
+same_rows f g zero same = refl
+same_rows f g (suc n) same =
+    rw (same_rows f g n (λ y below. same y (omega arith)), same n (omega arith)) refl
+
+-- a row of the piece above the one that tells what was sent
+above : (d : ScreenSize) (scene : Scene) (sent : FrameSent) (y : ℕ) → y < d.rows - 2
+    → piece_row d scene sent y ≡ grid_row d scene y
+above d scene sent y below =
+    let other : (y + 2 == d.rows) ≡ false = search (rules, arith) in
+    by (tells_sent d scene.editor) other
+  where
+    by : (b : Bool) → (y + 2 == d.rows) ≡ false
+        → (if b && y + 2 == d.rows then text_row d.columns (sent_text sent)
+        else grid_row d scene y) ≡ grid_row d scene y
+    by true other = cond-false _ _ _ other
+    by false other = refl
+
+-- the row that tells what was sent
+told : (d : ScreenSize) (scene : Scene) (sent : FrameSent) (y : ℕ) → y + 2 ≡ d.rows
+    → tells_sent d scene.editor ≡ true
+    → piece_row d scene sent y ≡ text_row d.columns (sent_text sent)
+told d scene sent y last tells =
+    let here : (y + 2 == d.rows) ≡ true = search (rules, arith) in
+    rw (tells, here) refl
+
+-- the rows of the piece
+pub piece_told : (d : ScreenSize) (scene : Scene) (sent : FrameSent) (text : List ℕ)
+    → 2 ≤ d.rows → d.columns ≤ MAX_SCREEN_COLUMNS → tells_sent d scene.editor ≡ true
+    → take MAX_SCREEN_COLUMNS text ≡ take MAX_SCREEN_COLUMNS (sent_text sent)
+    → rows_of (piece_row d scene sent) (d.rows - 1)
+    ≡ rows_of (grid_row d scene) (d.rows - 2) ++ text_row d.columns text
+piece_told d scene sent text some few tells same =
+    let k = d.rows - 2 in
+    let next : d.rows - 1 ≡ k + 1 = omega arith in
+    let last : k + 2 ≡ d.rows = omega arith in
+    let row : text_row d.columns text ≡ text_row d.columns (sent_text sent) =
+    same_cells (text_cell text) (text_cell (sent_text sent)) d.columns
+    (λ x below. ap (λ (b : ℕ). let c : Cell = record { byte = b; style = 0 } in c)
+    (sym (get_or-take MAX_SCREEN_COLUMNS text x space (omega arith))
+    ∙ (ap (λ (t : List ℕ). get_or t x space) same
+    ∙ get_or-take MAX_SCREEN_COLUMNS (sent_text sent) x space (omega arith)))) in
+    ap (rows_of (piece_row d scene sent)) next
+    ∙ (ap (rows_of (piece_row d scene sent)) (add-one k)
+    ∙ (ap (λ (cells : List Cell). cells ++ piece_row d scene sent k)
+    (same_rows (piece_row d scene sent) (grid_row d scene) k
+    (λ y below. above d scene sent y below))
+    ∙ ap (λ (cells : List Cell). rows_of (grid_row d scene) k ++ cells)
+    (told d scene sent k last tells ∙ sym row)))
+
+-- the whole picture
+pub drawn_picture : (d : ScreenSize) (scene : Scene) (sent : FrameSent) (line : StatusLine)
+    (upper drawn : List Cell) → upper ≡ upper_rows d scene sent
+    → drawn ≡ upper ++ cut_row d.columns (status_cells scene.editor (glyph_under scene) line)
+    → drawn ≡ picture d scene sent line
+unfolding picture
+drawn_picture d scene sent line upper drawn is more = rw (more, is) refl
+
+-- a picture has a cell for each place of the screen
+rows_cells : (row : ℕ → List Cell) (w n : ℕ) → ((y : ℕ) → length (row y) ≡ w)
+    → length (rows_of row n) ≡ n * w
+rows_cells row w zero one =
+    let none : 0 * w ≡ 0 = omega arith in sym none
+rows_cells row w (suc n) one =
+    let so_far = rows_cells row w n one in
+    let last = one n in
+    let both = length-append (rows_of row n) (row n) in
+    omega (arith, so_far, last, both)
+
+piece_cells : (d : ScreenSize) (scene : Scene) (sent : FrameSent) (y : ℕ)
+    → length (piece_row d scene sent y) ≡ d.columns
+piece_cells d scene sent y = by (tells_sent d scene.editor && y + 2 == d.rows)
+  where
+    by : (b : Bool) → length (if b then text_row d.columns (sent_text sent)
+        else grid_row d scene y) ≡ d.columns
+    by true = length-map-range_with_len (text_cell (sent_text sent)) 0 d.columns
+    by false = length-map-range_with_len _ 0 d.columns
+
+pub picture_cells : (d : ScreenSize) (scene : Scene) (sent : FrameSent) (line : StatusLine)
+    → 1 ≤ d.rows → length (picture d scene sent line) ≡ screen_cells d
+unfolding picture upper_rows
+picture_cells d scene sent line some =
+    let upper : length (upper_rows d scene sent) ≡ (d.rows - 1) * d.columns =
+    by (scene.editor.page == 0) in
+    let strip = status_cells scene.editor (glyph_under scene) line in
+    let status : length (cut_row d.columns strip) ≡ d.columns =
+    length-map-range_with_len (λ x. slice_index_or strip x blank_cell) 0 d.columns in
+    let both = length-append (upper_rows d scene sent) (cut_row d.columns strip) in
+    all_cells d.rows d.columns _ _ _ some upper status both
+  where
+    by : (b : Bool)
+        → length (if b then rows_of (piece_row d scene sent) (d.rows - 1)
+        else rows_of (page_row d scene.editor.page) (d.rows - 1)) ≡ (d.rows - 1) * d.columns
+    by true = rows_cells (piece_row d scene sent) d.columns (d.rows - 1) (piece_cells d scene sent)
+    by false =
+        rows_cells (page_row d scene.editor.page) d.columns (d.rows - 1)
+        (λ y. length-map-range_with_len _ 0 d.columns)
+
+    all_cells : (rows columns all upper status : ℕ) → 1 ≤ rows → upper ≡ (rows - 1) * columns
+        → status ≡ columns → all ≡ upper + status → all ≡ rows * columns
+    all_cells zero columns all upper status some is last both = absurd (omega (arith, some))
+    all_cells (suc k) columns all upper status some is last both =
+        let less : suc k - 1 ≡ k = omega arith in
+        let more : upper ≡ k * columns = rw less at is in
+        omega (arith, more, last, both)

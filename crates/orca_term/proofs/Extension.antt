@@ -7,12 +7,12 @@ use Rattle.std.proofs.lemmas.Bool.Decides.{nat_tests}
 use Rattle.orca_base.specs.Ascii.{escape}
 use Rattle.orca_base.specs.declared.limits.TheConstants.{SEQUENCE_BYTES}
 use Rattle.orca_term.specs.Codes.{bracket, letter_o}
-use Rattle.orca_term.specs.Keys.{Item, Byte, Due, Extends, after, ends_as, escape_and_o, is_collected, is_last, key_at_end, key_of, key_of_sequence, keys_from, pending_with, plain_key, single_key, turn, turn_after_escape, turn_after_o, turn_alone, turn_inside, turn_outside}
-use Rattle.orca_term.specs.Keys.Extends.{adds, holds, lacks, over, same}
+use Rattle.orca_term.specs.Keys.{Item, Byte, Due, Extends, after, console_key, ends_as, escape_and_o, is_collected, is_last, key_at_end, key_of, key_of_sequence, keys_from, pending_with, plain_key, plain_sequence, single_key, turn, turn_after_escape, turn_after_o, turn_alone, turn_at_end, turn_in_console, turn_inside, turn_outside}
+use Rattle.orca_term.specs.Keys.Extends.{adds, holds, lacks, over, same, turns}
 use Rattle.orca_term.specs.declared.keys.Key.{Key}
 use Rattle.orca_term.specs.declared.keys.Key.TheVariants as key
 use Rattle.orca_term.specs.declared.keys.Pending.{Pending}
-use Rattle.orca_term.specs.declared.keys.Pending.TheVariants.{Nothing, Lone, Single, Sequence, Overlong}
+use Rattle.orca_term.specs.declared.keys.Pending.TheVariants.{Nothing, Lone, Single, Sequence, Overlong, Console}
 use Rattle.orca_term.specs.declared.keys.Turn.{Turn}
 
 -- the keys of items with this pending
@@ -29,6 +29,11 @@ ReadAfterO items =
     Extends (Byte escape ∷ Byte letter_o ∷ items)
     (key.Glyph letter_o ∷ keys_from false Nothing items) (keys_from true Single items)
 
+-- the same after a second bracket, which ended a sequence of plain keys
+abbrev ReadInConsole : List Item → Type 0
+ReadInConsole items =
+    Extends (Byte bracket ∷ items) (keys_from false Nothing items) (keys_from true Console items)
+
 -- whatever is pending
 record ReadOn (items : List Item) : Type 0 where
   none : Read Nothing items
@@ -36,6 +41,7 @@ record ReadOn (items : List Item) : Type 0 where
   overlong : Read Overlong items
   lone : ReadAfterEscape items
   single : ReadAfterO items
+  console : ReadInConsole items
 
 -- items that were read, of which plain keys have given these; then a turn of both readers, and the
 -- items after it
@@ -79,6 +85,36 @@ at_end Lone byte = tt
 at_end Single byte = tt
 at_end (Sequence bytes) byte = or_first _ _
 at_end Overlong byte = tt
+at_end Console byte = tt
+
+-- the end of a sequence: where both readers end it
+ended : (p : Pending) (byte : ℕ) (items : List Item) → ReadOn items
+    → Turns (Byte byte ∷ []) [] items (ends_as (key_at_end false p byte))
+    (ends_as (key_at_end true p byte))
+ended p byte items rest =
+    same (Byte byte) items (key_at_end false p byte) (key_at_end true p byte) _ _ (at_end p byte)
+    rest.none
+
+-- and where it may be a second bracket
+bracketed : (byte : ℕ) (items : List Item) → ReadOn items
+    → Turns (Byte byte ∷ []) [] items (turn_at_end false (Sequence []) byte)
+    (turn_at_end true (Sequence []) byte)
+unfolding key_of_sequence plain_sequence
+bracketed byte items rest =
+    elim (cases_eq byte bracket) [
+      | inl is ↦ rw is rest.console
+      | inr other ↦ rw (ne_eqb byte bracket other) (ended (Sequence []) byte items rest)
+    ]
+
+at_last : (p : Pending) (byte : ℕ) (items : List Item) → ReadOn items
+    → Turns (Byte byte ∷ []) [] items (turn_at_end false p byte) (turn_at_end true p byte)
+at_last Nothing byte items rest = ended Nothing byte items rest
+at_last Lone byte items rest = ended Lone byte items rest
+at_last Single byte items rest = ended Single byte items rest
+at_last (Sequence []) byte items rest = bracketed byte items rest
+at_last (Sequence (b ∷ bytes)) byte items rest = ended (Sequence (b ∷ bytes)) byte items rest
+at_last Overlong byte items rest = ended Overlong byte items rest
+at_last Console byte items rest = ended Console byte items rest
 
 inside : (p : Pending) (byte : ℕ) (items : List Item) → ReadOn items
     → Read (pending_with p byte) items
@@ -86,9 +122,7 @@ inside : (p : Pending) (byte : ℕ) (items : List Item) → ReadOn items
 inside p byte items rest collected =
     either (Byte byte ∷ []) items (is_collected byte) _ _ _ _
     (λ _. same (Byte byte) items None None _ _ tt collected)
-    (either (Byte byte ∷ []) items (is_last byte) _ _ _ _
-    (λ _. same (Byte byte) items (key_at_end false p byte) (key_at_end true p byte) _ _
-    (at_end p byte) rest.none)
+    (either (Byte byte ∷ []) items (is_last byte) _ _ _ _ (λ _. at_last p byte items rest)
     (outside byte items rest))
 
 -- whether one byte more fits or not
@@ -161,6 +195,25 @@ after_o byte items rest = test (single_key byte) refl
         let letter = letters byte k is in
         rw (shifted byte letter.0 letter.1) (lacks byte items k _ _ is rest.none)
 
+-- ---- a byte after two brackets
+
+console_letters : (byte : ℕ) (k : Option Key) → console_key byte ≡ Some k
+    → (65 ≤ byte) × (byte ≤ 83)
+console_letters byte k is = grind (arith, nat_tests)
+
+in_console : (byte : ℕ) (items : List Item) → ReadOn items
+    → Turns (Byte bracket ∷ Byte byte ∷ []) [] items (turn_outside false byte)
+    (turn_in_console true byte)
+in_console byte items rest = test (console_key byte) refl
+  where
+    test : (o : Option (Option Key)) → console_key byte ≡ o
+        → Turns (Byte bracket ∷ Byte byte ∷ []) [] items (turn_outside false byte)
+        (option_map_or ends_as o (turn_outside true byte))
+    test None is = same (Byte bracket) (Byte byte ∷ items) None None _ _ tt (outside byte items rest)
+    test (Some k) is =
+        let letter = console_letters byte k is in
+        rw (shifted byte letter.0 letter.1) (turns byte items k _ _ is rest.none)
+
 -- ---- all items
 
 read_byte : (byte : ℕ) (items : List Item) → ReadOn items → ReadOn (Byte byte ∷ items)
@@ -171,6 +224,7 @@ read_byte byte items rest = record {
   overlong = inside Overlong byte items rest rest.overlong;
   lone = after_escape byte items rest;
   single = after_o byte items rest;
+  console = in_console byte items rest;
 }
 
 read_due : (items : List Item) → ReadOn items → ReadOn (Due ∷ items)
@@ -185,6 +239,9 @@ read_due items rest = record {
   single =
       adds (Byte letter_o ∷ Due ∷ items) _ _
       (glyph_o (Due ∷ items) _ _ (same Due items None None _ _ tt rest.none));
+  console =
+      same (Byte bracket) (Due ∷ items) None None _ _ tt
+      (same Due items None None _ _ tt rest.none);
 }
 
 read_on : (items : List Item) → ReadOn items
@@ -195,6 +252,7 @@ read_on [] = record {
   overlong = over;
   lone = same (Byte escape) [] None None [] [] tt over;
   single = holds;
+  console = same (Byte bracket) [] None None [] [] tt over;
 }
 read_on (Byte byte ∷ items) = read_byte byte items (read_on items)
 read_on (Due ∷ items) = read_due items (read_on items)

@@ -4,6 +4,7 @@ use Rattle.std.specs.Prelude.{◌≡◌, ℕ, false, true, Some, None, refl}
 use Rattle.orca_base.specs.declared.area.Rect.{Rect}
 use Rattle.orca_base.specs.declared.command.Command.TheVariants as command
 use Rattle.orca_term.specs.Editing.{editor_after, wish_of}
+use Rattle.orca_term.specs.Pasting.{new_flow}
 use Rattle.orca_term.specs.declared.around.Around.{Around}
 use Rattle.orca_term.specs.declared.editor.Editor.{Editor}
 use Rattle.orca_term.specs.declared.editor.Wish.{Wish}
@@ -20,6 +21,7 @@ around h w rows columns = record {
   moments = 9;
   glyph = 68;
   screen = record { rows = rows; columns = columns };
+  own = Some 5;
 }
 
 abbrev plain : Around
@@ -37,6 +39,8 @@ at y x h w = record {
   guide = true;
   anchor = record { y = 0; x = 0 };
   flow = None;
+  page = 0;
+  traffic = false;
 }
 
 -- the same while typing goes on
@@ -199,3 +203,55 @@ all_between = refl
 escape_between : pressed key.Escape (anchored 5 10 (at 2 10 4 5))
     ≡ (wish.Nothing, anchored 5 10 (at 2 10 1 1))
 escape_between = refl
+
+-- ---- what is taken back, and what is shown
+
+take_back : pressed key.Retract (at 2 3 2 4) ≡ (wish.Do (command.Retract 5), at 2 3 2 4)
+take_back = refl
+
+-- the session refuses it
+nothing_to_take_back : wish_of key.Retract (record plain { own = None }) (at 2 3 2 4)
+    ≡ wish.Do (command.Retract 9)
+nothing_to_take_back = refl
+
+hush : pressed key.Hush (at 2 3 2 4) ≡ (wish.Do command.Hush, at 2 3 2 4)
+hush = refl
+
+traffic : pressed key.Traffic (at 2 3 2 4)
+    ≡ (wish.Nothing, record (at 2 3 2 4) { traffic = true })
+traffic = refl
+
+-- the same on a page of help
+abbrev on_page : ℕ → Editor → Editor
+on_page page e = record e { page = page }
+
+first_page : pressed key.Help (at 2 3 2 4) ≡ (wish.Nothing, on_page 1 (at 2 3 2 4))
+first_page = refl
+
+second_page_of_help : pressed key.Help (on_page 1 (at 2 3 2 4))
+    ≡ (wish.Nothing, on_page 2 (at 2 3 2 4))
+second_page_of_help = refl
+
+last_page : pressed key.Help (on_page 2 (at 2 3 2 4)) ≡ (wish.Nothing, at 2 3 2 4)
+last_page = refl
+
+-- a key does what it does, and closes the page
+typed_on_a_page : pressed (key.Glyph 68) (on_page 1 (at 4 54 2 3))
+    ≡ (wish.Do (command.Write 4 54 68), at 4 54 2 3)
+typed_on_a_page = refl
+
+size_on_a_page : pressed (key.Screen 3 10) (on_page 1 (at 4 4 1 1))
+    ≡ (wish.Redraw (Some (record { rows = 3; columns = 10 })), on_page 1 (at 4 4 1 1))
+size_on_a_page = refl
+
+redraw_on_a_page : pressed key.Redraw (on_page 2 (at 4 4 1 1))
+    ≡ (wish.Redraw None, on_page 2 (at 4 4 1 1))
+redraw_on_a_page = refl
+
+text_on_a_page : editor_after key.PasteBegin plain (on_page 2 (at 4 4 1 1))
+    ≡ record (at 4 4 1 1) { flow = Some new_flow }
+text_on_a_page = refl
+
+help_in_a_text : editor_after key.Help plain (record (at 4 4 1 1) { flow = Some new_flow })
+    ≡ record (at 4 4 1 1) { flow = Some new_flow }
+help_in_a_text = refl

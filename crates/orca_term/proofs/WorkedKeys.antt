@@ -44,6 +44,18 @@ fill : FullAlone (bytes (11 ∷ [])) key.Fill
 unfolding worked
 fill = refl
 
+hush : FullAlone (bytes (5 ∷ [])) key.Hush
+unfolding worked
+hush = refl
+
+take_back : FullAlone (bytes (21 ∷ [])) key.Retract
+unfolding worked
+take_back = refl
+
+help_and_traffic : keys_of (bytes (16 ∷ 20 ∷ [])) ≡ ([], key.Help ∷ key.Traffic ∷ [])
+unfolding worked
+help_and_traffic = refl
+
 -- the ends of lines
 ends : keys_of (bytes (10 ∷ 13 ∷ [])) ≡ ([], key.Line ∷ key.Return ∷ [])
 unfolding worked
@@ -96,6 +108,18 @@ one_slower = refl
 ten_faster : FullAlone (sequence (codes "20~")) (key.Faster 10)
 unfolding worked
 ten_faster = refl
+
+help_by_number : FullAlone (sequence (codes "11~")) key.Help
+unfolding worked
+help_by_number = refl
+
+traffic_by_number : FullAlone (sequence (codes "012~")) key.Traffic
+unfolding worked
+traffic_by_number = refl
+
+no_help_with_shift : NoKey (sequence (codes "11;2~"))
+unfolding worked
+no_help_with_shift = refl
 
 no_tempo_with_control : NoKey (sequence (codes "19;5~"))
 unfolding worked
@@ -205,9 +229,13 @@ rub : after_escape (127 ∷ []) ≡ (key.Rub ∷ [], key.Escape ∷ key.Rub ∷ 
 unfolding worked
 rub = refl
 
-first_function_key : after_escape (codes "OP") ≡ (glyphs (codes "OP"), [])
+first_function_key : after_escape (codes "OP") ≡ (glyphs (codes "OP"), key.Help ∷ [])
 unfolding worked
 first_function_key = refl
+
+second_function_key : after_escape (codes "OQ") ≡ (glyphs (codes "OQ"), key.Traffic ∷ [])
+unfolding worked
+second_function_key = refl
 
 last_function_key : after_escape (codes "OS7") ≡ (glyphs (codes "OS7"), glyphs (codes "7"))
 unfolding worked
@@ -239,13 +267,45 @@ unfolding worked
 arrow_after_o = refl
 
 function_key_after_escape : after_escape (escape ∷ codes "OP")
-    ≡ (key.Escape ∷ glyphs (codes "OP"), key.Escape ∷ [])
+    ≡ (key.Escape ∷ glyphs (codes "OP"), key.Escape ∷ key.Help ∷ [])
 unfolding worked
 function_key_after_escape = refl
 
 quit : after_escape (17 ∷ []) ≡ (key.Quit ∷ [], key.Escape ∷ key.Quit ∷ [])
 unfolding worked
 quit = refl
+
+-- ---- the Linux console
+
+-- the letters after two brackets are keys of plain readers, and of full ones those of F1 to F5
+abbrev console : List ℕ → List Key × List Key
+console text = keys_of (sequence (codes "[" ++ text))
+
+first_of_the_console : console (codes "A") ≡ (glyphs (codes "A"), key.Help ∷ [])
+unfolding worked
+first_of_the_console = refl
+
+second_of_the_console : console (codes "B") ≡ (glyphs (codes "B"), key.Traffic ∷ [])
+unfolding worked
+second_of_the_console = refl
+
+others_of_the_console : console (codes "C") ≡ (glyphs (codes "C"), [])
+unfolding worked
+others_of_the_console = refl
+
+read_anew : console (codes "x") ≡ (glyphs (codes "x"), glyphs (codes "x"))
+unfolding worked
+read_anew = refl
+
+-- nothing came for a while
+ended_by_a_while : keys_of (sequence (codes "[") ++ Due ∷ bytes (codes "A"))
+    ≡ (glyphs (codes "A"), glyphs (codes "A"))
+unfolding worked
+ended_by_a_while = refl
+
+third_bracket : console (codes "[A") ≡ (glyphs (codes "[A"), glyphs (codes "[A"))
+unfolding worked
+third_bracket = refl
 
 -- ---- what stays
 

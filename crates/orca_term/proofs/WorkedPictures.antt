@@ -1,16 +1,19 @@
 -- The status line, the ruler and the styles, computed by the definitions.
-use Rattle.std.specs.Prelude.{◌≡◌, ℕ, Bool, false, true, Some, None, List, [], ◌∷◌, ◌++◌, codes, replicate, refl}
+use Rattle.std.specs.Prelude.{◌≡◌, ℕ, Bool, false, true, Some, None, List, [], ◌∷◌, ◌++◌, codes, drop, map, replicate, slice_index_or, refl}
 use Rattle.std.specs.Fmt.{decimal}
-use Rattle.orca_base.specs.Glyphs.{empty, is_operator}
+use Rattle.orca_base.specs.Glyphs.{empty, from_value, is_operator}
 use Rattle.orca_base.specs.MarkSet.{MarkSet, no_marks}
 use Rattle.orca_term.specs.Came.{came_word}
 use Rattle.orca_term.specs.Pasting.{new_flow}
-use Rattle.orca_term.specs.Picture.{Scene, byte_at, cell_of, glyph_under, grid_cell, loss_words, status_line_text, style_at, style_by, tempo_word}
+use Rattle.orca_term.specs.Picture.{Scene, blank_cell, byte_at, glyph_under, grid_cell, grid_row, plain, status_cells, status_front, style_at, style_by, styled, tells_sent, tempo_word, upper_rows, warning_cells, word_style}
+use Rattle.orca_term.specs.Traffic.{FrameSent, message_words, nothing_sent, sent_after, sent_text, words_of}
 use Rattle.orca_term.specs.Words.{glyph_words}
 use Rattle.orca_base.specs.declared.command.Rule.TheVariants.{EmptyClip}
+use Rattle.orca_base.specs.declared.message.Message.TheVariants.{On, Off, Control, Bend, Udp, Osc}
 use Rattle.orca_base.specs.declared.place.Place.{Place}
 use Rattle.orca_term.specs.declared.came.Came.TheVariants.{Well, Refused, Denied, Kept}
 use Rattle.orca_term.specs.declared.came.HandRule.TheVariants.{LeaderOnly, NotYours}
+use Rattle.orca_term.specs.declared.cell.Cell.{Cell}
 use Rattle.orca_term.specs.declared.editor.Editor.{Editor}
 use Rattle.orca_term.specs.declared.status.StatusLine.{StatusLine}
 
@@ -26,6 +29,8 @@ editor append guide = record {
   guide = guide;
   anchor = record { y = 3; x = 3 };
   flow = None;
+  page = 0;
+  traffic = false;
 }
 
 -- a line where all is well
@@ -39,7 +44,9 @@ line tick = record {
   no_udp = false;
   no_osc = false;
   no_journal = false;
+  away = 0;
   unsaved = false;
+  warns = true;
   came = Well;
 }
 
@@ -58,35 +65,54 @@ before_the_first = refl
 
 -- ---- what keys came to
 
--- what is lost, and what the last key came to
-abbrev told : StatusLine → List ℕ
-told line = loss_words line ++ came_word line.unsaved line.came
+-- the warnings, and what the last key came to
+abbrev told : StatusLine → List Cell
+told line =
+    warning_cells line ++ styled (word_style line) (came_word line.unsaved line.came)
 
-all_is_well : told (line 1) ≡ codes "ok"
+-- a word as it is told, and one that warns
+abbrev white : List ℕ → List Cell
+white text = styled plain text
+
+abbrev red : List ℕ → List Cell
+red text = styled 91 text
+
+all_is_well : told (line 1) ≡ white (codes "ok")
 all_is_well = refl
 
-saved : told (record (line 1) { came = Kept }) ≡ codes "saved"
+saved : told (record (line 1) { came = Kept }) ≡ white (codes "saved")
 saved = refl
 
 -- a save that failed is told where else all were well, and `saved` is told of none that failed
-unsaved : told (record (line 1) { unsaved = true }) ≡ codes "unsaved"
+unsaved : told (record (line 1) { unsaved = true }) ≡ red (codes "unsaved")
 unsaved = refl
 
-not_saved : told (record (line 1) { unsaved = true; came = Kept }) ≡ codes "unsaved"
+not_saved : told (record (line 1) { unsaved = true; came = Kept }) ≡ red (codes "unsaved")
 not_saved = refl
 
-refused : told (record (line 1) { unsaved = true; came = Refused EmptyClip }) ≡ codes "EmptyClip"
+refused : told (record (line 1) { unsaved = true; came = Refused EmptyClip })
+    ≡ red (codes "EmptyClip")
 refused = refl
 
 denied : told (record (line 1) { came = Denied LeaderOnly })
-    ++ told (record (line 1) { came = Denied NotYours }) ≡ codes "LeaderOnlyNotYours"
+    ++ told (record (line 1) { came = Denied NotYours }) ≡ red (codes "LeaderOnlyNotYours")
 denied = refl
 
-lost_port : told (record (line 1) { no_udp = true }) ≡ codes "no udp ok"
+-- with plain keys no word is red
+refused_by_plain_keys : told (record (line 1) { warns = false; came = Refused EmptyClip })
+    ≡ white (codes "EmptyClip")
+refused_by_plain_keys = refl
+
+lost_port : told (record (line 1) { no_udp = true }) ≡ red (codes "no udp") ++ white (codes " ok")
 lost_port = refl
 
+two_are_away : told (record (line 1) { no_midi = true; away = 2 })
+    ≡ red (codes "no midi") ++ white (codes " ")
+    ++ (red (decimal 2 ++ codes " away") ++ white (codes " ")) ++ white (codes "ok")
+two_are_away = refl
+
 -- what is lost stands between the editor's words and the last key's
-all_is_lost : status_line_text (record (editor true true) { flow = Some new_flow }) 68
+all_is_lost : status_cells (record (editor true true) { flow = Some new_flow }) 68
     (record (line 1) {
       no_midi = true;
       no_udp = true;
@@ -94,12 +120,14 @@ all_is_lost : status_line_text (record (editor true true) { flow = Some new_flow
       no_journal = true;
       came = Kept;
     })
-    ≡ decimal 1 ++ codes " " ++ decimal 5 ++ codes " " ++ decimal 0 ++ codes " "
+    ≡ white (decimal 1 ++ codes " " ++ decimal 5 ++ codes " " ++ decimal 0 ++ codes " "
     ++ decimal 3 ++ codes "," ++ decimal 3 ++ codes " " ++ decimal 1 ++ codes "x" ++ decimal 1
     ++ codes " " ++ codes "play" ++ (codes " " ++ tempo_word (line 1)) ++ codes " append"
-    ++ codes " paste" ++ codes " " ++ codes "no midi no udp no osc no journal " ++ codes "saved"
-    ++ codes " D delay"
-unfolding status_line_text
+    ++ codes " paste" ++ codes " ")
+    ++ (red (codes "no midi") ++ white (codes " ") ++ red (codes "no udp") ++ white (codes " ")
+    ++ red (codes "no osc") ++ white (codes " ") ++ red (codes "no journal") ++ white (codes " "))
+    ++ white (codes "saved") ++ white (codes " D delay")
+unfolding status_cells status_front
 all_is_lost = refl
 
 -- ---- the operator in words
@@ -118,9 +146,9 @@ signs = refl
 no_operators : glyph_words 51 ++ glyph_words 46 ++ glyph_words 64 ≡ []
 no_operators = refl
 
-without_words : status_line_text (editor false false) 68 (line 1)
-    ≡ status_line_text (editor false false) 46 (line 1)
-unfolding status_line_text
+without_words : status_cells (editor false false) 68 (line 1)
+    ≡ status_cells (editor false false) 46 (line 1)
+unfolding status_cells
 without_words = refl
 
 -- ---- the ruler
@@ -265,7 +293,66 @@ in_the_column = refl
 
 -- a cursor above the window is not shown in its first row
 above_the_window :
-    cell_of (record { rows = 3; columns = 17 }) (record (scene true) { others = place 0 3 ∷ [] }) []
-    0 3 ≡ record { byte = 46; style = 2 }
-unfolding cell_of grid_cell
+    slice_index_or
+    (grid_row (record { rows = 3; columns = 17 }) (record (scene true) { others = place 0 3 ∷ [] }) 0)
+    3 blank_cell ≡ record { byte = 46; style = 2 }
+unfolding grid_cell
 above_the_window = refl
+
+-- ---- pages of help, and what was sent
+
+-- the bytes that a screen of 3 rows and 8 columns shows above its status line, where this was sent
+abbrev upper : Editor → FrameSent → List ℕ
+upper e sent =
+    map (λ (cell : Cell). cell.byte)
+    (upper_rows (record { rows = 3; columns = 8 }) (record (scene true) { editor = e }) sent)
+
+abbrev note : FrameSent
+note = record { tick = 1; messages = On 0 60 127 ∷ [] }
+
+-- the second row of each page is empty
+keys : upper (record (editor false true) { page = 1 }) note ≡ codes "KEYS            "
+unfolding upper_rows
+keys = refl
+
+operators : upper (record (editor false true) { page = 2; traffic = true }) note
+    ≡ codes "OPERATOR        "
+unfolding upper_rows
+operators = refl
+
+-- what was sent, in words
+told_in_words : sent_text note ≡ decimal 1 ++ codes ":" ++ codes " :05C"
+unfolding message_words from_value
+told_in_words = refl
+
+-- a screen of two rows keeps the one of its grid
+few_rows : tells_sent (record { rows = 2; columns = 8 }) (record (editor false true) { traffic = true })
+    ≡ false
+few_rows = refl
+
+before_any_frame : drop 8 (upper (record (editor false true) { traffic = true }) nothing_sent)
+    ≡ codes "        "
+unfolding upper_rows
+before_any_frame = refl
+
+words : words_of (On 0 60 127 ∷ On 15 13 127 ∷ Udp (codes "hi") ∷ Osc 97 (1 ∷ 2 ∷ []) ∷ [])
+    ≡ codes " :05C :f1c ;hi =a12"
+unfolding message_words from_value
+words = refl
+
+control_change : message_words (Control 0 7 100)
+    ≡ codes "!0 " ++ decimal 7 ++ codes "=" ++ decimal 100
+unfolding message_words from_value
+control_change = refl
+
+pitch_bend : message_words (Bend 0 0 64) ≡ codes "?0=" ++ decimal 8192
+unfolding message_words from_value
+pitch_bend = refl
+
+-- the ends of notes are left out, and a frame of these alone changes nothing
+without_ends : sent_after 3 (Off 0 60 ∷ On 0 62 127 ∷ Off 0 64 ∷ []) note
+    ≡ record { tick = 3; messages = On 0 62 127 ∷ [] }
+without_ends = refl
+
+ends_alone : sent_after 3 (Off 0 60 ∷ []) note ≡ note
+ends_alone = refl

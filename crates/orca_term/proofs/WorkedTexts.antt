@@ -21,6 +21,7 @@ plain = record {
   moments = 9;
   glyph = 68;
   screen = record { rows = 24; columns = 80 };
+  own = None;
 }
 
 -- the editor on row 2 and column 3, with a selection of 2 x 2

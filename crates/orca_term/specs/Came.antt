@@ -1,5 +1,5 @@
 -- What keys came to, in words.
-use Rattle.std.specs.Prelude.{ℕ, Bool, if◌then◌else◌, Option, Some, None, List, codes}
+use Rattle.std.specs.Prelude.{ℕ, Bool, true, if◌then◌else◌, Option, Some, None, List, codes}
 use Rattle.orca_base.specs.RuleNames.{rule_name}
 use Rattle.orca_base.specs.declared.command.Rule.{Rule}
 use Rattle.orca_term.specs.declared.came.Came.{Came}
@@ -27,3 +27,9 @@ came_word unsaved Well = unless_unsaved unsaved (codes "ok")
 came_word unsaved (Refused rule) = rule_name rule
 came_word unsaved (Denied rule) = hand_rule_name rule
 came_word unsaved Kept = unless_unsaved unsaved (codes "saved")
+
+-- whether the word warns
+abbrev pub is_warning : Bool → Came → Bool
+is_warning unsaved Well = unsaved
+is_warning unsaved Kept = unsaved
+is_warning unsaved _ = true

@@ -1,5 +1,5 @@
 -- The editor: a cursor, and a selection that reaches from it downwards and to the right.
-use Rattle.std.specs.Prelude.{ℕ, ◌+◌, ◌-◌, ◌*◌, ◌/◌, Bool, false, not, ◌&&◌, ◌==◌, max, min, if◌then◌else◌, Some, None}
+use Rattle.std.specs.Prelude.{ℕ, ◌+◌, ◌-◌, ◌*◌, ◌/◌, Bool, false, not, ◌&&◌, ◌==◌, max, min, nat_lt, if◌then◌else◌, Some, None, is_some, unwrap_or}
 use Rattle.std.specs.Option.{option_map_or}
 use Rattle.orca_base.specs.declared.area.Area.{Area}
 use Rattle.orca_base.specs.declared.area.Rect.{Rect}
@@ -13,6 +13,7 @@ use Rattle.orca_term.specs.declared.cell.ScreenSize.{ScreenSize}
 use Rattle.orca_term.specs.declared.editor.Wish.{Wish}
 use Rattle.orca_term.specs.declared.editor.Wish.TheVariants as wish
 use Rattle.orca_term.specs.declared.editor.Editor.{Editor}
+use Rattle.orca_term.specs.declared.limits.TheConstants.{HELP_PAGES}
 use Rattle.orca_term.specs.declared.keys.Deed.TheVariants.{Move, Stretch, Slide, Grow}
 use Rattle.orca_term.specs.declared.keys.Key.{Key}
 use Rattle.orca_term.specs.declared.keys.Key.TheVariants as key
@@ -31,6 +32,8 @@ new_editor full = record {
   guide = full;
   anchor = record { y = 0; x = 0 };
   flow = None;
+  page = 0;
+  traffic = false;
 }
 
 -- the selection
@@ -130,6 +133,7 @@ edited key.Escape a e = record e { h = 1; w = 1; append = false }
 edited key.Append a e = record e { append = not e.append }
 edited key.Guide a e = record e { guide = not e.guide }
 edited key.Pause a e = record e { paused = not e.paused }
+edited key.Traffic a e = record e { traffic = not e.traffic }
 edited (key.Press row column) a e = pressed (pointed a e row column) e
 edited (key.Drag row column) a e =
     spanned (place_inside a.dims e.anchor) (pointed a e row column) e
@@ -152,6 +156,8 @@ wished key.Cut a e = wish.Do (command.Cut (selection_rect e))
 wished key.Paste a e = wish.Do (command.Paste e.y e.x)
 wished key.Undo a e = wish.Do command.Undo
 wished key.Redo a e = wish.Do command.Redo
+wished key.Retract a e = wish.Do (command.Retract (unwrap_or a.own a.moments))
+wished key.Hush a e = wish.Do command.Hush
 wished key.Reset a e = wish.Do command.Reset
 wished key.Step a e = wish.Do command.Frame
 wished key.Back a e = wish.Do (command.Rewind (a.moments - BACK_MOMENTS))
@@ -165,10 +171,30 @@ wished (key.Screen rows columns) a e =
     wish.Redraw (Some (record { rows = rows; columns = columns }))
 wished _ a e = wish.Nothing
 
+-- the page of help after the one of a number; after the last one none is shown
+abbrev pub next_page : ℕ → ℕ
+next_page page = if nat_lt page HELP_PAGES then page + 1 else 0
+
+-- the page after a key, where a text is read or not: Help turns to the next one outside a text, the
+-- size of the terminal and Redraw leave it, and any other key closes it
+abbrev pub page_after : Key → Bool → ℕ → ℕ
+page_after key.Help text page = if text then page else next_page page
+page_after (key.Screen rows columns) text page = page
+page_after key.Redraw text page = page
+page_after _ text page = 0
+
+-- what a key makes of the page, also one that is denied
+abbrev pub turned_page : Key → Editor → Editor
+turned_page key e = record e { page = page_after key (is_some e.flow) e.page }
+
+-- what it makes of all else
+abbrev pub written : Key → Around → Editor → Editor
+written key.PasteBegin a e = record e { flow = Some new_flow }
+written key a e = option_map_or (λ f. flowed key f e) e.flow (edited key a e)
+
 -- what a key makes of the editor
 abbrev pub editor_after : Key → Around → Editor → Editor
-editor_after key.PasteBegin a e = record e { flow = Some new_flow }
-editor_after key a e = option_map_or (λ f. flowed key f e) e.flow (edited key a e)
+editor_after key a e = record (written key a e) { page = (turned_page key e).page }
 
 -- what a key asks for
 abbrev pub wish_of : Key → Around → Editor → Wish

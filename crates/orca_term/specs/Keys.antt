@@ -14,7 +14,7 @@ use Rattle.orca_term.specs.declared.keys.Deed.TheVariants.{Move, Stretch, Slide,
 use Rattle.orca_term.specs.declared.keys.Key.{Key}
 use Rattle.orca_term.specs.declared.keys.Key.TheVariants as key
 use Rattle.orca_term.specs.declared.keys.Pending.{Pending}
-use Rattle.orca_term.specs.declared.keys.Pending.TheVariants.{Nothing, Lone, Single, Sequence, Overlong}
+use Rattle.orca_term.specs.declared.keys.Pending.TheVariants.{Nothing, Lone, Single, Sequence, Overlong, Console}
 use Rattle.orca_term.specs.declared.keys.Side.{Side}
 use Rattle.orca_term.specs.declared.keys.Side.TheVariants.{Up, Down, Left, Right}
 use Rattle.orca_term.specs.declared.keys.Turn.{Turn}
@@ -46,8 +46,9 @@ plain_key byte = if is_glyph byte then Some (key.Glyph byte) else found_in lone_
 -- the keys of single bytes that full keys add
 abbrev pub further_keys : List (ℕ × Key)
 further_keys =
-    (1, key.All) ∷ (7, key.Guide) ∷ (9, key.Append) ∷ (10, key.Line) ∷ (11, key.Fill)
-    ∷ (12, key.Redraw) ∷ (13, key.Return) ∷ (21, key.Undo) ∷ []
+    (1, key.All) ∷ (5, key.Hush) ∷ (7, key.Guide) ∷ (9, key.Append) ∷ (10, key.Line)
+    ∷ (11, key.Fill) ∷ (12, key.Redraw) ∷ (13, key.Return) ∷ (16, key.Help) ∷ (20, key.Traffic)
+    ∷ (21, key.Retract) ∷ []
 
 -- the key of a byte that belongs to no sequence
 unfoldable pub key_of : Bool → ℕ → Option Key
@@ -127,9 +128,9 @@ numbers_in bytes = numbers_from no_digits bytes
 -- the keys that have a number before `~`
 abbrev pub numbered_keys : List (ℕ × Key)
 numbered_keys =
-    (2, key.Append) ∷ (3, key.Erase) ∷ (17, key.Slower FAR_BEATS) ∷ (18, key.Slower 1)
-    ∷ (19, key.Faster 1) ∷ (20, key.Faster FAR_BEATS) ∷ (200, key.PasteBegin)
-    ∷ (201, key.PasteEnd) ∷ []
+    (2, key.Append) ∷ (3, key.Erase) ∷ (11, key.Help) ∷ (12, key.Traffic)
+    ∷ (17, key.Slower FAR_BEATS) ∷ (18, key.Slower 1) ∷ (19, key.Faster 1)
+    ∷ (20, key.Faster FAR_BEATS) ∷ (200, key.PasteBegin) ∷ (201, key.PasteEnd) ∷ []
 
 -- the arrow of a last byte, and of a number before `~`
 abbrev pub ended_key : ℕ → ℕ → Option Key
@@ -185,17 +186,29 @@ key_of_sequence full bytes last =
     option_or (plain_sequence bytes last)
     (if full then further_sequence bytes last else None)
 
--- ---- single shifts
+-- ---- single shifts, and F1 to F5 of the Linux console
 
 -- the last bytes of F1 to F4: `P` to `S`
 abbrev pub is_function : ℕ → Bool
 is_function byte = nat_le 80 byte && nat_le byte 83
 
--- what ESC, `O` and this letter are: no key where it is that of F1 to F4, and the arrow, Home or
--- End of ESC [ and the letter
+-- the keys of the first two; the others are none
+abbrev pub function_keys : List (ℕ × Key)
+function_keys = (80, key.Help) ∷ (81, key.Traffic) ∷ []
+
+-- what ESC, `O` and this letter are: F1 to F4, or the arrow, Home or End of ESC [ and the letter
 abbrev pub single_key : ℕ → Option (Option Key)
 single_key byte =
-    if is_function byte then Some None else option_map (λ k. Some k) (ended_key byte 1)
+    if is_function byte then Some (found_in function_keys byte)
+    else option_map (λ k. Some k) (ended_key byte 1)
+
+-- what ESC, two brackets and this letter are: F1 to F5, of which the first two are keys
+abbrev pub console_keys : List (ℕ × Key)
+console_keys = (65, key.Help) ∷ (66, key.Traffic) ∷ []
+
+abbrev pub console_key : ℕ → Option (Option Key)
+console_key byte =
+    if nat_le 65 byte && nat_le byte 69 then Some (found_in console_keys byte) else None
 
 -- what ESC and `O` are where no such letter follows
 abbrev pub escape_and_o : List Key
@@ -258,22 +271,38 @@ abbrev pub turn_after_o : Bool → ℕ → Turn
 turn_after_o full byte =
     option_map_or ends_as (single_key byte) (after escape_and_o (turn_outside full byte))
 
+-- a second bracket right after the first one, with full keys
+abbrev pub opens_console : Bool → Pending → ℕ → Bool
+opens_console true (Sequence []) byte = byte == bracket
+opens_console _ _ byte = false
+
+-- the end of a sequence; after a second bracket a letter of the console is waited for
+abbrev pub turn_at_end : Bool → Pending → ℕ → Turn
+turn_at_end full p byte =
+    if opens_console full p byte then awaits Console else ends_as (key_at_end full p byte)
+
 -- a byte of a sequence: it is collected, or ends the sequence, or drops it and is read anew
 abbrev pub turn_inside : Bool → Pending → ℕ → Turn
 turn_inside full p byte =
     if is_collected byte then awaits (pending_with p byte)
-    else (if is_last byte then ends_as (key_at_end full p byte) else turn_outside full byte)
+    else (if is_last byte then turn_at_end full p byte else turn_outside full byte)
+
+-- a byte after two brackets: a letter of the console, or it is read anew
+abbrev pub turn_in_console : Bool → ℕ → Turn
+turn_in_console full byte = option_map_or ends_as (console_key byte) (turn_outside full byte)
 
 -- what an item gives, with full keys or with plain ones, and what is pending after it. With plain
--- keys there are no single shifts
+-- keys there are no single shifts, and no keys of the console
 unfoldable pub turn : Bool → Pending → Item → Turn
 turn full Nothing (Byte byte) = turn_outside full byte
 turn full Lone (Byte byte) = turn_after_escape full byte
 turn full Single (Byte byte) = turn_after_o full byte
 turn full (Sequence bytes) (Byte byte) = turn_inside full (Sequence bytes) byte
 turn full Overlong (Byte byte) = turn_inside full Overlong byte
+turn full Console (Byte byte) = turn_in_console full byte
 turn full Lone Due = ends_as (Some key.Escape)
 turn full Single Due = record { keys = escape_and_o; pending = Nothing }
+turn full Console Due = ends_as None
 turn full p Due = awaits p
 
 -- the keys of these items, where something is pending before them
@@ -286,7 +315,7 @@ keys_from full p (item ∷ items) =
 
 -- items, the plain keys of them, and the full ones. Each plain key is the same full key, in the
 -- same order, but for those after an ESC: there full keys may have an Escape more, and lack an `O`
--- and the letter after it
+-- and the letter after it, or the letter after two brackets
 pub data Extends : List Item → List Key → List Key → Type 0 where
   over : Extends [] [] []
   -- where an item gives a plain key, that is the full one
@@ -301,5 +330,10 @@ pub data Extends : List Item → List Key → List Key → Type 0 where
       → single_key letter ≡ Some k → Extends items plain full
       → Extends (Byte escape ∷ Byte letter_o ∷ Byte letter ∷ items)
       (key.Glyph letter_o ∷ key.Glyph letter ∷ plain) (option_to_list k ++ full)
+  -- after a bracket that ends a sequence a letter gives a key of the console in its place
+  turns : (letter : ℕ) (items : List Item) (k : Option Key) (plain full : List Key)
+      → console_key letter ≡ Some k → Extends items plain full
+      → Extends (Byte bracket ∷ Byte letter ∷ items) (key.Glyph letter ∷ plain)
+      (option_to_list k ++ full)
   -- an `O` waits for the letter after it
   holds : Extends (Byte escape ∷ Byte letter_o ∷ []) (key.Glyph letter_o ∷ []) []

@@ -2,6 +2,7 @@ pub mod Came
 pub mod Codes
 pub mod Editing
 pub mod Forms
+pub mod Help
 pub mod Keys
 pub mod Lending
 pub mod Pacing
@@ -9,5 +10,6 @@ pub mod Painting
 pub mod Pasting
 pub mod Picture
 pub mod Terminal
+pub mod Traffic
 pub mod Viewing
 pub mod Words

@@ -1,6 +1,7 @@
 -- The picture: of each cell of the screen its byte and its style. The last row is the status line,
--- and the others are a window on the grid. Styles are those of ECMA-48, select graphic rendition.
-use Rattle.std.specs.Prelude.{ℕ, ◌+◌, ◌*◌, ◌/◌, ◌%◌, ◌≤◌, ◌==◌, Bool, true, false, ◌&&◌, ◌||◌, if◌then◌else◌, List, [], ◌++◌, map, codes, max, min, slice_index_or}
+-- and the others are a window on the grid, or a page of help. Styles are those of ECMA-48, select
+-- graphic rendition.
+use Rattle.std.specs.Prelude.{ℕ, zero, suc, ◌+◌, ◌-◌, ◌*◌, ◌%◌, ◌≤◌, ◌==◌, Bool, true, false, ◌&&◌, ◌||◌, if◌then◌else◌, List, [], ◌∷◌, ◌++◌, map, codes, max, min, nat_le, nat_lt, slice_index_or}
 use Rattle.std.specs.Fmt.{decimal}
 use Rattle.std.specs.List.{list_any, range_with_len}
 use Rattle.std.specs.Option.{is_some}
@@ -11,14 +12,16 @@ use Rattle.orca_base.specs.Grids.{Sheet, is_inside, is_place, index_of, glyph_at
 use Rattle.orca_base.specs.MarkSet.{MarkSet, no_marks}
 use Rattle.orca_base.specs.declared.limits.TheConstants.{BEAT_FRAMES, MIN_SCREEN_ROWS, MAX_SCREEN_ROWS, MIN_SCREEN_COLUMNS, MAX_SCREEN_COLUMNS}
 use Rattle.orca_base.specs.declared.place.Place.{Place}
-use Rattle.orca_term.specs.Came.{came_word}
+use Rattle.orca_term.specs.Came.{came_word, is_warning}
 use Rattle.orca_term.specs.Codes.{hash_sign, plus}
 use Rattle.orca_term.specs.Editing.{area_of, window_place}
+use Rattle.orca_term.specs.Help.{page_line}
+use Rattle.orca_term.specs.Traffic.{FrameSent, sent_text}
 use Rattle.orca_term.specs.Words.{glyph_words}
 use Rattle.orca_term.specs.declared.cell.Cell.{Cell}
 use Rattle.orca_term.specs.declared.cell.ScreenSize.{ScreenSize}
 use Rattle.orca_term.specs.declared.editor.Editor.{Editor}
-use Rattle.orca_term.specs.declared.limits.TheConstants.{MAX_STYLE, RULER_PLACES}
+use Rattle.orca_term.specs.declared.limits.TheConstants.{MAX_STYLE, RULER_PLACES, TRAFFIC_ROWS}
 use Rattle.orca_term.specs.declared.overlay.Overlay.{Overlay}
 use Rattle.orca_term.specs.declared.status.StatusLine.{StatusLine}
 
@@ -158,13 +161,20 @@ abbrev pub state_word : Bool → List ℕ
 state_word true = codes "pause"
 state_word false = codes "play"
 
--- what is lost, with a space after each word
-abbrev pub loss_words : StatusLine → List ℕ
-loss_words line =
-    (if line.no_midi then codes "no midi " else [])
-    ++ (if line.no_udp then codes "no udp " else [])
-    ++ (if line.no_osc then codes "no osc " else [])
-    ++ (if line.no_journal then codes "no journal " else [])
+-- a text in a style
+abbrev pub styled : ℕ → List ℕ → List Cell
+styled style text = map (λ byte. record { byte = byte; style = style }) text
+
+-- a warning, where it holds, with a space after it
+abbrev pub warned : Bool → List ℕ → List Cell
+warned holds text = if holds then styled bright_red text ++ blank_cell ∷ [] else []
+
+-- what is lost, and how many hands are away
+abbrev pub warning_cells : StatusLine → List Cell
+warning_cells line =
+    warned line.no_midi (codes "no midi") ++ warned line.no_udp (codes "no udp")
+    ++ warned line.no_osc (codes "no osc") ++ warned line.no_journal (codes "no journal")
+    ++ warned (nat_lt 0 line.away) (decimal line.away ++ codes " away")
 
 -- the tempo, and whether the frame that was played last begins a beat
 abbrev pub tempo_word : StatusLine → List ℕ
@@ -178,10 +188,10 @@ glyph_under scene =
     let at : Place = record { y = scene.editor.y; x = scene.editor.x } in
     if is_inside scene.sheet.dims at then glyph_at scene.sheet at else empty
 
--- the text of the status line, with this glyph at the cursor: the guide adds the tempo and the
--- glyph in words, typing that goes on adds a word, and so do a text that is pasted and what is lost
-unfoldable pub status_line_text : Editor → ℕ → StatusLine → List ℕ
-status_line_text e glyph line =
+-- the text of the status line before the warnings: the guide adds the tempo, typing that goes on
+-- adds a word, and so does a text that is pasted
+unfoldable pub status_front : Editor → StatusLine → List ℕ
+status_front e line =
     decimal line.tick ++ codes " " ++ decimal line.moments ++ codes " " ++ decimal line.sounding
     ++ codes " " ++ decimal e.y ++ codes "," ++ decimal e.x
     ++ codes " " ++ decimal e.h ++ codes "x" ++ decimal e.w
@@ -189,26 +199,63 @@ status_line_text e glyph line =
     ++ (if e.guide then codes " " ++ tempo_word line else [])
     ++ (if e.append then codes " append" else [])
     ++ (if is_some e.flow then codes " paste" else []) ++ codes " "
-    ++ loss_words line ++ came_word line.unsaved line.came
-    ++ (if e.guide then glyph_words glyph else [])
 
--- the cell of a column of the status line: the text is cut at the last column, or filled with
--- spaces
-abbrev pub status_cell : List ℕ → ℕ → Cell
-status_cell text x = record { byte = slice_index_or text x space; style = plain }
+-- the style of the word that tells what the last key came to
+abbrev pub word_style : StatusLine → ℕ
+word_style line = if line.warns && is_warning line.unsaved line.came then bright_red else plain
 
--- the cell of a row and a column of the screen, whose status line has this text
-unfoldable pub cell_of : ScreenSize → Scene → List ℕ → ℕ → ℕ → Cell
-cell_of d scene text y x =
-    if y + 1 == d.rows then status_cell text x
-    else grid_cell scene (window_place d scene.editor y x)
+-- the cells of the status line, with this glyph at the cursor, which the guide tells in words
+unfoldable pub status_cells : Editor → ℕ → StatusLine → List Cell
+status_cells e glyph line =
+    styled plain (status_front e line) ++ warning_cells line
+    ++ styled (word_style line) (came_word line.unsaved line.came)
+    ++ styled plain (if e.guide then glyph_words glyph else [])
 
--- the same by its number in reading order
-abbrev pub cell_at : ScreenSize → Scene → List ℕ → ℕ → Cell
-cell_at d scene text n = cell_of d scene text (n / d.columns) (n % d.columns)
+-- ---- rows
+
+-- a row of cells, cut at the last column, or filled with spaces
+abbrev pub cut_row : ℕ → List Cell → List Cell
+cut_row columns cells = map (λ x. slice_index_or cells x blank_cell) (range_with_len 0 columns)
+
+-- a row with a text
+abbrev pub text_cell : List ℕ → ℕ → Cell
+text_cell text x = record { byte = slice_index_or text x space; style = plain }
+
+abbrev pub text_row : ℕ → List ℕ → List Cell
+text_row columns text = map (text_cell text) (range_with_len 0 columns)
+
+-- row y of the window
+abbrev pub grid_row : ScreenSize → Scene → ℕ → List Cell
+grid_row d scene y =
+    map (λ x. grid_cell scene (window_place d scene.editor y x)) (range_with_len 0 d.columns)
+
+-- whether the last row of the window tells what was sent
+abbrev pub tells_sent : ScreenSize → Editor → Bool
+tells_sent d e = e.traffic && nat_le TRAFFIC_ROWS d.rows
+
+-- row y of the piece: of the grid, or what was sent
+abbrev pub piece_row : ScreenSize → Scene → FrameSent → ℕ → List Cell
+piece_row d scene sent y =
+    if tells_sent d scene.editor && y + 2 == d.rows then text_row d.columns (sent_text sent)
+    else grid_row d scene y
+
+-- row y of a page of help
+abbrev pub page_row : ScreenSize → ℕ → ℕ → List Cell
+page_row d page y = text_row d.columns (page_line page y)
+
+-- the first rows, so many of them
+abbrev pub rows_of : (ℕ → List Cell) → ℕ → List Cell
+rows_of row zero = []
+rows_of row (suc y) = rows_of row y ++ row y
+
+-- the rows above the status line: of the piece, or of a page of help
+unfoldable pub upper_rows : ScreenSize → Scene → FrameSent → List Cell
+upper_rows d scene sent =
+    if scene.editor.page == 0 then rows_of (piece_row d scene sent) (d.rows - 1)
+    else rows_of (page_row d scene.editor.page) (d.rows - 1)
 
 -- the cells of the screen, in reading order
-unfoldable pub picture : ScreenSize → Scene → StatusLine → List Cell
-picture d scene line =
-    map (cell_at d scene (status_line_text scene.editor (glyph_under scene) line))
-    (range_with_len 0 (screen_cells d))
+unfoldable pub picture : ScreenSize → Scene → FrameSent → StatusLine → List Cell
+picture d scene sent line =
+    upper_rows d scene sent
+    ++ cut_row d.columns (status_cells scene.editor (glyph_under scene) line)

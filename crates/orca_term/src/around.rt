@@ -14,4 +14,6 @@ pub struct Around {
     pub glyph: Glyph,
     /// The size of the screen.
     pub screen: ScreenSize,
+    /// The number of the last edit of the hand itself that can be taken back, for the key that takes it back.
+    pub own: Option<u32>,
 }

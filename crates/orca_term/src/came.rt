@@ -2,7 +2,7 @@
 
 ghost use Rattle.std.specs.Prelude.{◌≡◌, ◌≤◌, length, All};
 ghost use Rattle.orca_base.specs.declared.limits.TheConstants.{RULE_NAME_BYTES};
-ghost use Rattle.orca_term.specs.Came.{came_to, came_word, hand_rule_name, unless_unsaved};
+ghost use Rattle.orca_term.specs.Came.{came_to, came_word, hand_rule_name, is_warning, unless_unsaved};
 ghost use Rattle.orca_term.specs.Picture.{IsPrintableByte};
 
 use orca_base::Rule;
@@ -65,6 +65,17 @@ impl Came {
             Came::Refused(rule) => rule.name().as_bytes(),
             Came::Denied(rule) => rule.name().as_bytes(),
             Came::Kept => unless_unsaved(unsaved, b"saved"),
+        }
+    }
+
+    /// Whether the word warns.
+    pub(crate) fn is_warning(self, unsaved: bool) -> bool
+        ensures { result ≡ is_warning unsaved self }
+    {
+        match self {
+            Came::Well => unsaved,
+            Came::Kept => unsaved,
+            _ => true,
         }
     }
 }

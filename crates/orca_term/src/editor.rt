@@ -1,11 +1,12 @@
 //! The editor: a cursor, a selection, and what a key makes of them.
 
-ghost use Rattle.std.specs.Prelude.{◌≡◌, ◌≤◌, ◌&&◌, ℕ, false, nat_le, nat_lt};
+ghost use Rattle.std.specs.Prelude.{◌≡◌, ◌≤◌, ◌&&◌, ℕ, false, is_some, nat_le, nat_lt};
 ghost use Rattle.orca_base.specs.Areas.{IsArea};
 ghost use Rattle.orca_base.specs.Edits.{is_in_area};
-ghost use Rattle.orca_term.specs.Editing.{area_of, selection_rect, new_editor, cut_to_grid, editor_inside, stepped, moved_to, slid, typed, rubbed, edited, wished, wish_of, editor_after};
+ghost use Rattle.orca_term.specs.Editing.{area_of, selection_rect, new_editor, cut_to_grid, editor_inside, stepped, moved_to, slid, typed, rubbed, edited, wished, wish_of, editor_after, page_after, turned_page, written};
 ghost use Rattle.orca_term.specs.Pasting.{flowed};
 
+use crate::limits::HELP_PAGES;
 use crate::{Around, Deed, Flow, Key, ScreenSize, Side};
 use orca_base::limits::BACK_MOMENTS;
 use orca_base::{Command, Dims, Place, Rect};
@@ -33,6 +34,10 @@ pub struct Editor {
     pub anchor: Place,
     /// A text that is pasted, while it is read.
     pub flow: Option<Flow>,
+    /// The page of help that the picture shows, counted from 1; 0 for none.
+    pub page: u8,
+    /// Whether the picture tells what is sent.
+    pub traffic: bool,
 }
 
 /// What a key asks for, beside what it makes of the editor.
@@ -71,6 +76,8 @@ impl Editor {
             guide: false,
             anchor: Place { y: 0, x: 0 },
             flow: None,
+            page: 0,
+            traffic: false,
         }
     }
 
@@ -128,10 +135,48 @@ impl Editor {
         }
     }
 
+    /// Does what a key makes of the page of help, also one that is denied: Help turns to the next page
+    /// outside a text, the size of the terminal and Redraw leave it, and any other key closes it.
+    pub fn turn_page(&mut self, key: &Key)
+        ensures { self.new ≡ turned_page key.now self.old }
+    {
+        self.page = match *key {
+            Key::Help => self.page_after_help(),
+            Key::Screen { .. } => self.page,
+            Key::Redraw => self.page,
+            _ => 0,
+        };
+    }
+
+    /// The page after the key of help.
+    fn page_after_help(&self) -> u8
+        ensures { result ≡ page_after Key.Help (is_some self.now.flow) self.now.page }
+    {
+        if self.flow.is_some() {
+            return self.page;
+        }
+        if self.page < HELP_PAGES {
+            return self.page + 1;
+        }
+        0
+    }
+
     /// Does what a key makes of the editor.
     fn change(&mut self, key: Key, around: &Around)
         requires inside { IsArea around.now.dims (area_of self.old) }
         ensures editor { self.new ≡ editor_after key around.now self.old }
+        ensures inside { IsArea around.now.dims (area_of self.new) }
+    {
+        let mut turned = *self;
+        turned.turn_page(&key);
+        self.write(key, around);
+        self.page = turned.page;
+    }
+
+    /// Does what a key makes of all but the page.
+    fn write(&mut self, key: Key, around: &Around)
+        requires inside { IsArea around.now.dims (area_of self.old) }
+        ensures editor { self.new ≡ written key around.now self.old }
         ensures inside { IsArea around.now.dims (area_of self.new) }
     {
         if let Key::PasteBegin = key {
@@ -178,6 +223,10 @@ impl Editor {
             Key::Paste => Wish::Do(Command::Paste { y, x }),
             Key::Undo => Wish::Do(Command::Undo),
             Key::Redo => Wish::Do(Command::Redo),
+            Key::Retract => Wish::Do(Command::Retract {
+                moment: around.own.unwrap_or(around.moments),
+            }),
+            Key::Hush => Wish::Do(Command::Hush),
             Key::Reset => Wish::Do(Command::Reset),
             Key::Step => Wish::Do(Command::Frame),
             Key::Back => Wish::Do(Command::Rewind {
@@ -253,6 +302,7 @@ impl Editor {
             }
             Key::Append => self.append = !self.append,
             Key::Guide => self.guide = !self.guide,
+            Key::Traffic => self.traffic = !self.traffic,
             Key::Pause => self.paused = !self.paused,
             Key::Press { row, column } => self.press(around, row, column),
             Key::Drag { row, column } => self.drag(around, row, column),

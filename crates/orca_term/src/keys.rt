@@ -1,11 +1,11 @@
 //! The keys of a terminal, by the bytes that it sends.
 
 ghost use Rattle.std.specs.Prelude.{◌≡◌, ◌+◌, ◌≤◌, ◌∷◌, ◌++◌, false, true, Bool, List, length};
-ghost use Rattle.orca_term.specs.Keys.{Extends, Item, Byte, Due, turn, turn_outside, turn_alone, turn_after_escape, turn_after_o, turn_inside, pending_with, after, awaits, ends_as, key_at_end as key_of_end, keys_from};
+ghost use Rattle.orca_term.specs.Keys.{Extends, Item, Byte, Due, turn, turn_outside, turn_alone, turn_after_escape, turn_after_o, turn_at_end, turn_in_console, turn_inside, opens_console as opens, pending_with, after, awaits, ends_as, key_at_end as key_of_end, keys_from};
 
 use crate::Strokes;
 use crate::limits::MAX_STROKES;
-use crate::tables::{key_of, key_of_sequence, single_key};
+use crate::tables::{console_key, key_of, key_of_sequence, single_key};
 use orca_base::limits::SEQUENCE_BYTES;
 use orca_base::{Glyph, Inline};
 use std::marker::Model;
@@ -67,14 +67,18 @@ pub enum Key {
     Cut,
     /// Control and V.
     Paste,
-    /// Control and Z; Control and U.
+    /// Control and Z.
     Undo,
     /// Control and Y.
     Redo,
+    /// Control and U: takes back the hand's own last edit.
+    Retract,
     /// Control and B.
     Back,
     /// Control and R.
     Reset,
+    /// Control and E: ends all notes.
+    Hush,
     /// Control and F.
     Step,
     /// Control and S.
@@ -93,6 +97,10 @@ pub enum Key {
     Erase,
     /// Control and K: fills the selection with the glyph at the cursor.
     Fill,
+    /// F1, and Control and P: the next page of help, or none.
+    Help,
+    /// F2, and Control and T: whether the picture tells what is sent.
+    Traffic,
     /// Control and L: paints all rows.
     Redraw,
     /// So many beats a minute less.
@@ -143,6 +151,8 @@ pub enum Pending {
     Sequence(Inline<ROOM>),
     /// A sequence with more bytes than are collected.
     Overlong,
+    /// ESC and two brackets, which wait for a letter of the Linux console.
+    Console,
 }
 
 /// What a byte gives.
@@ -208,8 +218,8 @@ impl Keys {
     }
 
     /// Nothing came for a while: an ESC that stands alone is the escape key, and ESC and `O` are both keys. A
-    /// sequence that has begun stays. Plain keys and full ones are the same here, but that the plain ones
-    /// never wait after an `O`.
+    /// sequence that has begun stays, but for one of the console. Plain keys and full ones are the same here,
+    /// but that the plain ones never wait after an `O` or a second bracket.
     #[tactic(auto, unfolding(crate::specs::Keys::turn, crate::specs::Keys::keys_from))]
     pub fn due(&mut self) -> Strokes
         ensures keys { (full : Bool) → result ≡ (turn full self.old Due).keys }
@@ -226,6 +236,10 @@ impl Keys {
                 self.pending = Pending::Nothing;
                 Strokes::escape_and_o()
             }
+            Pending::Console => {
+                self.pending = Pending::Nothing;
+                Strokes::none()
+            }
             _ => Strokes::none(),
         }
     }
@@ -240,6 +254,7 @@ impl Keys {
             Pending::Nothing => read_outside(full, byte),
             Pending::Lone => read_after_escape(full, byte),
             Pending::Single => read_after_o(full, byte),
+            Pending::Console => read_in_console(full, byte),
             pending => read_inside(full, pending, byte),
         };
         self.pending = turn.pending;
@@ -301,8 +316,38 @@ fn read_inside(full: bool, pending: Pending, byte: u8) -> Turn
 {
     match byte {
         0x20..=0x3F => awaits(collect(pending, byte)),
-        0x40..=0x7E => ends_as(key_at_end(full, pending, byte)),
+        0x40..=0x7E => read_at_end(full, pending, byte),
         _ => read_outside(full, byte),
+    }
+}
+
+/// The end of a sequence. After a second bracket a letter of the console is waited for.
+fn read_at_end(full: bool, pending: Pending, byte: u8) -> Turn
+    ensures { result ≡ turn_at_end full pending byte }
+{
+    if opens_console(full, &pending, byte) {
+        return awaits(Pending::Console);
+    }
+    ends_as(key_at_end(full, pending, byte))
+}
+
+/// Whether a byte is a second bracket right after the first one, with full keys.
+fn opens_console(full: bool, pending: &Pending, byte: u8) -> bool
+    ensures { result ≡ opens full pending.now byte }
+{
+    match *pending {
+        Pending::Sequence(bytes) => full && bytes.as_slice().is_empty() && byte == b'[',
+        _ => false,
+    }
+}
+
+/// A byte after ESC and two brackets.
+fn read_in_console(full: bool, byte: u8) -> Turn
+    ensures { result ≡ turn_in_console full byte }
+{
+    match console_key(byte) {
+        Some(key) => ends_as(key),
+        None => read_outside(full, byte),
     }
 }
 

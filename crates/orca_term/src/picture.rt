@@ -1,6 +1,6 @@
 //! The picture of a grid, its marks, the editor and the status line.
 
-ghost use Rattle.std.specs.Prelude.{◌≡◌, ◌≢◌, ◌==◌, ◌+◌, ◌-◌, ◌%◌, ◌^◌, ◌<◌, ◌≤◌, ◌&&◌, ◌++◌, false, true, if◌then◌else◌, length, map, slice_index_or, vec_len, All};
+ghost use Rattle.std.specs.Prelude.{◌≡◌, ◌≢◌, ◌==◌, ◌+◌, ◌-◌, ◌*◌, ◌%◌, ◌^◌, [], ◌<◌, ◌≤◌, ◌&&◌, ◌++◌, false, true, if◌then◌else◌, length, map, slice_index_or, vec_len, All};
 ghost use Rattle.std.specs.List.{list_any, range_with_len};
 ghost use Rattle.std.specs.Vec.{vec_capacity};
 ghost use Rattle.orca_base.specs.Edits.{is_in_area};
@@ -8,14 +8,15 @@ ghost use Rattle.orca_base.specs.Glyphs.{empty};
 ghost use Rattle.orca_base.specs.Grids.{IsInside, glyph_at};
 ghost use Rattle.orca_base.specs.MarkSet.{no_marks};
 ghost use Rattle.orca_term.specs.Codes.{plus};
-ghost use Rattle.orca_term.specs.Editing.{area_of};
-ghost use Rattle.orca_term.specs.Picture.{IsPrintable, IsPrintableByte, IsScreen, faint, screen_cells, scene_of, style_at, style_by, is_met, blank_cell, grid_cell, glyph_under, status_cell, picture};
+ghost use Rattle.orca_term.specs.Editing.{area_of, page_of};
+ghost use Rattle.orca_term.specs.Picture.{IsPrintable, IsPrintableByte, IsScreen, faint, screen_cells, scene_of, style_at, style_by, is_met, blank_cell, cut_row, grid_cell, grid_row, glyph_under, page_row, piece_row, rows_of, status_cells, tells_sent, text_cell, text_row, upper_rows};
 
-use crate::limits::RULER_PLACES;
-use crate::status::status_text;
+use crate::help::page_line;
+use crate::limits::{RULER_PLACES, TRAFFIC_ROWS};
+use crate::status::status_cells;
 use crate::styles::{FAINT, PLAIN, style_by};
 use crate::window::page_of;
-use crate::{Cell, Cursors, Overlay, ScreenSize, StatusLine};
+use crate::{Cell, Cursors, Editor, Overlay, ScreenSize, StatusLine, Traffic};
 use orca_base::{Glyph, Look, Place};
 
 /// A space without a style.
@@ -31,9 +32,33 @@ struct Corner {
     x: u32,
 }
 
-/// Makes `cells` the picture.
-#[tactic(auto, unfolding(crate::specs::Picture::picture))]
-pub(crate) fn draw<T: Look>(
+/// Makes `cells` the rows of the picture above the status line.
+#[tactic(auto, unfolding(crate::specs::Picture::upper_rows))]
+pub(crate) fn draw_upper<T: Look>(
+    cells: &mut Vec<Cell>,
+    size: ScreenSize,
+    look: &T,
+    over: &Overlay,
+    sent: &Traffic,
+)
+    requires screen { IsScreen size }
+    requires room { screen_cells size ≤ vec_capacity cells.old }
+    ensures rows { cells.new.items
+        ≡ upper_rows size (scene_of (T.sheet look.now) (T.marks look.now) over.now) sent.now }
+    ensures len { vec_len cells.new ≡ (size.rows - 1) * size.columns }
+    ensures printable { All IsPrintable cells.new.items }
+    ensures room { vec_capacity cells.new ≡ vec_capacity cells.old }
+{
+    cells.clear();
+    if over.editor.page == 0 {
+        draw_piece(cells, size, look, over, sent);
+    } else {
+        draw_page(cells, size, over.editor.page);
+    }
+}
+
+/// Appends the status line.
+pub(crate) fn draw_status<T: Look>(
     cells: &mut Vec<Cell>,
     size: ScreenSize,
     look: &T,
@@ -41,27 +66,101 @@ pub(crate) fn draw<T: Look>(
     line: &StatusLine,
 )
     requires screen { IsScreen size }
+    requires above { vec_len cells.old ≡ (size.rows - 1) * size.columns }
     requires room { screen_cells size ≤ vec_capacity cells.old }
-    ensures picture { cells.new.items
-        ≡ picture size (scene_of (T.sheet look.now) (T.marks look.now) over.now) line.now }
+    requires printable { All IsPrintable cells.old.items }
+    ensures row { let scene = scene_of (T.sheet look.now) (T.marks look.now) over.now in
+        cells.new.items ≡ cells.old.items ++ cut_row size.columns
+        (status_cells scene.editor (glyph_under scene) line.now) }
     ensures whole { length cells.new.items ≡ screen_cells size }
     ensures printable { All IsPrintable cells.new.items }
     ensures room { vec_capacity cells.new ≡ vec_capacity cells.old }
 {
-    let glyph = glyph_under(look, over);
-    let text = status_text(&over.editor, glyph, line);
-    let (rows, columns) = (u32::from(size.rows) - 1, u32::from(size.columns));
-    let top = page_of(rows, u32::from(over.editor.y));
-    let left = page_of(columns, u32::from(over.editor.x));
-    cells.clear();
-    for y in 0..rows {
+    let strip = status_cells(&over.editor, glyph_under(look, over), line);
+    push_strip(cells, u32::from(size.columns), strip.as_slice());
+}
+
+/// Appends the rows of a page of help.
+fn draw_page(cells: &mut Vec<Cell>, size: ScreenSize, page: u8)
+    requires screen { IsScreen size }
+    requires none { cells.old.items ≡ [] }
+    requires room { screen_cells size ≤ vec_capacity cells.old }
+    ensures rows { cells.new.items ≡ rows_of (page_row size page) (size.rows - 1) }
+    ensures len { vec_len cells.new ≡ (size.rows - 1) * size.columns }
+    ensures printable { All IsPrintable cells.new.items }
+    ensures room { vec_capacity cells.new ≡ vec_capacity cells.old }
+{
+    for y in 0..size.rows - 1 {
+        push_text(cells, u32::from(size.columns), page_line(page, y));
+    }
+}
+
+/// Appends the rows of the piece: of the grid, and what was sent where the editor shows that.
+fn draw_piece<T: Look>(
+    cells: &mut Vec<Cell>,
+    size: ScreenSize,
+    look: &T,
+    over: &Overlay,
+    sent: &Traffic,
+)
+    requires screen { IsScreen size }
+    requires none { cells.old.items ≡ [] }
+    requires room { screen_cells size ≤ vec_capacity cells.old }
+    ensures rows { let scene = scene_of (T.sheet look.now) (T.marks look.now) over.now in
+        cells.new.items ≡ rows_of (piece_row size scene sent.now) (size.rows - 1) }
+    ensures len { vec_len cells.new ≡ (size.rows - 1) * size.columns }
+    ensures printable { All IsPrintable cells.new.items }
+    ensures room { vec_capacity cells.new ≡ vec_capacity cells.old }
+{
+    if tells_sent(size, &over.editor) {
+        draw_grid(cells, size, look, over, size.rows - 2);
+        push_text(cells, u32::from(size.columns), sent.text().as_slice());
+    } else {
+        draw_grid(cells, size, look, over, size.rows - 1);
+    }
+}
+
+/// Whether the last row of the window tells what was sent.
+fn tells_sent(size: ScreenSize, editor: &Editor) -> bool
+    ensures { result ≡ tells_sent size editor.now }
+{
+    editor.traffic && size.rows >= TRAFFIC_ROWS
+}
+
+/// Appends the first rows of the window.
+fn draw_grid<T: Look>(cells: &mut Vec<Cell>, size: ScreenSize, look: &T, over: &Overlay, rows: u16)
+    requires screen { IsScreen size }
+    requires none { cells.old.items ≡ [] }
+    requires rows { rows < size.rows }
+    requires room { screen_cells size ≤ vec_capacity cells.old }
+    ensures rows { let scene = scene_of (T.sheet look.now) (T.marks look.now) over.now in
+        cells.new.items ≡ rows_of (grid_row size scene) rows }
+    ensures len { vec_len cells.new ≡ rows * size.columns }
+    ensures printable { All IsPrintable cells.new.items }
+    ensures room { vec_capacity cells.new ≡ vec_capacity cells.old }
+{
+    let columns = u32::from(size.columns);
+    let corner = window_corner(size, over.editor);
+    for y in 0..u32::from(rows) {
         let first = Corner {
-            y: top + y,
-            x: left,
+            y: corner.y + y,
+            x: corner.x,
         };
         push_grid_row(cells, columns, look, over, first);
     }
-    push_status_row(cells, columns, text.as_slice());
+}
+
+/// The corner of the window at the top left.
+fn window_corner(size: ScreenSize, editor: Editor) -> Corner
+    requires { IsScreen size }
+    ensures y { result.y ≡ page_of (size.rows - 1) editor.y }
+    ensures x { result.x ≡ page_of size.columns editor.x }
+    ensures fits { result.y < 2 ^ 16 × result.x < 2 ^ 16 }
+{
+    Corner {
+        y: page_of(u32::from(size.rows) - 1, u32::from(editor.y)),
+        x: page_of(u32::from(size.columns), u32::from(editor.x)),
+    }
 }
 
 /// The glyph at the cursor, if that lies in the grid.
@@ -223,30 +322,57 @@ fn push_blanks(cells: &mut Vec<Cell>, count: u32)
     }
 }
 
-/// Appends the cells of the status line.
-fn push_status_row(cells: &mut Vec<Cell>, columns: u32, text: &[u8])
+/// Appends a row with a text.
+fn push_text(cells: &mut Vec<Cell>, columns: u32, text: &[u8])
     requires room { vec_len cells.old + columns ≤ vec_capacity cells.old }
     requires text { All IsPrintableByte text.now }
     requires printable { All IsPrintable cells.old.items }
-    ensures row { cells.new.items
-        ≡ cells.old.items ++ map (status_cell text.now) (range_with_len 0 columns) }
+    ensures row { cells.new.items ≡ cells.old.items ++ text_row columns text.now }
+    ensures len { vec_len cells.new ≡ vec_len cells.old + columns }
     ensures printable { All IsPrintable cells.new.items }
     ensures room { vec_capacity cells.new ≡ vec_capacity cells.old }
 {
     for x in 0..columns {
-        cells.push_reserved(status_cell(text, x));
+        cells.push_reserved(text_cell(text, x));
     }
 }
 
-/// The cell of a column of the status line.
-fn status_cell(text: &[u8], x: u32) -> Cell
+/// The cell of a column of it.
+fn text_cell(text: &[u8], x: u32) -> Cell
     requires { All IsPrintableByte text.now }
-    ensures cell { result ≡ status_cell text.now x }
+    ensures cell { result ≡ text_cell text.now x }
     ensures printable { IsPrintable result }
 {
     Cell {
         byte: text.get(x as usize).copied().unwrap_or(b' '),
         style: PLAIN,
+    }
+}
+
+/// Appends a row of cells, cut at the last column, or filled with spaces.
+fn push_strip(cells: &mut Vec<Cell>, columns: u32, strip: &[Cell])
+    requires room { vec_len cells.old + columns ≤ vec_capacity cells.old }
+    requires strip { All IsPrintable strip.now }
+    requires printable { All IsPrintable cells.old.items }
+    ensures row { cells.new.items ≡ cells.old.items ++ cut_row columns strip.now }
+    ensures len { vec_len cells.new ≡ vec_len cells.old + columns }
+    ensures printable { All IsPrintable cells.new.items }
+    ensures room { vec_capacity cells.new ≡ vec_capacity cells.old }
+{
+    for x in 0..columns {
+        cells.push_reserved(strip_cell(strip, x));
+    }
+}
+
+/// The cell of a column of it.
+fn strip_cell(strip: &[Cell], x: u32) -> Cell
+    requires { All IsPrintable strip.now }
+    ensures cell { result ≡ slice_index_or strip.now x blank_cell }
+    ensures printable { IsPrintable result }
+{
+    match strip.get(x as usize) {
+        Some(cell) => *cell,
+        None => BLANK,
     }
 }
 

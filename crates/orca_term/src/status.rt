@@ -2,18 +2,28 @@
 
 ghost use Rattle.std.specs.Prelude.{◌≡◌, ◌==◌, ◌+◌, ◌%◌, ◌≤◌, [], ◌∷◌, ◌++◌, codes, if◌then◌else◌, length, All};
 ghost use Rattle.std.specs.Fmt.{decimal};
-ghost use Rattle.orca_term.specs.Picture.{IsPrintableByte, state_word, tempo_word, loss_words, status_line_text};
+ghost use Rattle.orca_term.specs.Picture.{IsPrintable, IsPrintableByte, state_word, status_cells, status_front, tempo_word, warned, warning_cells, word_style};
+ghost use Rattle.orca_term.specs.declared.limits.TheConstants.{STATUS_CELLS, WARNING_BYTES};
 ghost use Rattle.orca_term.specs.Words.{glyph_words};
 
-use crate::limits::{LOSS_BYTES, NAME_BYTES, STATUS_BYTES};
+use crate::limits::{FRONT_BYTES, NAME_BYTES};
 use crate::names::operator_name;
+use crate::picture::BLANK;
+use crate::strip::Strip;
+use crate::styles::{BRIGHT_RED, PLAIN};
 use crate::{Came, Editor};
 use itoa::Buffer;
 use orca_base::limits::{BEAT_FRAMES, MAX_DIGITS};
 use orca_base::{Glyph, Inline};
 
-/// The text of a status line.
-pub(crate) type StatusText = Inline<STATUS_BYTES>;
+/// The text of a status line before the warnings.
+type FrontText = Inline<FRONT_BYTES>;
+
+/// The most bytes of how many hands are away.
+const AWAY_BYTES: usize = MAX_DIGITS + 5;
+
+/// The most bytes of a glyph and its name.
+const WORDS_BYTES: usize = NAME_BYTES + 3;
 
 /// What the status line tells besides the editor.
 #[derive(Clone, Copy, Debug, PartialEq, Eq)]
@@ -34,19 +44,108 @@ pub struct StatusLine {
     pub no_osc: bool,
     /// Whether the journal is lost.
     pub no_journal: bool,
+    /// How many hands are away.
+    pub away: u8,
     /// Whether the last save failed, which is told where else all were well.
     pub unsaved: bool,
+    /// Whether the word of the last key is red where it warns.
+    pub warns: bool,
     /// What the last key came to.
     pub came: Came,
 }
 
-/// The text of the status line, with this glyph at the cursor.
-#[tactic(auto, unfolding(crate::specs::Picture::status_line_text))]
-pub(crate) fn status_text(editor: &Editor, glyph: Glyph, line: &StatusLine) -> StatusText
-    ensures text { result ≡ status_line_text editor.now glyph line.now }
+/// The cells of the status line, with this glyph at the cursor.
+#[tactic(auto, unfolding(crate::specs::Picture::status_cells))]
+pub(crate) fn status_cells(editor: &Editor, glyph: Glyph, line: &StatusLine) -> Strip
+    ensures cells { result ≡ status_cells editor.now glyph line.now }
+    ensures printable { All IsPrintable result }
+{
+    let mut strip = Strip::empty();
+    strip.push_text(PLAIN, status_front(editor, line).as_slice());
+    push_warnings(&mut strip, line);
+    strip.push_text(word_style(line), line.came.word(line.unsaved));
+    strip.push_text(PLAIN, operator_words(editor, glyph).as_slice());
+    strip
+}
+
+/// The style of the word that tells what the last key came to.
+fn word_style(line: &StatusLine) -> u8
+    ensures { result ≡ word_style line.now }
+{
+    if line.warns && line.came.is_warning(line.unsaved) {
+        return BRIGHT_RED;
+    }
+    PLAIN
+}
+
+/// Appends what is lost, and how many hands are away.
+fn push_warnings(strip: &mut Strip, line: &StatusLine)
+    requires room { length strip.old + WARNING_BYTES ≤ STATUS_CELLS }
+    requires printable { All IsPrintable strip.old }
+    ensures cells { strip.new ≡ strip.old ++ warning_cells line.now }
+    ensures short { length strip.new ≤ length strip.old + WARNING_BYTES }
+    ensures printable { All IsPrintable strip.new }
+{
+    push_warning(strip, line.no_midi, b"no midi");
+    push_warning(strip, line.no_udp, b"no udp");
+    push_warning(strip, line.no_osc, b"no osc");
+    push_warning(strip, line.no_journal, b"no journal");
+    push_warning(strip, line.away > 0, away_words(line.away).as_slice());
+}
+
+/// Appends a warning where it holds, and a space after it.
+fn push_warning(strip: &mut Strip, holds: bool, text: &[u8])
+    requires room { length strip.old + length text.now + 1 ≤ STATUS_CELLS }
+    requires text { All IsPrintableByte text.now }
+    requires printable { All IsPrintable strip.old }
+    ensures cells { strip.new ≡ strip.old ++ warned holds text.now }
+    ensures short { length strip.new ≤ length strip.old + length text.now + 1 }
+    ensures printable { All IsPrintable strip.new }
+{
+    if !holds {
+        return;
+    }
+    strip.push_text(BRIGHT_RED, text);
+    strip.push(BLANK);
+}
+
+/// How many hands are away, in words.
+fn away_words(away: u8) -> Inline<AWAY_BYTES>
+    ensures words { result ≡ decimal away ++ codes " away" }
     ensures printable { All IsPrintableByte result }
 {
-    let mut text = StatusText::empty();
+    let mut words = Inline::empty();
+    push_word(&mut words, decimal(u32::from(away)).as_slice());
+    push_word(&mut words, b" away");
+    words
+}
+
+/// A glyph and its name, where the guide shows and the glyph is an operator.
+fn operator_words(editor: &Editor, glyph: Glyph) -> Inline<WORDS_BYTES>
+    ensures words { result ≡ (if editor.now.guide then glyph_words glyph else []) }
+    ensures printable { All IsPrintableByte result }
+{
+    let mut words = Inline::empty();
+    let name = if editor.guide {
+        operator_name(glyph)
+    } else {
+        None
+    };
+    let Some(name) = name else {
+        return words;
+    };
+    words.extend(&[b' ', glyph.byte(), b' ']);
+    words.extend(name.as_bytes());
+    words
+}
+
+/// The text of the status line before the warnings.
+#[tactic(auto, unfolding(crate::specs::Picture::status_front))]
+fn status_front(editor: &Editor, line: &StatusLine) -> FrontText
+    ensures text { result ≡ status_front editor.now line.now }
+    ensures printable { All IsPrintableByte result }
+{
+    let mut text = FrontText::empty();
     push_number(&mut text, line.tick, b' ');
     push_number(&mut text, line.moments, b' ');
     push_number(&mut text, line.sounding, b' ');
@@ -59,46 +158,12 @@ pub(crate) fn status_text(editor: &Editor, glyph: Glyph, line: &StatusLine) -> S
     push_word(&mut text, word_if(editor.append, b" append"));
     push_word(&mut text, word_if(editor.flow.is_some(), b" paste"));
     push_word(&mut text, b" ");
-    push_losses(&mut text, line);
-    push_word(&mut text, line.came.word(line.unsaved));
-    push_words(&mut text, editor, glyph);
     text
 }
 
-/// Appends a glyph and its name, where the guide shows and the glyph is an operator.
-fn push_words(text: &mut StatusText, editor: &Editor, glyph: Glyph)
-    requires room { length text.old + 3 + NAME_BYTES ≤ STATUS_BYTES }
-    requires printable { All IsPrintableByte text.old }
-    ensures text { text.new ≡ text.old ++ (if editor.now.guide then glyph_words glyph else []) }
-    ensures printable { All IsPrintableByte text.new }
-{
-    let name = if editor.guide {
-        operator_name(glyph)
-    } else {
-        None
-    };
-    let Some(name) = name else {
-        return;
-    };
-    push_word(text, b" ");
-    push_glyph(text, glyph);
-    push_word(text, name.as_bytes());
-}
-
-/// Appends a glyph and a space.
-fn push_glyph(text: &mut StatusText, glyph: Glyph)
-    requires room { length text.old + 2 ≤ STATUS_BYTES }
-    requires printable { All IsPrintableByte text.old }
-    ensures text { text.new ≡ text.old ++ glyph ∷ codes " " }
-    ensures printable { All IsPrintableByte text.new }
-{
-    text.push(glyph.byte());
-    text.push(b' ');
-}
-
 /// Appends the tempo and the beat, where the guide shows.
-fn push_tempo(text: &mut StatusText, editor: &Editor, line: &StatusLine)
-    requires room { length text.old + MAX_DIGITS + 3 ≤ STATUS_BYTES }
+fn push_tempo(text: &mut FrontText, editor: &Editor, line: &StatusLine)
+    requires room { length text.old + MAX_DIGITS + 3 ≤ FRONT_BYTES }
     requires printable { All IsPrintableByte text.old }
     ensures text { text.new
         ≡ text.old ++ (if editor.now.guide then codes " " ++ tempo_word line.now else []) }
@@ -127,20 +192,6 @@ fn beat_word(tick: u32) -> &'static [u8]
     }
 }
 
-/// Appends what is lost.
-fn push_losses(text: &mut StatusText, line: &StatusLine)
-    requires room { length text.old + LOSS_BYTES ≤ STATUS_BYTES }
-    requires printable { All IsPrintableByte text.old }
-    ensures text { text.new ≡ text.old ++ loss_words line.now }
-    ensures short { length text.new ≤ length text.old + LOSS_BYTES }
-    ensures printable { All IsPrintableByte text.new }
-{
-    push_word(text, word_if(line.no_midi, b"no midi "));
-    push_word(text, word_if(line.no_udp, b"no udp "));
-    push_word(text, word_if(line.no_osc, b"no osc "));
-    push_word(text, word_if(line.no_journal, b"no journal "));
-}
-
 /// A word where it holds, and else none.
 fn word_if(holds: bool, word: &'static [u8]) -> &'static [u8]
     requires { All IsPrintableByte word.now }
@@ -153,8 +204,8 @@ fn word_if(holds: bool, word: &'static [u8]) -> &'static [u8]
 
 /// Appends a number and the byte after it.
 #[tactic(auto, using(crate::proofs::Digits::decimal_short))]
-fn push_number(text: &mut StatusText, n: u32, after: u8)
-    requires room { length text.old + MAX_DIGITS + 1 ≤ STATUS_BYTES }
+fn push_number(text: &mut FrontText, n: u32, after: u8)
+    requires room { length text.old + MAX_DIGITS + 1 ≤ FRONT_BYTES }
     requires printable { All IsPrintableByte text.old × IsPrintableByte after }
     ensures text { text.new ≡ text.old ++ decimal n ++ after ∷ [] }
     ensures short { length text.new ≤ length text.old + MAX_DIGITS + 1 }
@@ -165,8 +216,8 @@ fn push_number(text: &mut StatusText, n: u32, after: u8)
 }
 
 /// Appends a word.
-fn push_word(text: &mut StatusText, word: &[u8])
-    requires room { length text.old + length word.now ≤ STATUS_BYTES }
+pub(crate) fn push_word<const ROOM: usize>(text: &mut Inline<ROOM>, word: &[u8])
+    requires room { length text.old + length word.now ≤ ROOM }
     requires printable { All IsPrintableByte text.old × All IsPrintableByte word.now }
     ensures text { text.new ≡ text.old ++ word.now }
     ensures printable { All IsPrintableByte text.new }

@@ -25,7 +25,7 @@ const REVERSED: u8 = 7;
 const ON_MAGENTA: u8 = 45;
 
 /// Bright red.
-const BRIGHT_RED: u8 = 91;
+pub(crate) const BRIGHT_RED: u8 = 91;
 
 /// The style of each byte below 128 as a glyph that nothing marks.
 static COLOURS: [u8; 128] = [

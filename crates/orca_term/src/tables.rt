@@ -2,7 +2,7 @@
 
 ghost use Rattle.std.specs.Prelude.{◌≡◌, ◌≤◌, [], ◌∷◌, length};
 ghost use Rattle.std.specs.Option.{option_and_then};
-ghost use Rattle.orca_term.specs.Keys.{key_of, plain_key, further_keys, found_in, key_of_sequence, plain_sequence, arrow_keys, shifted_keys, arrow_sides, edges, numbered_edges, pages, deed_of, arrow_key, ended_key, paged_key, single_key, is_function, numbers_in, numbered_keys, key_of_numbers, further_sequence};
+ghost use Rattle.orca_term.specs.Keys.{key_of, plain_key, further_keys, found_in, key_of_sequence, plain_sequence, arrow_keys, shifted_keys, arrow_sides, edges, numbered_edges, pages, deed_of, arrow_key, ended_key, paged_key, single_key, is_function, function_keys, console_key, console_keys, numbers_in, numbered_keys, key_of_numbers, further_sequence};
 
 use crate::limits::{FAR_BEATS, RULER_PLACES};
 use crate::mouse::mouse_sequence;
@@ -51,13 +51,16 @@ fn further_key(byte: u8) -> Option<Key>
 {
     match byte {
         0x01 => Some(Key::All),
+        0x05 => Some(Key::Hush),
         0x07 => Some(Key::Guide),
         0x09 => Some(Key::Append),
         0x0A => Some(Key::Line),
         0x0B => Some(Key::Fill),
         0x0C => Some(Key::Redraw),
         0x0D => Some(Key::Return),
-        0x15 => Some(Key::Undo),
+        0x10 => Some(Key::Help),
+        0x14 => Some(Key::Traffic),
+        0x15 => Some(Key::Retract),
         _ => None,
     }
 }
@@ -187,6 +190,8 @@ fn numbered_key(n: u16) -> Option<Key>
     match n {
         2 => Some(Key::Append),
         3 => Some(Key::Erase),
+        11 => Some(Key::Help),
+        12 => Some(Key::Traffic),
         17 => Some(Key::Slower(FAR_BEATS)),
         18 => Some(Key::Slower(1)),
         19 => Some(Key::Faster(1)),
@@ -205,16 +210,38 @@ fn ended_key(last: u8, m: u16) -> Option<Key>
     near.or(arrow_key(m, MAX_COLUMNS, edge_of(last)))
 }
 
-/// What ESC, `O` and a letter are: none of the keys here where the letter is that of F1 to F4, and the arrow,
-/// Home or End of `ESC [` and the letter.
+/// What ESC, `O` and a letter are: F1 to F4, or the arrow, Home or End of `ESC [` and the letter.
 pub(crate) fn single_key(letter: u8) -> Option<Option<Key>>
     ensures { result ≡ single_key letter }
 {
     if is_function(letter) {
-        return Some(None);
+        return Some(function_key(letter));
     }
     let key = ended_key(letter, 1)?;
     Some(Some(key))
+}
+
+/// The key of F1 to F4, by its letter; the last two are none.
+fn function_key(letter: u8) -> Option<Key>
+    ensures { result ≡ found_in function_keys letter }
+{
+    match letter {
+        b'P' => Some(Key::Help),
+        b'Q' => Some(Key::Traffic),
+        _ => None,
+    }
+}
+
+/// What ESC, two brackets and a letter are: F1 to F5 of the Linux console, of which the first two are keys.
+pub(crate) fn console_key(letter: u8) -> Option<Option<Key>>
+    ensures { result ≡ console_key letter }
+{
+    match letter {
+        b'A' => Some(Some(Key::Help)),
+        b'B' => Some(Some(Key::Traffic)),
+        b'C'..=b'E' => Some(None),
+        _ => None,
+    }
 }
 
 /// Whether a letter is that of F1 to F4.

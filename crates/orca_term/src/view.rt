@@ -2,8 +2,8 @@
 
 use crate::limits::{CELL_BYTES, ROW_BYTES};
 use crate::painting::paint_rows;
-use crate::picture::draw;
-use crate::{Cell, Overlay, ScreenSize, StatusLine};
+use crate::picture::{draw_status, draw_upper};
+use crate::{Cell, Overlay, ScreenSize, StatusLine, Traffic};
 use orca_base::limits::{MAX_SCREEN_COLUMNS, MAX_SCREEN_ROWS, MIN_SCREEN_COLUMNS, MIN_SCREEN_ROWS};
 use orca_base::{Look, Memory};
 use std::alloc::Global;
@@ -113,43 +113,50 @@ impl View {
     /// The bytes of the painting of what is shown: those rows of the picture that differ from the last
     /// one, from the first row down, and all rows at the first call and at the first after
     /// [`View::begin_anew`]. They are whole forms that the small terminal reads.
-    pub fn paint<T: Look>(&mut self, look: &T, over: &Overlay, line: &StatusLine) -> &[u8]
+    pub fn paint<T: Look>(
+        &mut self,
+        look: &T,
+        over: &Overlay,
+        line: &StatusLine,
+        sent: &Traffic,
+    ) -> &[u8]
         ensures painting { let scene = scene_of (T.sheet look.now) (T.marks look.now) over.now in
-            let cells = picture self.old.size scene line.now in
+            let cells = picture self.old.size scene sent.now line.now in
             result.now ≡ painting_bytes self.old.size self.old.last cells }
 
         ensures whole { IsWhole result.now }
 
         // No bytes exactly where the picture is the last one.
         ensures same { let scene = scene_of (T.sheet look.now) (T.marks look.now) over.now in
-            (result.now ≡ []) ↔ (self.old.last ≡ Some (picture self.old.size scene line.now)) }
+            (result.now ≡ [])
+            ↔ (self.old.last ≡ Some (picture self.old.size scene sent.now line.now)) }
 
         // A terminal can show each cell of the picture.
         ensures printable { let scene = scene_of (T.sheet look.now) (T.marks look.now) over.now in
-            All IsPrintable (picture self.old.size scene line.now) }
+            All IsPrintable (picture self.old.size scene sent.now line.now) }
 
         // A terminal of this size that was sent all paintings so far shows the new picture after
         // this one, whatever it showed before them.
         ensures shows { let scene = scene_of (T.sheet look.now) (T.marks look.now) over.now in
-            let cells = picture self.old.size scene line.now in
+            let cells = picture self.old.size scene sent.now line.now in
             (sent : List ℕ) → Shows self.old.size sent self.old.last
             → Shows self.old.size (sent ++ result.now) (Some cells) }
 
         ensures* kept { sem 𝓛 (RestsWith self.entry (λ new. new ≡ record {
           size = self.old.size;
           last = Some (picture self.old.size
-              (scene_of (T.sheet look.now) (T.marks look.now) over.now) line.now);
+              (scene_of (T.sheet look.now) (T.marks look.now) over.now) sent.now line.now);
           bytes = result.now;
         })) }
     {
-        self.repaint(look, over, line);
+        self.repaint(look, over, line, sent);
         self.bytes()
     }
 
     /// Makes the picture, and its painting after the last one.
-    fn repaint<T: Look>(&mut self, look: &T, over: &Overlay, line: &StatusLine)
+    fn repaint<T: Look>(&mut self, look: &T, over: &Overlay, line: &StatusLine, sent: &Traffic)
         ensures kept { let scene = scene_of (T.sheet look.now) (T.marks look.now) over.now in
-            let cells = picture self.old.size scene line.now in
+            let cells = picture self.old.size scene sent.now line.now in
             self.new ≡ record {
               size = self.old.size;
               last = Some cells;
@@ -159,17 +166,19 @@ impl View {
         ensures whole { IsWhole self.new.bytes }
 
         ensures same { let scene = scene_of (T.sheet look.now) (T.marks look.now) over.now in
-            (self.new.bytes ≡ []) ↔ (self.old.last ≡ Some (picture self.old.size scene line.now)) }
+            (self.new.bytes ≡ [])
+            ↔ (self.old.last ≡ Some (picture self.old.size scene sent.now line.now)) }
 
         ensures printable { let scene = scene_of (T.sheet look.now) (T.marks look.now) over.now in
-            All IsPrintable (picture self.old.size scene line.now) }
+            All IsPrintable (picture self.old.size scene sent.now line.now) }
 
         ensures shows { let scene = scene_of (T.sheet look.now) (T.marks look.now) over.now in
-            let cells = picture self.old.size scene line.now in
+            let cells = picture self.old.size scene sent.now line.now in
             (sent : List ℕ) → Shows self.old.size sent self.old.last
             → Shows self.old.size (sent ++ self.new.bytes) (Some cells) }
     {
-        draw(&mut self.next, self.size, look, over, line);
+        draw_upper(&mut self.next, self.size, look, over, sent);
+        draw_status(&mut self.next, self.size, look, over, line);
         let last = self.painted.then_some(self.last.as_slice());
         paint_rows(&mut self.bytes, self.size, last, &self.next);
         mem::swap(&mut self.last, &mut self.next);

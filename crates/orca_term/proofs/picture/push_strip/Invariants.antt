@@ -1,0 +1,15 @@
+use Rattle.std.proofs.Common.{◌≡◌, ◌+◌, ◌++◌, map}
+use Rattle.std.specs.Prelude.{slice_index_or}
+use Rattle.std.specs.List.{All, range_with_len}
+use Rattle.std.specs.Vec.{vec_len, vec_capacity}
+use Rattle.orca_term.specs.Picture.{IsPrintable, blank_cell}
+use Rattle.orca_term.proofs.picture.push_strip.Given as goal
+
+abbrev pub invariant-loop-x : goal.invariant-loop-x
+invariant-loop-x l = record {
+  cells : l.cells.items
+      ≡ l.fn.cells.items ++ map (λ x. slice_index_or l.strip x blank_cell) (range_with_len 0 l.x);
+  len : vec_len l.cells ≡ vec_len l.fn.cells + l.x;
+  printable : All IsPrintable l.cells.items;
+  room : vec_capacity l.cells ≡ vec_capacity l.fn.cells;
+}
