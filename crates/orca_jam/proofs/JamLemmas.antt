@@ -1,6 +1,6 @@
 -- What a machine that hands share keeps.
 use Rattle.std.proofs.Common.{◌≡◌, ◌≢◌, ℕ, ◌<◌, ◌≤◌, Bool, true, false, true≢false, List, [], length, Option, Some, None, Ok, Err, refl, arith, ap, sym, ◌∙◌}
-use Rattle.std.specs.Prelude.{Result, ◌==◌}
+use Rattle.std.specs.Prelude.{Result, ◌==◌, if◌then◌else◌}
 use Rattle.std.specs.Option.{option_map_or}
 use Rattle.std.proofs.Math.Path.{subst}
 use Rattle.orca_base.specs.declared.command.Command.{Command}
@@ -16,7 +16,7 @@ use Rattle.orca_base.specs.Edits.{clipped}
 use Rattle.orca_base.specs.Grids.{Sheet}
 use Rattle.orca_base.specs.Histories.{last_edit}
 use Rattle.orca_jam.proofs.OwnerLaws.{keeps_owners}
-use Rattle.orca_jam.specs.Crews.{CrewState, answer_to, asked, denial_at, denial_of, new_player, offered, player_at, struck_by, took_by, wish_at, with_editor, with_player}
+use Rattle.orca_jam.specs.Crews.{CrewState, answer_to, asked, denial_at, denial_of, denied_by, new_player, offered, player_at, says_away, struck_by, took_by, wish_at, with_player}
 use Rattle.orca_jam.specs.Jamming.{Answered, AreInside, IsJam, JamState, Jams, Wished, around_of, before, crew_after, crew_in}
 use Rattle.orca_jam.specs.Laws.{AreOwners}
 use Rattle.orca_jam.specs.Owners.{owned}
@@ -25,15 +25,14 @@ use Rattle.orca_jam.specs.declared.answers.JamFault.{JamFault}
 use Rattle.orca_jam.specs.declared.answers.JamReply.{JamReply}
 use Rattle.orca_jam.specs.declared.denial.Denial.{Denial}
 use Rattle.orca_jam.specs.declared.player.Player.{Player}
-use Rattle.orca_term.specs.Editing.{area_of, editor_after}
+use Rattle.orca_term.specs.Editing.{area_of, turned_page}
 use Rattle.orca_term.specs.declared.around.Around.{Around}
-use Rattle.orca_term.specs.declared.editor.Editor.{Editor}
 use Rattle.orca_term.specs.declared.editor.Wish.{Wish}
 use Rattle.orca_term.specs.declared.editor.Wish.TheVariants as wish
 use Rattle.orca_term.specs.declared.keys.Key.{Key}
 use Rattle.std.proofs.lemmas.Grind.{get_or-set_at}
 use Rattle.std.proofs.lemmas.Bool.Decides.{nat_tests}
-use Rattle.std.proofs.lemmas.List.{get_or-set_other, get_or-set_same, length-set, set-get_or, set-set}
+use Rattle.std.proofs.lemmas.List.{get_or-set_other, length-set, set-get_or, set-set}
 use Rattle.orca_jam.specs.declared.owner.Owner.{Owner}
 use Rattle.orca_edit.specs.Machines.{Acts}
 use Rattle.orca_edit.specs.Obeying.{MachineState, Obeyed, accept, carry_out, jump_to, obey, piece_of, place, redo, refuse, retract, rule_against}
@@ -208,10 +207,15 @@ pub asks-no-redo : (c : CrewState) (hand : ℕ) (k : Key) (a : Around) (w : Wish
     → Ok w ≡ answer_to c hand k a → w ≢ wish.Do command.Redo
 unfolding denial_of
 asks-no-redo c hand k a w shared told redo =
-    let not_so = no_redo c (wish_at c hand k a) shared in
+    let not_so = no_redo_asked (says_away c hand k) in
     let is : w ≡ asked c hand k a = told-by (denial_at c hand k a) w (asked c hand k a) told in
     absurd (true≢false (sym (ap is_redo redo) ∙ (ap is_redo is ∙ not_so)))
   where
+    no_redo_asked : (b : Bool)
+        → is_redo (if b then wish.Nothing else offered c (wish_at c hand k a)) ≡ false
+    no_redo_asked true = refl
+    no_redo_asked false = no_redo c (wish_at c hand k a) shared
+
     told-by : (denial : Option Denial) (w v : Wish)
         → ◌≡◌ {A = Result Wish Denial} (Ok w) (option_map_or Err denial (Ok v)) → w ≡ v
     told-by None w v told = cc
@@ -234,48 +238,50 @@ inside-with m c hand p inside there one other below = by (other == hand) refl
         rw (get_or-set_other c.players hand other p (new_player false) differs)
         (inside other (omega (arith, below, length-set c.players hand p)))
 
--- a crew with another editor is still one
-pub sound-with : (m : MachineState) (c : CrewState) (hand : ℕ) (e : Editor) → IsJam m c
-    → hand < length c.players → IsArea (piece_of m).sheet.dims (area_of e)
-    → IsJam m (with_editor hand e c)
-sound-with m c hand e sound there one = record {
+-- a crew with another player is still one
+pub sound-with : (m : MachineState) (c : CrewState) (hand : ℕ) (p : Player) → IsJam m c
+    → hand < length c.players → IsArea (piece_of m).sheet.dims (area_of p.editor)
+    → IsJam m (with_player hand p c)
+sound-with m c hand p sound there one = record {
   shared = sound.shared;
   room = sound.room;
   owners = sound.owners;
-  inside =
-      inside-with m c hand (record (player_at c hand) { editor = e }) sound.inside there one;
+  inside = inside-with m c hand p sound.inside there one;
 }
 
--- an editor that is put back
-restored : (c : CrewState) (hand : ℕ) (e : Editor) → hand < length c.players
-    → with_editor hand (player_at c hand).editor (with_editor hand e c) ≡ c
-restored c hand e there =
-    let p : Player = record (player_at c hand) { editor = e } in
-    let same = get_or-set_same c.players hand p (new_player false) there in
-    rw same
-    (ap (λ (ps : List Player). record c { players = ps })
-    (set-set c.players hand p (player_at c hand) ∙ set-get_or c.players hand (new_player false)))
+-- and so is one whose page of help a denied key has closed
+pub sound-denied : (m : MachineState) (c : CrewState) (hand : ℕ) (k : Key) → IsJam m c
+    → hand < length c.players → IsJam m (denied_by hand k c)
+sound-denied m c hand k sound there =
+    let p = player_at c hand in
+    sound-with m c hand (record p { editor = turned_page k p.editor }) sound there
+    (sound.inside hand there)
+
+-- a player that is put back
+restored : (c : CrewState) (hand : ℕ) (p : Player)
+    → with_player hand (player_at c hand) (with_player hand p c) ≡ c
+restored c hand p =
+    ap (λ (ps : List Player). record c { players = ps })
+    (set-set c.players hand p (player_at c hand) ∙ set-get_or c.players hand (new_player false))
 
 -- a wish that was granted is what became of the key
-pub granted : (s : JamState) (hand : ℕ) (k : Key) (w : Wish) (e : Editor) (c : CrewState)
+pub granted : (s : JamState) (hand : ℕ) (k : Key) (w : Wish) (p : Player) (c : CrewState)
     (answer : Result JamReply JamFault) (t : JamState) (messages : List Message) (a : Around)
-    → hand < length s.crew.players → e ≡ (player_at s.crew hand).editor → a ≡ around_of s hand
+    → p ≡ player_at s.crew hand → a ≡ around_of s hand k
     → Ok w ≡ answer_to s.crew hand k a → c ≡ struck_by hand k a s.crew
-    → Wished (before hand e (record s { crew = c })) hand c w answer t messages
+    → Wished (before hand p (record s { crew = c })) hand c w answer t messages
     → Jams s hand k answer t messages
-granted s hand k w e c answer t messages a there editor around told crew wished =
-    let after : Editor = editor_after k a (player_at s.crew hand).editor in
-    let back : before hand e (record s { crew = c }) ≡ s =
-    rw (editor, crew) (ap (λ (x : CrewState). record s { crew = x }) (restored s.crew hand after there))
-    in
-    let first : Answered s hand c (Ok w) answer t messages =
+granted s hand k w p c answer t messages a player around told crew wished =
+    let back : before hand p (record s { crew = c }) ≡ s =
+    rw (player, crew) (ap (λ (x : CrewState). record s { crew = x }) (restored s.crew hand _)) in
+    let first : Answered s hand k c (Ok w) answer t messages =
     subst (λ (x : JamState). Wished x hand c w answer t messages) back wished in
-    let second : Answered s hand (struck_by hand k a s.crew) (Ok w) answer t messages =
-    subst (λ (x : CrewState). Answered s hand x (Ok w) answer t messages) crew first in
+    let second : Answered s hand k (struck_by hand k a s.crew) (Ok w) answer t messages =
+    subst (λ (x : CrewState). Answered s hand k x (Ok w) answer t messages) crew first in
     let third :
-    Answered s hand (struck_by hand k a s.crew) (answer_to s.crew hand k a) answer t messages =
+    Answered s hand k (struck_by hand k a s.crew) (answer_to s.crew hand k a) answer t messages =
     subst (λ (x : Result Wish Denial).
-    Answered s hand (struck_by hand k a s.crew) x answer t messages) told second in
+    Answered s hand k (struck_by hand k a s.crew) x answer t messages) told second in
     subst (λ (x : Around).
-    Answered s hand (struck_by hand k x s.crew) (answer_to s.crew hand k x) answer t messages)
+    Answered s hand k (struck_by hand k x s.crew) (answer_to s.crew hand k x) answer t messages)
     around third

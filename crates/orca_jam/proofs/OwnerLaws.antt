@@ -1,6 +1,6 @@
 -- The owners of a history go with it, and an undo spares the edits of other hands.
 use Rattle.std.proofs.Common.{◌≡◌, ℕ, zero, suc, ◌-◌, ◌<◌, Bool, true, false, true≢false, List, [], ◌∷◌, ◌++◌, length, drop, take, map, Option, Some, None, refl, arith, ap, sym, ◌∙◌, length-append}
-use Rattle.std.specs.Prelude.{if◌then◌else◌, ◌==◌, ◌||◌, filter, is_some, nat_lt, not, slice_get, zip, cond}
+use Rattle.std.specs.Prelude.{if◌then◌else◌, ◌==◌, ◌||◌, is_some, nat_lt, slice_get, cond}
 use Rattle.std.specs.List.{remove}
 use Rattle.std.specs.Option.{option_map, option_map_or, option_or}
 use Rattle.std.proofs.Math.Path.{subst}
@@ -20,8 +20,8 @@ use Rattle.orca_edit.proofs.RedoLemmas.{plain-by}
 use Rattle.orca_edit.proofs.RuleLemmas.{entered, obey-retract, obey-rewind, obey-undo, some-entry, undoes_some}
 use Rattle.orca_jam.specs.Crews.{CrewState, denial_of}
 use Rattle.orca_jam.specs.Denials.{not_yours}
-use Rattle.orca_jam.specs.Laws.{AreOwners, KeepsOwners, RetractSpares, UndoSpares, edits_of_others, frames_and_others, is_frame, is_of_other}
-use Rattle.orca_jam.specs.Owners.{ends_in_hush, is_edit_command, last_editor, left_owners, nobodys, owned}
+use Rattle.orca_jam.specs.Laws.{AreOwners, KeepsOwners, RetractSpares, UndoSpares, edits_of_others, frames_and_others, is_frame}
+use Rattle.orca_jam.specs.Owners.{ends_in_hush, is_edit_command, is_of_other, last_editor, left_owners, nobodys, owned}
 use Rattle.orca_jam.specs.declared.denial.Denial.TheVariants.{NotYours}
 use Rattle.orca_jam.specs.declared.owner.Owner.{Owner}
 use Rattle.orca_term.specs.declared.editor.Wish.TheVariants as wish

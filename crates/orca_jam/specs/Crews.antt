@@ -1,24 +1,28 @@
 -- The hands at a session, and what each may ask for.
-use Rattle.std.specs.Prelude.{ℕ, ◌==◌, ◌+◌, Bool, true, false, not, ◌&&◌, if◌then◌else◌, List, [], ◌∷◌, ◌++◌, drop, map, length, replicate, slice_index_or, slice_set, take, Option, Some, None, Result, Ok, Err}
+use Rattle.std.specs.Prelude.{ℕ, zero, suc, ◌==◌, ◌+◌, ◌-◌, Bool, true, false, not, ◌&&◌, if◌then◌else◌, List, [], ◌∷◌, ◌++◌, count_by, drop, filter, map, min, slice_get, length, replicate, slice_index_or, slice_set, take, Option, Some, None, Result, Ok, Err}
 use Rattle.std.specs.Option.{option_map_or}
 use Rattle.orca_base.specs.declared.command.Command.{Command}
 use Rattle.orca_base.specs.declared.command.Command.TheVariants as command
 use Rattle.orca_base.specs.Grids.{Size}
+use Rattle.orca_base.specs.declared.command.Entry.{Entry}
+use Rattle.orca_base.specs.declared.limits.TheConstants.{RETRACTED_ENTRIES}
 use Rattle.orca_base.specs.declared.place.Place.{Place}
+use Rattle.orca_edit.specs.Machines.{is_free_edit}
 use Rattle.orca_jam.specs.Denials.{is_undo, not_yours}
-use Rattle.orca_jam.specs.Owners.{last_editor, owned}
+use Rattle.orca_jam.specs.Owners.{is_of_other, last_editor, owned}
 use Rattle.orca_jam.specs.declared.crew.TheConstants.{LEADER}
 use Rattle.orca_jam.specs.declared.denial.Denial.{Denial}
 use Rattle.orca_jam.specs.declared.denial.Denial.TheVariants.{LeaderOnly}
 use Rattle.orca_jam.specs.declared.owner.Owner.{Owner}
 use Rattle.orca_jam.specs.declared.player.Player.{Player}
-use Rattle.orca_term.specs.Editing.{editor_after, editor_inside, new_editor, wish_of}
+use Rattle.orca_term.specs.Editing.{editor_after, editor_inside, new_editor, turned_page, wish_of}
 use Rattle.orca_term.specs.Keys.{Item, turn}
 use Rattle.orca_term.specs.declared.around.Around.{Around}
 use Rattle.orca_term.specs.declared.editor.Editor.{Editor}
 use Rattle.orca_term.specs.declared.editor.Wish.{Wish}
 use Rattle.orca_term.specs.declared.editor.Wish.TheVariants as wish
 use Rattle.orca_term.specs.declared.keys.Key.{Key}
+use Rattle.orca_term.specs.declared.keys.Key.TheVariants as key
 use Rattle.orca_term.specs.declared.keys.Pending.TheVariants.{Nothing}
 
 -- whether a hand plays alone, whether the full keys are read, whether each hand has a picture of
@@ -34,7 +38,7 @@ pub record CrewState : Type 0 where
 
 -- nothing is pending, and a new editor
 abbrev pub new_player : Bool → Player
-new_player full = record { keys = Nothing; editor = new_editor full }
+new_player full = record { keys = Nothing; editor = new_editor full; away = false }
 
 -- a hand that plays alone
 abbrev pub crew_alone : Bool → CrewState
@@ -93,10 +97,22 @@ fitted_crew d c = record c { players = map (fitted_player d) c.players }
 abbrev pub cursor_of : Player → Place
 cursor_of p = record { y = p.editor.y; x = p.editor.x }
 
+-- a hand that is away is not shown
+abbrev pub is_here : Player → Bool
+is_here p = not p.away
+
 -- the cursors of the other hands, which the picture of a hand shows where each hand has one
 abbrev pub cursors_beside : CrewState → ℕ → List Place
 cursors_beside c hand =
-    if c.views then map cursor_of (take hand c.players ++ drop (hand + 1) c.players) else []
+    if c.views
+    then map cursor_of (filter is_here (take hand c.players ++ drop (hand + 1) c.players)) else []
+
+-- whether a hand is away, and how many are
+abbrev pub is_away : CrewState → ℕ → Bool
+is_away c hand = (player_at c hand).away
+
+abbrev pub away_in : CrewState → ℕ
+away_in c = count_by (λ p. p.away) c.players
 
 -- ---- what a hand may ask for
 
@@ -137,9 +153,23 @@ offered c w = if offers c w then w else wish.Nothing
 abbrev pub wish_at : CrewState → ℕ → Key → Around → Wish
 wish_at c hand key a = wish_of key a (player_at c hand).editor
 
--- the same where it isn't denied
+-- whether a hand may go away: where each hand has a picture, another one than the first
+abbrev pub may_leave : CrewState → ℕ → Bool
+may_leave c hand = c.views && not (hand == LEADER)
+
+-- a key by which a terminal of no rows and no columns is told
+abbrev pub tells_nothing : Key → Bool
+tells_nothing (key.Screen rows columns) = rows == 0 && columns == 0
+tells_nothing _ = false
+
+-- whether a key says that its hand is away
+abbrev pub says_away : CrewState → ℕ → Key → Bool
+says_away c hand key = tells_nothing key && may_leave c hand
+
+-- the same where it isn't denied: a hand that goes away asks for nothing
 abbrev pub asked : CrewState → ℕ → Key → Around → Wish
-asked c hand key a = offered c (wish_at c hand key a)
+asked c hand key a =
+    if says_away c hand key then wish.Nothing else offered c (wish_at c hand key a)
 
 -- why a key is denied to a hand, if it is
 abbrev pub denial_at : CrewState → ℕ → Key → Around → Option Denial
@@ -149,11 +179,56 @@ denial_at c hand key a = denial_of c hand (wish_at c hand key a)
 abbrev pub answer_to : CrewState → ℕ → Key → Around → Result Wish Denial
 answer_to c hand key a = option_map_or Err (denial_at c hand key a) (Ok (asked c hand key a))
 
+-- a hand that goes away: its text ends, and all else stays
+abbrev pub left_player : Player → Player
+left_player p = record p { editor = record p.editor { flow = None }; away = true }
+
+-- whether a hand is away after another key: any other size says that it is here
+abbrev pub away_after : Key → Bool → Bool
+away_after (key.Screen rows columns) away = false
+away_after _ away = away
+
+-- a hand after another key
+abbrev pub struck_player : Key → Around → Player → Player
+struck_player key a p =
+    record p { editor = editor_after key a p.editor; away = away_after key p.away }
+
 -- the crew after a key that isn't denied
 abbrev pub struck_by : ℕ → Key → Around → CrewState → CrewState
-struck_by hand key a c = with_editor hand (editor_after key a (player_at c hand).editor) c
+struck_by hand key a c =
+    let p = player_at c hand in
+    with_player hand (if says_away c hand key then left_player p else struck_player key a p) c
+
+-- after one that is: it closes the page of help
+abbrev pub denied_by : ℕ → Key → CrewState → CrewState
+denied_by hand key c = with_editor hand (turned_page key (player_at c hand).editor) c
 
 -- the crew after a command of a hand that was accepted, where the history has n entries then
 abbrev pub took_by : ℕ → Command → ℕ → CrewState → CrewState
 took_by hand command n c =
     if c.alone then c else record c { owners = owned hand command n c.owners }
+
+-- ---- what a hand may take back
+
+-- an entry of a history is an edit that a Retract may take out, and is not another hand's
+abbrev pub is_own : CrewState → ℕ → List Entry → ℕ → Bool
+is_own c hand history moment =
+    is_free_edit (drop moment history)
+    && not (option_map_or (is_of_other hand) (slice_get c.owners moment) false)
+
+-- the last of them among the last n entries before a moment
+abbrev pub last_own : CrewState → ℕ → List Entry → ℕ → ℕ → Option ℕ
+last_own c hand history end zero = None
+last_own c hand history end (suc n) =
+    if is_own c hand history (end - 1) then Some (end - 1)
+    else last_own c hand history (end - 1) n
+
+-- the last of them among the last entries
+abbrev pub own_edit : CrewState → ℕ → List Entry → Option ℕ
+own_edit c hand history =
+    last_own c hand history (length history) (min (length history) RETRACTED_ENTRIES)
+
+-- what a key is told of that: the key alone that takes an edit back
+abbrev pub own_for : Key → CrewState → ℕ → List Entry → Option ℕ
+own_for key.Retract c hand history = own_edit c hand history
+own_for _ c hand history = None

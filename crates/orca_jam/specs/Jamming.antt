@@ -1,5 +1,5 @@
 -- A machine that several hands share: what becomes of a key.
-use Rattle.std.specs.Prelude.{ℕ, ◌≡◌, ◌≤◌, ◌<◌, false, List, [], length, Result, Ok, Err}
+use Rattle.std.specs.Prelude.{ℕ, ◌≡◌, ◌≤◌, ◌<◌, false, List, [], length, Option, Result, Ok, Err}
 use Rattle.orca_base.specs.Areas.{IsArea}
 use Rattle.orca_base.specs.Grids.{glyph_at}
 use Rattle.orca_base.specs.declared.command.Command.{Command}
@@ -12,7 +12,7 @@ use Rattle.orca_edit.specs.Machines.{Acts}
 use Rattle.orca_edit.specs.Obeying.{MachineState, piece_of}
 use Rattle.orca_edit.specs.Prices.{Kept, charge, kept_after}
 use Rattle.orca_edit.specs.declared.machine.Machine.{Ghosts}
-use Rattle.orca_jam.specs.Crews.{CrewState, answer_to, fitted_crew, player_at, struck_by, took_by, with_editor}
+use Rattle.orca_jam.specs.Crews.{CrewState, answer_to, denied_by, fitted_crew, own_for, player_at, struck_by, took_by, with_player}
 use Rattle.orca_jam.specs.Laws.{AreOwners}
 use Rattle.orca_jam.specs.declared.denial.Denial.{Denial}
 use Rattle.orca_jam.specs.declared.denial.Denial.TheVariants as denial
@@ -20,6 +20,7 @@ use Rattle.orca_jam.specs.declared.answers.JamFault.{JamFault}
 use Rattle.orca_jam.specs.declared.answers.JamFault.TheVariants as refused
 use Rattle.orca_jam.specs.declared.answers.JamReply.{JamReply}
 use Rattle.orca_jam.specs.declared.answers.JamReply.TheVariants as became
+use Rattle.orca_jam.specs.declared.player.Player.{Player}
 use Rattle.orca_jam.specs.declared.shared.Shared.{Shared}
 use Rattle.orca_term.specs.Editing.{area_of}
 use Rattle.orca_term.specs.declared.around.Around.{Around}
@@ -52,15 +53,16 @@ pub record IsJam (m : MachineState) (c : CrewState) : Type 0 where
   pub owners : AreOwners m.history c.owners
   pub inside : AreInside m c
 
--- what a key is told
-abbrev pub around_in : MachineState → Editor → ScreenSize → Around
-around_in m e screen =
+-- what a key is told, where this is told of the hand's own edits
+abbrev pub around_in : MachineState → Editor → ScreenSize → Option ℕ → Around
+around_in m e screen own =
     let at : Place = record { y = e.y; x = e.x } in
     record {
       dims = (piece_of m).sheet.dims;
       moments = length m.history;
       glyph = glyph_at (piece_of m).sheet at;
       screen = screen;
+      own = own;
     }
 
 -- every editor is brought into the grid
@@ -139,23 +141,30 @@ abbrev pub Wished : JamState → ℕ → CrewState → Wish → Result JamReply 
 Wished s hand c (wish.Do command) answer t messages = IsActed s hand command c answer t messages
 Wished s hand c w answer t messages = IsMoved s w c answer t messages
 
+-- a key of a hand is denied: it closes the page of help, and all else is as before
+abbrev pub IsDenied : JamState → ℕ → Key → JamState → List Message → Type 0
+IsDenied s hand key t messages =
+    IsAsBefore (record s { crew = denied_by hand key s.crew }) t messages
+
 -- what is done of a key of a hand
-abbrev pub Answered : JamState → ℕ → CrewState → Result Wish Denial → Result JamReply JamFault
-    → JamState → List Message → Type 0
-Answered s hand c (Err denial) answer t messages =
-    (answer ≡ Err (fault_of_denial denial)) × IsAsBefore s t messages
-Answered s hand c (Ok w) answer t messages = Wished s hand c w answer t messages
+abbrev pub Answered : JamState → ℕ → Key → CrewState → Result Wish Denial
+    → Result JamReply JamFault → JamState → List Message → Type 0
+Answered s hand key c (Err denial) answer t messages =
+    (answer ≡ Err (fault_of_denial denial)) × IsDenied s hand key t messages
+Answered s hand key c (Ok w) answer t messages = Wished s hand c w answer t messages
 
 -- what a key of a hand is told
-abbrev pub around_of : JamState → ℕ → Around
-around_of s hand = around_in s.machine (player_at s.crew hand).editor s.screen
+abbrev pub around_of : JamState → ℕ → Key → Around
+around_of s hand key =
+    around_in s.machine (player_at s.crew hand).editor s.screen
+    (own_for key s.crew hand s.machine.history)
 
 -- what became of a key of a hand
 abbrev pub Jams : JamState → ℕ → Key → Result JamReply JamFault → JamState → List Message
     → Type 0
 Jams s hand key answer t messages =
-    let around = around_of s hand in
-    Answered s hand (struck_by hand key around s.crew) (answer_to s.crew hand key around)
+    let around = around_of s hand key in
+    Answered s hand key (struck_by hand key around s.crew) (answer_to s.crew hand key around)
     answer t messages
 
 -- ---- its price
@@ -178,7 +187,7 @@ wish_price s (Ok (wish.Do command)) answer = charge (machine_answer answer) s.ma
 wish_price s _ answer = 0
 
 abbrev pub jam_price : JamState → ℕ → Key → Result JamReply JamFault → ℕ
-jam_price s hand key answer = wish_price s (answer_to s.crew hand key (around_of s hand)) answer
+jam_price s hand key answer = wish_price s (answer_to s.crew hand key (around_of s hand key)) answer
 
 -- ---- by the ghost members of a machine
 
@@ -191,6 +200,6 @@ jam_state g j = record {
   screen = j.screen;
 }
 
--- where the editor of a hand was this one
-abbrev pub before : ℕ → Editor → JamState → JamState
-before hand e s = record s { crew = with_editor hand e s.crew }
+-- where the player of a hand was this one
+abbrev pub before : ℕ → Player → JamState → JamState
+before hand p s = record s { crew = with_player hand p s.crew }

@@ -1,5 +1,5 @@
 -- What holds of the owners of a history, and of hands that share a session.
-use Rattle.std.specs.Prelude.{ℕ, ◌≡◌, ◌≢◌, Bool, true, false, not, ◌&&◌, ◌||◌, ◌==◌, List, filter, length, map, zip, Some, None, slice_get, All}
+use Rattle.std.specs.Prelude.{ℕ, ◌≡◌, ◌≢◌, Bool, true, false, ◌||◌, List, filter, length, map, zip, Some, None, slice_get, All}
 use Rattle.orca_base.specs.declared.command.Command.{Command}
 use Rattle.orca_base.specs.declared.command.Command.TheVariants as command
 use Rattle.orca_base.specs.declared.command.Entry.{Entry}
@@ -7,7 +7,7 @@ use Rattle.orca_base.specs.declared.command.Entry.TheVariants.{Frame}
 use Rattle.orca_base.specs.Histories.{is_edit}
 use Rattle.orca_edit.specs.Obeying.{MachineState, obey, rule_against}
 use Rattle.orca_jam.specs.Crews.{CrewState, denial_of}
-use Rattle.orca_jam.specs.Owners.{owned}
+use Rattle.orca_jam.specs.Owners.{is_of_other, owned}
 use Rattle.orca_jam.specs.declared.crew.TheConstants.{LEADER}
 use Rattle.orca_jam.specs.declared.owner.Owner.{Owner}
 use Rattle.orca_jam.specs.declared.owner.TheConstants.{NOBODY}
@@ -26,10 +26,6 @@ KeepsOwners =
     → AreOwners m.history owners → c ≢ command.Redo → rule_against m c ≡ None
     → let after = (obey m c).machine.history in
     AreOwners after (owned hand c (length after) owners)
-
--- an edit of another hand
-abbrev pub is_of_other : ℕ → Owner → Bool
-is_of_other hand owner = owner.edit && not (owner.hand == hand)
 
 -- the edits of other hands, in order, each with its entry
 abbrev pub edits_of_others : ℕ → List Entry → List Owner → List (Entry × Owner)

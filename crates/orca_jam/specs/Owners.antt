@@ -1,5 +1,5 @@
 -- Whose the entries of a history are.
-use Rattle.std.specs.Prelude.{ℕ, ◌-◌, Bool, true, false, nat_lt, if◌then◌else◌, List, [], ◌∷◌, ◌++◌, length, take, Option, Some, None}
+use Rattle.std.specs.Prelude.{ℕ, ◌-◌, ◌==◌, Bool, true, false, not, ◌&&◌, nat_lt, if◌then◌else◌, List, [], ◌∷◌, ◌++◌, length, take, Option, Some, None}
 use Rattle.std.specs.List.{remove}
 use Rattle.std.specs.Option.{option_or}
 use Rattle.orca_base.specs.declared.command.Command.{Command}
@@ -13,6 +13,10 @@ abbrev pub last_editor : List Owner → Option ℕ
 last_editor [] = None
 last_editor (owner ∷ owners) =
     option_or (last_editor owners) (if owner.edit then Some owner.hand else None)
+
+-- an edit of another hand
+abbrev pub is_of_other : ℕ → Owner → Bool
+is_of_other hand owner = owner.edit && not (owner.hand == hand)
 
 -- the entry that a command adds is an edit, but for a frame and a Hush
 abbrev pub is_edit_command : Command → Bool

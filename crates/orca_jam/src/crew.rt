@@ -1,9 +1,9 @@
 //! The hands at a session.
 
-ghost use Rattle.std.specs.Prelude.{◌≡◌, ◌+◌, ◌<◌, ◌≤◌, ◌++◌, ℕ, All, false, length, map, nat_le, slice_get, IfOk, OnErr, OnOk};
+ghost use Rattle.std.specs.Prelude.{◌≡◌, ◌+◌, ◌<◌, ◌≤◌, ◌++◌, ℕ, All, count_by, false, filter, length, map, nat_le, slice_get, IfOk, OnErr, OnOk};
 ghost use Rattle.orca_base.specs.Areas.{IsArea};
 ghost use Rattle.orca_base.specs.declared.limits.TheConstants.{MAX_HANDS};
-ghost use Rattle.orca_jam.specs.Crews.{answer_to, crew_alone, crew_at_start, cursor_of, cursors_beside, denial_of, fitted_crew, fitted_player, offered, player_at, is_leaders as belongs_to_leader, struck_by, took_by, turned_by, viewers_of, with_editor, with_player};
+ghost use Rattle.orca_jam.specs.Crews.{answer_to, away_in, crew_alone, crew_at_start, cursor_of, cursors_beside, denial_of, denied_by, fitted_crew, fitted_player, is_away, is_here, is_leaders as belongs_to_leader, may_leave, offered, player_at, says_away, struck_by, tells_nothing, took_by, turned_by, viewers_of, with_player};
 ghost use Rattle.orca_jam.specs.Denials.{not_yours};
 ghost use Rattle.orca_term.specs.Editing.{area_of};
 ghost use Rattle.orca_term.specs.Keys.{Byte, Due, turn};
@@ -181,17 +181,8 @@ impl Crew {
         cursors
     }
 
-    /// The editor of a hand is this one.
-    pub fn set_editor(&mut self, hand: u8, editor: Editor)
-        requires { hand < length self.old.players }
-        ensures { self.new ≡ with_editor hand editor self.old }
-    {
-        let keys = self.player(hand).keys;
-        self.seat(hand, Player { keys, editor });
-    }
-
     /// The player of a hand.
-    fn player(&self, hand: u8) -> Player
+    pub(crate) fn player(&self, hand: u8) -> Player
         requires { hand < length self.now.players }
         ensures { result ≡ player_at self.now hand }
     {
@@ -199,31 +190,80 @@ impl Crew {
     }
 
     /// The player of a hand is this one.
-    fn seat(&mut self, hand: u8, player: Player)
+    pub(crate) fn seat(&mut self, hand: u8, player: Player)
         requires { hand < length self.old.players }
         ensures { self.new ≡ with_player hand player self.old }
     {
         self.players[hand as usize] = player;
     }
 
-    /// What a key of a hand asks for, with what it makes of the editor of that hand. A key that is denied
-    /// changes nothing: [`Denial::LeaderOnly`] if what it asks for belongs to the first hand, and else
-    /// [`Denial::NotYours`] if it would take back the edit of another.
+    /// Whether a hand is away.
+    pub fn is_away(&self, hand: u8) -> bool
+        requires { hand < length self.now.players }
+        ensures { result ≡ is_away self.now hand }
+    {
+        self.players[hand as usize].away
+    }
+
+    /// How many hands are away.
+    pub fn away(&self) -> u8
+        ensures { result ≡ away_in self.now }
+    {
+        count_away(&self.players[..self.hands as usize])
+    }
+
+    /// What a key of a hand asks for, with what it makes of that hand. A key that is denied closes the page
+    /// of help, and changes nothing else: [`Denial::LeaderOnly`] if what it asks for belongs to the first
+    /// hand, and else [`Denial::NotYours`] if it would take back the edit of another.
     pub fn ask(&mut self, hand: u8, key: Key, around: &Around) -> Result<Wish, Denial>
         requires hand { hand < length self.old.players }
         requires inside { IsArea around.now.dims (area_of (player_at self.old hand).editor) }
         ensures answer { result ≡ answer_to self.old hand key around.now }
-        ensures denied { OnErr result (self.new ≡ self.old) }
+        ensures denied { OnErr result (self.new ≡ denied_by hand key self.old) }
         ensures asked { OnOk result (self.new ≡ struck_by hand key around.now self.old) }
         ensures inside { IsArea around.now.dims (area_of (player_at self.new hand).editor) }
     {
-        let mut player = self.player(hand);
-        let wish = player.editor.key(key, around);
+        let player = self.player(hand);
+        let mut struck = player;
+        let wish = struck.strike(key, around);
         if let Some(denial) = self.denial(hand, &wish) {
+            self.close_page(hand, &key);
             return Err(denial);
         }
-        self.seat(hand, player);
+        if self.says_away(hand, &key) {
+            struck = player;
+            struck.leave();
+            self.seat(hand, struck);
+            return Ok(Wish::Nothing);
+        }
+        self.seat(hand, struck);
         Ok(self.offered(wish))
+    }
+
+    /// Does to the page of help what a key does that is denied.
+    fn close_page(&mut self, hand: u8, key: &Key)
+        requires { hand < length self.old.players }
+        ensures crew { self.new ≡ denied_by hand key.now self.old }
+        ensures area { area_of (player_at self.new hand).editor
+            ≡ area_of (player_at self.old hand).editor }
+    {
+        let mut player = self.player(hand);
+        player.editor.turn_page(key);
+        self.seat(hand, player);
+    }
+
+    /// Whether a key says that its hand is away: a hand that may go tells a terminal of no rows and no columns.
+    fn says_away(&self, hand: u8, key: &Key) -> bool
+        ensures { result ≡ says_away self.now hand key.now }
+    {
+        tells_nothing(key) && self.may_leave(hand)
+    }
+
+    /// Whether a hand may go away.
+    fn may_leave(&self, hand: u8) -> bool
+        ensures { result ≡ may_leave self.now hand }
+    {
+        self.views && hand != LEADER
     }
 
     /// Why a wish is denied to a hand, if it is.
@@ -306,14 +346,41 @@ fn fit_all(players: &mut [Player], dims: Dims)
     }
 }
 
-/// Adds the cursors of players at the end, where they fit.
+/// Whether a key tells a terminal of no rows and no columns.
+fn tells_nothing(key: &Key) -> bool
+    ensures { result ≡ tells_nothing key.now }
+{
+    match *key {
+        Key::Screen { rows, columns } => rows == 0 && columns == 0,
+        _ => false,
+    }
+}
+
+/// Adds the cursors of those players at the end that are not away, where they fit.
 fn push_cursors(cursors: &mut Cursors, players: &[Player])
     requires { length cursors.old + length players.now ≤ MAX_CURSORS }
-    ensures { cursors.new ≡ cursors.old ++ map cursor_of players.now }
+    ensures cursors { cursors.new ≡ cursors.old ++ map cursor_of (filter is_here players.now) }
+    ensures few { length cursors.new ≤ length cursors.old + length players.now }
 {
     for player in players {
-        cursors.push(player.cursor());
+        if !player.away {
+            cursors.push(player.cursor());
+        }
     }
+}
+
+/// How many of the players are away.
+fn count_away(players: &[Player]) -> u8
+    requires { length players.now ≤ MAX_HANDS }
+    ensures { result ≡ count_by (λ p. p.away) players.now }
+{
+    let mut count = 0;
+    for player in players {
+        if player.away {
+            count += 1;
+        }
+    }
+    count
 }
 
 /// Why an undo is denied to a hand, where the last edit is the one of this hand, if there is an edit.

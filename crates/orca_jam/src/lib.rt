@@ -8,6 +8,7 @@ mod denial;
 mod jam;
 mod laws;
 mod limits;
+mod own;
 mod owner;
 mod player;
 mod shared;

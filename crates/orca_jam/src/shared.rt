@@ -12,6 +12,7 @@ ghost use Rattle.orca_term.specs.declared.editor.Wish.TheVariants as wishes;
 ghost use Rattle.orca_term.specs.Editing.{area_of};
 
 use crate::answers::{denied, failed, moved};
+use crate::player::Player;
 use crate::{Crew, JamFault, JamReply};
 use orca_base::{Command, Fault, Look, Place, Reply, Steps};
 use orca_edit::Machine;
@@ -30,10 +31,10 @@ pub struct Shared<M> {
     pub screen: ScreenSize,
 }
 
-/// What a key is told.
-fn around<M: Machine>(machine: &M, editor: &Editor, screen: ScreenSize) -> Around
+/// What a key is told, where this is told of the hand's own edits.
+fn around<M: Machine>(machine: &M, editor: &Editor, screen: ScreenSize, own: Option<u32>) -> Around
     requires inside { IsArea (piece_of (M.machine machine.now)).sheet.dims (area_of editor.now) }
-    ensures { result ≡ around_in (M.machine machine.now) editor.now screen }
+    ensures { result ≡ around_in (M.machine machine.now) editor.now screen own }
 {
     machine.is_shown();
     let at = Place {
@@ -45,6 +46,7 @@ fn around<M: Machine>(machine: &M, editor: &Editor, screen: ScreenSize) -> Aroun
         moments: machine.moments(),
         glyph: Look::glyph_at(machine, at),
         screen,
+        own,
     }
 }
 
@@ -93,12 +95,12 @@ impl<M: Machine> Shared<M> {
         }
     }
 
-    /// Does what a hand asks for whose editor has followed the key, and was this one before. After a fault it
+    /// Does what a hand asks for whose player has followed the key, and was this one before. After a fault it
     /// is this one again.
     fn grant<L: Ledger>(
         &mut self,
         hand: u8,
-        editor: &Editor,
+        player: &Player,
         wish: &Wish,
         messages: &mut Messages,
         steps: &mut Steps<L>,
@@ -106,10 +108,10 @@ impl<M: Machine> Shared<M> {
         requires hand { hand < length self.old.crew.players }
         requires messages { messages.old ≡ [] }
         requires inside { IsArea (piece_of (M.machine self.old.machine)).sheet.dims
-            (area_of editor.now) }
+            (area_of player.now.editor) }
         requires sound { IsJam (M.machine self.old.machine) self.old.crew }
         requires redo { wish.now ≢ wishes.Do Redo }
-        ensures wished { Wished (before hand editor.now (jam_state M.Machine.own self.old)) hand
+        ensures wished { Wished (before hand player.now (jam_state M.Machine.own self.old)) hand
             self.old.crew wish.now result (jam_state M.Machine.own self.new) messages.new }
         ensures sound { IsJam (M.machine self.new.machine) self.new.crew }
         ensures screen { self.new.screen ≡ self.old.screen }
@@ -125,7 +127,7 @@ impl<M: Machine> Shared<M> {
                         reply,
                     }),
                     Err(fault) => {
-                        self.crew.set_editor(hand, *editor);
+                        self.crew.seat(hand, *player);
                         Err(failed(*command, fault))
                     }
                 }
@@ -153,11 +155,12 @@ impl<M: Machine> Shared<M> {
             ≤ steps.old + M.residue self.old.machine
             + jam_price (jam_state M.Machine.own self.old) hand key result }
     {
-        let editor = *self.crew.editor(hand);
-        let around = around(&self.machine, &editor, self.screen);
+        let player = self.crew.player(hand);
+        let own = self.crew.own_for(&key, hand, &self.machine);
+        let around = around(&self.machine, &player.editor, self.screen, own);
         match self.crew.ask(hand, key, &around) {
             Err(denial) => Err(denied(denial)),
-            Ok(wish) => self.grant(hand, &editor, &wish, messages, steps),
+            Ok(wish) => self.grant(hand, &player, &wish, messages, steps),
         }
     }
 }

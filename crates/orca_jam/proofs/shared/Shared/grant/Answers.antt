@@ -2,7 +2,7 @@ use Rattle.std.proofs.Common.{◌≡◌, Err, ap, ◌∙◌}
 use Rattle.orca_edit.specs.Obeying.{MachineState}
 use Rattle.orca_edit.specs.Prices.{kept_after}
 use Rattle.orca_jam.proofs.JamLemmas.{acted-same, sound-with}
-use Rattle.orca_jam.specs.Crews.{with_editor}
+use Rattle.orca_jam.specs.Crews.{with_player}
 use Rattle.orca_jam.proofs.shared.Shared.grant.Goals as goal
 
 pub returns-in-Err-clause-wished : goal.returns-in-Err-clause-wished
@@ -19,8 +19,8 @@ returns-in-Err-clause-wished g c =
         machine = same.0;
         kept = told.kept;
         crew =
-            c.set_editor.ensures
-            ∙ ap (with_editor c.args.hand c.args.editor.now) told.err;
+            c.seat.ensures
+            ∙ ap (with_player c.args.hand c.args.player.now) told.err;
         silent = same.1;
       };
     })
@@ -32,6 +32,6 @@ returns-in-Err-clause-sound g c =
     let told = c.in-Err.ensures in
     let same : n ≡ m = (acted-same _ _ _ c.in-Err.fault _ told.acts).0 in
     let crew : c.act.new.self.crew ≡ c.args.self.now.crew = told.err in
-    rw (c.set_editor.ensures, crew, same)
-    (sound-with m c.args.self.now.crew c.args.hand c.args.editor.now c.requires.sound c.requires.hand
+    rw (c.seat.ensures, crew, same)
+    (sound-with m c.args.self.now.crew c.args.hand c.args.player.now c.requires.sound c.requires.hand
     c.requires.inside)
