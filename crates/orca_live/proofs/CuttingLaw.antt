@@ -30,7 +30,7 @@ use Rattle.orca_edit.proofs.FoldLemmas.{fold_entries-append, silence-piece_after
 use Rattle.orca_op.specs.Scan.{places, scan}
 use Rattle.orca_op.proofs.VisitFacts.{dims_after_places}
 use Rattle.orca_op.specs.Rules.{rule}
-use Rattle.orca_jam.specs.Crews.{CrewState, asked, denial_at, fitted_crew, fitted_player, new_player, player_at, struck_by, turned_by, turned_player}
+use Rattle.orca_jam.specs.Crews.{CrewState, asked, denial_at, denied_by, fitted_crew, fitted_player, new_player, player_at, struck_by, turned_by, turned_player}
 use Rattle.orca_jam.specs.declared.denial.Denial.{Denial}
 use Rattle.orca_jam.specs.declared.owner.TheConstants.{NOBODY}
 use Rattle.orca_jam.specs.declared.player.Player.{Player}
@@ -119,9 +119,10 @@ screen_blank (v ∷ views) (suc hand) other = screen_blank views hand other
 screen_plain : (hand : ℕ) (s : LiveState) → screen_at hand (plain s) ≡ screen_at hand s
 screen_plain hand s = screen_blank s.views hand (unpainted s.setting.screen)
 
-around_plain : (hand : ℕ) (s : LiveState) → around_at hand (plain s) ≡ around_at hand s
-around_plain hand s =
-    ap (λ (d : ScreenSize). record (around_at hand s) { screen = d }) (screen_plain hand s)
+around_plain : (hand : ℕ) (key : Key) (s : LiveState)
+    → around_at hand key (plain s) ≡ around_at hand key s
+around_plain hand key s =
+    ap (λ (d : ScreenSize). record (around_at hand key s) { screen = d }) (screen_plain hand s)
 
 blank_set : (views : List Viewed) (hand : ℕ) (v : Viewed)
     → blank (slice_set (blank views) hand v) ≡ blank (slice_set views hand v)
@@ -159,25 +160,26 @@ where_plain : (hand : ℕ) (key : Key) (s : LiveState) (denial : Option Denial)
     → told core (struck_where hand key s denial) ≡ told core (struck_where hand key (plain s) denial)
 unfolding denied_course
 where_plain hand key s (Some denial) =
-    ap (shown_as (told core (denied_course hand denial s))) (sym (blank_twice s.views))
+    let t : LiveState = record s { crew = denied_by hand key s.crew } in
+    ap (shown_as (told core (denied_course hand denial t))) (sym (blank_twice s.views))
 where_plain hand key s None =
-    let around = around_at hand s in
+    let around = around_at hand key s in
     wish_plain hand (asked s.crew hand key around)
     (record s { crew = struck_by hand key around s.crew })
     ∙ ap (λ (a : Around).
     told core (wish_course hand (asked s.crew hand key a)
     (record (plain s) { crew = struck_by hand key a s.crew })))
-    (sym (around_plain hand s))
+    (sym (around_plain hand key s))
 
 press_plain : (hand : ℕ) (key : Key) (s : LiveState)
     → told core (press_course hand key s) ≡ told core (struck_course hand key (core s))
 unfolding press_course key_course struck_course
 press_plain hand key s =
     let t = fitted (struck_well hand key s) in
-    where_plain hand key t (denial_at t.crew hand key (around_at hand t))
+    where_plain hand key t (denial_at t.crew hand key (around_at hand key t))
     ∙ ap (λ (a : Around).
     told core (struck_where hand key (plain t) (denial_at t.crew hand key a)))
-    (sym (around_plain hand t))
+    (sym (around_plain hand key t))
 
 press_steady : (hand : ℕ) (key : Key) → Steady (press_course hand key)
 press_steady hand key s =

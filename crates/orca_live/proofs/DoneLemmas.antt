@@ -5,7 +5,7 @@ use Rattle.std.specs.List.{range_with_len}
 use Rattle.std.proofs.lemmas.Bool.{le-ltb, lt-ltb}
 use Rattle.std.proofs.lemmas.List.{drop_all, drop_more, length-map, length-set}
 use Rattle.std.proofs.lemmas.List.FromFn.{get_or-range_with_len, length-range_with_len}
-use Rattle.std.specs.Prelude.{◌||◌, nat_lt, replicate, slice_index_or, slice_set, unwrap_or, Option, None, Result, Ok, Err, Some, All, OnErr, OnOk}
+use Rattle.std.specs.Prelude.{◌||◌, ◌&&◌, nat_lt, replicate, slice_index_or, slice_set, unwrap_or, Option, None, Result, Ok, Err, Some, All, OnErr, OnOk}
 use Rattle.std.specs.Option.{option_map, option_map_or}
 use Rattle.orca_base.specs.declared.command.Command.{Command}
 use Rattle.orca_base.specs.declared.port.Port.TheVariants as port
@@ -13,7 +13,9 @@ use Rattle.orca_base.specs.Grids.{Sheet}
 use Rattle.orca_base.specs.MarkSet.{MarkSet}
 use Rattle.orca_concert.specs.Concerts.{Concert, concert_with, close_course as silence_course, command_course as obey_course, stance_of}
 use Rattle.orca_course.specs.Courses.{Course, each, mapped, onward, still, course}
-use Rattle.orca_course.specs.Doing.{Does, goes_of}
+use Rattle.orca_concert.specs.Manners.{News, aside_course}
+use Rattle.orca_course.specs.Doing.{Does, goes_of, nowhere}
+use Rattle.orca_course.specs.Standings.{Standing}
 use Rattle.orca_course.specs.Worlds.{World, Called, owing, Calls, Made, Sated}
 use Rattle.orca_course.specs.declared.ending.Stop.{Stop}
 use Rattle.orca_course.specs.declared.refused.NoMemory.{NoMemory}
@@ -25,7 +27,7 @@ use Rattle.orca_course.proofs.WorldLemmas.{made_none, made_screen, made_show, ma
 use Rattle.orca_edit.specs.Machines.{preview_of}
 use Rattle.orca_edit.specs.Prices.{preview_price}
 use Rattle.orca_term.specs.Pacing.{Pace}
-use Rattle.orca_jam.specs.Crews.{CrewState, answer_to, asked, denial_at, player_at, struck_by, turned_by, turned_player}
+use Rattle.orca_jam.specs.Crews.{CrewState, answer_to, asked, denial_at, denied_by, is_away, player_at, struck_by, turned_by, turned_player}
 use Rattle.orca_jam.specs.Denials.{rule_of_denial}
 use Rattle.orca_jam.specs.declared.crew.TheConstants.{LEADER}
 use Rattle.orca_term.specs.Came.{came_to}
@@ -43,8 +45,9 @@ use Rattle.orca_term.specs.declared.status.StatusLine.{StatusLine}
 use Rattle.orca_term.specs.declared.cell.Cell.{Cell}
 use Rattle.orca_term.specs.declared.cell.ScreenSize.{ScreenSize}
 use Rattle.orca_live.specs.Performing.{additions, hush_course, hand_course, denied_course, lull_course, lull_of, lines_course, noted, obeyed_by, of_session, owning, key_course, keys_course, overlay_at, press_course, read_course, save_course, struck_course, struck_well, telling, wish_course, words_at_key, paint_course, painted_course, picture_course, picture_for, preview_course, redrawn, show_course, view_acts, loosens}
-use Rattle.orca_live.specs.Quiet.{silent_manner}
-use Rattle.orca_live.specs.States.{LiveState, Viewed, live_stance, around_at, fitted, hands_in, is_viewer, key_name, piece_at, status_line_at, unpainted, view_at, viewed_in, with_view}
+use Rattle.orca_live.specs.Quiet.{quiet_manner, sent_by}
+use Rattle.orca_term.specs.Traffic.{FrameSent}
+use Rattle.orca_live.specs.States.{LiveState, Viewed, live_stance, around_at, fitted, hands_in, is_painted_for, is_viewer, key_name, piece_at, status_line_at, unpainted, view_at, viewed_in, with_view}
 use Rattle.orca_live.specs.Marking.{marks_by}
 use Rattle.orca_live.specs.declared.painting.Marking.{Marking}
 
@@ -117,21 +120,30 @@ redrawn_did hand d s views x anew =
 -- ---- the session alone
 
 -- a course of it that never ends
-session_did : (c : Concert (Unit {0}) → Course (Concert (Unit {0})) Stop) (s : LiveState)
-    (t : Concert (Unit {0})) {x y : World} (result : Result (Option Stop) NoMemory)
-    → (c (concert_with s.standing tt)).ending ≡ None
-    → Does (stance_of silent_manner) (c (concert_with s.standing tt)) (concert_with s.standing tt) x result t y
-    → Does live_stance (of_session c s) s x (goes_of result) (record s { standing = t.standing }) y
+session_did : (c : Concert FrameSent → Course (Concert FrameSent) Stop) (s : LiveState)
+    (t : Concert FrameSent) {x y : World} (result : Result (Option Stop) NoMemory)
+    → (c (concert_with s.standing s.sent)).ending ≡ None
+    → Does (stance_of quiet_manner) (c (concert_with s.standing s.sent)) (concert_with s.standing s.sent) x result t y
+    → Does live_stance (of_session c s) s x (goes_of result)
+    (record s { standing = t.standing; sent = t.kept }) y
 session_did c s t (Ok end) goes did =
     rw (sym (sym did.did.ending ∙ goes))
-    (does_mapped (λ (u : Concert (Unit {0})). record s { standing = u.standing }) (λ end. end)
+    (does_mapped (λ (u : Concert FrameSent). record s { standing = u.standing; sent = u.kept })
+    (λ end. end)
     (Ok end) refl (λ u. refl) did)
 session_did c s t (Err e) goes did =
-    does_mapped (λ (u : Concert (Unit {0})). record s { standing = u.standing }) (λ end. end) (Err e)
+    does_mapped (λ (u : Concert FrameSent). record s { standing = u.standing; sent = u.kept })
+    (λ end. end) (Err e)
     refl (λ u. refl) did
 
+-- the report keeps what a frame sent
+pub kept_news : (at : Option Standing) (hands : Bool) (news : News) (old new : FrameSent) (x : World)
+    → new ≡ sent_by news old
+    → Does (nowhere at hands) (aside_course (quiet_manner.tells news old)) old x (Ok None) new x
+kept_news at hands news old new x is = rw is (does_still x refl)
+
 -- a command was done and kept, and whose the entries are
-pub command_did : (who : ℕ) (command : Command) (s : LiveState) (t : Concert (Unit {0}))
+pub command_did : (who : ℕ) (command : Command) (s : LiveState) (t : Concert FrameSent)
     (given : Option (List Command)) (lines : List ℕ) (crew : CrewState) (loose : Bool)
     (words : List Came) {x y : World} (end : Option Stop)
     → given ≡ option_map (λ commands. commands ++ command ∷ []) s.given
@@ -139,8 +151,8 @@ pub command_did : (who : ℕ) (command : Command) (s : LiveState) (t : Concert (
     → crew ≡ owning who command t.standing.tally.refusal (length t.standing.machine.history) s.crew
     → loose ≡ (s.loose || loosens command t.standing.tally.refusal)
     → words ≡ slice_set s.words who (came_to t.standing.tally.refusal)
-    → Does (stance_of silent_manner)
-    (obey_course silent_manner 0 command (concert_with s.standing tt)) (concert_with s.standing tt) x
+    → Does (stance_of quiet_manner)
+    (obey_course quiet_manner 0 command (concert_with s.standing s.sent)) (concert_with s.standing s.sent) x
     (Ok end) t y
     → Does live_stance (hand_course who command s) s x (Ok None)
     (record s {
@@ -150,40 +162,42 @@ pub command_did : (who : ℕ) (command : Command) (s : LiveState) (t : Concert (
       unwritten = lines;
       loose = loose;
       words = words;
+      sent = t.kept;
     }) y
 unfolding hand_course obey_course onward mapped
 command_did who command s t given lines crew loose words end kept waits owns looses tells did =
     let goes : end ≡ None = sym did.did.ending in
-    let all = does_mapped {part = stance_of silent_manner} {whole = live_stance}
-    (λ (u : Concert (Unit {0})). obeyed_by who command s u.standing) (λ end. end) (Ok end) refl
+    let all = does_mapped {part = stance_of quiet_manner} {whole = live_stance}
+    (λ (u : Concert FrameSent). obeyed_by who command s u.standing u.kept) (λ end. end) (Ok end) refl
     (λ u. refl) did in
     rw (kept, waits, owns, looses, tells) (does_from s refl (rw goes at all))
 
 -- memory was refused to a command
-pub command_cut : (who : ℕ) (command : Command) (s : LiveState) (t : Concert (Unit {0}))
+pub command_cut : (who : ℕ) (command : Command) (s : LiveState) (t : Concert FrameSent)
     (given : Option (List Command)) (lines : List ℕ) {x y : World} (e : NoMemory)
-    → Does (stance_of silent_manner)
-    (obey_course silent_manner 0 command (concert_with s.standing tt)) (concert_with s.standing tt) x
+    → Does (stance_of quiet_manner)
+    (obey_course quiet_manner 0 command (concert_with s.standing s.sent)) (concert_with s.standing s.sent) x
     (Err e) t y
     → Does live_stance (hand_course who command s) s x (Err e)
-    (record s { standing = t.standing; given = given; unwritten = lines }) y
+    (record s { standing = t.standing; given = given; unwritten = lines; sent = t.kept }) y
 unfolding hand_course obey_course onward mapped
 command_cut who command s t given lines e did =
-    let with : Concert (Unit {0}) → LiveState = λ (u : Concert (Unit {0})).
-    record s { standing = u.standing; given = given; unwritten = lines } in
+    let with : Concert FrameSent → LiveState = λ (u : Concert FrameSent).
+    record s { standing = u.standing; given = given; unwritten = lines; sent = u.kept } in
     let cut = does_from s refl
-    (does_mapped {part = stance_of silent_manner} {whole = live_stance} with (λ end. end) (Err e)
+    (does_mapped {part = stance_of quiet_manner} {whole = live_stance} with (λ end. end) (Err e)
     refl (λ u. refl) did) in
     does_begun cut.did.done cut.did.left cut.did.splits cut.did.made cut.did.rests cut.did.wants
 
 -- every note was ended
-pub close_did : (s : LiveState) (t : Concert (Unit {0})) {x y : World}
+pub close_did : (s : LiveState) (t : Concert FrameSent) {x y : World}
     (result : Result (Option Stop) NoMemory)
-    → Does (stance_of silent_manner) (silence_course silent_manner (concert_with s.standing tt))
-    (concert_with s.standing tt) x result t y
-    → Does live_stance (hush_course s) s x (goes_of result) (record s { standing = t.standing }) y
+    → Does (stance_of quiet_manner) (silence_course quiet_manner (concert_with s.standing s.sent))
+    (concert_with s.standing s.sent) x result t y
+    → Does live_stance (hush_course s) s x (goes_of result)
+    (record s { standing = t.standing; sent = t.kept }) y
 unfolding hush_course silence_course onward mapped
-close_did s t result did = session_did (silence_course silent_manner) s t result refl did
+close_did s t result did = session_did (silence_course quiet_manner) s t result refl did
 
 -- ---- keys and items
 
@@ -194,22 +208,22 @@ asked_by None asks w is = (refl, grind (arith, is))
 asked_by (Some denial) asks w is = absurd cc
 
 -- a key is denied
-denied_by : (denial : Option Denial) (asks : Wish) (why : Denial)
+denied_as : (denial : Option Denial) (asks : Wish) (why : Denial)
     → Err why ≡ option_map_or Err denial (Ok asks) → denial ≡ Some why
-denied_by None asks why is = absurd cc
-denied_by (Some denial) asks why is = grind (arith, is)
+denied_as None asks why is = absurd cc
+denied_as (Some denial) asks why is = grind (arith, is)
 
 -- the editor of the hand has changed, and then what the key asks for was done
 pub struck_asked : (hand : ℕ) (key : Key) (s : LiveState) (answer : Result Wish Denial) (w : Wish)
     (crew : CrewState) {t : LiveState} {x y : World} {result : Result (Option Stop) NoMemory}
-    → answer ≡ answer_to s.crew hand key (around_at hand s) → answer ≡ Ok w
-    → OnOk answer (crew ≡ struck_by hand key (around_at hand s) s.crew)
+    → answer ≡ answer_to s.crew hand key (around_at hand key s) → answer ≡ Ok w
+    → OnOk answer (crew ≡ struck_by hand key (around_at hand key s) s.crew)
     → Does live_stance (wish_course hand w (record s { crew = crew })) (record s { crew = crew }) x
     result t y
     → Does live_stance (struck_course hand key s) s x result t y
 unfolding struck_course
 struck_asked hand key s answer w crew told is changes did =
-    let around = around_at hand s in
+    let around = around_at hand key s in
     let by = asked_by (denial_at s.crew hand key around) (asked s.crew hand key around) w
     (sym is ∙ told) in
     rw by.0 (does_from s refl (rw (by.1, rw is at changes) at did))
@@ -218,17 +232,17 @@ struck_asked hand key s answer w crew told is changes did =
 pub struck_denied : (hand : ℕ) (key : Key) (s : LiveState) (answer : Result Wish Denial)
     (denial : Denial) (crew : CrewState) (words : List Came) {x y : World} (n : ℕ)
     (result : Result (Unit {0}) NoMemory)
-    → answer ≡ answer_to s.crew hand key (around_at hand s) → answer ≡ Err denial
-    → OnErr answer (crew ≡ s.crew)
+    → answer ≡ answer_to s.crew hand key (around_at hand key s) → answer ≡ Err denial
+    → OnErr answer (crew ≡ denied_by hand key s.crew)
     → words ≡ slice_set s.words hand (Denied (rule_of_denial denial)) → Called result (telling hand denial) x y
     → Does live_stance (struck_course hand key s) s (owing n x) (goes_of result)
     (record s { crew = crew; words = words }) (owing n y)
 unfolding struck_course denied_course
 struck_denied hand key s answer denial crew words n result told is same tells called =
-    let around = around_at hand s in
+    let around = around_at hand key s in
     rw (
       tells,
-      denied_by (denial_at s.crew hand key around) (asked s.crew hand key around) denial
+      denied_as (denial_at s.crew hand key around) (asked s.crew hand key around) denial
           (sym is ∙ told),
       rw is at same,
     )
@@ -418,7 +432,7 @@ pub picture_did : (marks : List MarkSet) (hand : ℕ) (s : LiveState) (views : L
     (v : Viewed) (sheet : Sheet) (over : Overlay) (line : StatusLine) {x y : World} (n : ℕ)
     (result : Result (Unit {0}) NoMemory) → v ≡ view_at hand s → sheet ≡ (piece_at s).sheet
     → over ≡ overlay_at hand s → line ≡ status_line_at hand s
-    → let cells = picture v.screen (scene_of sheet marks over) line in
+    → let cells = picture v.screen (scene_of sheet marks over) s.sent line in
     Calls (view_acts hand (painting_bytes v.screen v.shown cells)) result x y
     → All IsPrintable cells → views ≡ slice_set s.views hand (record v { shown = Some cells })
     → Does live_stance (picture_course marks hand s) s (owing n x) (goes_of result)
@@ -455,14 +469,14 @@ pub picture_on : (marks : List MarkSet) (hand : ℕ) (s : LiveState) (views : Li
     (result : Result (Unit {0}) NoMemory) → map viewed_in views ≡ s.views
     → viewed_in old ≡ view_at hand s → sheet ≡ (piece_at s).sheet → over ≡ overlay_at hand s
     → line ≡ status_line_at hand s
-    → let cells = picture old.size (scene_of sheet marks over) line in
+    → let cells = picture old.size (scene_of sheet marks over) s.sent line in
     Calls (view_acts hand (painting_bytes old.size old.last cells)) result x y
     → All IsPrintable cells → viewed_in seen ≡ record { screen = old.size; shown = Some cells }
     → Does live_stance (picture_course marks hand s) s (owing n x) (goes_of result)
     (record s { views = map viewed_in (set views hand seen) }) (owing n y)
 picture_on marks hand s views old seen sheet over line n result are at shows edits lines calls
     printable keeps =
-    let cells = picture old.size (scene_of sheet marks over) line in
+    let cells = picture old.size (scene_of sheet marks over) s.sent line in
     picture_did marks hand s (map viewed_in (set views hand seen)) (viewed_in old) sheet over line
     n result at shows edits lines calls printable
     (viewed_set views hand seen
@@ -470,9 +484,26 @@ picture_on marks hand s views old seen sheet over line n result are at shows edi
     ∙ ap (λ (vs : List Viewed).
     slice_set vs hand (record { screen = old.size; shown = Some cells })) are))
 
--- a hand is shown one
+-- whether a hand is shown one, and is there
+pub painted_for : (hand : ℕ) (s : LiveState) → is_viewer hand s ≡ true
+    → is_away s.crew hand ≡ false → is_painted_for hand s ≡ true
+painted_for hand s viewer here = rw (viewer, here) refl
+
+pub not_viewer : (hand : ℕ) (s : LiveState) → is_viewer hand s ≡ false
+    → is_painted_for hand s ≡ false
+not_viewer hand s off = rw off refl
+
+pub not_here : (hand : ℕ) (s : LiveState) → is_away s.crew hand ≡ true
+    → is_painted_for hand s ≡ false
+not_here hand s away = rw away (by (is_viewer hand s))
+  where
+    by : (b : Bool) → (b && false) ≡ false
+    by true = refl
+    by false = refl
+
+-- it is painted then
 pub painted_did : (marks : List MarkSet) (hand : ℕ) (s : LiveState) {t : LiveState} {x y : World}
-    {result : Result (Option Stop) NoMemory} → is_viewer hand s ≡ true
+    {result : Result (Option Stop) NoMemory} → is_painted_for hand s ≡ true
     → Does live_stance (picture_course marks hand s) s x result t y
     → Does live_stance (painted_course marks hand s) s x result t y
 unfolding painted_course
@@ -480,7 +511,7 @@ painted_did marks hand s is did = rw is did
 
 -- and another one is not
 pub unpainted_did : (marks : List MarkSet) (hand : ℕ) (s : LiveState) (x : World)
-    → is_viewer hand s ≡ false
+    → is_painted_for hand s ≡ false
     → Does live_stance (painted_course marks hand s) s x (Ok None) s x
 unfolding painted_course
 unpainted_did marks hand s x off = rw off (does_still x refl)

@@ -16,10 +16,11 @@ use Rattle.orca_course.proofs.ActLemmas.{commands_in-append, handed_commands}
 use Rattle.orca_edit.specs.Machines.{preview_of}
 use Rattle.orca_jam.specs.Crews.{fitted_player}
 use Rattle.orca_jam.specs.declared.player.Player.{Player}
+use Rattle.orca_term.specs.Traffic.{nothing_sent}
 use Rattle.orca_term.specs.declared.cell.Cell.{Cell}
 use Rattle.orca_live.specs.Performing.{additions, hush_course, hand_course, finish_course, header_course, if_named, journal_course, saves_course, last_grid_course, last_script_course, lines_course, paint_course, painted_course, picture_course, preview_course, save_course, script_course, show_course, view_acts, write_course}
 use Rattle.orca_live.specs.Starting.{nothing_failed}
-use Rattle.orca_live.specs.States.{LiveState, Viewed, begun_name, dims_at, fitted, hands_in, is_viewer, piece_at, unpainted}
+use Rattle.orca_live.specs.States.{LiveState, Viewed, begun_name, dims_at, fitted, hands_in, is_painted_for, piece_at, unpainted}
 
 -- ---- the commands of acts
 
@@ -51,7 +52,7 @@ picture_commands marks hand s = simp views_commands
 abbrev pub blank : List Viewed → List Viewed
 blank views = map (λ (v : Viewed). unpainted v.screen) views
 
--- no moments, no pace, nothing that is shown or told, no line that waits for the journal, nothing
+-- no moments, no pace, nothing that is shown or told, nothing that was sent, no line that waits for the journal, nothing
 -- loose, and no failure
 abbrev pub plain : LiveState → LiveState
 plain s = record s {
@@ -62,6 +63,7 @@ plain s = record s {
   at = 0;
   came = nothing_failed;
   words = [];
+  sent = nothing_sent;
 }
 
 -- and the editors as they fit the grid
@@ -172,7 +174,7 @@ unfolding each painted_course
 paints_aside marks [] s = record { commands = refl; same = refl; goes = refl }
 paints_aside marks (hand ∷ hands) s =
     aside_then s (painted_course marks hand s) (each (painted_course marks) hands)
-    (painted_if (is_viewer hand s) marks hand s) (paints_aside marks hands)
+    (painted_if (is_painted_for hand s) marks hand s) (paints_aside marks hands)
 
 pub paint_aside : (marks : List MarkSet) (s : LiveState) → IsAside s (paint_course marks s)
 unfolding paint_course

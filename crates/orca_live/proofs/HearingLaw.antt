@@ -1,7 +1,7 @@
 -- The reader of each hand stands where its own bytes and the due frames have left it, and the keys
 -- that these have ended are those that it struck, and moved its editor.
 use Rattle.std.proofs.Common.{◌≡◌, ℕ, zero, suc, ◌+◌, ◌<◌, ◌≤◌, Bool, true, false, List, [], ◌∷◌, ◌++◌, length, refl, sym, ◌∙◌, ap, subst, arith, append_assoc, append-nil}
-use Rattle.std.specs.Prelude.{if◌then◌else◌, ◌==◌, nat_lt, slice_index_or, slice_set, Option, Some, None}
+use Rattle.std.specs.Prelude.{if◌then◌else◌, ◌==◌, ◌&&◌, not, nat_lt, slice_index_or, slice_set, Option, Some, None}
 use Rattle.std.specs.List.{flat_map, range_with_len}
 use Rattle.std.specs.Option.{option_map}
 use Rattle.std.proofs.lemmas.Bool.{eqb-true, eqb-false, ltb-true}
@@ -28,17 +28,18 @@ use Rattle.orca_course.proofs.CourseLemmas.{each-holds, goes_both, onward_goes}
 use Rattle.orca_course.proofs.CuttingLemmas.{Worth, counted, counting}
 use Rattle.orca_course.proofs.CuttingLemmas.Worth.{Counts, Nothing}
 use Rattle.orca_course.proofs.MidwayLemmas.{AreMidway, IsMidway, all_midway}
-use Rattle.orca_jam.specs.Crews.{CrewState, asked, denial_at, new_player, player_at, struck_by, turned_by, turned_player}
+use Rattle.orca_jam.specs.Crews.{CrewState, asked, denial_at, denied_by, left_player, may_leave, new_player, player_at, says_away, struck_by, struck_player, turned_by, turned_player}
+use Rattle.orca_jam.specs.declared.crew.TheConstants.{LEADER}
 use Rattle.orca_jam.specs.declared.denial.Denial.{Denial}
 use Rattle.orca_jam.specs.declared.owner.TheConstants.{NOBODY}
 use Rattle.orca_jam.specs.declared.player.Player.{Player}
 use Rattle.orca_term.specs.Keys.{Byte, Due, Item as KeyItem, turn}
-use Rattle.orca_term.specs.declared.editor.Editor.{Editor}
+use Rattle.orca_term.specs.declared.around.Around.{Around}
 use Rattle.orca_term.specs.declared.editor.Wish.{Wish}
 use Rattle.orca_term.specs.declared.editor.Wish.TheVariants as wish
 use Rattle.orca_term.specs.declared.keys.Key.{Key}
 use Rattle.orca_term.specs.declared.keys.Pending.{Pending}
-use Rattle.orca_live.specs.Hands.{EachIsHeard, IsMadeBy, Reader, ended_by, item_for, keys_by, reader_after, reader_at, reader_by, text_by}
+use Rattle.orca_live.specs.Hands.{EachIsHeard, IsMadeBy, Mode, Reader, ended_by, item_for, keys_by, mode_at, reader_after, reader_at, reader_by, text_by}
 use Rattle.orca_live.specs.Items.{ByteOf, FrameDue, HeardItem, items_heard}
 use Rattle.orca_live.specs.Laws.{so_far}
 use Rattle.orca_live.specs.Performing.{answered_at, byte_course, denied_course, due_course, fired, frame_course, hand_course, item_course, key_course, keys_course, knowing, live_part, lull_course, lull_of, owning, press_course, read_course, save_course, struck_course, struck_well, struck_where, take_course, wish_course}
@@ -46,47 +47,48 @@ use Rattle.orca_live.specs.States.{LiveState, around_at, dims_at, editor_at, fit
 use Rattle.orca_live.proofs.CuttingLaw.{keys_fitted, owning_hands}
 use Rattle.orca_live.proofs.GivenLemmas.{IsAside, core, journal_aside, paint_aside, show_aside, write_aside}
 use Rattle.orca_live.proofs.ScriptLaw.{obeys_commands}
-use Rattle.orca_live.proofs.StrikingLemmas.{IsSilent, Strikes, text_by-append, frame_strikes, journal_silent, paint_silent, read_other, read_own, show_silent, strikes_same, strikes_twice, write_silent}
+use Rattle.orca_live.proofs.StrikingLemmas.{IsSilent, Strikes, owning_views, text_by-append, frame_strikes, journal_silent, paint_silent, read_other, read_own, show_silent, strikes_same, strikes_twice, write_silent}
 use Rattle.orca_live.proofs.WorthLemmas.{all_counted, worth_of}
 
 -- ---- what a reader makes of items
 
-reader_by-append : (full : Bool) (hand : ℕ) (r : Reader) (xs ys : List HeardItem)
-    → reader_by full hand r (xs ++ ys) ≡ reader_by full hand (reader_by full hand r xs) ys
-reader_by-append full hand r [] ys = refl
-reader_by-append full hand r (x ∷ xs) ys =
-    reader_by-append full hand (reader_after full r (item_for hand r x)) xs ys
+reader_by-append : (m : Mode) (hand : ℕ) (r : Reader) (xs ys : List HeardItem)
+    → reader_by m hand r (xs ++ ys) ≡ reader_by m hand (reader_by m hand r xs) ys
+reader_by-append m hand r [] ys = refl
+reader_by-append m hand r (x ∷ xs) ys =
+    reader_by-append m hand (reader_after m r (item_for hand r x)) xs ys
 
-keys_by-append : (full : Bool) (hand : ℕ) (r : Reader) (xs ys : List HeardItem)
-    → keys_by full hand r (xs ++ ys)
-    ≡ keys_by full hand r xs ++ keys_by full hand (reader_by full hand r xs) ys
-keys_by-append full hand r [] ys = refl
-keys_by-append full hand r (x ∷ xs) ys =
+keys_by-append : (m : Mode) (hand : ℕ) (r : Reader) (xs ys : List HeardItem)
+    → keys_by m hand r (xs ++ ys)
+    ≡ keys_by m hand r xs ++ keys_by m hand (reader_by m hand r xs) ys
+keys_by-append m hand r [] ys = refl
+keys_by-append m hand r (x ∷ xs) ys =
     let i = item_for hand r x in
-    let q = reader_after full r i in
-    ap (λ (keys : List Key). ended_by full r i ++ keys) (keys_by-append full hand q xs ys)
-    ∙ sym (append_assoc (ended_by full r i) (keys_by full hand q xs) _)
+    let q = reader_after m r i in
+    ap (λ (keys : List Key). ended_by m r i ++ keys) (keys_by-append m hand q xs ys)
+    ∙ sym (append_assoc (ended_by m r i) (keys_by m hand q xs) _)
 
 -- the keys that a reader ended say whether it reads a text
-text_read : (full : Bool) (r : Reader) (i : Option KeyItem)
-    → text_by r.text (ended_by full r i) ≡ (reader_after full r i).text
-text_read full r None = refl
-text_read full r (Some item) = refl
+text_read : (m : Mode) (r : Reader) (i : Option KeyItem)
+    → text_by m.leaves r.text (ended_by m r i) ≡ (reader_after m r i).text
+text_read m r None = refl
+text_read m r (Some item) = refl
 
-text_heard : (full : Bool) (hand : ℕ) (r : Reader) (xs : List HeardItem)
-    → text_by r.text (keys_by full hand r xs) ≡ (reader_by full hand r xs).text
-text_heard full hand r [] = refl
-text_heard full hand r (x ∷ xs) =
+text_heard : (m : Mode) (hand : ℕ) (r : Reader) (xs : List HeardItem)
+    → text_by m.leaves r.text (keys_by m hand r xs) ≡ (reader_by m hand r xs).text
+text_heard m hand r [] = refl
+text_heard m hand r (x ∷ xs) =
     let i = item_for hand r x in
-    let q = reader_after full r i in
-    let more = keys_by full hand q xs in
-    text_by-append (ended_by full r i) more r.text
-    ∙ (ap (λ (text : Bool). text_by text more) (text_read full r i) ∙ text_heard full hand q xs)
+    let q = reader_after m r i in
+    let more = keys_by m hand q xs in
+    text_by-append m.leaves (ended_by m r i) more r.text
+    ∙ (ap (λ (text : Bool). text_by m.leaves text more) (text_read m r i) ∙ text_heard m hand q xs)
 
 -- from one state to another this came to be pending of a hand, and which keys are read and the
 -- number of hands are as they were
 record Reads (hand : ℕ) (pending : Pending) (s t : LiveState) : Type 0 where
   pub full : t.crew.full ≡ s.crew.full
+  pub views : t.crew.views ≡ s.crew.views
   pub hands : length t.crew.players ≡ length s.crew.players
   pub keys : (player_at t.crew hand).keys ≡ pending
 
@@ -97,66 +99,81 @@ ReadsOn hand s t = Reads hand (player_at s.crew hand).keys s t
 -- its reader went over these items, and among acts it struck the keys that they have ended
 record Hears (hand : ℕ) (items : List HeardItem) (s : LiveState) (acts : List Act) (t : LiveState)
     : Type 0 where
-  pub reads : Reads hand (reader_by s.crew.full hand (reader_at hand s) items).pending s t
-  pub strikes : Strikes hand (keys_by s.crew.full hand (reader_at hand s) items) s acts t
+  pub reads : Reads hand (reader_by (mode_at hand s) hand (reader_at hand s) items).pending s t
+  pub strikes : Strikes hand (keys_by (mode_at hand s) hand (reader_at hand s) items) s acts t
 
 reads_on : (hand : ℕ) (p : Pending) (r s t : LiveState) → Reads hand p r s → ReadsOn hand s t
     → Reads hand p r t
 reads_on hand p r s t first second = record {
   full = second.full ∙ first.full;
+  views = second.views ∙ first.views;
   hands = second.hands ∙ first.hands;
   keys = second.keys ∙ first.keys;
 }
 
+-- so its bytes are read in the same way
+same_mode : (hand : ℕ) (p : Pending) (s t : LiveState) → Reads hand p s t
+    → mode_at hand t ≡ mode_at hand s
+same_mode hand p s t reads =
+    ap (λ (full : Bool). record { full = full; leaves = may_leave t.crew hand }) reads.full
+    ∙ ap (λ (views : Bool). let m : Mode = record {
+      full = s.crew.full;
+      leaves = views && not (hand == LEADER);
+    } in m) reads.views
+
 -- so the reader stands where they have left it
 heard_reader : (hand : ℕ) (items : List HeardItem) (s : LiveState) (acts : List Act) (t : LiveState)
     → Hears hand items s acts t
-    → reader_at hand t ≡ reader_by s.crew.full hand (reader_at hand s) items
+    → reader_at hand t ≡ reader_by (mode_at hand s) hand (reader_at hand s) items
 heard_reader hand items s acts t hears =
     let r = reader_at hand s in
-    let q = reader_by s.crew.full hand r items in
-    let text = hears.strikes.moves.text ∙ text_heard s.crew.full hand r items in
+    let q = reader_by (mode_at hand s) hand r items in
+    let text = hears.strikes.moves.text ∙ text_heard (mode_at hand s) hand r items in
     ap (λ (p : Pending). record (reader_at hand t) { pending = p }) hears.reads.keys
     ∙ ap (λ (text : Bool). record q { text = text }) text
 
 hears_twice : (hand : ℕ) (xs ys : List HeardItem) (r s t : LiveState) (begun more : List Act)
     → Hears hand xs r begun s → Hears hand ys s more t → Hears hand (xs ++ ys) r (begun ++ more) t
 hears_twice hand xs ys r s t begun more first second =
-    let full = r.crew.full in
+    let m = mode_at hand r in
     let q = reader_at hand r in
-    let before = keys_by full hand q xs in
+    let before = keys_by m hand q xs in
     let there = heard_reader hand xs r begun s first in
-    let later : keys_by s.crew.full hand (reader_at hand s) ys
-    ≡ keys_by full hand (reader_by full hand q xs) ys =
-    ap (λ (full : Bool). keys_by full hand (reader_at hand s) ys) first.reads.full
-    ∙ ap (λ (p : Reader). keys_by full hand p ys) there in
-    let moved : reader_by s.crew.full hand (reader_at hand s) ys ≡ reader_by full hand q (xs ++ ys) =
-    ap (λ (full : Bool). reader_by full hand (reader_at hand s) ys) first.reads.full
-    ∙ (ap (λ (p : Reader). reader_by full hand p ys) there
-    ∙ sym (reader_by-append full hand q xs ys)) in
+    let mode = same_mode hand _ r s first.reads in
+    let later : keys_by (mode_at hand s) hand (reader_at hand s) ys
+    ≡ keys_by m hand (reader_by m hand q xs) ys =
+    ap (λ (n : Mode). keys_by n hand (reader_at hand s) ys) mode
+    ∙ ap (λ (p : Reader). keys_by m hand p ys) there in
+    let moved : reader_by (mode_at hand s) hand (reader_at hand s) ys
+    ≡ reader_by m hand q (xs ++ ys) =
+    ap (λ (n : Mode). reader_by n hand (reader_at hand s) ys) mode
+    ∙ (ap (λ (p : Reader). reader_by m hand p ys) there
+    ∙ sym (reader_by-append m hand q xs ys)) in
     record {
       reads = record {
         full = second.reads.full ∙ first.reads.full;
+        views = second.reads.views ∙ first.reads.views;
         hands = second.reads.hands ∙ first.reads.hands;
         keys = second.reads.keys ∙ ap (λ (p : Reader). p.pending) moved;
       };
       strikes =
           subst (λ (keys : List Key). Strikes hand keys r (begun ++ more) t)
           (ap (λ (keys : List Key). before ++ keys) later
-          ∙ sym (keys_by-append full hand q xs ys))
+          ∙ sym (keys_by-append m hand q xs ys))
           (strikes_twice hand before
-          (keys_by s.crew.full hand (reader_at hand s) ys) r s t begun more first.strikes
+          (keys_by (mode_at hand s) hand (reader_at hand s) ys) r s t begun more first.strikes
           second.strikes);
     }
 
 reads_none : (hand : ℕ) (s : LiveState) → ReadsOn hand s s
-reads_none hand s = record { full = refl; hands = refl; keys = refl }
+reads_none hand s = record { full = refl; views = refl; hands = refl; keys = refl }
 
 -- nothing of the players has changed
 reads_same : (hand : ℕ) (s t : LiveState) → t.crew.full ≡ s.crew.full
-    → t.crew.players ≡ s.crew.players → ReadsOn hand s t
-reads_same hand s t full players = record {
+    → t.crew.views ≡ s.crew.views → t.crew.players ≡ s.crew.players → ReadsOn hand s t
+reads_same hand s t full views players = record {
   full = full;
+  views = views;
   hands = ap (λ (ps : List Player). length ps) players;
   keys = ap (λ (ps : List Player). (slice_index_or ps hand (new_player false)).keys) players;
 }
@@ -165,24 +182,26 @@ reads_same hand s t full players = record {
 reads_fitted : (hand : ℕ) (s : LiveState) → ReadsOn hand s (fitted s)
 reads_fitted hand s = record {
   full = refl;
+  views = refl;
   hands = length-map s.crew.players _;
   keys = keys_fitted (dims_at s) s.crew.players hand;
 }
 
 hears_same : (hand : ℕ) (s t : LiveState) → t.crew.full ≡ s.crew.full
-    → t.crew.players ≡ s.crew.players → Hears hand [] s [] t
-hears_same hand s t full players = record {
-  reads = reads_same hand s t full players;
-  strikes = strikes_same hand s [] t refl players;
+    → t.crew.views ≡ s.crew.views → t.crew.players ≡ s.crew.players → Hears hand [] s [] t
+hears_same hand s t full views players = record {
+  reads = reads_same hand s t full views players;
+  strikes = strikes_same hand s [] t refl players views;
 }
 
 hears_none : (hand : ℕ) (s : LiveState) → Hears hand [] s [] s
-hears_none hand s = hears_same hand s s refl refl
+hears_none hand s = hears_same hand s s refl refl refl
 
 -- what matters to the session has not changed
 reads_core : (hand : ℕ) (s t : LiveState) → core t ≡ core s → ReadsOn hand s t
 reads_core hand s t same = record {
   full = ap (λ (u : LiveState). u.crew.full) same;
+  views = ap (λ (u : LiveState). u.crew.views) same;
   hands = sym (reads_fitted hand t).hands
       ∙ (ap (λ (u : LiveState). length u.crew.players) same ∙ (reads_fitted hand s).hands);
   keys = sym (reads_fitted hand t).keys
@@ -196,26 +215,40 @@ owning_full : (who : ℕ) (c : Command) (refused : Option Rule) (n : ℕ) (crew 
     → (owning who c refused n crew).full ≡ crew.full
 owning_full who c refused n crew = grind arith
 
--- an editor is no reader
-keys_edited : (players : List Player) (other hand : ℕ) (e : Editor)
-    → (slice_index_or
-    (slice_set players other
-    (record (slice_index_or players other (new_player false)) { editor = e })) hand
-    (new_player false)).keys
+-- an editor is no reader, and nor is whether a hand is away
+keys_edited : (players : List Player) (other hand : ℕ) (q : Player)
+    → q.keys ≡ (slice_index_or players other (new_player false)).keys
+    → (slice_index_or (slice_set players other q) hand (new_player false)).keys
     ≡ (slice_index_or players hand (new_player false)).keys
-keys_edited [] other hand e = refl
-keys_edited (p ∷ players) zero zero e = refl
-keys_edited (p ∷ players) zero (suc hand) e = refl
-keys_edited (p ∷ players) (suc other) zero e = refl
-keys_edited (p ∷ players) (suc other) (suc hand) e = keys_edited players other hand e
+keys_edited [] other hand q same = refl
+keys_edited (p ∷ players) zero zero q same = same
+keys_edited (p ∷ players) zero (suc hand) q same = refl
+keys_edited (p ∷ players) (suc other) zero q same = refl
+keys_edited (p ∷ players) (suc other) (suc hand) q same = keys_edited players other hand q same
+
+struck_keys : (away : Bool) (key : Key) (a : Around) (p : Player)
+    → (if away then left_player p else struck_player key a p).keys ≡ p.keys
+struck_keys true key a p = refl
+struck_keys false key a p = refl
 
 reads_struck : (hand other : ℕ) (key : Key) (s : LiveState)
     → ReadsOn hand s
-    (record s { crew = struck_by other key (around_at other s) s.crew })
+    (record s { crew = struck_by other key (around_at other key s) s.crew })
 reads_struck hand other key s = record {
   full = refl;
+  views = refl;
   hands = length-set s.crew.players other _;
-  keys = keys_edited s.crew.players other hand _;
+  keys = keys_edited s.crew.players other hand _
+      (struck_keys (says_away s.crew other key) key (around_at other key s) _);
+}
+
+reads_denied : (hand other : ℕ) (key : Key) (s : LiveState)
+    → ReadsOn hand s (record s { crew = denied_by other key s.crew })
+reads_denied hand other key s = record {
+  full = refl;
+  views = refl;
+  hands = length-set s.crew.players other _;
+  keys = keys_edited s.crew.players other hand _ refl;
 }
 
 either_reads : (hand : ℕ) (b : Bool) (r s t : LiveState) → ReadsOn hand r s → ReadsOn hand r t
@@ -229,21 +262,23 @@ unfolding wish_course save_course hand_course obey_course onward mapped
 wish_reads hand other wish.Nothing s = reads_none hand s
 wish_reads hand other (wish.Do command) s =
     reads_same hand s _ (owning_full other command _ _ s.crew)
-    (owning_hands other command _ _ s.crew)
+    (owning_views other command _ _ s.crew) (owning_hands other command _ _ s.crew)
 wish_reads hand other wish.Toggle s =
-    either_reads hand (leader_at s).paused s s _ (reads_none hand s) (reads_same hand s _ refl refl)
-wish_reads hand other wish.Save s = reads_same hand s _ refl refl
+    either_reads hand (leader_at s).paused s s _ (reads_none hand s) (reads_same hand s _ refl refl refl)
+wish_reads hand other wish.Save s = reads_same hand s _ refl refl refl
 wish_reads hand other wish.Quit s = reads_none hand s
-wish_reads hand other (wish.Slower beats) s = reads_same hand s _ refl refl
-wish_reads hand other (wish.Faster beats) s = reads_same hand s _ refl refl
-wish_reads hand other (wish.Redraw size) s = reads_same hand s _ refl refl
+wish_reads hand other (wish.Slower beats) s = reads_same hand s _ refl refl refl
+wish_reads hand other (wish.Faster beats) s = reads_same hand s _ refl refl refl
+wish_reads hand other (wish.Redraw size) s = reads_same hand s _ refl refl refl
 
 where_reads : (hand other : ℕ) (key : Key) (s : LiveState) (denial : Option Denial)
     → ReadsOn hand s (struck_where other key s denial).state
 unfolding denied_course
-where_reads hand other key s (Some denial) = reads_same hand s _ refl refl
+where_reads hand other key s (Some denial) =
+    let t : LiveState = record s { crew = denied_by other key s.crew } in
+    reads_on hand _ s t _ (reads_denied hand other key s) (reads_same hand t _ refl refl refl)
 where_reads hand other key s None =
-    let around = around_at other s in
+    let around = around_at other key s in
     let t : LiveState = record s { crew = struck_by other key around s.crew } in
     let w = asked s.crew other key around in
     reads_on hand _ s t (wish_course other w t).state (reads_struck hand other key s)
@@ -256,8 +291,8 @@ press_reads hand other key s =
     let t = struck_well other key s in
     let u = fitted t in
     reads_on hand _ s u (struck_course other key u).state
-    (reads_on hand _ s t u (reads_same hand s t refl refl) (reads_fitted hand t))
-    (where_reads hand other key u (denial_at u.crew other key (around_at other u)))
+    (reads_on hand _ s t u (reads_same hand s t refl refl refl) (reads_fitted hand t))
+    (where_reads hand other key u (denial_at u.crew other key (around_at other key u)))
 
 keys_read : (hand other : ℕ) (keys : List Key) (s : LiveState)
     → ReadsOn hand s (keys_course other keys s).state
@@ -277,6 +312,7 @@ turned_own hand item s is =
     let p : Player = turned_player full item (player_at s.crew hand) in
     record {
       full = refl;
+      views = refl;
       hands = length-set s.crew.players hand p;
       keys = ap (λ (q : Player). q.keys)
           (get_or-set_same s.crew.players hand p (new_player false)
@@ -291,6 +327,7 @@ turned_other hand other item s differs =
     let p : Player = turned_player full item (player_at s.crew other) in
     record {
       full = refl;
+      views = refl;
       hands = length-set s.crew.players other p;
       keys = ap (λ (q : Player). q.keys)
           (get_or-set_other s.crew.players other hand p (new_player false)
@@ -381,7 +418,8 @@ frame_reads : (hand : ℕ) (full : Bool) (s : LiveState)
 unfolding hand_course obey_course onward mapped
 frame_reads hand true s = reads_none hand s
 frame_reads hand false s =
-    reads_same hand s _ (owning_full NOBODY Frame _ _ s.crew) (owning_hands NOBODY Frame _ _ s.crew)
+    reads_same hand s _ (owning_full NOBODY Frame _ _ s.crew)
+    (owning_views NOBODY Frame _ _ s.crew) (owning_hands NOBODY Frame _ _ s.crew)
 
 -- that nothing came of a hand for a while is a due frame to its reader
 lull_own : (hand : ℕ) (s : LiveState) (text : Bool) → reads_text hand s ≡ text
@@ -496,7 +534,7 @@ module _ (hand n : ℕ) (there : nat_lt hand n ≡ true) where
 
   -- a moment is nothing to a hand
   hears_at : (at : ℕ) (s : LiveState) → Hears hand [] s [] (answered_at at s)
-  hears_at at s = hears_same hand s (answered_at at s) refl refl
+  hears_at at s = hears_same hand s (answered_at at s) refl refl refl
 
   -- ---- turns
 
@@ -516,7 +554,11 @@ module _ (hand n : ℕ) (there : nat_lt hand n ≡ true) where
       → Hears hand [] s c.acts c.state
   hears_aside came s c silent aside = record {
     reads = reads_core hand s c.state aside.same;
-    strikes = record { own = silent.strikes.own; moves = silent.strikes.moves };
+    strikes = record {
+      own = silent.strikes.own;
+      views = silent.strikes.views;
+      moves = silent.strikes.moves;
+    };
   }
 
   byte_counted : (is : Bool) (other byte : ℕ)
@@ -565,7 +607,7 @@ module _ (hand n : ℕ) (there : nat_lt hand n ≡ true) where
       → Heeds [] (λ s. course {E = Ending} (act ∷ []) 0 s)
   heeds_act act none s are goes = record {
     reads = reads_none hand s;
-    strikes = strikes_same hand s (act ∷ []) s none refl;
+    strikes = strikes_same hand s (act ∷ []) s none refl refl;
   }
 
   -- turns, by what they come to

@@ -199,7 +199,7 @@ unfolding press_course key_course struck_course wish_course
 names_single hand s has =
     let k = key.Glyph letter_o in
     let u = fitted (struck_well hand k s) in
-    let a = around_at hand u in
+    let a = around_at hand k u in
     let e = editor_at hand u in
     let t : LiveState = record u { crew = struck_by hand k a u.crew } in
     let here = owns_same s t refl refl has in

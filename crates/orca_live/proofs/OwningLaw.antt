@@ -18,6 +18,7 @@ use Rattle.orca_base.specs.Grids.{Sheet}
 use Rattle.orca_base.specs.Histories.{is_edit, last_edit}
 use Rattle.orca_base.specs.MarkSet.{MarkSet}
 use Rattle.orca_concert.specs.Concerts.{command_course as obey_course}
+use Rattle.orca_concert.specs.Manners.News.{Done}
 use Rattle.orca_course.specs.Acts.{Act}
 use Rattle.orca_course.specs.Courses.{mapped, onward}
 use Rattle.orca_course.specs.Performers.{Hearing}
@@ -44,6 +45,7 @@ use Rattle.orca_live.proofs.Carried.{Anyhow, begun_carried}
 use Rattle.orca_live.specs.Hands.{HasOwners, StartsWithOwners}
 use Rattle.orca_live.specs.Laws.{so_far}
 use Rattle.orca_live.specs.Performing.{hand_course, denied_course, key_course, obeyed_by, owning, picture_course, struck_course, struck_well, struck_where, wish_course}
+use Rattle.orca_live.specs.Quiet.{sent_by}
 use Rattle.orca_live.specs.States.{LiveState, around_at, editor_at, fitted, unpainted, with_view, with_word}
 
 -- the last edit is in the history
@@ -193,7 +195,8 @@ owns_same s t standing crew has =
 
 -- where a command leads
 abbrev pub led : ℕ → Command → LiveState → Obeyed → LiveState
-led who c s o = obeyed_by who c s (standing_after s.standing o)
+led who c s o =
+    obeyed_by who c s (standing_after s.standing o) (sent_by (Done 0 o.answer o.messages) s.sent)
 
 owns_accepted : (who : ℕ) (c : Command) (s : LiveState) → HasOwners s
     → rule_against s.standing.machine c ≡ None → c ≢ command.Redo
@@ -327,12 +330,12 @@ spares_asked hand w s (inr is) granted has =
 
 -- nor does a key that is denied
 spares_where : (hand : ℕ) (s : LiveState) (denial : Option Denial)
-    → denial_at s.crew hand key.Undo (around_at hand s) ≡ denial → HasOwners s
+    → denial_at s.crew hand key.Undo (around_at hand key.Undo s) ≡ denial → HasOwners s
     → Spares hand s (struck_where hand key.Undo s denial).state
 unfolding denied_course denial_of
 spares_where hand s (Some denial) is has = refl
 spares_where hand s None is has =
-    let around = around_at hand s in
+    let around = around_at hand key.Undo s in
     let e = editor_at hand s in
     let t : LiveState = record s { crew = struck_by hand key.Undo around s.crew } in
     spares_asked hand (wish_of key.Undo around e) t (undo_asks around e e.flow refl) is
@@ -343,5 +346,5 @@ pub spares_key : (hand : ℕ) (s : LiveState) → HasOwners s
 unfolding key_course struck_course
 spares_key hand s has =
     let t = fitted s in
-    spares_where hand t (denial_at t.crew hand key.Undo (around_at hand t)) refl
+    spares_where hand t (denial_at t.crew hand key.Undo (around_at hand key.Undo t)) refl
     (owns_same s t refl refl has)

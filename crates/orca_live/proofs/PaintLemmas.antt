@@ -6,7 +6,7 @@ use Rattle.orca_course.specs.Courses.{Course, each, onward, still}
 use Rattle.orca_course.specs.declared.ending.Stop.{Stop}
 use Rattle.orca_course.proofs.CourseLemmas.{onward_goes}
 use Rattle.orca_live.specs.Performing.{paint_course, painted_course, picture_course}
-use Rattle.orca_live.specs.States.{LiveState, fitted, hands_in, is_viewer}
+use Rattle.orca_live.specs.States.{LiveState, fitted, hands_in, is_painted_for}
 
 -- a course that goes on, and changes what hands are shown alone
 pub record IsPainting (s : LiveState) (c : Course LiveState Stop) : Type 0 where
@@ -33,7 +33,7 @@ painted_if false marks hand s = record { goes = refl; state = refl }
 painted_is : (marks : List MarkSet) (hand : ℕ) (s : LiveState)
     → IsPainting s (painted_course marks hand s)
 unfolding painted_course
-painted_is marks hand s = painted_if (is_viewer hand s) marks hand s
+painted_is marks hand s = painted_if (is_painted_for hand s) marks hand s
 
 pub paints_are : (marks : List MarkSet) (hands : List ℕ) (s : LiveState)
     → IsPainting s (each (painted_course marks) hands s)

@@ -1,10 +1,9 @@
 -- The terminal of a hand that is sent all its paintings since its size was told shows each picture.
-use Rattle.std.proofs.Common.{◌≡◌, ℕ, zero, suc, ◌<◌, Bool, true, false, length, List, [], ◌∷◌, ◌++◌, refl, sym, ◌∙◌, ap, arith, subst, append-nil}
+use Rattle.std.proofs.Common.{◌≡◌, ℕ, zero, suc, ◌<◌, ◌≤◌, Bool, true, false, length, List, [], ◌∷◌, ◌++◌, refl, sym, ◌∙◌, ap, arith, subst, append-nil}
 use Rattle.std.specs.Prelude.{◌==◌, All, if◌then◌else◌, IfSome, Some}
 use Rattle.std.proofs.lemmas.Bool.{eqb-true, eqb-false, ltb-true}
 use Rattle.std.proofs.lemmas.Bool.Decides.{nat_tests}
 use Rattle.std.proofs.lemmas.List.{get_or-set_other, get_or-set_same, length-set}
-use Rattle.std.proofs.lemmas.List.FromFn.{length-map-range_with_len}
 use Rattle.orca_base.specs.declared.command.Command.{Command}
 use Rattle.orca_base.specs.declared.command.Command.TheVariants.{Frame}
 use Rattle.orca_base.specs.declared.message.Message.{Message}
@@ -20,10 +19,11 @@ use Rattle.orca_edit.specs.Obeying.{obey}
 use Rattle.orca_jam.specs.declared.crew.TheConstants.{LEADER}
 use Rattle.orca_jam.specs.declared.owner.TheConstants.{NOBODY}
 use Rattle.orca_notes.specs.Sound.{ends}
-use Rattle.orca_term.specs.Picture.{IsPrintable, IsScreen, picture, screen_cells}
+use Rattle.orca_term.specs.Picture.{IsPrintable, IsScreen, screen_cells}
 use Rattle.orca_term.specs.Viewing.{Shows, painting_bytes}
 use Rattle.orca_term.specs.declared.cell.Cell.{Cell}
 use Rattle.orca_term.specs.declared.cell.ScreenSize.{ScreenSize}
+use Rattle.orca_term.proofs.DrawnRows.{picture_cells}
 use Rattle.orca_term.proofs.Views.{shown_bytes}
 use Rattle.orca_live.specs.Carrying.{Carries}
 use Rattle.orca_live.proofs.Carried.{Anyhow, performance_carried}
@@ -210,12 +210,12 @@ shows_own : (marks : List MarkSet) (hand : ℕ) (s : LiveState) (d : ScreenSize)
     All IsPrintable cells
     → Shows d (sent ++ bytes) (Some cells)
     × Sees hand (with_view hand (record v { shown = Some cells }) s) d (sent ++ bytes)
-unfolding picture
 shows_own marks hand s d sent below seen printable =
     let v = view_at hand s in
     let cells = picture_for hand marks s in
     let bytes = painting_bytes v.screen v.shown cells in
-    let whole = length-map-range_with_len _ 0 (screen_cells v.screen) ∙ ap screen_cells seen.size in
+    let one : 1 ≤ v.screen.rows = rw seen.size (omega (arith, seen.screen.rows)) in
+    let whole = picture_cells v.screen _ _ _ one ∙ ap screen_cells seen.size in
     let shows = shown_bytes d v.shown cells bytes (record {
       screen = seen.screen;
       old = seen.whole;

@@ -7,11 +7,11 @@ use Rattle.std.proofs.lemmas.Bool.Decides.{nat_tests}
 use Rattle.orca_base.specs.Ascii.{escape}
 use Rattle.orca_base.specs.declared.limits.TheConstants.{MAX_COLUMNS}
 use Rattle.orca_term.specs.Codes.{letter_o}
-use Rattle.orca_term.specs.Keys.{Item, Byte, Due, after, arrow_in, arrow_key, arrow_keys, awaits, button_key, edges, ended_key, ends_as, escape_and_o, is_collected, is_last, pending_with, single_key, turn_after_escape, turn_after_o, turn_alone, turn_inside, turn_outside, found_in, further_keys, further_sequence, key_at_end, key_of, key_of_numbers, key_of_sequence, lone_keys, mouse_key, mouse_sequence, numbered_edges, numbered_keys, numbers_in, paged_key, pages, plain_key, plain_sequence, shifted_keys, arrow_sides, turn, wheel}
+use Rattle.orca_term.specs.Keys.{Item, Byte, Due, after, arrow_in, arrow_key, arrow_keys, awaits, button_key, console_key, console_keys, edges, ended_key, ends_as, escape_and_o, function_keys, is_collected, is_last, opens_console, pending_with, single_key, turn_after_escape, turn_after_o, turn_alone, turn_at_end, turn_in_console, turn_inside, turn_outside, found_in, further_keys, further_sequence, key_at_end, key_of, key_of_numbers, key_of_sequence, lone_keys, mouse_key, mouse_sequence, numbered_edges, numbered_keys, numbers_in, paged_key, pages, plain_key, plain_sequence, shifted_keys, arrow_sides, turn, wheel}
 use Rattle.orca_term.specs.declared.keys.Key.{Key}
 use Rattle.orca_term.specs.declared.keys.Key.TheVariants as key
 use Rattle.orca_term.specs.declared.keys.Pending.{Pending}
-use Rattle.orca_term.specs.declared.keys.Pending.TheVariants.{Nothing, Lone, Single, Sequence, Overlong}
+use Rattle.orca_term.specs.declared.keys.Pending.TheVariants.{Nothing, Lone, Single, Sequence, Overlong, Console}
 use Rattle.orca_term.specs.declared.keys.Side.{Side}
 use Rattle.orca_term.specs.declared.limits.TheConstants.{RULER_PLACES}
 use Rattle.orca_live.specs.Solo.{redo_byte}
@@ -123,6 +123,7 @@ end_other full Single last = tt
 end_other full (Sequence bytes) last =
     grind (arith, short_other bytes last, further_other bytes last)
 end_other full Overlong last = tt
+end_other full Console last = tt
 
 -- ---- the reader
 
@@ -170,7 +171,8 @@ shift_other none keys ends None single other = other
 shift_other none keys ends (Some k) single other = single
 
 single_other : (byte : ℕ) → IfSome (single_key byte) IsOther
-single_other byte = grind (arith, ended_other byte 1)
+single_other byte =
+    grind (arith, ended_other byte 1, never_found function_keys byte (λ k. refl))
 
 singles_other : (single : Option (Option Key)) → IfSome single IsOther
     → IfSome single (λ k. AreOther (option_to_list k))
@@ -183,17 +185,31 @@ o_other full byte apart =
     (single_key byte) (singles_other (single_key byte) (single_other byte))
     (refl, (refl, outside_other full byte apart))
 
+ended_turn_other : (full : Bool) (p : Pending) (byte : ℕ)
+    → AreOther (turn_at_end full p byte).keys
+ended_turn_other full p byte =
+    either_other (ends_as (key_at_end full p byte)) (λ t. t.keys) (opens_console full p byte)
+    (awaits Console) tt (listed_other (key_at_end full p byte) (end_other full p byte))
+
+console_other : (byte : ℕ) → IfSome (console_key byte) IsOther
+console_other byte = grind (arith, never_found console_keys byte (λ k. refl))
+
+in_console_other : (full : Bool) (byte : ℕ) → byte ≢ redo_byte
+    → AreOther (turn_in_console full byte).keys
+in_console_other full byte apart =
+    shift_other (turn_outside full byte) (λ t. t.keys) ends_as (console_key byte)
+    (singles_other (console_key byte) (console_other byte)) (outside_other full byte apart)
+
 last_other : (full : Bool) (p : Pending) (byte : ℕ) → byte ≢ redo_byte
-    → AreOther (if is_last byte then ends_as (key_at_end full p byte) else turn_outside full byte).keys
+    → AreOther (if is_last byte then turn_at_end full p byte else turn_outside full byte).keys
 last_other full p byte apart =
     either_other (turn_outside full byte) (λ t. t.keys) (is_last byte)
-    (ends_as (key_at_end full p byte))
-    (listed_other (key_at_end full p byte) (end_other full p byte)) (outside_other full byte apart)
+    (turn_at_end full p byte) (ended_turn_other full p byte) (outside_other full byte apart)
 
 inside_other : (full : Bool) (p : Pending) (byte : ℕ) → byte ≢ redo_byte
     → AreOther (turn_inside full p byte).keys
 inside_other full p byte apart =
-    either_other (if is_last byte then ends_as (key_at_end full p byte) else turn_outside full byte)
+    either_other (if is_last byte then turn_at_end full p byte else turn_outside full byte)
     (λ t. t.keys) (is_collected byte) (awaits (pending_with p byte)) tt
     (last_other full p byte apart)
 
@@ -205,6 +221,7 @@ turn_other full Lone (Byte byte) apart = escape_other full byte apart
 turn_other full Single (Byte byte) apart = o_other full byte apart
 turn_other full (Sequence bytes) (Byte byte) apart = inside_other full (Sequence bytes) byte apart
 turn_other full Overlong (Byte byte) apart = inside_other full Overlong byte apart
+turn_other full Console (Byte byte) apart = in_console_other full byte apart
 turn_other full Lone Due spared = (refl, tt)
 turn_other full Single Due spared = (refl, (refl, tt))
 turn_other full p Due spared = tt

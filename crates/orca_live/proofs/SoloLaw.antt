@@ -2,14 +2,16 @@
 -- done from those of one that plays alone too, and it stays such a hand.
 use Rattle.std.proofs.Common.{◌≡◌, ◌≢◌, ℕ, zero, suc, arith, length, Bool, true, false, List, [], ◌∷◌, ◌++◌, refl, sym, ◌∙◌, ap, subst}
 use Rattle.std.specs.List.{range_with_len}
-use Rattle.std.specs.Prelude.{◌+◌, drop, if◌then◌else◌, map, take, nat_le, nat_lt, Option, Some, None}
-use Rattle.std.specs.Option.{option_map}
+use Rattle.std.specs.Prelude.{◌+◌, ◌-◌, ◌==◌, ◌&&◌, not, drop, filter, if◌then◌else◌, map, min, slice_get, take, nat_le, nat_lt, Option, Some, None}
+use Rattle.std.specs.Option.{option_map, option_map_or}
 use Rattle.std.proofs.lemmas.Bool.{le-ltb}
 use Rattle.std.proofs.lemmas.List.{length-map, length-set}
 use Rattle.std.proofs.lemmas.List.Elements.{All-head, All-tail}
 use Rattle.orca_base.specs.declared.command.Command.{Command}
 use Rattle.orca_base.specs.declared.command.Command.TheVariants.{Frame, Redo}
+use Rattle.orca_base.specs.declared.command.Entry.{Entry}
 use Rattle.orca_base.specs.declared.command.Rule.{Rule}
+use Rattle.orca_base.specs.declared.limits.TheConstants.{RETRACTED_ENTRIES}
 use Rattle.orca_base.specs.declared.place.Place.{Place}
 use Rattle.orca_base.specs.MarkSet.{MarkSet}
 use Rattle.orca_concert.specs.Concerts.{close_course as silence_course, command_course as obey_course}
@@ -28,9 +30,9 @@ use Rattle.orca_course.proofs.CuttingLemmas.{Worth, counted, counting}
 use Rattle.orca_course.proofs.CuttingLemmas.Worth.{Counts, Nothing}
 use Rattle.orca_course.proofs.MidwayLemmas.{AreMidway, IsMidway, all_midway}
 use Rattle.orca_edit.specs.Machines.{preview_of}
-use Rattle.orca_jam.specs.Crews.{CrewState, asked, cursor_of, denial_of, fitted_player, offered, player_at, struck_by, took_by, turned_by, wish_at, with_player}
+use Rattle.orca_jam.specs.Crews.{CrewState, asked, cursor_of, denial_of, fitted_player, is_here, last_own, left_player, offered, own_for, player_at, says_away, struck_by, struck_player, tells_nothing, took_by, turned_by, wish_at, with_player}
 use Rattle.orca_jam.specs.Laws.{AreLeaders}
-use Rattle.orca_jam.specs.Owners.{owned}
+use Rattle.orca_jam.specs.Owners.{is_of_other, owned}
 use Rattle.orca_jam.specs.declared.crew.TheConstants.{LEADER}
 use Rattle.orca_jam.specs.declared.owner.Owner.{Owner}
 use Rattle.orca_jam.specs.declared.owner.TheConstants.{NOBODY}
@@ -47,10 +49,11 @@ use Rattle.orca_term.specs.declared.editor.Wish.{Wish}
 use Rattle.orca_term.specs.declared.editor.Wish.TheVariants as wish
 use Rattle.orca_term.specs.declared.flow.Flow.{Flow}
 use Rattle.orca_term.specs.declared.keys.Key.{Key}
+use Rattle.orca_term.specs.declared.keys.Key.TheVariants as key
 use Rattle.orca_live.specs.Items.{ByteOf, HeardItem, items_heard}
 use Rattle.orca_live.specs.Performing.{answered_at, byte_course, due_course, finish_course, fired, frame_course, hand_course, header_course, hush_course, if_named, item_course, journal_course, key_course, knowing, last_grid_course, last_script_course, lines_course, live_part, lull_course, lull_of, owning, paint_course, painted_course, picture_course, press_course, preview_course, read_course, save_course, saves_course, script_course, show_course, struck_course, struck_where, take_course, wish_course, write_course, keys_course, painted_editor, struck_well, view_acts}
 use Rattle.orca_live.specs.Solo.{HasNoRedo, IsSolo, PlaysAlone, as_alone, redo_byte}
-use Rattle.orca_live.specs.States.{LiveState, around_at, begun_name, dims_at, fitted, hands_in, is_full, is_hand, is_viewer, leader_at, piece_at, reads_text, screen_at, status_line_at, view_at, with_view}
+use Rattle.orca_live.specs.States.{LiveState, around_at, begun_name, dims_at, fitted, hands_in, is_full, is_hand, is_painted_for, leader_at, piece_at, reads_text, screen_at, status_line_at, view_at, with_view}
 use Rattle.orca_live.proofs.RedoKey.{AreOther, IsSpared, is_redo, turn_other}
 use Rattle.orca_live.proofs.WorthLemmas.{all_counted, worth_of}
 
@@ -208,29 +211,89 @@ asks_other : (k : Key) (a : Around) (e : Editor) (flow : Option Flow) → e.flow
 asks_other k a e None is other = grind (arith, is, other)
 asks_other k a e (Some f) is other = grind (arith, is, other)
 
-asked_alike : (c : CrewState) (hand : ℕ) (k : Key) (a : Around) → is_redo k ≡ false
-    → asked (lone_crew c) hand k a ≡ asked c hand k a
-asked_alike c hand k a other =
-    let e = (player_at c hand).editor in
-    offered_alike c (wish_of k a e) (asks_other k a e e.flow refl other)
+-- the first hand never goes away
+stays : (c : CrewState) (k : Key) → says_away c LEADER k ≡ false
+stays c k = by (tells_nothing k) c.views
+  where
+    by : (nothing views : Bool) → (nothing && (views && not (LEADER == LEADER))) ≡ false
+    by true true = refl
+    by true false = refl
+    by false views = refl
+
+asked_alike : (c : CrewState) (k : Key) (a : Around) → is_redo k ≡ false
+    → asked (lone_crew c) LEADER k a ≡ asked c LEADER k a
+asked_alike c k a other =
+    let e = (player_at c LEADER).editor in
+    rw (stays (lone_crew c) k, stays c k)
+    (offered_alike c (wish_of k a e) (asks_other k a e e.flow refl other))
+
+-- no edit is another hand's
+none_of_others : (owners : List Owner) (moment : ℕ) → AreLeaders owners
+    → option_map_or (is_of_other LEADER) (slice_get owners moment) false ≡ false
+none_of_others [] moment all = refl
+none_of_others (o ∷ owners) zero all =
+    by o.edit (All-head (λ (o : Owner). o.edit ≡ true → o.hand ≡ LEADER) o owners all)
+  where
+    by : (edit : Bool) → (edit ≡ true → o.hand ≡ LEADER) → (edit && not (o.hand == LEADER)) ≡ false
+    by true own = rw (own refl) refl
+    by false own = refl
+none_of_others (o ∷ owners) (suc moment) all =
+    none_of_others owners moment (All-tail (λ (o : Owner). o.edit ≡ true → o.hand ≡ LEADER) o owners all)
+
+-- so it may take back the same ones
+own_alike : (c : CrewState) (history : List Entry) (end n : ℕ) → AreLeaders c.owners
+    → last_own (lone_crew c) LEADER history end n ≡ last_own c LEADER history end n
+own_alike c history end zero all = refl
+own_alike c history end (suc n) all =
+    rw (none_of_others c.owners (end - 1) all, own_alike c history (end - 1) n all) refl
+
+own_for_alike : (k : Key) (c : CrewState) (history : List Entry) → AreLeaders c.owners
+    → own_for k (lone_crew c) LEADER history ≡ own_for k c LEADER history
+own_for_alike key.Retract c history all =
+    own_alike c history (length history) (min (length history) RETRACTED_ENTRIES) all
+own_for_alike _ c history all = refl
+
+around_alike : (k : Key) (s : LiveState) → IsSolo s.crew
+    → around_at LEADER k (as_alone s) ≡ around_at LEADER k s
+around_alike k s solo =
+    ap (λ (own : Option ℕ). record (around_at LEADER k s) { own = own })
+    (own_for_alike k s.crew s.standing.machine.history solo.own)
+
+-- a key makes the same of it
+player_alike : (c : CrewState) (k : Key) (a : Around) (p : Player)
+    → (if says_away (lone_crew c) LEADER k then left_player p else struck_player k a p)
+    ≡ (if says_away c LEADER k then left_player p else struck_player k a p)
+player_alike c k a p = rw (stays (lone_crew c) k, stays c k) refl
+
+where_alike : (k : Key) (s : LiveState) → is_redo k ≡ false → IsSolo s.crew
+    → let a = around_at LEADER k s in
+    struck_where LEADER k (as_alone s) None
+    ≡ wish_course LEADER (asked s.crew LEADER k a)
+    (as_alone (record s { crew = struck_by LEADER k a s.crew }))
+where_alike k s other solo =
+    let c = s.crew in
+    let a = around_at LEADER k s in
+    ap (λ (b : Around). wish_course LEADER (asked (lone_crew c) LEADER k b)
+    (record (as_alone s) { crew = struck_by LEADER k b (lone_crew c) })) (around_alike k s solo)
+    ∙ (ap (λ (w : Wish). wish_course LEADER w
+    (record (as_alone s) { crew = struck_by LEADER k a (lone_crew c) })) (asked_alike c k a other)
+    ∙ ap (λ (p : Player). wish_course LEADER (asked c LEADER k a)
+    (record (as_alone s) { crew = with_player LEADER p (lone_crew c) }))
+    (player_alike c k a (player_at c LEADER)))
 
 free_agrees : (k : Key) → is_redo k ≡ false → Alike (λ s. struck_where LEADER k s None)
 free_agrees k other s solo =
-    let a = around_at LEADER s in
+    let a = around_at LEADER k s in
     let t : LiveState = record s { crew = struck_by LEADER k a s.crew } in
     let all = wish_agrees (asked s.crew LEADER k a) t (player_solo s.crew _ solo) in
-    record {
-      same =
-          ap (λ (w : Wish). wish_course LEADER w (as_alone t)) (asked_alike s.crew LEADER k a other)
-          ∙ all.same;
-      solo = all.solo;
-    }
+    record { same = where_alike k s other solo ∙ all.same; solo = all.solo }
 
 struck_agrees : (k : Key) → is_redo k ≡ false → Alike (struck_course LEADER k)
 unfolding struck_course
 struck_agrees k other s solo =
-    let w = wish_at s.crew LEADER k (around_at LEADER s) in
-    rw (leader_is_free s.crew w solo.own, lone_free s.crew LEADER w) (free_agrees k other s solo)
+    let w = wish_at s.crew LEADER k (around_at LEADER k s) in
+    let v = wish_at (lone_crew s.crew) LEADER k (around_at LEADER k (as_alone s)) in
+    rw (leader_is_free s.crew w solo.own, lone_free s.crew LEADER v) (free_agrees k other s solo)
 
 press_agrees : (k : Key) → is_redo k ≡ false → Alike (press_course LEADER k)
 unfolding press_course key_course
@@ -295,7 +358,9 @@ due_agrees s solo =
 
 -- one hand has no other one beside it
 beside_none : (views : Bool) (players : List Player) → length players ≡ 1
-    → (if views then map cursor_of (take LEADER players ++ drop (LEADER + 1) players) else []) ≡ []
+    → (if views
+    then map cursor_of (filter is_here (take LEADER players ++ drop (LEADER + 1) players)) else [])
+    ≡ []
 beside_none false players one = refl
 beside_none true [] one = absurd (omega (arith, one))
 beside_none true (p ∷ []) one = refl
@@ -307,7 +372,7 @@ picture_beside marks s others =
     picture (screen_at LEADER s)
     (scene_of (piece_at s).sheet marks
     (record { editor = painted_editor LEADER s; others = others }))
-    (status_line_at LEADER s)
+    s.sent (status_line_at LEADER s)
 
 abbrev painting_beside : List MarkSet → LiveState → List Place → Course LiveState Stop
 painting_beside marks s others =
@@ -327,7 +392,7 @@ picture_agrees marks s solo = record {
 painted_agrees : (marks : List MarkSet) → Alike (painted_course marks LEADER)
 unfolding painted_course
 painted_agrees marks s solo =
-    if_agrees (is_viewer LEADER s) (picture_agrees marks s solo) (agreed (still s) solo)
+    if_agrees (is_painted_for LEADER s) (picture_agrees marks s solo) (agreed (still s) solo)
 
 paints_agree : (marks : List MarkSet) → Alike (each (painted_course marks) (LEADER ∷ []))
 unfolding each

@@ -3,6 +3,7 @@
 use Rattle.std.proofs.Common.{◌≡◌, ◌≢◌, ◌⊎◌, inl, inr, ℕ, arith, Bool, true, false, List, [], ◌∷◌, ◌++◌, length, refl, sym, ap}
 use Rattle.std.specs.Prelude.{if◌then◌else◌, Option, Some, None, Ok, Err, unwrap_or}
 use Rattle.std.specs.Option.{option_map_or}
+use Rattle.std.proofs.lemmas.Bool.{and_parts}
 use Rattle.std.proofs.lemmas.List.{length-map, length-set}
 use Rattle.orca_base.specs.declared.command.Command.{Command}
 use Rattle.orca_base.specs.declared.command.Command.TheVariants.{Frame, Redo}
@@ -19,7 +20,7 @@ use Rattle.orca_course.specs.declared.item.Losses.{Losses}
 use Rattle.orca_course.specs.declared.item.Item.{Item}
 use Rattle.orca_course.specs.declared.item.Item.TheVariants as item
 use Rattle.orca_edit.specs.Machines.{preview_of}
-use Rattle.orca_jam.specs.Crews.{CrewState, asked, denial_at, fitted_player, offered, player_at, struck_by, turned_by}
+use Rattle.orca_jam.specs.Crews.{CrewState, asked, denial_at, denied_by, fitted_player, offered, player_at, struck_by, turned_by}
 use Rattle.orca_jam.specs.Denials.{rule_of_denial}
 use Rattle.orca_jam.specs.declared.denial.Denial.{Denial}
 use Rattle.orca_jam.specs.declared.owner.TheConstants.{NOBODY}
@@ -41,13 +42,13 @@ use Rattle.orca_term.specs.declared.flow.Flow.{Flow}
 use Rattle.orca_term.specs.declared.keys.Key.{Key}
 use Rattle.orca_term.specs.declared.keys.Key.TheVariants as key
 use Rattle.orca_term.specs.declared.keys.Pending.{Pending}
-use Rattle.orca_term.specs.declared.keys.Pending.TheVariants.{Nothing, Lone, Sequence, Overlong, Single}
+use Rattle.orca_term.specs.declared.keys.Pending.TheVariants.{Nothing, Lone, Sequence, Overlong, Single, Console}
 use Rattle.orca_live.specs.Performing.{additions, answered_at, byte_course, denied_course, due_course, finish_course, fired, frame_course, hand_course, header_course, hush_course, if_named, item_course, journal_course, key_course, knowing, last_grid_course, last_script_course, lines_course, lull_course, lull_of, paced, paint_course, painted_course, picture_course, press_course, preview_course, read_course, save_course, saves_course, script_course, show_course, struck_course, struck_where, take_course, telling, toggled, wish_course, write_course, keys_course, struck_well}
-use Rattle.orca_live.specs.States.{LiveState, Setting, around_at, begun_name, dims_at, editor_at, fitted, hands_in, is_full, is_hand, is_viewer, key_name, leader_at, piece_at, reads_text, screen_at, unpainted, with_view, with_word}
+use Rattle.orca_live.specs.States.{LiveState, Setting, around_at, begun_name, dims_at, editor_at, fitted, hands_in, is_full, is_hand, is_painted_for, is_viewer, key_name, leader_at, piece_at, reads_text, screen_at, unpainted, with_view, with_word}
 
 -- two states are the same to the session, to the terminals, to the script and to the journal, and
--- have as many hands, whose last keys came to the same, and of which only the keys and the editors
--- may differ
+-- have as many hands, whose last keys came to the same, and of which only the keys, the editors and
+-- whether they are away may differ
 pub record LooksAlike (s t : LiveState) : Type 0 where
   pub setting : t.setting ≡ s.setting
   pub standing : t.standing ≡ s.standing
@@ -55,6 +56,7 @@ pub record LooksAlike (s t : LiveState) : Type 0 where
   pub given : t.given ≡ s.given
   pub unwritten : t.unwritten ≡ s.unwritten
   pub words : t.words ≡ s.words
+  pub sent : t.sent ≡ s.sent
   pub hands : length t.crew.players ≡ length s.crew.players
   pub crew : t.crew ≡ record s.crew { players = t.crew.players }
 
@@ -71,6 +73,7 @@ looks_so s players pace at came hands = record {
   given = refl;
   unwritten = refl;
   words = refl;
+  sent = refl;
   hands = hands;
   crew = refl;
 }
@@ -84,6 +87,7 @@ looks_loose s loose = record {
   given = refl;
   unwritten = refl;
   words = refl;
+  sent = refl;
   hands = refl;
   crew = refl;
 }
@@ -249,13 +253,23 @@ module _ {holds : Holds} (carry : Carries holds) where
       let d = unwrap_or size (screen_at hand s) in
       carry.screen (Some hand) hand (screen_inside d) s (inside_is_screen d)
 
+  -- a key that is denied closes a page of help
+  denied_carried : (who : Option ℕ) (hand : ℕ) (key : Key) (denial : Denial) (s : LiveState)
+      → Along holds who (struck_where hand key s (Some denial)) s
+  unfolding denied_course
+  denied_carried who hand key denial s =
+      let t : LiveState = record s { crew = denied_by hand key s.crew } in
+      from_alike who s t (denied_course hand denial t)
+      (looks_so s t.crew.players s.pace s.at s.came (length-set s.crew.players hand _))
+      (carry.denied who hand denial t)
+
   where_carried : (hand : ℕ) (key : Key) (s : LiveState) (denial : Option Denial)
-      → denial_at s.crew hand key (around_at hand s) ≡ denial
+      → denial_at s.crew hand key (around_at hand key s) ≡ denial
       → Along holds (Some hand) (struck_where hand key s denial) s
   unfolding denied_course
-  where_carried hand key s (Some denial) is = carry.denied (Some hand) hand denial s
+  where_carried hand key s (Some denial) is = denied_carried (Some hand) hand key denial s
   where_carried hand key s None is =
-      let around = around_at hand s in
+      let around = around_at hand key s in
       let t : LiveState = record s { crew = struck_by hand key around s.crew } in
       let w = asked s.crew hand key around in
       from_alike (Some hand) s t (wish_course hand w t)
@@ -281,7 +295,7 @@ module _ {holds : Holds} (carry : Carries holds) where
   unfolding struck_course
   press_carried hand key s =
       key_carried (Some hand) hand key s
-      (λ t. where_carried hand key t (denial_at t.crew hand key (around_at hand t)) refl)
+      (λ t. where_carried hand key t (denial_at t.crew hand key (around_at hand key t)) refl)
 
   keys_carried : (hand : ℕ) (keys : List Key) (s : LiveState)
       → Along holds (Some hand) (keys_course hand keys s) s
@@ -296,9 +310,9 @@ module _ {holds : Holds} (carry : Carries holds) where
   escape_where : (hand : ℕ) (s : LiveState) (denial : Option Denial)
       → Along holds None (struck_where hand key.Escape s denial) s
   unfolding denied_course wish_course
-  escape_where hand s (Some denial) = carry.denied None hand denial s
+  escape_where hand s (Some denial) = denied_carried None hand key.Escape denial s
   escape_where hand s None =
-      let around = around_at hand s in
+      let around = around_at hand key.Escape s in
       let t : LiveState = record s { crew = struck_by hand key.Escape around s.crew } in
       rw (escape_asks s.crew around (editor_at hand s) (editor_at hand s).flow refl)
       (carry.none None s t
@@ -308,7 +322,7 @@ module _ {holds : Holds} (carry : Carries holds) where
   unfolding struck_course
   escape_press hand s =
       key_carried None hand key.Escape s
-      (λ t. escape_where hand t (denial_at t.crew hand key.Escape (around_at hand t)))
+      (λ t. escape_where hand t (denial_at t.crew hand key.Escape (around_at hand key.Escape t)))
 
   single_press : (hand : ℕ) (s : LiveState)
       → Along holds None (press_course hand (key.Glyph letter_o) s) s
@@ -332,6 +346,7 @@ module _ {holds : Holds} (carry : Carries holds) where
       (λ u. carry.none None u u (looks_same u)))
   due_keys hand full (Sequence bytes) s = carry.none None s s (looks_same s)
   due_keys hand full Overlong s = carry.none None s s (looks_same s)
+  due_keys hand full Console s = carry.none None s s (looks_same s)
 
   -- a reader is given an item of the keys
   read_by : (is : Bool) (who : Option ℕ) (hand : ℕ) (item : KeyItem) (s : LiveState)
@@ -393,15 +408,15 @@ module _ {holds : Holds} (carry : Carries holds) where
   -- ---- what is shown and written
 
   painted_by : (is : Bool) (who : Option ℕ) (marks : List MarkSet) (hand : ℕ) (s : LiveState)
-      → is_viewer hand s ≡ is
+      → is_painted_for hand s ≡ is
       → Along holds who (if is then picture_course marks hand s else still s) s
-  painted_by true who marks hand s is = carry.paint who marks hand s is
+  painted_by true who marks hand s is = carry.paint who marks hand s (and_parts _ _ is).0
   painted_by false who marks hand s is = carry.none who s s (looks_same s)
 
   painted_carried : (who : Option ℕ) (marks : List MarkSet) (hand : ℕ) (s : LiveState)
       → Along holds who (painted_course marks hand s) s
   unfolding painted_course
-  painted_carried who marks hand s = painted_by (is_viewer hand s) who marks hand s refl
+  painted_carried who marks hand s = painted_by (is_painted_for hand s) who marks hand s refl
 
   pub paints_carried : (who : Option ℕ) (marks : List MarkSet) (hands : List ℕ) (s : LiveState)
       → Along holds who (each (painted_course marks) hands s) s
@@ -434,6 +449,7 @@ module _ {holds : Holds} (carry : Carries holds) where
         given = refl;
         unwritten = sym is;
         words = refl;
+        sent = refl;
         hands = refl;
         crew = refl;
       })

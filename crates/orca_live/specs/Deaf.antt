@@ -16,7 +16,7 @@ use Rattle.orca_course.proofs.ActLemmas.{AreDeaf-append}
 use Rattle.orca_jam.specs.declared.owner.TheConstants.{NOBODY}
 use Rattle.orca_term.specs.Viewing.{painting_bytes}
 use Rattle.orca_live.specs.Performing.{hand_course, hush_course, live_part, picture_course, picture_for, view_acts}
-use Rattle.orca_live.specs.Quiet.{silent_manner}
+use Rattle.orca_live.specs.Quiet.{quiet_manner}
 use Rattle.orca_live.specs.States.{LiveState, Viewed, view_at}
 use Rattle.orca_live.specs.Carrying.{Carries, take_carried}
 
@@ -32,11 +32,11 @@ command_deaf : (who : ℕ) (command : Command) (s : LiveState)
     → AreDeaf (hand_course who command s).acts
 unfolding hand_course mapped
 command_deaf who command s =
-    command_is_deaf silent_manner 0 command (concert_with s.standing tt)
+    command_is_deaf quiet_manner 0 command (concert_with s.standing s.sent)
 
 close_deaf : (s : LiveState) → AreDeaf (hush_course s).acts
 unfolding hush_course mapped
-close_deaf s = close_is_deaf silent_manner (concert_with s.standing tt)
+close_deaf s = close_is_deaf quiet_manner (concert_with s.standing s.sent)
 
 picture_deaf : (marks : List MarkSet) (hand : ℕ) (s : LiveState)
     → AreDeaf (picture_course marks hand s).acts

@@ -1,5 +1,5 @@
 -- Laws of several hands at one session: each of them is heard, and they keep whose each entry is.
-use Rattle.std.specs.Prelude.{◌≡◌, ◌≤◌, ◌==◌, ℕ, Bool, true, false, if◌then◌else◌, List, [], ◌∷◌, ◌++◌, length, Option, Some, None}
+use Rattle.std.specs.Prelude.{◌≡◌, ◌≤◌, ◌==◌, ℕ, Bool, true, false, not, ◌&&◌, if◌then◌else◌, List, [], ◌∷◌, ◌++◌, length, Option, Some, None}
 use Rattle.std.specs.Option.{option_map_or}
 use Rattle.orca_base.specs.declared.command.Command.{Command}
 use Rattle.orca_base.specs.declared.command.Command.TheVariants as command
@@ -10,14 +10,14 @@ use Rattle.orca_course.specs.Performers.{Hearing}
 use Rattle.orca_course.specs.Standings.{Standing}
 use Rattle.orca_course.specs.declared.item.Losses.{Losses}
 use Rattle.orca_edit.specs.Obeying.{MachineState, obey, rule_against}
-use Rattle.orca_jam.specs.Crews.{crew_at_start, denial_of, player_at}
+use Rattle.orca_jam.specs.Crews.{crew_at_start, denial_of, may_leave, player_at, tells_nothing}
 use Rattle.orca_jam.specs.Laws.{AreOwners, edits_of_others}
 use Rattle.orca_jam.specs.Owners.{owned}
 use Rattle.orca_jam.specs.declared.owner.Owner.{Owner}
 use Rattle.orca_jam.specs.declared.owner.TheConstants.{NOBODY}
 use Rattle.orca_rig.specs.declared.inbox.Answer.{Answer}
 use Rattle.orca_rig.specs.declared.inbox.Answer.TheVariants as answer
-use Rattle.orca_term.specs.Editing.{editor_after, editor_inside}
+use Rattle.orca_term.specs.Editing.{editor_after, editor_inside, turned_page}
 use Rattle.orca_term.specs.Keys.{Byte, Due, Item, turn}
 use Rattle.orca_term.specs.declared.around.Around.{Around}
 use Rattle.orca_term.specs.declared.editor.Editor.{Editor}
@@ -49,16 +49,24 @@ abbrev pub reader_at : ℕ → LiveState → Reader
 reader_at hand s =
     record { pending = (player_at s.crew hand).keys; text = reads_text hand s }
 
--- whether a text is read after a key, and after keys
-abbrev pub text_after : Bool → Key → Bool
-text_after text key.PasteBegin = true
-text_after text key.PasteEnd = false
-text_after text key.Escape = false
-text_after text _ = text
+-- how the bytes of a hand are read: as full keys or as plain ones, and whether the hand may go away
+pub record Mode : Type 0 where
+  pub full : Bool
+  pub leaves : Bool
 
-abbrev pub text_by : Bool → List Key → Bool
-text_by text [] = text
-text_by text (key ∷ keys) = text_by (text_after text key) keys
+abbrev pub mode_at : ℕ → LiveState → Mode
+mode_at hand s = record { full = s.crew.full; leaves = may_leave s.crew hand }
+
+-- whether a text is read after a key, and after keys, of a hand that may go away, or not
+abbrev pub text_after : Bool → Bool → Key → Bool
+text_after leaves text key.PasteBegin = true
+text_after leaves text key.PasteEnd = false
+text_after leaves text key.Escape = false
+text_after leaves text key = text && not (tells_nothing key && leaves)
+
+abbrev pub text_by : Bool → Bool → List Key → Bool
+text_by leaves text [] = text
+text_by leaves text (key ∷ keys) = text_by leaves (text_after leaves text key) keys
 
 -- what an item of the performance is to a reader: a byte of its hand, and where a frame is due, that
 -- nothing came for a while. Bytes of other hands are nothing to it, nor is a frame while a text is
@@ -68,34 +76,36 @@ item_for hand r (ByteOf other byte) = if other == hand then Some (Byte byte) els
 item_for hand r FrameDue = if r.text then None else Some Due
 
 -- the keys that it ends
-abbrev pub ended_by : Bool → Reader → Option Item → List Key
-ended_by full r None = []
-ended_by full r (Some item) = (turn full r.pending item).keys
+abbrev pub ended_by : Mode → Reader → Option Item → List Key
+ended_by m r None = []
+ended_by m r (Some item) = (turn m.full r.pending item).keys
 
 -- the reader after it
-abbrev pub reader_after : Bool → Reader → Option Item → Reader
-reader_after full r None = r
-reader_after full r (Some item) =
-    let t = turn full r.pending item in
-    record { pending = t.pending; text = text_by r.text t.keys }
+abbrev pub reader_after : Mode → Reader → Option Item → Reader
+reader_after m r None = r
+reader_after m r (Some item) =
+    let t = turn m.full r.pending item in
+    record { pending = t.pending; text = text_by m.leaves r.text t.keys }
 
 -- after items, one after another
-abbrev pub reader_by : Bool → ℕ → Reader → List HeardItem → Reader
-reader_by full hand r [] = r
-reader_by full hand r (item ∷ items) =
-    reader_by full hand (reader_after full r (item_for hand r item)) items
+abbrev pub reader_by : Mode → ℕ → Reader → List HeardItem → Reader
+reader_by m hand r [] = r
+reader_by m hand r (item ∷ items) =
+    reader_by m hand (reader_after m r (item_for hand r item)) items
 
 -- the keys that they end
-abbrev pub keys_by : Bool → ℕ → Reader → List HeardItem → List Key
-keys_by full hand r [] = []
-keys_by full hand r (item ∷ items) =
+abbrev pub keys_by : Mode → ℕ → Reader → List HeardItem → List Key
+keys_by m hand r [] = []
+keys_by m hand r (item ∷ items) =
     let i = item_for hand r item in
-    ended_by full r i ++ keys_by full hand (reader_after full r i) items
+    ended_by m r i ++ keys_by m hand (reader_after m r i) items
 
--- what changes an editor: a key of its hand, which is told this; one that is denied, and moves
--- nothing; and the size of the grid
+-- what changes an editor: a key of its hand, which is told this; the size that says that the hand
+-- is away, which ends its text; a key that is denied, which closes a page of help alone; and the
+-- size of the grid
 pub data Change : Type 0 where
   Struck : Key → Around → Change
+  Left : Change
   Denied : Key → Change
   Fitted : Size → Change
 
@@ -103,13 +113,15 @@ pub data Change : Type 0 where
 abbrev pub editor_by : List Change → Editor → Editor
 editor_by [] e = e
 editor_by (Struck key a ∷ changes) e = editor_by changes (editor_after key a e)
-editor_by (Denied key ∷ changes) e = editor_by changes e
+editor_by (Left ∷ changes) e = editor_by changes (record e { flow = None })
+editor_by (Denied key ∷ changes) e = editor_by changes (turned_page key e)
 editor_by (Fitted d ∷ changes) e = editor_by changes (editor_inside d e)
 
 -- the keys among changes
 abbrev pub keys_of : List Change → List Key
 keys_of [] = []
 keys_of (Struck key a ∷ changes) = key ∷ keys_of changes
+keys_of (Left ∷ changes) = key.Screen 0 0 ∷ keys_of changes
 keys_of (Denied key ∷ changes) = key ∷ keys_of changes
 keys_of (Fitted d ∷ changes) = keys_of changes
 
@@ -131,12 +143,13 @@ pub record HearsEach (s : LiveState) : Type 0 where
       → let c = so_far s opening heard in
       c.ending ≡ None
       → reader_at hand c.state
-      ≡ reader_by s.crew.full hand (reader_at hand s) (items_heard (length s.crew.players) heard)
+      ≡ reader_by (mode_at hand s) hand (reader_at hand s)
+      (items_heard (length s.crew.players) heard)
   pub keys : (opening : Losses) (heard : List Hearing) (hand : ℕ) → is_hand hand s ≡ true
       → let c = so_far s opening heard in
       c.ending ≡ None
       → keys_in hand c.acts
-      ≡ keys_by s.crew.full hand (reader_at hand s) (items_heard (length s.crew.players) heard)
+      ≡ keys_by (mode_at hand s) hand (reader_at hand s) (items_heard (length s.crew.players) heard)
   pub moves : (opening : Losses) (heard : List Hearing) (hand : ℕ) → is_hand hand s ≡ true
       → let c = so_far s opening heard in
       c.ending ≡ None → IsMadeBy (keys_in hand c.acts) (editor_at hand s) (editor_at hand c.state)

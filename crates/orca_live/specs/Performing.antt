@@ -20,7 +20,7 @@ use Rattle.orca_course.specs.declared.item.Item.TheVariants as item
 use Rattle.orca_edit.specs.Machines.{preview_of}
 use Rattle.orca_edit.specs.Prices.{preview_price}
 use Rattle.orca_grid.specs.GridText.{text_of}
-use Rattle.orca_jam.specs.Crews.{CrewState, asked, cursors_beside, denial_at, player_at, struck_by, took_by, turned_by}
+use Rattle.orca_jam.specs.Crews.{CrewState, asked, cursors_beside, denial_at, denied_by, player_at, struck_by, took_by, turned_by}
 use Rattle.orca_jam.specs.Denials.{denial_line, rule_of_denial}
 use Rattle.orca_jam.specs.declared.denial.Denial.{Denial}
 use Rattle.orca_jam.specs.declared.owner.TheConstants.{NOBODY}
@@ -30,6 +30,7 @@ use Rattle.orca_term.specs.Came.{came_to}
 use Rattle.orca_term.specs.Keys.{Byte, Due, Item as KeyItem, turn}
 use Rattle.orca_term.specs.Pacing.{due_after, faster, pace_from, retimed, slower}
 use Rattle.orca_term.specs.Picture.{picture, scene_of, screen_inside}
+use Rattle.orca_term.specs.Traffic.{FrameSent}
 use Rattle.orca_term.specs.Viewing.{painting_bytes}
 use Rattle.orca_term.specs.declared.came.Came.{Came}
 use Rattle.orca_term.specs.declared.came.Came.TheVariants.{Denied, Kept, Well}
@@ -41,8 +42,8 @@ use Rattle.orca_term.specs.declared.editor.Wish.TheVariants as wish
 use Rattle.orca_term.specs.declared.keys.Key.{Key}
 use Rattle.orca_term.specs.declared.keys.Key.TheVariants as key
 use Rattle.orca_term.specs.declared.overlay.Overlay.{Overlay}
-use Rattle.orca_live.specs.Quiet.{silent_manner}
-use Rattle.orca_live.specs.States.{LiveState, around_at, begun_name, editor_at, fitted, hands_in, is_full, is_hand, is_viewer, key_name, leader_at, live_stance, piece_at, reads_text, screen_at, status_line_at, unpainted, until_at, view_at, with_view, with_word}
+use Rattle.orca_live.specs.Quiet.{quiet_manner}
+use Rattle.orca_live.specs.States.{LiveState, around_at, begun_name, editor_at, fitted, hands_in, is_full, is_hand, is_painted_for, key_name, leader_at, live_stance, piece_at, reads_text, screen_at, status_line_at, unpainted, until_at, view_at, with_view, with_word}
 
 -- what is done under a name, if there is one
 abbrev pub if_named : Option (List ℕ) → (List ℕ → LiveState → Course LiveState Stop) → LiveState
@@ -52,11 +53,12 @@ if_named (Some name) next s = next name s
 
 -- ---- commands
 
--- a course of the session alone, whose report keeps nothing
-abbrev pub of_session : (Concert (Unit {0}) → Course (Concert (Unit {0})) Stop) → LiveState
+-- a course of the session alone, whose report keeps what a frame sent
+abbrev pub of_session : (Concert FrameSent → Course (Concert FrameSent) Stop) → LiveState
     → Course LiveState Stop
 of_session c s =
-    mapped (λ t. record s { standing = t.standing }) (λ end. end) (c (concert_with s.standing tt))
+    mapped (λ t. record s { standing = t.standing; sent = t.kept }) (λ end. end)
+    (c (concert_with s.standing s.sent))
 
 -- the lines that wait for the journal after a command, if one is kept: its canonical line is last
 abbrev pub noted : Option (List ℕ) → Command → List ℕ → List ℕ
@@ -88,10 +90,11 @@ loosens (Clip y x glyph) None = false
 loosens command None = true
 
 -- a command of a hand, or of nobody, is kept, and led the session there; the hand is told what it
--- came to
-abbrev pub obeyed_by : ℕ → Command → LiveState → Standing → LiveState
-obeyed_by who command s at = record (keeping_command command s) {
+-- came to, and what a frame sent is kept
+abbrev pub obeyed_by : ℕ → Command → LiveState → Standing → FrameSent → LiveState
+obeyed_by who command s at sent = record (keeping_command command s) {
   standing = at;
+  sent = sent;
   loose = s.loose || loosens command at.tally.refusal;
   crew = owning who command at.tally.refusal (length at.machine.history) s.crew;
   words = slice_set s.words who (came_to at.tally.refusal);
@@ -100,8 +103,8 @@ obeyed_by who command s at = record (keeping_command command s) {
 -- a command of a hand, or of nobody, is done
 unfoldable pub hand_course : ℕ → Command → LiveState → Course LiveState Stop
 hand_course who command s =
-    mapped (λ t. obeyed_by who command s t.standing) (λ end. end)
-    (obey_course silent_manner 0 command (concert_with s.standing tt))
+    mapped (λ t. obeyed_by who command s t.standing t.kept) (λ end. end)
+    (obey_course quiet_manner 0 command (concert_with s.standing s.sent))
 
 -- the grid is saved under this name. A save that fails is told of by what the calls came to
 unfoldable pub save_course : List ℕ → LiveState → Course LiveState Stop
@@ -174,18 +177,20 @@ unfoldable pub denied_course : ℕ → Denial → LiveState → Course LiveState
 denied_course hand denial s =
     course (telling hand denial ∷ []) 0 (with_word hand (Denied (rule_of_denial denial)) s)
 
--- a key of a hand, where the editors are fitted to the grid, and why it is denied, if it is
+-- a key of a hand, where the editors are fitted to the grid, and why it is denied, if it is: then
+-- it closes a page of help, and changes no editor otherwise
 abbrev pub struck_where : ℕ → Key → LiveState → Option Denial → Course LiveState Stop
-struck_where hand key s (Some denial) = denied_course hand denial s
+struck_where hand key s (Some denial) =
+    denied_course hand denial (record s { crew = denied_by hand key s.crew })
 struck_where hand key s None =
-    let around = around_at hand s in
+    let around = around_at hand key s in
     wish_course hand (asked s.crew hand key around)
     (record s { crew = struck_by hand key around s.crew })
 
 -- a key of a hand, where the editors are fitted to the grid
 unfoldable pub struck_course : ℕ → Key → LiveState → Course LiveState Stop
 struck_course hand key s =
-    struck_where hand key s (denial_at s.crew hand key (around_at hand s))
+    struck_where hand key s (denial_at s.crew hand key (around_at hand key s))
 
 -- what a key of a hand does
 unfoldable pub key_course : ℕ → Key → LiveState → Course LiveState Stop
@@ -271,7 +276,7 @@ overlay_at hand s =
 -- the picture of a hand on its screen, with these marks
 abbrev pub picture_for : ℕ → List MarkSet → LiveState → List Cell
 picture_for hand marks s =
-    picture (screen_at hand s) (scene_of (piece_at s).sheet marks (overlay_at hand s))
+    picture (screen_at hand s) (scene_of (piece_at s).sheet marks (overlay_at hand s)) s.sent
     (status_line_at hand s)
 
 -- the picture of a hand is painted, where the editors are fitted to the grid
@@ -282,9 +287,10 @@ picture_course marks hand s =
     course (view_acts hand (painting_bytes v.screen v.shown cells) ++ Show hand cells ∷ []) 0
     (with_view hand (record v { shown = Some cells }) s)
 
--- if it is shown one
+-- if it is shown one, and is not away
 unfoldable pub painted_course : List MarkSet → ℕ → LiveState → Course LiveState Stop
-painted_course marks hand s = if is_viewer hand s then picture_course marks hand s else still s
+painted_course marks hand s =
+    if is_painted_for hand s then picture_course marks hand s else still s
 
 -- the pictures with these marks are painted, in the order of the hands
 unfoldable pub paint_course : List MarkSet → LiveState → Course LiveState Stop
@@ -302,7 +308,7 @@ show_course s = joined (preview_course s) (paint_course (preview_of (piece_at s)
 
 -- every note ends
 unfoldable pub hush_course : LiveState → Course LiveState Stop
-hush_course s = of_session (silence_course silent_manner) s
+hush_course s = of_session (silence_course quiet_manner) s
 
 -- the grid is saved at the end, if it has a name
 unfoldable pub last_grid_course : LiveState → Course LiveState Stop

@@ -7,6 +7,7 @@ use Rattle.orca_base.specs.declared.limits.TheConstants.{MAX_HANDS}
 use Rattle.orca_jam.specs.Crews.{CrewState, viewers_of}
 use Rattle.orca_live.specs.States.{LiveState, Setting, unpainted}
 use Rattle.orca_term.specs.Pacing.{pace_from}
+use Rattle.orca_term.specs.Traffic.{nothing_sent}
 use Rattle.orca_term.specs.declared.came.Came.TheVariants.{Well}
 
 -- no call has failed, as far as was told
@@ -35,4 +36,5 @@ live_at_start set crew at standing = record {
   at = at;
   came = nothing_failed;
   words = replicate MAX_HANDS Well;
+  sent = nothing_sent;
 }

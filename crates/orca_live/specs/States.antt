@@ -1,6 +1,6 @@
 -- Where a performance stands: its setting, the session, the hands, the pacer, what each is shown
 -- and told, the commands that are kept for the script, and the lines that wait for the journal.
-use Rattle.std.specs.Prelude.{ℕ, ◌&&◌, ◌==◌, Bool, true, nat_le, nat_lt, if◌then◌else◌, List, length, map, slice_index_or, slice_set, Option, Some, None, is_some, unwrap_or, Result}
+use Rattle.std.specs.Prelude.{ℕ, ◌&&◌, ◌==◌, Bool, true, not, nat_le, nat_lt, if◌then◌else◌, List, length, map, slice_index_or, slice_set, Option, Some, None, is_some, unwrap_or, Result}
 use Rattle.std.specs.List.{range_with_len}
 use Rattle.std.specs.Option.{option_map}
 use Rattle.orca_base.specs.declared.command.Command.{Command}
@@ -17,12 +17,13 @@ use Rattle.orca_course.specs.declared.refused.NoMemory.{NoMemory}
 use Rattle.orca_edit.specs.Obeying.{piece_of}
 use Rattle.orca_edit.specs.Pieces.{Piece}
 use Rattle.orca_edit.specs.declared.machine.Machine.{Ghosts}
-use Rattle.orca_jam.specs.Crews.{CrewState, fitted_crew, player_at}
+use Rattle.orca_jam.specs.Crews.{CrewState, away_in, fitted_crew, is_away, own_for, player_at}
 use Rattle.orca_jam.specs.declared.crew.TheConstants.{LEADER}
 use Rattle.orca_live.specs.declared.live.Live.{Live}
 use Rattle.orca_live.specs.declared.setting.Setting.{Setting as HeldSetting}
 use Rattle.orca_term.specs.Came.{came_to}
 use Rattle.orca_term.specs.Pacing.{Pace}
+use Rattle.orca_term.specs.Traffic.{FrameSent}
 use Rattle.orca_term.specs.Viewing.{Seen}
 use Rattle.orca_term.specs.declared.around.Around.{Around}
 use Rattle.orca_term.specs.declared.came.Came.{Came}
@@ -30,6 +31,7 @@ use Rattle.orca_term.specs.declared.came.Came.TheVariants.{Well}
 use Rattle.orca_term.specs.declared.cell.Cell.{Cell}
 use Rattle.orca_term.specs.declared.cell.ScreenSize.{ScreenSize}
 use Rattle.orca_term.specs.declared.editor.Editor.{Editor}
+use Rattle.orca_term.specs.declared.keys.Key.{Key}
 use Rattle.orca_term.specs.declared.status.StatusLine.{StatusLine}
 
 -- the tempo in beats a minute at the start, the seed of the random operator, the name of the grid's
@@ -101,6 +103,8 @@ pub record LiveState : Type 0 where
   pub came : Losses
   -- what the last key of each hand came to
   pub words : List Came
+  -- the last frame of anybody that sent more than ends of notes
+  pub sent : FrameSent
 
 -- the state of a performance, by the ghost members of its session's bound. By this and by what its
 -- session has to clear, and by nothing else, a contract of another crate sees it
@@ -117,6 +121,7 @@ live_state g live = record {
   at = live.at;
   came = live.came;
   words = live.words;
+  sent = live.stage.report.sent;
 }
 
 -- how much its session has to clear: it pays for steps that are still to come
@@ -170,6 +175,10 @@ leader_at s = editor_at LEADER s
 abbrev pub is_viewer : ℕ → LiveState → Bool
 is_viewer hand s = nat_lt hand (length s.views)
 
+-- and is there to see it
+abbrev pub is_painted_for : ℕ → LiveState → Bool
+is_painted_for hand s = is_viewer hand s && not (is_away s.crew hand)
+
 -- what a hand is shown; the others are told of the screen of the start, and are shown nothing
 abbrev pub view_at : ℕ → LiveState → Viewed
 view_at hand s = slice_index_or s.views hand (unpainted s.setting.screen)
@@ -183,8 +192,8 @@ abbrev pub screen_at : ℕ → LiveState → ScreenSize
 screen_at hand s = (view_at hand s).screen
 
 -- what a key of a hand is told, where the editors are fitted to the grid
-abbrev pub around_at : ℕ → LiveState → Around
-around_at hand s =
+abbrev pub around_at : ℕ → Key → LiveState → Around
+around_at hand key s =
     let e = editor_at hand s in
     let at : Place = record { y = e.y; x = e.x } in
     record {
@@ -192,6 +201,7 @@ around_at hand s =
       moments = moments_at s;
       glyph = glyph_at (piece_at s).sheet at;
       screen = screen_at hand s;
+      own = own_for key s.crew hand s.standing.machine.history;
     }
 
 -- every editor is fitted to the grid
@@ -225,7 +235,9 @@ status_line_at hand s =
       no_udp = full && s.came.udp;
       no_osc = full && s.came.osc;
       no_journal = full && s.came.journal;
+      away = away_in s.crew;
       unsaved = full && hand == LEADER && s.came.unsaved;
+      warns = full;
       came = if full then word_at hand s else came_to s.standing.tally.refusal;
     }
 

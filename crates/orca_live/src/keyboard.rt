@@ -217,11 +217,11 @@ fn screen<M: Machine>(live: &Live<'_, M>, hand: u8) -> ScreenSize
 }
 
 /// What a key of a hand is told, where the editors are fitted to the grid.
-fn around<M: Machine>(live: &Live<'_, M>, hand: u8) -> Around
+fn around<M: Machine>(live: &Live<'_, M>, hand: u8, key: &Key) -> Around
     requires hand { hand < length live.now.crew.players }
     requires inside { let s = live_state M.Machine.own live.now in
         IsArea (dims_at s) (area_of (editor_at hand s)) }
-    ensures { result ≡ around_at hand (live_state M.Machine.own live.now) }
+    ensures { result ≡ around_at hand key.now (live_state M.Machine.own live.now) }
 {
     live.stage.machine.is_shown();
     let editor = live.crew.editor(hand);
@@ -234,6 +234,7 @@ fn around<M: Machine>(live: &Live<'_, M>, hand: u8) -> Around
         moments: live.stage.machine.moments(),
         glyph: Look::glyph_at(&live.stage.machine, at),
         screen: screen(live, hand),
+        own: live.crew.own_for(key, hand, &live.stage.machine),
     }
 }
 
@@ -258,7 +259,7 @@ fn strike<M: Machine, H: House>(
     ensures { LiveDid M.Machine.own (struck_course hand key)
         live.old desk.old result live.new desk.new }
 {
-    let around = around(live, hand);
+    let around = around(live, hand, &key);
     match live.crew.ask(hand, key, &around) {
         Ok(wish) => do_wish(live, desk, hand, &wish),
         Err(denial) => {

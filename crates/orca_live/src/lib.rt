@@ -14,9 +14,9 @@ mod laws;
 mod live;
 mod painting;
 mod performance;
+mod quiet;
 mod saving;
 mod setting;
-mod silent;
 mod unmarked;
 
 pub use laws::{
@@ -24,5 +24,5 @@ pub use laws::{
     telling_law,
 };
 pub use live::Live;
+pub use quiet::Quiet;
 pub use setting::Setting;
-pub use silent::Silent;

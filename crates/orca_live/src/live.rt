@@ -5,8 +5,9 @@ ghost use Rattle.orca_live.specs.Starting.{live_at_start};
 ghost use Rattle.orca_base.specs.declared.limits.TheConstants.{MAX_SCREEN_COLUMNS, MAX_SCREEN_ROWS, MIN_SCREEN_COLUMNS, MIN_SCREEN_ROWS};
 ghost use Rattle.orca_live.specs.States.{is_full, live_state, residue_of, setting_in, status_line_at, until_at, word_at};
 ghost use Rattle.orca_term.specs.Came.{came_to};
+ghost use Rattle.orca_term.specs.Traffic.{nothing_sent};
 
-use crate::{Setting, Silent};
+use crate::{Quiet, Setting};
 use orca_base::limits::MAX_HANDS;
 use orca_base::{Command, Memory};
 use orca_concert::Stage;
@@ -25,7 +26,7 @@ pub struct Live<'a, M> {
     /// How it plays, and where it is saved.
     pub(crate) setting: Setting<'a>,
     /// The session, and what is counted of it.
-    pub(crate) stage: Stage<M, Silent>,
+    pub(crate) stage: Stage<M, Quiet>,
     /// The hands: the keys and the editor of each, and whose each entry of the history is.
     pub(crate) crew: Crew,
     /// When the next frame is due.
@@ -68,11 +69,12 @@ impl<'a, M: Machine> Live<'a, M> {
     /// microseconds. [`Memory`] if the room for the pictures is refused.
     pub fn start(
         alloc: Global,
-        stage: Stage<M, Silent>,
+        stage: Stage<M, Quiet>,
         setting: Setting<'a>,
         crew: Crew,
         at: u64,
     ) -> Result<Live<'a, M>, Memory>
+        requires { stage.report.sent ≡ nothing_sent }
         ensures state { IfOk result (λ live.
             live_state M.Machine.own live ≡ live_at_start (setting_in setting.entry) crew at
             (standing_of M.Machine.own stage)) }
@@ -156,7 +158,9 @@ impl<'a, M: Machine> Live<'a, M> {
             no_udp: full && self.came.udp,
             no_osc: full && self.came.osc,
             no_journal: full && self.came.journal,
+            away: self.crew.away(),
             unsaved: full && hand == LEADER && self.came.unsaved,
+            warns: full,
             came: self.word(hand),
         }
     }

@@ -18,7 +18,7 @@ use orca_course::{Desk, NoMemory};
 use orca_edit::Machine;
 use orca_jam::LEADER;
 use orca_rig::House;
-use orca_term::{Overlay, StatusLine, View};
+use orca_term::{Overlay, StatusLine, Traffic, View};
 
 /// Which marks a picture shows.
 #[derive(Clone, Copy)]
@@ -29,9 +29,10 @@ pub(crate) enum Marking {
     Scanned,
 }
 
-/// What the picture of a hand shows besides the grid.
+/// What the picture of a hand shows besides the grid and what was sent.
 #[derive(Drop)]
 struct Margin {
+    hand: u8,
     over: Overlay,
     line: StatusLine,
 }
@@ -56,21 +57,23 @@ fn give_view<H: House>(desk: &mut Desk<H>, hand: u8, bytes: &[u8]) -> Result<(),
 fn paint_on<T: Look, H: House>(
     view: &mut View,
     look: &T,
+    sent: &Traffic,
     margin: &Margin,
     desk: &mut Desk<H>,
-    hand: u8,
 ) -> Result<(), NoMemory>
-    requires { IsSeated hand desk.old }
-    ensures painting { let cells = pictured view.old.size (T.sheet look.now) (T.marks look.now) margin.now in
-        Calls (view_acts hand (painting_bytes view.old.size view.old.last cells)) result
+    requires { IsSeated margin.now.hand desk.old }
+    ensures painting { let cells = pictured view.old.size (T.sheet look.now) (T.marks look.now)
+        sent.now margin.now in
+        Calls (view_acts margin.now.hand (painting_bytes view.old.size view.old.last cells)) result
         desk.old desk.new }
-    ensures printable { All IsPrintable
-        (pictured view.old.size (T.sheet look.now) (T.marks look.now) margin.now) }
-    ensures view { let cells = pictured view.old.size (T.sheet look.now) (T.marks look.now) margin.now in
+    ensures printable { All IsPrintable (pictured view.old.size (T.sheet look.now)
+        (T.marks look.now) sent.now margin.now) }
+    ensures view { let cells = pictured view.old.size (T.sheet look.now) (T.marks look.now)
+        sent.now margin.now in
         viewed_in view.new ≡ record { screen = view.old.size; shown = Some cells } }
 {
-    let bytes = view.paint(look, &margin.over, &margin.line);
-    give_view(desk, hand, bytes)
+    let bytes = view.paint(look, &margin.over, &margin.line, sent);
+    give_view(desk, margin.hand, bytes)
 }
 
 /// What the picture of a hand shows besides the grid: its editor, with the pause of the first one, the cursors
@@ -79,11 +82,13 @@ fn margin_of<M: Machine>(live: &Live<'_, M>, hand: u8) -> Margin
     requires { hand < length live.now.crew.players }
     ensures over { result.over ≡ overlay_at hand (live_state M.Machine.own live.now) }
     ensures line { result.line ≡ status_line_at hand (live_state M.Machine.own live.now) }
+    ensures hand { result.hand ≡ hand }
 {
     let mut editor = *live.crew.editor(hand);
     editor.paused = live.crew.leader().paused;
     let others = live.crew.cursors_beside(hand);
     Margin {
+        hand,
         over: Overlay { editor, others },
         line: live.line(hand),
     }
@@ -114,13 +119,13 @@ fn paint_view<M: Machine, H: House>(
             let unmarked = Unmarked {
                 look: &stage.machine,
             };
-            paint_on(view, &unmarked, &margin, desk, hand)
+            paint_on(view, &unmarked, &stage.report.sent, &margin, desk)
         }
-        Marking::Scanned => paint_on(view, &stage.machine, &margin, desk, hand),
+        Marking::Scanned => { paint_on(view, &stage.machine, &stage.report.sent, &margin, desk) }
     }
 }
 
-/// Paints the picture of a hand, if it is shown one.
+/// Paints the picture of a hand, if it is shown one and is not away.
 fn paint_hand<M: Machine, H: House>(
     live: &mut Live<'_, M>,
     desk: &mut Desk<H>,
@@ -136,6 +141,9 @@ fn paint_hand<M: Machine, H: House>(
     ensures crew { live.new.crew ≡ live.old.crew }
 {
     if usize::from(hand) >= live.views.as_slice().len() {
+        return Ok(());
+    }
+    if live.crew.is_away(hand) {
         return Ok(());
     }
     paint_view(live, desk, hand, marking)

@@ -23,7 +23,7 @@ use orca_base::{Command, Memory};
 use orca_course::{Desk, Performer};
 use orca_edit::Machine;
 use orca_jam::Crew;
-use orca_live::{Live, Setting, Silent};
+use orca_live::{Live, Quiet, Setting};
 use orca_rig::{Claim, House};
 use orca_session::Session;
 use orca_term::ScreenSize;
@@ -238,7 +238,7 @@ fn open_live<'a>(
     ensures residue { IfOk result (λ live.
         ⟦<Live<'static, Session> as Performer>⟧.residue live ≡ 0) }
 {
-    let stage = open_stage(opening, Silent)?;
+    let stage = open_stage(opening, Quiet::start(opening.alloc)?)?;
     let crew = crew_of(opening.alloc, setup, performance)?;
     let setting = setting_of(setup, performance);
     Live::start(opening.alloc, stage, setting, crew, at)

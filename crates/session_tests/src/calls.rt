@@ -5,7 +5,7 @@ use orca_cues::{Cue, Order, Script, ScriptFault, Source, check_script};
 use orca_grid::Grid;
 use orca_script::print;
 use orca_send::{Label, push_decimal, write_line};
-use orca_term::{Came, Cursors, Editor, Overlay, Screen, StatusLine, View};
+use orca_term::{Came, Cursors, Editor, Overlay, Screen, StatusLine, Traffic, View};
 use std::test::Fail;
 
 #[test]
@@ -50,7 +50,9 @@ const FIRST_LINE: StatusLine = StatusLine {
     no_udp: false,
     no_osc: false,
     no_journal: false,
+    away: 0,
     unsaved: false,
+    warns: true,
     came: Came::Well,
 };
 
@@ -65,7 +67,8 @@ fn a_painting_is_shown(rt: HostRuntime) -> Result<(), Fail> {
     let grid = Grid::blank(rt.alloc(), Dims { h: 1, w: 2 })?;
     let mut view = View::start(rt.alloc(), 2, 8)?;
     let mut screen = Screen::start(rt.alloc(), 2, 8)?;
-    screen.show(view.paint(&grid, &over(Editor::start()), &FIRST_LINE));
+    let sent = Traffic::start(rt.alloc())?;
+    screen.show(view.paint(&grid, &over(Editor::start()), &FIRST_LINE, &sent));
     assert!(rt; screen.cell(0, 0) == (b'.', 7) && screen.cell(0, 1) == (b'.', 2));
     assert!(rt; screen.cell(0, 2) == (b' ', 0) && screen.cell(1, 7) == (b',', 0));
     Ok(())
@@ -81,7 +84,8 @@ fn an_operator_is_coloured_and_named(rt: HostRuntime) -> Result<(), Fail> {
         guide: true,
         ..Editor::start()
     };
-    screen.show(view.paint(&grid, &over(editor), &FIRST_LINE));
+    let sent = Traffic::start(rt.alloc())?;
+    screen.show(view.paint(&grid, &over(editor), &FIRST_LINE, &sent));
     assert!(rt; screen.cell(0, 0) == (b'D', 7) && screen.cell(0, 1) == (b'D', 94));
     assert!(rt; screen.cell(1, 28) == (b'D', 0) && screen.cell(1, 30) == (b'd', 0));
     assert!(rt; screen.cell(1, 34) == (b'y', 0) && screen.cell(1, 35) == (b' ', 0));

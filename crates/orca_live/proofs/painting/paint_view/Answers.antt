@@ -13,7 +13,7 @@ returns-in-Bare-clause-painted g c =
     (picture_on _ c.args.hand _ items view _ _ _ _ _ _ refl
     (ap viewed_in (rw c.from.ensures at c.index_mut-view.ensures.value)
     ∙ sym (viewed_at items c.args.hand _ view c.requires.viewer)) c.is_shown.ensures margin.over
-    margin.line on.painting on.printable on.view)
+    margin.line (rw margin.hand at on.painting) on.printable on.view)
 
 pub returns-in-Scanned-clause-painted : goal.returns-in-Scanned-clause-painted
 returns-in-Scanned-clause-painted g c =
@@ -25,4 +25,4 @@ returns-in-Scanned-clause-painted g c =
     (picture_on _ c.args.hand _ items view _ _ _ _ _ _ refl
     (ap viewed_in (rw c.from.ensures at c.index_mut-view.ensures.value)
     ∙ sym (viewed_at items c.args.hand _ view c.requires.viewer)) c.is_shown.ensures margin.over
-    margin.line on.painting on.printable on.view)
+    margin.line (rw margin.hand at on.painting) on.printable on.view)
