@@ -1,4 +1,5 @@
 -- The rules of the operators that read and write across the grid, and of the variables, are lawful.
+-- Lemmas with their proofs, which an `impl` cites: no meaning rests on this file.
 use Rattle.std.specs.Prelude.{ℕ, ◌+◌, ◌%◌, ◌<◌, ◌≤◌, ◌≡◌, ◌==◌, Bool, true, false, if◌then◌else◌, List, [], ◌∷◌, length, count_by, pos, refl}
 use Rattle.std.proofs.Common.{inl, inr, arith}
 use Rattle.orca_base.specs.declared.limits.TheConstants.{BASE, MAX_DEEDS}

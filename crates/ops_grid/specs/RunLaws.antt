@@ -1,5 +1,6 @@
 -- Two shapes of rules that are lawful: copies of a run of glyphs, and one copy beside a run of
 -- locks.
+-- Lemmas with their proofs, which an `impl` cites: no meaning rests on this file.
 use Rattle.std.specs.Prelude.{ℕ, ◌*◌, ◌<◌, ◌≤◌, ◌≡◌, ◌||◌, IsTrue, List, [], ◌∷◌, ◌++◌, length, count_by, refl}
 use Rattle.std.proofs.Common.{inl, inr, arith, length-append}
 use Rattle.orca_base.specs.declared.limits.TheConstants.{BASE}

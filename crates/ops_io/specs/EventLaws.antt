@@ -1,5 +1,6 @@
 -- The rules of the operators that send events are lawful: they mark their ports, and then send an
 -- event in range or none.
+-- Lemmas with their proofs, which an `impl` cites: no meaning rests on this file.
 use Rattle.std.specs.Prelude.{ℕ, zero, suc, ◌+◌, ◌*◌, ◌<◌, ◌≤◌, ◌≡◌, ◌==◌, ◌&&◌, ◌||◌, not, nat_lt, Bool, true, false, if◌then◌else◌, List, [], ◌∷◌, ◌++◌, length, All, count_by, Option, Some, None, IfSome, unwrap_or, refl}
 use Rattle.std.proofs.Common.{arith, lit≤, length-append}
 use Rattle.std.proofs.lemmas.Bool.Decides.{nat_tests}

@@ -1,4 +1,5 @@
 -- The rules of the value operators are lawful.
+-- Lemmas with their proofs, which an `impl` cites: no meaning rests on this file.
 use Rattle.std.specs.Prelude.{ℕ, ◌%◌, ◌≤◌, ◌<◌, Bool, true, false, min, if◌then◌else◌, refl}
 use Rattle.std.proofs.Common.{inl, inr, arith, lit≤}
 use Rattle.std.proofs.lemmas.Bool.Decides.{nat_tests}

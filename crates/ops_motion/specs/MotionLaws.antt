@@ -1,4 +1,5 @@
 -- The rules of the movers, the jumpers, the halt, the bang and the comment are lawful.
+-- Lemmas with their proofs, which an `impl` cites: no meaning rests on this file.
 use Rattle.std.specs.Prelude.{ℕ, ◌+◌, ◌-◌, ◌*◌, ◌≡◌, ◌<◌, ◌≤◌, Bool, true, false, ◌==◌, if◌then◌else◌, List, [], ◌∷◌, length, count_by, Option, Some, None, IfSome, unwrap_or, refl}
 use Rattle.std.proofs.Common.{inl, inr, arith, rules, lit≤, length-append}
 use Rattle.orca_base.specs.declared.limits.TheConstants.{MAX_DEEDS, COMMENT_REACH, JUMP_REACH}
