@@ -6,7 +6,8 @@ use Rattle.std.proofs.lemmas.List.Sums.{fold-append}
 use Rattle.orca_rig.specs.declared.fault.OutsideFault.{OutsideFault}
 use Rattle.orca_trace.specs.Calls.{Call}
 use Rattle.orca_trace.specs.Calls.Call.{Listen}
-use Rattle.orca_course.specs.Answered.{done_in, is_inbox_fault, is_last_poll, no_outcomes, outcomes_by, outcomes_of, refused_in, seats_by, seats_of}
+use Rattle.orca_course.specs.Answered.{done_in, is_file_fault, is_inbox_fault, is_last_poll, is_port_fault, no_outcomes, outcomes_by, outcomes_of, refused_in, seats_by, seats_of}
+use Rattle.orca_course.specs.declared.notes.Outcomes.{Outcomes}
 use Rattle.orca_course.proofs.ActLemmas.{ended_after, lost_after, seats_after}
 
 pub done_in-append : (xs ys : List Call) → done_in (xs ++ ys) ≡ done_in xs ++ done_in ys
@@ -53,3 +54,26 @@ pub ended_after-done : (calls : List Call) (b : Bool)
     → ended_after (done_in calls) b ≡ b || list_any is_last_poll calls
 ended_after-done [] b = grind arith
 ended_after-done (call ∷ calls) b = grind (arith, λ (c : Bool). ended_after-done calls c)
+
+-- an outcome once more: a port has failed at a call, or the files have
+port_faults_from : (calls : List Call) (o : Outcomes)
+    → (fold outcomes_by o calls).failed ≡ o.failed || list_any is_port_fault calls
+unfolding outcomes_by
+port_faults_from [] o = grind arith
+port_faults_from (call ∷ calls) o = grind (arith, λ (q : Outcomes). port_faults_from calls q)
+
+pub port_faults : (calls : List Call)
+    → (outcomes_of calls).failed ≡ list_any is_port_fault calls
+unfolding outcomes_of
+port_faults calls = port_faults_from calls no_outcomes
+
+file_faults_from : (calls : List Call) (o : Outcomes)
+    → (fold outcomes_by o calls).unstored ≡ o.unstored || list_any is_file_fault calls
+unfolding outcomes_by
+file_faults_from [] o = grind arith
+file_faults_from (call ∷ calls) o = grind (arith, λ (q : Outcomes). file_faults_from calls q)
+
+pub file_faults : (calls : List Call)
+    → (outcomes_of calls).unstored ≡ list_any is_file_fault calls
+unfolding outcomes_of
+file_faults calls = file_faults_from calls no_outcomes

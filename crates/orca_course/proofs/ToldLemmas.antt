@@ -9,8 +9,8 @@ use Rattle.orca_trace.specs.Calls.{Call}
 use Rattle.orca_course.specs.Told.{Listened, asked_in, attached_in, counts_in, listened_after, told_in}
 use Rattle.orca_course.specs.Worlds.{AreCounted, Stores, World}
 use Rattle.orca_course.proofs.ActLemmas.{given-append, polls_in-append}
-use Rattle.orca_course.proofs.AnsweredLemmas.{done_in-append, seats_more}
-use Rattle.orca_course.proofs.WorldLemmas.{IsNext}
+use Rattle.orca_course.proofs.AnsweredLemmas.{done_in-append, seats_listened, seats_more}
+use Rattle.orca_course.proofs.WorldLemmas.{IsNext, claim_is, moment_is, next_done, next_given, next_polled, next_refused, next_sent, next_settled}
 
 pub attached_in-append : (xs ys : List Act)
     → attached_in (xs ++ ys) ≡ attached_in xs ++ attached_in ys
@@ -60,4 +60,19 @@ pub ruleset one_more = (
   told_in-append,
   seats_more,
   append-nil,
+)
+
+-- what proves the calls of a desk
+pub ruleset call_laws = (
+  one_more,
+  is_next,
+  next_settled,
+  next_given,
+  next_sent,
+  claim_is,
+  moment_is,
+  next_done,
+  next_refused,
+  next_polled,
+  seats_listened,
 )

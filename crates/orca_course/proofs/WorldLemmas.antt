@@ -2,6 +2,7 @@
 use Rattle.std.proofs.Common.{◌≡◌, inl, inr, ℕ, ◌+◌, ◌≤◌, List, [], ◌∷◌, ◌++◌, refl, sym, ap, ◌∙◌, append_assoc, append-nil, arith}
 use Rattle.std.proofs.lemmas.List.Folds.{list_any-append}
 use Rattle.std.specs.List.{list_any}
+use Rattle.std.specs.Result.{result_err, result_ok}
 use Rattle.std.specs.Prelude.{Bool, true, false, ◌||◌, ◌⊎◌, All, Option, None, Result, Ok, Err}
 use Rattle.orca_base.specs.declared.command.Command.{Command}
 use Rattle.orca_term.specs.Picture.{IsPrintable}
@@ -11,15 +12,16 @@ use Rattle.orca_term.specs.declared.keys.Key.{Key}
 use Rattle.orca_rig.specs.Outside.{Contents}
 use Rattle.orca_base.specs.Ports.{Sent}
 use Rattle.orca_rig.specs.declared.fault.OutsideFault.{OutsideFault}
+use Rattle.orca_rig.specs.declared.files.Claim.{Claim as Claimed}
 use Rattle.orca_rig.specs.declared.inbox.Answer.{Answer}
-use Rattle.orca_rig.specs.declared.fault.OutsideFault.TheVariants.{Memory}
-use Rattle.orca_trace.specs.Calls.{Call}
+use Rattle.orca_rig.specs.declared.fault.OutsideFault.TheVariants.{Failed, Memory}
+use Rattle.orca_trace.specs.Calls.{Call, fault_of}
 use Rattle.orca_trace.specs.Calls.Call.{Await as CallAwait, Give as CallGive}
 use Rattle.orca_course.specs.Acts.{Act, ArePrintable, AreUntold, calls_in, given}
 use Rattle.orca_course.specs.Acts.Act.{Append, Await, Begin, Claim, Give, Learn, Load, Obey, Remove, Save, Screen, Show, Stand, Strike}
-use Rattle.orca_course.specs.Answered.{losses_of, done_in, is_file_fault, refused_in}
+use Rattle.orca_course.specs.Answered.{act_of, losses_of, done_in, is_file_fault, refused_in}
 use Rattle.orca_course.specs.Standings.{Standing}
-use Rattle.orca_course.specs.Worlds.{AreCalled, AreCounted, AreStored, Called, Counts, IsCounted, Learns, Made, Polled, Sated, Stores, Unsent, Wants, World, has_ended, has_failed, is_lost, is_unstored, owing}
+use Rattle.orca_course.specs.Worlds.{AreCalled, AreCounted, AreStored, Called, Counts, IsCounted, Learns, Made, Polled, Sated, Stores, Unsent, Wants, World, has_ended, has_failed, is_lost, is_unstored, claim_answer, listen_moment, owing, settled, settled_with}
 use Rattle.orca_course.specs.declared.item.Losses.{Losses}
 use Rattle.orca_course.specs.declared.refused.NoMemory.{NoMemory}
 use Rattle.orca_course.specs.declared.refused.NoMemory.TheVariants.{InSend, Elsewhere}
@@ -430,3 +432,45 @@ next_polled answer next = record {
   made = next_made _ _ (polled_done answer _ _).0 tt tt next;
   sated = next_sated _ _ _ (polled_done answer _ _).1 next;
 }
+
+-- a call of an act that is no send and tells nothing, and its answer came to what it comes to
+pub next_settled : {call : Call} {act : Act} (answer : Result (Unit {0}) OutsideFault) {x y : World}
+    → fault_of call ≡ result_err answer → act_of call ≡ act → calls_in (act ∷ []) ≡ act ∷ []
+    → given (act ∷ []) ≡ [] → ArePrintable (act ∷ []) → AreUntold (act ∷ []) → IsNext call x y
+    → Called (settled Elsewhere answer) act x y
+next_settled {call = call} {act = act} (Ok done) fault is one other shows untold next =
+    next_done call act (grind (arith, fault, is, one)) (grind (arith, fault)) shows untold next
+next_settled {call = call} {act = act} (Err Failed) fault is one other shows untold next =
+    next_done call act (grind (arith, fault, is, one)) (grind (arith, fault)) shows untold next
+next_settled {call = call} {act = act} (Err Memory) fault is one other shows untold next =
+    next_refused call act (grind (arith, fault)) (grind (arith, fault, is, other)) next
+
+-- and it gives something
+pub next_given : {T : Type 0} {call : Call} {act : Act} (answer : Result T OutsideFault) {x y : World}
+    → fault_of call ≡ result_err answer → act_of call ≡ act → calls_in (act ∷ []) ≡ act ∷ []
+    → given (act ∷ []) ≡ [] → ArePrintable (act ∷ []) → AreUntold (act ∷ []) → IsNext call x y
+    → Called (settled_with answer) act x y
+next_given {call = call} {act = act} (Ok done) fault is one other shows untold next =
+    next_done call act (grind (arith, fault, is, one)) (grind (arith, fault)) shows untold next
+next_given {call = call} {act = act} (Err Failed) fault is one other shows untold next =
+    next_done call act (grind (arith, fault, is, one)) (grind (arith, fault)) shows untold next
+next_given {call = call} {act = act} (Err Memory) fault is one other shows untold next =
+    next_refused call act (grind (arith, fault)) (grind (arith, fault, is, other)) next
+
+-- what a claim and a listening give, by their answers
+pub claim_is : (answer : Result Claimed OutsideFault) → claim_answer (settled_with answer) ≡ result_ok answer
+claim_is (Ok claimed) = refl
+claim_is (Err Failed) = refl
+claim_is (Err Memory) = refl
+
+pub moment_is : (answer : Result ℕ OutsideFault) → listen_moment (settled_with answer) ≡ result_ok answer
+moment_is (Ok at) = refl
+moment_is (Err Failed) = refl
+moment_is (Err Memory) = refl
+
+-- a send was made
+pub next_sent : (sent : Sent) (answer : Result (Unit {0}) OutsideFault) {x y : World}
+    → IsNext (CallGive sent answer) x y → Called (settled InSend answer) (Give sent) x y
+next_sent sent (Ok done) next = next_done (CallGive sent (Ok done)) (Give sent) refl refl tt tt next
+next_sent sent (Err Failed) next = next_done (CallGive sent (Err Failed)) (Give sent) refl refl tt tt next
+next_sent sent (Err Memory) next = next_unsent sent (Err Memory) refl next

@@ -132,25 +132,29 @@ ports_with port.Fault holds ports = ports
 ports_with port.View holds ports = ports
 
 -- after a call: of which ports the last attach has failed, and of which the last send; whether a
--- begin or an append has failed, whether the last save has, and whether the files ever have. What was
--- refused memory counts for nothing
-unfoldable pub outcomes_by : Outcomes → Call → Outcomes
-outcomes_by o (CallAttach attached (Ok done)) =
+-- begin or an append has failed, and whether the last save has. What was refused memory counts for
+-- nothing
+abbrev pub outcomes_with : Outcomes → Call → Outcomes
+outcomes_with o (CallAttach attached (Ok done)) =
     record o { unattached = ports_with attached.port false o.unattached }
-outcomes_by o (CallAttach attached (Err Failed)) =
+outcomes_with o (CallAttach attached (Err Failed)) =
     record o { unattached = ports_with attached.port true o.unattached }
-outcomes_by o (CallGive sent (Ok done)) =
+outcomes_with o (CallGive sent (Ok done)) =
     record o { unsent = ports_with sent.port false o.unsent }
-outcomes_by o (CallGive sent (Err Failed)) =
+outcomes_with o (CallGive sent (Err Failed)) =
     record o { unsent = ports_with sent.port true o.unsent }
-outcomes_by o (CallSave name bytes (Ok done)) = record o { unsaved = false }
-outcomes_by o (CallLoad name (Err Failed)) = record o { unstored = true }
-outcomes_by o (CallSave name bytes (Err Failed)) = record o { unsaved = true; unstored = true }
-outcomes_by o (CallBegin name bytes (Err Failed)) = record o { journal = true; unstored = true }
-outcomes_by o (CallAppend name bytes (Err Failed)) = record o { journal = true; unstored = true }
-outcomes_by o (CallClaim name bytes (Err Failed)) = record o { unstored = true }
-outcomes_by o (CallRemove name (Err Failed)) = record o { unstored = true }
-outcomes_by o other = o
+outcomes_with o (CallSave name bytes (Ok done)) = record o { unsaved = false }
+outcomes_with o (CallSave name bytes (Err Failed)) = record o { unsaved = true }
+outcomes_with o (CallBegin name bytes (Err Failed)) = record o { journal = true }
+outcomes_with o (CallAppend name bytes (Err Failed)) = record o { journal = true }
+outcomes_with o other = o
+
+-- and whether a port or the files ever have
+unfoldable pub outcomes_by : Outcomes → Call → Outcomes
+outcomes_by o call = record (outcomes_with o call) {
+  failed = o.failed || is_port_fault call;
+  unstored = o.unstored || is_file_fault call;
+}
 
 abbrev pub no_ports : Ports
 no_ports = record { midi = false; udp = false; osc = false }
@@ -162,6 +166,7 @@ no_outcomes = record {
   journal = false;
   unsaved = false;
   unstored = false;
+  failed = false;
 }
 
 unfoldable pub outcomes_of : List Call → Outcomes

@@ -10,7 +10,7 @@ use Rattle.orca_rig.specs.Outside.Ask.{Append as AskAppend, Begin as AskBegin, C
 use Rattle.orca_trace.specs.Calls.{Call, Poll}
 use Rattle.orca_course.specs.Acts.{Act, given, polls_in}
 use Rattle.orca_course.specs.Acts.Act.{Append, Attach, Await, Begin, Claim, Give, Listen, Load, Remove, Save, Tell}
-use Rattle.orca_course.specs.Answered.{done_in, is_file_fault, is_file_want, is_inbox_want, is_last_poll, is_listen, is_port_fault, is_port_want, seats_of}
+use Rattle.orca_course.specs.Answered.{done_in, is_file_want, is_inbox_want, is_last_poll, is_listen, is_port_want, seats_of}
 
 -- ---- what objects that tell their calls tell
 
@@ -85,11 +85,8 @@ pub record AreWanted (ports files inbox : ℕ) (calls : List Call) : Type 0 wher
 
 -- ---- what is recorded
 
--- what a desk records of its calls, and what its inbox says of itself, is what the list says
-pub record Records (failed unstored listened ended : Bool) (hands : ℕ) (calls : List Call) : Type 0
-  where
-    pub ports : failed ≡ list_any is_port_fault calls
-    pub files : unstored ≡ list_any is_file_fault calls
-    pub listens : listened ≡ list_any is_listen calls
-    pub ends : ended ≡ list_any is_last_poll calls
-    pub seats : IfSome (seats_of calls) (λ seats. hands ≡ seats)
+-- what an inbox says of itself is what the list of calls says
+pub record Records (listened ended : Bool) (hands : ℕ) (calls : List Call) : Type 0 where
+  pub listens : listened ≡ list_any is_listen calls
+  pub ends : ended ≡ list_any is_last_poll calls
+  pub seats : IfSome (seats_of calls) (λ seats. hands ≡ seats)

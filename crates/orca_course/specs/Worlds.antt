@@ -6,7 +6,8 @@ use Rattle.std.specs.FinMap.{get}
 use Rattle.std.specs.declared.alloc.Global.{Global}
 use Rattle.orca_base.specs.declared.limits.TheConstants.{MAX_ROOM_BYTES}
 use Rattle.orca_base.specs.Ports.{Sent}
-use Rattle.orca_rig.specs.declared.fault.OutsideFault.TheVariants.{Memory}
+use Rattle.orca_rig.specs.declared.fault.OutsideFault.{OutsideFault}
+use Rattle.orca_rig.specs.declared.fault.OutsideFault.TheVariants.{Failed, Memory}
 use Rattle.orca_rig.specs.declared.inbox.Answer.{Answer}
 use Rattle.orca_rig.specs.Saved.{IsAppended, IsClaimed, IsRemoved, IsSaved}
 use Rattle.orca_rig.specs.declared.files.Claim.{Claim as Claimed}
@@ -187,6 +188,18 @@ WereCalled acts (Err refused) x y = AreBegun acts refused x y
 pub record Calls {T : Type 0} (acts : List Act) (result : Result T NoMemory) (x y : World)
     : Type 0 where
   pub called : WereCalled acts result x y
+
+-- what an answer comes to: a failure is recorded, and the run goes on; memory was refused here
+abbrev pub settled : NoMemory → Result (Unit {0}) OutsideFault → Result (Unit {0}) NoMemory
+settled refused (Ok done) = Ok tt
+settled refused (Err Failed) = Ok tt
+settled refused (Err Memory) = Err refused
+
+-- and of one that gives something: nothing, where it failed
+abbrev pub settled_with : {T : Type 0} → Result T OutsideFault → Result (Option T) NoMemory
+settled_with (Ok given) = Ok (Some given)
+settled_with (Err Failed) = Ok None
+settled_with (Err Memory) = Err Elsewhere
 
 -- the text that a load gives, if it gives one
 abbrev pub loaded_text : Result (Option (Vec ℕ Global)) NoMemory → Option (List ℕ)

@@ -11,7 +11,7 @@ ghost use Rattle.orca_course.specs.Acts.{Act, given};
 ghost use Rattle.orca_course.specs.Acts.Act.{Append, Attach, Begin, Give, Listen, Load, Remove, Save, Tell};
 ghost use Rattle.orca_course.specs.Answered.{losses_of, done_in};
 ghost use Rattle.orca_course.specs.Told.{IsLogOf, Records, Tells, asked_in, attached_in};
-ghost use Rattle.orca_course.specs.Worlds.{Called, IsSeated, LeavesInbox, Made, Polled, Sated, claim_answer, has_ended, has_failed, has_listened, is_unstored, owing, listen_moment, loaded_text};
+ghost use Rattle.orca_course.specs.Worlds.{Called, IsSeated, LeavesInbox, Made, Polled, Sated, claim_answer, has_ended, has_failed, has_listened, is_unstored, owing, listen_moment, loaded_text, settled, settled_with};
 
 use crate::notes::Notes;
 use crate::polling::arrived;
@@ -26,8 +26,7 @@ use std::alloc::Global;
 use std::marker::{Model, PhantomData};
 use std::sync::ledger::Ledger;
 
-/// The ports, the files, the inbox and the counter of steps of a run, and whether ports or files
-/// have failed. It notes each call of theirs, so a contract sees all calls, also of objects that
+/// The ports, the files, the inbox and the counter of steps of a run. It notes each call of theirs, so a contract sees all calls, also of objects that
 /// tell none; and what the objects tell is what their calls came to.
 #[derive(Drop)]
 pub struct Desk<H: House> {
@@ -36,8 +35,6 @@ pub struct Desk<H: House> {
     inbox: H::Inbox,
     steps: Steps<H::Ledger>,
     notes: Notes,
-    failed: bool,
-    unstored: bool,
 }
 
 impl<H: House> Model for Desk<H> {
@@ -66,7 +63,7 @@ impl<H: House> Model for Desk<H> {
         (H.Inbox.log d.inbox) d.notes
         × AreWanted (H.Outs.wants d.outs) (H.Files.wants d.files) (H.Inbox.wants d.inbox)
         d.notes
-        × Records d.failed d.unstored (H.Inbox.listened d.inbox) (H.Inbox.ended d.inbox)
+        × Records (H.Inbox.listened d.inbox) (H.Inbox.ended d.inbox)
         (H.Inbox.hand_count d.inbox) d.notes };
 }
 
@@ -116,11 +113,32 @@ pub fn desk_of<F: Files, O: Outs, I: Inbox, L: Ledger>(
         inbox,
         steps,
         notes: Notes::new(),
-        failed: false,
-        unstored: false,
     }
 }
 
+/// What an answer comes to: a failure is recorded, and the run goes on; memory was refused here.
+fn settle(answer: Result<(), OutsideFault>, refused: NoMemory) -> Result<(), NoMemory>
+    ensures { result ≡ settled refused answer }
+{
+    match answer {
+        Ok(()) => Ok(()),
+        Err(OutsideFault::Failed) => Ok(()),
+        Err(OutsideFault::Memory) => Err(refused),
+    }
+}
+
+/// And of one that gives something: nothing, where it failed.
+fn settle_with<T>(answer: Result<T, OutsideFault>) -> Result<Option<T>, NoMemory>
+    ensures { result ≡ settled_with answer }
+{
+    match answer {
+        Ok(given) => Ok(Some(given)),
+        Err(OutsideFault::Failed) => Ok(None),
+        Err(OutsideFault::Memory) => Err(NoMemory::Elsewhere),
+    }
+}
+
+#[tactic(auto, using(crate::proofs::ToldLemmas::call_laws))]
 impl<H: House> Desk<H> {
     /// The files.
     pub fn files(&self) -> &H::Files
@@ -155,14 +173,14 @@ impl<H: House> Desk<H> {
     pub fn has_failed(&self) -> bool
         ensures { result ≡ has_failed self.now }
     {
-        self.failed
+        self.notes.has_failed()
     }
 
     /// Whether the files have failed at a call.
     pub fn is_unstored(&self) -> bool
         ensures { result ≡ is_unstored self.now }
     {
-        self.unstored
+        self.notes.is_unstored()
     }
 
     /// What the calls so far came to.
@@ -181,12 +199,7 @@ impl<H: House> Desk<H> {
         let answer = self.outs.attach(port, name);
         self.notes
             .note(&Kind::Attach(port, answer), name.as_bytes(), &[]);
-        self.failed |= matches!(answer, Err(OutsideFault::Failed));
-        match answer {
-            Ok(()) => Ok(()),
-            Err(OutsideFault::Failed) => Ok(()),
-            Err(OutsideFault::Memory) => Err(NoMemory::Elsewhere),
-        }
+        settle(answer, NoMemory::Elsewhere)
     }
 
     /// Sends the bytes to a port, as one piece. A failure is recorded, and nothing is sent again.
@@ -197,12 +210,7 @@ impl<H: House> Desk<H> {
     {
         let answer = self.outs.send(port, bytes);
         self.notes.note(&Kind::Give(port, answer), &[], bytes);
-        self.failed |= matches!(answer, Err(OutsideFault::Failed));
-        match answer {
-            Ok(()) => Ok(()),
-            Err(OutsideFault::Failed) => Ok(()),
-            Err(OutsideFault::Memory) => Err(NoMemory::InSend),
-        }
+        settle(answer, NoMemory::InSend)
     }
 
     /// The bytes of the file of that name, which has at most `most`, and no more than a room may
@@ -221,7 +229,6 @@ impl<H: House> Desk<H> {
         let mut text = Vec::new(alloc);
         let answer = self.files.load(name, most, &mut text);
         self.notes.note(&Kind::Load(answer), name.as_bytes(), &text);
-        self.unstored |= matches!(answer, Err(OutsideFault::Failed));
         match answer {
             Ok(()) => Ok(Some(text)),
             Err(OutsideFault::Failed) => Ok(None),
@@ -235,12 +242,7 @@ impl<H: House> Desk<H> {
     {
         let answer = self.files.save(name, bytes, disk);
         self.notes.note(&Kind::Save(answer), name.as_bytes(), bytes);
-        self.unstored |= matches!(answer, Err(OutsideFault::Failed));
-        match answer {
-            Ok(()) => Ok(()),
-            Err(OutsideFault::Failed) => Ok(()),
-            Err(OutsideFault::Memory) => Err(NoMemory::Elsewhere),
-        }
+        settle(answer, NoMemory::Elsewhere)
     }
 
     /// Begins a file of a name with the bytes, to be added to. A failure is recorded, and the run
@@ -251,12 +253,7 @@ impl<H: House> Desk<H> {
         let answer = self.files.begin(name, bytes);
         self.notes
             .note(&Kind::Begin(answer), name.as_bytes(), bytes);
-        self.unstored |= matches!(answer, Err(OutsideFault::Failed));
-        match answer {
-            Ok(()) => Ok(()),
-            Err(OutsideFault::Failed) => Ok(()),
-            Err(OutsideFault::Memory) => Err(NoMemory::Elsewhere),
-        }
+        settle(answer, NoMemory::Elsewhere)
     }
 
     /// Adds the bytes to the file of a name. A failure is recorded, and the run goes on.
@@ -266,12 +263,7 @@ impl<H: House> Desk<H> {
         let answer = self.files.append(name, bytes);
         self.notes
             .note(&Kind::Append(answer), name.as_bytes(), bytes);
-        self.unstored |= matches!(answer, Err(OutsideFault::Failed));
-        match answer {
-            Ok(()) => Ok(()),
-            Err(OutsideFault::Failed) => Ok(()),
-            Err(OutsideFault::Memory) => Err(NoMemory::Elsewhere),
-        }
+        settle(answer, NoMemory::Elsewhere)
     }
 
     /// Claims the file of a name with the bytes, to be added to, and says whether it was made; none if
@@ -284,12 +276,7 @@ impl<H: House> Desk<H> {
         let answer = self.files.claim(name, bytes);
         self.notes
             .note(&Kind::Claim(answer), name.as_bytes(), bytes);
-        self.unstored |= matches!(answer, Err(OutsideFault::Failed));
-        match answer {
-            Ok(claim) => Ok(Some(claim)),
-            Err(OutsideFault::Failed) => Ok(None),
-            Err(OutsideFault::Memory) => Err(NoMemory::Elsewhere),
-        }
+        settle_with(answer)
     }
 
     /// Takes away the file of a name, which was claimed. A failure is recorded, and the run goes on.
@@ -298,12 +285,7 @@ impl<H: House> Desk<H> {
     {
         let answer = self.files.remove(name);
         self.notes.note(&Kind::Remove(answer), name.as_bytes(), &[]);
-        self.unstored |= matches!(answer, Err(OutsideFault::Failed));
-        match answer {
-            Ok(()) => Ok(()),
-            Err(OutsideFault::Failed) => Ok(()),
-            Err(OutsideFault::Memory) => Err(NoMemory::Elsewhere),
-        }
+        settle(answer, NoMemory::Elsewhere)
     }
 
     /// Gives the bytes to a hand, to be seen where its keys come from. A hand that has left gets
@@ -338,11 +320,7 @@ impl<H: House> Desk<H> {
         let answer = self.inbox.listen_hands(name, hands);
         self.notes
             .note(&Kind::Listen(hands, answer), name.as_bytes(), &[]);
-        match answer {
-            Ok(at) => Ok(Some(at)),
-            Err(OutsideFault::Failed) => Ok(None),
-            Err(OutsideFault::Memory) => Err(NoMemory::Elsewhere),
-        }
+        settle_with(answer)
     }
 
     /// Waits for what comes next: bytes, which it puts at the front of `bytes`, or the moment

@@ -1,7 +1,8 @@
 //! The calls of a desk, and what it keeps of them to tell what they came to.
 
+ghost use Rattle.std.specs.List.{list_any};
 ghost use Rattle.std.specs.Prelude.{◌≡◌, ◌++◌, ◌∷◌, []};
-ghost use Rattle.orca_course.specs.Answered.{losses_in, losses_of, no_outcomes, outcomes_by, ports_with};
+ghost use Rattle.orca_course.specs.Answered.{is_file_fault, is_port_fault, losses_in, losses_of, no_outcomes, outcomes_by, ports_with};
 ghost use Rattle.orca_trace.specs.Calls.{call_of};
 
 use crate::Losses;
@@ -45,6 +46,8 @@ pub(crate) struct Outcomes {
     pub(crate) unsaved: bool,
     /// A call of the files has failed.
     pub(crate) unstored: bool,
+    /// A call of a port has failed.
+    pub(crate) failed: bool,
 }
 
 impl Outcomes {
@@ -63,6 +66,7 @@ impl Outcomes {
             journal: false,
             unsaved: false,
             unstored: false,
+            failed: false,
         }
     }
 
@@ -73,9 +77,15 @@ impl Outcomes {
     {
         match *kind {
             Kind::Attach(port, Ok(())) => self.unattached.set(port, false),
-            Kind::Attach(port, Err(OutsideFault::Failed)) => self.unattached.set(port, true),
+            Kind::Attach(port, Err(OutsideFault::Failed)) => {
+                self.unattached.set(port, true);
+                self.failed = true;
+            }
             Kind::Give(port, Ok(())) => self.unsent.set(port, false),
-            Kind::Give(port, Err(OutsideFault::Failed)) => self.unsent.set(port, true),
+            Kind::Give(port, Err(OutsideFault::Failed)) => {
+                self.unsent.set(port, true);
+                self.failed = true;
+            }
             Kind::Save(Ok(())) => self.unsaved = false,
             Kind::Load(Err(OutsideFault::Failed)) => self.unstored = true,
             Kind::Save(Err(OutsideFault::Failed)) => {
@@ -159,6 +169,22 @@ impl Notes {
     {
         self.trace.note(kind, name, bytes);
         self.outcomes.note(kind, name, bytes);
+    }
+
+    /// Whether a port has failed at one of them.
+    #[tactic(auto, using(crate::proofs::AnsweredLemmas::port_faults))]
+    pub(crate) fn has_failed(&self) -> bool
+        ensures { result ≡ list_any is_port_fault self.now }
+    {
+        self.outcomes.failed
+    }
+
+    /// Whether the files have.
+    #[tactic(auto, using(crate::proofs::AnsweredLemmas::file_faults))]
+    pub(crate) fn is_unstored(&self) -> bool
+        ensures { result ≡ list_any is_file_fault self.now }
+    {
+        self.outcomes.unstored
     }
 
     /// What they came to.

@@ -1,19 +1,13 @@
 use Rattle.std.proofs.Common.{refl, arith}
 use Rattle.std.proofs.lemmas.Grind.{common_steps}
-use Rattle.orca_course.proofs.ToldLemmas.{is_next, one_more}
+use Rattle.orca_course.proofs.ToldLemmas.{is_next}
 use Rattle.orca_course.proofs.WorldLemmas.{next_done, next_refused}
 use Rattle.orca_course.proofs.desk.Desk.tell.Goals as goal
-
-pub invariant_of-self : goal.invariant_of-self
-invariant_of-self g c = grind (arith, common_steps, one_more)
 
 pub returns-in-Ok : goal.returns-in-Ok
 returns-in-Ok g c =
     rw (← c.self.view_is) (next_done _ _ (grind arith) (grind arith) tt tt
     (is_next c.note.ensures (grind (arith, common_steps)) (grind (arith, common_steps)) refl))
-
-pub invariant_of-self-in-Err : goal.invariant_of-self-in-Err
-invariant_of-self-in-Err g c = grind (arith, common_steps, one_more)
 
 pub returns-in-Err : goal.returns-in-Err
 returns-in-Err g c =
