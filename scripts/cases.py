@@ -60,12 +60,15 @@ ROW = re.compile(r"(?<=\n)(?!\Z)|(?!\A)(?=\x1b\[\d*;)")
 TEXT = re.compile(r'"((?:[^"\\]|\\[nrte"\\])*)"')
 # What is stored in a short form: what begins a row of a picture or sets a style, and a part of a text or of hexadecimal
 # that stands there several times. What a backslash begins already is taken as a whole.
-PICTURE = re.compile(r"(\\\\)|\\e\[(\d+);1H\\e\[0m|\\e\[0m(?:\\e\[([1247])m)?")
+STYLES = {"": "0", "1": "1", "2": "2", "4": "4", "7": "7", "35": "3", "45": "5", "91": "9", "94": "8"}
+STYLE_OF = {sign: style for style, sign in STYLES.items()}
+PICTURE = re.compile(r"(\\\\)|\\e\[(\d+);1H\\e\[0m|\\e\[0m(?:\\e\[([1247]|[34]5|9[14])m)?")
 AGAIN = re.compile(r"(\\.)|([^\\)])\2{15,}")
 AGAIN_IN_HEX = re.compile(r"(.)\1{15,}|(..)\2{7,}|(....)\3{3,}")
 # What the short forms are in a line, those of rows, and a word that can stand beside others.
-SHORT = re.compile(r"\\(?:(\\)|\((\d+)\*([^)]*)\)|\[(\d+)\]|([01247]))")
+SHORT = re.compile(r"\\(?:(\\)|\((\d+)\*([^)]*)\)|\[(\d+)\]|([0-57-9]))")
 ROWS = re.compile(r"^  (\d*)\|(.*)$", re.MULTILINE)
+PAINTED = re.compile(r"^  (\[.*)$", re.MULTILINE)
 PLAIN = re.compile(r'word "([^ "\\]+)"')
 
 # What stands above a case, the lines that ask, and those of the answer; each a text. A case may have no answer.
@@ -96,15 +99,18 @@ def times(found):
 def short_sign(found):
     if found[1]:
         return found[0]
-    return f"\\[{found[2]}]" if found[2] else f"\\{found[3] or 0}"
+    return f"\\[{found[2]}]" if found[2] else f"\\{STYLES[found[3] or '']}"
 
 
 def short_rows(rows):
-    """Rows as they are stored: one that ends with the end of a line behind a bar, with how often it stands there."""
+    """Rows as they are stored: one that ends with the end of a line behind a bar, with how often it stands there, and one
+    of a picture without quotes."""
     for row, same in itertools.groupby(rows):
         count = len(list(same))
         if row.endswith("\\n") and not row.endswith(" \\n"):
             yield f"{count if count > 1 else ''}|{row[:-2]}"
+        elif row.startswith("\\[") and not row.endswith(" "):
+            yield from [row[1:]] * count
         else:
             yield from [f'"{row}"'] * count
 
@@ -117,12 +123,13 @@ def long_sign(found):
         return part * int(count)
     if row:
         return f"\\e[{row};1H\\e[0m"
-    return "\\e[0m" if style == "0" else f"\\e[0m\\e[{style}m"
+    return "\\e[0m" + (f"\\e[{STYLE_OF[style]}m" if STYLE_OF[style] else "")
 
 
 def written_out(text):
     """Lines without short forms but `words`."""
     text = ROWS.sub(lambda found: "\n".join([f'  "{found[2]}\\n"'] * int(found[1] or 1)), text)
+    text = PAINTED.sub(lambda found: f'  "\\{found[1]}"', text)
     return SHORT.sub(long_sign, text)
 
 

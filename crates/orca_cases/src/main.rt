@@ -23,8 +23,10 @@
 //! | a line with two blanks and `\|ROW` | a row with `\n` at its end; with a number before the bar as often |
 //! | `\(N*PART)` | the part N times |
 //! | `\[ROW]` | the beginning of a row of a picture: `\e[ROW;1H\e[0m` |
+//! | a line with two blanks and `[ROW]TEXT` | the row `\[ROW]TEXT` of a picture |
 //! | `\0` | `\e[0m`, the plain style of a picture |
 //! | `\1`, `\2`, `\4`, `\7` | a style: `\e[0m`, and then `\e[1m` or the like |
+//! | `\3`, `\5`, `\8`, `\9` | a colour: the same with 35, 45, 94 and 91 |
 //!
 //! | line | meaning |
 //! |---|---|

@@ -4,12 +4,16 @@ use anyhow::{Context, Result};
 use std::alloc::Global;
 
 /// What a digit behind a backslash stands for: the styles of a picture.
-const STYLES: [(char, &str); 5] = [
+const STYLES: [(char, &str); 9] = [
     ('0', "\\e[0m"),
     ('1', "\\e[0m\\e[1m"),
     ('2', "\\e[0m\\e[2m"),
+    ('3', "\\e[0m\\e[35m"),
     ('4', "\\e[0m\\e[4m"),
+    ('5', "\\e[0m\\e[45m"),
     ('7', "\\e[0m\\e[7m"),
+    ('8', "\\e[0m\\e[94m"),
+    ('9', "\\e[0m\\e[91m"),
 ];
 
 /// Lines with all their short forms written out.
@@ -17,6 +21,7 @@ pub(crate) fn write_out(alloc: Global, text: &str) -> Result<String> {
     let mut lines = String::new(alloc);
     for line in text.lines() {
         match line.strip_prefix("  ") {
+            Some(row) if row.starts_with('[') => push_painted(&mut lines, row)?,
             Some(row) if !row.starts_with('"') => push_rows(&mut lines, row)?,
             _ => {
                 lines.push_str(line)?;
@@ -42,6 +47,14 @@ fn push_rows(lines: &mut String, row: &str) -> Result<()> {
         lines.push_str(row)?;
         lines.push_str("\\n\"\n")?;
     }
+    Ok(())
+}
+
+/// Adds a row of a picture that stands in no quotes.
+fn push_painted(lines: &mut String, row: &str) -> Result<()> {
+    lines.push_str("  \"\\")?;
+    lines.push_str(row)?;
+    lines.push_str("\"\n")?;
     Ok(())
 }
 
