@@ -15,7 +15,7 @@ use Rattle.orca_course.specs.Courses.{Course, each, ended, lastly, mapped, onwar
 use Rattle.orca_course.specs.Doing.{Does}
 use Rattle.orca_course.specs.Performers.{DoesPolls, Hearing, IsDeaf, IsLostBy, Part, Turn, answer_turns, attended, begun, finished, first_turns, given_course, heard_turns, items_of, last_turns, over_turns, performance, polls_of, spent, turn_course, turns_of}
 use Rattle.orca_course.specs.Performers.Turn.{Asked, Given, Learned, Over}
-use Rattle.orca_course.specs.Worlds.{Polled, World, has_ended, is_lost, owing}
+use Rattle.orca_course.specs.Worlds.{Polled, World, has_ended, inbox_failed, owing}
 use Rattle.orca_course.specs.declared.ending.Ending.{Ending}
 use Rattle.orca_course.specs.declared.ending.Ending.TheVariants.{Lost, Spent, Stopped}
 use Rattle.orca_course.specs.declared.ending.Stop.{Stop}
@@ -248,15 +248,15 @@ polled_hears p deaf h {s = s} {x = x} hearing did =
 
 polled_lost : {S : Type 0} (p : Part S) → IsDeaf p → (h : Hearing) {s t : S} {x y : World}
     → (result : Result (Option Ending) NoMemory)
-    → Does p.stance (heard_course p h s) s x result t y → IsLostBy result (is_lost x) (is_lost y)
+    → Does p.stance (heard_course p h s) s x result t y → IsLostBy result (inbox_failed x) (inbox_failed y)
 unfolding each turn_course onward
 polled_lost p deaf h {s = s} {x = x} {y = y} (Ok end) did =
     let acts = (each (turn_course p) (answer_turns h.poll.answer h.poll.bytes h.came) s).acts in
     let lost = lost_made did.did.made
-    ∙ lost-deaf acts (is_lost x || is_failure h.poll.answer)
+    ∙ lost-deaf acts (inbox_failed x || is_failure h.poll.answer)
     (answer_quiet p deaf h.poll.answer h.poll.bytes h.came s).0 in
-    subst (λ last. IsLostBy (Ok last) (is_lost x) (is_lost y)) did.did.ending
-    (rw lost ((answer_quiet p deaf h.poll.answer h.poll.bytes h.came s).1 (is_lost x)))
+    subst (λ last. IsLostBy (Ok last) (inbox_failed x) (inbox_failed y)) did.did.ending
+    (rw lost ((answer_quiet p deaf h.poll.answer h.poll.bytes h.came s).1 (inbox_failed x)))
 polled_lost p deaf h (Err e) did = tt
 
 -- ---- polls, one after another
@@ -268,7 +268,7 @@ pub record Answered {S : Type 0} (p : Part S) (n : ℕ) (s : S) (x : World) (t :
   pub many : length heard ≡ n
   pub all : polls_in (each (turn_course p) (flat_map turns_of heard) s).acts ≡ polls_of heard
   pub hearing : has_ended y ≡ false
-  pub steady : is_lost y ≡ is_lost x
+  pub steady : inbox_failed y ≡ inbox_failed x
   pub did : Does p.stance (each (turn_course p) (flat_map turns_of heard) s) s x (Ok None) t y
 
 pub answered_none : {S : Type 0} (p : Part S) (s : S) (x : World) → has_ended x ≡ false
@@ -392,13 +392,13 @@ module _ {S : Type 0} (p : Part S) (deaf : IsDeaf p) (came : Losses) {s t : S} {
 
   opened_lost : (result : Result (Option Ending) NoMemory)
       → Does p.stance (each (turn_course p) (first_turns came) s) s x result t y
-      → IsLostBy result (is_lost x) (is_lost y)
+      → IsLostBy result (inbox_failed x) (inbox_failed y)
   opened_lost (Ok end) first =
       let quiet = first_quiet p deaf came s in
       let lost = lost_made first.did.made
-      ∙ lost-deaf (each (turn_course p) (first_turns came) s).acts (is_lost x) quiet.0 in
-      let not = quiet.1 (is_lost x) in
-      subst (λ last. IsLostBy (Ok last) (is_lost x) (is_lost y)) first.did.ending (rw lost not)
+      ∙ lost-deaf (each (turn_course p) (first_turns came) s).acts (inbox_failed x) quiet.0 in
+      let not = quiet.1 (inbox_failed x) in
+      subst (λ last. IsLostBy (Ok last) (inbox_failed x) (inbox_failed y)) first.did.ending (rw lost not)
   opened_lost (Err e) first = tt
 
   pub begun_then : {u : S} {z : World} {result : Result (Option Ending) NoMemory}
@@ -441,14 +441,14 @@ unfolding finished mapped IsDeaf
 finished_deaf p deaf e s = deaf (item.Ended e) s
 
 last_lost : {S : Type 0} (p : Part S) (deaf : IsDeaf p) (e : Ending) (t u : S) (x y z : World)
-    (result : Result (Option Stop) NoMemory) → IsLostBy (Ok (Some e)) (is_lost x) (is_lost y)
+    (result : Result (Option Stop) NoMemory) → IsLostBy (Ok (Some e)) (inbox_failed x) (inbox_failed y)
     → Does p.stance (p.takes (item.Ended e) t) t y result u z
-    → IsLostBy (answered (λ end. Some e) result) (is_lost x) (is_lost z)
+    → IsLostBy (answered (λ end. Some e) result) (inbox_failed x) (inbox_failed z)
 unfolding IsDeaf
 last_lost p deaf e t u x y z (Ok end) lost more =
     let same = lost_made more.did.made
-    ∙ lost-deaf (p.takes (item.Ended e) t).acts (is_lost y) (deaf (item.Ended e) t) in
-    subst (IsLostBy (Ok (Some e)) (is_lost x)) (sym same) lost
+    ∙ lost-deaf (p.takes (item.Ended e) t).acts (inbox_failed y) (deaf (item.Ended e) t) in
+    subst (IsLostBy (Ok (Some e)) (inbox_failed x)) (sym same) lost
 last_lost p deaf e t u x y z (Err refused) lost more = tt
 
 module _ {S : Type 0} (p : Part S) (deaf : IsDeaf p) (came : Losses) {s t : S} {x y : World} where

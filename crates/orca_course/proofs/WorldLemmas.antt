@@ -21,7 +21,7 @@ use Rattle.orca_course.specs.Acts.{Act, ArePrintable, AreUntold, calls_in, given
 use Rattle.orca_course.specs.Acts.Act.{Append, Await, Begin, Claim, Give, Learn, Load, Obey, Remove, Save, Screen, Show, Stand, Strike}
 use Rattle.orca_course.specs.Answered.{act_of, losses_of, done_in, is_file_fault, refused_in}
 use Rattle.orca_course.specs.Standings.{Standing}
-use Rattle.orca_course.specs.Worlds.{AreCalled, AreCounted, AreStored, Called, Counts, IsCounted, Learns, Made, Polled, Sated, Stores, Unsent, Wants, World, has_ended, has_failed, is_lost, is_unstored, claim_answer, listen_moment, owing, settled, settled_with}
+use Rattle.orca_course.specs.Worlds.{AreCalled, AreCounted, AreStored, Called, Counts, IsCounted, Learns, Made, Polled, Sated, Stores, Unsent, Wants, World, claim_answer, file_failed, has_ended, has_failed, inbox_failed, listen_moment, owing, settled, settled_with}
 use Rattle.orca_course.specs.declared.item.Losses.{Losses}
 use Rattle.orca_course.specs.declared.refused.NoMemory.{NoMemory}
 use Rattle.orca_course.specs.declared.refused.NoMemory.TheVariants.{InSend, Elsewhere}
@@ -246,12 +246,12 @@ made_learn x = record {
 
 -- the inbox has failed exactly if it had, or failed at one of the acts
 pub lost_made : {acts : List Act} {bill : ℕ} {x y : World} → Made acts bill x y
-    → is_lost y ≡ lost_after acts (is_lost x)
+    → inbox_failed y ≡ lost_after acts (inbox_failed x)
 unfolding AreCalled
 lost_made {acts = acts} {x = x} made =
     let called = made.called in
     rw (called.1, list_any-append, ← lost_after-done, called.2)
-    (lost_after-calls acts (is_lost x))
+    (lost_after-calls acts (inbox_failed x))
 
 -- and so it has ended
 pub ended_made : {acts : List Act} {bill : ℕ} {x y : World} → Made acts bill x y
@@ -283,7 +283,7 @@ safe_acts (act ∷ acts) safe = grind (arith, safe_acts acts)
 
 -- then the files have not failed
 pub stored_made : {acts : List Act} {bill : ℕ} {x y : World} → AreSafe acts → Made acts bill x y
-    → is_unstored y ≡ is_unstored x
+    → file_failed y ≡ file_failed x
 unfolding AreCalled
 stored_made {acts = acts} safe made =
     let called = made.called in
@@ -297,7 +297,7 @@ unloaded_calls (call ∷ calls) name is = grind (arith, unloaded_calls calls nam
 
 -- a load has failed
 pub unstored_made : {name : List ℕ} {bill : ℕ} {x y : World} → Made (Load name None ∷ []) bill x y
-    → is_unstored y ≡ true
+    → file_failed y ≡ true
 unfolding AreCalled
 unstored_made {name = name} made =
     let called = made.called in

@@ -10,7 +10,7 @@ use Rattle.orca_course.specs.Acts.{AreDeaf, polls_in}
 use Rattle.orca_course.specs.Acts.Act.{Await, Learn}
 use Rattle.orca_course.specs.Courses.{Course, course, each, ended, lastly, mapped}
 use Rattle.orca_course.specs.Doing.{Does, Stance}
-use Rattle.orca_course.specs.Worlds.{World, is_lost}
+use Rattle.orca_course.specs.Worlds.{World, inbox_failed}
 use Rattle.orca_course.specs.declared.ending.Ending.{Ending}
 use Rattle.orca_course.specs.declared.ending.Ending.TheVariants.{Lost, Spent, Stopped}
 use Rattle.orca_course.specs.declared.ending.Stop.{Stop}
@@ -131,5 +131,5 @@ pub record DoesPolls {S : Type 0} (v : Stance S) (c : List Hearing → Course S 
   pub heard : List Hearing
   pub few : length heard ≤ MAX_POLLS
   pub all : polls_in (c heard).acts ≡ polls_of heard
-  pub lost : IsLostBy result (is_lost x) (is_lost y)
+  pub lost : IsLostBy result (inbox_failed x) (inbox_failed y)
   pub did : Does v (c heard) s x result t y

@@ -46,16 +46,16 @@ abbrev pub has_failed : World → Bool
 has_failed x = list_any is_port_fault x.calls
 
 -- whether the files have failed at a call
-abbrev pub is_unstored : World → Bool
-is_unstored x = list_any is_file_fault x.calls
+abbrev pub file_failed : World → Bool
+file_failed x = list_any is_file_fault x.calls
 
 -- whether the inbox has failed
-abbrev pub is_lost : World → Bool
-is_lost x = list_any is_inbox_fault x.calls
+abbrev pub inbox_failed : World → Bool
+inbox_failed x = list_any is_inbox_fault x.calls
 
 -- nothing has failed
 abbrev pub IsSound : World → Type 0
-IsSound x = (has_failed x ≡ false) × (is_unstored x ≡ false) × (is_lost x ≡ false)
+IsSound x = (has_failed x ≡ false) × (file_failed x ≡ false) × (inbox_failed x ≡ false)
 
 -- whether the inbox was asked to listen
 abbrev pub has_listened : World → Bool
@@ -76,7 +76,7 @@ has_ended x = list_any is_last_poll x.calls
 -- the inbox was not called
 abbrev pub LeavesInbox : World → World → Type 0
 LeavesInbox x y =
-    (has_listened y ≡ has_listened x) × (has_ended y ≡ has_ended x) × (is_lost y ≡ is_lost x)
+    (has_listened y ≡ has_listened x) × (has_ended y ≡ has_ended x) × (inbox_failed y ≡ inbox_failed x)
 
 -- ---- calls
 

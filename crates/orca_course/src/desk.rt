@@ -11,7 +11,7 @@ ghost use Rattle.orca_course.specs.Acts.{Act, given};
 ghost use Rattle.orca_course.specs.Acts.Act.{Append, Attach, Begin, Give, Listen, Load, Remove, Save, Tell};
 ghost use Rattle.orca_course.specs.Answered.{losses_of, done_in};
 ghost use Rattle.orca_course.specs.Told.{IsLogOf, Records, Tells, asked_in, attached_in};
-ghost use Rattle.orca_course.specs.Worlds.{Called, IsSeated, LeavesInbox, Made, Polled, Sated, claim_answer, has_ended, has_failed, has_listened, is_unstored, owing, listen_moment, loaded_text, settled, settled_with};
+ghost use Rattle.orca_course.specs.Worlds.{Called, IsSeated, LeavesInbox, Made, Polled, Sated, claim_answer, file_failed, has_ended, has_failed, has_listened, listen_moment, loaded_text, owing, settled, settled_with};
 
 use crate::notes::Notes;
 use crate::polling::arrived;
@@ -177,10 +177,10 @@ impl<H: House> Desk<H> {
     }
 
     /// Whether the files have failed at a call.
-    pub fn is_unstored(&self) -> bool
-        ensures { result ≡ is_unstored self.now }
+    pub fn file_failed(&self) -> bool
+        ensures { result ≡ file_failed self.now }
     {
-        self.notes.is_unstored()
+        self.notes.file_failed()
     }
 
     /// What the calls so far came to.

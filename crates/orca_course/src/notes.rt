@@ -181,7 +181,7 @@ impl Notes {
 
     /// Whether the files have.
     #[tactic(auto, using(crate::proofs::AnsweredLemmas::file_faults))]
-    pub(crate) fn is_unstored(&self) -> bool
+    pub(crate) fn file_failed(&self) -> bool
         ensures { result ≡ list_any is_file_fault self.now }
     {
         self.outcomes.unstored

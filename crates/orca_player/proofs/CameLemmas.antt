@@ -10,7 +10,7 @@ use Rattle.orca_course.specs.Performers.{Hearing, polls_of}
 use Rattle.orca_course.specs.Standings.{Standing}
 use Rattle.orca_course.specs.Following.{Follows, keys_after_acts, sounding}
 use Rattle.orca_course.specs.Answered.{refused_in}
-use Rattle.orca_course.specs.Worlds.{AreBegun, Called, Calls, Made, Sated, Unsent, World, is_lost, is_unstored}
+use Rattle.orca_course.specs.Worlds.{AreBegun, Called, Calls, Made, Sated, Unsent, World, file_failed, inbox_failed}
 use Rattle.orca_course.specs.declared.refused.NoMemory.{NoMemory}
 use Rattle.orca_course.proofs.ActLemmas.{open-mute, stand-mute}
 use Rattle.orca_course.proofs.CallLemmas.{SoCalled, so_cut, so_more, so_over}
@@ -111,8 +111,8 @@ came_plain o came = record {
 -- calls were done, and whether the files and the inbox have failed is as before
 pub record Before (acts : List Act) (x y : World) : Type 0 where
   pub calls : AreCalls acts
-  pub lost : is_lost y ≡ is_lost x
-  pub files : is_unstored y ≡ is_unstored x
+  pub lost : inbox_failed y ≡ inbox_failed x
+  pub files : file_failed y ≡ file_failed x
   pub made : Made acts 0 x y
   pub sated : Sated x y
 
@@ -368,7 +368,7 @@ pub by_unclaimed : {T : Type 0} {done : T} {o : Brought → Outline} {name bytes
     (answer : Option Claimed) (planned : Status) {x y : World}
     → o (answered_so answer) ≡ preceded (Claim name bytes answer ∷ []) (stopped_run planned)
     → Called (Ok done) (Claim name bytes answer) x y
-    → (is_lost y ≡ is_lost x → IsBlamed planned x y)
+    → (inbox_failed y ≡ inbox_failed x → IsBlamed planned x y)
     → CameBy o x (status_at planned y) y
 by_unclaimed answer planned is called blamed =
     by_answered answer (Claim _ _ answer ∷ []) planned is tt refl called.called

@@ -18,7 +18,7 @@ use Rattle.orca_course.specs.Doing.{Does, Stance}
 use Rattle.orca_course.specs.Following.{Follows, keys_after_acts, sounding}
 use Rattle.orca_course.specs.Performers.{DoesPolls, IsDeaf, IsLostBy, Part, performance}
 use Rattle.orca_course.specs.Standings.{Standing, notes_of}
-use Rattle.orca_course.specs.Worlds.{AreSeated, Calls, Made, Unsent, World, is_lost, owing}
+use Rattle.orca_course.specs.Worlds.{AreSeated, Calls, Made, Unsent, World, inbox_failed, owing}
 use Rattle.orca_course.specs.declared.ending.Ending.{Ending}
 use Rattle.orca_course.specs.declared.ending.Stop.{Stop}
 use Rattle.orca_course.specs.declared.item.Losses.{Losses}
@@ -224,19 +224,19 @@ polls-concert m r cues s =
 
 -- and the inbox does not fail
 pub lost-concert : {R : Type 0} (m : Manner R) (cues : List Cue) (s : Concert R) {bill : ℕ}
-    {x y : World} → Made (concert_course m cues s).acts bill x y → is_lost y ≡ is_lost x
+    {x y : World} → Made (concert_course m cues s).acts bill x y → inbox_failed y ≡ inbox_failed x
 lost-concert m cues s {x = x} made =
     lost_made made
-    ∙ lost-deaf (concert_course m cues s).acts (is_lost x) (concert_is_deaf m cues s)
+    ∙ lost-deaf (concert_course m cues s).acts (inbox_failed x) (concert_is_deaf m cues s)
 
-pub blamed-concert : (end : Option Stop) (x y : World) → is_lost y ≡ is_lost x
+pub blamed-concert : (end : Option Stop) (x y : World) → inbox_failed y ≡ inbox_failed x
     → IsBlamed (status_of_end end) x y
 blamed-concert end x y lost = grind arith
 
 -- ---- a performance
 
 -- the end of a performance, by what the loop says of the inbox
-pub lost_by : (ending : Ending) (x y : World) → IsLostBy (Ok (Some ending)) (is_lost x) (is_lost y)
+pub lost_by : (ending : Ending) (x y : World) → IsLostBy (Ok (Some ending)) (inbox_failed x) (inbox_failed y)
     → IsBlamed (status_of_ending ending) x y
 lost_by ending x y lost = grind arith
 

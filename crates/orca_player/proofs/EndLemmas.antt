@@ -7,7 +7,7 @@ use Rattle.orca_base.specs.Ports.{Sent}
 use Rattle.orca_course.specs.Acts.{gives}
 use Rattle.orca_course.specs.Acts.Act.{Give}
 use Rattle.orca_course.specs.Following.{Follows}
-use Rattle.orca_course.specs.Worlds.{Called, IsSound, Made, Sated, World, has_failed, is_lost, is_unstored}
+use Rattle.orca_course.specs.Worlds.{Called, IsSound, Made, Sated, World, file_failed, has_failed, inbox_failed}
 use Rattle.orca_course.specs.declared.refused.NoMemory.{NoMemory}
 use Rattle.orca_course.specs.declared.refused.NoMemory.TheVariants.{InSend, Elsewhere}
 use Rattle.orca_course.proofs.ActLemmas.{lost_after}
@@ -177,7 +177,7 @@ lost-gives (sent ∷ sends) b = lost-gives sends b
 -- ---- causes
 
 caused_at : (planned : Status) (x y z : World) → IsSound x → IsBlamed planned x y
-    → is_lost z ≡ is_lost y → is_unstored z ≡ is_unstored y
+    → inbox_failed z ≡ inbox_failed y → file_failed z ≡ file_failed y
     → (has_failed y ≡ true → has_failed z ≡ true) → (status_at planned y ≡ Done → z ≡ y)
     → IsCaused (status_at planned y) z
 caused_at planned x y z sound blamed lost unstored failed still = grind arith
@@ -186,7 +186,7 @@ caused_whole : {o : Outline} {x y z : World} {status : Status} → IsSound x
     → IsWholeRun o x status y → Said status status y z → IsCaused status z
 caused_whole {x = x} {y = y} {z = z} sound whole said =
     rw whole.settles (caused_at whole.planned x y z sound whole.blamed
-    (lost_made said.made ∙ lost-gives said.said (is_lost y))
+    (lost_made said.made ∙ lost-gives said.said (inbox_failed y))
     (stored_made (safe-gives said.said) said.made) (failed_made said.made)
     (λ is. (said.still (whole.settles ∙ is)).1))
 

@@ -13,7 +13,7 @@ use Rattle.orca_course.specs.Acts.Act.{Attach, Give, Load, Stand}
 use Rattle.orca_course.specs.Courses.{Course, afterwards, mapped}
 use Rattle.orca_course.specs.Following.{Follows, keys_after_acts, turn_given}
 use Rattle.orca_course.specs.Standings.{Standing}
-use Rattle.orca_course.specs.Worlds.{AreBegun, Called, Calls, Made, Sated, World, is_lost, is_unstored}
+use Rattle.orca_course.specs.Worlds.{AreBegun, Called, Calls, Made, Sated, World, file_failed, inbox_failed}
 use Rattle.orca_course.specs.declared.ending.Stop.{Stop}
 use Rattle.orca_course.specs.declared.item.Losses.{Losses}
 use Rattle.orca_course.specs.declared.refused.NoMemory.{NoMemory}
@@ -159,8 +159,8 @@ module _ (acts : List Act) (quiet : AreQuiet acts) where
 -- quiet acts were done, and whether the files and the inbox have failed is as before
 pub record Hushed (acts : List Act) (x y : World) : Type 0 where
   pub quiet : AreQuiet acts
-  pub lost : is_lost y ≡ is_lost x
-  pub files : is_unstored y ≡ is_unstored x
+  pub lost : inbox_failed y ≡ inbox_failed x
+  pub files : file_failed y ≡ file_failed x
   pub made : Made acts 0 x y
   pub sated : Sated x y
 
@@ -371,7 +371,7 @@ hushed_by midi {x = x} calls =
     let made = calls.called.0 in
     record {
       quiet = quiet-hush midi;
-      lost = lost_made made ∙ lost-hush midi (is_lost x);
+      lost = lost_made made ∙ lost-hush midi (inbox_failed x);
       files = stored_made (safe-hush midi) made;
       made = made;
       sated = calls.called.1;

@@ -14,7 +14,7 @@ use Rattle.orca_course.specs.Answered.{is_file_fault, losses_of, no_outcomes, ou
 use Rattle.orca_course.specs.Courses.{Course, afterwards, course, mapped}
 use Rattle.orca_course.specs.Doing.{Does, Stance}
 use Rattle.orca_course.specs.Standings.{Standing, notes_of}
-use Rattle.orca_course.specs.Worlds.{AreCalled, Calls, Made, World, is_lost, is_unstored, owing}
+use Rattle.orca_course.specs.Worlds.{AreCalled, Calls, Made, World, file_failed, inbox_failed, owing}
 use Rattle.orca_course.specs.declared.ending.Stop.{Stop}
 use Rattle.orca_course.specs.declared.item.Losses.{Losses}
 use Rattle.orca_course.specs.declared.notes.Outcomes.{Outcomes}
@@ -66,7 +66,7 @@ unstored_after (call ∷ calls) o =
     ∙ (ap (λ (b : Bool). b || list_any is_file_fault calls) (unstored_by o call)
     ∙ or_assoc o.unstored (is_file_fault call) (list_any is_file_fault calls))
 
-pub unstored_learnt : (x : World) → (losses_of x.calls).unstored ≡ is_unstored x
+pub unstored_learnt : (x : World) → (losses_of x.calls).unstored ≡ file_failed x
 unfolding outcomes_of
 unstored_learnt x = unstored_after x.calls no_outcomes
 
@@ -76,7 +76,7 @@ front_false false b is = refl
 
 -- files that have failed stay so
 stored_before : {acts : List Act} {bill : ℕ} {x y : World} → Made acts bill x y
-    → is_unstored y ≡ false → is_unstored x ≡ false
+    → file_failed y ≡ false → file_failed x ≡ false
 unfolding AreCalled
 stored_before {x = x} made sound =
     let called = made.called in
@@ -88,22 +88,22 @@ stored_before {x = x} made sound =
 
 -- files that have failed are blamed first
 blamed_at : (planned : Status) (failed : Bool) (x y : World)
-    → (is_unstored y ≡ false → IsBlamed planned x y) → is_lost y ≡ is_lost x
-    → failed ≡ is_unstored y → IsBlamed (if failed then FileFault else planned) x y
+    → (file_failed y ≡ false → IsBlamed planned x y) → inbox_failed y ≡ inbox_failed x
+    → failed ≡ file_failed y → IsBlamed (if failed then FileFault else planned) x y
 blamed_at planned true x y blamed lost same = (lost, sym same)
 blamed_at planned false x y blamed lost same = blamed (sym same)
 
 -- where they have not, what is planned is blamed
 blamed_planned : (wrong : Option ScriptFault) (end : Option Stop) (x y : World)
-    → is_lost y ≡ is_lost x → (is_unstored y ≡ false → is_unstored x ≡ false)
-    → is_unstored y ≡ false → IsBlamed (planned_end wrong end) x y
+    → inbox_failed y ≡ inbox_failed x → (file_failed y ≡ false → file_failed x ≡ false)
+    → file_failed y ≡ false → IsBlamed (planned_end wrong end) x y
 blamed_planned wrong (Some stop) x y lost before sound = grind arith
 blamed_planned None None x y lost before sound = lost
 blamed_planned (Some fault) None x y lost before sound = (lost, sound ∙ sym (before sound))
 
 blamed_learnt : (planned : Status) (came : Losses) (x y : World)
-    → (is_unstored y ≡ false → IsBlamed planned x y) → IsBlamed Done x y
-    → is_lost y ≡ is_lost x → came.unstored ≡ is_unstored y
+    → (file_failed y ≡ false → IsBlamed planned x y) → IsBlamed Done x y
+    → inbox_failed y ≡ inbox_failed x → came.unstored ≡ file_failed y
     → IsBlamed (status_learnt planned came) x y
 blamed_learnt Done came x y blamed done lost same = done
 blamed_learnt planned came x y blamed done lost same = blamed_at planned came.unstored x y blamed lost same
@@ -248,10 +248,10 @@ module _ (r : Recovery) (seed : ℕ) (commands : List Command) (wrong : Option S
         };
       } in
       let all = does_afterwards (next came) did more in
-      let lost : is_lost z ≡ is_lost x =
-      lost_made made ∙ (lost-deaf last.acts (is_lost y) quiet.deaf
+      let lost : inbox_failed z ≡ inbox_failed x =
+      lost_made made ∙ (lost-deaf last.acts (inbox_failed y) quiet.deaf
       ∙ lost-concert recovery_manner cues s did.did.made) in
-      let stored : is_unstored z ≡ false → is_unstored x ≡ false = λ sound.
+      let stored : file_failed z ≡ false → file_failed x ≡ false = λ sound.
       stored_before did.did.made (stored_before made sound) in
       opened_whole _ {c = course_by came} {s = s} {t = t} s.standing refl begins none n
       (status_learnt planned came) (silent_after came) refl

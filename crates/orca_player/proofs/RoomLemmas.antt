@@ -7,7 +7,7 @@ use Rattle.orca_course.specs.Acts.Act.{Claim, Listen, Remove}
 use Rattle.orca_course.specs.Answered.{done_in, is_file_fault, losses_of}
 use Rattle.orca_course.specs.Courses.{Course}
 use Rattle.orca_course.specs.Following.{sounding}
-use Rattle.orca_course.specs.Worlds.{AreCalled, Called, Made, Sated, Wants, World, is_lost, is_unstored, owing}
+use Rattle.orca_course.specs.Worlds.{AreCalled, Called, Made, Sated, Wants, World, file_failed, inbox_failed, owing}
 use Rattle.orca_course.specs.declared.ending.Ending.{Ending}
 use Rattle.orca_course.specs.declared.item.Losses.{Losses}
 use Rattle.orca_course.specs.declared.refused.NoMemory.{NoMemory}
@@ -37,7 +37,7 @@ unclaimed_calls (call ∷ calls) name bytes is = grind (arith, unclaimed_calls c
 
 -- a claim has failed
 pub unclaimed_made : {name bytes : List ℕ} {bill : ℕ} {x y : World}
-    → Made (Claim name bytes None ∷ []) bill x y → is_unstored y ≡ true
+    → Made (Claim name bytes None ∷ []) bill x y → file_failed y ≡ true
 unfolding AreCalled
 unclaimed_made {name = name} {bytes = bytes} made =
     let called = made.called in
@@ -67,7 +67,7 @@ missed_left room {address = address} {hands = hands} next {x = x} {y = y} {z = z
     let gone = leavings room came false in
     let quiet = leavings_quiet room came false in
     let made = missed.called.0 in
-    let lost = lost_made left.0 ∙ (lost-deaf gone (is_lost y) quiet.deaf ∙ lost_made made) in
+    let lost = lost_made left.0 ∙ (lost-deaf gone (inbox_failed y) quiet.deaf ∙ lost_made made) in
     by b (missed_kind room came address hands (next b))
     (came_bare (waiting gone address hands None (next b)) InboxFault refl refl
     (rw append-nil quiet.mute)
@@ -144,7 +144,7 @@ module _ (room : Option (List ℕ)) {s t : LiveState} {m : ℕ} (n : ℕ) {x y z
       record nothing { opening = lasted.came; hearings = polls.heard; closing = came } in
       let acts = leavings room came t.loose in
       let quiet = leavings_quiet room came t.loose in
-      let lost = lost_made left.0 ∙ lost-deaf acts (is_lost y) quiet.deaf in
+      let lost = lost_made left.0 ∙ lost-deaf acts (inbox_failed y) quiet.deaf in
       let last : Course LiveState Ending =
       record { acts = acts; bill = 0; state = t; ending = Some ending } in
       let all = (does_joined {v = live_stance} {q = last} (Ok (Some ending)) did (record {

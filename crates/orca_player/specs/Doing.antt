@@ -6,7 +6,7 @@ use Rattle.orca_concert.specs.Concerts.{handed_of}
 use Rattle.orca_course.specs.Acts.{Act, given, gives, open_after, polls_in, stand_after}
 use Rattle.orca_course.specs.Following.{Follows, keys_after_acts, sounding}
 use Rattle.orca_course.specs.Performers.{polls_of}
-use Rattle.orca_course.specs.Worlds.{Made, Sated, Unsent, World, has_failed, is_lost, is_unstored}
+use Rattle.orca_course.specs.Worlds.{Made, Sated, Unsent, World, file_failed, has_failed, inbox_failed}
 use Rattle.orca_grid.specs.declared.refusal.GridRefusal.{GridRefusal}
 use Rattle.orca_grid.specs.declared.refusal.GridRefusal.TheVariants as refused
 use Rattle.orca_notes.specs.Sound.{ends}
@@ -30,7 +30,7 @@ KeepsTake o = o.course.ending ≡ Some Done → IfSome o.take (λ take. IsTaken 
 
 -- how a run ends that would end as planned, by what has failed
 abbrev pub status_at : Status → World → Status
-status_at Done y = if is_unstored y then FileFault else (if has_failed y then OutFault else Done)
+status_at Done y = if file_failed y then FileFault else (if has_failed y then OutFault else Done)
 status_at planned y = planned
 
 -- the status of a grid that is refused: out of memory is one of its own
@@ -41,16 +41,16 @@ refused_status refusal = GridRefused refusal
 -- what a planned status says of the faults of files and of the inbox. No run is planned to fail by a
 -- port or by memory
 abbrev pub IsBlamed : Status → World → World → Type 0
-IsBlamed InboxFault x y = is_lost y ≡ true
-IsBlamed FileFault x y = (is_lost y ≡ is_lost x) × (is_unstored y ≡ true)
+IsBlamed InboxFault x y = inbox_failed y ≡ true
+IsBlamed FileFault x y = (inbox_failed y ≡ inbox_failed x) × (file_failed y ≡ true)
 IsBlamed (GridRefused refusal) x y =
-    (is_lost y ≡ is_lost x) × (is_unstored y ≡ is_unstored x) × (refusal ≢ refused.Memory)
+    (inbox_failed y ≡ inbox_failed x) × (file_failed y ≡ file_failed x) × (refusal ≢ refused.Memory)
 IsBlamed (ScriptRefused line column) x y =
-    (is_lost y ≡ is_lost x) × (is_unstored y ≡ is_unstored x)
-IsBlamed Usage x y = (is_lost y ≡ is_lost x) × (is_unstored y ≡ is_unstored x)
+    (inbox_failed y ≡ inbox_failed x) × (file_failed y ≡ file_failed x)
+IsBlamed Usage x y = (inbox_failed y ≡ inbox_failed x) × (file_failed y ≡ file_failed x)
 IsBlamed OutFault x y = ⊥
 IsBlamed Memory x y = ⊥
-IsBlamed planned x y = is_lost y ≡ is_lost x
+IsBlamed planned x y = inbox_failed y ≡ inbox_failed x
 
 -- acts before the session is opened: no more was sent than what comes first
 pub record AreEarly (first : List Sent) (acts : List Act) : Type 0 where

@@ -5,7 +5,7 @@ use Rattle.orca_base.specs.Ports.{Sent}
 use Rattle.orca_course.specs.Acts.{Act, ArePrintable, given, gives, polls_in}
 use Rattle.orca_course.specs.Following.{Follows, midi_sent}
 use Rattle.orca_course.specs.Performers.{polls_of}
-use Rattle.orca_course.specs.Worlds.{IsSound, Made, Sated, World, has_failed, is_lost, is_unstored}
+use Rattle.orca_course.specs.Worlds.{IsSound, Made, Sated, World, file_failed, has_failed, inbox_failed}
 use Rattle.orca_grid.specs.declared.refusal.GridRefusal.TheVariants as refused
 use Rattle.orca_live.specs.Paintings.{ShowsPictures}
 use Rattle.orca_notes.specs.Device.{IsFair, device}
@@ -31,14 +31,14 @@ EndsAs planned status = planned ≡ status
 abbrev pub IsCaused : Status → World → Type 0
 IsCaused Done y = IsSound y
 IsCaused Memory y = Unit {0}
-IsCaused InboxFault y = is_lost y ≡ true
-IsCaused FileFault y = (is_unstored y ≡ true) × (is_lost y ≡ false)
-IsCaused OutFault y = (has_failed y ≡ true) × (is_unstored y ≡ false) × (is_lost y ≡ false)
-IsCaused Usage y = (is_unstored y ≡ false) × (is_lost y ≡ false)
+IsCaused InboxFault y = inbox_failed y ≡ true
+IsCaused FileFault y = (file_failed y ≡ true) × (inbox_failed y ≡ false)
+IsCaused OutFault y = (has_failed y ≡ true) × (file_failed y ≡ false) × (inbox_failed y ≡ false)
+IsCaused Usage y = (file_failed y ≡ false) × (inbox_failed y ≡ false)
 IsCaused (GridRefused refusal) y =
-    (is_unstored y ≡ false) × (is_lost y ≡ false) × (refusal ≢ refused.Memory)
-IsCaused (ScriptRefused line column) y = (is_unstored y ≡ false) × (is_lost y ≡ false)
-IsCaused ended y = is_lost y ≡ false
+    (file_failed y ≡ false) × (inbox_failed y ≡ false) × (refusal ≢ refused.Memory)
+IsCaused (ScriptRefused line column) y = (file_failed y ≡ false) × (inbox_failed y ≡ false)
+IsCaused ended y = inbox_failed y ≡ false
 
 -- ---- what was done
 

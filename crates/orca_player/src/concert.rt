@@ -80,7 +80,7 @@ pub(crate) fn settled<H: House>(planned: Status, desk: &Desk<H>) -> Status
     ensures { result ≡ status_at planned desk.now }
 {
     match planned {
-        Status::Done if desk.is_unstored() => Status::FileFault,
+        Status::Done if desk.file_failed() => Status::FileFault,
         Status::Done if desk.has_failed() => Status::OutFault,
         planned => planned,
     }
