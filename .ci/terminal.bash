@@ -152,7 +152,7 @@ try_told() {
     await_text seen ' play '
     kill $!
     type_glyph 7
-    await_text seen ' no midi '
+    await_text seen 'no midi'
     plays_on seen 10 "a synthesizer has gone"
     begin=$(stat -c %s seen)
     timeout 300 cat synth >/dev/null &
@@ -740,7 +740,7 @@ try_unasked_save() {
     type_glyph 7
     printf '\x06%.0s' {1..1000} >&"$typed"
     type_glyph 8
-    await_text seen ' no journal '
+    await_text seen 'no journal'
     end_stage 4
     await_text seen "perform: edits of crowded may not be saved; what could be kept is in $PWD/.crowded.orca-room"
     cmp crowded opened || fails "a journal that fails makes ./perform save"
@@ -1101,10 +1101,10 @@ fill_under_room() {
     await_text seen ' play '
     close_disk
     printf '\x06%.0s' {1..2000} >&"$typed"
-    await_text seen ' no journal ok'
+    await_text seen $'no journal\e[0m ok'
     open_disk
     printf '5\x13' >&"$typed"
-    await_text seen ' no journal saved'
+    await_text seen $'no journal\e[0m saved'
     end_stage 4
     [ "$(head -c 1 small/piece)" = 5 ] || fails "Ctrl-S saves nothing once the disk is freed"
     "$top/perform" --discard small/piece
@@ -1123,7 +1123,7 @@ try_full_disk() {
     await_text seen ' play '
     close_disk
     printf '7\x13' >&"$typed"
-    await_text seen ' unsaved'
+    await_text seen unsaved
     type_glyph 8
     cmp small/piece opened || fails "a save to $disk changes the piece"
     [ "$(find small -mindepth 1 -maxdepth 1 ! -name filler -printf '%f\n' | sort | tr '\n' ' ')" = '.piece.orca-room piece piece~ ' ] ||
