@@ -185,12 +185,23 @@ def tell_rewinds():
               [f'rewind {moment}' for moment in moments], len(moments))
 
 
+def tell_retracts():
+    """What it takes to take out an edit that thousands of frames came after."""
+    turns, frames = max(20 // SHARE, 2), ['frame'] * 4_096
+    # What a round before has left: the frames, and the end of the notes in place of the edit.
+    edits = [['write 0 0 A'] + frames for _ in range(turns)]
+    taken = [edit + [f'retract {turn * (len(frames) + 1)}'] for turn, edit in enumerate(edits)]
+    each = (replayed('crowd', sum(taken, [])) - replayed('crowd', sum(edits, []))) / turns
+    print(f"{'a retract of an edit 4,096 frames ago':<76} {each * 1e3:8.2f} milliseconds each", flush=True)
+
+
 def main():
     save('dot', grids.dots(1, 1))
     save('crowd', grids.crowded(64, 64, 10))
     tell_rooms()
     tell_edits()
     tell_rewinds()
+    tell_retracts()
 
 
 if __name__ == '__main__':
